@@ -57,7 +57,7 @@ const NO_VISITS: Tally = Tally {
     held_back: false,
 };
 
-/// Makes the epoch the next one. Gives back the records that were retired in an epoch below this one and below each pin that is set.
+/// Makes a full round: makes the epoch the next one, and gives back each record retired in an epoch below this one and below each set pin.
 /// Returns how many these were, and whether a retired one was held back. The pass has no pin.
 ///
 /// At the last epoch, 2^60 - 1, the epoch stays, and what is below it is still given back.
@@ -262,8 +262,8 @@ fn visit_limbo<G: Gate>(
     limbo.drop_oldest_records(count);
 }
 
-/// Visits the record that waits at `index` in `limbo`, counted from 0 at the oldest. Returns whether it leaves the list: not if it has to
-/// wait. One that the table hasn't leaves the list without a visit. `bound` is the bound of the round.
+/// Visits the record that waits at `index` in `limbo`, counted from 0 at the oldest. Returns whether it is to leave the list: not if it has
+/// to wait. One that the table hasn't leaves the list without a visit. `bound` is the bound of the round.
 fn visit_waiting<G: Gate>(
     table: &HotTable,
     seat: &mut TableSeat,

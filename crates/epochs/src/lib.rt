@@ -26,8 +26,7 @@
 //! first. A call that changes the index begins with a small round once the pass has retired 32 records since its last one. So
 //! each retired record is visited soon, and a full round is left for an attempt that was refused as full.
 //!
-//! The limbo list promises nothing. It has plain numbers, and before a record is given back its state is loaded and exchanged. A
-//! record that finds no place in the list is left to full rounds.
+//! The limbo list promises nothing: before a record is given back, its state is loaded and exchanged.
 //!
 //! A pass that is stopped while it is pinned holds back what others retire from then on, and nothing else: nobody waits for it
 //! here. Whoever needs records learns by [`Collected`] that some were held back.

@@ -90,8 +90,8 @@ impl Limbo {
         self.waiting[self.first.wrapping_add(index) % MOST_WAITING]
     }
 
-    /// Adds `rec` to `given`, if `seen`, what its visit came to, is `Given` and there is room. Returns whether `rec` leaves the list: not
-    /// if it has to wait.
+    /// Adds `rec` to `given`, if `seen`, what its visit came to, is `Given` and there is room. Returns whether `rec` is to leave the list:
+    /// not if it has to wait. It stands there until `drop_oldest_records`.
     pub(crate) fn take_visit(&mut self, rec: Rec, seen: Visited) -> bool
         ensures waits { seen ≡ Waits → result ≡ false }
         ensures leaves { seen ≢ Waits → result ≡ true }

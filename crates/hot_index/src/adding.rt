@@ -40,7 +40,7 @@ impl Index {
     /// Adds `delta` to the value of `key`, modulo 2 to the power of 64: `Was` with the value before. An absent key stays absent:
     /// `Absent`.
     ///
-    /// It begins again where `try_add` would return `Busy`, and is refused for the same reasons as `insert`.
+    /// It begins again as `insert` does, when another pass is in its way or records may come back, and is refused for the same reasons.
     pub fn add<R: Wait>(
         &self,
         rt: &R,

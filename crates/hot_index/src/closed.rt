@@ -41,7 +41,7 @@ impl ClosedPass {
         self.count
     }
 
-    /// Opens the pass for calls at `index`, with buffers of `alloc`. If memory is refused, an error with the closed pass.
+    /// Opens the pass for calls at its index, `index`, with buffers of `alloc`. If memory is refused, an error with the closed pass.
     pub fn open(self, alloc: Global, index: &Index) -> Result<Pass, AllocFailed<ClosedPass>>
         ensures opened { IfOk result (λ pass. pass ≡ self) }
         ensures kept { IfErr result (λ refused. refused.value ≡ self) }

@@ -19,7 +19,7 @@ use thiserror::Error;
 /// Why no index was made.
 #[derive(Debug, Drop, Error)]
 pub enum IndexFault {
-    /// A number of passes, nodes or leaves is out of range.
+    /// A number is out of range: the first such of passes, node records and leaf records.
     #[error("the numbers of passes, nodes and leaves are out of range")]
     Layout(LayoutFault),
     /// Out of memory.
@@ -50,8 +50,7 @@ pub fn create(
     make_index_with_open_passes(alloc, Layout::of(passes, nodes, leaves))
 }
 
-/// Makes an empty index with `passes` passes (1 to 1,024) and the records of `stock`. Returns it with its passes in the order of their
-/// numbers.
+/// Makes an empty index with `passes` passes (1 to 1,024) and the records of `stock`. Returns it with its passes in their order, from 0 on.
 ///
 /// A stock has 1 to 4,294,967,295 node records, and 1 to 4,294,967,295 leaf records of all classes together. It checks the numbers first,
 /// in this order. The fault `Layout` has the first that is out of range; `Memory` if memory is refused.

@@ -58,7 +58,7 @@ impl Cursor {
     }
 
     /// Lists the next pairs of the range, at most `limit`, into `pairs`, whose earlier pairs are dropped. Returns whether there are
-    /// more. If not, the cursor is at its end, and each later call lists nothing.
+    /// more. If not, the cursor is at its end, and each later call lists nothing and makes no step.
     ///
     /// Before its end, each call is a `scan_into` of the keys that are left, with its promise and bound on steps. The next call
     /// goes on at the least key above the last one listed. So it lists a key that was inserted between two calls if that lies above,
@@ -94,8 +94,8 @@ impl Cursor {
     }
 }
 
-/// What is left of the keys `rest` after a part with `pairs`. That is what comes above the last pair's key, or all of `rest` if there is
-/// no pair. `None` if the range has no more, as `more` says, or no key comes above that one.
+/// What is left of the keys `rest` after a part with `pairs`: what comes above the last pair's key, or all of `rest` if there is no pair.
+/// `None` if `more` is false, as the range then has no more pairs, or if no key comes above the last one.
 fn rest_after_part(rest: &Rest, pairs: &Pairs, more: bool) -> Option<Rest>
     ensures { IsLeft rest.now pairs.now more result }
 {

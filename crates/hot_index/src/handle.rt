@@ -112,14 +112,14 @@ impl<I: ShowsIndex> Handle<I> {
         self.pass.count()
     }
 
-    /// The value of `key`, or `None` if it is absent, as by `Index::get`.
+    /// The value of `key`, or `None` if it is absent, as `Index::get` returns.
     pub fn get(&mut self, key: &Key) -> Option<u64>
         ensures { Stays (λ index k j. IsNoted index.layout k j (Get key.now) (got result) × HasGot index untold (k, tt) (j, tt)) self.old self.new }
     {
         self.index.show().get(&mut self.pass, key)
     }
 
-    /// Looks up `keys`, and writes to `found`, at each key's place, its value or `None`, as by `Index::get_many`.
+    /// Looks up `keys`, and writes to `found`, at each key's place, its value or `None`, as `Index::get_many` does. Both have one length.
     pub fn get_many(&mut self, keys: &[Key], found: &mut [Option<u64>])
         requires { length found.old ≡ length keys.now }
         ensures { Stays (λ index k j. AreNoted index.layout k j (gets keys.now found.new) × HasGotMany index untold (length keys.now) (k, tt) (j, tt))
@@ -316,14 +316,14 @@ impl<I: ShowsIndex> Handle<I> {
             .scan_reverse(alloc, &mut self.pass, from, upto, limit)
     }
 
-    /// The first pair whose key is `from` or above; `None` if there is none, as by `Index::first`. An error if memory is refused.
+    /// The first pair whose key is `from` or above; `None` if none was found, as `Index::first` returns. An error if memory is refused.
     pub fn first(&mut self, alloc: Global, from: &Key) -> Result<Option<(Key, u64)>, AllocError>
         ensures { Stays (IsRangeRead (λ layout k j. IsFirstFound layout k j from.now) (range_from from.now (last_with []) 1) result) self.old self.new }
     {
         self.index.show().first(alloc, &mut self.pass, from)
     }
 
-    /// The last pair whose key is `upto` or below; `None` if there is none, as by `Index::last`. An error if memory is refused.
+    /// The last pair whose key is `upto` or below; `None` if none was found, as `Index::last` returns. An error if memory is refused.
     pub fn last(&mut self, alloc: Global, upto: &Key) -> Result<Option<(Key, u64)>, AllocError>
         ensures { Stays (IsRangeRead (λ layout k j. IsLastFound layout k j upto.now) (range_from [] upto.now 1) result) self.old self.new }
     {
@@ -338,14 +338,14 @@ impl<I: ShowsIndex> Handle<I> {
         self.index.show().collect(&mut self.pass)
     }
 
-    /// How many records of each kind and class are in each state, as by `Index::census`.
+    /// How many records of each kind and class are in each state, and the bytes of the table, as `Index::census` returns.
     pub fn census(&mut self) -> RecordCounts
         ensures { Stays (λ index k j. IsUnnoted index.layout k j × HasCounted index untold (k, tt) (j, tt) result) self.old self.new }
     {
         self.index.show().census(&mut self.pass)
     }
 
-    /// Lets the pass meet that of `other`, a handle at the same index, as `Index::meet` does, and returns both handles.
+    /// Lets the pass meet that of `other`, a handle at the same index, as `Index::meet` does. Returns both handles, this one first.
     pub fn meet(self, other: Handle<I>) -> (Handle<I>, Handle<I>)
         requires { other.index ≡ self.index }
         ensures index { (result.0.index ≡ self.index) × (result.1.index ≡ self.index) }

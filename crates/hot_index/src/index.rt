@@ -62,7 +62,7 @@ impl Model for Pass {
 }
 
 impl Pass {
-    /// The number of the pass: `create` gives its passes in the order of their numbers, from 0 on.
+    /// The number of the pass. `create` returns its passes in the order of their numbers, from 0 on.
     pub fn number(&self) -> u16
         ensures { result ≡ self.now.number }
     {
@@ -162,8 +162,8 @@ impl Index {
     /// where no record is free, if records may come back. Then another pass's call keeps retired ones from reuse, or other passes
     /// may have taken what a round of collection gave back.
     ///
-    /// It returns `Full` only if its last try found each node record, or each leaf record with room for the key, taken, as
-    /// `try_insert` does. It has changed nothing then, and holds no lock and no record.
+    /// It returns `Full` only if its last try found no node record free, or no leaf record with room for the key, as `try_insert` says. It
+    /// has changed nothing then, and holds no lock and no record.
     pub fn insert<R: Wait>(
         &self,
         rt: &R,
@@ -179,7 +179,7 @@ impl Index {
 
     /// Gives `key` the value `value`, whether it has one or not: `New`, or `Was` with the value that it had.
     ///
-    /// It begins again where `try_upsert` would return `Busy`, and is refused for the same reasons as `insert`.
+    /// It begins again as `insert` does, when another pass is in its way or records may come back, and is refused for the same reasons.
     pub fn upsert<R: Wait>(
         &self,
         rt: &R,
@@ -239,8 +239,8 @@ impl Index {
     /// was retired in an epoch below the new one and below each pin that is set. No running call can reach such a record. Returns
     /// how many it gave back.
     ///
-    /// It takes no lock, allocates nothing and never blocks. It makes at most 3 atomic steps, one for each pass, and two for each
-    /// record.
+    /// It takes no lock, allocates nothing and never blocks. It makes at most 3 atomic steps, with one more for each pass and two more
+    /// for each record.
     pub fn collect(&self, pass: &mut Pass) -> Given
         requires { Owns self.now pass.old }
         ensures own { Owns self.now pass.new }
@@ -359,7 +359,7 @@ impl Index {
     }
 
     /// Tries to make the change `call`, at most twice, and reports each step to `gate`. Returns the reply, or why it was refused. The
-    /// pass counts the key.
+    /// pass's `count` changes by the key that the call has put in or taken out.
     pub(crate) fn try_change_with<G: Gate>(
         &self,
         pass: &mut Pass,
@@ -375,7 +375,7 @@ impl Index {
     }
 
     /// Makes the change `call`, and reports each step to `gate`. It begins again as long as another pass is in its way, or records may
-    /// come back. Returns the reply, or the kind of records of which none was free. The pass counts the key.
+    /// come back. Returns the reply, or the kind of records of which none was free. `count` changes as in `try_change_with`.
     pub(crate) fn retry_change_with<R: Wait, G: Gate>(
         &self,
         rt: &R,

@@ -8,25 +8,25 @@ pub fn all_long_full_is_full()
     ensures { AllLongFullIsFull }
 {}
 
-/// A call returns `Busy` only because of another pass of the index. In an index of one pass no call does.
+/// In an index of one pass no call returns `Busy`: its cause is always another pass of the index.
 pub fn one_pass_is_never_busy()
     ensures { OnePassIsNeverBusy }
 {}
 
-/// Let an index have one pass. Its call returns `FullLeaves` only if each leaf record with room for the key was in the tree or retired. It
-/// returns `FullNodes` only if at least a third of the node records were so. The others, 4,320 at most, the call may have claimed itself.
+/// In an index of one pass a call returns `FullLeaves` only if each leaf record with room for the key was in the tree or retired. It
+/// returns `FullNodes` only if at least a third of the node records were so, and all but 4,320, which it may have claimed itself.
 pub fn one_pass_full_is_full()
     ensures { OnePassFullIsFull }
 {}
 
-/// A call that had returned when a stamp was made comes before each call that a pass begins after it has followed the stamp. It stands
-/// at no later place, and at an earlier one if it changed the map.
+/// Let a stamp tell of all that a pass had seen when a call of it returned. Let a pass then follow the stamp and make a call. The first
+/// call stands at no later place than the second, and at an earlier one if it changed the map.
 pub fn returned_before_begun()
     ensures { ReturnedBeforeBegun }
 {}
 
 /// If no pass is changing an index, the counts of all its passes, in the order of their numbers, are those of its front. So their `total`
-/// is the number of its keys.
+/// is the number of its keys, if these are fewer than 2^64.
 pub fn counts_add_up()
     ensures { CountsAddUp }
 {}

@@ -12,7 +12,7 @@
 //! # Calls
 //!
 //! - *Look-ups*: `get`, `get_many`. They take no lock, and make a bounded number of atomic steps, whatever other threads do.
-//! - *Changes*: `insert`, `upsert`, `remove`, `exchange`, `add`, `remove_if`. Each makes one store that other threads see at once.
+//! - *Changes*: `insert`, `upsert`, `remove`, `exchange`, `add`, `remove_if`. Each changes the map by one store, or not at all.
 //!   These forms wait while another pass is in the way. The `try_` forms return [`TryFault`] instead, after a bounded number of steps.
 //! - *Scans*: `scan`, `scan_into`, downwards `scan_reverse`, `prefix_into`, `first`, `last`, and [`Cursor`]s. A scan is no single
 //!   moment: each pair was there at a moment of it, and no key is left out that was there all along.
@@ -24,8 +24,8 @@
 //!
 //! Contracts see of a pass its seat: the changes that it has seen, its front, and the calls that were answered, its notes. Each answered
 //! call adds its note with its last step. The notes of a pass are one legal history of a finite map; those of passes that have
-//! met share one. A call that is refused changes nothing. Its clause says why it was refused: another pass held a lock, or each
-//! record of the kind was found other than free.
+//! met share one. A call that is refused changes nothing. Its clause says why it was refused: another pass was in its way, or each
+//! record of the kind was found not free.
 //!
 //! # Gates
 //!

@@ -65,11 +65,11 @@ impl Index {
         self.scan_reverse_into_with(pass, from, upto, limit, pairs, &mut NoGate)
     }
 
-    /// The last pair whose key is `upto` or below; `None` if there is none. For the greatest key that there can be (`last_with_prefix`
+    /// The last pair whose key is `upto` or below; `None` if none was found. For the greatest key that there can be (`last_with_prefix`
     /// of the empty key) it is the last pair of the index.
     ///
-    /// It is a scan downwards for one pair, with its promise and bound on steps. The pair was there at some moment of the call, and
-    /// no greater key up to `upto` was there all along. An error if memory is refused; it needs none if it has found no pair.
+    /// It is a scan downwards for one pair, with its promise and bound on steps. The pair was there at some moment of the call, and no
+    /// greater key up to `upto` all along. With `None` no key up to `upto` was. An error if memory is refused; only a pair found needs it.
     pub fn last(
         &self,
         alloc: Global,

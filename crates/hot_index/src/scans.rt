@@ -106,9 +106,9 @@ impl Index {
         self.list_range(pass, &range, pairs, gate)
     }
 
-    /// Lists the pairs of `range` into `pairs`, in its direction, and drops earlier ones. `gate` is told each step. Returns whether the
-    /// range has more. An error if memory is refused: `pairs` holds a part, as `scan_into` says. Inline, so that each direction has code
-    /// of its own.
+    /// Lists the first pairs of `range` in its direction, as many as its limit at most, into `pairs`, and drops earlier ones. `gate` is
+    /// told each step. Returns whether the range has more. An error if memory is refused: `pairs` holds a part, as `scan_into` says.
+    /// Inline, so that each direction has code of its own.
     #[inline(always)]
     pub(crate) fn list_range<G: Gate>(
         &self,
@@ -133,8 +133,8 @@ impl Index {
         scan
     }
 
-    /// The pairs of `range`, listed in its direction, and whether the range has more; an error if memory is refused. `gate` is told each
-    /// step. Inline, as `list_range` is.
+    /// The first pairs of `range` in its direction, as many as its limit at most, and whether the range has more. An error if memory is
+    /// refused. `gate` is told each step. Inline, as `list_range` is.
     #[inline(always)]
     pub(crate) fn scan_range<G: Gate>(
         &self,
@@ -153,7 +153,7 @@ impl Index {
     }
 
     /// The pair that comes first in `direction` of those with keys from `from` to `upto`; `None` if no pair was found. An error if memory
-    /// is refused.
+    /// is refused for a pair that was found. Inline, as `list_range` is.
     #[inline(always)]
     pub(crate) fn find_first_pair(
         &self,

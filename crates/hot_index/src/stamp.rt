@@ -39,9 +39,9 @@ impl Index {
         Stamp { stamp }
     }
 
-    /// Lets `pass` see all that was seen when `stamp` was made. So its later calls come after the calls that had returned by then
-    /// (`laws::returned_before_begun`). Nothing else of the pass changes, but that this is counted among its `asides`. The call makes two
-    /// loads, which count as no steps.
+    /// Lets `pass` see all changes made so far, with those that `stamp` tells of. So its later calls come after the calls that the
+    /// stamp's pass had completed (`laws::returned_before_begun`). Nothing else of the pass changes, but that this is counted among its
+    /// `asides`. The call makes two loads, which count as no steps.
     pub fn follow(&self, pass: &mut Pass, stamp: Stamp)
         requires own { Owns self.now pass.old }
         requires stamp { IsStampFrom self.now stamp }

@@ -4,7 +4,8 @@ ghost use Rattle.index_laws.specs.Statements.{AGetReturns, Responses};
 ghost use Rattle.index_laws.specs.Steps.{StepsAreMoments, StepsFollow};
 ghost use Rattle.index_laws.specs.Traced.{AGetIsTraced, CallsMakeNoAsides, EndedBeforeLoaded, EndedOrLoadedBefore, EndedOrShownBefore, LoadsAreMoments, LoadsSeeAll, MetAreOfOneRun, TracedAreExecutions};
 
-/// A run may begin at a new index. A call that has ended as its contract says responds or is refused in it. So an execution is a run.
+/// A run may begin at a new index. A call that has ended as its contract says responds or is refused in it. So an execution is a run. Where
+/// a call that waits may be refused for want of records, one that doesn't wait may be, too.
 pub fn ended_calls_respond_or_are_refused()
     ensures { Responses }
 {}
@@ -14,18 +15,18 @@ pub fn all_promises_hold()
     ensures { Headline }
 {}
 
-/// There is an execution in which a call returns: a get, in an index that has just been made, finds its key absent.
+/// For each layout with a pass, and each key, there is an execution in which a call returns: a get, in a new index, finds its key absent.
 pub fn a_get_returns()
     ensures { AGetReturns }
 {}
 
-/// Let a core show the table's state. Then a step that a pass may make is legal in it, and the core after the step shows the next state.
+/// If a core shows the table's state, a step that a pass may make is legal in it. The core and the run after it are the next state's.
 pub fn allowed_steps_are_legal()
     ensures { StepsFollow }
 {}
 
-/// Let a moment of a run have the core that shows the table's state, and a call of a pass pending. Then a step that the pass may make is a
-/// step of the run, to a moment whose core shows the next state.
+/// Let a moment of a run have the core that shows the table's state. Let it know of a pass what its seat knows, and have its call pending.
+/// Then a step that the pass may make is a step of the run, to a moment of which the same is true in the table's next state.
 pub fn allowed_steps_are_steps_of_the_run()
     ensures { StepsAreMoments }
 {}
@@ -36,29 +37,29 @@ pub fn contracts_make_an_execution()
     ensures { TracedAreExecutions }
 {}
 
-/// There is an execution by contracts alone in which a call returns: a get, in an index that has just been made.
+/// For each layout with a pass, and each key, there is an execution by contracts alone. In it a get in a new index finds its key absent.
 pub fn a_get_returns_by_contracts_alone()
     ensures { AGetIsTraced }
 {}
 
-/// In an execution by contracts alone, a load of the root has its moment in the call. It shows its pass all that any had seen by then.
+/// In an execution by contracts alone, a load of the root is the step of one moment. It shows its pass all that any had seen by then.
 pub fn a_root_load_has_its_moment()
     ensures { LoadsAreMoments }
 {}
 
-/// A load of the root shows all changes that a pass, another or the same, had seen by its steps before that load.
+/// If a pass made steps, and a call loads the root after all steps that it knew of by then, the call is shown all changes it had seen.
 pub fn a_root_load_shows_earlier_changes()
     ensures { LoadsSeeAll }
 {}
 
-/// Let a call with one key be answered, and another load the root after all steps that the first one's pass knew of. Then the first stands
-/// no later than that, and earlier if it changed the map.
+/// Let two calls with a key each be answered. Let the second one's pass load the root after all steps that the first one's knew of at its
+/// end. Then the first stands no later than the second, and earlier if it changed the map.
 pub fn calls_stand_in_order_of_steps()
     ensures { EndedBeforeLoaded }
 {}
 
-/// Let one run have two answered calls, each with one key. Either the first stands as in `calls_stand_in_order_of_steps`, or its pass knew
-/// of the other's load of the root when it ended.
+/// Let one run have the traces of two answered calls with a key each. Either the first stands as in `calls_stand_in_order_of_steps`, or its
+/// pass knew of the other's load of the root when it ended.
 pub fn calls_stand_in_order_or_first_knew_the_load()
     ensures { EndedOrLoadedBefore }
 {}
@@ -74,7 +75,7 @@ pub fn met_passes_are_of_one_run()
     ensures { MetAreOfOneRun }
 {}
 
-/// A call makes no stamp, follows none and meets no other pass.
+/// A call that makes steps, as one with one key or a scan does, makes no stamp, follows none and meets no other pass.
 pub fn calls_neither_stamp_nor_follow_nor_meet()
     ensures { CallsMakeNoAsides }
 {}

@@ -29,7 +29,7 @@ impl KeyCount {
         self.keys = self.keys.wrapping_add(net(reply));
     }
 
-    /// Counts a call of the pass with the outcome `answer`, as `note` does. If it was refused, the count stays.
+    /// Counts a call of the pass that returned `answer`: a reply as `note` does. If the call was refused, the count stays.
     pub fn note_answer<F>(&mut self, answer: &Result<Reply, F>)
         ensures { CountsAnswer answer.now self.old self.new }
     {

@@ -63,7 +63,7 @@ fn key_with_last_byte(front: &[u8], last: u8) -> Key
     Key::from_padded(places, front.len() + 1)
 }
 
-/// The greatest key that begins with `prefix`: behind that are bytes of 255, up to `MAX_BYTES` in all.
+/// The greatest key that begins with `prefix`. Behind the prefix it has bytes of 255, and `MAX_BYTES` bytes in all.
 pub fn last_with_prefix(prefix: &Key) -> Key
     ensures { result ≡ last_with prefix.now }
 {

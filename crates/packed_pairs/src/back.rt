@@ -5,10 +5,10 @@ ghost use Rattle.packed_pairs.specs.Packed.{pair_of};
 
 use crate::iter::Iter;
 
-/// `pairs.iter().rev()` gives the pairs from the last one on: so the list of a scan downwards can be read in rising order.
 impl<'a> DoubleEndedIterator for Iter<'a> {
     ghost next_back_gives = { YieldsLastBy pair_of (λ i. i) };
 
+    /// Returns the last pair that is left, or `None`. So `pairs.iter().rev()` reads the list of a scan downwards in rising order.
     #[inline(always)]
     fn next_back(&mut self) -> Option<(&'a [u8], u64)> {
         let (head, heads) = self.heads.split_last()?;

@@ -9,7 +9,7 @@ use crate::pairs::Head;
 use key_bits::{Key, MAX_BYTES};
 use std::marker::Model;
 
-/// The pairs of a list that are left: the bytes of each key, and its value.
+/// An iterator over the pairs of a list that are left: the bytes of each key, and its value.
 #[derive(Drop)]
 pub struct Iter<'a> {
     pub(crate) bytes: &'a [u8],
@@ -36,8 +36,7 @@ impl<'a> Iter<'a> {
         Iter { bytes, heads }
     }
 
-    /// The next pair, with a key that is a value of its own; `None` if no pair is left. Inline, so that the key is made where the caller
-    /// wants it.
+    /// The next pair, with a key that is a value of its own; `None` if no pair is left. Inline, so that the key is made in its place.
     #[inline(always)]
     pub(crate) fn next_pair(&mut self) -> Option<(Key, u64)>
         ensures { YieldsFirst (λ i. i) self.old result self.new }
@@ -71,6 +70,7 @@ impl<'a> Iterator for Iter<'a> {
 
     ghost remaining = { item_count (λ i. i) };
 
+    /// The next pair, its key as bytes of the list; `None` if no pair is left.
     #[inline(always)]
     fn next(&mut self) -> Option<(&'a [u8], u64)> {
         let (head, heads) = self.heads.split_first()?;

@@ -72,8 +72,8 @@ impl Pairs {
         self.heads.clear();
     }
 
-    /// Adds a pair of a key and `value` at the end. The key has the first `length` bytes of `places`. An error if memory is refused: the
-    /// pairs stay as they are.
+    /// Adds a pair of a key and `value` at the end. The key has the first `length` bytes of `places`, `MAX_BYTES` at most. An error if
+    /// memory is refused: the pairs stay as they are.
     #[inline(always)]
     pub fn push(
         &mut self,
@@ -104,7 +104,7 @@ impl Pairs {
         Some(key_from_bytes(key))
     }
 
-    /// The pairs, from the first one on.
+    /// An iterator over the pairs, from the first one on.
     pub fn iter(&self) -> Iter<'_>
         ensures pairs { result ≡ self.now }
         ensures keys { All (λ pair. IsKey pair.0) self.now }
@@ -130,8 +130,8 @@ impl Pairs {
 
 /// Adds the first `length` bytes of `places` to the end of `bytes`. An error if memory is refused: `bytes` stay as they are.
 ///
-/// Most keys are short, and a copy of a number of bytes that is known beforehand needs no call. So, where there is room, eight bytes are
-/// copied for a key of eight. For other keys of up to 64, it copies 64 bytes, and drops those behind the key.
+/// A copy of a number of bytes that is known beforehand needs no call. So, where there is room, it copies eight bytes for a key of eight,
+/// and 64 for another of up to 64, of which it drops those behind the key.
 #[inline(always)]
 fn append_key_bytes(
     bytes: &mut Vec<u8>,

@@ -6,7 +6,7 @@ ghost use Rattle.packed_pairs.specs.Parts.{fitting, packed_head, keys_in};
 use crate::pairs::{Head, Pairs};
 
 impl Pairs {
-    /// The heads of the list's pairs, and the bytes of their keys, one after another.
+    /// The heads of the list's pairs, and the bytes of their keys, one key behind the other, both in the list's order.
     pub fn parts(&self) -> (&[Head], &[u8])
         ensures heads { result.0.now ≡ map packed_head self.now }
         ensures keys { result.1.now ≡ keys_in self.now }
@@ -39,7 +39,7 @@ impl Pairs {
         self.bytes.len()
     }
 
-    /// Takes out all pairs. The list frees its memory if its heads or the bytes of its keys have more than `most` bytes of it.
+    /// Takes out all pairs. The list frees its memory if it has more than `most` bytes of it for its heads, or for the bytes of its keys.
     pub fn let_go(&mut self, most: usize)
         ensures { self.new ≡ [] }
     {

@@ -6,7 +6,7 @@ use versions::Rec;
 /// What a writer locks.
 #[derive(Clone, Copy)]
 pub enum Target {
-    /// The word that stands for the root.
+    /// The lock of the root, a word of its own.
     Anchor,
     /// The node record of this number.
     Node(u32),
@@ -15,18 +15,19 @@ pub enum Target {
 /// Where an entry word stands.
 #[derive(Clone, Copy)]
 pub enum Spot {
+    /// The word of the root.
     Root,
-    /// Entry 0 to 31 of a node record.
+    /// Slot `entry`, 0 to 31, of node record `node`.
     Slot { node: u32, entry: u8 },
 }
 
-/// One load, store or compare-exchange on one word. In a compare-exchange `found` is the word that stood there; where it
-/// is not the expected one, the word stays.
+/// One load, store or compare-exchange on one word. `word` is what a load found, or what a store puts there. `found` is the word that
+/// a compare-exchange found: if that isn't the expected one, it stays. `offset` counts the words of a record, from its state at 0 on.
 #[derive(Clone, Copy)]
 pub enum Act {
     /// Exchanges the state of a record from free to held.
     Claim { rec: Rec, found: u64 },
-    /// Stores a word other than the state of a record that the pass holds.
+    /// Stores a word, other than the state, of a record that the pass holds.
     Fill { rec: Rec, offset: u8, word: u64 },
     /// Makes a held record live.
     Ready { rec: Rec },
@@ -42,17 +43,17 @@ pub enum Act {
     Unlock { target: Target },
     /// Stores the root or an entry word under its lock: the one step that changes the map.
     Publish { spot: Spot, word: u64 },
-    /// Makes a record obsolete that the pass has unlinked.
+    /// Makes a record that the pass has unlinked obsolete in this epoch.
     Mark { rec: Rec, epoch: u64 },
     /// Loads the epoch.
     LoadEpoch { word: u64 },
-    /// Exchanges the epoch from the expected one to the next.
+    /// Exchanges the epoch from `expected` to the one after.
     Advance { expected: u64, found: u64 },
     /// Stores the epoch that the pass loaded last as its pin.
     SetPin { word: u64 },
     /// Stores 0 as the pin.
     ClearPin,
-    /// Loads the pin of a pass.
+    /// Loads the pin of pass `of`.
     LoadPin { of: u16, word: u64 },
     /// Loads the state of a record.
     LoadState { rec: Rec, word: u64 },

@@ -6,15 +6,15 @@ use finite_map::{Change, Note};
 use record_words::Location;
 use versions::{Listed, Pin, Rec, Round};
 
-/// What a load found at the version `at`, of a version since any since `since`.
+/// What a load told a pinned pass. `since` is the version at its pin, and `at` the newest version at the load.
 pub enum Fact {
-    /// The root had this entry.
+    /// The root had this entry in version `at`.
     Rooted {
         since: u64,
         at: u64,
         entry: Option<Entry>,
     },
-    /// If the node stood meanwhile, it stood with this entry at this place.
+    /// Let m be `since` or later. If the node was in the tree in versions from m to `at`, it had this entry at this place in one of them.
     Placed {
         since: u64,
         at: u64,
@@ -22,7 +22,7 @@ pub enum Fact {
         place: u8,
         entry: Option<Entry>,
     },
-    /// If the record stood meanwhile, it stood with this word at this offset.
+    /// The same holds of the record, and of this word at this offset.
     Fixed {
         since: u64,
         at: u64,
@@ -38,7 +38,7 @@ pub enum Holding {
     Held,
     /// Made live, and not yet linked.
     Ready,
-    /// Linked from one version to another, unlinked by the pass, and not yet marked.
+    /// In the tree from version `since` to version `last`, then unlinked by the pass, and not yet marked.
     Unlinked { since: u64, last: u64 },
 }
 
@@ -55,13 +55,13 @@ pub struct Locked {
     pub words: Listed<u64>,
 }
 
-/// What kind of step it was that failed.
+/// What kind of step failed, and which pass was in its way; `None` if none was.
 pub enum FailedAct {
-    /// A claim of a record that the pass `by` had; or that nobody had, in the tree or retired.
+    /// A claim of a record that the pass `by` had. With `None` it was nobody's, in the tree or retired.
     Claim { by: Option<u64> },
-    /// A lock that the pass `by` had; or of a retired node, that a change of `by` had unlinked.
+    /// A try of a lock that the pass `by` had, or of a retired node that a change of `by` had unlinked.
     Lock { by: Option<u64> },
-    /// A load of a state that wasn't free: of a record that the pass `by` had; or that nobody had, in the tree or retired.
+    /// A load of a state that wasn't free, of a record that the pass `by` had. With `None` it was nobody's, in the tree or retired.
     LoadState { by: Option<u64> },
 }
 

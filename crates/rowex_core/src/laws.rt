@@ -7,12 +7,12 @@ pub fn steps_stay_lawful()
     ensures { StaysLawful }
 {}
 
-/// A legal step of one pass leaves to another what it has: its records, locks, pin and round.
+/// A legal step of one pass leaves another its records, locks, pin and round, and all versions. It adds to the changes none of that other.
 pub fn steps_leave_what_others_have()
     ensures { LeavesOthers }
 {}
 
-/// A legal step of one pass leaves true what any other pass knows.
+/// A legal step of one pass leaves true what any other seat knows.
 pub fn keeps()
     ensures { Keeps }
 {}
@@ -32,7 +32,7 @@ pub fn pass_knows_all_it_has()
     ensures { KnowsAll }
 {}
 
-/// A legal step changes at most one word of the table, and its words show the core after it.
+/// A legal step changes at most one word of the table. If the words showed the core before it, they then show the core after it.
 pub fn steps_write_one_word()
     ensures { WritesOne }
 {}
@@ -57,8 +57,8 @@ pub fn only_publish_appends()
     ensures { OnlyPublishAppends }
 {}
 
-/// A pinned pass whose search was led to a node is led on to the child that the node's words give now. This holds whether the node is still
-/// linked, or was unlinked since the pin.
+/// Let the search of a pinned pass be led to a node, since the version of the pin or a later one. Then since the same version it is led to
+/// the child that the node's words show now. This holds whether the node is still linked or not.
 pub fn hindsight()
     ensures { Hindsight }
 {}
@@ -68,8 +68,8 @@ pub fn parting()
     ensures { Parting }
 {}
 
-/// No record of a pinned pass's reach is free or held. Its words, state and entries aside, are those that it had in each version since the
-/// pin.
+/// A record that was in the tree in a version since a pass's pin is neither free nor held. It has the words of that version, but for its
+/// state, a node's entries and what stands behind a leaf's key.
 pub fn reach_is_kept()
     ensures { InReach }
 {}
@@ -85,8 +85,8 @@ pub fn publish_is_map_step()
     ensures { PublishIsAStep }
 {}
 
-/// Let one change of a pass lead from the newest version to the tree that the store of a word would show, with other leaves. Then a legal
-/// publish of that word makes this change.
+/// Let the store of a word show a bit trie with other leaves than the newest version has. If one change of its pass leads from the one to
+/// the other, the publish of that word makes this change.
 pub fn legality_finds_change()
     ensures { FindsChange }
 {}

@@ -2,13 +2,13 @@
 
 ghost use Rattle.rowex_core.specs.Writers.{LedIsInTree, PublishIsLegal, OwnedAfterPublish, SlotIsStored};
 
-/// Let the versions allow the publish of a tree that changes the leaves, by a pass that has locked the word. Then the store of the word is
-/// a legal publish. The words show the tree after it, and its change is that between the leaves of the two trees.
+/// Let a pass that has a spot's lock store an entry word there, after which a node's words still spell one. If the versions allow this as
+/// the publish of a tree with other leaves, it is a legal publish. It makes that tree, and the change that the versions tell.
 pub fn allowed_store_is_legal_publish()
     ensures { PublishIsLegal }
 {}
 
-/// A node's words with one entry stored spell the node with that entry.
+/// Let words spell a node, and a lower entry be stored in one of its slots. Then they spell the node with that entry there.
 pub fn stored_slot_is_shown()
     ensures { SlotIsStored }
 {}
@@ -18,7 +18,7 @@ pub fn led_live_node_is_in_tree()
     ensures { LedIsInTree }
 {}
 
-/// After a publish a pass owns just the records that it unlinked. It has locked just those nodes that it had locked and didn't unlink.
+/// Let a pass own just what its publish links anew. Then it owns just what it unlinks, and has just its locks of nodes still linked.
 pub fn publisher_owns_what_it_unlinked()
     ensures { OwnedAfterPublish }
 {}

@@ -30,9 +30,9 @@ pub struct Turn {
     pub place: u8,
 }
 
-/// Loads the root, and lets `count` keys of `keys`, from index `first` on, go down by turns, each a node at a time. Returns the turns of
-/// their ways in the first [`MOST_TURNS`] levels: a row for each level, the topmost first, with an item for each key. The item is `None`
-/// where the key's way has no node.
+/// Loads the root, and lets `count` keys of `keys`, `TOGETHER` at most, from index `first` on, go down by turns, a node at a time. Returns
+/// the turns of their ways in the first [`MOST_TURNS`] levels: a row for each level, the topmost first, with an item for each key. That is
+/// `None` where the key's way has no node.
 pub fn go_down<G: Gate>(
     table: &HotTable,
     seat: &mut TableSeat,
@@ -69,8 +69,8 @@ fn has_node(tips: &[Option<Entry>; TOGETHER]) -> bool
         .any(|tip| matches!(tip, Some(Entry::Node { .. })))
 }
 
-/// Finds the turns of the first `count` of `keys` in the nodes to which their ways have led, as `tips` says. `None` for a key whose way has
-/// ended, and behind the last of these keys.
+/// Returns the turns of the first `count` of `keys` in the nodes to which their ways have led: those of `tips`, in the order of the keys.
+/// `None` for a key whose way has ended, and behind the last of these keys. `gate` is told each load.
 fn find_turns<G: Gate>(
     table: &HotTable,
     seat: &mut TableSeat,
@@ -94,7 +94,7 @@ fn find_turns<G: Gate>(
     turns
 }
 
-/// Finds the turn of `key` in the node that `tip` names. `None` if `tip` is a leaf or nothing.
+/// Returns the turn of `key` in the node that `tip`, the end of its way so far, names. `None` if `tip` is a leaf or nothing.
 fn find_turn<G: Gate>(
     table: &HotTable,
     seat: &mut TableSeat,
@@ -118,8 +118,8 @@ fn find_turn<G: Gate>(
     }
 }
 
-/// Loads the entries to which the first `count` of `turns` lead, and touches the records that they name. `None` where there is no turn, and
-/// behind the last of these.
+/// Loads and returns the entries to which the first `count` of `turns` lead, and touches their records, as `touch_record` does. `None`
+/// where there is no turn, and behind the last of these.
 fn follow_turns<G: Gate>(
     table: &HotTable,
     seat: &mut TableSeat,
@@ -141,7 +141,7 @@ fn follow_turns<G: Gate>(
     tips
 }
 
-/// Loads the entry to which `turn` leads, and touches the record that it names. `None` if there is no turn.
+/// Loads and returns the entry to which `turn` leads, and touches its record, as `touch_record` does. `None` if there is no turn.
 fn follow_turn<G: Gate>(
     table: &HotTable,
     seat: &mut TableSeat,

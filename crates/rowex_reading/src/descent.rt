@@ -29,13 +29,13 @@ pub enum Found {
         number: u32,
         /// The leaf's value.
         value: u64,
-        /// Where the leaf's key first differs from the one that is looked for; `None` if it is that key.
+        /// The first position at which the leaf's key differs from the one that is looked for; `None` if it is that key.
         mismatch: Option<u16>,
     },
 }
 
-/// Searches for `key` from the root down. Sets `way` to the nodes on the way, the topmost first, and returns what stands at its end. The
-/// key had the value that was found, or was absent, in a version since the load of the root.
+/// Searches for `key` from the root down, and returns what stands at the end. Sets `way` to the nodes on the way, the topmost first, each
+/// with the slot taken. The key had the value that was found, or was absent, in a version since the load of the root.
 pub fn search_way<G: Gate>(
     table: &HotTable,
     seat: &mut TableSeat,

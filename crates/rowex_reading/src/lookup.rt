@@ -21,8 +21,8 @@ use key_bits::Key;
 use rowex_core::{Gate, Rec};
 use rowex_table::{HotTable, NodeAt, TableSeat};
 
-/// Searches for `key` from the root down to a leaf, and compares the leaf's key. Returns the key's value, or `None` if the key is absent.
-/// This was so in a version since the load of the root.
+/// Returns the value of `key`, or `None` if the key is absent. This was so in a version since the load of the root. It makes that load, and
+/// at most 26 for each node on the path and 32 for a leaf. `gate` is told each.
 pub fn look_up<G: Gate>(
     table: &HotTable,
     seat: &mut TableSeat,
@@ -58,7 +58,7 @@ pub fn look_up_along<G: Gate>(
 }
 
 /// Looks `key` up from the root, along the turns at `index` in `rows`, as far as there are any. Where there is none, or one in another
-/// node, the node's head is searched. Returns the key's value, or `None` if the key is absent.
+/// node, the node's head is searched. Returns what [`look_up`] does. Inline, so that a look-up without turns has code of its own.
 #[inline(always)]
 fn search_along_turns<G: Gate>(
     table: &HotTable,
@@ -104,8 +104,8 @@ fn turn_at_depth(rows: &[[Option<Turn>; TOGETHER]], depth: usize, index: usize) 
     }
 }
 
-/// The slot in `node` to which the bits of `key` lead. It is that of `turn`, if that is a turn in this node. Else the node's head is
-/// searched.
+/// The slot in `node` to which the bits of `key` lead. It is that of `turn`, a turn of the key, if that is in this node. Else the node's
+/// head is searched.
 #[inline(always)]
 pub(crate) fn find_slot<G: Gate>(
     table: &HotTable,

@@ -37,7 +37,7 @@ pub fn load_root<G: Gate>(table: &HotTable, seat: &mut TableSeat, gate: &mut G) 
     read_entry(word)
 }
 
-/// Loads a part of the head of `node` into `words`, until these are full. The first of them is word `first` of the head.
+/// Loads words of the head of `node`, from word `first` on, counted from 0, until `words` are full.
 #[inline(always)]
 fn load_head_part<G: Gate>(
     table: &HotTable,
@@ -107,8 +107,7 @@ pub fn enter_node<G: Gate>(
 
 /// Loads the head of `node` and searches it for `key`. Returns the node of the key's path, with the slot to which the bits of `key` lead.
 ///
-/// All 25 words are loaded, whatever the node's size, so no load waits for another. The key's bits are gathered before the rows are loaded.
-/// So the rows stay in registers until the search.
+/// All 25 words are loaded, whatever the node's size, so no load waits for another. The rows are loaded last, and stay in registers.
 #[inline(always)]
 pub fn search_node<G: Gate>(
     table: &HotTable,
@@ -158,12 +157,10 @@ pub fn load_entry<G: Gate>(
     read_some_entry(word)
 }
 
-/// Loads `leaf`: its value, its key's length, and the words with bytes of the key, which go at once to the first of `places`. Returns the
-/// key's length and the value.
+/// Loads `leaf`, and returns its key's length in bytes and its value. Writes the bytes of the key to the first of `places`.
 ///
-/// The words behind are not loaded, and their places stay. If all were 0 before, `places` are the key's (`Key::from_padded`); else those
-/// behind the key mean nothing. Keys of eight bytes are common, and their one word needs no loop. Inline, so that a caller has the bytes
-/// where they were read.
+/// Words behind the key are not loaded, and their places stay. If all were 0 before, `places` are the key's (`Key::from_padded`); else
+/// those behind the key mean nothing. Inline, so that a caller has the bytes where they were read.
 #[inline(always)]
 pub fn load_leaf<G: Gate>(
     table: &HotTable,
@@ -199,8 +196,8 @@ pub fn load_leaf<G: Gate>(
     (length as usize, value)
 }
 
-/// Loads the value of leaf `number`, if the leaf has `key`; `None` if it has another key. Keys of eight bytes are common: what is compiled
-/// for them alone has no loop.
+/// Loads and returns the value of leaf `number`, if the leaf has `key`; `None` if it has another key. Keys of eight bytes are common: what
+/// is compiled for them alone has no loop.
 pub fn load_value<G: Gate>(
     table: &HotTable,
     seat: &mut TableSeat,
@@ -222,8 +219,8 @@ pub fn load_value<G: Gate>(
     compare_leaf(table, seat, gate, leaf, key, size)
 }
 
-/// Compares the key of `leaf` with `key`, which has `size` bytes: loads its length, and then its words up to the first that differs.
-/// Returns the leaf's value, loaded last; `None` if the leaf has another key.
+/// Returns the value of `leaf`, loaded last, if the leaf has `key`, of `size` bytes; `None` if it has another key. It compares lengths, and
+/// then words up to the first that differs. Inline, so that a `size` that is known beforehand needs no loop.
 #[inline(always)]
 fn compare_leaf<G: Gate>(
     table: &HotTable,

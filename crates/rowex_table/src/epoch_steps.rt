@@ -36,7 +36,7 @@ impl HotTable {
         self.compare_exchange_at::<Brand, G>(seat, gate, act, epoch, Exchange { expected, new })
     }
 
-    /// Stores `word`, the epoch that the pass loaded last, as the pass's pin.
+    /// Stores `word`, the epoch that the pass loaded last, as the pass's pin, where it has none.
     pub fn set_pin<G: Gate>(&self, seat: &mut TableSeat, gate: &mut G, word: u64)
         requires fits { IsPassOf self.now seat.old }
         requires may { MayStep self.now.layout (λ _. SetPin word) seat.old.known }
@@ -46,7 +46,7 @@ impl HotTable {
         self.store_word_at::<Brand, G>(seat, gate, Act::SetPin { word }, pin, word);
     }
 
-    /// Stores 0 as the pass's pin. A call ends with this step, and its notes `said` come with it.
+    /// Clears the pass's pin, which is set: stores 0. A call ends with this step, and its notes `said` come with it.
     pub fn clear_pin<G: Gate>(&self, seat: &mut TableSeat, gate: &mut G)
         ghost said: { Known → List Note }
         requires fits { IsPassOf self.now seat.old }

@@ -7,7 +7,7 @@ ghost use Rattle.rowex_table.specs.Rule.{HasEntrySlot};
 use record_words::{FIRST_ENTRY, Location};
 use rowex_core::{Spot, Target};
 
-/// The location of the entry at `spot`: the root, or a word of a node record.
+/// The location of the entry at `spot`: the root, or the word of slot 0 to 31 of a node record.
 pub(crate) fn spot_location(spot: Spot) -> Location
     requires { HasEntrySlot spot }
     ensures { result ≡ spot_word spot }

@@ -41,6 +41,7 @@ impl Step for Brand {
     ghost said = { λ _. [] };
 }
 
+/// The step of a pass that `Q` names, made through its seat.
 pub(crate) struct Stepping<Q> {
     step: PhantomData<Q>,
 }
@@ -65,6 +66,7 @@ impl Split<TracedView> for Deal {
     ghost right = { dealt };
 }
 
+/// The seats of two passes as one, which part again.
 pub(crate) struct Part;
 
 impl Split<TracedView> for Part {

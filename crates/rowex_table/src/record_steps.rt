@@ -26,7 +26,7 @@ pub struct RecordAt {
 pub struct NodeAt {
     /// The record's number.
     pub number: u32,
-    /// The word of the table at which the record begins. Several loads find it once.
+    /// The word of the table at which the record begins, found once for several loads.
     pub start: usize,
 }
 
@@ -84,7 +84,7 @@ impl HotTable {
         self.compare_exchange_at::<Brand, G>(seat, gate, act, at.start, Exchange { expected, new })
     }
 
-    /// Stores `word` at `offset` of `rec`, which the pass holds. `offset` is at least 1, as the state stands at 0.
+    /// Stores `word` at `offset` of `rec`, which the pass holds. `offset` is that of a word of `rec`, and not 0, where the state stands.
     pub fn fill<G: Gate>(&self, seat: &mut TableSeat, gate: &mut G, rec: Rec, offset: u8, word: u64)
         requires own { IsSeatOf self.now seat.old }
         requires range { HasRecord self.now.layout rec × IsOffset rec offset × HasWord self.now.layout rec offset }
@@ -94,7 +94,7 @@ impl HotTable {
         self.fill_at(seat, gate, self.locate(rec), offset, word);
     }
 
-    /// Stores `word` at `offset` of the record `at`, which the pass holds. `offset` is at least 1, as the state stands at 0.
+    /// Stores `word` at `offset` of the record `at`, which the pass holds. `offset` is as for `fill`.
     #[inline(always)]
     pub fn fill_at<G: Gate>(
         &self,
@@ -115,7 +115,7 @@ impl HotTable {
         self.store_word_at::<Brand, G>(seat, gate, act, at.start + offset as usize, word);
     }
 
-    /// Makes `rec`, which the pass holds, live.
+    /// Makes `rec`, which the pass holds, live. Its words have to spell a node, or a leaf with a key for which the record has room.
     pub fn ready<G: Gate>(&self, seat: &mut TableSeat, gate: &mut G, rec: Rec)
         requires own { IsSeatOf self.now seat.old }
         requires range { HasRecord self.now.layout rec }
@@ -173,7 +173,7 @@ impl HotTable {
         self.load_word_at::<Brand, G>(seat, gate, act, start + offset as usize)
     }
 
-    /// Makes `rec`, which the pass has unlinked, obsolete in `epoch`, which the pass loaded last.
+    /// Makes `rec` obsolete in `epoch`. The pass has unlinked `rec`, and then loaded this epoch, and none since.
     pub fn mark<G: Gate>(&self, seat: &mut TableSeat, gate: &mut G, rec: Rec, epoch: u64)
         requires own { IsSeatOf self.now seat.old }
         requires range { HasRecord self.now.layout rec × (epoch < EPOCHS) }
@@ -205,7 +205,7 @@ impl HotTable {
     }
 
     /// Makes `rec` free if it is obsolete in `epoch`; else its state stays. Returns the state word that it found: that of `epoch` exactly
-    /// if this step made `rec` free.
+    /// if this step made `rec` free. The pass has loaded the epoch, and then each pin. `epoch` is below that one and each set pin.
     pub fn give_back<G: Gate>(
         &self,
         seat: &mut TableSeat,
@@ -221,8 +221,7 @@ impl HotTable {
         self.give_back_at(seat, gate, self.locate(rec), epoch)
     }
 
-    /// Makes the record `at` free if it is obsolete in `epoch`; else its state stays. Returns the state word that it found: that of `epoch`
-    /// exactly if this step made the record free.
+    /// Does what `give_back` does for the record `at`: makes it free if it is obsolete in `epoch`. Returns the state word that it found.
     #[inline(always)]
     pub fn give_back_at<G: Gate>(
         &self,

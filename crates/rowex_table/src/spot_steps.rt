@@ -29,7 +29,7 @@ impl HotTable {
         self.load_word_at::<Brand, G>(seat, gate, Act::LoadRef { spot, word: 0 }, entry)
     }
 
-    /// Loads the word of entry `entry` of node `node`, whose record begins at word `start`, and returns it.
+    /// Loads the word of the entry in slot `entry`, 0 to 31, of node `node`, whose record begins at word `start`, and returns it.
     #[inline(always)]
     pub fn load_slot_at<G: Gate>(
         &self,
@@ -50,7 +50,7 @@ impl HotTable {
     }
 
     /// Locks `target`, the anchor or a node, if it is live; else its state stays. Returns the state word that it found: that of `Tag::Live`
-    /// exactly if this step locked `target`.
+    /// exactly if this step locked `target`. A node has to be one of which the pass knows that it is in the tree if it is live.
     pub fn lock<G: Gate>(&self, seat: &mut TableSeat, gate: &mut G, target: Target) -> u64
         requires own { IsSeatOf self.now seat.old }
         requires range { IsInTable self.now.layout (target_word target) }
@@ -63,7 +63,7 @@ impl HotTable {
         self.compare_exchange_at::<Brand, G>(seat, gate, act, state, Exchange { expected, new })
     }
 
-    /// Makes `target`, which the pass has locked, live.
+    /// Makes `target`, which the pass has locked, live: the anchor, or a node that is still in the tree.
     pub fn unlock<G: Gate>(&self, seat: &mut TableSeat, gate: &mut G, target: Target)
         requires own { IsSeatOf self.now seat.old }
         requires range { IsInTable self.now.layout (target_word target) }
@@ -75,7 +75,8 @@ impl HotTable {
         self.store_word_at::<Brand, G>(seat, gate, act, state, live);
     }
 
-    /// Stores the entry word `word` at `spot`, the root or a slot of a node, whose lock the pass has. No other step changes the map.
+    /// Stores the entry word `word` at `spot`, the root or a slot of a node, whose lock the pass has. No other step changes the map. The
+    /// words then have to show one leaf more, exchanged or less. The pass has made ready what comes, and has locked each node that goes.
     pub fn publish<G: Gate>(&self, seat: &mut TableSeat, gate: &mut G, spot: Spot, word: u64)
         requires own { IsSeatOf self.now seat.old }
         requires range { HasSpot self.now.layout spot }

@@ -43,7 +43,7 @@ impl HotTable {
         TableStamp { seat }
     }
 
-    /// Lets the pass see the changes and the steps as they are now, all of `stamp` among them. It makes no event.
+    /// Lets the pass see the changes and the steps as they are now, all of `stamp` among them. It makes no event; `asides` counts one more.
     pub fn follow_stamp(&self, seat: &mut TableSeat, stamp: TableStamp)
         requires { IsSeatOf self.now seat.old × IsStampOf self.now stamp }
         ensures same { IsOneSeat seat.old seat.new }

@@ -9,8 +9,8 @@ use record_words::{Layout, Origins};
 use std::alloc::Global;
 use std::marker::Model;
 
-/// The right of one pass to step. What its pass knows, and of which steps of all passes, has no bytes. It changes at its steps, when it
-/// meets another and when it follows a stamp.
+/// The right of one pass to make steps. What the pass knows, and of which steps of all passes, takes no bytes. It changes when the pass
+/// makes a step or a stamp, meets another or follows a stamp.
 #[derive(Drop)]
 pub struct TableSeat {
     pub(crate) seat: Seat<(), TracedView>,
@@ -73,8 +73,8 @@ impl HotTable {
         self.origins.layout
     }
 
-    /// Where the table's records begin, as a copy. A walk over many records keeps it in registers; a field of `self` would be loaded again
-    /// after each atomic load.
+    /// Where the table's records begin, as a copy. A walk over many records keeps it in registers, where a field of `self` would be loaded
+    /// again after each atomic load.
     pub fn origins(&self) -> Origins
         ensures { result.layout ≡ self.now.layout }
     {

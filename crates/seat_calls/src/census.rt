@@ -44,8 +44,8 @@ pub struct RecordCounts {
     pub bytes: usize,
 }
 
-/// Loads the state of each record, nodes first; `gate` is told each load. Returns how many records of each kind and class it found in each
-/// state, and the bytes of the table.
+/// Returns how many records of each kind and class are in each state, and the bytes of the table. It loads the state of each once, nodes
+/// first, each at a moment of its own. `gate` is told each load.
 pub fn count_records<G: Gate>(table: &HotTable, seat: &mut TableSeat, gate: &mut G) -> RecordCounts
     requires { IsSeatOf table.now seat.old }
     ensures pin { seat.new.known.pin ≡ seat.old.known.pin }
@@ -117,7 +117,7 @@ fn zero_counts() -> StateCounts
     }
 }
 
-/// `counts` with one more record, whose state word is `word`.
+/// `counts` with one more record, whose state word is `word`. A locked node counts as live. All counts together stay below 2^32.
 fn count_state(counts: StateCounts, word: u64) -> StateCounts
     requires few { counts.free + counts.held + counts.live + counts.obsolete + 1 < 2 ^ 32 }
     requires state { IsSpelling HasStateWord state_word word }

@@ -26,7 +26,7 @@ use std::sync::Wait;
 use std::thread;
 
 /// Tries to make the change `call`, at most twice, after a small round of collection if one is due. `gate` is told each step. Returns the
-/// reply, or why the last attempt was refused.
+/// reply, or why the last attempt was refused: it has changed nothing then. The pass is between two calls, before and after.
 pub fn try_change<G: Gate>(
     table: &HotTable,
     seat: &mut TableSeat,
@@ -42,7 +42,7 @@ pub fn try_change<G: Gate>(
     try_twice(table, seat, gate, scratch, call)
 }
 
-/// Makes a small round of collection if the pass has retired enough records. Lets the next claims begin with those that it gave back.
+/// Makes a small round of collection if the pass has retired enough records. The next claims begin with those that it gave back.
 fn collect_due<G: Gate>(table: &HotTable, seat: &mut TableSeat, gate: &mut G, scratch: &mut Scratch)
     requires idle { IsIdle table.now seat.old }
     ensures idle { IsIdle table.now seat.new }
@@ -54,9 +54,9 @@ fn collect_due<G: Gate>(table: &HotTable, seat: &mut TableSeat, gate: &mut G, sc
     }
 }
 
-/// Tries to make the change `call`. If no record was free, it makes a round of collection and tries once more. Returns the reply, or why
-/// the last attempt was refused. If the round gave back no record of the kind, and there is no other pass, the second attempt does nothing.
-/// The refusal is then the first one's.
+/// Tries to make the change `call`. If no record was free, it makes a full round of collection and tries once more. Returns the reply, or
+/// why the last attempt was refused. If the round gave back no record of the kind, and there is no other pass, the second attempt does
+/// nothing, and the refusal is the first one's. After a round `scratch.is_moving` says whether records may come back.
 fn try_twice<G: Gate>(
     table: &HotTable,
     seat: &mut TableSeat,
@@ -134,7 +134,7 @@ fn pin_and_unpin<G: Gate>(table: &HotTable, seat: &mut TableSeat, gate: &mut G)
 
 /// Tries to make the change `call` until it is made, or refused for want of records. It tries again as long as another pass is in its
 /// way, holds back records, or may have taken those given back. `gate` is told each step; `rt` allows it to wait. Returns the reply, or
-/// the kind of records of which none was free.
+/// the kind of records of which none was free: it has changed nothing then. The pass is between two calls, before and after.
 pub fn retry_change<R: Wait, G: Gate>(
     rt: &R,
     table: &HotTable,

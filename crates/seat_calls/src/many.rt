@@ -17,9 +17,9 @@ use rowex_table::{HotTable, TableSeat};
 /// How many keys gain time by going down by turns first: fewer are looked up sooner without it.
 const ENOUGH: usize = 16;
 
-/// Loads the root, then looks up `keys` in their order. For each key, `found` gets at its place the value, or `None` if the key is absent:
-/// as of some moment since that load. `gate` is told each step. Up to `TOGETHER` keys at a time first go down by turns, which loads their
-/// nodes into the cache and finds the slots in them. Fewer than `ENOUGH` last keys are looked up without that.
+/// Looks up `keys` in their order, and writes to `found`, at each key's place, its value, or `None` if it is absent. That is as of a moment
+/// since the first load of the root, no earlier than for the key before. `found` has as many places as there are keys. `gate` is told each
+/// step. Up to `TOGETHER` keys first go down by turns, which loads their nodes into the cache. Fewer than `ENOUGH` last ones don't.
 pub fn look_up_each<G: Gate>(
     table: &HotTable,
     seat: &mut TableSeat,

@@ -103,7 +103,7 @@ pub fn new_scratch(alloc: Global, layout: Layout, number: u16) -> Result<Box<Scr
     Ok(Box::new(alloc, scratch)?)
 }
 
-/// The number at which the claims of pass `number` begin, if `passes` passes share `records` records. 0 if there is no pass.
+/// The number, from 0 on, at which the claims of pass `number` begin, if `passes` passes share `records` records. 0 if `passes` is 0.
 fn first_number_to_claim(number: u16, passes: u32, records: u32) -> u32 {
     let first = (u64::from(number) * u64::from(records))
         .checked_div(u64::from(passes))
