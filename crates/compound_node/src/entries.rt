@@ -56,7 +56,7 @@ pub(crate) fn height_over_entries(entries: &[Entry]) -> u16
 
 /// The height of a node of height `height` to which `entry` was added: one above the greatest of `entries`, all that it has now. Where
 /// `height` is 1 the others are leaves, and `entry` alone is looked at.
-pub(crate) fn height_with_entry(entries: &[Entry], entry: Entry, height: u16) -> u16
+pub(crate) fn height_with_added_entry(entries: &[Entry], entry: Entry, height: u16) -> u16
     requires children { All IsEntry entries.now }
     requires leaves { height ≡ 1 → greatest_height entries.now ≡ height_of entry }
     ensures { result ≡ 1 + greatest_height entries.now }

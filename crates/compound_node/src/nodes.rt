@@ -2,7 +2,8 @@
 
 use super::building::build_node;
 use super::entries::{
-    Entry, all_stand_below, concatenate_entries, height_with_entry, insert_entry_beside, list_items,
+    Entry, all_stand_below, concatenate_entries, height_with_added_entry, insert_entry_beside,
+    list_items,
 };
 use super::halves::{Cut, Half, make_cut, make_rest};
 use super::heads::Head;
@@ -237,7 +238,7 @@ impl Node {
     {
         let (first, last) = (first as usize, last as usize);
         insert_entry_beside(&mut self.entries, first, last, bit, entry);
-        let height = height_with_entry(self.entries.as_slice(), entry, self.head.height());
+        let height = height_with_added_entry(self.entries.as_slice(), entry, self.head.height());
         self.head.add_fork(height, position, first, last, bit);
     }
 

@@ -19,7 +19,7 @@ pub extern "C" fn hot_after(key: &[u8], next: &mut KeyRoom, length: &mut usize) 
     ensures { TellsAfter key.now next.old length.old next.new length.new result }
 {
     match Key::from_bytes(key) {
-        Ok(key) => tell_key(next_key(&key), next, length),
+        Ok(key) => write_key(next_key(&key), next, length),
         Err(_) => KEY_TOO_LONG,
     }
 }
@@ -31,13 +31,13 @@ pub extern "C" fn hot_before(key: &[u8], previous: &mut KeyRoom, length: &mut us
     ensures { TellsBefore key.now previous.old length.old previous.new length.new result }
 {
     match Key::from_bytes(key) {
-        Ok(key) => tell_key(previous_key(&key), previous, length),
+        Ok(key) => write_key(previous_key(&key), previous, length),
         Err(_) => KEY_TOO_LONG,
     }
 }
 
 /// Writes the key `found` to `key`, and its length to `length`: `DONE`. `ABSENT` for `None`, and nothing is written.
-fn tell_key(found: Option<Key>, key: &mut KeyRoom, length: &mut usize) -> u32
+fn write_key(found: Option<Key>, key: &mut KeyRoom, length: &mut usize) -> u32
     ensures { IsKeyTold found key.old length.old key.new length.new result }
 {
     let Some(found) = found else {

@@ -3,7 +3,7 @@
 ghost use Rattle.hot_c.specs.Ends.{FindsFirst, FindsIn, FindsLast};
 
 use crate::handle::Handle;
-use crate::pairs::{Order, Pair, Query, tell_first_pair};
+use crate::pairs::{Order, Pair, Query, write_first_pair};
 use crate::scans::fill_list;
 use key_bits::MAX_BYTES;
 
@@ -43,7 +43,7 @@ fn find_pair(handle: &mut Handle, query: &Query, pair: &mut Pair) -> u32
     match fill_list(handle, query, 1) {
         Ok(_) => {
             let opened = handle.slot.lend();
-            let status = tell_first_pair(&opened.list, pair);
+            let status = write_first_pair(&opened.list, pair);
             opened.empty_list();
             status
         }

@@ -13,12 +13,12 @@ ghost use Rattle.record_words.specs.Layout.{stock_for};
 use crate::handle::Handle;
 use crate::lookups::{Lookup, copy_keys, have_fitting_keys, write_found_values};
 use crate::opening::{
-    are_closed, is_size, is_stock_size, make_keeper, make_passes, make_passes_with_stock,
-    open_handles,
+    are_closed, are_counts_in_range, is_stock_in_range, make_keeper, make_passes,
+    make_passes_with_stock, open_handles,
 };
 use crate::status::{
     BUSY, CLOSED, DONE, FULL_LEAVES, FULL_NODES, HELD_BACK, KEY_TOO_LONG, NO_HANDLE, NO_MEMORY,
-    OPEN, OUT_OF_RANGE, tell_reply,
+    OPEN, OUT_OF_RANGE, write_reply,
 };
 use crate::stock::HotStock;
 use hot_index::{Call, IndexFault, RecordCounts};
@@ -35,7 +35,7 @@ pub extern "C" fn hot_create(alloc: Global, nodes: u32, leaves: u32, handles: &m
     ensures made { AreClosed handles.old → IsSize (length handles.old) nodes leaves →
         ((result ≡ DONE) × HaveOpened nodes leaves handles.new) ⊎ ((result ≡ NO_MEMORY) × (handles.new ≡ handles.old)) }
 {
-    if !is_size(handles.len(), nodes, leaves) {
+    if !are_counts_in_range(handles.len(), nodes, leaves) {
         return OUT_OF_RANGE;
     }
     if !are_closed(handles) {
@@ -62,7 +62,7 @@ pub extern "C" fn hot_create_with(alloc: Global, stock: &HotStock, handles: &mut
         ((result ≡ DONE) × HaveOpenedStock (stock_in stock.now) handles.new) ⊎ ((result ≡ NO_MEMORY) × (handles.new ≡ handles.old)) }
 {
     let records = stock.to_stock();
-    if !is_stock_size(handles.len(), &records) {
+    if !is_stock_in_range(handles.len(), &records) {
         return OUT_OF_RANGE;
     }
     if !are_closed(handles) {
@@ -93,7 +93,7 @@ pub extern "C" fn hot_create_keeping(
         ((result ≡ DONE) × HasOpenedKeeper passes (stock_in stock.now) handle.new.slot.opened) ⊎ ((result ≡ NO_MEMORY) × (handle.new ≡ handle.old)) }
 {
     let records = stock.to_stock();
-    if !is_stock_size(passes, &records) {
+    if !is_stock_in_range(passes, &records) {
         return OUT_OF_RANGE;
     }
     if handle.is_open() {
@@ -188,7 +188,7 @@ pub extern "C" fn hot_get(handle: &mut Handle, key: &[u8], value: &mut u64) -> u
     }
     let mut asked = Key::empty();
     match asked.set_bytes(key) {
-        Ok(()) => tell_reply(handle.slot.lend().get(&asked), value),
+        Ok(()) => write_reply(handle.slot.lend().get(&asked), value),
         Err(_) => KEY_TOO_LONG,
     }
 }

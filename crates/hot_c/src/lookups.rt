@@ -47,12 +47,12 @@ pub fn write_found_values(found: &[Option<u64>], lookups: &mut [Lookup<'_>])
     ensures { lookups.new ≡ are_answered lookups.old found.now }
 {
     for (place, value) in found.iter().enumerate() {
-        write_answer(*value, &mut lookups[place]);
+        write_found_value(*value, &mut lookups[place]);
     }
 }
 
 /// Writes `found`, the value of a key, to `lookup`: `FOUND` with the value; or `ABSENT`, and the value there stays.
-fn write_answer(found: Option<u64>, lookup: &mut Lookup<'_>)
+fn write_found_value(found: Option<u64>, lookup: &mut Lookup<'_>)
     ensures { lookup.new ≡ answer lookup.old found }
 {
     match found {

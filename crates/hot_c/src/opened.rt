@@ -16,7 +16,7 @@ ghost use Rattle.hot_c.specs.Statuses.{value_after};
 
 use crate::pairs::Order;
 use crate::refusals::{tell_lack_of_leaves, tell_lack_of_nodes};
-use crate::status::{BUSY, tell_reply};
+use crate::status::{BUSY, write_reply};
 use hot_index::{Call, ClosedHandle, Handle, Index, Reply, ShowsIndex, Stamp, TryFault};
 use key_bits::Key;
 use packed_pairs::Pairs;
@@ -76,7 +76,7 @@ impl Opened {
             × (had.new ≡ value_after had.old outcome) × IfErr outcome (MayRefuse call.now) }
     {
         match self.handle.try_call(call) {
-            Ok(reply) => tell_reply(reply, had),
+            Ok(reply) => write_reply(reply, had),
             Err(TryFault::Busy) => BUSY,
             Err(TryFault::FullNodes) => tell_lack_of_nodes(&self.handle.census()),
             Err(TryFault::FullLeaves) => tell_lack_of_leaves(size, &self.handle.census()),

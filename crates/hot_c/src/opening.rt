@@ -24,7 +24,7 @@ pub fn are_closed(handles: &[Handle]) -> bool
 }
 
 /// Whether `create` takes these numbers: 1 to 64 passes, 1 to 65,535 node records and 1 to 262,143 leaf records.
-pub fn is_size(passes: usize, nodes: u32, leaves: u32) -> bool
+pub fn are_counts_in_range(passes: usize, nodes: u32, leaves: u32) -> bool
     ensures { IsTrue result ↔ IsSize passes nodes leaves }
 {
     1 <= passes
@@ -36,7 +36,7 @@ pub fn is_size(passes: usize, nodes: u32, leaves: u32) -> bool
 }
 
 /// Whether `create_with` takes these numbers: 1 to 1,024 passes, and in `stock` a node record and 1 to 4,294,967,295 leaf records in all.
-pub fn is_stock_size(passes: usize, stock: &Stock) -> bool
+pub fn is_stock_in_range(passes: usize, stock: &Stock) -> bool
     ensures { IsTrue result ↔ IsStockSize passes stock.now }
 {
     let short = stock.short as u64 + stock.medium as u64;
@@ -62,7 +62,7 @@ pub fn open_handles(handles: &mut [Handle], passes: Vec<Box<Opened, Global>>)
 }
 
 /// The passes of a new index with these numbers of records, in the order of their numbers, each with a share of the index. All leaf records
-/// are long. `IndexFault::Layout` if a number is out of range (`is_size`); `Memory` if memory is refused.
+/// are long. `IndexFault::Layout` if a number is out of range (`are_counts_in_range`); `Memory` if memory is refused.
 pub fn make_passes(
     alloc: Global,
     passes: u32,
@@ -78,7 +78,7 @@ pub fn make_passes(
 }
 
 /// The passes of a new index with the records of `stock`, in the order of their numbers, each with a share of the index.
-/// `IndexFault::Layout` if a number is out of range (`is_stock_size`); `Memory` if memory is refused.
+/// `IndexFault::Layout` if a number is out of range (`is_stock_in_range`); `Memory` if memory is refused.
 pub fn make_passes_with_stock(
     alloc: Global,
     passes: u32,
@@ -93,7 +93,7 @@ pub fn make_passes_with_stock(
 }
 
 /// The last pass of a new index with the records of `stock`, opened, with its share of the index. It keeps the others, and the first of
-/// them is the next to be opened. `IndexFault::Layout` if a number is out of range (`is_stock_size`); `Memory` if memory is refused.
+/// them is the next to be opened. `IndexFault::Layout` if a number is out of range (`is_stock_in_range`); `Memory` if memory is refused.
 pub fn make_keeper(
     alloc: Global,
     passes: u32,

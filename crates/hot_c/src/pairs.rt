@@ -118,7 +118,7 @@ fn write_pair_of_any_length(key: &[u8], value: u64, pair: &mut Pair)
 }
 
 /// Writes the first of `pairs` to `pair`: `FOUND`. If there is none, `ABSENT`, and `pair` stays.
-pub fn tell_first_pair(pairs: &Pairs, pair: &mut Pair) -> u32
+pub fn write_first_pair(pairs: &Pairs, pair: &mut Pair) -> u32
     ensures { IsPairTold (slice_get pairs.now 0) pair.old pair.new result }
 {
     match pairs.iter().next() {

@@ -24,7 +24,7 @@ pub fn tell_lack_of_leaves(size: usize, counts: &RecordCounts) -> u32
 {
     if !are_all_leaves_in_use(size, counts) {
         HELD_BACK
-    } else if have_no_leaf(size, counts) {
+    } else if has_no_leaf_for(size, counts) {
         KEY_TOO_LONG
     } else {
         FULL_LEAVES
@@ -39,7 +39,7 @@ fn are_all_in_use(counts: &StateCounts) -> bool
 }
 
 /// Whether there is no record of one kind and class, by `counts`.
-fn have_no_record(counts: &StateCounts) -> bool
+fn has_no_record(counts: &StateCounts) -> bool
     ensures { IsTrue result ↔ AreNone counts.now }
 {
     are_all_in_use(counts) && counts.live == 0
@@ -57,12 +57,12 @@ fn are_all_leaves_in_use(size: usize, counts: &RecordCounts) -> bool
 }
 
 /// Whether there is no leaf record with room for a key of `size` bytes, by `counts`.
-fn have_no_leaf(size: usize, counts: &RecordCounts) -> bool
+fn has_no_leaf_for(size: usize, counts: &RecordCounts) -> bool
     ensures { IsTrue result ↔ OfLeaves AreNone size counts.now }
 {
-    (size > 8 || have_no_record(&counts.short))
-        && (size > 24 || have_no_record(&counts.medium))
-        && (size > 56 || have_no_record(&counts.large))
-        && (size > 88 || have_no_record(&counts.wide))
-        && have_no_record(&counts.long)
+    (size > 8 || has_no_record(&counts.short))
+        && (size > 24 || has_no_record(&counts.medium))
+        && (size > 56 || has_no_record(&counts.large))
+        && (size > 88 || has_no_record(&counts.wide))
+        && has_no_record(&counts.long)
 }

@@ -48,7 +48,7 @@ pub const HELD_BACK: u32 = 18;
 pub const NO_HANDLE: u32 = 19;
 
 /// The status of `reply`. If the reply has a value, it is written to `value`; else `value` stays.
-pub fn tell_reply(reply: Reply, value: &mut u64) -> u32
+pub fn write_reply(reply: Reply, value: &mut u64) -> u32
     ensures status { result ≡ reply_status reply }
     ensures value { value.new ≡ value_after value.old (Ok reply) }
 {

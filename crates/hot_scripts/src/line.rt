@@ -18,7 +18,7 @@ fn first_index(separator: u8, text: &[u8]) -> Option<usize>
 }
 
 /// The part of `text` before the first `separator`, and what follows that; if there is none, all of `text`, and `None`.
-pub fn split_first(separator: u8, text: &[u8]) -> (&[u8], Option<&[u8]>)
+pub fn split_once(separator: u8, text: &[u8]) -> (&[u8], Option<&[u8]>)
     ensures parts { slice_split (λ b. b == separator) text.now ≡ result.0.now ∷ parts_left separator result.1 }
     ensures whole { result.1 ≡ None → result.0.now ≡ text.now }
     ensures left { text_len result.1 ≤ length text.now }
@@ -42,19 +42,19 @@ enum Words<'a> {
 fn split_words(line: &[u8]) -> Words<'_>
     ensures { AreWords result (line_words line.now) }
 {
-    let (name, rest) = split_first(b' ', line);
+    let (name, rest) = split_once(b' ', line);
     let Some(rest) = rest else {
         return Words::Other;
     };
-    let (first, rest) = split_first(b' ', rest);
+    let (first, rest) = split_once(b' ', rest);
     let Some(rest) = rest else {
         return Words::Two(name, first);
     };
-    let (second, rest) = split_first(b' ', rest);
+    let (second, rest) = split_once(b' ', rest);
     let Some(rest) = rest else {
         return Words::Three(name, first, second);
     };
-    let (third, rest) = split_first(b' ', rest);
+    let (third, rest) = split_once(b' ', rest);
     match rest {
         None => Words::Four(name, first, second, third),
         Some(_) => Words::Other,

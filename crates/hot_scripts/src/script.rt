@@ -7,7 +7,7 @@ ghost use Rattle.hot_scripts.specs.Words.{text_len};
 
 use crate::command::{Command, Version};
 use crate::fault::{Reason, RunFault};
-use crate::line::{parse_line, split_first};
+use crate::line::{parse_line, split_once};
 use finite_map::Call;
 
 /// The most bytes that a script may have.
@@ -73,7 +73,7 @@ impl<'a> Commands<'a> {
         ensures { Gives (commands_left self.old) result (commands_left self.new) }
     {
         while let Some(text) = self.left {
-            let (line, rest) = split_first(b'\n', text);
+            let (line, rest) = split_once(b'\n', text);
             self.left = rest;
             if let Ok(Some(command)) = parse_line(self.version, line) {
                 return Some(command);
@@ -87,7 +87,7 @@ impl<'a> Commands<'a> {
     fn opening(script: &'a [u8]) -> (u32, Commands<'a>)
         ensures { IsOpening script.now result.0 result.1 }
     {
-        let (first, rest) = split_first(b'\n', script);
+        let (first, rest) = split_once(b'\n', script);
         if first == b"hot 2".as_slice() {
             let version = Version::Second;
             (
@@ -117,7 +117,7 @@ impl<'a> Commands<'a> {
         let mut left = self.left;
         let mut longest = 0;
         while let Some(text) = left {
-            let (line, rest) = split_first(b'\n', text);
+            let (line, rest) = split_once(b'\n', text);
             match parse_line(self.version, line) {
                 Ok(command) => longest = larger_number(longest, key_length(&command)),
                 Err(reason) => return Err((number, reason)),

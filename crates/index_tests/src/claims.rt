@@ -77,7 +77,7 @@ fn fill_node(rt: &impl Abort, table: &HotTable, seat: &mut TableSeat)
 }
 
 /// Asserts that the epoch is raised from 1 to 2, that both pins are clear, and that leaf 0, which is free, isn't given back.
-fn give_back_none(rt: &impl Abort, table: &HotTable, seat: &mut TableSeat)
+fn expect_free_leaf_kept(rt: &impl Abort, table: &HotTable, seat: &mut TableSeat)
     requires own { IsSeatOf table.now seat.old }
     requires range { (0 < table.now.layout.leaves) × (table.now.layout.passes ≡ 2) }
     ensures own { IsSeatOf table.now seat.new }
@@ -130,7 +130,7 @@ fn claim_in_threads(
 #[test]
 fn a_record_has_one_seat(rt: HostRuntime) {
     let (table, mut first, mut second) = make_table(&rt, rt.alloc());
-    give_back_none(&rt, &table, &mut first);
+    expect_free_leaf_kept(&rt, &table, &mut first);
     fill_node(&rt, &table, &mut first);
     hand_record_over(&rt, &table, &mut first, &mut second, Rec::Leaf(0));
     claim_in_threads(&rt, &table, (first, second));

@@ -63,7 +63,7 @@ fn add_by_one_pass(rt: &(impl Abort + Wait), index: &Index, pass: &mut Pass, key
 
 /// Sums of one pass go beyond the greatest number to 0; two threads that add at the same time lose nothing.
 #[test]
-fn what_two_threads_add_is_the_sum(rt: HostRuntime) {
+fn concurrent_adds_lose_nothing(rt: HostRuntime) {
     let (index, mut passes) = make_index(&rt, rt.alloc(), 3);
     let first = pop_pass(&rt, &index, &mut passes);
     let second = pop_pass(&rt, &index, &mut passes);

@@ -62,12 +62,12 @@ fn wait_for_each_other<R: Abort + Threads + Wait + Sync>(
     );
     assert!(rt; ours.0 && theirs.0);
     let (mut first, mut second) = ours.1.meet(theirs.1);
-    find_both_keys(rt, &mut first, keys);
-    find_both_keys(rt, &mut second, keys);
+    expect_both_keys(rt, &mut first, keys);
+    expect_both_keys(rt, &mut second, keys);
 }
 
 /// Asserts that `guest` finds both keys, with the value 1.
-fn find_both_keys(rt: &impl Abort, guest: &mut Handle<&Index>, keys: &(Key, Key)) {
+fn expect_both_keys(rt: &impl Abort, guest: &mut Handle<&Index>, keys: &(Key, Key)) {
     assert!(rt; guest.get(&keys.0) == Some(1) && guest.get(&keys.1) == Some(1));
 }
 

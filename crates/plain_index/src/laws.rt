@@ -2,7 +2,7 @@
 ghost use Rattle.plain_index.specs.Statements.{InOrder, Longer, Woven, WovenTwo, WovenInOrder, WovenInOrderTwo, WovenInTime, ScansAtOnce, StillScans, ScanIsGets, Alone};
 
 /// A pass's calls that are legal in a front are legal in each legal front that goes on from it by other passes' changes alone.
-pub fn longer()
+pub fn legal_calls_stay_legal_in_longer_fronts()
     ensures { Longer }
 {}
 

@@ -62,7 +62,7 @@ fn store_cut(nodes: &mut Vec<Node>, number: u32, height: u16, cut: Cut) -> Risen
     } = cut;
     match zero {
         Half::One(zero) => {
-            let one = keep_half(nodes, number, height, one);
+            let one = put_half(nodes, number, height, one);
             Risen::Split {
                 position,
                 zero,
@@ -71,7 +71,7 @@ fn store_cut(nodes: &mut Vec<Node>, number: u32, height: u16, cut: Cut) -> Risen
         }
         zero => {
             let one = push_half(nodes, number, height, one);
-            let zero = keep_half(nodes, number, height, zero);
+            let zero = put_half(nodes, number, height, zero);
             Risen::Split {
                 position,
                 zero,
@@ -83,7 +83,7 @@ fn store_cut(nodes: &mut Vec<Node>, number: u32, height: u16, cut: Cut) -> Risen
 
 /// The entry of `half`: one entry is returned as it is, and a node is put into record `number`. `Half::Same` is the node that stands there,
 /// of the height `height`.
-fn keep_half(nodes: &mut Vec<Node>, number: u32, height: u16, half: Half) -> Entry
+fn put_half(nodes: &mut Vec<Node>, number: u32, height: u16, half: Half) -> Entry
     requires { number < vec_len nodes.old }
     ensures nodes { nodes.new.items ≡ kept_nodes nodes.old.items number half }
     ensures entry { result ≡ kept_entry number (Entry.Node number height) half }

@@ -11,7 +11,7 @@ ghost use Rattle.publish_laws.specs.Sure.{DescentFinds};
 
 /// Let a pinned pass have gone down from the entry at a new key's place in a locked node to a leaf. Let the new key first differ from that
 /// leaf's at the insertion's position. Then the pass knows what an insertion needs of the way below the node.
-pub fn descent_from_lock_ends_at_leaf()
+pub fn descent_from_lock_tells_way_below()
     ensures { DescentFinds }
 {}
 
@@ -155,6 +155,6 @@ pub fn end_leaves_nothing()
 
 /// A pass that has published, loaded the epoch, marked each unlinked record and unlocked each kept node has no record and no locked node.
 /// Its front, which ends with its own change, and the lock of the anchor are as they were after the publish.
-pub fn loops_leave_nothing()
+pub fn finished_end_leaves_nothing()
     ensures { Settles }
 {}

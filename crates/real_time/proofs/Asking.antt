@@ -211,8 +211,8 @@ module _ (layout : Layout) (last : ℕ) (at : ℕ → Moment) (happens : ℕ →
       responds (inl (asked, is)) = one_asked asked is notes refl (x.calls ∙ is)
       responds (inr none) = inl (looked_up none)
 
-pub responders_change_as_asked : RespondersChangeAsAsked
-responders_change_as_asked layout last at happens run q t call notes below within x single m from upto = responds layout last at happens run q t call below within m from upto notes x single
+pub answered_calls_change_as_asked : RespondersChangeAsAsked
+answered_calls_change_as_asked layout last at happens run q t call notes below within x single m from upto = responds layout last at happens run q t call below within m from upto notes x single
 
 pub refused_change_nothing : RefusedChangeNothing
 refused_change_nothing layout last at happens run q t call below within x m from upto = refused layout last at happens run q t call below within m from upto x

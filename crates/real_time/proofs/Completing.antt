@@ -21,7 +21,7 @@ use Rattle.real_time.specs.Effects.{completion_of, completions}
 use Rattle.real_time.specs.Histories.{ChangesAsAsked, HasChangedOnce, IsAppended, AsksOneOrLooksUp, EndsWithin, PendingEndOrChangeAsAsked, replied}
 use Rattle.real_time.specs.Moments.{Happening, IsSoundMoment, IsWholeRun, Moment, Pending}
 use Rattle.real_time.specs.Statements.{IsLinearizable, Linearizable, OrderedByEffect}
-use Rattle.real_time.proofs.Asking.{head_is, tail_is, refused_change_nothing, responders_change_as_asked}
+use Rattle.real_time.proofs.Asking.{head_is, tail_is, refused_change_nothing, answered_calls_change_as_asked}
 use Rattle.real_time.proofs.Calling.{LegalUpTo, calls_legal}
 use Rattle.real_time.proofs.Growing.{grown, longer, runs_stay_sound}
 use Rattle.real_time.proofs.Makers.{legal_on, makers_behind, makers_legal}
@@ -185,7 +185,7 @@ module _ (layout : Layout) (last later : ℕ) (at : ℕ → Moment) (happens : �
 
     ended : AsksOneOrLooksUp call.calls → EndsWithin at last later q call → ChangesAsAsked q call.calls (at call.since).core.changes (at last).core.changes
     ended asks (t, from, upto, inl (notes, x)) =
-        responders_change_as_asked layout later at happens run q t call notes below upto x (one_or_quiet q call.calls notes x.calls asks) last since from
+        answered_calls_change_as_asked layout later at happens run q t call notes below upto x (one_or_quiet q call.calls notes x.calls asks) last since from
     ended asks (t, from, upto, inr x) = inl (refused_change_nothing layout later at happens run q t call below upto x last since from)
 
   all_as_asked : PendingEndOrChangeAsAsked layout last later at → ChangeAsAsked layout last at

@@ -14,7 +14,7 @@ pub fn runs_are_linearizable()
 
 /// Let a call that responds ask one call of the map, or let its replies tell of no change. At each moment from its invocation to its
 /// response it has changed nothing, or just what it asks.
-pub fn responders_change_as_asked()
+pub fn answered_calls_change_as_asked()
     ensures { RespondersChangeAsAsked }
 {}
 

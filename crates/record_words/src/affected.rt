@@ -17,7 +17,7 @@ use std::simd::prelude::*;
 /// agree with that of slot `found` in all columns below `position`. No head is made: the words are compared as vectors. Rows rise, so those
 /// that agree in the first columns follow each other.
 #[inline(always)]
-pub fn affected_places(words: &[u64], found: u8, position: u16) -> (u8, u8)
+pub fn affected_slots(words: &[u64], found: u8, position: u16) -> (u8, u8)
     requires long { length words.now ≡ HEAD_WORDS }
     requires spelling { IsSpelling HasHeadWords head_words words.now }
     requires in_range { InNodesOf words.now (λ node. found < length node.entries) }

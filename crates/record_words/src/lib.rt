@@ -13,7 +13,7 @@ mod search;
 mod state;
 mod stock;
 
-pub use affected::affected_places;
+pub use affected::affected_slots;
 pub use entry::{pack_entry, read_entry, read_some_entry};
 use key_bits::MAX_BYTES;
 pub use layout::{Layout, LayoutFault, LeafClass, Location, Stock};

@@ -6,7 +6,7 @@ ghost use Rattle.rowex_core.specs.declared.event.Act.TheVariants.{LoadFixed, Loa
 ghost use Rattle.record_words.specs.Entry.{HasEntryWord, entry_word};
 ghost use Rattle.replay_state.specs.States.{IsStepped};
 
-use crate::record_steps::is_fixed_offset;
+use crate::record_steps::is_offset_of_fixed_word;
 use crate::state::State;
 use compound_node::Entry;
 use record_words::{HEAD_WORDS, MAX_ENTRIES};
@@ -35,7 +35,7 @@ impl State {
     pub(crate) fn load_fixed(&self, pass: u16, rec: Rec, offset: u8, word: u64) -> bool
         ensures { IsStepped result self.now self.now pass (LoadFixed rec offset word) }
     {
-        if !is_fixed_offset(self.records.layout(), rec, offset) {
+        if !is_offset_of_fixed_word(self.records.layout(), rec, offset) {
             return false;
         }
         self.records.has_word(rec, offset as usize - 1, word)

@@ -43,7 +43,7 @@ impl State {
     pub(crate) fn ready(&mut self, pass: u16, rec: Rec) -> bool
         ensures { IsStepped result self.old self.new pass (Ready rec) }
     {
-        if !self.records.is_held(rec, pass) || !self.records.is_packed(rec) {
+        if !self.records.is_held(rec, pass) || !self.records.has_valid_words(rec) {
             return false;
         }
         self.records.set_fate(rec, Fate::Ready { by: pass });
@@ -112,7 +112,7 @@ fn is_offset(layout: Layout, rec: Rec, offset: u8) -> bool
 }
 
 /// Whether `rec` has a word at `offset`, neither its state nor an entry, in a table of `layout`, which needn't have the record.
-pub(crate) fn is_fixed_offset(layout: Layout, rec: Rec, offset: u8) -> bool
+pub(crate) fn is_offset_of_fixed_word(layout: Layout, rec: Rec, offset: u8) -> bool
     ensures { IsTrue result ↔ (IsFixedOffset rec offset × HasWord layout rec offset) }
 {
     match rec {

@@ -169,7 +169,7 @@ impl Records {
     }
 
     /// Whether the words of `rec` spell a node, or a leaf for whose key the record has room. `false` if the table hasn't the record.
-    pub(crate) fn is_packed(&self, rec: Rec) -> bool
+    pub(crate) fn has_valid_words(&self, rec: Rec) -> bool
         ensures { IsTrue result ↔ IsPackedIn self.now rec }
     {
         match rec {

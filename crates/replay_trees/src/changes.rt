@@ -15,11 +15,11 @@ pub fn change_between(pass: u16, before: &[Item], after: &[Item]) -> Option<Chan
     ensures { AreSame (map read_item before.now) (map read_item after.now) → IsFoundChange pass (map read_item before.now) (map read_item after.now) result }
 {
     let front = count_same_first_items(before, after);
-    change_where_firsts_differ(pass, &before[front..], &after[front..])
+    change_from_first_difference(pass, &before[front..], &after[front..])
 }
 
 /// As `change_between`, of `gone` before and `come` after. Their first leaves, if both lists have one, have different numbers.
-fn change_where_firsts_differ(pass: u16, gone: &[Item], come: &[Item]) -> Option<Change>
+fn change_from_first_difference(pass: u16, gone: &[Item], come: &[Item]) -> Option<Change>
     requires { BeginApart (map read_item gone.now) (map read_item come.now) }
     ensures { AreSame (map read_item gone.now) (map read_item come.now) → IsFoundChange pass (map read_item gone.now) (map read_item come.now) result }
 {

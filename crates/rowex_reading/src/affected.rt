@@ -9,7 +9,7 @@ ghost use Rattle.rowex_reading.specs.Seen.{HasPlace, Sure};
 ghost use Rattle.tries.specs.Tree.{Subtrie};
 
 use crate::reading::load_head_words;
-use record_words::{HEAD_WORDS, affected_places};
+use record_words::{HEAD_WORDS, affected_slots};
 use rowex_core::Gate;
 use rowex_table::{HotTable, TableSeat};
 
@@ -33,5 +33,5 @@ pub fn find_affected<G: Gate>(
 {
     let mut words = [0; HEAD_WORDS];
     load_head_words(table, seat, gate, number, &mut words);
-    affected_places(&words, found, position)
+    affected_slots(&words, found, position)
 }

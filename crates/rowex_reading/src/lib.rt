@@ -43,4 +43,4 @@ pub use affected::find_affected;
 pub use along::{MOST_TURNS, TOGETHER, Turn, go_down};
 pub use descent::{Found, MOST_NODES, search_way};
 pub use lookup::{look_up, look_up_along};
-pub use reading::{enter_node, load_entry, load_leaf, load_root};
+pub use reading::{load_entry, load_leaf, load_path_node, load_root};

@@ -82,7 +82,7 @@ pub(crate) fn load_head_words<G: Gate>(
 
 /// Loads all words of the head of node `number`. Returns the node as one of a path that takes its first entry.
 #[inline(always)]
-pub fn enter_node<G: Gate>(
+pub fn load_path_node<G: Gate>(
     table: &HotTable,
     seat: &mut TableSeat,
     gate: &mut G,

@@ -111,7 +111,7 @@ pub fn claim_record<G: Gate>(
     ensures held { IfSome result (λ number. (number < count_of kind table.now.layout) × IsClaimed seat.new.known (record_of kind number)) }
 {
     let mut left = kind.count(table.layout());
-    claim_record_within(table, seat, gate, kind, from, &mut left)
+    claim_next_record(table, seat, gate, kind, from, &mut left)
 }
 
 /// Claims the first record of `kind` that it finds free, of the next `left` ones from number `from` on. Returns its number; `None` if
@@ -119,7 +119,7 @@ pub fn claim_record<G: Gate>(
 ///
 /// It tries records as [`claim_record`] does. `left` becomes less by those that were tried. Inline, since callers know the kind.
 #[inline(always)]
-pub fn claim_record_within<G: Gate>(
+pub fn claim_next_record<G: Gate>(
     table: &HotTable,
     seat: &mut TableSeat,
     gate: &mut G,
@@ -163,7 +163,7 @@ fn claim_and_count_tries<G: Gate>(
     if most == 0 {
         return (None, 0);
     }
-    let begin = first_number(from, kind.count(table.layout()));
+    let begin = number_or_zero(from, kind.count(table.layout()));
     let at = table.locate(kind.record_at(begin));
     if try_claim_record(table, seat, gate, at) {
         return (Some(begin), 1);
@@ -191,7 +191,7 @@ fn claim_record_behind<G: Gate>(
 {
     let layout = table.layout();
     let all = kind.count(layout);
-    let mut number = first_number(begin + 1, all);
+    let mut number = number_or_zero(begin + 1, all);
     let mut tried = 1;
     while tried < most {
         let span = kind.span_at(&layout, number);
@@ -200,7 +200,7 @@ fn claim_record_behind<G: Gate>(
             return (Some(number + index), tried + index + 1);
         }
         tried += count;
-        number = first_number(number + count, all);
+        number = number_or_zero(number + count, all);
     }
     (None, most)
 }
@@ -276,7 +276,7 @@ fn try_claim_record<G: Gate>(
 }
 
 /// The number to begin at, of `all` records: `from`, or 0 if `from` is out of range.
-fn first_number(from: u32, all: u32) -> u32
+fn number_or_zero(from: u32, all: u32) -> u32
     ensures begin { result ≡ begin_of all from }
     ensures low { 0 < all → result < all }
     ensures few { result ≤ all }

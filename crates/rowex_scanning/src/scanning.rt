@@ -29,7 +29,7 @@ use key_bits::{Key, MAX_BYTES};
 use packed_pairs::Pairs;
 use record_words::{Origins, key_word_at};
 use rowex_core::{Gate, Rec};
-use rowex_reading::{Found, MOST_NODES, enter_node, load_leaf, load_root, search_way};
+use rowex_reading::{Found, MOST_NODES, load_leaf, load_path_node, load_root, search_way};
 use rowex_table::{HotTable, LeafAt, TableSeat};
 use std::alloc::AllocError;
 use version_laws::Direction;
@@ -296,7 +296,7 @@ fn enter_node_at_gap<G: Gate>(
     ensures reads { (n : ℕ) × (n ≤ HEAD_WORDS) × Reads table.now G.becomes 0 n (seat.old, gate.old) (seat.new, gate.new) }
     ensures entered { (m h : ℕ) → IsLedTo seat.old.known m (NodeEntry number h) → IsEntered direction seat.new.known m number h result }
 {
-    let mut step = enter_node(table, seat, gate, number);
+    let mut step = load_path_node(table, seat, gate, number);
     step.at = first_gap(direction, step.count);
     step
 }

@@ -27,7 +27,7 @@ use crate::locks::lock_span;
 use crate::merging::try_merge;
 use crate::plan::{Deed, Full, Plan, find_plan};
 use crate::publishing::publish_change;
-use crate::taking::remove_leaf;
+use crate::taking::make_without_leaf;
 use arrayvec::ArrayVec;
 use finite_map::{Call, Reply};
 use insert_cases::PathNode;
@@ -184,7 +184,7 @@ fn make_removal<G: Gate>(
     ensures full { IfErr result (λ full. HasNoRoom table.now.layout job.now.key.now seat.old.known seat.new.known full) }
     ensures leafless { result ≢ Err Full.Leaves }
 {
-    match remove_leaf(table, seat, gate, build, job) {
+    match make_without_leaf(table, seat, gate, build, job) {
         Ok(raised) => {
             if try_merge(table, seat, gate, build, job) {
                 return Ok(());

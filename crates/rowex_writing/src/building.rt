@@ -17,7 +17,7 @@ use crate::remaking::{NewLeaf, add_leaf};
 use arrayvec::ArrayVec;
 use compound_node::{Entry, Half, Node};
 use insert_cases::{Grown, Risen};
-use record_words::{HEAD_WORDS, LEAF_CLASSES, NODE_FIELDS, affected_places, pack_node};
+use record_words::{HEAD_WORDS, LEAF_CLASSES, NODE_FIELDS, affected_slots, pack_node};
 use rowex_core::{Gate, Rec};
 use rowex_records::fill_node;
 use rowex_table::{HotTable, TableSeat};
@@ -127,7 +127,7 @@ pub(crate) fn make_node_with_leaf<G: Gate>(
     ensures same { result ≡ None → (seat.new.known.own ≡ seat.old.known.own) × (build.new.made.items ≡ build.old.made.items) }
 {
     let bit = new.key.bit(new.position);
-    let (first, last) = affected_places(&words[..HEAD_WORDS], new.at, new.position);
+    let (first, last) = affected_slots(&words[..HEAD_WORDS], new.at, new.position);
     record_words::add_leaf(words, first, last, new.position, bit, new.number);
     make_node_from_words(table, seat, gate, build, words)
 }

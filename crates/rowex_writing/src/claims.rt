@@ -17,7 +17,7 @@ use crate::building::Build;
 use arrayvec::ArrayVec;
 use record_words::{LEAF_CLASSES, Layout};
 use rowex_core::{Gate, Rec};
-use rowex_records::{RecordKind, claim_by_number, claim_record, claim_record_within};
+use rowex_records::{RecordKind, claim_by_number, claim_next_record, claim_record};
 use rowex_table::{HotTable, TableSeat};
 
 /// The most numbers of records of one kind that a pass keeps to begin claims with.
@@ -272,7 +272,7 @@ fn claim_node_on_walk<G: Gate>(
     if let Some(number) = claim_spare_record(table, seat, gate, RecordKind::Node, &mut hint.spare) {
         return Some(number);
     }
-    let number = claim_record_within(table, seat, gate, RecordKind::Node, hint.next, left)?;
+    let number = claim_next_record(table, seat, gate, RecordKind::Node, hint.next, left)?;
     hint.next = number + 1;
     Some(number)
 }

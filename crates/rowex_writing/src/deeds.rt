@@ -11,7 +11,7 @@ use crate::growing::grow_node;
 use crate::plan::{Deed, Full, Span};
 use crate::publishing::make_leaf;
 use crate::remaking::pair_with_leaf;
-use crate::taking::remove_leaf;
+use crate::taking::make_without_leaf;
 use compound_node::Entry;
 use insert_cases::PathNode;
 use key_bits::Key;
@@ -59,7 +59,7 @@ pub(crate) fn carry_out_deed<G: Gate>(
         Deed::Put => put_new_leaf(table, seat, gate, build, job),
         Deed::PushDown { position } => push_leaf_down(table, seat, gate, build, job, position),
         Deed::Grow { position } => grow_node(table, seat, gate, build, job, position),
-        Deed::Take => remove_leaf(table, seat, gate, build, job),
+        Deed::Take => make_without_leaf(table, seat, gate, build, job),
     }
 }
 

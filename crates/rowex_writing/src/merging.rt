@@ -29,7 +29,7 @@ use crate::locked::{
     load_locked_entry, load_locked_words, load_position, load_sibling, read_locked_node,
 };
 use crate::publishing::{Store, publish_entry, spot_above};
-use crate::widening::{narrow_locks, widen_locks};
+use crate::widening::{lock_for_merge, unlock_for_merge};
 use compound_node::{Entry, Half, Node};
 use insert_cases::PathNode;
 use record_words::{NODE_FIELDS, close_fork, pack_node};
@@ -87,7 +87,7 @@ pub(crate) fn try_merge<G: Gate>(
     let Some(merge) = find_merge(table, seat, gate, job, number) else {
         return false;
     };
-    if !widen_locks(table, seat, gate, job, merge.number) {
+    if !lock_for_merge(table, seat, gate, job, merge.number) {
         return false;
     }
     merge_under_locks(table, seat, gate, build, job, &merge)
@@ -146,7 +146,7 @@ fn find_merge<G: Gate>(
     })
 }
 
-/// Ends a removal by `merge`, under the locks that [`widen_locks`] has taken, and returns whether it did. If the merge's records can't be
+/// Ends a removal by `merge`, under the locks that [`lock_for_merge`] has taken, and returns whether it did. If the merge's records can't be
 /// made, these locks are given back, and the pass has the records that it had.
 fn merge_under_locks<G: Gate>(
     table: &HotTable,
@@ -173,7 +173,7 @@ fn merge_under_locks<G: Gate>(
         publish_merge(table, seat, gate, build, job, entry);
         return true;
     }
-    narrow_locks(table, seat, gate, job, merge.number);
+    unlock_for_merge(table, seat, gate, job, merge.number);
     false
 }
 

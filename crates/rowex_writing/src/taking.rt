@@ -20,7 +20,7 @@ use rowex_table::{HotTable, TableSeat};
 
 /// Makes what is left of the found leaf's node without the leaf, and returns the entry for that, which is to take the node's place. If the
 /// leaf was the root, the root is to be empty. `Full::Nodes` if no node record was free for what is left.
-pub(crate) fn remove_leaf<G: Gate>(
+pub(crate) fn make_without_leaf<G: Gate>(
     table: &HotTable,
     seat: &mut TableSeat,
     gate: &mut G,

@@ -30,7 +30,7 @@ use rowex_table::{HotTable, TableSeat};
 /// Locks node `number`, the sibling of the lower node of a removal's span. Then it locks what names the upper node, and checks that this
 /// still does. Each is tried once at most. Returns whether both are locked. If `number` is a node near the span ([`is_near_span`]), a lock
 /// is refused, or something else is named, neither stays locked.
-pub(crate) fn widen_locks<G: Gate>(
+pub(crate) fn lock_for_merge<G: Gate>(
     table: &HotTable,
     seat: &mut TableSeat,
     gate: &mut G,
@@ -196,8 +196,8 @@ fn unlock_target_above<G: Gate>(
     }
 }
 
-/// Unlocks what [`widen_locks`] has locked: what names the upper node, and node `number`.
-pub(crate) fn narrow_locks<G: Gate>(
+/// Unlocks what [`lock_for_merge`] has locked: what names the upper node, and node `number`.
+pub(crate) fn unlock_for_merge<G: Gate>(
     table: &HotTable,
     seat: &mut TableSeat,
     gate: &mut G,

@@ -6,7 +6,7 @@ use std::fmt;
 
 /// What a step is on: the words in a line that name it, behind the step's name.
 #[derive(Clone, Copy)]
-enum Thing {
+enum Object {
     Nothing,
     Root,
     Anchor,
@@ -17,16 +17,16 @@ enum Thing {
     Number(u64),
 }
 
-impl fmt::Display for Thing {
+impl fmt::Display for Object {
     fn fmt<W: fmt::Write>(&self, f: &mut fmt::Formatter<W>) -> fmt::Result {
         match self {
-            Thing::Nothing => Ok(()),
-            Thing::Root => write!(f, " root"),
-            Thing::Anchor => write!(f, " anchor"),
-            Thing::Leaf(number) => write!(f, " leaf {number}"),
-            Thing::Node(number) => write!(f, " node {number}"),
-            Thing::Entry(number, entry) => write!(f, " node {number} entry {entry}"),
-            Thing::Number(number) => write!(f, " {number}"),
+            Object::Nothing => Ok(()),
+            Object::Root => write!(f, " root"),
+            Object::Anchor => write!(f, " anchor"),
+            Object::Leaf(number) => write!(f, " leaf {number}"),
+            Object::Node(number) => write!(f, " node {number}"),
+            Object::Entry(number, entry) => write!(f, " node {number} entry {entry}"),
+            Object::Number(number) => write!(f, " {number}"),
         }
     }
 }
@@ -43,14 +43,14 @@ enum Found {
 #[derive(Clone, Copy)]
 struct Line {
     name: &'static str,
-    thing: Thing,
+    thing: Object,
     detail: Option<(&'static str, u64)>,
     found: Found,
 }
 
 impl Line {
     /// The line of the step `name` on `thing`, with no detail and nothing found.
-    fn of_thing(name: &'static str, thing: Thing) -> Line {
+    fn of_object(name: &'static str, thing: Object) -> Line {
         Line {
             name,
             thing,
@@ -60,10 +60,10 @@ impl Line {
     }
 
     /// The line of the step `name` on `thing`, with `number`, which it stored, loaded or found.
-    fn of_number(name: &'static str, thing: Thing, number: u64) -> Line {
+    fn of_number(name: &'static str, thing: Object, number: u64) -> Line {
         Line {
             found: Found::Number(number),
-            ..Line::of_thing(name, thing)
+            ..Line::of_object(name, thing)
         }
     }
 
@@ -71,7 +71,7 @@ impl Line {
     fn of_word(name: &'static str, rec: Rec, offset: u8, word: u64) -> Line {
         Line {
             name,
-            thing: thing_of_record(rec),
+            thing: object_of_record(rec),
             detail: Some(("offset", u64::from(offset))),
             found: Found::Word(word),
         }
@@ -79,62 +79,62 @@ impl Line {
 }
 
 /// The record `rec`, as a line names it.
-fn thing_of_record(rec: Rec) -> Thing {
+fn object_of_record(rec: Rec) -> Object {
     match rec {
-        Rec::Node(number) => Thing::Node(number),
-        Rec::Leaf(number) => Thing::Leaf(number),
+        Rec::Node(number) => Object::Node(number),
+        Rec::Leaf(number) => Object::Leaf(number),
     }
 }
 
 /// The root or the entry word at `spot`, as a line names it.
-fn thing_of_spot(spot: Spot) -> Thing {
+fn object_of_spot(spot: Spot) -> Object {
     match spot {
-        Spot::Root => Thing::Root,
-        Spot::Slot { node, entry } => Thing::Entry(node, entry),
+        Spot::Root => Object::Root,
+        Spot::Slot { node, entry } => Object::Entry(node, entry),
     }
 }
 
 /// The anchor or the node `target`, as a line names it.
-fn thing_of_target(target: Target) -> Thing {
+fn object_of_target(target: Target) -> Object {
     match target {
-        Target::Anchor => Thing::Anchor,
-        Target::Node(number) => Thing::Node(number),
+        Target::Anchor => Object::Anchor,
+        Target::Node(number) => Object::Node(number),
     }
 }
 
 /// The line of the step `act`.
 fn line_of_act(act: &Act) -> Line {
     match *act {
-        Act::Claim { rec, found } => Line::of_number("claim", thing_of_record(rec), found),
+        Act::Claim { rec, found } => Line::of_number("claim", object_of_record(rec), found),
         Act::Fill { rec, offset, word } => Line::of_word("fill", rec, offset, word),
-        Act::Ready { rec } => Line::of_thing("ready", thing_of_record(rec)),
-        Act::Release { rec } => Line::of_thing("release", thing_of_record(rec)),
-        Act::LoadRef { spot, word } => Line::of_number("load_ref", thing_of_spot(spot), word),
+        Act::Ready { rec } => Line::of_object("ready", object_of_record(rec)),
+        Act::Release { rec } => Line::of_object("release", object_of_record(rec)),
+        Act::LoadRef { spot, word } => Line::of_number("load_ref", object_of_spot(spot), word),
         Act::LoadFixed { rec, offset, word } => Line::of_word("load_fixed", rec, offset, word),
-        Act::Lock { target, found } => Line::of_number("lock", thing_of_target(target), found),
-        Act::Unlock { target } => Line::of_thing("unlock", thing_of_target(target)),
-        Act::Publish { spot, word } => Line::of_number("publish", thing_of_spot(spot), word),
+        Act::Lock { target, found } => Line::of_number("lock", object_of_target(target), found),
+        Act::Unlock { target } => Line::of_object("unlock", object_of_target(target)),
+        Act::Publish { spot, word } => Line::of_number("publish", object_of_spot(spot), word),
         Act::Mark { rec, epoch } => Line {
             detail: Some(("in", epoch)),
-            ..Line::of_thing("mark", thing_of_record(rec))
+            ..Line::of_object("mark", object_of_record(rec))
         },
-        Act::LoadEpoch { word } => Line::of_number("load_epoch", Thing::Nothing, word),
+        Act::LoadEpoch { word } => Line::of_number("load_epoch", Object::Nothing, word),
         Act::Advance { expected, found } => Line::of_number(
             "advance",
-            Thing::Number(expected),
+            Object::Number(expected),
             found,
         ),
-        Act::SetPin { word } => Line::of_number("set_pin", Thing::Nothing, word),
-        Act::ClearPin => Line::of_thing("clear_pin", Thing::Nothing),
+        Act::SetPin { word } => Line::of_number("set_pin", Object::Nothing, word),
+        Act::ClearPin => Line::of_object("clear_pin", Object::Nothing),
         Act::LoadPin { of, word } => Line::of_number(
             "load_pin",
-            Thing::Number(u64::from(of)),
+            Object::Number(u64::from(of)),
             word,
         ),
-        Act::LoadState { rec, word } => Line::of_number("load_state", thing_of_record(rec), word),
+        Act::LoadState { rec, word } => Line::of_number("load_state", object_of_record(rec), word),
         Act::GiveBack { rec, epoch, found } => Line {
             detail: Some(("of", epoch)),
-            ..Line::of_number("give_back", thing_of_record(rec), found)
+            ..Line::of_number("give_back", object_of_record(rec), found)
         },
     }
 }

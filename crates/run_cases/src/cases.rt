@@ -82,14 +82,14 @@ pub fn parse_tasks(tasks: &mut Vec<Task>, text: &str) -> io::Result<()> {
     let alloc = *tasks.allocator();
     for part in text.split(',') {
         let words: Vec<&str> = part.split_whitespace().collect(alloc)?;
-        parse_task(tasks, &words)?;
+        append_tasks(tasks, &words)?;
     }
     Ok(())
 }
 
 /// Adds the task of `words` to `tasks`: of a call, one for each of its keys. A value that is left out is 0. `bad_line` if it is no task; an
 /// error if memory is refused.
-fn parse_task(tasks: &mut Vec<Task>, words: &[&str]) -> io::Result<()> {
+fn append_tasks(tasks: &mut Vec<Task>, words: &[&str]) -> io::Result<()> {
     let (name, word, value) = match *words {
         ["collect"] => return Ok(tasks.push(Task::Collect)?),
         ["scan", limit] => return Ok(tasks.push(Task::Scan(parse_count(limit)? as usize))?),

@@ -5,7 +5,7 @@ ghost use Rattle.seat_calls.specs.Passes.{Owns};
 
 use crate::cases::{Case, Task, parse_two_numbers};
 use crate::guests::{Guest, create_index, do_tasks, lowest_key};
-use crate::judge::{Stopper, seat_guest, verdict};
+use crate::judge::{Stopper, prepare_guest, verdict};
 use finite_map::Call;
 use hot_index::{Index, Pass};
 use key_bits::Key;
@@ -64,7 +64,7 @@ fn take_turns_on_index(
 ) -> io::Result<u64>
     requires { All (Owns index.now) passes.items }
 {
-    let (mut guest, mut gate) = seat_guest(case, index, passes)?;
+    let (mut guest, mut gate) = prepare_guest(case, index, passes)?;
     take_turns(case, &mut guest, &mut gate, seed, turns)
 }
 

@@ -4,7 +4,7 @@ ghost use Rattle.std.specs.Prelude.{All};
 ghost use Rattle.seat_calls.specs.Passes.{Owns};
 
 use crate::cases::{Case, Task, bad_line};
-use crate::guests::{Guest, do_tasks, pop_guest, scan_from_highest, scan_from_lowest};
+use crate::guests::{Guest, do_tasks, pop_handle, scan_from_highest, scan_from_lowest};
 use hot_index::{Event, Gate, Index, Pass, Scan};
 use record_words::Layout;
 use rowex_replay::Replay;
@@ -101,7 +101,7 @@ impl<'a> Gate for Stopper<'a> {
 
 /// Pass 0 of `index`, which was just made for `case` with two `passes`, and its gate, which stops it for pass 1. It has done what `case`
 /// does beforehand. `bad_line` if a pass is missing or a size is out of range; an error if memory is refused.
-pub fn seat_guest<'a>(
+pub fn prepare_guest<'a>(
     case: &Case,
     index: &'a Index,
     mut passes: Vec<Pass>,
@@ -109,8 +109,8 @@ pub fn seat_guest<'a>(
     requires { All (Owns index.now) passes.items }
 {
     let alloc = case.alloc;
-    let other = pop_guest(index, &mut passes)?;
-    let mut guest = pop_guest(index, &mut passes)?;
+    let other = pop_handle(index, &mut passes)?;
+    let mut guest = pop_handle(index, &mut passes)?;
     let mut gate = Stopper {
         judge: Judge::new(alloc, 2, case.nodes, case.leaves)?,
         other,

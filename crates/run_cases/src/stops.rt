@@ -6,7 +6,7 @@ ghost use Rattle.seat_calls.specs.Passes.{Owns};
 use crate::acts::write_act;
 use crate::cases::{Case, Task, bad_line, parse_tasks};
 use crate::guests::{Guest, create_index, do_tasks};
-use crate::judge::{Stopper, seat_guest, verdict};
+use crate::judge::{Stopper, prepare_guest, verdict};
 use hot_index::{Event, Index, Pass};
 use std::alloc::AllocError;
 use std::{io, mem};
@@ -33,7 +33,7 @@ fn write_steps(
 ) -> io::Result<()>
     requires { All (Owns index.now) passes.items }
 {
-    let (mut guest, mut gate) = seat_guest(case, index, passes)?;
+    let (mut guest, mut gate) = prepare_guest(case, index, passes)?;
     write_steps_of_guest(case, &mut guest, &mut gate, text, lines)
 }
 
@@ -165,7 +165,7 @@ fn stop_on_index(
 ) -> io::Result<Stop>
     requires { All (Owns index.now) passes.items }
 {
-    let (mut guest, mut gate) = seat_guest(case, index, passes)?;
+    let (mut guest, mut gate) = prepare_guest(case, index, passes)?;
     make_stop(case, &mut guest, &mut gate, tasks, other, step, said)
 }
 

@@ -5,7 +5,7 @@ ghost use Rattle.seat_calls.specs.Passes.{Owns};
 
 use crate::cases::{Case, parse_two_numbers};
 use crate::chance::Chance;
-use crate::guests::{Guest, create_index, do_tasks, pop_guest};
+use crate::guests::{Guest, create_index, do_tasks, pop_handle};
 use crate::judge::{Judge, verdict};
 use hot_index::{Event, Gate, Handle, Index, Pass};
 use std::alloc::{AllocError, Global};
@@ -50,7 +50,7 @@ impl Rota {
 
     /// Gives the turn to one of the threads that have begun and not ended, by chance from the seed and `step`. Returns its number; if there
     /// is none, the turn is nobody's, and it returns `FREE`.
-    fn pass_on_turn(&self, step: u64) -> u64 {
+    fn hand_on_turn(&self, step: u64) -> u64 {
         let begun = self.begun.load(Ordering::SeqCst);
         let mut next = Chance(self.seed ^ step).next_below(4);
         for _ in 0..3 {
@@ -88,7 +88,7 @@ impl<'a> Gate for Turns<'a> {
         let step = self.rota.steps.fetch_add(1, Ordering::SeqCst);
         let _ = self.told.push((step, *event));
         if Chance(self.rota.seed.wrapping_add(step)).next_below(4) == 0
-            && self.rota.pass_on_turn(step) != self.number
+            && self.rota.hand_on_turn(step) != self.number
         {
             self.rota.wait_for_turn(self.number);
         }
@@ -114,7 +114,7 @@ fn run_thread(case: &Case, rota: &Rota, index: &Index, pass: Pass) -> Vec<(u64, 
         }
     }
     rota.begun.fetch_sub(thread_bit(number), Ordering::SeqCst);
-    rota.pass_on_turn(rota.steps.load(Ordering::SeqCst));
+    rota.hand_on_turn(rota.steps.load(Ordering::SeqCst));
     gate.told
 }
 
@@ -181,7 +181,7 @@ fn run_threads<R: AllocGlobal + Threads + Sync>(
 ) -> io::Result<u64>
     requires { All (Owns index.now) seats.items }
 {
-    let mut last = pop_guest(index, &mut seats)?;
+    let mut last = pop_handle(index, &mut seats)?;
     let (told, lost) = step_threads(rt, case, index, seats, seed)?;
     count_wrong(case, passes, &mut last, &told, lost)
 }

@@ -196,7 +196,7 @@ const SCANS: [(usize, &[u8], &[u8], usize, &[(&[u8], u64)], bool); 11] = [
 
 /// A plain trie and a plain index, each of none, one or both of two keys, return the expected pairs and flag.
 #[test]
-fn scans_give_the_first_pairs(rt: HostRuntime) {
+fn scans_return_the_first_pairs(rt: HostRuntime) {
     for (held, from, upto, limit, want, more) in SCANS {
         let (mut trie, mut index) = (PlainTrie::new(rt.alloc()), PlainIndex::new(rt.alloc()));
         for (bytes, value) in PAIRS.iter().take(held) {

@@ -28,7 +28,7 @@ fn child_entry(number: u32) -> Entry
 }
 
 /// Asserts that `find_sibling` returns what `want` has, for each slot of `node`.
-fn expect_beside(rt: &impl Abort, node: &Node, want: &[Option<(u8, u16)>]) {
+fn expect_siblings(rt: &impl Abort, node: &Node, want: &[Option<(u8, u16)>]) {
     assert!(rt; want.len() == node.count() as usize);
     for i in 0..node.count() {
         assert!(rt; node.find_sibling(i) == want[i as usize], "{i}");
@@ -37,17 +37,17 @@ fn expect_beside(rt: &impl Abort, node: &Node, want: &[Option<(u8, u16)>]) {
 
 /// In nodes of two, three and 32 entries each slot's sibling is found with the fork's position, or none where the other side has several.
 #[test]
-fn places_are_beside_others(rt: HostRuntime) {
+fn siblings_are_found(rt: HostRuntime) {
     let last = node_of_two_children_and_leaf(&rt, [0, 0x4000_0000, 0x8000_0000]);
-    expect_beside(&rt, &last, &[Some((1, 6)), Some((0, 6)), None]);
+    expect_siblings(&rt, &last, &[Some((1, 6)), Some((0, 6)), None]);
     let first = node_of_two_children_and_leaf(&rt, [0, 0x8000_0000, 0xc000_0000]);
-    expect_beside(&rt, &first, &[None, Some((2, 6)), Some((1, 6))]);
+    expect_siblings(&rt, &first, &[None, Some((2, 6)), Some((1, 6))]);
     let two = Node::pair(7, Entry::Leaf(0), Entry::Leaf(1));
-    expect_beside(&rt, &two, &[Some((1, 7)), Some((0, 7))]);
+    expect_siblings(&rt, &two, &[Some((1, 7)), Some((0, 7))]);
     let mut want = [None; 32];
     want[30] = Some((31, 30));
     want[31] = Some((30, 30));
-    expect_beside(&rt, &comb_node(&rt, &POSITIONS), &want);
+    expect_siblings(&rt, &comb_node(&rt, &POSITIONS), &want);
 }
 
 /// 31 positions.
@@ -161,7 +161,7 @@ fn one_entry_takes_the_place_of_two(rt: HostRuntime) {
 
 /// `row_of` reads the half of a word by the slot, and `position_of` the quarter by the column.
 #[test]
-fn numbers_are_read_of_their_words(rt: HostRuntime) {
+fn rows_and_positions_are_read(rt: HostRuntime) {
     let words = pack_node(&comb_node(&rt, &POSITIONS));
     for at in 0..32u8 {
         let row = row_of(words[FIRST_ROWS + at as usize / 2], at);

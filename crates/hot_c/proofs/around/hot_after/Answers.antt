@@ -10,7 +10,7 @@ returns-in-Ok c =
       long = λ no. absurd (no fits);
       told = λ fit. (
         c.next_key.result,
-        c.tell_key.ensures,
+        c.write_key.ensures,
         subst (λ (k : List ℕ). IfSome c.next_key.result (IsNextKey k)) c.in-Ok.ensures.ok c.next_key.ensures.some,
         λ none. subst NoKeyAbove c.in-Ok.ensures.ok (c.next_key.ensures.none none),
       );

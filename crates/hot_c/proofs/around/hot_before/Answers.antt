@@ -10,7 +10,7 @@ returns-in-Ok c =
       long = λ no. absurd (no fits);
       told = λ fit. (
         c.previous_key.result,
-        c.tell_key.ensures,
+        c.write_key.ensures,
         subst (λ (k : List ℕ). IfSome c.previous_key.result (IsPreviousKey k)) c.in-Ok.ensures.ok c.previous_key.ensures.some,
         λ none. sym c.in-Ok.ensures.ok ∙ c.previous_key.ensures.none none,
       );

@@ -4,7 +4,7 @@ use Rattle.hot_c.proofs.Found.{found, unfound}
 use Rattle.hot_c.proofs.ends.find_pair.Goals as goal
 
 pub returns-in-Ok : goal.returns-in-Ok
-returns-in-Ok c = found c.args.query.now.order c.in-Ok.ensures.ok c.lend-opened.result.now c.empty_list.new.self c.lend-opened.ensures.value refl c.empty_list.ensures c.tell_first_pair-status.ensures
+returns-in-Ok c = found c.args.query.now.order c.in-Ok.ensures.ok c.lend-opened.result.now c.empty_list.new.self c.lend-opened.ensures.value refl c.empty_list.ensures c.write_first_pair-status.ensures
 
 pub returns-in-Err : goal.returns-in-Err
 returns-in-Err c = unfound c.args.query.now.order c.in-Err.ensures.err refl

@@ -7,4 +7,4 @@ pub loop-place-init : goal.loop-place-init
 loop-place-init c = record { short = omega arith; written = none_answered c.args.lookups.now }
 
 pub loop-place-preserved : goal.loop-place-preserved
-loop-place-preserved c = record { short = omega (arith, c.loop-place-test.true); written = rw (c.write_answer.ensures, c.loop-place.invariant.written) (one_answered c.args.lookups.now c.args.found.now c.loop-place.place _ _ c.requires c.loop-place-test.true) }
+loop-place-preserved c = record { short = omega (arith, c.loop-place-test.true); written = rw (c.write_found_value.ensures, c.loop-place.invariant.written) (one_answered c.args.lookups.now c.args.found.now c.loop-place.place _ _ c.requires c.loop-place-test.true) }

@@ -11,8 +11,8 @@ use Rattle.replay_trees.proofs.changes.change_between.Goals as goal
 rest_is : (xs : List Item) (n : ℕ) → drop n (map read_item xs) ≡ map read_item (take (length xs - n) (drop n xs))
 rest_is xs n = drop-map read_item n xs ∙ ap (map read_item) (sym (take_rest xs n))
 
-pub change_where_firsts_differ-requires : goal.change_where_firsts_differ-requires
-change_where_firsts_differ-requires c =
+pub change_from_first_difference-requires : goal.change_from_first_difference-requires
+change_from_first_difference-requires c =
     let n = c.count_same_first_items-front.result in
     let l = length-map c.args.before.now read_item in
     let r = length-map c.args.after.now read_item in
@@ -26,8 +26,8 @@ returns c s =
     let n = c.count_same_first_items-front.result in
     let l = length-map c.args.before.now read_item in
     let r = length-map c.args.after.now read_item in
-    found_from c.args.pass (map read_item c.args.before.now) (map read_item c.args.after.now) n c.change_where_firsts_differ.result s
+    found_from c.args.pass (map read_item c.args.before.now) (map read_item c.args.after.now) n c.change_from_first_difference.result s
     (omega (arith, c.count_same_first_items-front.ensures.within)) (omega (arith, c.count_same_first_items-front.ensures.within_both)) c.count_same_first_items-front.ensures.same
-    (subst (λ x. AreSame x (drop n (map read_item c.args.after.now)) → IsFoundChange c.args.pass x (drop n (map read_item c.args.after.now)) c.change_where_firsts_differ.result) (sym (rest_is c.args.before.now n))
-    (subst (λ y. AreSame (map read_item (take (length c.args.before.now - n) (drop n c.args.before.now))) y → IsFoundChange c.args.pass (map read_item (take (length c.args.before.now - n) (drop n c.args.before.now))) y c.change_where_firsts_differ.result) (sym (rest_is c.args.after.now n))
-    c.change_where_firsts_differ.ensures))
+    (subst (λ x. AreSame x (drop n (map read_item c.args.after.now)) → IsFoundChange c.args.pass x (drop n (map read_item c.args.after.now)) c.change_from_first_difference.result) (sym (rest_is c.args.before.now n))
+    (subst (λ y. AreSame (map read_item (take (length c.args.before.now - n) (drop n c.args.before.now))) y → IsFoundChange c.args.pass (map read_item (take (length c.args.before.now - n) (drop n c.args.before.now))) y c.change_from_first_difference.result) (sym (rest_is c.args.after.now n))
+    c.change_from_first_difference.ensures))

@@ -13,7 +13,7 @@ loop-tried-init g c =
     record {
       own = c.requires.own;
       none = behind_none _ _ c.args.kind _ _;
-      number = rw all at c.first_number-number.ensures.begin ∙ next_turn (count_of c.args.kind c.args.table.now.layout) c.args.begin c.requires.low;
+      number = rw all at c.number_or_zero-number.ensures.begin ∙ next_turn (count_of c.args.kind c.args.table.now.layout) c.args.begin c.requires.low;
       low = c.requires.some;
     }
 
@@ -36,7 +36,7 @@ loop-tried-preserved g c =
     record {
       own = c.in_default.ensures.own;
       none = behind_span _ _ c.args.kind _ c.loop-tried.tried c.loop-tried.number _ _ _ _ c.requires.low fits c.loop-tried.invariant.number c.loop-tried.invariant.none (rw c.span_at-span.ensures.number at c.in_default.ensures.tries);
-      number = rw all at c.first_number-number-in-loop-tried.ensures.begin ∙
+      number = rw all at c.number_or_zero-number-in-loop-tried.ensures.begin ∙
           (ap (λ z. begin_of (count_of c.args.kind c.args.table.now.layout) (z + c.min-count.result)) c.loop-tried.invariant.number ∙
           turned_over (count_of c.args.kind c.args.table.now.layout) c.args.begin c.loop-tried.tried c.min-count.result c.requires.low low fits
           (subst (λ z. z + c.min-count.result ≤ count_of c.args.kind c.args.table.now.layout) c.loop-tried.invariant.number few));

@@ -33,19 +33,19 @@ returns-in-Some-clause-done g c = λ e.
     let later = c.make_merge_records.ensures.goes.stays.0 in
     (x, was, subst (λ q. IsDeedChange q Take job.key.now job.value job.found x was) later.pass is, changed_since c.args.seat.now.known c.make_merge_records.new.seat.known c.publish_merge.new.seat.known x was later changed)
 
-pub narrow_locks-requires : goal.narrow_locks-requires
-narrow_locks-requires g c = record { wide = wide_on c.args.table.now g.G.Gate.becomes (c.args.seat.now, c.args.gate.now) (c.make_merge_records.new.seat, c.make_merge_records.new.gate) c.args.job.now c.args.merge.now.number c.make_merge_records.ensures.goes c.requires.wide }
+pub unlock_for_merge-requires : goal.unlock_for_merge-requires
+unlock_for_merge-requires g c = record { wide = wide_on c.args.table.now g.G.Gate.becomes (c.args.seat.now, c.args.gate.now) (c.make_merge_records.new.seat, c.make_merge_records.new.gate) c.args.job.now c.args.merge.now.number c.make_merge_records.ensures.goes c.requires.wide }
 
 pub returns-clause-run : goal.returns-clause-run
 returns-clause-run g c =
-    runs_trans c.args.table.now g.G.Gate.becomes (c.args.seat.now, c.args.gate.now) (c.make_merge_records.new.seat, c.make_merge_records.new.gate) (c.narrow_locks.new.seat, c.narrow_locks.new.gate)
-    (goes_run c.args.table.now g.G.Gate.becomes (c.args.seat.now, c.args.gate.now) (c.make_merge_records.new.seat, c.make_merge_records.new.gate) c.make_merge_records.ensures.goes) c.narrow_locks.ensures.run
+    runs_trans c.args.table.now g.G.Gate.becomes (c.args.seat.now, c.args.gate.now) (c.make_merge_records.new.seat, c.make_merge_records.new.gate) (c.unlock_for_merge.new.seat, c.unlock_for_merge.new.gate)
+    (goes_run c.args.table.now g.G.Gate.becomes (c.args.seat.now, c.args.gate.now) (c.make_merge_records.new.seat, c.make_merge_records.new.gate) c.make_merge_records.ensures.goes) c.unlock_for_merge.ensures.run
 
 pub returns-clause-later : goal.returns-clause-later
-returns-clause-later g c = λ e. later_trans c.make_merge_records.ensures.goes.stays.0 c.narrow_locks.ensures.later
+returns-clause-later g c = λ e. later_trans c.make_merge_records.ensures.goes.stays.0 c.unlock_for_merge.ensures.later
 
 pub returns-clause-same : goal.returns-clause-same
 returns-clause-same g c = λ e w.
     let kept = c.in_default.ensures.same refl in
-    let s = c.narrow_locks.ensures.same (wide_on c.args.table.now g.G.Gate.becomes (c.args.seat.now, c.args.gate.now) (c.make_merge_records.new.seat, c.make_merge_records.new.gate) c.args.job.now c.args.merge.now.number c.make_merge_records.ensures.goes w) in
+    let s = c.unlock_for_merge.ensures.same (wide_on c.args.table.now g.G.Gate.becomes (c.args.seat.now, c.args.gate.now) (c.make_merge_records.new.seat, c.make_merge_records.new.gate) c.args.job.now c.args.merge.now.number c.make_merge_records.ensures.goes w) in
     (s.0, s.1, s.2 ∙ kept.0, kept.1)

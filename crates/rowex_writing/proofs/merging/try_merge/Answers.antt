@@ -32,21 +32,21 @@ returns-in_default-find_merge-clause-later g c = λ e.
     let now = takes_on c.args.table.now g.G.Gate.becomes (c.args.seat.now, c.args.gate.now) (c.find_merge.new.seat, c.find_merge.new.gate) c.args.job.now c.find_merge.ensures.reads.goes c.requires.takes in
     (c.find_merge.ensures.reads.goes.stays.0, now.1, now.2)
 
-pub widen_locks-requires-clause-takes : goal.widen_locks-requires-clause-takes
-widen_locks-requires-clause-takes g c = takes_on c.args.table.now g.G.Gate.becomes (c.args.seat.now, c.args.gate.now) (c.find_merge.new.seat, c.find_merge.new.gate) c.args.job.now c.find_merge.ensures.reads.goes c.requires.takes
+pub lock_for_merge-requires-clause-takes : goal.lock_for_merge-requires-clause-takes
+lock_for_merge-requires-clause-takes g c = takes_on c.args.table.now g.G.Gate.becomes (c.args.seat.now, c.args.gate.now) (c.find_merge.new.seat, c.find_merge.new.gate) c.args.job.now c.find_merge.ensures.reads.goes c.requires.takes
 
-pub returns-then-not-widen_locks-clause-tries : goal.returns-then-not-widen_locks-clause-tries
-returns-then-not-widen_locks-clause-tries g c =
-    few_more c.args.table.now g.G.Gate.becomes (span_numbers c.args.job.now.way.now c.args.job.now.span) c.args.build.now.left_nodes 60 c.widen_locks.result (c.args.seat.now, c.args.gate.now) (c.find_merge.new.seat, c.find_merge.new.gate) (c.widen_locks.new.seat, c.widen_locks.new.gate)
-    (goes_run c.args.table.now g.G.Gate.becomes (c.args.seat.now, c.args.gate.now) (c.find_merge.new.seat, c.find_merge.new.gate) c.find_merge.ensures.reads.goes) c.widen_locks.ensures.tries (omega (arith, c.find_merge.ensures.few, c.widen_locks.ensures.few))
+pub returns-then-not-lock_for_merge-clause-tries : goal.returns-then-not-lock_for_merge-clause-tries
+returns-then-not-lock_for_merge-clause-tries g c =
+    few_more c.args.table.now g.G.Gate.becomes (span_numbers c.args.job.now.way.now c.args.job.now.span) c.args.build.now.left_nodes 60 c.lock_for_merge.result (c.args.seat.now, c.args.gate.now) (c.find_merge.new.seat, c.find_merge.new.gate) (c.lock_for_merge.new.seat, c.lock_for_merge.new.gate)
+    (goes_run c.args.table.now g.G.Gate.becomes (c.args.seat.now, c.args.gate.now) (c.find_merge.new.seat, c.find_merge.new.gate) c.find_merge.ensures.reads.goes) c.lock_for_merge.ensures.tries (omega (arith, c.find_merge.ensures.few, c.lock_for_merge.ensures.few))
 
-pub returns-then-not-widen_locks-clause-later : goal.returns-then-not-widen_locks-clause-later
-returns-then-not-widen_locks-clause-later g c = λ e. (later_trans c.find_merge.ensures.reads.goes.stays.0 c.widen_locks.ensures.later.0, c.widen_locks.ensures.later.1, c.widen_locks.ensures.later.2)
+pub returns-then-not-lock_for_merge-clause-later : goal.returns-then-not-lock_for_merge-clause-later
+returns-then-not-lock_for_merge-clause-later g c = λ e. (later_trans c.find_merge.ensures.reads.goes.stays.0 c.lock_for_merge.ensures.later.0, c.lock_for_merge.ensures.later.1, c.lock_for_merge.ensures.later.2)
 
 pub merge_under_locks-requires-clause-beside : goal.merge_under_locks-requires-clause-beside
 merge_under_locks-requires-clause-beside g c =
-    let (w, locks, anchor) = c.widen_locks.ensures.wide c.if-not-widen_locks.false in
-    beside_wider c.args.table.now c.find_merge.new.seat.known c.widen_locks.new.seat c.args.job.now c.in-Some-find_merge.merge w locks c.in-Some-find_merge.ensures.beside.0
+    let (w, locks, anchor) = c.lock_for_merge.ensures.wide c.if-not-lock_for_merge.false in
+    beside_wider c.args.table.now c.find_merge.new.seat.known c.lock_for_merge.new.seat c.args.job.now c.in-Some-find_merge.merge w locks c.in-Some-find_merge.ensures.beside.0
 
 pub merge_under_locks-requires-clause-made : goal.merge_under_locks-requires-clause-made
 merge_under_locks-requires-clause-made g c = sym c.as_slice.ensures.value ∙ (c.in-Some.ensures ∙ ap (λ n. a_node n ∷ []) (sym c.in-Some-find_merge.ensures.beside.1))
@@ -54,38 +54,38 @@ merge_under_locks-requires-clause-made g c = sym c.as_slice.ensures.value ∙ (c
 pub merge_under_locks-requires-clause-building : goal.merge_under_locks-requires-clause-building
 merge_under_locks-requires-clause-building g c =
     let (news, b) = c.requires.building in
-    let l = c.widen_locks.ensures.later in
-    (news, building_same c.args.table.now c.args.seat.now c.widen_locks.new.seat c.args.build.now.made.items news l.1 l.2 (l.3 ∙ c.find_merge.ensures.reads.own) b)
+    let l = c.lock_for_merge.ensures.later in
+    (news, building_same c.args.table.now c.args.seat.now c.lock_for_merge.new.seat c.args.build.now.made.items news l.1 l.2 (l.3 ∙ c.find_merge.ensures.reads.own) b)
 
 pub returns-clause-tries : goal.returns-clause-tries
 returns-clause-tries g c =
-    few_both c.args.table.now g.G.Gate.becomes (span_numbers c.args.job.now.way.now c.args.job.now.span) c.args.build.now.left_nodes (c.args.seat.now, c.args.gate.now) (c.find_merge.new.seat, c.find_merge.new.gate) (c.widen_locks.new.seat, c.widen_locks.new.gate) (c.merge_under_locks.new.seat, c.merge_under_locks.new.gate)
+    few_both c.args.table.now g.G.Gate.becomes (span_numbers c.args.job.now.way.now c.args.job.now.span) c.args.build.now.left_nodes (c.args.seat.now, c.args.gate.now) (c.find_merge.new.seat, c.find_merge.new.gate) (c.lock_for_merge.new.seat, c.lock_for_merge.new.gate) (c.merge_under_locks.new.seat, c.merge_under_locks.new.gate)
     (goes_run c.args.table.now g.G.Gate.becomes (c.args.seat.now, c.args.gate.now) (c.find_merge.new.seat, c.find_merge.new.gate) c.find_merge.ensures.reads.goes)
-    (subst (λ both. TriesMore c.args.table.now g.G.Gate.becomes (span_numbers c.args.job.now.way.now c.args.job.now.span) both (c.find_merge.new.seat, c.find_merge.new.gate) (c.widen_locks.new.seat, c.widen_locks.new.gate)) c.if-not-widen_locks.false c.widen_locks.ensures.tries)
-    c.merge_under_locks.ensures.run (omega (arith, c.find_merge.ensures.few, c.widen_locks.ensures.few, c.merge_under_locks.ensures.few))
+    (subst (λ both. TriesMore c.args.table.now g.G.Gate.becomes (span_numbers c.args.job.now.way.now c.args.job.now.span) both (c.find_merge.new.seat, c.find_merge.new.gate) (c.lock_for_merge.new.seat, c.lock_for_merge.new.gate)) c.if-not-lock_for_merge.false c.lock_for_merge.ensures.tries)
+    c.merge_under_locks.ensures.run (omega (arith, c.find_merge.ensures.few, c.lock_for_merge.ensures.few, c.merge_under_locks.ensures.few))
 
 pub returns-clause-done : goal.returns-clause-done
 returns-clause-done g c = λ e.
     let job = c.args.job.now in
     let (x, was, is, changed) = c.merge_under_locks.ensures.done e in
-    let later = later_trans c.find_merge.ensures.reads.goes.stays.0 c.widen_locks.ensures.later.0 in
-    (x, was, subst (λ q. IsDeedChange q Take job.key.now job.value job.found x was) later.pass is, changed_since c.args.seat.now.known c.widen_locks.new.seat.known c.merge_under_locks.new.seat.known x was later changed)
+    let later = later_trans c.find_merge.ensures.reads.goes.stays.0 c.lock_for_merge.ensures.later.0 in
+    (x, was, subst (λ q. IsDeedChange q Take job.key.now job.value job.found x was) later.pass is, changed_since c.args.seat.now.known c.lock_for_merge.new.seat.known c.merge_under_locks.new.seat.known x was later changed)
 
 pub returns-clause-later : goal.returns-clause-later
 returns-clause-later g c = λ e.
     let table = c.args.table.now in
-    let l = c.widen_locks.ensures.later in (
+    let l = c.lock_for_merge.ensures.later in (
       later_trans c.find_merge.ensures.reads.goes.stays.0 (later_trans l.0 (c.merge_under_locks.ensures.later e)),
-      run_seat table g.G.Gate.becomes (c.widen_locks.new.seat, c.widen_locks.new.gate) (c.merge_under_locks.new.seat, c.merge_under_locks.new.gate) c.merge_under_locks.ensures.run l.1,
-      run_possible table g.G.Gate.becomes (c.widen_locks.new.seat, c.widen_locks.new.gate) (c.merge_under_locks.new.seat, c.merge_under_locks.new.gate) c.merge_under_locks.ensures.run l.2,
+      run_seat table g.G.Gate.becomes (c.lock_for_merge.new.seat, c.lock_for_merge.new.gate) (c.merge_under_locks.new.seat, c.merge_under_locks.new.gate) c.merge_under_locks.ensures.run l.1,
+      run_possible table g.G.Gate.becomes (c.lock_for_merge.new.seat, c.lock_for_merge.new.gate) (c.merge_under_locks.new.seat, c.merge_under_locks.new.gate) c.merge_under_locks.ensures.run l.2,
     )
 
 pub merge_under_locks-requires-clause-wide : goal.merge_under_locks-requires-clause-wide
-merge_under_locks-requires-clause-wide g c = (c.widen_locks.ensures.wide c.if-not-widen_locks.false).0
+merge_under_locks-requires-clause-wide g c = (c.lock_for_merge.ensures.wide c.if-not-lock_for_merge.false).0
 
 pub returns-clause-same : goal.returns-clause-same
 returns-clause-same g c = λ e.
     let reads = c.find_merge.ensures.reads in
-    let (w, locks, anchor) = c.widen_locks.ensures.wide c.if-not-widen_locks.false in
+    let (w, locks, anchor) = c.lock_for_merge.ensures.wide c.if-not-lock_for_merge.false in
     let s = c.merge_under_locks.ensures.same e w in
-    ((s.0 ∙ (locks ∙ reads.goes.stays.1), s.1 ∙ (anchor ∙ reads.goes.stays.2), s.2 ∙ (c.widen_locks.ensures.later.3 ∙ reads.own)), s.3)
+    ((s.0 ∙ (locks ∙ reads.goes.stays.1), s.1 ∙ (anchor ∙ reads.goes.stays.2), s.2 ∙ (c.lock_for_merge.ensures.later.3 ∙ reads.own)), s.3)

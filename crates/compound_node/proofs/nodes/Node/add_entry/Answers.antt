@@ -16,12 +16,12 @@ pub insert_entry_beside-requires-clause-in_range : goal.insert_entry_beside-requ
 insert_entry_beside-requires-clause-in_range c =
     (new_fork (node_of c.self.inside.head c.self.inside.entries.items) c.self.invariant c.args.self.now c.self.view_is c.args.position c.args.first c.args.last c.args.bit c.args.entry c.requires.range c.requires.room c.requires.below c.requires.entry).in_range
 
-pub height_with_entry-height-requires-clause-children : goal.height_with_entry-height-requires-clause-children
-height_with_entry-height-requires-clause-children c = subst (All IsEntry) (sym (c.as_slice.ensures.value ∙ c.insert_entry_beside.ensures))
+pub height_with_added_entry-height-requires-clause-children : goal.height_with_added_entry-height-requires-clause-children
+height_with_added_entry-height-requires-clause-children c = subst (All IsEntry) (sym (c.as_slice.ensures.value ∙ c.insert_entry_beside.ensures))
     (new_fork (node_of c.self.inside.head c.self.inside.entries.items) c.self.invariant c.args.self.now c.self.view_is c.args.position c.args.first c.args.last c.args.bit c.args.entry c.requires.range c.requires.room c.requires.below c.requires.entry).children
 
-pub height_with_entry-height-requires-clause-leaves : goal.height_with_entry-height-requires-clause-leaves
-height_with_entry-height-requires-clause-leaves c = λ one. ap greatest_height (c.as_slice.ensures.value ∙ c.insert_entry_beside.ensures)
+pub height_with_added_entry-height-requires-clause-leaves : goal.height_with_added_entry-height-requires-clause-leaves
+height_with_added_entry-height-requires-clause-leaves c = λ one. ap greatest_height (c.as_slice.ensures.value ∙ c.insert_entry_beside.ensures)
     ∙ (new_fork (node_of c.self.inside.head c.self.inside.entries.items) c.self.invariant c.args.self.now c.self.view_is c.args.position c.args.first c.args.last c.args.bit c.args.entry c.requires.range c.requires.room c.requires.below c.requires.entry).greatest
     (sym c.height.ensures ∙ one)
 
@@ -29,8 +29,8 @@ height_with_entry-height-requires-clause-leaves c = λ one. ap greatest_height (
 fork : (c : After-add_fork-arg-1) → NewFork (node_of c.self.inside.head c.self.inside.entries.items) c.args.position c.args.first c.args.last c.args.bit c.args.entry
 fork c = new_fork (node_of c.self.inside.head c.self.inside.entries.items) c.self.invariant c.args.self.now c.self.view_is c.args.position c.args.first c.args.last c.args.bit c.args.entry c.requires.range c.requires.room c.requires.below c.requires.entry
 
-height_is : (c : After-add_fork-arg-1) → c.height_with_entry-height.result ≡ 1 + greatest_height (edited c.args.first (c.args.last + 1 - c.args.first) (forked_places c.args.bit c.args.entry) c.self.inside.entries.items)
-height_is c = c.height_with_entry-height.ensures ∙ ap (λ es. 1 + greatest_height es) (c.as_slice.ensures.value ∙ c.insert_entry_beside.ensures)
+height_is : (c : After-add_fork-arg-1) → c.height_with_added_entry-height.result ≡ 1 + greatest_height (edited c.args.first (c.args.last + 1 - c.args.first) (forked_places c.args.bit c.args.entry) c.self.inside.entries.items)
+height_is c = c.height_with_added_entry-height.ensures ∙ ap (λ es. 1 + greatest_height es) (c.as_slice.ensures.value ∙ c.insert_entry_beside.ensures)
 
 pub add_fork-requires-clause-room : goal.add_fork-requires-clause-room
 add_fork-requires-clause-room c =
@@ -51,8 +51,8 @@ built : (c : After-add_fork) → IsBuiltFrom (node_of c.add_fork.new.self c.inse
 built c =
     let fork : NewFork (node_of c.self.inside.head c.self.inside.entries.items) c.args.position c.args.first c.args.last c.args.bit c.args.entry =
     new_fork (node_of c.self.inside.head c.self.inside.entries.items) c.self.invariant c.args.self.now c.self.view_is c.args.position c.args.first c.args.last c.args.bit c.args.entry c.requires.range c.requires.room c.requires.below c.requires.entry in
-    let height : c.height_with_entry-height.result ≡ 1 + greatest_height (edited c.args.first (c.args.last + 1 - c.args.first) (forked_places c.args.bit c.args.entry) c.self.inside.entries.items) =
-    c.height_with_entry-height.ensures ∙ ap (λ es. 1 + greatest_height es) (c.as_slice.ensures.value ∙ c.insert_entry_beside.ensures) in
+    let height : c.height_with_added_entry-height.result ≡ 1 + greatest_height (edited c.args.first (c.args.last + 1 - c.args.first) (forked_places c.args.bit c.args.entry) c.self.inside.entries.items) =
+    c.height_with_added_entry-height.ensures ∙ ap (λ es. 1 + greatest_height es) (c.as_slice.ensures.value ∙ c.insert_entry_beside.ensures) in
     rw (c.add_fork.ensures, height, c.insert_entry_beside.ensures, ← c.self.view_is) fork.built
 
 pub invariant_of-self : goal.invariant_of-self

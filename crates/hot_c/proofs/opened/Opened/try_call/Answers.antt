@@ -6,7 +6,7 @@ use Rattle.hot_c.proofs.opened.Opened.try_call.Goals as goal
 
 pub returns-in-Ok : goal.returns-in-Ok
 returns-in-Ok c = record {
-  call = told_reply c.args.size c.args.call.now c.try_call.result c.tell_reply.result c.args.had.now c.tell_reply.new.value c.args.self.now.handle c.try_call.new.self c.in-Ok.reply c.in-Ok.is c.try_call.ensures c.tell_reply.ensures.status c.tell_reply.ensures.value;
+  call = told_reply c.args.size c.args.call.now c.try_call.result c.write_reply.result c.args.had.now c.write_reply.new.value c.args.self.now.handle c.try_call.new.self c.in-Ok.reply c.in-Ok.is c.try_call.ensures c.write_reply.ensures.status c.write_reply.ensures.value;
 }
 
 pub returns-in-Err-FullLeaves : goal.returns-in-Err-FullLeaves

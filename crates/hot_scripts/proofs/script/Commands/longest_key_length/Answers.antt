@@ -19,13 +19,13 @@ pub loop-left-preserved : goal.loop-left-preserved
 loop-left-preserved c =
     let was = c.loop-left.invariant in
     let reads = reading_of c.args.self.version in
-    let line = c.split_first.result.0.now in
-    let rest = parts_left 10 c.split_first.result.1 in
-    let parts : parts_left 10 c.loop-left.left ≡ line ∷ rest = rw c.in-Some.is c.split_first.ensures.parts in
+    let line = c.split_once.result.0.now in
+    let rest = parts_left 10 c.split_once.result.1 in
+    let parts : parts_left 10 c.loop-left.left ≡ line ∷ rest = rw c.in-Some.is c.split_once.ensures.parts in
     let asks : reads line ≡ Ok c.in-Ok.command = sym c.in-Ok.ensures in
     record {
       bad = rw (parts, asks) at was.bad;
-      small = omega (arith, was.small, c.split_first.ensures.left, ap text_len c.in-Some.is);
+      small = omega (arith, was.small, c.split_once.ensures.left, ap text_len c.in-Some.is);
       few = c.larger_number-longest.ensures.few was.few c.key_length.ensures.few;
       keys = λ most above fits. was.keys most (omega (arith, above, c.larger_number-longest.ensures.bound))
           (rw parts (one_more most c.key_length.result (reads line) c.in-Ok.command (map reads rest) asks c.key_length.ensures.key (omega (arith, above, c.larger_number-longest.ensures.bound)) fits));

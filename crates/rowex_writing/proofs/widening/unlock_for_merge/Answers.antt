@@ -4,7 +4,7 @@ use Rattle.rowex_reading.proofs.Seeing.{later_trans}
 use Rattle.rowex_writing.proofs.Keeping.{step_nodes}
 use Rattle.rowex_writing.proofs.Runs.{works_run}
 use Rattle.rowex_writing.proofs.Works.{works_later, works_more, works_seat}
-use Rattle.rowex_writing.proofs.widening.narrow_locks.Goals as goal
+use Rattle.rowex_writing.proofs.widening.unlock_for_merge.Goals as goal
 
 pub unlock_target_above-requires-clause-nodes : goal.unlock_target_above-requires-clause-nodes
 unlock_target_above-requires-clause-nodes g c =

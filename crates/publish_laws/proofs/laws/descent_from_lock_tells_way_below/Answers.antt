@@ -1,5 +1,5 @@
 use Rattle.publish_laws.proofs.Sure.{descent_finds}
-use Rattle.publish_laws.proofs.laws.descent_from_lock_ends_at_leaf.Goals as goal
+use Rattle.publish_laws.proofs.laws.descent_from_lock_tells_way_below.Goals as goal
 
 pub returns : goal.returns
 returns c = descent_finds

@@ -16,7 +16,7 @@ use Rattle.rowex_writing.proofs.Onward.{both_possible, both_seat, run_possible}
 use Rattle.rowex_writing.proofs.Runs.{run_none, works_run}
 use Rattle.rowex_writing.proofs.Wider.{far_none, last_same, more_none, more_one, one_last, two_tried}
 use Rattle.rowex_writing.proofs.Works.{works_later, works_seat}
-use Rattle.rowex_writing.proofs.widening.widen_locks.Goals as goal
+use Rattle.rowex_writing.proofs.widening.lock_for_merge.Goals as goal
 
 pub returns-then-is_near_span-clause-tries : goal.returns-then-is_near_span-clause-tries
 returns-then-is_near_span-clause-tries g c = more_none c.args.table.now g.G.Gate.becomes (span_numbers c.args.job.now.way.now c.args.job.now.span) (c.args.seat.now, c.args.gate.now) (c.args.seat.now, c.args.gate.now) (run_none c.args.table.now g.G.Gate.becomes (c.args.seat.now, c.args.gate.now))

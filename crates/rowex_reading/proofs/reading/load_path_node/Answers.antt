@@ -1,6 +1,6 @@
 -- The step by the words of the head.
 use Rattle.rowex_reading.proofs.Stepping.{height_low, step_spelled}
-use Rattle.rowex_reading.proofs.reading.enter_node.Goals as goal
+use Rattle.rowex_reading.proofs.reading.load_path_node.Goals as goal
 
 pub overflow_cast-result : goal.overflow_cast-result
 overflow_cast-result g c = let (m, h, led) = c.requires.led in record { fits = height_low c.load_head_words.new.words (c.load_head_words.ensures.words m h led) }

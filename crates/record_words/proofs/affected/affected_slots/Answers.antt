@@ -16,8 +16,8 @@ use Rattle.record_words.proofs.Fronts.{affected_by_counts, columns_below, end_so
 use Rattle.record_words.proofs.Lanes.{place_lanes_read}
 use Rattle.record_words.proofs.Lawful.{row-lt}
 use Rattle.record_words.proofs.Spelled.{count_read, its, lawful_its, same_its}
-use Rattle.record_words.proofs.affected.affected_places.Goals as goal
-use Rattle.record_words.proofs.affected.affected_places.Goals.{After-min-end}
+use Rattle.record_words.proofs.affected.affected_slots.Goals as goal
+use Rattle.record_words.proofs.affected.affected_slots.Goals.{After-min-end}
 
 -- how many of its columns are below the position
 columns_are : (words places : List ℕ) (position n : ℕ) → position < 2 ^ 16 → n ≡ front_below position places → length places ≡ 32 →

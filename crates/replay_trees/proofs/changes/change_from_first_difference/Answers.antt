@@ -5,7 +5,7 @@ use Rattle.std.specs.Prelude.{map}
 use Rattle.replay_trees.specs.Versions.{read_item}
 use Rattle.replay_trees.specs.Changed.{IsMade}
 use Rattle.replay_trees.proofs.Between.{removal_found, addition_found, exchange_found, apart_change, found_at, no_items}
-use Rattle.replay_trees.proofs.changes.change_where_firsts_differ.Goals as goal
+use Rattle.replay_trees.proofs.changes.change_from_first_difference.Goals as goal
 use Rattle.versions.specs.Told.{added_change, removed_change}
 
 pub returns-in-None-Some : goal.returns-in-None-Some

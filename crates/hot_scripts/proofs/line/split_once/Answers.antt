@@ -1,7 +1,7 @@
--- Why `split_first` meets its contract.
+-- Why `split_once` meets its contract.
 use Rattle.std.proofs.Common.{◌==◌, rules}
 use Rattle.hot_scripts.proofs.Cuts.{slice_split-Some, slice_split-None}
-use Rattle.hot_scripts.proofs.line.split_first.Goals as goal
+use Rattle.hot_scripts.proofs.line.split_once.Goals as goal
 
 pub returns-in-Some-clause-parts : goal.returns-in-Some-clause-parts
 returns-in-Some-clause-parts c = slice_split-Some (λ b. b == c.args.separator) c.args.text.now c.in-Some.at (search rules)

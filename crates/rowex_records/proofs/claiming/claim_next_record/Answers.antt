@@ -2,7 +2,7 @@
 use Rattle.std.proofs.Common.{arith, ◌≡◌, min}
 use Rattle.rowex_records.specs.Claims.{count_of}
 use Rattle.rowex_records.proofs.Claimed.{has_tried, tries_held}
-use Rattle.rowex_records.proofs.claiming.claim_record_within.Goals as goal
+use Rattle.rowex_records.proofs.claiming.claim_next_record.Goals as goal
 
 pub returns-clause-claims : goal.returns-clause-claims
 returns-clause-claims g c =

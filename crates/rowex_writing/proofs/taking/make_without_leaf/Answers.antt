@@ -9,7 +9,7 @@ use Rattle.rowex_writing.proofs.Counting.{deed_least}
 use Rattle.rowex_writing.proofs.Locking.{goes_none}
 use Rattle.rowex_writing.proofs.Raised.{just_leaf_gone, nodes_alone, taken_raised}
 use Rattle.rowex_writing.proofs.Removing.{found_key, may_empty, only_records, take_below, take_only}
-use Rattle.rowex_writing.proofs.taking.remove_leaf.Goals as goal
+use Rattle.rowex_writing.proofs.taking.make_without_leaf.Goals as goal
 use Rattle.tries.specs.Content.{item}
 
 pub remake_without_leaf-requires-clause-below : goal.remake_without_leaf-requires-clause-below
