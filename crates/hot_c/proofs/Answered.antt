@@ -26,8 +26,9 @@ some_is_none : (s : Opened) → Some s ≡ None → ⊥
 some_is_none s e = cc
 
 pub answered : (key : List ℕ) (call asked : Call) (old new : Option Opened) (before after status : ℕ) (s u : Opened) (outcome : Result Reply TryFault) → old ≡ Some s → new ≡ Some u →
-    Stays (TellsOutcome (length key) call status outcome) s.handle u.handle → call ≡ asked → FitsInKey key → after ≡ value_after before outcome → Answers key asked old new before after status
-answered key call asked old new before after status s u outcome was is stays same fits left = record {
+    Stays (TellsOutcome (length key) call status outcome) s.handle u.handle → call ≡ asked → FitsInKey key → after ≡ value_after before outcome →
+    u.kept.items ≡ s.kept.items → Answers key asked old new before after status
+answered key call asked old new before after status s u outcome was is stays same fits left keeps = record {
   closed = λ none. absurd (some_is_none s (sym was ∙ none));
   long = λ some no. absurd (no fits);
   made = λ some short. (
@@ -38,6 +39,7 @@ answered key call asked old new before after status s u outcome was is stays sam
       was = was;
       is = is;
       stays = subst (λ (x : Call). Stays (TellsOutcome (length key) x status outcome) s.handle u.handle) same stays;
+      keeps = keeps;
     },
     left,
   );

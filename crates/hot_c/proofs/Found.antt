@@ -4,6 +4,7 @@ use Rattle.std.specs.Option.{option_to_list}
 use Rattle.record_words.specs.declared.layout.Layout.{Layout}
 use Rattle.seat_calls.specs.Answers.{range_from}
 use Rattle.seat_calls.specs.Passes.{PassView}
+use Rattle.hot_c.specs.Calls.{KeepsAll}
 use Rattle.hot_c.specs.Ends.{FindsBy, FindsIn}
 use Rattle.hot_c.specs.Orders.{IsFilledIn}
 use Rattle.hot_c.specs.Pairs.{IsPairTold}
@@ -20,7 +21,7 @@ one_at_most (pair ∷ []) few = refl
 one_at_most (pair ∷ next ∷ pairs) few = absurd (omega (arith, few))
 
 module _ (order : Order) {from upto : List ℕ} {old new : Option Opened} {before after : Pair} {status : ℕ} where
-  pub found : {mid : Option Opened} {count : ℕ} {is_more : Bool} (h : HasFilled (IsFilledIn order) (range_from from upto 1) old mid count is_more) (u v : Opened) → mid ≡ Some u → new ≡ Some v → v.handle ≡ u.handle
+  pub found : {mid : Option Opened} {count : ℕ} {is_more : Bool} (h : HasFilled (IsFilledIn order) (range_from from upto 1) old mid count is_more) (u v : Opened) → mid ≡ Some u → new ≡ Some v → KeepsAll u v
       → IsPairTold (slice_get u.list 0) before after status → FindsIn order from upto old new before after status
   found {is_more = is_more} h u v is last kept told = record {
     closed = λ none. absurd (not_closed h u is none);

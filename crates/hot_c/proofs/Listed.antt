@@ -14,7 +14,7 @@ use Rattle.seat_calls.specs.Passes.{PassView}
 use Rattle.seat_calls.specs.Reverse.{IsReverseListed}
 use Rattle.seat_calls.specs.Traces.{HasGotRange, untold}
 use Rattle.hot_index.proofs.Reading.{range_whole}
-use Rattle.hot_c.specs.Calls.{FitsInKey, StaysOpen}
+use Rattle.hot_c.specs.Calls.{FitsInKey, KeepsAll, StaysOpen}
 use Rattle.hot_c.specs.Orders.{Answer, IsFilledIn, IsListedIn, in_order}
 use Rattle.hot_c.specs.Owning.{heap}
 use Rattle.hot_c.specs.Packs.{IsListedByParts}
@@ -76,13 +76,15 @@ as_many LastUpwards pairs = length-reverse pairs
 
 module _ (from upto k l : List ℕ) (old new : Option Opened) (limit : ℕ) (s u : Opened) (was : old ≡ Some s) (first : (k ≡ from) × FitsInKey from) (last : (l ≡ upto) × FitsInKey upto) where
   pub filled : (order : Order) (count : ℕ) (is_more : Bool) → new ≡ Some u → u.handle.index ≡ s.handle.index → IsFilledIn order s.handle.index.layout s.handle.pass u.handle.pass (range_from k l limit) u.list is_more
-      → HasGotRange s.handle.index untold limit (s.handle.pass, tt) (u.handle.pass, tt) → count ≡ length u.list → length u.list < 2 ^ 63 → HasFilled (IsFilledIn order) (range_from from upto limit) old new count is_more
-  filled order count is_more is index made read many small = record {
+      → HasGotRange s.handle.index untold limit (s.handle.pass, tt) (u.handle.pass, tt) → count ≡ length u.list → length u.list < 2 ^ 63 →
+      u.kept.items ≡ s.kept.items → HasFilled (IsFilledIn order) (range_from from upto limit) old new count is_more
+  filled order count is_more is index made read many small keeps = record {
     before = s;
     after = u;
     was = was;
     is = is;
     index = index;
+    keeps = keeps;
     fit = (first.1, last.1);
     count_is = many;
     few = subst (λ n. n ≤ limit) (sym many) (few_filled order s.handle.index.layout s.handle.pass u.handle.pass (range_from k l limit) u.list is_more made small);
@@ -92,15 +94,15 @@ module _ (from upto k l : List ℕ) (old new : Option Opened) (limit : ℕ) (s u
   }
 
   -- the list that the scan left was emptied
-  pub unfilled : (v : Opened) (status : ℕ) → new ≡ Some v → v.handle ≡ u.handle → u.handle.index ≡ s.handle.index → IsUnnoted s.handle.index.layout s.handle.pass u.handle.pass
+  pub unfilled : (v : Opened) (status : ℕ) → new ≡ Some v → KeepsAll u v → u.kept.items ≡ s.kept.items → u.handle.index ≡ s.handle.index → IsUnnoted s.handle.index.layout s.handle.pass u.handle.pass
       → HasFoundPair s.handle.index.layout s.handle.pass u.handle.pass (range_from k l limit) → HasGotRange s.handle.index untold limit (s.handle.pass, tt) (u.handle.pass, tt) → status ≡ NO_MEMORY → ListsNothing (range_from from upto limit) old new status
-  unfilled v status is kept index unnoted pair read full =
+  unfilled v status is kept keeps index unnoted pair read full =
       let here = subst (λ (x : List ℕ). HasFoundPair s.handle.index.layout s.handle.pass u.handle.pass (range_from x upto limit)) first.0 (subst (λ (x : List ℕ). HasFoundPair s.handle.index.layout s.handle.pass u.handle.pass (range_from k x limit)) last.0 pair) in
       record {
         closed = λ none. absurd (none_is_some s (sym none ∙ was));
         long = λ some no. absurd (no (first.1, last.1));
-        full = λ some f t. (full, record { before = s; after = v; was = was; is = is; stays = subst (Stays (λ index k j. IsUnnoted index.layout k j × HasFoundPair index.layout k j (range_from from upto limit)) s.handle) (sym kept) (record { index = index; pass = (unnoted, here) }) });
-        read = λ some f t. record { before = s; after = v; was = was; is = is; stays = subst (Stays (λ index k j. HasGotRange index untold limit (k, tt) (j, tt)) s.handle) (sym kept) (record { index = index; pass = read }) };
+        full = λ some f t. (full, record { before = s; after = v; was = was; is = is; stays = subst (Stays (λ index k j. IsUnnoted index.layout k j × HasFoundPair index.layout k j (range_from from upto limit)) s.handle) (sym kept.0) (record { index = index; pass = (unnoted, here) }); keeps = kept.1 ∙ keeps });
+        read = λ some f t. record { before = s; after = v; was = was; is = is; stays = subst (Stays (λ index k j. HasGotRange index untold limit (k, tt) (j, tt)) s.handle) (sym kept.0) (record { index = index; pass = read }); keeps = kept.1 ∙ keeps };
       }
 
 -- the scan has left this list, which was read and then emptied
@@ -114,23 +116,28 @@ module _ {IsMade : Answer} {range : Range} {old mid : Option Opened} {count : �
   pub made_here : IsMade h.before.handle.index.layout h.before.handle.pass u.handle.pass range u.list is_more
   made_here = subst (λ (x : Opened). IsMade h.before.handle.index.layout h.before.handle.pass x.handle.pass range x.list is_more) (same h.after u (sym h.is ∙ is)) h.made
 
-  pub stays : (Became : Layout → PassView → PassView → Type 0) (new : Option Opened) (v : Opened) → new ≡ Some v → v.handle ≡ u.handle
+  kept_by_scan : u.kept.items ≡ h.before.kept.items
+  kept_by_scan = ap (λ (x : Opened). x.kept.items) (same u h.after (sym is ∙ h.is)) ∙ h.keeps
+
+  pub stays : (Became : Layout → PassView → PassView → Type 0) (new : Option Opened) (v : Opened) → new ≡ Some v → KeepsAll u v
       → Became h.before.handle.index.layout h.before.handle.pass u.handle.pass → StaysOpen (λ index k j. Became index.layout k j) old new
   stays Became new v last kept became = record {
     before = h.before;
     after = v;
     was = h.was;
     is = last;
-    stays = subst (Stays (λ index k j. Became index.layout k j) h.before.handle) (sym kept) (record { index = ap (λ (x : Opened). x.handle.index) (same u h.after (sym is ∙ h.is)) ∙ h.index; pass = became });
+    stays = subst (Stays (λ index k j. Became index.layout k j) h.before.handle) (sym kept.0) (record { index = ap (λ (x : Opened). x.handle.index) (same u h.after (sym is ∙ h.is)) ∙ h.index; pass = became });
+    keeps = kept.1 ∙ kept_by_scan;
   }
 
-  pub reads : (new : Option Opened) (v : Opened) → new ≡ Some v → v.handle ≡ u.handle → StaysOpen (λ index k j. HasGotRange index untold range.limit (k, tt) (j, tt)) old new
+  pub reads : (new : Option Opened) (v : Opened) → new ≡ Some v → KeepsAll u v → StaysOpen (λ index k j. HasGotRange index untold range.limit (k, tt) (j, tt)) old new
   reads new v last kept = record {
     before = h.before;
     after = v;
     was = h.was;
     is = last;
-    stays = subst (Stays (λ index k j. HasGotRange index untold range.limit (k, tt) (j, tt)) h.before.handle) (sym (kept ∙ ap (λ (x : Opened). x.handle) (same u h.after (sym is ∙ h.is)))) (record { index = h.index; pass = h.read });
+    stays = subst (Stays (λ index k j. HasGotRange index untold range.limit (k, tt) (j, tt)) h.before.handle) (sym (kept.0 ∙ ap (λ (x : Opened). x.handle) (same u h.after (sym is ∙ h.is)))) (record { index = h.index; pass = h.read });
+    keeps = kept.1 ∙ kept_by_scan;
   }
 
   pub not_closed : old ≡ None → ⊥
@@ -139,7 +146,7 @@ module _ {IsMade : Answer} {range : Range} {old mid : Option Opened} {count : �
 module _ {Room : Type 0} {IsWritten : List (List ℕ × ℕ) → Bool → Room → Room → Type 0} {range : Range} {old new : Option Opened} {before after : Room} {status : ℕ} (IsTold : Answer) where
   -- the pairs of the list were written
   pub listed : {IsMade : Answer} {mid : Option Opened} {count : ℕ} {is_more : Bool} (h : HasFilled IsMade range old mid count is_more) (u v : Opened) (pairs : List (List ℕ × ℕ))
-      → mid ≡ Some u → new ≡ Some v → v.handle ≡ u.handle → status ≡ DONE
+      → mid ≡ Some u → new ≡ Some v → KeepsAll u v → status ≡ DONE
       → IsTold h.before.handle.index.layout h.before.handle.pass u.handle.pass range pairs is_more → IsWritten pairs is_more before after → ListsInto IsWritten IsTold range old new before after status
   listed h u v pairs is last kept done told written = record {
     closed = λ none. absurd (not_closed h u is none);

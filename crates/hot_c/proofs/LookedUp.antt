@@ -40,8 +40,8 @@ some_is_none s e = cc
 
 pub looked_up : (old new : Option Opened) (before after : List Lookup) (status : ℕ) (s u : Opened) (keys : List (List ℕ)) (found : List (Option ℕ)) → old ≡ Some s → new ≡ Some u
     → All (λ it. FitsInKey (key_in it)) before → keys ≡ map key_in before → length found ≡ length before → Stays (λ index k j. AreNoted index.layout k j (gets keys found) × HasGotMany index untold (length keys) (k, tt) (j, tt)) s.handle u.handle → status ≡ DONE
-    → after ≡ are_answered before found → LooksUpAll old new before after status
-looked_up old new before after status s u keys found was is fit keys_are many stays done told = record {
+    → after ≡ are_answered before found → u.kept.items ≡ s.kept.items → LooksUpAll old new before after status
+looked_up old new before after status s u keys found was is fit keys_are many stays done told keeps = record {
   closed = λ none. absurd (some_is_none s (sym was ∙ none));
   long = λ some no. absurd (no fit);
   made = λ some short. inl (
@@ -60,6 +60,7 @@ looked_up old new before after status s u keys found was is fit keys_are many st
           subst (λ n. HasGotMany s.handle.index untold n (s.handle.pass, tt) (u.handle.pass, tt)) (ap length keys_are ∙ length-map before key_in) stays.pass.1,
         );
       };
+      keeps = keeps;
     },
     told,
   );

@@ -28,13 +28,14 @@ use Rattle.hot_c.specs.declared.status.TheConstants.{BUSY, CLOSED, DONE, KEY_TOO
 abbrev pub FitsInKey : List ℕ → Type 0
 FitsInKey key = length key ≤ MAX_BYTES
 
--- An open handle stays open, at the same index, and this became of its pass.
+-- An open handle stays open, at the same index, and keeps what it kept. This became of its pass.
 pub record StaysOpen (Became : TableView → PassView → PassView → Type 0) (old new : Option Opened) : Type 0 where
   pub before : Opened
   pub after : Opened
   pub was : old ≡ Some before
   pub is : new ≡ Some after
   pub stays : Stays Became before.handle after.handle
+  pub keeps : after.kept.items ≡ before.kept.items
 
 -- A call had this outcome, by its steps: it was noted with the reply, or refused for the cause.
 abbrev pub HasOutcome : Call → Result Reply TryFault → TableView → PassView → PassView → Type 0

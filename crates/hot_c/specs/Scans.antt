@@ -19,6 +19,7 @@ pub record HasFilled (IsMade : Answer) (range : Range) (old new : Option Opened)
   pub was : old ≡ Some before
   pub is : new ≡ Some after
   pub index : after.handle.index ≡ before.handle.index
+  pub keeps : after.kept.items ≡ before.kept.items
   pub fit : FitsInKey range.from × FitsInKey range.upto
   pub count_is : count ≡ length after.list
   pub few : count ≤ range.limit

@@ -61,7 +61,8 @@ impl Opened {
 
     /// The reply to a get of `key`: `Value`, or `Absent`. No `Call` is made for it, which would copy the key.
     pub fn get(&mut self, key: &Key) -> Reply
-        ensures { Stays (λ index k j. IsNoted index.layout k j (Get key.now) result × HasGot index untold (k, tt) (j, tt)) self.old.handle self.new.handle }
+        ensures call { Stays (λ index k j. IsNoted index.layout k j (Get key.now) result × HasGot index untold (k, tt) (j, tt)) self.old.handle self.new.handle }
+        ensures keeps { self.new.kept.items ≡ self.old.kept.items }
     {
         match self.handle.get(key) {
             Some(value) => Reply::Value(value),
@@ -74,6 +75,7 @@ impl Opened {
     pub fn try_call(&mut self, call: &Call, size: usize, had: &mut u64) -> u32
         ensures call { (outcome : Result ReplyView FaultView) × Stays (TellsOutcome size call.now result outcome) self.old.handle self.new.handle
             × (had.new ≡ value_after had.old outcome) × IfErr outcome (MayRefuse call.now) }
+        ensures keeps { self.new.kept.items ≡ self.old.kept.items }
     {
         match self.handle.try_call(call) {
             Ok(reply) => write_reply(reply, had),
@@ -92,8 +94,9 @@ impl Opened {
         upto: &Key,
         limit: usize,
     ) -> Result<bool, AllocError>
-        ensures { Stays (IsRangeRead (λ layout k j. IsFilledIn order layout k j (range_from from.now upto.now limit) self.new.list)
+        ensures call { Stays (IsRangeRead (λ layout k j. IsFilledIn order layout k j (range_from from.now upto.now limit) self.new.list)
             (range_from from.now upto.now limit) result) self.old.handle self.new.handle }
+        ensures keeps { self.new.kept.items ≡ self.old.kept.items }
     {
         match order {
             Order::Upwards => self.handle.scan_into(from, upto, limit, &mut self.list),
@@ -109,6 +112,7 @@ impl Opened {
         ensures same { Stays (λ index k j. IsAsTold k j) self.old.handle self.new.handle }
         ensures own { IsStampFrom self.old.handle.index result }
         ensures front { result.front ≡ self.old.handle.pass.front }
+        ensures keeps { self.new.kept.items ≡ self.old.kept.items }
     {
         self.handle.index.show().stamp(&mut self.handle.pass)
     }
@@ -116,7 +120,8 @@ impl Opened {
     /// Lets the handle see all that was seen when `stamp`, one of the same index, was made.
     pub fn follow(&mut self, stamp: Stamp)
         requires { IsStampFrom self.old.handle.index stamp }
-        ensures { Stays (λ index k j. HasCaughtUp index.layout stamp.front k j) self.old.handle self.new.handle }
+        ensures call { Stays (λ index k j. HasCaughtUp index.layout stamp.front k j) self.old.handle self.new.handle }
+        ensures keeps { self.new.kept.items ≡ self.old.kept.items }
     {
         self.handle
             .index
@@ -126,7 +131,7 @@ impl Opened {
 
     /// Takes all pairs out of the list, and frees its memory if it has more than `MOST_KEPT` allows.
     pub fn empty_list(&mut self)
-        ensures { self.new.handle ≡ self.old.handle }
+        ensures { KeepsAll self.old self.new }
     {
         self.list.let_go(MOST_KEPT);
     }

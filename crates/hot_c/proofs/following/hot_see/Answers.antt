@@ -18,8 +18,8 @@ abbrev CaughtUp : List Change → HandleView → HandleView → Type 0
 CaughtUp front = Stays (λ index k j. HasCaughtUp index.layout front k j)
 
 sees : (s u t m : Opened) (old old_leader : Option Opened) (front : List Change) → old ≡ Some s → old_leader ≡ Some t →
-    Stays (λ index k j. IsAsTold k j) t.handle m.handle → front ≡ t.handle.pass.front → CaughtUp front s.handle u.handle → SeesLeader old (Some u) old_leader (Some m) 0
-sees s u t m old old_leader front was led same told stays = record {
+    Stays (λ index k j. IsAsTold k j) t.handle m.handle → front ≡ t.handle.pass.front → CaughtUp front s.handle u.handle → u.kept.items ≡ s.kept.items → m.kept.items ≡ t.kept.items → SeesLeader old (Some u) old_leader (Some m) 0
+sees s u t m old old_leader front was led same told stays keeps leader_keeps = record {
   closed = λ either. absurd (neither either);
   seen = λ leader some is. (
     refl,
@@ -29,8 +29,9 @@ sees s u t m old old_leader front was led same told stays = record {
       was = was;
       is = refl;
       stays = subst (λ (f : List Change). CaughtUp f s.handle u.handle) (told ∙ ap (λ (o : Opened). o.handle.pass.front) (same_in t leader (sym led ∙ is))) stays;
+      keeps = keeps;
     },
-    record { before = t; after = m; was = led; is = refl; stays = same },
+    record { before = t; after = m; was = led; is = refl; stays = same; keeps = leader_keeps },
   );
 }
   where
@@ -39,4 +40,4 @@ sees s u t m old old_leader front was led same told stays = record {
     neither (inr none) = never t (sym led ∙ none)
 
 pub returns : goal.returns
-returns c = sees _ _ _ _ _ _ _ c.lend-2.ensures.value c.lend.ensures.value c.stamp-stamp.ensures.same c.stamp-stamp.ensures.front c.follow.ensures
+returns c = sees _ _ _ _ _ _ _ c.lend-2.ensures.value c.lend.ensures.value c.stamp-stamp.ensures.same c.stamp-stamp.ensures.front c.follow.ensures.call c.follow.ensures.keeps c.stamp-stamp.ensures.keeps
