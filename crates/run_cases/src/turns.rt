@@ -3,7 +3,7 @@
 ghost use Rattle.std.specs.Prelude.{All};
 ghost use Rattle.seat_calls.specs.Passes.{Owns};
 
-use crate::cases::{Case, parse_two_numbers};
+use crate::cases::{Case, bad_line, parse_two_numbers};
 use crate::chance::Chance;
 use crate::guests::{Guest, create_index, do_tasks, pop_handle};
 use crate::judge::{Judge, verdict};
@@ -17,6 +17,8 @@ use std::{io, thread};
 const FREE: u64 = u64::MAX;
 /// How often a thread looks whether it is its turn before it gives up.
 const MAX_LOOKS: u32 = 50_000_000;
+/// How many threads there are at most: `Rota` has a bit for each.
+const MOST_THREADS: u32 = 4;
 /// How many tasks a thread does.
 const TASKS: u64 = 12;
 
@@ -68,7 +70,7 @@ impl Rota {
     }
 }
 
-/// The bit of thread `number`, of which there are four.
+/// The bit of thread `number`, which is below `MOST_THREADS`.
 fn thread_bit(number: u64) -> u64 {
     1 << (number & 3)
 }
@@ -225,12 +227,15 @@ fn count_wrong(
 }
 
 /// Lets threads step in turns on new indexes of `case`, and prints whether all was lawful. `text` has two numbers: of the threads, which
-/// must be 4 at most, and of the orders, each on an index; else `bad_line`. Another error is that of a `run_order`, or of the write.
+/// must be `MOST_THREADS` at most, and of the orders, each on an index; else `bad_line`. Another error is that of a `run_order`, or of the write.
 pub fn run_orders<R>(rt: &R, case: &Case, text: &str) -> io::Result<()>
 where
     R: Print + AllocGlobal + Threads + Sync,
 {
     let (threads, orders) = parse_two_numbers(text)?;
+    if threads > MOST_THREADS {
+        return Err(bad_line());
+    }
     let mut wrong = 0u64;
     for seed in 0..u64::from(orders) {
         wrong = wrong.wrapping_add(run_order(rt, case, threads, seed << 20)?);
