@@ -10,8 +10,8 @@ ghost use Rattle.pieces.specs.Kept.{kept};
 ghost use Rattle.pieces.specs.Positions.{front_below, has, with_position};
 
 use super::rows::{
-    are_sparse_keys, fork_rows, is_padded, or_rows, remove_row, run_end, run_start, spread_rows,
-    squeeze_rows,
+    are_sparse_keys, first_of_run, fork_rows, is_padded, last_of_run, or_rows, remove_row,
+    spread_rows, squeeze_rows,
 };
 use key_bits::Key;
 use partial_keys::{Columns, pad, search_lanes};
@@ -126,8 +126,8 @@ impl Head {
         let rows = self.rows();
         let columns = self.columns.count_columns_below(position) as usize;
         (
-            run_start(rows, columns, found as usize) as u8,
-            run_end(rows, columns, found as usize) as u8,
+            first_of_run(rows, columns, found as usize) as u8,
+            last_of_run(rows, columns, found as usize) as u8,
         )
     }
 

@@ -160,7 +160,7 @@ fn rows_agree(a: u32, b: u32, columns: usize) -> bool
 }
 
 /// The index of the first of the consecutive rows round row `found` that agree with it in their first `columns` columns.
-pub(crate) fn run_start(rows: &[u32], columns: usize, found: usize) -> usize
+pub(crate) fn first_of_run(rows: &[u32], columns: usize, found: usize) -> usize
     requires few { columns ≤ 31 }
     requires in_range { found < length rows.now }
     ensures { IsRunStart rows.now columns found result }
@@ -174,7 +174,7 @@ pub(crate) fn run_start(rows: &[u32], columns: usize, found: usize) -> usize
 }
 
 /// The index of the last of the consecutive rows round row `found` that agree with it in their first `columns` columns.
-pub(crate) fn run_end(rows: &[u32], columns: usize, found: usize) -> usize
+pub(crate) fn last_of_run(rows: &[u32], columns: usize, found: usize) -> usize
     requires few { columns ≤ 31 }
     requires in_range { found < length rows.now }
     ensures { IsRunEnd rows.now columns found result }

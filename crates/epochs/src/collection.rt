@@ -68,8 +68,8 @@ pub fn collect_round<G: Gate>(table: &HotTable, seat: &mut TableSeat, gate: &mut
     ensures round { IsRound table.now G.becomes (seat.old, gate.old) (seat.new, gate.new) result.given.nodes result.given.leaves }
 {
     let bound = begin_round(table, seat, gate);
-    let nodes = visit_nodes(table, seat, gate, bound);
-    let leaves = visit_leaves(table, seat, gate, bound);
+    let nodes = visit_node_records(table, seat, gate, bound);
+    let leaves = visit_leaf_records(table, seat, gate, bound);
     Collected {
         given: Given {
             nodes: nodes.given,
@@ -150,7 +150,12 @@ fn bound_with_pin(bound: u64, word: u64) -> u64
 
 /// Visits each node record, in the order of their numbers. Returns how many it gave back, and whether one has to wait. `bound` is the bound
 /// of the round.
-fn visit_nodes<G: Gate>(table: &HotTable, seat: &mut TableSeat, gate: &mut G, bound: u64) -> Tally
+fn visit_node_records<G: Gate>(
+    table: &HotTable,
+    seat: &mut TableSeat,
+    gate: &mut G,
+    bound: u64,
+) -> Tally
     requires own { IsSeatOf table.now seat.old }
     requires bound { HasBound table.now.layout.passes bound seat.old.known }
     ensures same { (seat.new.known.pin ≡ seat.old.known.pin) × (seat.new.known.round ≡ seat.old.known.round) }
@@ -168,7 +173,12 @@ fn visit_nodes<G: Gate>(table: &HotTable, seat: &mut TableSeat, gate: &mut G, bo
 
 /// Visits each leaf record, in the order of their numbers. Returns how many it gave back, and whether one has to wait. `bound` is the bound
 /// of the round.
-fn visit_leaves<G: Gate>(table: &HotTable, seat: &mut TableSeat, gate: &mut G, bound: u64) -> Tally
+fn visit_leaf_records<G: Gate>(
+    table: &HotTable,
+    seat: &mut TableSeat,
+    gate: &mut G,
+    bound: u64,
+) -> Tally
     requires own { IsSeatOf table.now seat.old }
     requires bound { HasBound table.now.layout.passes bound seat.old.known }
     ensures same { (seat.new.known.pin ≡ seat.old.known.pin) × (seat.new.known.round ≡ seat.old.known.round) }
@@ -254,7 +264,7 @@ fn visit_limbo<G: Gate>(
 {
     let count = limbo.count().min(MOST_VISITED);
     for index in 0..count {
-        if !visit_waiting(table, seat, gate, limbo, bound, index) {
+        if !visit_waiting_record(table, seat, gate, limbo, bound, index) {
             limbo.drop_oldest_records(index);
             return;
         }
@@ -263,8 +273,8 @@ fn visit_limbo<G: Gate>(
 }
 
 /// Visits the record that waits at `index` in `limbo`, counted from 0 at the oldest. Returns whether it is to leave the list: not if it has
-/// to wait. One that the table hasn't leaves the list without a visit. `bound` is the bound of the round.
-fn visit_waiting<G: Gate>(
+/// to wait. One that the table hasn't is to leave it, too, without a visit. `bound` is the round's. One given back is added to `limbo.given`.
+fn visit_waiting_record<G: Gate>(
     table: &HotTable,
     seat: &mut TableSeat,
     gate: &mut G,

@@ -11,7 +11,7 @@ ghost use Rattle.epochs.specs.Runs.{Pins};
 use rowex_core::Gate;
 use rowex_table::{HotTable, TableSeat};
 
-/// Loads the epoch and stores it as the pass's pin, where it has none. No record linked at the store or later is given back until `unpin`.
+/// Loads the epoch and stores it as the pass's pin, which is clear before. No record linked at the store or later is given back until `unpin`.
 pub fn pin<G: Gate>(table: &HotTable, seat: &mut TableSeat, gate: &mut G)
     requires own { IsSeatOf table.now seat.old }
     requires free { seat.old.known.pin ≡ None }

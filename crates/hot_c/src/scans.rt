@@ -10,8 +10,9 @@ use crate::pairs::{Order, Pair, Query, write_pairs_in_order};
 use crate::status::{CLOSED, DONE, KEY_TOO_LONG, NO_MEMORY};
 use key_bits::Key;
 
-/// Lists the first pairs whose keys are from `from` to `upto`, both included, in key order: at most as many as `room` has places. `count`
-/// is their number then, and `more` 1 if the range has more, else 0: `DONE`. With `CLOSED`, `KEY_TOO_LONG` or `NO_MEMORY` these three stay.
+/// Lists the first pairs whose keys are from `from` to `upto`, both included, in key order: at most as many as `room` has places, and
+/// other places stay. `count` is their number then, and `more` 1 if the range has more, else 0: `DONE`. With `CLOSED`, `KEY_TOO_LONG` or
+/// `NO_MEMORY` these three stay.
 #[unsafe(no_mangle)]
 pub extern "C" fn hot_scan(
     handle: &mut Handle,
@@ -26,7 +27,7 @@ pub extern "C" fn hot_scan(
 {
     let order = Order::Upwards;
     let query = Query { order, from, upto };
-    list_query(handle, &query, room, count, more)
+    list_pairs_of_query(handle, &query, room, count, more)
 }
 
 /// Lists the last pairs whose keys are from `from` to `upto`, both included, in falling key order: at most as many as `room` has places.
@@ -45,7 +46,7 @@ pub extern "C" fn hot_scan_reverse(
 {
     let order = Order::Downwards;
     let query = Query { order, from, upto };
-    list_query(handle, &query, room, count, more)
+    list_pairs_of_query(handle, &query, room, count, more)
 }
 
 /// Lists the last pairs whose keys are from `from` to `upto`, both included, in rising key order: at most as many as `room` has places.
@@ -64,12 +65,11 @@ pub extern "C" fn hot_scan_last(
 {
     let order = Order::LastUpwards;
     let query = Query { order, from, upto };
-    list_query(handle, &query, room, count, more)
+    list_pairs_of_query(handle, &query, room, count, more)
 }
 
-/// Lists pairs of `query` in its order, at most as many as `room` has places: the first ones for `Upwards`, else the last ones. `count` is
-/// their number then, and `more` 1 if the range has more, else 0: `DONE`. With `CLOSED`, `KEY_TOO_LONG` or `NO_MEMORY` these three stay.
-fn list_query(
+/// Lists pairs of `query` in its order, as `hot_scan` does: the first ones for `Upwards`, else the last ones.
+fn list_pairs_of_query(
     handle: &mut Handle,
     query: &Query,
     room: &mut [Pair],

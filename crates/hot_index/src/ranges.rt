@@ -35,8 +35,8 @@ impl Index {
 
     /// The first pair whose key is `from` or above; `None` if none was found. For the empty key it is the first pair of the index.
     ///
-    /// It is a scan for one pair, with a scan's promise and bound on steps. The pair was there at some moment of the call, and no lower
-    /// key from `from` on all along. With `None` no key from `from` on was. An error if memory is refused; only a pair found needs it.
+    /// It is a scan for one pair, with a scan's promise and bound on steps. The pair was there at some moment of the call. No lower key
+    /// from `from` on, with `None` no key from `from` on, was there all along. An error if memory is refused; only a pair found needs it.
     pub fn first(
         &self,
         alloc: Global,

@@ -68,8 +68,8 @@ impl Index {
     /// The last pair whose key is `upto` or below; `None` if none was found. For the greatest key that there can be (`last_with_prefix`
     /// of the empty key) it is the last pair of the index.
     ///
-    /// It is a scan downwards for one pair, with its promise and bound on steps. The pair was there at some moment of the call, and no
-    /// greater key up to `upto` all along. With `None` no key up to `upto` was. An error if memory is refused; only a pair found needs it.
+    /// It is a scan downwards for one pair, with its promise and bound on steps. The pair was there at some moment of the call. No greater
+    /// key up to `upto`, with `None` no key up to `upto`, was there all along. An error if memory is refused; only a pair found needs it.
     pub fn last(
         &self,
         alloc: Global,

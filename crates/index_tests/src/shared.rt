@@ -33,7 +33,7 @@ pub fn make_index(rt: &impl Abort, alloc: Global, passes: u32) -> (Index, Vec<Pa
     }
 }
 
-/// Creates the index of `make_index` at a second try, which is not refused.
+/// Creates the index of `make_index` at a second try. Panics if that is refused too.
 fn make_index_again(rt: &impl Abort, alloc: Global, passes: u32) -> (Index, Vec<Pass>)
     ensures { All (Owns result.0) result.1.items }
 {

@@ -21,7 +21,7 @@ fn insert_and_stamp<R: Wait>(rt: &R, index: &Index, mut pass: Pass, key: &Key) -
 }
 
 /// Inserts two keys at the same time, each by a thread. Returns what `insert_and_stamp` does, for each.
-fn insert_in_threads<R: Threads + Wait + Sync>(
+fn insert_and_stamp_in_threads<R: Threads + Wait + Sync>(
     rt: &R,
     index: &Index,
     passes: (Pass, Pass),
@@ -58,7 +58,7 @@ fn follow_and_find<R: Abort + Threads + Wait + Sync>(
     requires last { Owns index.now last.old }
 {
     let keys = (key(rt, &[0]), key(rt, &[1]));
-    let (ours, theirs) = insert_in_threads(rt, index, passes, &keys);
+    let (ours, theirs) = insert_and_stamp_in_threads(rt, index, passes, &keys);
     assert!(rt; ours.0 && theirs.0);
     index.follow(last, ours.1);
     index.follow(last, theirs.1);

@@ -53,7 +53,7 @@ pub struct Choice {
 }
 
 /// The index on `way` of the last node whose first position is below `position`; 0 if there is none.
-pub fn level_below(way: &[PathNode], position: u16) -> usize
+pub fn last_level_before(way: &[PathNode], position: u16) -> usize
     requires { 0 < length way.now }
     ensures { IsLevel way.now position result }
 {
@@ -66,7 +66,7 @@ pub fn level_below(way: &[PathNode], position: u16) -> usize
     level
 }
 
-/// The affected node and the case of an insertion after a search along `way`, whose leaf has another key. `level` is what `level_below`
+/// The affected node and the case of an insertion after a search along `way`, whose leaf has another key. `level` is what `last_level_before`
 /// returns for the position where the two keys first differ. There the entries from `first` to `last` are affected. If that is one entry,
 /// and the way goes on below it, the whole next node is affected instead.
 pub fn choose_case(way: &[PathNode], level: usize, first: u8, last: u8) -> Choice

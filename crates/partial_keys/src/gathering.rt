@@ -76,10 +76,10 @@ fn mark_zeros(lanes: u8x32) -> u32
     lanes.reverse().simd_eq(u8x32::splat(0)).to_bitmask() as u32
 }
 
-/// The dense key of `key` for the columns in the first `count` of `lanes`: the bit of column j is bit 31-j. All other lanes are 65,535.
-/// Mostly sixteen bytes of the key have all its bits at columns, and then they are read at once.
+/// The dense key of `key` for the columns in the first `count` of `lanes`: the bit of column j is bit 31-j, and all others are 0. The lanes
+/// behind these are 65,535. Mostly sixteen bytes of the key have all its bits at columns, and then they are read at once.
 #[inline(always)]
-pub fn extract_by_lanes(lanes: u16x32, count: u8, key: &Key) -> u32
+pub fn extract_dense_key_by_lanes(lanes: u16x32, count: u8, key: &Key) -> u32
     requires { AreColumnLanes lanes count }
     ensures { result ≡ dense_of (take count lanes) (bit_of key.now) }
 {
@@ -122,8 +122,8 @@ fn has_no_byte_between(bytes: u8x32, from: u8, to: u8) -> bool
         == 0
 }
 
-/// The dense key that `extract_by_lanes` returns, from sixteen bytes of the key at a time. Never inline: so the lanes go into memory only
-/// where columns are far apart.
+/// The dense key that `extract_dense_key_by_lanes` returns, from sixteen bytes of the key at a time. Never inline: so the lanes go into
+/// memory only where columns are far apart.
 #[inline(never)]
 fn extract_by_windows(lanes: u16x32, count: u8, key: &Key) -> u32
     requires { AreColumnLanes lanes count }

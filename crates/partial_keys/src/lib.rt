@@ -12,7 +12,7 @@ ghost use lib.Lanes.{mask_l};
 
 mod gathering;
 
-pub use gathering::extract_by_lanes;
+pub use gathering::extract_dense_key_by_lanes;
 use gathering::lanes_of;
 use key_bits::Key;
 use std::marker::Model;
@@ -125,7 +125,7 @@ impl Columns {
     pub fn extract(&self, key: &Key) -> u32
         ensures { result ≡ dense_of self.now (bit_of key.now) }
     {
-        extract_by_lanes(lanes_of(&self.positions), self.count, key)
+        extract_dense_key_by_lanes(lanes_of(&self.positions), self.count, key)
     }
 
     /// Adds a column at `position`, which is none yet, to fewer than 31, and returns its index among the columns.

@@ -7,7 +7,7 @@ pub fn legal_calls_stay_legal_in_longer_fronts()
 {}
 
 /// If the calls of passes of different numbers are each legal in one front, the weave of all their notes into it is a legal history.
-pub fn woven()
+pub fn weave_of_legal_calls_is_legal()
     ensures any { Woven }
     ensures two { WovenTwo }
 {}

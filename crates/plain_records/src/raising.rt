@@ -70,7 +70,7 @@ fn store_cut(nodes: &mut Vec<Node>, number: u32, height: u16, cut: Cut) -> Risen
             }
         }
         zero => {
-            let one = push_half(nodes, number, height, one);
+            let one = push_half_if_node(nodes, number, height, one);
             let zero = put_half(nodes, number, height, zero);
             Risen::Split {
                 position,
@@ -99,7 +99,7 @@ fn put_half(nodes: &mut Vec<Node>, number: u32, height: u16, half: Half) -> Entr
 
 /// The entry of `half`: one entry is returned as it is, and a node is put into a new record. `Half::Same` is node `number`, of the height
 /// `height`.
-fn push_half(nodes: &mut Vec<Node>, number: u32, height: u16, half: Half) -> Entry
+fn push_half_if_node(nodes: &mut Vec<Node>, number: u32, height: u16, half: Half) -> Entry
     requires room { vec_len nodes.old < vec_capacity nodes.old }
     requires small { vec_len nodes.old < 2 ^ 32 }
     ensures nodes { nodes.new.items ≡ pushed_nodes nodes.old.items half }

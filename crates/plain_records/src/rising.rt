@@ -55,7 +55,7 @@ pub fn raise_newcomer(
             let at = node.search(key);
             prove!(at < node.count());
             let (first, last) = node.affected(at, position);
-            if takes_leaf(height, first, last) {
+            if node_takes_leaf(height, first, last) {
                 let bit = key.bit(position);
                 let grown = grow(node, first, last, position, bit, Entry::Leaf(leaf));
                 return store_grown(nodes, number, height, grown);
@@ -68,8 +68,9 @@ pub fn raise_newcomer(
 }
 
 /// Whether a new leaf that affects the entries from `first` to `last` of a node of the height `height` goes into that node itself. So it is
-/// if these are several, or all entries are leaves. Else the leaf goes into the child, or into a new node with one leaf.
-fn takes_leaf(height: u16, first: u8, last: u8) -> bool
+/// if these are several, or all entries are leaves. Else it goes to the one affected entry or below it: into a node there, or into a new one
+/// of both.
+fn node_takes_leaf(height: u16, first: u8, last: u8) -> bool
     ensures { IsTrue result ↔ ((first < last) ⊎ (height ≡ 1)) }
 {
     first < last || height == 1

@@ -138,7 +138,7 @@ impl PlainTrie {
     }
 
     /// Gives `key` the value `value`, and returns `New`, or `Was` with the value that it had. Only a key that was absent takes memory. It
-    /// returns `AllocError` where `insert` would, and leaves all records and the root as they were then.
+    /// returns `AllocError` where `insert` would; then all records and the root stay as they were.
     pub fn upsert(&mut self, key: &Key, value: u64) -> Result<Reply, AllocError>
         ensures ok { IfOk result (IsTrieAnswer (Upsert key.now value) self.old self.new) }
         ensures err { OnErr result (IsOutOfMemory (Upsert key.now value) self.old self.new) }

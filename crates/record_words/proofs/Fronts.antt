@@ -107,8 +107,8 @@ module _ (rows : List ℕ) (rise : (i k : ℕ) → i ≤ k → k < length rows �
       (λ (g : past ≤ found). absurd (let b = upto.above (omega (arith, g, here, long, room)) in let e = at past (omega (arith, g, here)) in let r = rise past found g here in omega (arith, b, e, r, row_upto)))
       (cases_lt found past)
 
-  pub run_start : IsRunStart rows n found first
-  run_start = record {
+  pub first_of_run : IsRunStart rows n found first
+  first_of_run = record {
     in_range = first_here;
     same = λ k le l. eq-eqb _ _ (same_front s (row / 2 ^ s) (get_or rows k 0)
         (let b = from.above (omega (arith, first_here, here, long, room)) in let e = at first (omega (arith, first_here, here)) in let r = rise first k le (omega (arith, l, here)) in omega (arith, b, e, r))
@@ -121,8 +121,8 @@ module _ (rows : List ℕ) (rise : (i k : ℕ) → i ≤ k → k < length rows �
     pub some : 1 ≤ end
     some = omega (arith, is, past_here, here)
 
-    pub run_end : IsRunEnd rows n found (end - 1)
-    run_end = record {
+    pub last_of_run : IsRunEnd rows n found (end - 1)
+    last_of_run = record {
       at_least = omega (arith, is, past_here, here);
       in_range = omega (arith, is, some);
       same = λ k after le. eq-eqb _ _ (same_front s (row / 2 ^ s) (get_or rows k 0)
@@ -166,5 +166,5 @@ module _ (node : NodeView) (lawful : IsLawfulNode node) where
 
     pub affected_by_counts : (affected_first position found (piece node) ≡ first) × (affected_count position found (piece node) + first ≡ end - 1 + 1)
     affected_by_counts = affected_range_is node lawful position found n first (end - 1) here below
-        (subst (IsRunStart node.rows n found) (sym first_is) (run_start node.rows rows_rise room n found row_here))
-        (run_end node.rows rows_rise room n found row_here end end_is)
+        (subst (IsRunStart node.rows n found) (sym first_is) (first_of_run node.rows rows_rise room n found row_here))
+        (last_of_run node.rows rows_rise room n found row_here end end_is)

@@ -50,7 +50,7 @@ pub fn pack_leaf(key: &Key, value: u64) -> [u64; LEAF_FIELDS]
 }
 
 /// Writes the eight bytes of `word` to `bytes` from byte `8 * j` on, the highest first. All other bytes stay.
-pub fn write_word(bytes: &mut [u8; MAX_BYTES], j: usize, word: u64)
+pub fn write_key_word(bytes: &mut [u8; MAX_BYTES], j: usize, word: u64)
     requires { j < KEY_WORDS }
     ensures written { key_word bytes.new j ≡ word }
     ensures others { (k : ℕ) → k ≢ j → key_word bytes.new k ≡ key_word bytes.old k }

@@ -17,7 +17,7 @@ pub use affected::affected_slots;
 pub use entry::{pack_entry, read_entry, read_some_entry};
 use key_bits::MAX_BYTES;
 pub use layout::{Layout, LayoutFault, LeafClass, Location, Stock};
-pub use leaf::{count_key_words, count_leaf_words, key_word_at, pack_leaf, write_word};
+pub use leaf::{count_key_words, count_leaf_words, key_word_at, pack_leaf, write_key_word};
 pub use node::{add_leaf, can_take_leaf, close_fork, drop_entry, pack_node, read_node};
 pub use numbers::{HeadNumbers, position_of, read_numbers, row_of};
 pub use origins::Origins;

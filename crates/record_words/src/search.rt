@@ -13,7 +13,7 @@ ghost use Rattle.record_words.specs.Reading.{IsSpelling};
 use crate::numbers::read_numbers;
 use crate::{FIRST_ROWS, ROW_WORDS};
 use key_bits::Key;
-use partial_keys::{extract_by_lanes, search_rows};
+use partial_keys::{extract_dense_key_by_lanes, search_rows};
 use std::simd::prelude::*;
 
 /// The dense key of `key` for each node whose head begins with `words`: the bit of column j is bit 31-j. The positions are read as a vector
@@ -24,7 +24,7 @@ pub fn extract_dense_key(words: &[u64; FIRST_ROWS], key: &Key) -> u32
     ensures { (node : NodeView) → IsLawfulNode node → front_words (head_of node) ≡ words.now → result ≡ dense_of node.columns (bit_of key.now) }
 {
     let positions = split_into_quarters(u64x8::from_slice(&words[1..]));
-    extract_by_lanes(positions, read_numbers(words[0]).columns, key)
+    extract_dense_key_by_lanes(positions, read_numbers(words[0]).columns, key)
 }
 
 /// The slot to which the forks lead by the dense key `dense`, in each node whose head ends with `words`. As `Head::search`, but no head is

@@ -40,10 +40,9 @@ impl Stock {
     /// It has one node record for 8 keys, and 512 more. It has one leaf record for each key, one to spare for 8 keys, and 512 more. Sums
     /// stop at 4,294,967,295. So each index of 1 to 1,024 passes can be made with it where there is memory.
     ///
-    /// The nodes are a measured number and no bound. A node had 9 to 31 keys in indexes that were filled by inserts alone. It had 12 to 31
-    /// where keys were replaced by others again and again, since removals merge nodes. The worst case is not covered: keys may be such that
-    /// each node has two entries, so that `count` of them take `count - 1` nodes. What is to spare is for the records that passes have
-    /// replaced and can't use again yet. Count 64 of both for each pass that changes the index, so give more if more than eight do.
+    /// The nodes are a measured number (`docs/SIZING.md`) and no bound. Keys may be such that each node has two entries, so that `count` of
+    /// them take `count - 1` nodes. What is to spare is for the records that passes have replaced and can't use again yet. Count 64 of both
+    /// for each pass that changes the index, so give more if more than eight do.
     pub fn for_keys(count: u32, longest: usize) -> Stock
         ensures stock { result ≡ stock_for count longest }
         ensures nodes { IsRecordCount result.nodes }

@@ -14,7 +14,7 @@ use Rattle.replay_state.specs.declared.fate.Fate.TheVariants.{Free as IsFree, Un
 use Rattle.replay_state.specs.declared.passes.PassState.{PassState}
 use Rattle.replay_state.specs.Fates.{stored_fate}
 use Rattle.replay_state.specs.Passes.{IsOutOfReach}
-use Rattle.replay_state.specs.Records.{HasState, fate_in, marked_in, with_fate_in, with_lock_in}
+use Rattle.replay_state.specs.Records.{HasState, fate_in, with_fate_unlocked_in, with_fate_in, with_lock_in}
 use Rattle.replay_state.specs.States.{StateView, IsStateOf}
 use Rattle.replay_state.proofs.Reading.{fate_at, fate_from, marked_stored, state_from}
 use Rattle.replay_state.proofs.RecordSteps.{with_fate_is}
@@ -23,17 +23,17 @@ use Rattle.versions.specs.Steps.{with_fate, with_lock, unlocked}
 
 -- ---- marks
 
-marked_is : (s : StateView) (c : Core) → IsStateOf s c → (r : Rec) (g : Stored) → IsStateOf (record s { records = marked_in s.records r g }) (record c { shared = with_fate (unlocked c.shared r) r (stored_fate g) })
+marked_is : (s : StateView) (c : Core) → IsStateOf s c → (r : Rec) (g : Stored) → IsStateOf (record s { records = with_fate_unlocked_in s.records r g }) (record c { shared = with_fate (unlocked c.shared r) r (stored_fate g) })
 marked_is s c h (a_node n) g = with_fate_is (record s { records = with_lock_in s.records n None }) (record c { shared = with_lock c.shared n None }) (lock_is s c h n None) (a_node n) g
 marked_is s c h (a_leaf n) g = with_fate_is s c h (a_leaf n) g
 
 pub marks : (s : StateView) (q : ℕ) (r : Rec) (epoch since last : ℕ) (p : PassState) → slice_get s.passes q ≡ Some p → fate_in s.records r ≡ Some (IsUnlinked since last q) → p.epoch ≡ epoch → last < p.version →
-    (c : Core) → ∥ IsLawful c ∥₁ → IsStateOf s c → LegalAct c q (Mark r epoch) × IsStateOf (record s { records = marked_in s.records r (IsMarked since last epoch) }) (after c q (Mark r epoch))
+    (c : Core) → ∥ IsLawful c ∥₁ → IsStateOf s c → LegalAct c q (Mark r epoch) × IsStateOf (record s { records = with_fate_unlocked_in s.records r (IsMarked since last epoch) }) (after c q (Mark r epoch))
 marks s q r epoch since last p at gone same before c lawful h =
     let own = h.passes.each q p at in
     let x = fate_at s c h r (IsUnlinked since last q) gone in (
       (x.0, sym same ∙ sym own.epoch_is, (since, last, x.1, subst (λ m. last < m) (sym own.version_is) before)),
-      subst (λ f. IsStateOf (record s { records = marked_in s.records r (IsMarked since last epoch) }) (record c { shared = marked c.shared r epoch f })) (sym x.1) (marked_is s c h r (IsMarked since last epoch)),
+      subst (λ f. IsStateOf (record s { records = with_fate_unlocked_in s.records r (IsMarked since last epoch) }) (record c { shared = marked c.shared r epoch f })) (sym x.1) (marked_is s c h r (IsMarked since last epoch)),
     )
 
 -- ---- giving back

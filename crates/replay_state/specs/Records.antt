@@ -62,9 +62,9 @@ abbrev pub with_lock_in : RecordsView → ℕ → Option ℕ → RecordsView
 with_lock_in s n o = record s { locks = set s.locks n o }
 
 -- a record with this fate, and unlocked
-abbrev pub marked_in : RecordsView → Rec → Stored → RecordsView
-marked_in s (a_node n) f = with_fate_in (with_lock_in s n None) (a_node n) f
-marked_in s (a_leaf n) f = with_fate_in s (a_leaf n) f
+abbrev pub with_fate_unlocked_in : RecordsView → Rec → Stored → RecordsView
+with_fate_unlocked_in s (a_node n) f = with_fate_in (with_lock_in s n None) (a_node n) f
+with_fate_unlocked_in s (a_leaf n) f = with_fate_in s (a_leaf n) f
 
 abbrev pub with_words_in : RecordsView → Rec → List ℕ → RecordsView
 with_words_in s (a_node n) words = record s { nodes = set s.nodes n words }

@@ -20,7 +20,7 @@ impl State {
     }
 
     /// The pin and the round of `pass`; `None` if the index hasn't that pass.
-    fn find_pass(&self, pass: u16) -> Option<PassState>
+    fn find_pass_state(&self, pass: u16) -> Option<PassState>
         ensures { result ≡ slice_get self.now.passes pass }
     {
         self.passes.get(pass as usize).copied()
@@ -89,7 +89,7 @@ impl State {
         requires { pass < length self.old.passes }
         ensures { IsStepped result self.old self.new pass (LoadPin of word) }
     {
-        let Some(other) = self.find_pass(of) else {
+        let Some(other) = self.find_pass_state(of) else {
             return false;
         };
         if word != other.pin.unwrap_or(0) {

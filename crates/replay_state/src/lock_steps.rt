@@ -61,7 +61,7 @@ impl State {
             return false;
         }
         if found == pack_state(Tag::Live) {
-            if !self.records.is_in_tree(node) {
+            if !self.records.is_node_in_tree(node) {
                 return false;
             }
             self.records.set_lock(node, Some(pass));
@@ -87,7 +87,7 @@ impl State {
         if !self.records.is_locked_by(node, pass) {
             return false;
         }
-        if !self.records.is_in_tree(node) {
+        if !self.records.is_node_in_tree(node) {
             return false;
         }
         self.records.set_lock(node, None);

@@ -42,7 +42,7 @@ impl Model for Records {
 
 impl Records {
     ghost use Rattle.rowex_core.specs.Opening.{opening};
-    ghost use Rattle.replay_state.specs.Records.{AreRecordsOf, HasState, AreNextRecords, MayPublishTree, HasWordStored, IsPackedIn, fate_in, lock_in, marked_in, tag_in, words_in, with_fate_in, with_lock_in, with_words_in};
+    ghost use Rattle.replay_state.specs.Records.{AreRecordsOf, HasState, AreNextRecords, MayPublishTree, HasWordStored, IsPackedIn, fate_in, lock_in, with_fate_unlocked_in, tag_in, words_in, with_fate_in, with_lock_in, with_words_in};
 
     /// Free records of a table of `layout`: all words are 0, and nothing is locked. An error if memory is refused.
     pub(crate) fn new(alloc: Global, layout: Layout) -> Result<Records, AllocError>
@@ -211,8 +211,8 @@ impl Records {
         }
     }
 
-    /// Whether node `number` is in the tree.
-    pub(crate) fn is_in_tree(&self, number: u32) -> bool
+    /// Whether node `number` is in the tree; `false` if the table hasn't it.
+    pub(crate) fn is_node_in_tree(&self, number: u32) -> bool
         ensures { IsTrue result ↔ ((since : ℕ) × (fate_in self.now (a_node number) ≡ Some (InTree since))) }
     {
         matches!(self.fate(Rec::Node(number)), Some(Fate::InTree { .. }))
@@ -280,7 +280,7 @@ impl Records {
 
     /// Gives `rec` the fate `fate`, and unlocks it. If the table hasn't the record, nothing changes.
     pub(crate) fn set_fate_and_unlock(&mut self, rec: Rec, fate: Fate)
-        ensures { self.new ≡ marked_in self.old rec fate }
+        ensures { self.new ≡ with_fate_unlocked_in self.old rec fate }
     {
         if let Rec::Node(number) = rec {
             self.set_lock(number, None);

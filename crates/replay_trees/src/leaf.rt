@@ -7,7 +7,7 @@ ghost use Rattle.record_words.specs.Leaf.{HasLeafWords, IsBytesOf, leaf_words, u
 ghost use Rattle.record_words.specs.Reading.{IsReading};
 
 use key_bits::{Key, MAX_BYTES};
-use record_words::{LEAF_FIELDS, WordFault, count_key_words, write_word};
+use record_words::{LEAF_FIELDS, WordFault, count_key_words, write_key_word};
 
 /// The key and the value of a leaf record with `words` from offset 1 on. The words behind the last one of its key may be any.
 /// `WordFault::Bad` if the length is above 240, or if a byte behind the key in that word isn't 0.
@@ -50,7 +50,7 @@ fn unpack_key_bytes(words: &[u64; LEAF_FIELDS]) -> [u8; MAX_BYTES]
 {
     let mut bytes = [0; MAX_BYTES];
     for j in 0..count_key_words(words[1]) {
-        write_word(&mut bytes, j, words[2 + j]);
+        write_key_word(&mut bytes, j, words[2 + j]);
     }
     bytes
 }

@@ -26,8 +26,8 @@ pub struct Linked {
 }
 
 /// What the tree links that begins at the entry `root`; it is empty for `None`. `nodes` and `leaves` are the words of the table's records,
-/// each from offset 1 on. `None` if these show no lawful tree there, or one that links a record outside the table or one whose words spell
-/// no value. An error if memory is refused. Its time is linear in the table's records and the tree.
+/// each from offset 1 on. `None` if these show no lawful tree there, or if that links a record that the table hasn't, or one whose words
+/// spell no value. An error if memory is refused. Its time is linear in the table's records and the tree.
 pub fn read_tree(
     alloc: Global,
     nodes: &[[u64; NODE_FIELDS]],

@@ -13,7 +13,7 @@ pub fn steps_leave_what_others_have()
 {}
 
 /// A legal step of one pass leaves true what any other seat knows.
-pub fn keeps()
+pub fn steps_keep_what_others_know()
     ensures { Keeps }
 {}
 
@@ -63,20 +63,20 @@ pub fn hindsight()
     ensures { Hindsight }
 {}
 
-/// Keys below two entries of a record part at the fork between them, whichever versions of its life they come from.
-pub fn parting()
+/// Keys below two entries of a node, in any versions of its life, first differ at the fork between the two. That below the first has 0 there.
+pub fn keys_part_at_fork_between_entries()
     ensures { Parting }
 {}
 
 /// A record that was in the tree in a version since a pass's pin is neither free nor held. It has the words of that version, but for its
 /// state, a node's entries and what stands behind a leaf's key.
-pub fn reach_is_kept()
+pub fn reach_keeps_its_words()
     ensures { InReach }
 {}
 
 /// Each entry in a node of a pinned pass's reach is now the one that the node had in the last version that linked it. The node's fixed
 /// words and stems are the same in all versions since the pin that link it.
-pub fn entries_in_reach_stood()
+pub fn entries_in_reach_are_of_last_version()
     ensures { EntriesInReach }
 {}
 

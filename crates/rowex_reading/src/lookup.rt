@@ -34,7 +34,7 @@ pub fn look_up<G: Gate>(
     ensures searched { HasSearched table.now G.becomes (seat.old, gate.old) (seat.new, gate.new) }
     ensures found { HasFound seat.new.known key.now result }
 {
-    search_along_turns(table, seat, gate, key, &[], 0)
+    look_up_along_turns(table, seat, gate, key, &[], 0)
 }
 
 /// Looks `key` up from the root, along a way that it went before: the turns at `index` in `rows`. In a node that the way had at this depth
@@ -54,13 +54,13 @@ pub fn look_up_along<G: Gate>(
     ensures searched { HasSearched table.now G.becomes (seat.old, gate.old) (seat.new, gate.new) }
     ensures found { HasFound seat.new.known key.now result }
 {
-    search_along_turns(table, seat, gate, key, rows, index)
+    look_up_along_turns(table, seat, gate, key, rows, index)
 }
 
 /// Looks `key` up from the root, along the turns at `index` in `rows`, as far as there are any. Where there is none, or one in another
 /// node, the node's head is searched. Returns what [`look_up`] does. Inline, so that a look-up without turns has code of its own.
 #[inline(always)]
-fn search_along_turns<G: Gate>(
+fn look_up_along_turns<G: Gate>(
     table: &HotTable,
     seat: &mut TableSeat,
     gate: &mut G,

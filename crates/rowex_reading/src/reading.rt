@@ -20,7 +20,7 @@ use insert_cases::PathNode;
 use key_bits::{Key, MAX_BYTES};
 use record_words::{
     FIRST_ROWS, HEAD_WORDS, ROW_WORDS, count_key_words, extract_dense_key, key_word_at, read_entry,
-    read_some_entry, search_row_words, write_word,
+    read_some_entry, search_row_words, write_key_word,
 };
 use rowex_core::{Gate, Rec, Spot};
 use rowex_table::{HotTable, LeafAt, NodeAt, TableSeat};
@@ -185,13 +185,13 @@ pub fn load_leaf<G: Gate>(
     let length = table.load_fixed_at(seat, gate, rec, start, 2);
     if length == 8 {
         let word = table.load_fixed_at(seat, gate, rec, start, 3);
-        write_word(places, 0, word);
+        write_key_word(places, 0, word);
         return (length as usize, value);
     }
     let used = 2 + count_key_words(length);
     for index in 2..used {
         let word = table.load_fixed_at(seat, gate, rec, start, index as u8 + 1);
-        write_word(places, index - 2, word);
+        write_key_word(places, index - 2, word);
     }
     (length as usize, value)
 }

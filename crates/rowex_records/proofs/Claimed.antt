@@ -386,8 +386,8 @@ module _ {G : Type 0} (table : TableView) (becomes : G → Event → G → Type 
   pub claims_gives : (kind : ℕ → Rec) (n from number : ℕ) (a b : SeatView × G) → Claims table becomes kind n from number a b → IsClaimed b.0.known (kind number)
   claims_gives kind n from number a b claims = more_is_claimed (kind number) claims.before.0.known b.0.known claims.one.holds
 
-  span_at : (n from m number index count : ℕ) → number ≡ wrapped n from m → from < n → m + count ≤ n → index < count → number + count ≤ n → number + index ≡ wrapped n from (m + index)
-  span_at n from m number index count is low fits below few = ap (λ z. z + index) is ∙ turned_by n from m index low (omega arith) (rw (← is) (omega arith))
+  span_from : (n from m number index count : ℕ) → number ≡ wrapped n from m → from < n → m + count ≤ n → index < count → number + count ≤ n → number + index ≡ wrapped n from (m + index)
+  span_from n from m number index count is low fits below few = ap (λ z. z + index) is ∙ turned_by n from m index low (omega arith) (rw (← is) (omega arith))
 
   module _ (kind : RecordKind) where
     abbrev n : ℕ
@@ -406,13 +406,13 @@ module _ {G : Type 0} (table : TableView) (becomes : G → Event → G → Type 
     span_more number index a i b few tries one c from m low fits is none =
         let next : m + index + 1 ≡ m + (index + 1) = omega arith in
         subst (λ z. FindsNone table becomes rec n from z c b) next
-        (finds_more rec n from (m + index) (number + index) c i b (span_at n from m number index (index + 1) is low fits (omega arith) few) (tries c from m low (omega arith) is none) one)
+        (finds_more rec n from (m + index) (number + index) c i b (span_from n from m number index (index + 1) is low fits (omega arith) few) (tries c from m low (omega arith) is none) one)
 
     pub span_claims : (number index count : ℕ) (a i b : SeatView × G) → index < count → number + count ≤ n → GoesOnTrying table becomes kind number index None a i
         → ClaimsOne table becomes (rec (number + index)) i b → GoesOnTrying table becomes kind number count (Some index) a b
     span_claims number index count a i b below few tries one c from m low fits is none = (
       below,
-      record { tried = m + index; low = omega arith; number_is = span_at n from m number index count is low fits below few; before = i; none = tries c from m low (omega arith) is none; one = one },
+      record { tried = m + index; low = omega arith; number_is = span_from n from m number index count is low fits below few; before = i; none = tries c from m low (omega arith) is none; one = one },
       refl,
     )
 

@@ -54,8 +54,9 @@ impl RecordKind {
         }
     }
 
-    /// The span from the record of this kind with the number `number`, which it must have, up to the last in a row that is as large.
-    fn span_at(self, layout: &Layout, number: u32) -> Span
+    /// The span that begins with the record of this kind with the number `number`, which it must have: this record, and those of the kind
+    /// straight behind it that are as large.
+    fn span_from(self, layout: &Layout, number: u32) -> Span
         requires kind { IsKindOf self layout.now }
         requires low { number < count_of self layout.now }
         ensures number { result.number ≡ number }
@@ -194,7 +195,7 @@ fn claim_record_behind<G: Gate>(
     let mut number = number_or_zero(begin + 1, all);
     let mut tried = 1;
     while tried < most {
-        let span = kind.span_at(&layout, number);
+        let span = kind.span_from(&layout, number);
         let count = span.count.min(most - tried);
         if let Some(index) = claim_record_in_span(table, seat, gate, kind, Span { count, ..span }) {
             return (Some(number + index), tried + index + 1);

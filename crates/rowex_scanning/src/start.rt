@@ -7,7 +7,7 @@ ghost use Rattle.rowex_scanning.specs.Scanning.{first_key_of};
 ghost use Rattle.rowex_scanning.specs.Starts.{IsSearchEnd, IsParting, IsStart};
 
 use crate::scanning::{Scan, first_key};
-use insert_cases::{PathNode, choose_case, level_below};
+use insert_cases::{PathNode, choose_case, last_level_before};
 use key_bits::Key;
 use rowex_core::Gate;
 use rowex_reading::find_affected;
@@ -54,7 +54,7 @@ pub(crate) fn find_start<G: Gate>(
         IsStart scan.now.range.now.direction seat.new.known m (first_key_of scan.now.range.now) way.now found.number result }
 {
     let key = first_key(scan.range);
-    let mut start = find_start_upwards(scan.table, seat, gate, way, key, found);
+    let mut start = find_start_of_upward_scan(scan.table, seat, gate, way, key, found);
     match scan.range.direction {
         Direction::Upwards => start,
         Direction::Downwards => {
@@ -73,9 +73,9 @@ pub(crate) fn find_start<G: Gate>(
 /// Finds where a scan upwards from `key` starts on `way`, the way of the key's search, which ended at `found`. If that leaf has the key,
 /// the scan starts there.
 ///
-/// Else the leaf's key differs first at the position `found.mismatch`. That parts `key` from the keys of the entries that it affects, and
-/// these from all others. So the scan starts at the first of them, or behind the last if `key` has a 1 there.
-fn find_start_upwards<G: Gate>(
+/// Else the leaf's key first differs from `key` at `found.mismatch`, and so do the keys of all entries that this position affects. All
+/// other keys part from `key` before it. So the scan starts at the first affected entry, or behind the last if `key` has a 1 there.
+fn find_start_of_upward_scan<G: Gate>(
     table: &HotTable,
     seat: &mut TableSeat,
     gate: &mut G,
@@ -98,7 +98,7 @@ fn find_start_upwards<G: Gate>(
         };
     };
     let below = key.bit(position);
-    let level = level_below(way, position);
+    let level = last_level_before(way, position);
     let step = way[level];
     let (first, last) = find_affected(table, seat, gate, step.number, step.at, position);
     let part = choose_case(way, level, first, last);

@@ -31,7 +31,7 @@ struct NodeLoads {
 
 /// Loads the words of the locked node `number`, all but its state, into `words`, which are 0 before. Words of slots are loaded in groups
 /// of eight, as far as there are entries. Those behind stay 0.
-pub(crate) fn load_locked_words<G: Gate>(
+pub(crate) fn load_locked_node_words<G: Gate>(
     table: &HotTable,
     seat: &mut TableSeat,
     gate: &mut G,
@@ -192,7 +192,7 @@ pub(crate) fn read_locked_node<G: Gate>(
     ensures few { seat.new.known.steps ≤ seat.old.known.steps + NODE_FIELDS }
 {
     let mut words = [0; NODE_FIELDS];
-    load_locked_words(table, seat, gate, number, &mut words);
+    load_locked_node_words(table, seat, gate, number, &mut words);
     read_node(&words)
 }
 

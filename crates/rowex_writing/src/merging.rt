@@ -26,7 +26,7 @@ use crate::building::{Build, make_node_from_words};
 use crate::deeds::Job;
 use crate::growing::show_number_fits;
 use crate::locked::{
-    load_locked_entry, load_locked_words, load_position, load_sibling, read_locked_node,
+    load_locked_entry, load_locked_node_words, load_position, load_sibling, read_locked_node,
 };
 use crate::publishing::{Store, publish_entry, spot_above};
 use crate::widening::{lock_for_merge, unlock_for_merge};
@@ -279,7 +279,7 @@ fn raise_closed_fork<G: Gate>(
     ensures few { seat.new.known.steps ≤ seat.old.known.steps + 2 * build.old.left_nodes + 180 }
 {
     let mut words = [0; NODE_FIELDS];
-    load_locked_words(table, seat, gate, fork.step.number, &mut words);
+    load_locked_node_words(table, seat, gate, fork.step.number, &mut words);
     if let Some(entry) = close_fork(&mut words, fork.step.at, fork.place, fork.entry) {
         return Some(entry);
     }

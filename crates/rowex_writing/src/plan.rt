@@ -12,7 +12,7 @@ ghost use Rattle.rowex_reading.specs.Ways.{IsWayOf};
 ghost use Rattle.record_words.specs.declared.TheConstants.{HEAD_WORDS};
 
 use finite_map::Reply;
-use insert_cases::{Case, PathNode, choose_case, level_below, pull_up_chain_end};
+use insert_cases::{Case, PathNode, choose_case, last_level_before, pull_up_chain_end};
 use rowex_core::Gate;
 use rowex_reading::{Found, find_affected};
 use rowex_table::{HotTable, TableSeat};
@@ -128,7 +128,7 @@ fn plan_new_leaf(way: &[PathNode], position: u16) -> Outline
     if way.is_empty() {
         return Outline::Known(change_plan(0, 0, Deed::PushDown { position }));
     }
-    let level = level_below(way, position);
+    let level = last_level_before(way, position);
     if level + 1 == way.len() && way[level].height <= 1 {
         return Outline::Known(plan_in_lowest_node(way, position, level));
     }

@@ -24,7 +24,7 @@ use crate::building::{
     Build, MOST_MADE, make_node, make_node_from_words, make_node_with_leaf, make_risen, node_entry,
 };
 use crate::deeds::Job;
-use crate::locked::{load_locked_words, read_locked_node};
+use crate::locked::{load_locked_node_words, read_locked_node};
 use crate::remaking::{Fork, NewLeaf, add_fork, add_leaf, cut_with_fork, cut_with_leaf};
 use compound_node::{Entry, Half, Node};
 use insert_cases::{Grown, PathNode, Risen};
@@ -124,8 +124,9 @@ fn make_risen_with_leaf<G: Gate>(
 }
 
 /// Makes what takes the place of the locked node `number`, the lowest of a span, with the leaf `new`: one entry, or a fork of two if it was
-/// full. The flag tells whether the node stays, as a side of the fork. `None` if no node record was free: one made stays in `build.made`.
-fn raise_lowest_node<G: Gate>(
+/// full. The flag tells whether the node stays, as a side of the fork. `None` if no node record was free: one that was made by then stays
+/// in `build.made`.
+fn raise_lowest_node_with_leaf<G: Gate>(
     table: &HotTable,
     seat: &mut TableSeat,
     gate: &mut G,
@@ -146,7 +147,7 @@ fn raise_lowest_node<G: Gate>(
         number,
         words: [0; NODE_FIELDS],
     };
-    load_locked_words(table, seat, gate, number, &mut loaded.words);
+    load_locked_node_words(table, seat, gate, number, &mut loaded.words);
     make_risen_with_leaf(table, seat, gate, build, &mut loaded, new)
 }
 
@@ -314,7 +315,14 @@ pub(crate) fn raise_with_leaf<G: Gate>(
     let way = job.way;
     let end = job.span.end;
     let top = job.span.len - 1;
-    let (risen, stays) = raise_lowest_node(table, seat, gate, build, way[top].number, new)?;
+    let (risen, stays) = raise_lowest_node_with_leaf(
+        table,
+        seat,
+        gate,
+        build,
+        way[top].number,
+        new,
+    )?;
     let rise = Rise {
         key: new.key,
         end,
@@ -347,7 +355,7 @@ pub(crate) fn raise_without_leaf<G: Gate>(
     ensures low { (words : List ℕ) → HasLocked seat.old.known number words → IfSome result (λ e. height_of e ≤ (node_words_of words).fixed.height) }
 {
     let mut words = [0; NODE_FIELDS];
-    load_locked_words(table, seat, gate, number, &mut words);
+    load_locked_node_words(table, seat, gate, number, &mut words);
     if let Some(entry) = drop_entry(&mut words, at) {
         return Some(entry);
     }

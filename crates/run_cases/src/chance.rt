@@ -50,12 +50,12 @@ impl Chance {
 pub fn run_turns<R: Print + AllocGlobal>(rt: &R, case: &Case, text: &str) -> io::Result<()> {
     let (seed, turns) = parse_two_numbers(text)?;
     let (index, passes) = create_index(case.alloc, 2, case.nodes, case.leaves)?;
-    let wrong = take_turns_on_index(case, &index, passes, seed, turns)?;
+    let wrong = take_turns_on_new_index(case, &index, passes, seed, turns)?;
     println!(rt; "{turns} turns from {seed}: {}", verdict(wrong))
 }
 
-/// Does what `take_turns` does, on `index`, which was just made, with its two `passes`.
-fn take_turns_on_index(
+/// Does what `case` does beforehand and then what `take_turns` does, on `index`, which was just made, with its two `passes`.
+fn take_turns_on_new_index(
     case: &Case,
     index: &Index,
     passes: Vec<Pass>,

@@ -28,7 +28,7 @@ pub fn create_index(
 pub type Guest<'a> = Handle<&'a Index>;
 
 /// Takes the last of `passes`, those of `index` that are left, as a guest there. `bad_line` if none is left.
-pub fn pop_handle<'a>(index: &'a Index, passes: &mut Vec<Pass>) -> io::Result<Guest<'a>>
+pub fn pop_guest<'a>(index: &'a Index, passes: &mut Vec<Pass>) -> io::Result<Guest<'a>>
     requires { All (Owns index.now) passes.old.items }
     ensures { All (Owns index.now) passes.new.items }
 {

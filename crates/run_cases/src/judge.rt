@@ -4,7 +4,7 @@ ghost use Rattle.std.specs.Prelude.{All};
 ghost use Rattle.seat_calls.specs.Passes.{Owns};
 
 use crate::cases::{Case, Task, bad_line};
-use crate::guests::{Guest, do_tasks, pop_handle, scan_from_highest, scan_from_lowest};
+use crate::guests::{Guest, do_tasks, pop_guest, scan_from_highest, scan_from_lowest};
 use hot_index::{Event, Gate, Index, Pass, Scan};
 use record_words::Layout;
 use rowex_replay::Replay;
@@ -109,8 +109,8 @@ pub fn prepare_guest<'a>(
     requires { All (Owns index.now) passes.items }
 {
     let alloc = case.alloc;
-    let other = pop_handle(index, &mut passes)?;
-    let mut guest = pop_handle(index, &mut passes)?;
+    let other = pop_guest(index, &mut passes)?;
+    let mut guest = pop_guest(index, &mut passes)?;
     let mut gate = Stopper {
         judge: Judge::new(alloc, 2, case.nodes, case.leaves)?,
         other,

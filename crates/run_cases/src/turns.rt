@@ -5,7 +5,7 @@ ghost use Rattle.seat_calls.specs.Passes.{Owns};
 
 use crate::cases::{Case, bad_line, parse_two_numbers};
 use crate::chance::Chance;
-use crate::guests::{Guest, create_index, do_tasks, pop_handle};
+use crate::guests::{Guest, create_index, do_tasks, pop_guest};
 use crate::judge::{Judge, verdict};
 use hot_index::{Event, Gate, Handle, Index, Pass};
 use std::alloc::{AllocError, Global};
@@ -183,7 +183,7 @@ fn run_threads<R: AllocGlobal + Threads + Sync>(
 ) -> io::Result<u64>
     requires { All (Owns index.now) seats.items }
 {
-    let mut last = pop_handle(index, &mut seats)?;
+    let mut last = pop_guest(index, &mut seats)?;
     let (told, lost) = step_threads(rt, case, index, seats, seed)?;
     count_wrong(case, passes, &mut last, &told, lost)
 }
@@ -227,7 +227,8 @@ fn count_wrong(
 }
 
 /// Lets threads step in turns on new indexes of `case`, and prints whether all was lawful. `text` has two numbers: of the threads, which
-/// must be `MOST_THREADS` at most, and of the orders, each on an index; else `bad_line`. Another error is that of a `run_order`, or of the write.
+/// must be `MOST_THREADS` at most, and of the orders, each on an index; else `bad_line`. Another error is that of a `run_order`, or of the
+/// write.
 pub fn run_orders<R>(rt: &R, case: &Case, text: &str) -> io::Result<()>
 where
     R: Print + AllocGlobal + Threads + Sync,

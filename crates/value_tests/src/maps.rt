@@ -3,7 +3,7 @@
 use crate::nodes::key;
 use compound_node::{Entry, Node};
 use finite_map::{Call, Change, Kind, Note, Reply, Scan};
-use insert_cases::{Case, PathNode, choose_case, level_below, pull_up_chain_end};
+use insert_cases::{Case, PathNode, choose_case, last_level_before, pull_up_chain_end};
 use key_bits::Key;
 use plain_index::{PlainIndex, are_legal};
 use plain_trie::{Place, PlainTrie, place};
@@ -453,7 +453,7 @@ fn insertions_have_their_cases(rt: HostRuntime) {
             step.at = *at;
         }
         let way = &steps[..passed.len().min(2)];
-        assert!(rt; level < way.len() && level_below(way, position) == level);
+        assert!(rt; level < way.len() && last_level_before(way, position) == level);
         let choice = choose_case(way, level, entry, entry);
         assert!(rt; (choice.level, choice.first, choice.last) == (want.0, want.1, want.2));
         assert!(rt; choice.case as u8 == want.3 as u8);

@@ -305,7 +305,7 @@ fn expect_word(rt: &impl Abort, layout: &Layout, leaf: u32, word: usize, place: 
 }
 
 /// Asserts that leaf record `leaf` begins at `word` and has `size` words, and that the first and the last are found there.
-fn expect_leaf(rt: &impl Abort, layout: &Layout, leaf: u32, word: usize, size: usize) {
+fn expect_leaf_record(rt: &impl Abort, layout: &Layout, leaf: u32, word: usize, size: usize) {
     assert!(rt;
         layout.leaf(leaf) == word && layout.leaf_size(leaf) == size,
         "leaf {leaf}"
@@ -337,7 +337,7 @@ fn leaf_records_have_their_sizes(rt: HostRuntime) {
         (5, 582, 33),
         (7, 648, 33),
     ] {
-        expect_leaf(&rt, &layout, leaf, word, size);
+        expect_leaf_record(&rt, &layout, leaf, word, size);
     }
     assert!(rt;
         layout.pin(1) == 64

@@ -109,7 +109,7 @@ pub fn leaf_has_stem_of_node()
 {}
 
 /// A leaf whose words were read is a descent of its own, which begins and ends there.
-pub fn one_leaf_is_a_descent()
+pub fn read_leaf_is_a_descent()
     ensures { WayOfLeaf }
 {}
 

@@ -9,7 +9,7 @@ pub fn hindsight()
 {}
 
 /// Keys below two slots of a node, in any versions of its life, first differ at the fork between these. That below the first has 0 there.
-pub fn parting()
+pub fn keys_part_at_fork_between_slots()
     ensures { StateParting }
 {}
 

@@ -17,21 +17,21 @@ returns-in-One-clause-others c = λ m v ne at.
 pub returns-in_default-clause-shows : goal.returns-in_default-clause-shows
 returns-in_default-clause-shows c = λ old P at high lawful s.
     let long : vec_len c.args.nodes.now ≡ length c.args.nodes.now.items = omega (arith, c.args.nodes.now.ok.0) in
-    rw (c.put_half-zero.ensures.nodes, c.put_half-zero.ensures.entry, c.push_half-one.ensures.nodes, c.push_half-one.ensures.entry, long)
+    rw (c.put_half-zero.ensures.nodes, c.put_half-zero.ensures.entry, c.push_half_if_node-one.ensures.nodes, c.push_half_if_node-one.ensures.entry, long)
     (double_shows old c.args.nodes.now.items c.args.number c.args.height at high lawful c.args.cut.position c.args.cut.zero c.args.cut.one P c.in_default.not-One s)
 
 pub returns-in_default-clause-others : goal.returns-in_default-clause-others
 returns-in_default-clause-others c = λ m v ne at.
-    rw (c.put_half-zero.ensures.nodes, c.push_half-one.ensures.nodes)
+    rw (c.put_half-zero.ensures.nodes, c.push_half_if_node-one.ensures.nodes)
     (others_kept (pushed_nodes c.args.nodes.now.items c.args.cut.one) c.args.number c.args.cut.zero m v ne (others_pushed c.args.nodes.now.items c.args.cut.one m v at))
 
 pub returns-in_default-clause-heights : goal.returns-in_default-clause-heights
 returns-in_default-clause-heights c = λ old P at s steady.
-    rw (c.put_half-zero.ensures.nodes, c.push_half-one.ensures.nodes) (heights_double c.args.nodes.now.items c.args.number old P at c.args.cut s steady)
+    rw (c.put_half-zero.ensures.nodes, c.push_half_if_node-one.ensures.nodes) (heights_double c.args.nodes.now.items c.args.number old P at c.args.cut s steady)
 
 pub returns-in_default-clause-side : goal.returns-in_default-clause-side
 returns-in_default-clause-side c = λ old P at s big.
-    rw (c.put_half-zero.ensures.nodes, c.push_half-one.ensures.nodes)
+    rw (c.put_half-zero.ensures.nodes, c.push_half_if_node-one.ensures.nodes)
     (double_side old c.args.nodes.now.items c.args.number at c.args.cut.position c.args.cut.zero c.args.cut.one P c.in_default.not-One s)
 
 pub returns-in-One-clause-up : goal.returns-in-One-clause-up

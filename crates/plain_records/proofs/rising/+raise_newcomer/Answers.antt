@@ -69,7 +69,7 @@ pub grow-grown-requires-clause-range : goal.grow-grown-requires-clause-range
 grow-grown-requires-clause-range t c =
     let d = (goal.at.grow-grown-requires-clause-range t c).After-affected-first in
     let (leaves, value, s, a) = c.requires.place in
-    subst (λ (v : NodeView). IsAffected (piece v) c.args.position c.affected-first.result.0 c.affected-first.result.1) (sym (read t d leaves value s a)) (in_range t d leaves value s a (c.if-takes_leaf.ensures.0 refl))
+    subst (λ (v : NodeView). IsAffected (piece v) c.args.position c.affected-first.result.0 c.affected-first.result.1) (sym (read t d leaves value s a)) (in_range t d leaves value s a (c.if-node_takes_leaf.ensures.0 refl))
 
 pub store_grown-requires-clause-number : goal.store_grown-requires-clause-number
 store_grown-requires-clause-number t c =
@@ -88,10 +88,10 @@ grew : {ns : List NodeView} {ls : List LeafRecord} {x : Item} {p n h : ℕ} {t :
     GrownShows v g (grown p o (Leaf x.number) first (piece v)) → GrownShows u.shown.0.view g (grown p (bit x.key p) (Leaf x.number) first (piece u.shown.0.view))
 grew {x = x} {p = p} u v same g first o is shows = subst (λ w. GrownShows w g (grown p (bit x.key p) (Leaf x.number) first (piece w))) same (subst (λ b. GrownShows v g (grown p b (Leaf x.number) first (piece v))) is shows)
 
-pub returns-then-takes_leaf-clause-raised : goal.returns-then-takes_leaf-clause-raised
+pub returns-then-node_takes_leaf-clause-raised : goal.returns-then-node_takes_leaf-clause-raised
 unfolding bit
-returns-then-takes_leaf-clause-raised t c = λ leaves value s a.
-    let d = (goal.at.returns-then-takes_leaf-clause-raised t c).After-affected-first in
+returns-then-node_takes_leaf-clause-raised t c = λ leaves value s a.
+    let d = (goal.at.returns-then-node_takes_leaf-clause-raised t c).After-affected-first in
     let i = stands t d leaves value s a in
     let u = here t d leaves value s a in
     let first = c.affected-first.result.0 in
@@ -100,14 +100,14 @@ returns-then-takes_leaf-clause-raised t c = λ leaves value s a.
     let shows = c.store_grown.ensures.shows u.shown.0.view _ u.shown.0.at (here_high u) (lawful t d leaves value s a)
     (grew u c.index-node.result.now (read t d leaves value s a) c.grow-grown.result first c.bit-bit.result c.bit-bit.ensures c.grow-grown.ensures.shows) in
     subst (λ h. IsRaised c.args.nodes.now.items ms leaves (item c.args.leaf c.args.key.now value) c.args.position s (suc h) (subtrie_of c.store_grown.result)) (sym (ap height_of c.in-Node.is))
-    (here_raised i u first last (from t d leaves value s a) (upto t d leaves value s a) (part i u first last (from t d leaves value s a) (upto t d leaves value s a) (c.if-takes_leaf.ensures.0 refl))
+    (here_raised i u first last (from t d leaves value s a) (upto t d leaves value s a) (part i u first last (from t d leaves value s a) (upto t d leaves value s a) (c.if-node_takes_leaf.ensures.0 refl))
     ms c.store_grown.result c.store_grown.ensures.others
     (subst (λ f. RisenShows ms u.shown.0.view c.store_grown.result (grown c.args.position (bit c.args.key.now c.args.position) (Leaf c.args.leaf) first f)) u.shown.0.shows shows))
 
-pub returns-then-takes_leaf-clause-case : goal.returns-then-takes_leaf-clause-case
+pub returns-then-node_takes_leaf-clause-case : goal.returns-then-node_takes_leaf-clause-case
 unfolding bit
-returns-then-takes_leaf-clause-case t c = λ leaves value s a.
-    let d = (goal.at.returns-then-takes_leaf-clause-case t c).After-affected-first in
+returns-then-node_takes_leaf-clause-case t c = λ leaves value s a.
+    let d = (goal.at.returns-then-node_takes_leaf-clause-case t c).After-affected-first in
     let u = here t d leaves value s a in
     let view = u.shown.0.view in
     let m = length view.entries in
@@ -125,17 +125,17 @@ returns-then-takes_leaf-clause-case t c = λ leaves value s a.
     let whole = subst (λ (v : NodeView). IsTrue (is_whole g) ↔ (length v.entries < 32)) same c.grow-grown.ensures.whole in
     let done = does_grown ms c.in-Node.number view o.0 c.in-Node.height m first P (is_whole g) whole o.1 o.2 in
     subst (λ z. AddsByCase c.args.nodes.now.items ms c.args.key.now c.args.position c.args.leaf z up) (sym u.is)
-    (taken_by_case (stands t d leaves value s a) u first c.affected-first.result.1 (from t d leaves value s a) (upto t d leaves value s a) (c.if-takes_leaf.ensures.0 refl) m (omega (arith, counts, ap size u.shown.0.shows))
+    (taken_by_case (stands t d leaves value s a) u first c.affected-first.result.1 (from t d leaves value s a) (upto t d leaves value s a) (c.if-node_takes_leaf.ensures.0 refl) m (omega (arith, counts, ap size u.shown.0.shows))
     ms up (c.store_grown.ensures.up ∙ done.1) done.0)
 
-pub returns-then-takes_leaf-clause-low : goal.returns-then-takes_leaf-clause-low
-returns-then-takes_leaf-clause-low t c = λ z. absurd (let u = node_here (addable_to c.in-Node.is c.requires.place.3) in omega (arith, here_positive u, ap height_of c.in-Node.is, z))
+pub returns-then-node_takes_leaf-clause-low : goal.returns-then-node_takes_leaf-clause-low
+returns-then-node_takes_leaf-clause-low t c = λ z. absurd (let u = node_here (addable_to c.in-Node.is c.requires.place.3) in omega (arith, here_positive u, ap height_of c.in-Node.is, z))
 
-pub returns-then-takes_leaf-clause-heights : goal.returns-then-takes_leaf-clause-heights
+pub returns-then-node_takes_leaf-clause-heights : goal.returns-then-node_takes_leaf-clause-heights
 unfolding bit
-returns-then-takes_leaf-clause-heights t c =
+returns-then-node_takes_leaf-clause-heights t c =
     let (leaves, value, s, a) = c.requires.place in
-    let d = (goal.at.returns-then-takes_leaf-clause-heights t c).After-affected-first in
+    let d = (goal.at.returns-then-node_takes_leaf-clause-heights t c).After-affected-first in
     let u = here t d leaves value s a in
     let g = c.grow-grown.result in
     let p = c.args.position in
@@ -144,10 +144,10 @@ returns-then-takes_leaf-clause-heights t c =
     let shown = grew u c.index-node.result.now same g first c.bit-bit.result c.bit-bit.ensures c.grow-grown.ensures.shows in
     let keeps = subst (λ (v : NodeView). IsTrue (keeps_node g) ↔ ((is_whole g ≡ false) × AtRootFork (λ q zero one. p < q) (piece v))) same c.grow-grown.ensures.same in
     c.store_grown.ensures.heights u.shown.0.view _ u.shown.0.at shown
-    (grow_steady u.shown.0.view (lawful t d leaves value s a) p (bit c.args.key.now p) (Leaf c.args.leaf) first c.affected-first.result.1 (in_range t d leaves value s a (c.if-takes_leaf.ensures.0 refl)) g shown keeps)
+    (grow_steady u.shown.0.view (lawful t d leaves value s a) p (bit c.args.key.now p) (Leaf c.args.leaf) first c.affected-first.result.1 (in_range t d leaves value s a (c.if-node_takes_leaf.ensures.0 refl)) g shown keeps)
 
-pub returns-then-takes_leaf-clause-len : goal.returns-then-takes_leaf-clause-len
-returns-then-takes_leaf-clause-len t c =
+pub returns-then-node_takes_leaf-clause-len : goal.returns-then-node_takes_leaf-clause-len
+returns-then-node_takes_leaf-clause-len t c =
     let u = node_here (addable_to c.in-Node.is c.requires.place.3) in omega (arith, here_positive u, ap height_of c.in-Node.is, c.store_grown.ensures.len)
 
 -- ---- or the search goes on below it
@@ -185,7 +185,7 @@ lifts t c leaves value s a low is_low =
     let upto = here_upto u v c.index-node.ensures at first last leads c.affected-first.ensures.upto in
     let is = here_entry u v c.index-node.ensures at c.entry-child.result c.count.ensures.lawful leads c.entry-child.ensures.entry in
     let up = c.raise_newcomer-risen.ensures.raised leaves value _ (child_addable i u c.entry-child.result is) in
-    let few = (few_of first last c.in-Node.height c.takes_leaf.result c.takes_leaf.ensures c.if-takes_leaf.false).0 in (
+    let few = (few_of first last c.in-Node.height c.node_takes_leaf.result c.node_takes_leaf.ensures c.if-node_takes_leaf.false).0 in (
       u.fixed,
       u.body,
       u.is,
@@ -223,23 +223,23 @@ returns-in-Leaf-clause-raised t c = λ leaves value s a.
     subst (λ h. IsRaised nodes nodes leaves x c.args.position s (suc h) (subtrie_of c.fork_entries.result)) (sym (ap height_of c.in-Leaf.is))
     (subst (IsRaised nodes nodes leaves x c.args.position s 1) (sym subtrie_is) r)
 
-pub returns-else-takes_leaf-clause-raised : goal.returns-else-takes_leaf-clause-raised
-returns-else-takes_leaf-clause-raised t c = λ leaves value s a.
+pub returns-else-node_takes_leaf-clause-raised : goal.returns-else-node_takes_leaf-clause-raised
+returns-else-node_takes_leaf-clause-raised t c = λ leaves value s a.
     let x = item c.args.leaf c.args.key.now value in
-    let (y, b, is, l) = lifts t (goal.at.returns-else-takes_leaf-clause-raised t c).After-raise_newcomer-risen leaves value s a c.height.result c.height.ensures in
+    let (y, b, is, l) = lifts t (goal.at.returns-else-node_takes_leaf-clause-raised t c).After-raise_newcomer-risen leaves value s a c.height.result c.height.ensures in
     let r = c.lift_risen.ensures.raised c.args.nodes.now.items leaves x c.args.position y b l in
     subst (λ h. IsRaised c.args.nodes.now.items c.lift_risen.new.nodes.items leaves x c.args.position s (suc h) (subtrie_of c.lift_risen.result)) (sym (ap height_of c.in-Node.is))
     (subst (λ z. IsRaised c.args.nodes.now.items c.lift_risen.new.nodes.items leaves x c.args.position z (suc c.in-Node.height) (subtrie_of c.lift_risen.result)) (sym is) r)
 
-pub returns-else-takes_leaf-clause-heights : goal.returns-else-takes_leaf-clause-heights
-returns-else-takes_leaf-clause-heights t c =
+pub returns-else-node_takes_leaf-clause-heights : goal.returns-else-node_takes_leaf-clause-heights
+returns-else-node_takes_leaf-clause-heights t c =
     let (leaves, value, s, a) = c.requires.place in
-    let (y, b, is, l) = lifts t (goal.at.returns-else-takes_leaf-clause-heights t c).After-raise_newcomer-risen leaves value s a c.height.result c.height.ensures in
+    let (y, b, is, l) = lifts t (goal.at.returns-else-node_takes_leaf-clause-heights t c).After-raise_newcomer-risen leaves value s a c.height.result c.height.ensures in
     heights_over c.args.nodes.now.items c.raise_newcomer-risen.new.nodes.items c.lift_risen.new.nodes.items c.raise_newcomer-risen.ensures.heights c.lift_risen.ensures.heights
     c.in-Node.number l.shown.0.view l.shown.0.at (old_at l) c.lift_risen.ensures.others
 
-pub returns-else-takes_leaf-clause-len : goal.returns-else-takes_leaf-clause-len
-returns-else-takes_leaf-clause-len t c =
+pub returns-else-node_takes_leaf-clause-len : goal.returns-else-node_takes_leaf-clause-len
+returns-else-node_takes_leaf-clause-len t c =
     let u = node_here (addable_to c.in-Node.is c.requires.place.3) in
     let is = here_entry u c.index-node.result.now c.index-node.ensures c.search-at.result c.entry-child.result c.count.ensures.lawful c.search-at.ensures.leads c.entry-child.ensures.entry in
     omega (arith, child_low u c.entry-child.result is, ap height_of c.in-Node.is, c.raise_newcomer-risen.ensures.len, c.lift_risen.ensures.len)
@@ -259,11 +259,11 @@ returns-in-Leaf-clause-case t c = λ leaves value s a.
 pub returns-in-Leaf-clause-low : goal.returns-in-Leaf-clause-low
 returns-in-Leaf-clause-low t c = λ z. (refl, c.bit.result, c.fork_entries.ensures)
 
-pub returns-else-takes_leaf-clause-low : goal.returns-else-takes_leaf-clause-low
-returns-else-takes_leaf-clause-low t c = λ z. absurd (let u = node_here (addable_to c.in-Node.is c.requires.place.3) in omega (arith, here_positive u, ap height_of c.in-Node.is, z))
+pub returns-else-node_takes_leaf-clause-low : goal.returns-else-node_takes_leaf-clause-low
+returns-else-node_takes_leaf-clause-low t c = λ z. absurd (let u = node_here (addable_to c.in-Node.is c.requires.place.3) in omega (arith, here_positive u, ap height_of c.in-Node.is, z))
 
-pub returns-else-takes_leaf-clause-case : goal.returns-else-takes_leaf-clause-case
-returns-else-takes_leaf-clause-case t c = λ leaves value s a.
+pub returns-else-node_takes_leaf-clause-case : goal.returns-else-node_takes_leaf-clause-case
+returns-else-node_takes_leaf-clause-case t c = λ leaves value s a.
     let i = addable_to c.in-Node.is a in
     let u = node_here i in
     let v = c.index-node.result.now in
@@ -282,7 +282,7 @@ returns-else-takes_leaf-clause-case t c = λ leaves value s a.
     let from = here_from u v c.index-node.ensures at first leads c.affected-first.ensures.from in
     let upto = here_upto u v c.index-node.ensures at first last leads c.affected-first.ensures.upto in
     let is = here_entry u v c.index-node.ensures at e c.count.ensures.lawful leads c.entry-child.ensures.entry in
-    let (few, tall) = few_of first last c.in-Node.height c.takes_leaf.result c.takes_leaf.ensures c.if-takes_leaf.false in
+    let (few, tall) = few_of first last c.in-Node.height c.node_takes_leaf.result c.node_takes_leaf.ensures c.if-node_takes_leaf.false in
     let way = way_below i u first last from upto few in
     let b = child_addable i u e is in
     let rose = is_split c.raise_newcomer-risen.result in

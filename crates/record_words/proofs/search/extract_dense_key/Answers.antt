@@ -25,10 +25,10 @@ module _ (words lanes : List ℕ) (long : length lanes ≡ 32) (each : (i : ℕ)
       (place_lanes_read node lawful all lanes refl long
       (λ i low. each i low ∙ ap (λ w. w / 2 ^ (16 * (i % 4)) % 2 ^ 16) (eight_at words 9 1 (i / 4) (lit≤ tt) (omega (arith, low)) ∙ word (1 + i / 4) (omega (arith, low)))))
 
-pub extract_by_lanes-requires : goal.extract_by_lanes-requires
-extract_by_lanes-requires c = let p = c.split_into_quarters-positions in let given = c.requires.1 in
+pub extract_dense_key_by_lanes-requires : goal.extract_dense_key_by_lanes-requires
+extract_dense_key_by_lanes-requires c = let p = c.split_into_quarters-positions in let given = c.requires.1 in
     (columns_are c.args.words.now p.result p.ensures.whole p.ensures.each _ c.read_numbers.ensures.parts.1 given.0 given.1 (ap front_words given.2 ∙ c.requires.2)).1
 
 pub returns : goal.returns
 returns c = λ node lawful same. let p = c.split_into_quarters-positions in
-    c.extract_by_lanes.ensures ∙ ap (λ cs. dense_of cs (bit_of c.args.key.now)) (columns_are c.args.words.now p.result p.ensures.whole p.ensures.each _ c.read_numbers.ensures.parts.1 node lawful same).0
+    c.extract_dense_key_by_lanes.ensures ∙ ap (λ cs. dense_of cs (bit_of c.args.key.now)) (columns_are c.args.words.now p.result p.ensures.whole p.ensures.each _ c.read_numbers.ensures.parts.1 node lawful same).0

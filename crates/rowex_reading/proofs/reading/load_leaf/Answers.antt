@@ -39,32 +39,32 @@ load_fixed_at-word-requires g c =
 -- and with it all are loaded.
 pub returns-then-length-eq8 : goal.returns-then-length-eq8
 returns-then-length-eq8 g c =
-    let l = c.requires.led in let e = c.load_fixed_at-word.ensures in let w = c.write_word.ensures in
+    let l = c.requires.led in let e = c.load_fixed_at-word.ensures in let w = c.write_key_word.ensures in
     let f = first_read {i = (c.load_fixed_at-value.new.seat, c.load_fixed_at-value.new.gate)} {b = (c.load_fixed_at-length.new.seat, c.load_fixed_at-length.new.gate)} c.requires.reader l c.load_fixed_at-value.ensures c.load_fixed_at-length.ensures in
     let next = reads_one (LoadFixed (a_leaf c.args.leaf.number) 3 c.load_fixed_at-word.result) tt e in
     let is : c.load_fixed_at-length.result ≡ 8 = c.if-length-eq8.true in
     let first = so_far_first _ _ c.args.leaf.number c.load_fixed_at-value.result c.load_fixed_at-length.result f.loaded in
     let long : length c.args.places.now ≡ MAX_BYTES = search rules in
-    let long' : length c.write_word.new.bytes ≡ MAX_BYTES = search rules in
-    let has : HasAll c.args.table.now g.G.Gate.becomes (c.args.seat.now, c.args.gate.now) (c.load_fixed_at-word.new.seat, c.load_fixed_at-word.new.gate) c.args.leaf.number 3 c.load_fixed_at-value.result c.load_fixed_at-length.result c.write_word.new.bytes = record {
+    let long' : length c.write_key_word.new.bytes ≡ MAX_BYTES = search rules in
+    let has : HasAll c.args.table.now g.G.Gate.becomes (c.args.seat.now, c.args.gate.now) (c.load_fixed_at-word.new.seat, c.load_fixed_at-word.new.gate) c.args.leaf.number 3 c.load_fixed_at-value.result c.load_fixed_at-length.result c.write_key_word.new.bytes = record {
       reader = reader_then f.reader next;
       reads = reads_trans f.reads next;
       fits = lit≤ tt;
       short = f.short;
       at_end = omega (arith, is);
       long = long';
-      small = front_small 3 c.write_word.new.bytes long' (lit≤ tt) w.small;
-      so_far = so_far_next _ _ _ _ c.args.leaf.number 2 _ _ _ _ (front 3 c.write_word.new.bytes) first (lit≤ tt) (lit< tt) e.event l.0 l.1 (length-front 3 c.write_word.new.bytes long' (lit≤ tt))
-          (front_written 2 c.load_fixed_at-word.result c.args.places.now c.write_word.new.bytes long long' (lit≤ tt) (lit< tt) w.written w.others)
-          (front_others 2 c.load_fixed_at-word.result c.args.places.now c.write_word.new.bytes long long' (lit≤ tt) (lit< tt) w.written w.others);
+      small = front_small 3 c.write_key_word.new.bytes long' (lit≤ tt) w.small;
+      so_far = so_far_next _ _ _ _ c.args.leaf.number 2 _ _ _ _ (front 3 c.write_key_word.new.bytes) first (lit≤ tt) (lit< tt) e.event l.0 l.1 (length-front 3 c.write_key_word.new.bytes long' (lit≤ tt))
+          (front_written 2 c.load_fixed_at-word.result c.args.places.now c.write_key_word.new.bytes long long' (lit≤ tt) (lit< tt) w.written w.others)
+          (front_others 2 c.load_fixed_at-word.result c.args.places.now c.write_key_word.new.bytes long long' (lit≤ tt) (lit< tt) w.written w.others);
     } in
     record {
       reads = whole_reads has l;
       few = whole_few has l;
       key = whole_key has l;
       places = λ zeros.
-          all_places _ _ _ c.args.leaf.number _ _ _ c.write_word.new.bytes has.reader.1
-          (so_far_next _ _ _ _ c.args.leaf.number 2 _ _ _ c.args.places.now c.write_word.new.bytes
+          all_places _ _ _ c.args.leaf.number _ _ _ c.write_key_word.new.bytes has.reader.1
+          (so_far_next _ _ _ _ c.args.leaf.number 2 _ _ _ c.args.places.now c.write_key_word.new.bytes
           (subst (λ z. AreSoFar c.args.seat.now.known c.load_fixed_at-length.new.seat.known c.args.leaf.number 2 c.load_fixed_at-value.result c.load_fixed_at-length.result z) (sym zeros) first) (lit≤ tt) (lit< tt) e.event l.0 l.1 long' w.written w.others) has.at_end w.small l.0 l.1;
       leaf = whole_read has;
     }
@@ -100,8 +100,8 @@ load_fixed_at-word-requires-in-loop-index g c = let i = c.loop-index.invariant i
 
 pub loop-index-preserved : goal.loop-index-preserved
 loop-index-preserved g c =
-    let l = c.requires.led in let i = c.loop-index.invariant in let e = c.load_fixed_at-word-in-loop-index.ensures in let w = c.write_word-in-loop-index.ensures in
-    let n = c.loop-index.index in let word = c.load_fixed_at-word-in-loop-index.result in let old = c.loop-index.places in let new = c.write_word-in-loop-index.new.bytes in
+    let l = c.requires.led in let i = c.loop-index.invariant in let e = c.load_fixed_at-word-in-loop-index.ensures in let w = c.write_key_word-in-loop-index.ensures in
+    let n = c.loop-index.index in let word = c.load_fixed_at-word-in-loop-index.result in let old = c.loop-index.places in let new = c.write_key_word-in-loop-index.new.bytes in
     let one = reads_one (LoadFixed (a_leaf c.args.leaf.number) (n + 1) word) tt e in
     let from = c.loop-index.auto.index in
     let low : n < LEAF_FIELDS = omega (arith, i.fits, c.loop-index-test.true) in

@@ -24,18 +24,18 @@ tried_low g c = rw c.loop-tried.invariant.number (turned_low _ c.args.begin c.lo
 pub returns-in-Some-clause-tries : goal.returns-in-Some-clause-tries
 returns-in-Some-clause-tries g c =
     behind_claims _ _ c.args.kind _ c.loop-tried.tried c.loop-tried.number _ _ _ _ c.requires.low (omega (arith, c.min-count.ensures, c.requires.few, c.loop-tried-test.true)) c.loop-tried.invariant.number c.loop-tried.invariant.none _ c.args.most
-    (rw c.span_at-span.ensures.number at c.in-Some.ensures.tries)
+    (rw c.span_from-span.ensures.number at c.in-Some.ensures.tries)
 
 pub loop-tried-preserved : goal.loop-tried-preserved
 loop-tried-preserved g c =
     let all : c.count-all.result ≡ count_of c.args.kind c.args.table.now.layout = rw c.layout-layout.ensures at c.count-all.ensures in
-    let upto : c.loop-tried.number + c.span_at-span.result.count ≤ count_of c.args.kind c.args.table.now.layout = rw c.layout-layout.ensures at c.span_at-span.ensures.count.1 in
+    let upto : c.loop-tried.number + c.span_from-span.result.count ≤ count_of c.args.kind c.args.table.now.layout = rw c.layout-layout.ensures at c.span_from-span.ensures.count.1 in
     let low : c.loop-tried.tried < count_of c.args.kind c.args.table.now.layout = omega (arith, c.requires.few, c.loop-tried-test.true) in
     let fits : c.loop-tried.tried + c.min-count.result ≤ count_of c.args.kind c.args.table.now.layout = omega (arith, c.min-count.ensures, c.requires.few, c.loop-tried-test.true) in
     let few : c.loop-tried.number + c.min-count.result ≤ count_of c.args.kind c.args.table.now.layout = omega (arith, upto, c.min-count.ensures) in
     record {
       own = c.in_default.ensures.own;
-      none = behind_span _ _ c.args.kind _ c.loop-tried.tried c.loop-tried.number _ _ _ _ c.requires.low fits c.loop-tried.invariant.number c.loop-tried.invariant.none (rw c.span_at-span.ensures.number at c.in_default.ensures.tries);
+      none = behind_span _ _ c.args.kind _ c.loop-tried.tried c.loop-tried.number _ _ _ _ c.requires.low fits c.loop-tried.invariant.number c.loop-tried.invariant.none (rw c.span_from-span.ensures.number at c.in_default.ensures.tries);
       number = rw all at c.number_or_zero-number-in-loop-tried.ensures.begin ∙
           (ap (λ z. begin_of (count_of c.args.kind c.args.table.now.layout) (z + c.min-count.result)) c.loop-tried.invariant.number ∙
           turned_over (count_of c.args.kind c.args.table.now.layout) c.args.begin c.loop-tried.tried c.min-count.result c.requires.low low fits

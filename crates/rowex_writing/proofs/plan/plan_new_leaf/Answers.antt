@@ -4,4 +4,4 @@ use Rattle.rowex_writing.proofs.plan.plan_new_leaf.Goals as goal
 
 pub returns-then-way-level-le1 : goal.returns-then-way-level-le1
 returns-then-way-level-le1 c = λ first upto.
-    new_leaf_at c.args.way.now c.args.position c.level_below-level.result first upto c.plan_in_lowest_node.result c.level_below-level.ensures (c.plan_in_lowest_node.ensures first upto)
+    new_leaf_at c.args.way.now c.args.position c.last_level_before-level.result first upto c.plan_in_lowest_node.result c.last_level_before-level.ensures (c.plan_in_lowest_node.ensures first upto)

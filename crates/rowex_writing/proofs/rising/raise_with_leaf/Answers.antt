@@ -10,12 +10,12 @@ use Rattle.rowex_writing.proofs.rising.raise_with_leaf.Goals as goal
 pub offset_bounds-way-top : goal.offset_bounds-way-top
 offset_bounds-way-top g c = let h = slice_get_within c.args.job.now.way.now (c.args.job.now.span.len - 1) c.requires.growing.step c.requires.growing.at in search (rules, h)
 
-pub raise_lowest_node-requires-clause-range : goal.raise_lowest_node-requires-clause-range
-raise_lowest_node-requires-clause-range g c =
+pub raise_lowest_node_with_leaf-requires-clause-range : goal.raise_lowest_node_with_leaf-requires-clause-range
+raise_lowest_node_with_leaf-requires-clause-range g c =
     subst (λ n. n < c.args.table.now.layout.nodes) (sym (number_is c.requires.growing)) c.requires.growing.low
 
-pub raise_lowest_node-requires-clause-lowest : goal.raise_lowest_node-requires-clause-lowest
-raise_lowest_node-requires-clause-lowest g c = low_at c.requires.growing
+pub raise_lowest_node_with_leaf-requires-clause-lowest : goal.raise_lowest_node_with_leaf-requires-clause-lowest
+raise_lowest_node_with_leaf-requires-clause-lowest g c = low_at c.requires.growing
 
 pub returns-in_err-risen-clause-makes : goal.returns-in_err-risen-clause-makes
 returns-in_err-risen-clause-makes g c = rw c.from_residual.ensures (makes_failed (makes_within c.in_err-risen.ensures.makes (omega arith) (omega (arith, c.requires.within))))

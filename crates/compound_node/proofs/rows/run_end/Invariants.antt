@@ -1,7 +1,0 @@
--- The rows since the found one agree with it.
-use Rattle.std.proofs.Common.{◌≡◌, ℕ, ◌<◌, get_or, true}
-use Rattle.partial_keys.specs.Runs.{agree_in}
-use Rattle.compound_node.proofs.rows.run_end.Given as goal
-
-abbrev pub invariant-loop-i : goal.invariant-loop-i
-invariant-loop-i l = (k : ℕ) → l.found < k → k < l.i → agree_in l.columns (get_or l.rows k 0) (get_or l.rows l.found 0) ≡ true

@@ -1,6 +1,0 @@
--- The laws are lemmas on the weave.
-use Rattle.finite_map.proofs.Weaving.{weave-legal, weave-legal_two}
-use Rattle.plain_index.proofs.laws.woven.Goals as goal
-
-pub returns : goal.returns
-returns c = record { any = weave-legal; two = weave-legal_two }

@@ -1,0 +1,5 @@
+use Rattle.rowex_core.proofs.Promises.{parting}
+use Rattle.rowex_core.proofs.laws.keys_part_at_fork_between_entries.Goals as goal
+
+pub returns : goal.returns
+returns c = parting
