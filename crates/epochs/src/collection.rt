@@ -163,9 +163,8 @@ fn visit_node_records<G: Gate>(
 {
     let mut tally = NO_VISITS;
     for number in 0..table.layout().nodes {
-        let rec = Rec::Node(number);
-        let start = table.start_of(rec);
-        let seen = visit_record(table, seat, gate, RecordAt { rec, start }, bound);
+        let node = table.locate(Rec::Node(number));
+        let seen = visit_record(table, seat, gate, node, bound);
         tally = count_visit(tally, seen);
     }
     tally

@@ -228,7 +228,7 @@ fn keep_used_positions(positions: &mut [u16; 31], count: usize, used: u32) -> us
     found
 }
 
-/// The highest index i at which row `sparse[i]` complies with the dense key: it has no bit that `dense` lacks. Row 0 is 0, so there is one.
+/// The highest index i at which row `sparse[i]` complies with the dense key: it has no bit that `dense` lacks. The first row is 0, so there is one.
 pub fn search_plain(sparse: &[u32; 32], dense: u32) -> u8
     requires { slice_index sparse.now 0 ≡ 0 }
     ensures { IsFound sparse.now dense result }

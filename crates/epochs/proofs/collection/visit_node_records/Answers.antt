@@ -9,5 +9,5 @@ pub loop-number-preserved : goal.loop-number-preserved
 loop-number-preserved g c = record {
   same = search rules;
   few = omega (arith, c.count_visit-tally.ensures.given, one_most (is_given c.visit_record-seen.result));
-  steps = visits_more _ _ _ a_node _ _ _ _ _ _ _ c.loop-number.invariant.steps c.visit_record-seen.ensures.steps c.count_visit-tally.ensures.given;
+  steps = visits_more _ _ _ a_node _ _ _ _ _ _ _ c.loop-number.invariant.steps (rw c.locate-node.ensures.rec at c.visit_record-seen.ensures.steps) c.count_visit-tally.ensures.given;
 }
