@@ -2,6 +2,8 @@
 #![tactic(auto)]
 
 #[cfg(test)]
+mod layouts;
+#[cfg(test)]
 mod maps;
 #[cfg(test)]
 mod merges;
