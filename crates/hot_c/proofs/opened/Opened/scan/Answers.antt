@@ -1,5 +1,5 @@
 -- The scan of the index fills the list.
-use Rattle.std.proofs.Common.{⊎_elim}
+use Rattle.std.proofs.Common.{⊎_elim, refl}
 use Rattle.hot_c.specs.declared.pairs.Order.TheVariants.{Upwards, Downwards, LastUpwards}
 use Rattle.hot_c.proofs.Listed.{filled_as, without_part}
 use Rattle.hot_c.proofs.opened.Opened.scan.Goals as goal
