@@ -56,7 +56,16 @@ fn run_example<R: Threads + Wait + AllocGlobal + Print + Sync>(rt: &R) -> io::Re
     // Once they have met, each has seen what both wrote; the first insert of a key stays.
     let (mut first, second) = first.meet(second);
     let counts = [first.count(), second.count()];
-    println!(rt; "{} keys in all", total(&counts))?;
+    print_reads(rt, &mut first, total(&counts))
+}
+
+/// Prints `keys`, how many the index has, and what a scan and further reads find. An error as of `run_example`.
+fn print_reads<R: AllocGlobal + Print>(
+    rt: &R,
+    first: &mut Handle<&Index>,
+    keys: u64,
+) -> io::Result<()> {
+    println!(rt; "{keys} keys in all")?;
     let (from, upto) = (key("b")?, key("z")?);
     let scan = first.scan(rt.alloc(), &from, &upto, 10)?;
     println!(rt;
@@ -64,7 +73,7 @@ fn run_example<R: Threads + Wait + AllocGlobal + Print + Sync>(rt: &R) -> io::Re
         scan.pairs.len(),
         scan.more
     )?;
-    print_further_reads(rt, &mut first)
+    print_further_reads(rt, first)
 }
 
 /// Looks two words up by one call, lists the first two keys by a cursor, and prints what both found. An error as of `run_example`.
