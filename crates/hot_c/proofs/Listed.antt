@@ -4,6 +4,8 @@ use Rattle.std.proofs.Common.{◌≡◌, ℕ, ◌<◌, ◌≤◌, ◌^◌, List,
 use Rattle.std.proofs.lemmas.List.{length-reverse, reverse-reverse}
 use Rattle.std.specs.declared.alloc.AllocError.{AllocError}
 use Rattle.finite_map.specs.declared.Scan.{Scan}
+use Rattle.finite_map.specs.Reverse.{IsLawfulReverseScan}
+use Rattle.finite_map.specs.Scans.{IsLawfulScan}
 use Rattle.record_words.specs.declared.layout.Layout.{Layout}
 use Rattle.version_laws.specs.Scan.{Range}
 use Rattle.version_laws.specs.Directions.{ScanLaw}
@@ -23,7 +25,7 @@ use Rattle.hot_c.specs.declared.opened.Opened.{Opened}
 use Rattle.hot_c.specs.declared.pairs.Order.{Order}
 use Rattle.hot_c.specs.declared.pairs.Order.TheVariants.{Upwards, Downwards, LastUpwards}
 use Rattle.hot_c.specs.declared.status.TheConstants.{DONE, NO_MEMORY}
-use Rattle.hot_c.proofs.Parted.{cut_falling, cut_rising}
+use Rattle.hot_c.proofs.Parted.{MayBeCut, cut_falling, cut_rising}
 
 none_is_some : (s : Opened) → None ≡ Some s → ⊥
 none_is_some s e = cc
@@ -83,9 +85,9 @@ module _ (from upto k l : List ℕ) (old new : Option Opened) (limit : ℕ) (s u
     after = u;
     was = was;
     is = is;
+    fit = (first.1, last.1);
     index = index;
     keeps = keeps;
-    fit = (first.1, last.1);
     count_is = many;
     few = subst (λ n. n ≤ limit) (sym many) (few_filled order s.handle.index.layout s.handle.pass u.handle.pass (range_from k l limit) u.list is_more made small);
     made = subst (λ (x : List ℕ). IsFilledIn order s.handle.index.layout s.handle.pass u.handle.pass (range_from x upto limit) u.list is_more) first.0
@@ -164,32 +166,20 @@ module _ {Room : Type 0} {IsWritten : List (List ℕ × ℕ) → Bool → Room �
   }
 
 -- the first pairs of a list are those of a scan that was cut after them
-rising_by_parts : (layout : Layout) (k j : PassView) (range : Range) (pairs : List (List ℕ × ℕ)) (is_more : Bool) → length pairs < 2 ^ 63 → IsListed layout k j range pairs is_more
-    → IsListedByParts IsListed layout k j range pairs is_more
-rising_by_parts layout k j range pairs is_more small h = record {
+cut_in_parts : (IsLawful : ScanLaw) → MayBeCut IsLawful → (layout : Layout) (k j : PassView) (range : Range) (pairs : List (List ℕ × ℕ)) (is_more : Bool) → length pairs < 2 ^ 63
+    → IsListedBy IsLawful layout k j range pairs is_more → IsListedByParts (IsListedBy IsLawful) layout k j range pairs is_more
+cut_in_parts IsLawful cut layout k j range pairs is_more small h = record {
   whole = h;
   parts = λ n few. record {
     on = h.on;
     notes = h.notes;
-    lawful = λ scan is more. cut_rising (scan_of pairs is_more small) (h.lawful (scan_of pairs is_more small) refl refl) pairs refl n few scan is more;
-    legal = h.legal;
-  };
-}
-
-falling_by_parts : (layout : Layout) (k j : PassView) (range : Range) (pairs : List (List ℕ × ℕ)) (is_more : Bool) → length pairs < 2 ^ 63 → IsReverseListed layout k j range pairs is_more
-    → IsListedByParts IsReverseListed layout k j range pairs is_more
-falling_by_parts layout k j range pairs is_more small h = record {
-  whole = h;
-  parts = λ n few. record {
-    on = h.on;
-    notes = h.notes;
-    lawful = λ scan is more. cut_falling (scan_of pairs is_more small) (h.lawful (scan_of pairs is_more small) refl refl) pairs refl n few scan is more;
+    lawful = λ scan is more. cut j.fresh.front j.front range.from range.upto range.limit (scan_of pairs is_more small) (h.lawful (scan_of pairs is_more small) refl refl) pairs refl n few scan is more;
     legal = h.legal;
   };
 }
 
 pub by_parts : (order : Order) (layout : Layout) (k j : PassView) (range : Range) (pairs : List (List ℕ × ℕ)) (is_more : Bool) → length pairs < 2 ^ 63 → IsFilledIn order layout k j range pairs is_more
     → IsListedByParts (IsFilledIn order) layout k j range pairs is_more
-by_parts Upwards layout k j range pairs is_more small h = rising_by_parts layout k j range pairs is_more small h
-by_parts Downwards layout k j range pairs is_more small h = falling_by_parts layout k j range pairs is_more small h
-by_parts LastUpwards layout k j range pairs is_more small h = falling_by_parts layout k j range pairs is_more small h
+by_parts Upwards layout k j range pairs is_more small h = cut_in_parts IsLawfulScan cut_rising layout k j range pairs is_more small h
+by_parts Downwards layout k j range pairs is_more small h = cut_in_parts IsLawfulReverseScan cut_falling layout k j range pairs is_more small h
+by_parts LastUpwards layout k j range pairs is_more small h = cut_in_parts IsLawfulReverseScan cut_falling layout k j range pairs is_more small h

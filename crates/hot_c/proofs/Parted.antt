@@ -18,6 +18,7 @@ use Rattle.finite_map.specs.declared.Scan.{Scan}
 use Rattle.finite_map.specs.Maps.{Map, key_order}
 use Rattle.finite_map.specs.Reverse.{falling_order, IsLawfulReverseScan}
 use Rattle.finite_map.specs.Scans.{is_within, IsHeldBetween, IsLawfulScan, IsLawfulScanWith, IsNeverRemoved, ScanOrder}
+use Rattle.version_laws.specs.Directions.{ScanLaw}
 
 -- a pair that is read where there is none
 abbrev some : List ℕ × ℕ
@@ -124,10 +125,13 @@ falling_total = record {
   congr = λ x y z same. (nat_list_cmp_total.antisymm z x ∙ (sym (ap ordering_reverse (nat_list_cmp_total.congr y x z same)) ∙ sym (nat_list_cmp_total.antisymm z y)));
 }
 
-pub cut_rising : {before after : List Change} {from upto : List ℕ} {limit : ℕ} (whole : Scan) → IsLawfulScan before after from upto limit whole → (pairs : List (List ℕ × ℕ)) → whole.pairs.items ≡ pairs → (n : ℕ) → n < length pairs
-    → (scan : Scan) → scan.pairs.items ≡ take n pairs → scan.more ≡ true → IsLawfulScan before after from upto n scan
-cut_rising whole law pairs all n few scan is more = cut key_order nat_list_cmp_total (λ key at. key_order key at ≢ Greater) not_above whole law pairs all n few scan is more
+-- a scan that is lawful may be cut after any of its first pairs
+abbrev pub MayBeCut : ScanLaw → Type 0
+MayBeCut IsLawful = (before after : List Change) (from upto : List ℕ) (limit : ℕ) (whole : Scan) → IsLawful before after from upto limit whole → (pairs : List (List ℕ × ℕ)) → whole.pairs.items ≡ pairs
+    → (n : ℕ) → n < length pairs → (scan : Scan) → scan.pairs.items ≡ take n pairs → scan.more ≡ true → IsLawful before after from upto n scan
 
-pub cut_falling : {before after : List Change} {from upto : List ℕ} {limit : ℕ} (whole : Scan) → IsLawfulReverseScan before after from upto limit whole → (pairs : List (List ℕ × ℕ)) → whole.pairs.items ≡ pairs → (n : ℕ) → n < length pairs
-    → (scan : Scan) → scan.pairs.items ≡ take n pairs → scan.more ≡ true → IsLawfulReverseScan before after from upto n scan
-cut_falling whole law pairs all n few scan is more = cut falling_order falling_total (λ key at. key_order key at ≢ Less) (λ one other less no. no less) whole law pairs all n few scan is more
+pub cut_rising : MayBeCut IsLawfulScan
+cut_rising before after from upto limit whole law pairs all n few scan is more = cut key_order nat_list_cmp_total (λ key at. key_order key at ≢ Greater) not_above whole law pairs all n few scan is more
+
+pub cut_falling : MayBeCut IsLawfulReverseScan
+cut_falling before after from upto limit whole law pairs all n few scan is more = cut falling_order falling_total (λ key at. key_order key at ≢ Less) (λ one other less no. no less) whole law pairs all n few scan is more
