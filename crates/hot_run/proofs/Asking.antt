@@ -15,7 +15,7 @@ use Rattle.hot_command_line.specs.declared.ending.Ending.{Ending}
 use Rattle.hot_command_line.specs.declared.ending.Ending.TheVariants.{Usage, Fault}
 use Rattle.hot_scripts.specs.InFiles.{IsParsed, commands_of_files}
 use Rattle.hot_scripts.specs.Streams.{IsReadFault}
-use Rattle.hot_run.specs.Scripts.{LawfulScripts, MayEndScriptsBy}
+use Rattle.script_runs.specs.Scripts.{LawfulScripts, MayEndScriptsBy}
 use Rattle.hot_run.specs.Asked.{AnswersAll, HasFaultAsAsked, MayEndAllBy, MayEndAsAsked}
 
 -- files were named

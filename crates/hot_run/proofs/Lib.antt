@@ -1,7 +1,2 @@
 -- The lemmas of the crate.
-pub mod Alone
-pub mod Answering
 pub mod Asking
-pub mod Joint
-pub mod Numbered
-pub mod Progressing

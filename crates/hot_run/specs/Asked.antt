@@ -9,8 +9,8 @@ use Rattle.hot_command_line.specs.declared.ending.Ending.{Ending}
 use Rattle.hot_command_line.specs.declared.ending.Ending.TheVariants.{Usage, Fault}
 use Rattle.hot_command_line.specs.Files.{AreStarts}
 use Rattle.hot_command_line.specs.Options.{DoParse, IsAsked}
-use Rattle.hot_run.specs.Runs.{IsAnsweredScript, MayEndBy}
-use Rattle.hot_run.specs.Scripts.{LawfulScripts, MayEndScriptsBy}
+use Rattle.script_runs.specs.Runs.{IsAnsweredScript, MayEndBy}
+use Rattle.script_runs.specs.Scripts.{LawfulScripts, MayEndScriptsBy}
 
 -- The text answers the script alone, where no files are named; else the scripts in the files, and the script after them. `bytes` are
 -- those of the file of a name, where they are known.

@@ -1,7 +1,2 @@
 -- The definitions of the crate.
-pub mod Answers
-pub mod Told
-pub mod Progress
-pub mod Runs
-pub mod Scripts
 pub mod Asked

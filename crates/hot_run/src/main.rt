@@ -1,14 +1,9 @@
 //! The program `hot-run`: runs the script on standard input, after those in files, which run at the same time.
 #![tactic(auto)]
 
-mod answer;
 pub mod asked;
-mod callers;
-mod engine;
-mod indexes;
 pub mod one;
 pub mod scripts;
-mod together;
 #[cfg(test)]
 mod waiting;
 

@@ -1,23 +1,16 @@
 //! A run of one script.
 
-ghost use Rattle.std.specs.Prelude.{◌≡◌, ◌≢◌, List, ℕ, IfOk, OnOk, IfErr};
+ghost use Rattle.std.specs.Prelude.{◌≡◌, ◌≢◌, List, ℕ, OnOk, IfErr};
 ghost use Rattle.std.specs.Io.KnownBytes.{Appends};
 ghost use Rattle.record_words.specs.Limits.{IsLeafCount, IsNodeCount};
-ghost use Rattle.seat_calls.specs.Passes.{Owns, PassView};
-ghost use Rattle.seat_calls.specs.Traces.{untold};
-ghost use Rattle.hot_scripts.specs.Parses.{script_commands};
 ghost use Rattle.hot_scripts.specs.Streams.{TakesAll};
-ghost use Rattle.hot_run.specs.Progress.{HasRunCommands};
-ghost use Rattle.hot_run.specs.Runs.{AreAnswered, IsAnsweredScript, MayEndBy};
+ghost use Rattle.script_runs.specs.Runs.{IsAnsweredScript, MayEndBy};
 
-use crate::callers::Alone;
-use crate::engine::run_script;
-use crate::indexes::{Records, create_index_for_script};
-use hot_index::{Handle, Index, NoGate, Pass};
 use hot_scripts::fault::RunFault;
 use hot_scripts::script::Script;
 use hot_scripts::streams::{read_script, write_answers};
-use std::alloc::{AllocError, Global};
+use script_runs::{Records, run_on_new_index};
+use std::alloc::Global;
 use std::io::{Read, Write};
 
 /// Runs the script that `reader` has, and writes its answers to `writer`. The index is new, with one pass, `nodes` node records and
@@ -50,27 +43,4 @@ pub fn run_one<R: Read, W: Write>(
     let script = Script::parse(bytes)?;
     let text = run_on_new_index(alloc, Records { nodes, leaves }, &script)?;
     write_answers(writer, &text)
-}
-
-/// The answers to `script` on a new index with `records`; an error if memory is refused.
-fn run_on_new_index(alloc: Global, records: Records, script: &Script) -> Result<Vec<u8>, AllocError>
-    ensures { IfOk result (λ text. AreAnswered records.nodes records.leaves (script_commands script.now) text.items) }
-{
-    let (index, pass) = create_index_for_script(alloc, records, script)?;
-    run_script_alone(alloc, &index, pass, script)
-}
-
-/// The answers to `script` on `index`, whose only pass is `pass`; an error if memory is refused.
-fn run_script_alone(
-    alloc: Global,
-    index: &Index,
-    pass: Pass,
-    script: &Script,
-) -> Result<Vec<u8>, AllocError>
-    requires own { Owns index.now pass }
-    requires alone { index.now.layout.passes ≡ 1 }
-    ensures { IfOk result (λ text. (after : PassView) × HasRunCommands index.now untold (pass, tt) (script_commands script.now) (after, tt) text.items) }
-{
-    let mut handle = Handle::new(index, pass);
-    run_script(&Alone, alloc, &mut handle, script, &mut NoGate)
 }

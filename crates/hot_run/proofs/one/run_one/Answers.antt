@@ -2,7 +2,7 @@
 use Rattle.std.proofs.Common.{arith}
 use Rattle.std.proofs.lemmas.Result.{on_ok_weaker}
 use Rattle.hot_scripts.specs.Parses.{script_commands}
-use Rattle.hot_run.proofs.Answering.{IsAnsweredScript-script}
+use Rattle.script_runs.proofs.Answering.{IsAnsweredScript-script}
 use Rattle.hot_run.proofs.one.run_one.Goals as goal
 
 pub returns-clause-ok : goal.returns-clause-ok

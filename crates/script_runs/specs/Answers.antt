@@ -1,0 +1,52 @@
+-- What the commands of a script are answered, and the lines of that.
+use Rattle.std.specs.Prelude.{ℕ, List, Option, None, Some, codes}
+use Rattle.finite_map.specs.declared.Call.{Call}
+use Rattle.finite_map.specs.declared.Note.{Note}
+use Rattle.finite_map.specs.declared.Scan.{Scan}
+use Rattle.rowex_writing.specs.declared.plan.Full.{Full}
+use Rattle.rowex_writing.specs.declared.plan.Full.TheVariants.{Nodes, Leaves}
+use Rattle.hot_scripts.specs.declared.command.Command.{Command}
+use Rattle.hot_scripts.specs.declared.command.Command.TheVariants.{Call as Asks, Scan as Lists}
+use Rattle.hot_scripts.specs.declared.command.Range.{Range}
+use Rattle.hot_scripts.specs.Meaning.{line, reply_text, scan_lines}
+use Rattle.script_runs.specs.declared.engine.Answer.{Answer}
+use Rattle.script_runs.specs.declared.engine.Answer.TheVariants.{Reply, Full as Refused}
+
+abbrev pub full_text : Full → List ℕ
+full_text Nodes = codes "full nodes"
+full_text Leaves = codes "full leaves"
+
+abbrev pub answer_text : Answer → List ℕ
+answer_text (Reply reply) = reply_text reply
+answer_text (Refused full) = full_text full
+
+-- A command with what it was answered: a call with its note; a call that lacked these records; or a scan, made while its pass's
+-- front grew from the one length to the other.
+pub data Answered : Type 0 where
+  called : Note → Answered
+  refused : Call → Full → Answered
+  listed : Range → Scan → ℕ → ℕ → Answered
+
+-- the command
+abbrev pub answered_command : Answered → Command
+answered_command (called note) = Asks note.call
+answered_command (refused call full) = Asks call
+answered_command (listed range scan before after) = Lists range
+
+-- the lines of the answer
+abbrev pub lines_of_answer : Answered → List ℕ
+lines_of_answer (called note) = line (reply_text note.reply)
+lines_of_answer (refused call full) = line (full_text full)
+lines_of_answer (listed range scan before after) = scan_lines scan.pairs.items scan.more
+
+-- the note of an answered call
+abbrev pub note_of : Answered → Option Note
+note_of (called note) = Some note
+note_of (refused call full) = None
+note_of (listed range scan before after) = None
+
+-- the command was not refused
+abbrev pub IsGranted : Answered → Type 0
+IsGranted (called note) = Unit {0}
+IsGranted (refused call full) = ⊥
+IsGranted (listed range scan before after) = Unit {0}

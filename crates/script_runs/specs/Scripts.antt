@@ -1,0 +1,119 @@
+-- Scripts that run on one index, each with a pass of its own: what they may be answered, and how such a run may end.
+use Rattle.std.specs.Prelude.{◌≡◌, ◌⊎◌, ℕ, ◌+◌, ◌≤◌, ◌++◌, List, [], ◌∷◌, length, map, filter_map, flat_map, take, All, Option, Ok, Err, IsOk, codes}
+use Rattle.finite_map.specs.declared.Change.{Change}
+use Rattle.finite_map.specs.declared.Note.{Note}
+use Rattle.finite_map.specs.Calls.{LegalCalls, place_after}
+use Rattle.finite_map.specs.Fronts.{BeginsWith}
+use Rattle.finite_map.specs.Scans.{IsLawfulScan}
+use Rattle.finite_map.specs.Weaves.{AllLegal}
+use Rattle.rowex_core.specs.declared.event.Event.{Event}
+use Rattle.rowex_table.specs.Seats.{TableView}
+use Rattle.seat_calls.specs.Answers.{MayLack}
+use Rattle.seat_calls.specs.Traces.{untold}
+use Rattle.hot_scripts.specs.declared.command.Command.{Command}
+use Rattle.hot_scripts.specs.declared.fault.RunFault.{RunFault}
+use Rattle.hot_scripts.specs.declared.fault.RunFault.TheVariants.{Memory}
+use Rattle.hot_scripts.specs.Grammar.{commands_of, most_bytes}
+use Rattle.hot_scripts.specs.InFiles.{commands_of_files}
+use Rattle.hot_scripts.specs.Meaning.{line, with_number}
+use Rattle.script_runs.specs.Answers.{Answered, called, refused, listed, answered_command, lines_of_answer, note_of}
+use Rattle.script_runs.specs.Runs.{MayEndBy}
+use Rattle.script_runs.specs.Told.{IsOfSize, WasTold, WasToldAnew}
+
+-- A script that was run: its commands with their answers, in their order, and the changes that its pass had seen at the end.
+pub record Ran : Type 0 where
+  pub answers : List Answered
+  pub front : List Change
+
+abbrev pub commands_in : Ran → List Command
+commands_in ran = map answered_command ran.answers
+
+abbrev pub notes_in : Ran → List Note
+notes_in ran = filter_map note_of ran.answers
+
+abbrev pub text_in : Ran → List ℕ
+text_in ran = flat_map lines_of_answer ran.answers
+
+-- The answers stand in the front in their order, none before the place `low`. A scan is lawful between two prefixes of the front:
+-- the shorter has the changes of all commands before it, and no later command stands before the end of the longer.
+abbrev pub StandFrom : List Change → ℕ → List Answered → Type 0
+StandFrom front low [] = Unit {0}
+StandFrom front low (called note ∷ rest) = (low ≤ note.place) × StandFrom front (place_after note) rest
+StandFrom front low (refused call full ∷ rest) = MayLack call full × StandFrom front low rest
+StandFrom front low (listed range scan before after ∷ rest) =
+    (low ≤ before) × (before ≤ after) × (after ≤ length front)
+    × IsLawfulScan (take before front) (take after front) range.from range.upto range.limit scan
+    × StandFrom front after rest
+
+-- The calls of pass q that the script made are legal in its front, and all its commands stand there from the place `low` on.
+pub record IsLegalRun (q low : ℕ) (ran : Ran) : Type 0 where
+  pub legal : LegalCalls ran.front q (notes_in ran)
+  pub stand : StandFrom ran.front low ran.answers
+
+-- each has the property, with its number, the first that of `first`
+abbrev pub AllFrom : {A : Type 0} → ℕ → (ℕ → A → Type 0) → List A → Type 0
+AllFrom first p [] = Unit {0}
+AllFrom first p (x ∷ xs) = p first x × AllFrom (first + 1) p xs
+
+-- R holds of the items of two lists, place by place, with their number, the first that of `first`
+abbrev pub AllTwoFrom : {A B : Type 0} → ℕ → (ℕ → A → B → Type 0) → List A → List B → Type 0
+AllTwoFrom first R [] [] = Unit {0}
+AllTwoFrom first R (x ∷ xs) (y ∷ ys) = R first x y × AllTwoFrom (first + 1) R xs ys
+AllTwoFrom first R _ _ = ⊥
+
+-- each script's notes with the number of its pass, the first that of `first`
+abbrev pub by_pass : ℕ → List Ran → List (ℕ × List Note)
+by_pass first [] = []
+by_pass first (ran ∷ more) = (first, notes_in ran) ∷ by_pass (first + 1) more
+
+-- the answers to files, each below its heading, the first having the number `first`
+abbrev pub sections : ℕ → List (List ℕ) → List ℕ
+sections first [] = []
+sections first (text ∷ texts) = line (with_number (codes "file ") first) ++ text ++ sections (first + 1) texts
+
+-- The text has the answers to the scripts of files and then those to the last script, all run at the same time but the last one.
+-- Each script has a pass of its own, numbered in this order.
+pub record LawfulAnswers (scripts : List (List Command)) (last : List Command) (text : List ℕ) : Type 0 where
+  pub files_ran : List Ran
+  pub last_ran : Ran
+  -- what all passes had seen when they met, before the last script's first command
+  pub met : List Change
+  pub commands : map commands_in files_ran ≡ scripts
+  pub last_commands : commands_in last_ran ≡ last
+  -- each file's calls are legal in what its own pass had seen
+  pub each : AllFrom 0 (λ q ran. IsLegalRun q 0 ran) files_ran
+  -- the last script had seen all that the files' passes had seen, and its commands stand after that
+  pub begins : All (λ ran. BeginsWith met ran.front) files_ran
+  pub last_begins : BeginsWith last_ran.front met
+  pub last_legal : IsLegalRun (length scripts) (length met) last_ran
+  -- all calls of all scripts are legal in one front, whose changes are all theirs
+  pub shared : AllLegal last_ran.front (by_pass 0 (files_ran ++ last_ran ∷ []))
+  pub makers : All (λ c. c.pass ≤ length scripts) last_ran.front
+  pub text_is : text ≡ sections 1 (map text_in files_ran) ++ line (codes "last") ++ text_in last_ran
+
+-- And these answers were given on one index of so many records: the calls of each file's pass, a new one, went to its gate, step by step, and a
+-- command was refused only where that call found no record of the kind free (`IsCommandTold`). Each gate is given as it was and as it is then.
+pub record AreAllAnswered {G : Type 0} (nodes leaves : ℕ) (becomes : G → Event → G → Type 0) (gates : List (G × G))
+    (scripts : List (List Command)) (last : List Command) (text : List ℕ) : Type 0 where
+  pub lawful : LawfulAnswers scripts last text
+  pub index : TableView
+  pub sized : IsOfSize (length scripts + 1) nodes leaves index
+  pub files_told : AllTwoFrom 0 (λ q gate ran. WasToldAnew index becomes q gate ran.answers ran.front) gates lawful.files_ran
+  pub last_told : WasTold index untold (length scripts) (tt, tt) lawful.met lawful.last_ran.answers lawful.last_ran.front
+
+-- Several scripts, after Herlihy and Wing: these files and the last script have commands, and the text answers them lawfully, on an
+-- index of so many records. Each file has a gate, which was told the steps of its calls: it is given as it was and as it is then.
+pub record LawfulScripts {G : Type 0} (nodes leaves : ℕ) (becomes : G → Event → G → Type 0) (gates : List (G × G))
+    (files : List (List ℕ)) (script text : List ℕ) : Type 0 where
+  pub scripts : List (List Command)
+  pub last : List Command
+  pub files_are : commands_of_files 1 files ≡ Ok scripts
+  pub short : length script ≤ most_bytes
+  pub last_is : commands_of script ≡ Ok last
+  pub answers : AreAllAnswered nodes leaves becomes gates scripts last text
+
+-- A run of several scripts may end by want of memory; by the fault of the first file that has one; or, where none has, as a run of
+-- the last script alone may end.
+abbrev pub MayEndScriptsBy : List (List ℕ) → Option (List ℕ) → Option (List ℕ) → RunFault → Type 0
+MayEndScriptsBy files old new Memory = Unit {0}
+MayEndScriptsBy files old new fault = (commands_of_files 1 files ≡ Err fault) ⊎ (IsOk (commands_of_files 1 files) × MayEndBy old new fault)

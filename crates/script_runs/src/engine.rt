@@ -1,0 +1,114 @@
+//! How the commands of a script are run and answered, through a handle of an index.
+
+ghost use Rattle.std.specs.Prelude.{◌≡◌, ℕ, IfOk, OnOk};
+ghost use Rattle.hot_index.specs.Handles.{Stays};
+ghost use Rattle.hot_scripts.specs.Parses.{script_commands};
+ghost use Rattle.seat_calls.specs.Traces.{HasTold};
+ghost use Rattle.script_runs.specs.Progress.{HasAnsweredCommand, HasRunCommands, answered_as};
+ghost use Rattle.script_runs.specs.Told.{IsCommandTold};
+
+use crate::answer::push_answer;
+use crate::callers::Caller;
+use finite_map::{Call, Reply};
+use hot_index::{Full, Gate, Handle, Index, Pairs};
+use hot_scripts::answer::push_scan;
+use hot_scripts::command::{Command, Range};
+use hot_scripts::script::Script;
+use std::alloc::{AllocError, Global};
+
+/// The answer to a call.
+#[derive(Clone, Copy)]
+pub enum Answer {
+    /// The map's reply.
+    Reply(Reply),
+    /// No record of this kind was free for the call, which changed nothing.
+    Full(Full),
+}
+
+/// Makes `call` through `handle` by `caller`, which fits its index, and returns the answer. `gate` is told each of its steps.
+fn make_call<C: Caller, G: Gate>(
+    caller: &C,
+    handle: &mut Handle<&Index>,
+    call: &Call,
+    gate: &mut G,
+) -> Answer
+    requires { C.fits caller.now handle.old.index }
+    ensures told { Stays (λ index k j. (place : ℕ) × IsCommandTold index.layout k (answered_as call.now result place) j) handle.old handle.new }
+    ensures steps { HasTold handle.old.index G.becomes (handle.old.pass, gate.old) (handle.new.pass, gate.new) }
+{
+    match caller.call(handle, call, gate) {
+        Ok(reply) => Answer::Reply(reply),
+        Err(full) => Answer::Full(full),
+    }
+}
+
+/// Makes a scan of `range` into `pairs`, whose earlier pairs are dropped. `gate` is told each of its steps. The lines of its answer go to
+/// the end of `text`. If memory is refused, an error, and perhaps a part of these.
+fn run_scan<G: Gate>(
+    handle: &mut Handle<&Index>,
+    range: &Range,
+    gate: &mut G,
+    pairs: &mut Pairs,
+    text: &mut Vec<u8>,
+) -> Result<(), AllocError>
+    ensures index { handle.new.index ≡ handle.old.index }
+    ensures answered { OnOk result (HasAnsweredCommand handle.old.index G.becomes (handle.old.pass, gate.old) (Command.Scan range.now)
+        (handle.new.pass, gate.new) text.old.items text.new.items) }
+{
+    let more = handle.index.scan_into_with(
+        &mut handle.pass,
+        &range.from,
+        &range.upto,
+        range.limit,
+        pairs,
+        gate,
+    )?;
+    push_scan(text, pairs, more)
+}
+
+/// Makes `command` through `handle`, a call by `caller`, which fits its index. `gate` is told each of its steps. The lines of the answer go
+/// to the end of `text`; a scan replaces `pairs`. If memory is refused, an error, and perhaps a part of these.
+fn run_command<C: Caller, G: Gate>(
+    caller: &C,
+    handle: &mut Handle<&Index>,
+    command: &Command,
+    gate: &mut G,
+    pairs: &mut Pairs,
+    text: &mut Vec<u8>,
+) -> Result<(), AllocError>
+    requires { C.fits caller.now handle.old.index }
+    ensures index { handle.new.index ≡ handle.old.index }
+    ensures answered { OnOk result (HasAnsweredCommand handle.old.index G.becomes (handle.old.pass, gate.old) command.now
+        (handle.new.pass, gate.new) text.old.items text.new.items) }
+{
+    match command {
+        Command::Call(call) => {
+            let answer = make_call(caller, handle, call, gate);
+            push_answer(text, answer)
+        }
+        Command::Scan(range) => run_scan(handle, range, gate, pairs, text),
+    }
+}
+
+/// Makes the commands of `script` through `handle`, one after another, calls by `caller`, which fits its index. `gate` is told each of
+/// their steps. Returns the lines of their answers. If memory is refused, an error; the commands so far were made.
+pub fn run_script<C: Caller, G: Gate>(
+    caller: &C,
+    alloc: Global,
+    handle: &mut Handle<&Index>,
+    script: &Script,
+    gate: &mut G,
+) -> Result<Vec<u8>, AllocError>
+    requires { C.fits caller.now handle.old.index }
+    ensures index { handle.new.index ≡ handle.old.index }
+    ensures ran { IfOk result (λ text. HasRunCommands handle.old.index G.becomes (handle.old.pass, gate.old) (script_commands script.now)
+        (handle.new.pass, gate.new) text.items) }
+{
+    let mut text = Vec::new(alloc);
+    let mut pairs = Pairs::new(alloc);
+    let mut commands = script.commands();
+    while let Some(command) = commands.next_command() {
+        run_command(caller, handle, &command, gate, &mut pairs, &mut text)?;
+    }
+    Ok(text)
+}

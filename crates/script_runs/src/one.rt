@@ -1,0 +1,42 @@
+//! A script that runs alone, on a new index of one pass.
+
+ghost use Rattle.std.specs.Prelude.{◌≡◌, IfOk};
+ghost use Rattle.seat_calls.specs.Passes.{Owns, PassView};
+ghost use Rattle.seat_calls.specs.Traces.{untold};
+ghost use Rattle.hot_scripts.specs.Parses.{script_commands};
+ghost use Rattle.script_runs.specs.Progress.{HasRunCommands};
+ghost use Rattle.script_runs.specs.Runs.{AreAnswered};
+
+use crate::callers::Alone;
+use crate::engine::run_script;
+use crate::indexes::{Records, create_index_for_script};
+use hot_index::{Handle, Index, NoGate, Pass};
+use hot_scripts::script::Script;
+use std::alloc::{AllocError, Global};
+
+/// The answers to `script` on a new index with `records`; an error if memory is refused.
+pub fn run_on_new_index(
+    alloc: Global,
+    records: Records,
+    script: &Script,
+) -> Result<Vec<u8>, AllocError>
+    ensures { IfOk result (λ text. AreAnswered records.nodes records.leaves (script_commands script.now) text.items) }
+{
+    let (index, pass) = create_index_for_script(alloc, records, script)?;
+    run_script_alone(alloc, &index, pass, script)
+}
+
+/// The answers to `script` on `index`, whose only pass is `pass`; an error if memory is refused.
+fn run_script_alone(
+    alloc: Global,
+    index: &Index,
+    pass: Pass,
+    script: &Script,
+) -> Result<Vec<u8>, AllocError>
+    requires own { Owns index.now pass }
+    requires alone { index.now.layout.passes ≡ 1 }
+    ensures { IfOk result (λ text. (after : PassView) × HasRunCommands index.now untold (pass, tt) (script_commands script.now) (after, tt) text.items) }
+{
+    let mut handle = Handle::new(index, pass);
+    run_script(&Alone, alloc, &mut handle, script, &mut NoGate)
+}

@@ -1,0 +1,303 @@
+//! Scripts that run at the same time: a thread and a handle for each, and the meetings of their passes.
+
+ghost use Rattle.std.specs.Prelude.{◌≡◌, ◌≤◌, All, IfOk, flat_map, length, map};
+ghost use Rattle.std.specs.List.{AllZip, zip};
+ghost use Rattle.seat_calls.specs.Answers.{HaveMet};
+ghost use Rattle.seat_calls.specs.Passes.{Owns};
+ghost use Rattle.hot_index.specs.Handles.{handle_at};
+ghost use Rattle.hot_scripts.specs.declared.script.TheConstants.{MAX_FILES};
+ghost use Rattle.hot_scripts.specs.Parses.{script_commands};
+ghost use Rattle.script_runs.specs.Progress.{AllThree, AreAt, AreReady, HasAnsweredLast, HasKept, HaveAnswered, IsDone, IsOrderOf, MeetInTurn};
+ghost use Rattle.script_runs.specs.Scripts.{AreAllAnswered};
+
+use crate::answer::make_sections;
+use crate::callers::Waits;
+use crate::engine::run_script;
+use crate::indexes::{Records, create_index_for_files};
+use core::mem::replace_with;
+use hot_index::{Gate, Handle, Index, NoGate, Pass, handles_of};
+use hot_scripts::script::Script;
+use std::alloc::{AllocError, Global};
+use std::snapshot::Snapshot;
+use std::sync::Wait;
+use std::thread::{Promise, PromisedHandle, Scope, Threads, scope, scope_env};
+
+/// A script that has run: its handle, and the answers to its commands.
+#[derive(Drop)]
+pub struct Done<'a> {
+    pub handle: Handle<&'a Index>,
+    pub text: Vec<u8>,
+}
+
+/// What all scripts were answered, and what has become of their gates.
+#[derive(Drop)]
+pub struct Results<G> {
+    /// Texts that follow one another: each script's answers below its heading.
+    pub texts: Vec<Vec<u8>>,
+    /// The gate of each file's script, which was told its steps.
+    pub gates: Vec<G>,
+}
+
+/// A thread that runs a script, and returns it with its gate; an error if memory is refused.
+type Running<'a, G> = PromisedHandle<Result<(Done<'a>, G), AllocError>, Order<'a, G>>;
+
+/// What a thread is to run, for contracts alone.
+#[derive(Drop)]
+struct Order<'a, G> {
+    handle: Snapshot<Handle<&'a Index>>,
+    script: Snapshot<Script>,
+    gate: Snapshot<G>,
+}
+
+impl<'a, G: Gate> Promise<Result<(Done<'a>, G), AllocError>> for Order<'a, G> {
+    ghost use Rattle.std.specs.Prelude.{IfOk};
+    ghost use Rattle.script_runs.specs.Progress.{HasKept};
+
+    ghost kept_by = { λ order result. IfOk result (HasKept G.becomes order) };
+}
+
+/// Makes an index of `records` and runs scripts on it. Those of files, `scripts`, `MAX_FILES` at most, run at the same time, each in a
+/// thread with the gate of its place; `last` runs when they have ended. Returns all answers, and the gates in the order of `scripts`. An
+/// error if memory is refused, or a thread can't be started.
+pub fn run_all_scripts<T: AllocGlobal + Threads + Wait + Sync, G: Gate + Send + Drop>(
+    rt: &T,
+    records: Records,
+    scripts: &[Script],
+    gates: Vec<G>,
+    last: &Script,
+) -> Result<Results<G>, AllocError>
+    requires few { length scripts.now ≤ MAX_FILES }
+    requires gates { length gates.items ≡ length scripts.now }
+    ensures each { IfOk result (λ results. length results.gates.items ≡ length gates.items) }
+    ensures answered { IfOk result (λ results. AreAllAnswered records.nodes records.leaves G.becomes (zip gates.items results.gates.items)
+        (map script_commands scripts.now) (script_commands last.now) (flat_map (λ t. t.items) results.texts.items)) }
+{
+    let (index, passes, pass) = create_index_for_files(rt.alloc(), scripts.len() as u32, records)?;
+    run_by_passes(rt, Handle::new(&index, pass), passes, scripts, gates, last)
+}
+
+/// Runs `scripts`, those of files, at the same time, each by the pass and the gate of its place. Then the pass of `handle` meets these,
+/// runs `last`, and meets them again. Returns what `run_all_scripts` does, with its errors.
+fn run_by_passes<'a, T: AllocGlobal + Threads + Wait + Sync, G: Gate + Send + Drop>(
+    rt: &T,
+    handle: Handle<&'a Index>,
+    passes: Vec<Pass>,
+    scripts: &[Script],
+    gates: Vec<G>,
+    last: &Script,
+) -> Result<Results<G>, AllocError>
+    requires owns { All (Owns handle.index) passes.items }
+    requires ready { AreReady passes.items scripts.now gates.items }
+    requires few { length scripts.now ≤ MAX_FILES }
+    ensures { IfOk result (λ results. HaveAnswered G.becomes (zip (map (handle_at handle.entry.index) passes.items) gates.items)
+        (map script_commands scripts.now) (script_commands last.now) handle.entry results) }
+{
+    let alloc = rt.alloc();
+    let ended = run_files(rt, alloc, handle.index, passes, scripts, gates)?;
+    let (mut ran, gates) = split_gates(alloc, ended)?;
+    let done: &mut [Done] = &mut ran;
+    let handle = meet_all_passes(handle, done);
+    let texts = run_last_script(rt, alloc, handle, done, last)?;
+    Ok(Results { texts, gates })
+}
+
+/// The scripts of `ran` and their gates, each in the order of `ran`; an error if memory is refused.
+fn split_gates<'a, G: Drop>(
+    alloc: Global,
+    ran: Vec<(Done<'a>, G)>,
+) -> Result<(Vec<Done<'a>>, Vec<G>), AllocError>
+    ensures scripts { IfOk result (λ parts. parts.0.items ≡ map (λ r. r.0) ran.entry.items) }
+    ensures gates { IfOk result (λ parts. parts.1.items ≡ map (λ r. r.1) ran.entry.items) }
+{
+    let mut scripts = Vec::new(alloc);
+    let mut gates = Vec::new(alloc);
+    for (script, gate) in ran {
+        scripts.push(script)?;
+        gates.push(gate)?;
+    }
+    Ok((scripts, gates))
+}
+
+/// Runs `last`, the last script, by `handle`, whose pass has met those of `met` and meets them again. Returns the answers of all as texts
+/// that follow one another; an error if memory is refused.
+fn run_last_script<'a, T: Wait>(
+    rt: &T,
+    alloc: Global,
+    handle: Handle<&'a Index>,
+    met: &mut [Done<'a>],
+    last: &Script,
+) -> Result<Vec<Vec<u8>>, AllocError>
+    requires index { AreAt handle.index handle met.old }
+    requires few { length met.old ≤ MAX_FILES }
+    ensures { IfOk result (λ texts. HasAnsweredLast handle.entry met.old (script_commands last.now) (flat_map (λ t. t.items) texts.items)) }
+{
+    // The handle is opened: its pass belongs to its index.
+    let _pass = &handle.pass;
+    let (done, _gate) = run_file(rt, alloc, handle, last, NoGate)?;
+    meet_all_passes(done.handle, met);
+    make_sections(alloc, met, done.text)
+}
+
+/// Runs each of `scripts` in a thread with the pass and the gate of its place, all at the same time, and joins them. Returns each gate
+/// beside its script, in their order. An error if memory is refused, or a thread can't be started.
+fn run_files<'a, T: Threads + Wait + Sync, G: Gate + Send + Drop>(
+    rt: &T,
+    alloc: Global,
+    index: &'a Index,
+    passes: Vec<Pass>,
+    scripts: &[Script],
+    gates: Vec<G>,
+) -> Result<Vec<(Done<'a>, G)>, AllocError>
+    requires owns { All (Owns index.now) passes.items }
+    requires ready { AreReady passes.items scripts.now gates.items }
+    ensures { IfOk result (λ done. AllThree (IsDone G.becomes) (zip (map (handle_at index.now) passes.items) gates.items) (map script_commands scripts.now) done.items) }
+{
+    let handles = handles_of(alloc, index, passes)?;
+    scope(
+        scope_env(),
+        rt,
+        |threads| -> Result<Vec<(Done, G)>, AllocError>
+            requires { AreReady handles.items scripts.now gates.items }
+            ensures { IfOk result (λ done. AllThree (IsDone G.becomes) (zip handles.entry.items gates.items) (map script_commands scripts.entry.now) done.items) }
+        { run_files_in_scope(threads, rt, alloc, handles, scripts, gates) },
+    )
+}
+
+/// Does what `run_files` does, by threads of the scope `threads`.
+fn run_files_in_scope<'a: 's, 's, E, T: Threads + Wait + Sync + 's, G: Gate + Send + Drop + 's>(
+    threads: &Scope<'s, E>,
+    rt: &'s T,
+    alloc: Global,
+    handles: Vec<Handle<&'a Index>>,
+    scripts: &'s [Script],
+    gates: Vec<G>,
+) -> Result<Vec<(Done<'a>, G)>, AllocError>
+    requires { AreReady handles.items scripts.now gates.items }
+    ensures { IfOk result (λ done. AllThree (IsDone G.becomes) (zip handles.entry.items gates.items) (map script_commands scripts.entry.now) done.items) }
+{
+    let running = start_files(threads, rt, alloc, handles, scripts, gates)?;
+    join_files(rt, alloc, running)
+}
+
+/// Starts the thread of each of `scripts`, with the handle and the gate of its place. Returns the threads in their order. An error if
+/// memory is refused, or a thread can't be started; those that were started go on.
+fn start_files<'a: 's, 's, E, T: Threads + Wait + Sync + 's, G: Gate + Send + Drop + 's>(
+    threads: &Scope<'s, E>,
+    rt: &'s T,
+    alloc: Global,
+    handles: Vec<Handle<&'a Index>>,
+    scripts: &'s [Script],
+    gates: Vec<G>,
+) -> Result<Vec<Running<'a, G>>, AllocError>
+    requires { AreReady handles.items scripts.now gates.items }
+    ensures { IfOk result (λ running. AllThree IsOrderOf (zip handles.entry.items gates.items) (map script_commands scripts.entry.now)
+        (map (λ t. t.promise) running.items)) }
+{
+    let mut scripts = scripts.iter();
+    let mut gates = gates.into_iter();
+    let mut running = Vec::new(alloc);
+    for handle in handles {
+        let Some(script) = scripts.next() else {
+            unreachable!();
+        };
+        let Some(gate) = gates.next() else {
+            unreachable!();
+        };
+        running.push(start_file(threads, rt, alloc, handle, script, gate)?)?;
+    }
+    Ok(running)
+}
+
+/// Joins the threads `running`, one after another, and returns what they ran, in their order. An error if memory is refused, here or there.
+fn join_files<'a, T: Threads + Wait, G: Gate + Drop>(
+    rt: &T,
+    alloc: Global,
+    running: Vec<Running<'a, G>>,
+) -> Result<Vec<(Done<'a>, G)>, AllocError>
+    ensures { IfOk result (λ done. AllZip (HasKept G.becomes) (map (λ t. t.promise) running.entry.items) done.items) }
+{
+    let mut done = Vec::new(alloc);
+    for thread in running {
+        done.push(thread.join(rt)?)?;
+    }
+    Ok(done)
+}
+
+/// Starts a thread that runs `script` by `handle`, whose steps `gate` is told, and returns it. An error if it can't be started.
+fn start_file<'a: 's, 's, E, T: Threads + Wait + Sync + 's, G: Gate + Send + Drop + 's>(
+    threads: &Scope<'s, E>,
+    rt: &'s T,
+    alloc: Global,
+    handle: Handle<&'a Index>,
+    script: &'s Script,
+    gate: G,
+) -> Result<Running<'a, G>, AllocError>
+    ensures { IfOk result (λ thread. IsOrderOf (handle.entry, gate) (script_commands script.entry.now) thread.promise) }
+{
+    let order = Order {
+        handle: Snapshot::of(&handle),
+        script: Snapshot::of(script),
+        gate: Snapshot::of(&gate),
+    };
+    let thread = threads.spawn_with(
+        order,
+        move || -> Result<(Done, G), AllocError>
+            ensures { IfOk result (IsDone G.becomes (handle.entry, gate) (script_commands script.entry.now)) }
+        { run_file(rt, alloc, handle, script, gate) },
+    )?;
+    Ok(thread)
+}
+
+/// Runs `script` by `handle`, whose steps `gate` is told, and waits where another pass is in its way. Returns the handle with the answers,
+/// and the gate. An error if memory is refused.
+fn run_file<'a, T: Wait, G: Gate + Drop>(
+    rt: &T,
+    alloc: Global,
+    handle: Handle<&'a Index>,
+    script: &Script,
+    gate: G,
+) -> Result<(Done<'a>, G), AllocError>
+    ensures { IfOk result (IsDone G.becomes (handle.entry, gate) (script_commands script.now)) }
+{
+    let mut handle = handle;
+    let mut gate = gate;
+    match run_script(&Waits { rt }, alloc, &mut handle, script, &mut gate) {
+        Ok(text) => Ok((Done { handle, text }, gate)),
+        Err(refused) => Err(refused),
+    }
+}
+
+/// Lets the pass of `handle` meet that of each script of `done`, in order, as `Handle::meet` does; all are at one index. So each sees what
+/// the handle and those before it had seen. Returns the handle.
+fn meet_all_passes<'a>(handle: Handle<&'a Index>, done: &mut [Done<'a>]) -> Handle<&'a Index>
+    requires { AreAt handle.index handle done.old }
+    ensures index { AreAt handle.entry.index result done.new }
+    ensures met { MeetInTurn handle.entry.index handle.entry.pass done.old result.pass done.new }
+{
+    let mut last = handle;
+    for script in done.iter_mut() {
+        last = meet_script(last, script);
+    }
+    last
+}
+
+/// Lets the pass of `handle` meet that of `done`, a script that has run at the same index. Returns the handle.
+fn meet_script<'a>(handle: Handle<&'a Index>, done: &mut Done<'a>) -> Handle<&'a Index>
+    requires { done.old.handle.index ≡ handle.index }
+    ensures index { (result.index ≡ handle.entry.index) × (done.new.handle.index ≡ handle.entry.index) }
+    ensures met { HaveMet handle.entry.index.layout handle.entry.pass done.old.handle.pass result.pass done.new.handle.pass }
+    ensures text { done.new.text ≡ done.old.text }
+{
+    replace_with(
+        &mut done.handle,
+        handle,
+        |other: Handle<&Index>, last: Handle<&Index>| -> (Handle<&Index>, Handle<&Index>)
+            requires { other.index ≡ last.index }
+            ensures index { (result.0.index ≡ last.entry.index) × (result.1.index ≡ last.entry.index) }
+            ensures met { HaveMet last.entry.index.layout last.entry.pass other.entry.pass result.1.pass result.0.pass }
+        {
+            let (last, other) = last.meet(other);
+            (other, last)
+        },
+    )
+}
