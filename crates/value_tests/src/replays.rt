@@ -401,3 +401,74 @@ fn a_node_grows_and_shrinks(rt: HostRuntime) {
     expect_events(&rt, &mut replay, &REMOVED);
     expect_pairs(&rt, rt.alloc(), &replay, 5, &[(b'a', 9), (b'b', 6)]);
 }
+
+/// Asserts that it is legal that pass 0 makes `node` in node record `number`.
+fn expect_node_made(rt: &impl Abort, replay: &mut Replay, number: u32, node: &Node) {
+    expect_record_made(rt, replay, 0, Rec::Node(number), &pack_node(node));
+}
+
+/// The words of references to nodes 1 and 3 of height 2, and to nodes 2, 3 and 4 of height 1.
+const HIGH_1: u64 = 34_359_738_374;
+
+const HIGH_3: u64 = 34_359_738_382;
+
+const NODE_2: u64 = 17_179_869_194;
+
+const NODE_3: u64 = 17_179_869_198;
+
+const NODE_4: u64 = 17_179_869_202;
+
+const SECOND: Spot = Spot::Slot { node: 1, entry: 1 };
+
+// A tree of node 0 with ` and a, and node 2 with b and c, below node 1.
+const TWO_LEVELS: [Line; 6] = [
+    (0, Step::Lock(Target::Anchor, 2), true),
+    (0, Step::Publish(Spot::Root, 1), true),
+    (0, Step::Publish(Spot::Root, NODE_0), true),
+    (0, Step::Publish(Spot::Root, HIGH_1), true),
+    (0, Step::Lock(Target::Node(1), 2), true),
+    (0, Step::Publish(SECOND, NODE_2), true),
+];
+
+// Node 3, with a, b and c, takes the place of all three. Node 2 is to be locked for that. Node 4 lacks c, and node 3 isn't 2 high.
+const MERGED: [Line; 12] = [
+    (0, Step::Lock(Target::Node(0), 2), true),
+    (0, Step::Publish(Spot::Root, NODE_3), false),
+    (0, Step::Lock(Target::Node(2), 2), true),
+    (0, Step::Publish(Spot::Root, NODE_4), false),
+    (0, Step::Publish(Spot::Root, HIGH_3), false),
+    (0, Step::Publish(Spot::Root, NODE_3), true),
+    (0, Step::LoadEpoch(1), true),
+    (0, Step::Mark(Rec::Node(0), 1), true),
+    (0, Step::Mark(Rec::Node(1), 1), true),
+    (0, Step::Mark(Rec::Node(2), 1), true),
+    (0, Step::Mark(Rec::Leaf(3), 1), true),
+    (0, Step::Unlock(Target::Anchor), true),
+];
+
+/// A removal that merges a node with its sibling is legal once the sibling is locked, with all of its entries and the new node's height.
+#[test]
+fn a_removal_merges_under_the_siblings_lock(rt: HostRuntime) {
+    let mut replay = make_replay(&rt, rt.alloc(), Layout::of(1, 5, 4));
+    for (number, byte, value) in [(0, b'a', 5), (1, b'b', 6), (2, b'c', 7), (3, b'`', 4)].iter() {
+        let words = words_of_leaf(*byte, *value);
+        expect_record_made(&rt, &mut replay, 0, Rec::Leaf(*number), &words);
+    }
+    let (number, height) = (0, 1);
+    let child = Entry::Node { number, height };
+    let (first, second, third) = (Entry::Leaf(0), Entry::Leaf(1), Entry::Leaf(2));
+    expect_node_made(&rt, &mut replay, 0, &Node::pair(8, Entry::Leaf(3), first));
+    expect_node_made(&rt, &mut replay, 1, &Node::pair(7, child, second));
+    expect_node_made(&rt, &mut replay, 2, &Node::pair(8, second, third));
+    expect_node_made(&rt, &mut replay, 4, &Node::pair(7, first, second));
+    expect_record_made(&rt, &mut replay, 0, Rec::Node(3), &words_of_three());
+    expect_events(&rt, &mut replay, &TWO_LEVELS);
+    expect_events(&rt, &mut replay, &MERGED);
+    expect_pairs(
+        &rt,
+        rt.alloc(),
+        &replay,
+        5,
+        &[(b'a', 5), (b'b', 6), (b'c', 7)],
+    );
+}
