@@ -1,16 +1,15 @@
 -- A tree with another value in one leaf; and what names a leaf.
-use Rattle.std.proofs.Common.{◌≡◌, ◌≢◌, ◌⊎◌, inl, inr, ℕ, suc, ◌<◌, List, ◌++◌, true, false, if◌then◌else◌, nat_eq, eqb, refl, ap, ap₂, sym, ◌∙◌, subst, Option, Some, None}
-use Rattle.std.proofs.lemmas.Bool.{cases_Bool, eqb-true, eq-eqb, false≢true, cond-true, cond-false}
+use Rattle.std.proofs.Common.{◌≡◌, ◌≢◌, ◌⊎◌, inl, inr, ℕ, true, false, if◌then◌else◌, nat_eq, eqb, refl, ap, ap₂, sym, ◌∙◌, subst, Option, Some}
+use Rattle.std.proofs.lemmas.Bool.{cases_Bool, eqb-true, eq-eqb, false≢true, cond-false}
 use Rattle.tries.specs.Keys.{Key}
-use Rattle.compound_node.specs.declared.entries.Entry.{Entry}
-use Rattle.tries.specs.Tree.{Fixed, Subtrie, Tree, leaf, node, fork, subtrie, Has, IsTrie, IsFork, IsLower, IsBuilt, IsFit, Within, here, inside, zero_side, one_side}
+use Rattle.tries.specs.Tree.{Fixed, Tree, leaf, node, fork, subtrie, Has, IsTrie, IsFork, IsLower, IsBuilt, IsFit, Within, here, inside, zero_side, one_side}
 use Rattle.tries.specs.Content.{Item, item, items, IsExchange, exchanged}
 use Rattle.tries.proofs.Contents.{put_exchange}
-use Rattle.pieces.specs.Piece.{Place, Fork}
+use Rattle.pieces.specs.Piece.{Fork}
 use Rattle.versions.specs.declared.Rec.{Rec}
 use Rattle.versions.specs.declared.Rec.TheVariants.{Node as a_node, Leaf as a_leaf}
 use Rattle.versions.specs.Heap.{NodeWords, LeafWords, Heap, IsShown}
-use Rattle.versions.specs.State.{Links, IsLinked, IsTop}
+use Rattle.versions.specs.State.{Links}
 use Rattle.versions.proofs.Heaps.{leaf_number}
 use Rattle.versions.proofs.Stored.{not_beside}
 

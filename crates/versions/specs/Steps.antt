@@ -41,11 +41,11 @@ next_fate now q false (InTree f) = Unlinked f now q
 next_fate now q linked (Unlinked f l p) = Unlinked f l p
 next_fate now q linked (Marked f l s) = Marked f l s
 
--- The pass has locked what names leaf `l`: the anchor, where the leaf is the root; or a node that has the leaf at one of its places.
-abbrev pub HasLockedNamer : BareCore → ℕ → ℕ → Type 0
-HasLockedNamer c q l =
-    ((c.anchor ≡ Some q) × (c.root ≡ Some (Leaf l))) ⊎
-    ((n : ℕ) × (i : ℕ) × (c.lock n ≡ Some q) × (i < size (c.heap.nodes n).subtrie) × (entry_at (c.heap.nodes n).subtrie i ≡ Leaf l))
+-- The pass has locked what names leaf `l`: the anchor, where the leaf is the root; or a node in the tree that has the leaf at a place.
+pub data HasLockedNamer (c : BareCore) (q l : ℕ) : Type 0 where
+  in_root : c.anchor ≡ Some q → c.root ≡ Some (Leaf l) → HasLockedNamer c q l
+  in_node : (n since place : ℕ) → c.lock n ≡ Some q → c.fate (a_node n) ≡ InTree since → place < size (c.heap.nodes n).subtrie →
+      entry_at (c.heap.nodes n).subtrie place ≡ Leaf l → HasLockedNamer c q l
 
 -- What the publish stores: the root entry, under the anchor's lock; an entry of a node, under its lock; or the value of a leaf, under
 -- the lock of what names it.
