@@ -111,7 +111,7 @@ module _ (c : BareCore) (law : IsLawfulState (view c)) where
     abbrev found : NamerNow c q l
     found = namer_now c law q l named
 
-    abbrev then_ : Tree
+    abbrev pub then_ : Tree
     then_ = revalued l w found.tree
 
     abbrev change : Change
