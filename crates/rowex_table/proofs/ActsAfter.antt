@@ -12,7 +12,7 @@ use Rattle.versions.specs.State.{IsLived}
 use Rattle.versions.specs.Core.{InTree, life_of}
 use Rattle.rowex_core.specs.declared.event.Act.TheVariants.{Unlock, Publish, Mark, LoadEpoch}
 use Rattle.rowex_core.specs.declared.event.Spot.{Spot}
-use Rattle.rowex_core.specs.declared.event.Spot.TheVariants.{Root, Slot}
+use Rattle.rowex_core.specs.declared.event.Spot.TheVariants.{Root, Slot, Value}
 use Rattle.rowex_core.specs.declared.event.Target.TheVariants.{Anchor, Node as NodeTarget}
 use Rattle.rowex_core.specs.declared.known.Known.{Known}
 use Rattle.rowex_core.specs.declared.known.Locked.{Locked}
@@ -86,6 +86,7 @@ module _ (layout : Layout) (said : Known → List Note) (k j : Known) where
 
   anchor_kept : (spot : Spot) (w : ℕ) → IsEvent layout (Publish spot w) said k j → (k.anchor ≡ None → j.anchor ≡ None) × (IsSome k.anchor → IsSome j.anchor)
   anchor_kept (Slot n m) w e = let same : j.anchor ≡ k.anchor = ap (λ (z : Known). z.anchor) e.learned_is in ((λ h. same ∙ h), (λ h. subst IsSome (sym same) h))
+  anchor_kept (Value l) w e = let same : j.anchor ≡ k.anchor = ap (λ (z : Known). z.anchor) e.learned_is in ((λ h. same ∙ h), (λ h. subst IsSome (sym same) h))
   anchor_kept Root w e = (
     (λ h. absurd (none_some (sym h ∙ (knows_all e.core k e.knows).all_anchor e.legal.1.locked))),
     λ h. subst IsSome (sym (ap (λ (z : Known). z.anchor) e.learned_is)) refl,
