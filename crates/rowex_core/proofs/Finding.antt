@@ -102,7 +102,7 @@ rises None h = (tt, tt)
 rises (Some t) h = (content_rises t (h t refl).0, are_keys t (h t refl).0)
 
 -- the store of an entry leaves the words of leaves, and its change is found between the leaves
-same_leaves : (c : Core) (spot : Spot) (w : ℕ) → IsOfEntry spot → (n : ℕ) → (heap_of c.words).leaves n ≡ (heap_of (stored_words c spot w)).leaves n
+pub same_leaves : (c : Core) (spot : Spot) (w : ℕ) → IsOfEntry spot → (n : ℕ) → (heap_of c.words).leaves n ≡ (heap_of (stored_words c spot w)).leaves n
 same_leaves c Root w o n = refl
 same_leaves c (Slot m j) w o n = refl
 same_leaves c (Value l) w o n = absurd o

@@ -16,7 +16,7 @@ use Rattle.rowex_core.specs.declared.known.View.TheVariants.{Spent, Dealer, Pass
 use Rattle.finite_map.specs.declared.Change.{Change}
 use Rattle.finite_map.specs.Fronts.{BeginsWith}
 use Rattle.record_words.specs.declared.layout.Layout.{Layout}
-use Rattle.rowex_core.specs.Reading.{entry_in, value_in, HasWordAt}
+use Rattle.rowex_core.specs.Reading.{entry_in, head_value, HasWordAt}
 use Rattle.rowex_core.specs.Cores.{Core, IsLawful}
 use Rattle.rowex_core.specs.Events.{Legal, after}
 use Rattle.rowex_core.specs.Frames.{IsFrame}
@@ -45,7 +45,7 @@ pub fact_grown : (a b : Past) → IsGrown a b → (f : Fact) → IsFact a f → 
 fact_grown a b g (Rooted since at e) (lo, hi, h) = (lo, le_trans hi g.longer, ap Rattle.rowex_core.specs.Reading.root_of (g.kept at hi) ∙ h)
 fact_grown a b g (Placed since at n j e) (hi, h) = (le_trans hi g.longer, found_grown a b g since at (a_node n) (λ u. entry_in u j ≡ e) hi h)
 fact_grown a b g (Fixed since at r offset w) (hi, h) = (le_trans hi g.longer, found_grown a b g since at r (λ u. HasWordAt u offset w) hi h)
-fact_grown a b g (Valued since at l v) (hi, h) = (le_trans hi g.longer, found_grown a b g since at (a_leaf l) (λ u. value_in u ≡ Some v) hi h)
+fact_grown a b g (Valued since at l v) (hi, h) = (le_trans hi g.longer, found_grown a b g since at (a_leaf l) (λ u. head_value u ≡ Some v) hi h)
 
 -- The whole
 

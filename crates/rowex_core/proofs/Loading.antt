@@ -14,7 +14,7 @@ use Rattle.versions.specs.State.{Stands, IsReach, last_of, Spans, IsRecord, Stat
 use Rattle.versions.specs.Core.{Fate, Free, Held as HeldBy, Ready as ReadyBy, InTree, Unlinked as UnlinkedBy, Marked, life_of, view as versions_of}
 use Rattle.versions.proofs.States.{spans_last, spans_ended, reach_later}
 use Rattle.rowex_core.specs.declared.known.Fact.TheVariants.{Placed, Fixed as FixedWord, Valued}
-use Rattle.rowex_core.specs.Reading.{entry_of, node_words_of, leaf_of, IsPacked, entry_in, value_in, HasWordAt}
+use Rattle.rowex_core.specs.Reading.{entry_of, node_words_of, leaf_of, IsPacked, entry_in, head_value, HasWordAt}
 use Rattle.rowex_core.specs.Cores.{Core, IsLawful, IsWhole, heap_of, bare}
 use Rattle.rowex_core.specs.Words.{record_word}
 use Rattle.rowex_core.specs.Events.{IsFixedOffset}
@@ -103,7 +103,7 @@ value_fact c law since reach l = (
   λ m lo s. let x = last c law m (reach_later (view c) since m lo reach) (a_leaf l) s in (x.at, x.tree, x.low, x.high, x.stands, go x.tree x.stands.is_record x.copied),
 )
   where
-    go : (u : Tree) → IsRecord (a_leaf l) u → IsCopied (heap_of c.words) u → value_in u ≡ Some (get_or (c.words (a_leaf l)) 0 0)
+    go : (u : Tree) → IsRecord (a_leaf l) u → IsCopied (heap_of c.words) u → head_value u ≡ Some (get_or (c.words (a_leaf l)) 0 0)
     go (node m x b) r i = absurd cc
     go (fork q a b) r i = absurd r
     go (leaf m k v) r i = ap Some (sym (ap (λ z. ((heap_of c.words).leaves z).value) (leaf_number r) ∙ ap (λ (z : LeafWords). z.value) i))

@@ -18,7 +18,7 @@ use Rattle.rowex_core.specs.declared.event.Spot.{Spot}
 use Rattle.rowex_core.specs.declared.event.Spot.TheVariants.{Root, Slot, Value}
 use Rattle.rowex_core.specs.Reading.{node_words_of, leaf_of, entry_of, IsPacked}
 use Rattle.rowex_core.specs.Cores.{Core, IsLawful, bare, heap_of, HasRecord, IsSized, FitsIn, IsWhole, holder_of}
-use Rattle.rowex_core.specs.Events.{after, stored_words, stored_root, next_tree, next_change, IsLegalPublish, IsSpelled, IsPackedAt, IsLockedAt}
+use Rattle.rowex_core.specs.Events.{after, stored_words, stored_root, next_tree, next_change, IsLegalPublish, IsWordFor, IsPackedAt, IsLockedAt}
 use Rattle.rowex_core.proofs.Frames.{next_change_pass}
 use Rattle.std.proofs.lemmas.List.{get_or-set_other}
 use Rattle.rowex_core.proofs.Records.{sized_after, word_at_record}
@@ -90,18 +90,18 @@ module _ (c : Core) (q : ℕ) (spot : Spot) (w : ℕ) (law : IsLawful c) (l : Is
     next = l.next;
   }
 
-  published_words : (s : Spot) → IsSpelled s w → IsPackedAt c s w → (r : Rec) → IsWhole (c.fate r) → IsPacked r (stored_words c s w r)
+  published_words : (s : Spot) → IsWordFor s w → IsPackedAt c s w → (r : Rec) → IsWhole (c.fate r) → IsPacked r (stored_words c s w r)
   published_words Root e p r h = law.records.packed r h
   published_words (Value m) e p r h = word_at_record c.words (a_leaf m) 1 w (λ i words. IsWhole (c.fate i) → IsPacked i words)
       (λ x. packed_then (c.words (a_leaf m)) w (law.records.sized (a_leaf m)).0 m e (law.records.packed (a_leaf m) x)) (λ i ne. law.records.packed i) r h
   published_words (Slot n j) y p r h = elim (cases_Bool (same_rec r (a_node n))) [ inl e ↦ subst (λ z. IsPacked z (stored_words c (Slot n j) w z)) (sym (same_rec_true r (a_node n) e)) p | inr e ↦ rw e (law.records.packed r h) ]
 
-  small : (s : Spot) → IsSpelled s w → w < 2 ^ 64
+  small : (s : Spot) → IsWordFor s w → w < 2 ^ 64
   small Root e = subst (λ z. z < 2 ^ 64) e.1 (entry_small (entry_of w) e.0)
   small (Slot n j) e = subst (λ z. z < 2 ^ 64) e.1 (entry_small (entry_of w) e.0)
   small (Value m) e = e
 
-  published_sizes : (s : Spot) → IsSpelled s w → (r : Rec) → IsSized r (stored_words c s w r)
+  published_sizes : (s : Spot) → IsWordFor s w → (r : Rec) → IsSized r (stored_words c s w r)
   published_sizes Root e r = law.records.sized r
   published_sizes (Slot n j) e r = sized_after c.words (a_node n) (26 + j) w (small (Slot n j) e) law.records.sized r
   published_sizes (Value m) e r = sized_after c.words (a_leaf m) 1 w e law.records.sized r
@@ -114,7 +114,7 @@ module _ (c : Core) (q : ℕ) (spot : Spot) (w : ℕ) (law : IsLawful c) (l : Is
   published_fits (Value m) r h = word_at_record c.words (a_leaf m) 1 w (λ i words. IsWhole (c.fate i) → FitsIn c.layout i words)
       (λ x. rw (get_or-set_other (c.words (a_leaf m)) 0 1 w 0 (λ z. omega arith)) (law.records.fits (a_leaf m) x)) (λ i ne. law.records.fits i) r h
 
-  published_root : (s : Spot) → IsSpelled s w → HasEntryWord (stored_root c s w)
+  published_root : (s : Spot) → IsWordFor s w → HasEntryWord (stored_root c s w)
   published_root Root e = e.0
   published_root (Slot n j) e = law.root
   published_root (Value m) e = law.root

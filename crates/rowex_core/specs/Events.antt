@@ -111,9 +111,9 @@ IsLockedAt c q (Slot n j) = (n < c.layout.nodes) × (j < MAX_ENTRIES) × (c.lock
 IsLockedAt c q (Value l) = (l < c.layout.leaves) × HasLockedNamer (bare c) q l
 
 -- the word spells an entry, or is a value
-abbrev pub IsSpelled : Spot → ℕ → Type 0
-IsSpelled (Value l) w = w < 2 ^ 64
-IsSpelled spot w = HasEntryWord (entry_of w) × (entry_word (entry_of w) ≡ w)
+abbrev pub IsWordFor : Spot → ℕ → Type 0
+IsWordFor (Value l) w = w < 2 ^ 64
+IsWordFor spot w = HasEntryWord (entry_of w) × (entry_word (entry_of w) ≡ w)
 
 -- the node that is stored to has words that spell a value then too
 abbrev pub IsPackedAt : Core → Spot → ℕ → Type 0
@@ -125,7 +125,7 @@ IsPackedAt c (Slot n j) w = IsPacked (a_node n) (stored_words c (Slot n j) w (a_
 -- value then too, and the words show the next version.
 pub record IsLegalPublish (c : Core) (q : ℕ) (spot : Spot) (w : ℕ) : Type 0 where
   pub locked : IsLockedAt c q spot
-  pub entry : IsSpelled spot w
+  pub entry : IsWordFor spot w
   pub packed : IsPackedAt c spot w
   pub next : IsNextVersion c.shared q (heap_of (stored_words c spot w)) (stored_root c spot w) (next_tree c spot w) (next_change c q spot w)
   pub open next use *

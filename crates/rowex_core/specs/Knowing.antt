@@ -36,7 +36,7 @@ use Rattle.rowex_core.specs.declared.known.Known.{Known}
 use Rattle.rowex_core.specs.declared.known.View.{View}
 use Rattle.rowex_core.specs.declared.known.View.TheVariants.{Spent, Dealer, Pass, Pair, Witness, Follower}
 use Rattle.rowex_core.specs.Cores.{Core, IsLawful, holder_of, value_offset}
-use Rattle.rowex_core.specs.Reading.{entry_of, root_of, entry_in, value_in, HasWordAt}
+use Rattle.rowex_core.specs.Reading.{entry_of, root_of, entry_in, head_value, HasWordAt}
 use Rattle.rowex_core.specs.Sharing.{share, known_share, nothing}
 use Rattle.rowex_core.specs.Words.{record_word}
 use Rattle.rowex_core.specs.Events.{Legal, IsLockedAt, stored_words, stored_root, next_change, next_tree, state_of, target_word}
@@ -59,7 +59,7 @@ abbrev pub IsFact : Past → Fact → Type 0
 IsFact s (Rooted since at e) = (since ≤ at) × (at ≤ s.now) × (root_of (s.version at) ≡ e)
 IsFact s (Placed since at n j e) = (at ≤ s.now) × HoldsIfStood s since at (a_node n) (λ u. entry_in u j ≡ e)
 IsFact s (Fixed since at r offset w) = (at ≤ s.now) × HoldsIfStood s since at r (λ u. HasWordAt u offset w)
-IsFact s (Valued since at l v) = (at ≤ s.now) × HoldsIfStood s since at (a_leaf l) (λ u. value_in u ≡ Some v)
+IsFact s (Valued since at l v) = (at ≤ s.now) × HoldsIfStood s since at (a_leaf l) (λ u. head_value u ≡ Some v)
 
 -- The leaf still has the value that the pass loaded, if it has locked what names the leaf.
 abbrev pub IsStillLoaded : ℕ → Core → Loaded → Type 0

@@ -21,7 +21,7 @@ use Rattle.rowex_core.specs.declared.known.Known.{Known}
 use Rattle.rowex_core.specs.Reading.{entry_of, node_words_of}
 use Rattle.rowex_core.specs.Cores.{Core, IsLawful, bare, heap_of}
 use Rattle.rowex_core.specs.Words.{state_at}
-use Rattle.rowex_core.specs.Events.{IsLegalPublish, IsLockedAt, IsSpelled, IsOfEntry, IsPackedAt, IsInTree, stored_words, stored_root, next_tree, next_change}
+use Rattle.rowex_core.specs.Events.{IsLegalPublish, IsLockedAt, IsWordFor, IsOfEntry, IsPackedAt, IsInTree, stored_words, stored_root, next_tree, next_change}
 use Rattle.rowex_core.specs.Having.{OwnsJust, LocksJust, AreKept, InAnyWay, IsUnlinked}
 use Rattle.rowex_core.specs.Knowing.{Knows, publish_learned}
 
@@ -29,7 +29,7 @@ use Rattle.rowex_core.specs.Knowing.{Knows, publish_learned}
 -- the tree that the words show then is this one, and the change that is found between the leaves is the one that versions tell.
 abbrev pub PublishIsLegal : Type 0
 PublishIsLegal =
-    (c : Core) (q : ℕ) (spot : Spot) (w : ℕ) → IsOfEntry spot → IsLawful c → IsLockedAt c q spot → IsSpelled spot w → IsPackedAt c spot w →
+    (c : Core) (q : ℕ) (spot : Spot) (w : ℕ) → IsOfEntry spot → IsLawful c → IsLockedAt c q spot → IsWordFor spot w → IsPackedAt c spot w →
     (t : Option Tree) (x : Change) → IsVersionsPublish (bare c) q (heap_of (stored_words c spot w)) (stored_root c spot w) t x →
     items_of (c.past.version c.past.now) ≢ items_of t →
     IsLegalPublish c q spot w × (next_tree c spot w ≡ t) × (next_change c q spot w ≡ x)
