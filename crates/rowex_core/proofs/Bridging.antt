@@ -8,9 +8,10 @@ use Rattle.versions.specs.Told.{items_of}
 use Rattle.versions.specs.Steps.{IsNextVersion}
 use Rattle.versions.proofs.Reading.{read_exact}
 use Rattle.rowex_core.specs.Cores.{heap_of}
+use Rattle.rowex_core.specs.declared.event.Spot.TheVariants.{Value}
 use Rattle.rowex_core.specs.Events.{IsLegalPublish, tree_of, stored_words, stored_root, next_tree, next_change}
 use Rattle.rowex_core.proofs.Finding.{finds_change}
-use Rattle.rowex_core.proofs.Valuing.{tree_read, value_next, value_trades}
+use Rattle.rowex_core.proofs.Valuing.{tree_read, legal_publish, value_trades}
 use Rattle.rowex_core.specs.Writers.{PublishIsLegal, ValueIsLegal}
 
 pub publish_is_legal : PublishIsLegal
@@ -37,4 +38,4 @@ publish_is_legal c q spot w of_entry law locked entry packed t x l ne = (legal, 
 -- So is the store of a value.
 pub value_is_legal : ValueIsLegal
 value_is_legal c q l w law named small =
-    (record { locked = named; entry = small; packed = tt; next = value_next c q l w law named }, value_trades c q l w law named)
+    (legal_publish c q (Value l) w law (named, small), value_trades c q l w law named)

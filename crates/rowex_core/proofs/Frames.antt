@@ -28,7 +28,7 @@ use Rattle.rowex_core.specs.Frames.{IsFrame}
 use Rattle.rowex_core.specs.Sharing.{share, holding_of, is_by, is_in_tree, anchored_at}
 use Rattle.versions.proofs.Values.{one_locker}
 use Rattle.rowex_core.proofs.Publishing.{publish_share}
-use Rattle.rowex_core.proofs.Valuing.{value_left}
+use Rattle.rowex_core.proofs.Valuing.{legal_publish, value_left}
 use Rattle.rowex_core.proofs.Sharing.{same_share, same_fate, same_word, same_lock, same_unlocked, by_another}
 use Rattle.versions.specs.Frames.{IsGrown}
 use Rattle.finite_map.proofs.Growth.{others_none}
@@ -167,7 +167,7 @@ frame c p q (Lock (NodeTarget n) found) ne law (a, b) = go (cases_Bool (eqb foun
     go (inr e) = rw e (unchanged q c)
 frame c p q (Unlock Anchor) ne law (a, b) = anchor_frame c q None (sym (not_by c.anchor ne b))
 frame c p q (Unlock (NodeTarget n)) ne law (a, b) = lock_frame c q n None (sym (not_by (c.lock n) ne b.1))
-frame c p q (Publish spot w) ne law (a, b) = publish_frame c p q spot w ne law b
+frame c p q (Publish spot w) ne law (a, b) = publish_frame c p q spot w ne law (legal_publish c p spot w law b)
 frame c p q (Mark r epoch) ne law (a, b) = mark_frame c p q r epoch b.2.0 b.2.1 ne b.2.2
 frame c p q (LoadEpoch w) ne law l = round_frame c p q _ ne
 frame c p q (Advance expected found) ne law l = advance_frame c q expected

@@ -41,7 +41,7 @@ use Rattle.record_words.specs.declared.layout.Location.{Location}
 use Rattle.rowex_core.proofs.Frames.{advance_frame, give_back_frame, unlocked_node}
 use Rattle.rowex_core.proofs.Keeping.{fact_grown, knows_kept}
 use Rattle.rowex_core.proofs.Loading.{slot_fact, fixed_fact, value_fact, view}
-use Rattle.rowex_core.proofs.Valuing.{value_left, namer_back, loaded_kept}
+use Rattle.rowex_core.proofs.Valuing.{legal_publish, value_left, namer_back, loaded_kept}
 use Rattle.rowex_core.proofs.Publishing.{once, Linking, stays, comes, out, linking, listed_once}
 use Rattle.rowex_core.proofs.Lists.{filter_mapped, filter_swapped}
 use Rattle.rowex_core.specs.Sharing.{Share, share, known_share, holding_of, is_by, is_in_tree, owned, locked, anchored_at, of_record, of_node}
@@ -430,7 +430,7 @@ learns_by c k (Lock (NodeTarget n) found) law h (a, b) = go (cases_Bool (eqb fou
     go (inr e) = rw e (with_failed c k (a_lock (blocking_pass_of c n (c.fate (a_node n)))) (target_word (NodeTarget n)) found h)
 learns_by c k (Unlock Anchor) law h l = anchor_given c k h
 learns_by c k (Unlock (NodeTarget n)) law h l = lock_given c k h n
-learns_by c k (Publish spot w) law h (a, b) = publish_learns c k spot w law h b
+learns_by c k (Publish spot w) law h (a, b) = publish_learns c k spot w law h (legal_publish c k.pass spot w law b)
 learns_by c k (Mark r epoch) law h (a, b) = mark_learns c k r epoch b.2.0 b.2.1 h b.2.2
 learns_by c k (LoadEpoch w) law h l = round_learns c k h _ _ refl
 learns_by c k (Advance expected found) law h l = is_true (knows_kept c _ k (advance_frame c k.pass expected) h)

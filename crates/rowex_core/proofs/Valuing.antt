@@ -24,12 +24,13 @@ use Rattle.versions.specs.Trades.{HasTraded}
 use Rattle.versions.proofs.Reading.{read_exact}
 use Rattle.versions.proofs.Revalued.{IsValueStored, links_revalued, namer_links}
 use Rattle.versions.proofs.Values.{NamerNow, namer_now, named_in_tree, then_, value_publish, value_trade}
-use Rattle.rowex_core.specs.declared.event.Spot.TheVariants.{Value}
+use Rattle.rowex_core.specs.declared.event.Spot.{Spot}
+use Rattle.rowex_core.specs.declared.event.Spot.TheVariants.{Root, Slot, Value}
 use Rattle.rowex_core.specs.Reading.{leaf_of, node_words_of, IsPacked}
 use Rattle.rowex_core.specs.declared.known.Loaded.{Loaded}
 use Rattle.rowex_core.specs.declared.known.Locked.{Locked}
 use Rattle.rowex_core.specs.Cores.{Core, IsLawful, bare, heap_of}
-use Rattle.rowex_core.specs.Events.{IsLockedAt, IsInTree, with_word, stored_words, next_tree, tree_of, value_change}
+use Rattle.rowex_core.specs.Events.{IsLegalPublish, IsLockedAt, IsInTree, MayPublish, with_word, stored_words, next_tree, tree_of, value_change}
 use Rattle.rowex_core.specs.Knowing.{IsStillLoaded}
 use Rattle.rowex_core.specs.Sharing.{Share, share, is_by, is_in_tree, anchored_at, locked}
 use Rattle.rowex_core.proofs.Sharing.{by_itself, is_by_true}
@@ -112,6 +113,12 @@ module _ (c : Core) (q l w : ℕ) (law : IsLawful c) (named : IsLockedAt c q (Va
     where
       found_ : NamerNow (bare c) q l
       found_ = namer_now (bare c) law.core.state q l named.1
+
+-- What a pass may store is a legal publish.
+pub legal_publish : (c : Core) (q : ℕ) (spot : Spot) (w : ℕ) → IsLawful c → MayPublish c q spot w → IsLegalPublish c q spot w
+legal_publish c q Root w law l = l
+legal_publish c q (Slot n j) w law l = l
+legal_publish c q (Value l) w law (named, small) = record { locked = named; entry = small; packed = tt; next = value_next c q l w law named }
 
 -- A word of a record that is not in the tree leaves the value of a leaf of which a pass has locked what names it.
 pub value_left : (c : Core) (q : ℕ) (r : Rec) (offset w : ℕ) → IsLawful c → is_in_tree (c.fate r) ≡ false → (l : ℕ) → IsLockedAt c q (Value l) →

@@ -25,6 +25,7 @@ use Rattle.rowex_core.specs.declared.event.Spot.TheVariants.{Root, Slot, Value}
 use Rattle.rowex_core.specs.Cores.{Core, IsLawful, HasRecord}
 use Rattle.rowex_core.specs.Words.{lock_tag, tag_of, lock_of, state_at, pin_word, record_word, word_at, Shows}
 use Rattle.rowex_core.specs.Events.{Legal, after, with_word, claimed, marked, given_back, anchored, stored_words, stored_root, next_tree, IsInTree, IsOffset, IsLegalPublish, word_of, spot_word, location_of, exchanged, writes, locked_where, advanced}
+use Rattle.rowex_core.proofs.Valuing.{legal_publish}
 
 -- From core c to core d the word at this location becomes w, and every other one stays.
 pub record IsWrite (c d : Core) (location : Location) (w : ℕ) : Type 0 where
@@ -315,7 +316,7 @@ step_writes c q (Lock Anchor found) law l = anchored_write c q c.anchor refl
 step_writes c q (Lock (NodeTarget n) found) law (a, b) = lock_exchange c q n found b.1 b.2
 step_writes c q (Unlock Anchor) law l = anchor_write c None 2 refl
 step_writes c q (Unlock (NodeTarget n)) law (a, b) = lock_write c n None 2 (ap (λ z. state_word (tag_of None z)) b.2.1)
-step_writes c q (Publish spot w) law (a, b) = publish_write c q spot w law b
+step_writes c q (Publish spot w) law (a, b) = publish_write c q spot w law (legal_publish c q spot w law b)
 step_writes c q (Mark r epoch) law (a, b) = subst (λ f. IsWrite c (record c { shared = marked c.shared r epoch f }) (word_of r 0) (8 * epoch + 4)) (sym b.2.2) (mark_write c r b.2.0 b.2.1 epoch)
 step_writes c q (LoadEpoch w) law l = round_write c q _ Epoch _ refl
 step_writes c q (Advance expected found) law l = advance_write c expected
@@ -348,7 +349,7 @@ in_table c q (Unlock Anchor) l = tt
 in_table c q (Unlock (NodeTarget n)) (a, b) = (b.0, omega arith)
 in_table c q (Publish Root w) l = tt
 in_table c q (Publish (Slot n j) w) (a, b) = (b.locked.0, let x = b.locked.1 in omega arith)
-in_table c q (Publish (Value l) w) (a, b) = (b.locked.0, omega (arith, size_fits c.layout l))
+in_table c q (Publish (Value l) w) (a, b) = (b.0.0, omega (arith, size_fits c.layout l))
 in_table c q (Mark r epoch) (a, b) = any_state c.layout r b.0
 in_table c q (LoadEpoch w) l = tt
 in_table c q (Advance expected found) l = tt
