@@ -1,5 +1,6 @@
 -- A publish, once its word is stored.
-use Rattle.std.specs.Prelude.{◌≡◌, ℕ, List, Bool, true, false, Option}
+use Rattle.std.specs.Prelude.{◌≡◌, ℕ, List, map, Bool, true, false, if◌then◌else◌, nat_eq, Option}
+use Rattle.tries.specs.Content.{Item, item}
 use Rattle.compound_node.specs.declared.entries.Entry.{Entry}
 use Rattle.finite_map.specs.declared.Change.{Change}
 use Rattle.versions.specs.declared.Rec.{Rec}
@@ -37,3 +38,7 @@ published c q words root = record { layout = c.layout; words = words; shared = p
 abbrev pub IsPublishJudged : Bool → StateView → StateView → ℕ → Option Entry → Type 0
 IsPublishJudged true s t q root = (c : Core) (words : Rec → List ℕ) → IsWordStored s c words → MayMakeVersion c q words root × IsStateOf t (published c q words root)
 IsPublishJudged false s t q root = (t ≡ s) × ((c : Core) (words : Rec → List ℕ) → IsWordStored s c words → AreWordsPacked c words → ¬ (MayMakeVersion c q words root))
+
+-- the leaves with this value of the one of this number
+abbrev pub with_value : ℕ → ℕ → List Item → List Item
+with_value l w items = map (λ x. if nat_eq x.number l then item l x.key w else x) items
