@@ -1,12 +1,11 @@
 //! The publish: the one step that changes the map.
 
-ghost use Rattle.std.specs.Prelude.{◌≡◌, ◌↔◌, ◌<◌, IfOk, IsTrue, OnErr, map};
+ghost use Rattle.std.specs.Prelude.{◌≡◌, ◌↔◌, ◌<◌, IfOk, IsTrue, OnErr};
 ghost use Rattle.record_words.specs.Entry.{HasEntryWord, entry_word};
 ghost use Rattle.rowex_core.specs.declared.event.Act.TheVariants.{Publish};
 ghost use Rattle.rowex_core.specs.declared.event.Spot.TheVariants.{Root, Slot, Value};
 ghost use Rattle.rowex_core.specs.Reading.{entry_of};
-ghost use Rattle.replay_state.specs.Publishing.{IsPublishJudged, with_value};
-ghost use Rattle.replay_trees.specs.Versions.{read_item};
+ghost use Rattle.replay_state.specs.Publishing.{AreRevalued, IsPublishJudged};
 ghost use Rattle.replay_state.specs.States.{HasLock, HasNamerLocked, IsStepped};
 
 use crate::records::{are_node_words, with_word};
@@ -165,7 +164,7 @@ impl State {
 
 /// Gives the leaf of number `leaf` the value `value`.
 fn set_value(items: &mut [Item], leaf: u32, value: u64)
-    ensures { map read_item items.new ≡ with_value leaf value (map read_item items.old) }
+    ensures { AreRevalued leaf value items.old items.new }
 {
     for i in 0..items.len() {
         if items[i].number == leaf {

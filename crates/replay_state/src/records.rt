@@ -297,7 +297,9 @@ impl Records {
     pub(crate) fn key_of(&self, number: u32) -> Option<Key>
         ensures { MatchOption result (¬ (IsSpelledIn self.now (a_leaf number))) (λ key. HasKeyIn self.now number key) }
     {
-        let words = self.leaf(number)?;
+        let Some(words) = self.leaf(number) else {
+            return None;
+        };
         match unpack_leaf(&words) {
             Ok((key, _)) => Some(key),
             Err(_) => None,

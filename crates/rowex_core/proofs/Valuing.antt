@@ -30,7 +30,7 @@ use Rattle.rowex_core.specs.Reading.{leaf_of, node_words_of, IsPacked}
 use Rattle.rowex_core.specs.declared.known.Loaded.{Loaded}
 use Rattle.rowex_core.specs.declared.known.Locked.{Locked}
 use Rattle.rowex_core.specs.Cores.{Core, IsLawful, bare, heap_of}
-use Rattle.rowex_core.specs.Events.{IsLegalPublish, IsLockedAt, IsInTree, MayPublish, with_word, stored_words, next_tree, tree_of, value_change}
+use Rattle.rowex_core.specs.Events.{IsLegalPublish, IsLockedAt, IsInTree, MayStoreAt, with_word, stored_words, next_tree, tree_of, value_change}
 use Rattle.rowex_core.specs.Knowing.{IsStillLoaded}
 use Rattle.rowex_core.specs.Sharing.{Share, share, is_by, is_in_tree, anchored_at, locked}
 use Rattle.rowex_core.proofs.Sharing.{by_itself, is_by_true}
@@ -114,8 +114,14 @@ module _ (c : Core) (q l w : ℕ) (law : IsLawful c) (named : IsLockedAt c q (Va
       found_ : NamerNow (bare c) q l
       found_ = namer_now (bare c) law.core.state q l named.1
 
+-- A legal publish may be made.
+pub legal_store : (c : Core) (q : ℕ) (spot : Spot) (w : ℕ) → IsLegalPublish c q spot w → MayStoreAt c q spot w
+legal_store c q Root w l = l
+legal_store c q (Slot n j) w l = l
+legal_store c q (Value n) w l = (l.locked, l.entry)
+
 -- What a pass may store is a legal publish.
-pub legal_publish : (c : Core) (q : ℕ) (spot : Spot) (w : ℕ) → IsLawful c → MayPublish c q spot w → IsLegalPublish c q spot w
+pub legal_publish : (c : Core) (q : ℕ) (spot : Spot) (w : ℕ) → IsLawful c → MayStoreAt c q spot w → IsLegalPublish c q spot w
 legal_publish c q Root w law l = l
 legal_publish c q (Slot n j) w law l = l
 legal_publish c q (Value l) w law (named, small) = record { locked = named; entry = small; packed = tt; next = value_next c q l w law named }

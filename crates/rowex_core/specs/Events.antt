@@ -131,9 +131,9 @@ pub record IsLegalPublish (c : Core) (q : ℕ) (spot : Spot) (w : ℕ) : Type 0 
   pub open next use *
 
 -- Pass q may store the word: of an entry, where that is a legal publish; of a value, where it has locked what names the leaf.
-abbrev pub MayPublish : Core → ℕ → Spot → ℕ → Type 0
-MayPublish c q (Value l) w = IsLockedAt c q (Value l) × (w < 2 ^ 64)
-MayPublish c q spot w = IsLegalPublish c q spot w
+abbrev pub MayStoreAt : Core → ℕ → Spot → ℕ → Type 0
+MayStoreAt c q (Value l) w = IsLockedAt c q (Value l) × (w < 2 ^ 64)
+MayStoreAt c q spot w = IsLegalPublish c q spot w
 
 abbrev pub LegalAct : Core → ℕ → Act → Type 0
 LegalAct c q (Claim r found) = HasRecord c.layout r × (found ≡ state_at c r)
@@ -148,7 +148,7 @@ LegalAct c q (Lock Anchor found) = found ≡ state_word (lock_tag c.anchor)
 LegalAct c q (Lock (NodeTarget n) found) = (n < c.layout.nodes) × (found ≡ state_at c (a_node n)) × (found ≡ state_word Live → IsInTree c n)
 LegalAct c q (Unlock Anchor) = c.anchor ≡ Some q
 LegalAct c q (Unlock (NodeTarget n)) = (n < c.layout.nodes) × (c.lock n ≡ Some q) × IsInTree c n
-LegalAct c q (Publish spot w) = MayPublish c q spot w
+LegalAct c q (Publish spot w) = MayStoreAt c q spot w
 LegalAct c q (Mark r epoch) =
     HasRecord c.layout r × (epoch ≡ (c.rounds q).epoch) × ((since : ℕ) × (last : ℕ) × (c.fate r ≡ Unlinked since last q) × (last < (c.rounds q).version))
 LegalAct c q (LoadEpoch w) = w ≡ c.epoch

@@ -30,6 +30,7 @@ use Rattle.rowex_table.specs.Runs.{silent}
 use Rattle.rowex_table.specs.Made.{Made, held_as, recs_of, nodes_of}
 use Rattle.rowex_core.specs.declared.known.Holding.TheVariants.{Ready}
 use Rattle.versions.proofs.Members.{all_of, of_map, map_of as has_mapped}
+use Rattle.rowex_core.proofs.Valuing.{legal_store}
 use Rattle.rowex_core.proofs.Having.{owned_used, node_used, owned_after_publish, mark_owns, unlock_locks}
 use Rattle.finite_map.specs.Maps.{value_at}
 use Rattle.rowex_core.specs.Events.{IsLegalPublish, next_tree, next_change}
@@ -57,7 +58,7 @@ module _ (layout : Layout) (k : Known) where
   -- Rights
 
   pub publishes_step : (spot : Spot) (w : ℕ) (x : Change) (was : Option ℕ) (new gone : List Rec) → MayPublish layout k spot w x was new gone → MayStep layout (λ found. Publish spot w) k
-  publishes_step spot w x was new gone may c law at known = (known.pass, (may c law at known).legal)
+  publishes_step spot w x was new gone may c law at known = (known.pass, legal_store c k.pass spot w (may c law at known).legal)
 
   pub marks_own : (gone : List Rec) (r : Rec) (epoch : ℕ) → OwnsJust k.own (IsUnlinkedBefore k.round.version) gone → IsOneOf r gone → epoch ≡ k.round.epoch → MayStep layout (λ found. Mark r epoch) k
   marks_own gone r epoch has h is c law at known =
