@@ -181,7 +181,7 @@ pub fn load_leaf<G: Gate>(
 {
     let rec = Rec::Leaf(leaf.number);
     let start = leaf.start;
-    let value = table.load_fixed_at(seat, gate, rec, start, 1);
+    let value = table.load_value_at(seat, gate, leaf.number, start);
     let length = table.load_fixed_at(seat, gate, rec, start, 2);
     if length == 8 {
         let word = table.load_fixed_at(seat, gate, rec, start, 3);
@@ -249,5 +249,5 @@ fn compare_leaf<G: Gate>(
             return None;
         }
     }
-    Some(table.load_fixed_at(seat, gate, rec, leaf.start, 1))
+    Some(table.load_value_at(seat, gate, leaf.number, leaf.start))
 }
