@@ -59,7 +59,7 @@ still_locked layout k i act recalls locks anchor values e =
 pub locked_on : (k i j : Known) → StaysLocked k i → StaysLocked i j → StaysLocked k j
 locked_on k i j a b = (later_transitive k i j a.0 b.0, b.1 ∙ a.1, b.2 ∙ a.2, λ leaf value h. b.3 leaf value (a.3 leaf value h))
 
-locked_same : (k j : Known) → j ≡ k → StaysLocked k j
+pub locked_same : (k j : Known) → j ≡ k → StaysLocked k j
 locked_same k j e =
     (later_if_same k j e, ap (λ (z : Known). z.locks) e, ap (λ (z : Known). z.anchor) e, λ leaf value h. subst (λ (z : Known). HasLoaded z leaf value) (sym e) h)
 

@@ -20,8 +20,16 @@ use Rattle.rowex_reading.specs.Reads.{IsBelowRoot, entries_in}
 use Rattle.rowex_table.specs.Runs.{Runs}
 use Rattle.rowex_table.specs.Seats.{TableView, SeatView}
 use Rattle.rowex_table.specs.Stays.{LeavesPin}
-use Rattle.rowex_writing.specs.Asking.{reply_to}
-use Rattle.rowex_writing.specs.Changes.{HasChanged, IsDeedChange, IsFull}
+use Rattle.rowex_writing.specs.Asking.{aim_of, reply_to}
+use Rattle.rowex_writing.specs.Changes.{HasChanged, HasNoRoom, IsDeedChange, IsFull}
+use Rattle.rowex_writing.specs.Jobs.{IsJobFrom}
+use Rattle.rowex_writing.specs.declared.deeds.Job.{Job}
+use Rattle.rowex_writing.specs.declared.plan.Aim.{Aim}
+use Rattle.rowex_reading.specs.Ways.{value_of}
+use Rattle.rowex_reading.specs.declared.descent.Found.TheVariants.{Leaf}
+use Rattle.rowex_table.specs.Made.{IsLater}
+use Rattle.publish_laws.specs.Ending.{IsAtRest}
+use Rattle.publish_laws.specs.Stages.{HasLoaded}
 use Rattle.rowex_writing.specs.Counts.{attempt_steps, most_locks, most_nodes}
 use Rattle.rowex_writing.specs.Locks.{HasMetLock, TriesLocksOnce, targets_of}
 use Rattle.rowex_writing.specs.declared.plan.Deed.{Deed}
@@ -68,6 +76,32 @@ HasLooked j call reply = (held : Option ℕ) × HasFound j (key_of call) held ×
 -- the change that a call made with this reply, where its key had this value before, or none
 abbrev pub IsChangeOf : ℕ → Call → Reply → Change → Option ℕ → Type 0
 IsChangeOf q call reply x was = (reply ≡ reply_to call was) × (change_of q (record { place = 0; call = call; reply = reply }) ≡ Some x)
+
+-- the same end of a search, where a leaf with the key has this value
+abbrev pub revalued : Found → ℕ → Found
+revalued (Leaf number value None) now = Leaf number now None
+revalued found now = found
+
+-- The pass has found this again under its locks: what its search found, with the value that the leaf has then; and the call has the same
+-- aim there.
+pub record IsFoundAgain (call : Call) (found now : Found) : Type 0 where
+  pub value : ℕ
+  pub is : now ≡ revalued found value
+  pub aims : (aim : Aim) → aim_of call (value_of found) ≡ Some aim → aim_of call (value_of now) ≡ Some aim
+
+-- it has loaded the value of the leaf that was found for the key, if one was, since it last locked
+abbrev pub HasLoadedFound : Known → Found → Type 0
+HasLoadedFound k found = (number value : ℕ) → found ≡ Leaf number value None → HasLoaded k number value
+
+-- another pass has made a change since the search of the job
+abbrev pub HasMoved : Layout → Job → Known → Known → Type 0
+HasMoved layout job k j = (m : ℕ) → IsJobFrom layout k m job → m < length j.front
+
+-- why a planned change was not made: another pass has made one since the search, or no record was free
+abbrev pub HasFailed : Layout → Job → Known → Known → TryFault → Type 0
+HasFailed layout job k j Busy = IsAtRest j × IsLater k j × HasMoved layout job k j
+HasFailed layout job k j FullNodes = HasNoRoom layout job.key.now k j Nodes
+HasFailed layout job k j FullLeaves = HasNoRoom layout job.key.now k j Leaves
 
 -- the refusal of a call for whose change no record of the kind was free
 abbrev pub refusal_of : Full → TryFault
