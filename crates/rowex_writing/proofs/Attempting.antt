@@ -34,9 +34,9 @@ use Rattle.rowex_table.specs.Made.{IsLater}
 use Rattle.rowex_reading.specs.Lookups.{HasFound, HasSearched}
 use Rattle.rowex_core.specs.Knowing.{IsPinnedSince}
 use Rattle.rowex_reading.specs.Seen.{Sure, since}
-use Rattle.rowex_reading.proofs.Seeing.{later_trans, held_stable, missed_stable, shaped_stable, sure_later}
+use Rattle.rowex_reading.proofs.Seeing.{later_trans, held_stable, missed_stable, shaped_stable, sure_later, since_later}
 use Rattle.rowex_writing.specs.Asking.{aim_of, aim_where, reply_to, value_in}
-use Rattle.rowex_writing.specs.Attempts.{HasAnswered, HasDone, HasLoadedRoot, HasLooked, HasRefused, IsAttemptCause, IsChangeOf, IsLeafless, refusal_of, revalued, HasFailed}
+use Rattle.rowex_writing.specs.Attempts.{HasAnswered, HasDone, HasLoadedRoot, HasLooked, HasRefused, IsAttemptCause, IsChangeOf, IsLeafless, refusal_of, revalued, HasFailed, GivesValue, HasMissed, IsFullFault, IsFullOfNew}
 use Rattle.rowex_writing.specs.Changes.{AreAffected, HasChanged, HasNoRoom, HasRun, IsFull, IsPlanned}
 use Rattle.rowex_writing.specs.Locks.{HasMetLock}
 use Rattle.rowex_writing.specs.Plans.{change, IsCase, IsNewLeafPlan}
@@ -447,16 +447,13 @@ full_before : (layout : Layout) (key : Key) (k i j : Known) (full : Full) → k.
 full_before layout key k i j Nodes low l = lacks_so layout j.pass j.failed j.failed i.steps k.steps l (all_earlier (IsAnothers layout j.pass l.own l.locked) a_node layout.nodes j.failed k.steps i.steps low l.missed)
 full_before layout key k i j Leaves low f = λ q within room. let (step, from, at) = f q within room in (step, (omega (arith, low, from)), at)
 
-others_since : (k i j : Known) → IsLater k i → OthersGoOn i.pass i.front j.front → OthersGoOn k.pass k.front j.front
-others_since k i j later others = others_on k.pass k.front i.front j.front later.front (subst (λ q. OthersGoOn q i.front j.front) later.pass others)
-
 full_cause : (layout : Layout) (key : Key) (k j : Known) (full : Full) → IsFull layout key k j full → IsAttemptCause layout key k j (refusal_of full)
 full_cause layout key k j Nodes f = f
 full_cause layout key k j Leaves f = f
 
 pub refused_full : (layout : Layout) (key : Key) (k i j : Known) (full : Full) → HasLoadedRoot k i → IsLater k i → HasNoRoom layout key i j full → HasRefused layout key k j (refusal_of full)
 refused_full layout key k i j full loaded later none = record {
-  others = others_since k i j later none.others;
+  others = (later_trans later none.later).front;
   cause = full_cause layout key k j full (full_before layout key k i j full (loaded_steps k i loaded) none.full_of);
 }
 
@@ -465,6 +462,36 @@ pub refused_failed : (layout : Layout) (job : Job) (k i j : Known) (fault : TryF
 refused_failed layout job k i j Busy m from loaded first (rest, later, moved) = refused_busy layout job.key.now k i j m from.since loaded first later (inr (moved m from))
 refused_failed layout job k i j FullNodes m from loaded first none = refused_full layout job.key.now k i j Nodes loaded first none
 refused_failed layout job k i j FullLeaves m from loaded first none = refused_full layout job.key.now k i j Leaves loaded first none
+
+pub failed_later : (layout : Layout) (job : Job) (i j : Known) (fault : TryFault) → HasFailed layout job i j fault → IsLater i j
+failed_later layout job i j Busy failed = failed.1
+failed_later layout job i j FullNodes none = none.later
+failed_later layout job i j FullLeaves none = none.later
+
+-- a call that gives its key a value takes none away
+no_removal : (call : Call) (held : Option ℕ) → aim_of call held ≡ Some ToRemove → GivesValue call → ⊥
+no_removal (Insert key value) held e gives = cc
+no_removal (Upsert key value) held e gives = cc
+no_removal (Exchange key expected value) held e gives = let other : ToUpsert ≡ ToRemove = aim_met (λ a. a ≡ ToRemove) expected held ToUpsert ToRemove e refl in cc
+no_removal (Add key delta) None e gives = cc
+no_removal (Add key delta) (Some had) e gives = cc
+no_removal (Get key) held e gives = cc
+no_removal (Remove key) held e gives = gives
+no_removal (RemoveIf key expected) held e gives = gives
+
+-- so where no record was free for it, its search has not found the key
+missed : (k j : Known) (key other : Key) → key ≡ other → IsPinnedSince k (since k) → Sure k (λ s. WasAbsentSince s (since k) key) → IsLater k j → HasMissed j other
+missed k j key other same pinned sure later =
+    (since k, since_later later pinned, subst (λ z. Sure j (λ s. WasAbsentSince s (since k) z)) same (sure_later {P = λ s. WasAbsentSince s (since k) key} (missed_stable (since k) key) later sure))
+
+pub full_of_new : (k p j : Known) (m : ℕ) (key : Key) (way : List PathNode) (aim : Aim) (found : Found) (span : Span) (deed : Deed) (fault : TryFault) (call : Call) → key ≡ key_of call →
+    IsPlanned p m key way aim found (a_change span deed) → IsPinnedSince k (since k) → HasFound k key (value_of found) → IsLater k j → aim_of call (value_of found) ≡ Some aim → (deed ≡ ValueDeed → fault ≡ Busy) →
+    IsFullOfNew j call fault
+full_of_new k p j m key way aim Nothing span deed fault call same planned pinned sure later e whole full gives = missed k j key (key_of call) same pinned sure later
+full_of_new k p j m key way aim (Leaf n v (Some q)) span deed fault call same planned pinned sure later e whole full gives = missed k j key (key_of call) same pinned sure later
+full_of_new k p j m key way ToInsert (Leaf n v None) span deed fault call same (first, last, is, affected) pinned sure later e whole full gives = no_answer _ span deed (sym is)
+full_of_new k p j m key way ToUpsert (Leaf n v None) span deed fault call same (first, last, is, affected) pinned sure later e whole full gives = absurd (subst IsFullFault (whole (ap deed_in is)) full)
+full_of_new k p j m key way ToRemove (Leaf n v None) span deed fault call same planned pinned sure later e whole full gives = absurd (no_removal call (Some v) e gives)
 
 -- a refusal for want of a leaf record is for want of one
 pub leaves_refused : (full : Full) → refusal_of full ≡ FullLeaves → full ≡ Leaves

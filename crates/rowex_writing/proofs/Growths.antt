@@ -220,7 +220,7 @@ pub no_room : {G : Type 0} (table : TableView) (becomes : G → Event → G → 
     IsFull table.layout key a.0.known b.0.known full → HasNoRoom table.layout key a.0.known c.0.known full
 no_room table becomes key a b c full goes works rest missed = record {
   rest = rest;
-  others = (later_transitive a.0.known b.0.known c.0.known goes.stays.0 (works_later table becomes b c works)).front;
+  later = later_transitive a.0.known b.0.known c.0.known goes.stays.0 (works_later table becomes b c works);
   full_of = full_on table becomes key a.0.known b c full (works_later table becomes b c works).pass (works_run table becomes b c works) missed;
 }
 

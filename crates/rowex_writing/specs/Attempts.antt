@@ -38,6 +38,8 @@ use Rattle.rowex_writing.specs.declared.plan.Full.{Full}
 use Rattle.rowex_writing.specs.declared.plan.Full.TheVariants.{Nodes, Leaves}
 use Rattle.rowex_writing.specs.declared.attempts.TryFault.{TryFault}
 use Rattle.rowex_writing.specs.declared.attempts.TryFault.TheVariants.{Busy, FullNodes, FullLeaves}
+use Rattle.rowex_reading.specs.Seen.{Sure}
+use Rattle.versions.specs.State.{WasAbsentSince}
 
 -- a load of a search: of the root, or of a word below it
 abbrev pub IsOfSearch : Act → Type 0
@@ -129,6 +131,25 @@ abbrev pub IsAttemptCause : Layout → Key → Known → Known → TryFault → 
 IsAttemptCause layout key k j Busy = HasMetLock layout k j ⊎ ((m : ℕ) × IsPinnedSince k m × (m < length j.front))
 IsAttemptCause layout key k j FullNodes = IsFull layout key k j Nodes
 IsAttemptCause layout key k j FullLeaves = IsFull layout key k j Leaves
+
+-- the fault is that no record was free
+abbrev pub IsFullFault : TryFault → Type 0
+IsFullFault Busy = ⊥
+IsFullFault fault = Unit {0}
+
+-- the call gives its key a value
+abbrev pub GivesValue : Call → Type 0
+GivesValue (Remove key) = ⊥
+GivesValue (RemoveIf key expected) = ⊥
+GivesValue call = Unit {0}
+
+-- the key was absent in a version since some version, to which the pass's pin goes back
+abbrev pub HasMissed : Known → Key → Type 0
+HasMissed j key = (m : ℕ) × IsPinnedSince j m × Sure j (λ s. WasAbsentSince s m key)
+
+-- a call that gives its key a value is refused for want of a record only if its search has not found the key
+abbrev pub IsFullOfNew : Known → Call → TryFault → Type 0
+IsFullOfNew j call fault = IsFullFault fault → GivesValue call → HasMissed j (key_of call)
 
 -- It was refused: no change of its own was made.
 pub record HasRefused (layout : Layout) (key : Key) (k j : Known) (fault : TryFault) : Type 0 where

@@ -150,7 +150,7 @@ IsFull layout key k j Leaves = LacksLeaves layout key j.pass j.failed k.steps
 -- The pass has made no change, for want of a record; it has nothing of its own and no lock.
 pub record HasNoRoom (layout : Layout) (key : Key) (k j : Known) (full : Full) : Type 0 where
   pub rest : IsAtRest j
-  pub others : OthersGoOn k.pass k.front j.front
+  pub later : IsLater k j
   pub full_of : IsFull layout key k j full
 
 -- the change that gives the key this value, by what was found of it

@@ -8,7 +8,7 @@ ghost use Rattle.rowex_reading.specs.Possible.{IsPossible};
 ghost use Rattle.publish_laws.specs.Ending.{IsAtRest};
 ghost use Rattle.rowex_table.specs.Made.{IsLater};
 ghost use Rattle.rowex_table.specs.Seats.{IsSeatOf};
-ghost use Rattle.rowex_writing.specs.Attempts.{HasAnswered, HasAttempted, HasDone, HasFailed, HasLoadedFound, HasLoadedRoot, HasRefused, IsFoundAgain, IsLeafless, refusal_of as the_refusal};
+ghost use Rattle.rowex_writing.specs.Attempts.{HasAnswered, HasAttempted, HasDone, HasFailed, HasLoadedFound, HasLoadedRoot, HasRefused, IsFoundAgain, IsFullOfNew, IsLeafless, refusal_of as the_refusal};
 ghost use Rattle.rowex_reading.specs.Ways.{value_of as the_value};
 ghost use Rattle.rowex_writing.specs.Asking.{aim_of as the_aim, value_in as the_value_in};
 ghost use Rattle.rowex_writing.specs.Deeds.{MayReplace, leaf_gone};
@@ -60,7 +60,8 @@ pub enum TryFault {
 /// record is free, nothing is changed, and the fault tells which.
 ///
 /// The pass is pinned, has no record and no lock, and has made no change since its pin. `way` is filled with the nodes that the search
-/// went through. After a change `build.gone` lists what it unlinked; else it stays. A removal is never refused as `FullLeaves`.
+/// went through. After a change `build.gone` lists what it unlinked; else it stays. A removal is never refused as `FullLeaves`. A call that
+/// gives its key a value is never refused as full if the search found the key.
 ///
 /// If it tries no lock, it makes at most 58 atomic steps, and 26 for each node on the key's way. Else it makes at most 124, and 26 for
 /// each such node. To these come 297 for each lock that it tries, four for each leaf record and two for each node record.
@@ -82,6 +83,7 @@ pub fn attempt<G: Gate>(
     ensures answered { IfOk result (HasAnswered seat.old.known seat.new.known call.now) }
     ensures refused { IfErr result (HasRefused table.now.layout (the_key call.now) seat.old.known seat.new.known) }
     ensures leafless { IsLeafless TryFault.FullLeaves call.now result }
+    ensures full { IfErr result (IsFullOfNew seat.new.known call.now) }
     ensures few { seat.new.known.steps ≤ seat.old.known.steps + most_steps table.now.layout }
 {
     let key = call.key();
@@ -135,6 +137,8 @@ fn try_plan<G: Gate>(
         HasDone seat.old.known seat.new.known deed job.now.key.now (the_value_in call.now (the_value now)) now) }
     ensures refused { IfErr result (λ fault. (k : Known) → HasLoadedRoot k seat.old.known → IsLater k seat.old.known →
         HasRefused table.now.layout job.now.key.now k seat.new.known fault) }
+    ensures later { IfErr result (λ fault. IsLater seat.old.known seat.new.known) }
+    ensures whole { deed ≡ Deed.Value → IfErr result (λ fault. fault ≡ TryFault.Busy) }
     ensures leafless { deed ≡ Deed.Take → result ≢ Err TryFault.FullLeaves }
 {
     if !lock_and_check_span(table, seat, gate, job) {
@@ -172,6 +176,7 @@ fn change_span<G: Gate>(
     ensures run { EndsChange table.now G.becomes job.now (held_loads job.now.found) (seat.old, gate.old) (seat.new, gate.new) }
     ensures done { result ≡ Ok tt → HasDone seat.old.known seat.new.known deed job.now.key.now job.now.value job.now.found }
     ensures failed { IfErr result (HasFailed table.now.layout job.now seat.old.known seat.new.known) }
+    ensures whole { deed ≡ Deed.Value → result ≡ Ok tt }
     ensures leafless { deed ≡ Deed.Take → result ≢ Err TryFault.FullLeaves }
 {
     match deed {

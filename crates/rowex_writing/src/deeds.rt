@@ -54,6 +54,7 @@ pub(crate) fn carry_out_deed<G: Gate>(
     requires makes { deed ≢ Deed.Value }
     ensures done { CarriesOut table.now G.becomes ((seat.old, gate.old), build.old) ((seat.new, gate.new), build.new) job.now deed result }
     ensures leafless { deed ≡ Deed.Take → result ≢ Err Full.Leaves }
+    ensures kind { deed ≢ Deed.Value }
 {
     match deed {
         Deed::Put => put_new_leaf(table, seat, gate, build, job),

@@ -13,6 +13,7 @@ use Rattle.rowex_writing.proofs.Runs.{goes_run, runs_trans, works_run}
 use Rattle.rowex_writing.proofs.Valued.{busy_leafless, failed_before, full_failed, held_few}
 use Rattle.rowex_writing.proofs.attempts.change_span.Goals as goal
 use Rattle.rowex_writing.specs.declared.attempts.TryFault.TheVariants.{FullLeaves}
+use Rattle.rowex_writing.specs.declared.plan.Deed.TheVariants.{Take, Value}
 
 pub store_value-requires-clause-taken : goal.store_value-requires-clause-taken
 store_value-requires-clause-taken g c = subst (HasTakenPlan c.args.table.now c.args.seat.now c.args.job.now) c.in-Value.is c.requires.taken
@@ -101,3 +102,13 @@ pub returns-in-Err-clause-leafless : goal.returns-in-Err-clause-leafless
 returns-in-Err-clause-leafless g c take is =
     let same : c.refusal_of.result ≡ FullLeaves = cc in
     c.carry_out_deed.ensures.leafless take (c.in-Err.is ∙ ap Err (leaves_refused c.in-Err.full (sym c.refusal_of.ensures ∙ same)))
+
+-- ---- a new value is never refused
+pub returns-in-Take-clause-whole : goal.returns-in-Take-clause-whole
+returns-in-Take-clause-whole g c e = absurd (let z : Take ≡ Value = sym c.in-Take.is ∙ e in cc)
+
+pub returns-in-Ok-clause-whole : goal.returns-in-Ok-clause-whole
+returns-in-Ok-clause-whole g c e = absurd (c.carry_out_deed.ensures.kind e)
+
+pub returns-in-Err-clause-whole : goal.returns-in-Err-clause-whole
+returns-in-Err-clause-whole g c e = absurd (c.carry_out_deed.ensures.kind e)

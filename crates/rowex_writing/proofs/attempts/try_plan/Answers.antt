@@ -5,7 +5,7 @@ use Rattle.rowex_reading.proofs.Seeing.{later_trans}
 use Rattle.rowex_writing.specs.Asking.{value_in}
 use Rattle.rowex_writing.specs.Changes.{HasTakenSpan, IsDeedChange, IsPlanned}
 use Rattle.rowex_writing.proofs.Attempted.{ended_run}
-use Rattle.rowex_writing.proofs.Attempting.{planned_again, planned_later, refused_busy, refused_failed}
+use Rattle.rowex_writing.proofs.Attempting.{planned_again, planned_later, refused_busy, refused_failed, failed_later}
 use Rattle.rowex_writing.proofs.Keeping.{changed_since, made_held}
 use Rattle.rowex_writing.proofs.Runs.{goes_run, run_loaded, runs_trans, works_run}
 use Rattle.rowex_writing.proofs.Valued.{ends_after, front_grown, held_again, held_few, holds_reads, holds_taken, taken_again}
@@ -150,3 +150,17 @@ returns-in-Err-clause-refused g c k loaded later =
 
 pub returns-in-Err-clause-leafless : goal.returns-in-Err-clause-leafless
 returns-in-Err-clause-leafless g c take is = let same : c.in-Err.fault ≡ FullLeaves = cc in c.change_span.ensures.leafless take (c.in-Err.is ∙ ap Err same)
+
+-- ---- what it leaves
+pub returns-in_default-clause-later : goal.returns-in_default-clause-later
+returns-in_default-clause-later g c =
+    later_trans c.lock_and_check_span.ensures.later (later_trans c.load_found_again.ensures.reads.goes.stays.0
+    (works_later c.args.table.now g.G.Gate.becomes (c.load_found_again.new.seat, c.load_found_again.new.gate) (c.release_records_and_locks.new.seat, c.release_records_and_locks.new.gate) c.release_records_and_locks.ensures.works))
+
+pub returns-in-Err-clause-later : goal.returns-in-Err-clause-later
+returns-in-Err-clause-later g c =
+    let now : Job = record { way = c.args.job.now.way; key = c.args.job.now.key; value = c.new_value.result; found = c.in-Some.found; span = c.args.job.now.span } in
+    later_trans c.lock_and_check_span.ensures.later (later_trans c.load_found_again.ensures.reads.goes.stays.0 (failed_later c.args.table.now.layout now c.load_found_again.new.seat.known c.change_span.new.seat.known c.in-Err.fault c.in-Err.ensures.failed))
+
+pub returns-in-Err-clause-whole : goal.returns-in-Err-clause-whole
+returns-in-Err-clause-whole g c e = let ok = sym c.in-Err.is ∙ c.change_span.ensures.whole e in absurd cc
