@@ -13,3 +13,4 @@ pub mod Opening
 pub mod Linking
 pub mod Published
 pub mod Stores
+pub mod Valued

@@ -23,7 +23,7 @@ pub decided : (b : Bool) (s : StateView) (q : ℕ) (act : Act) → ((c : Core) �
 decided true s q act same holds fails = λ c lawful h. (holds refl c lawful h, same c h)
 decided false s q act same holds fails = (refl, fails refl)
 
-record_word_at : (c : Core) (r : Rec) (i offset : ℕ) → offset ≡ suc i → record_word c r offset ≡ get_or (c.words r) i 0
+pub record_word_at : (c : Core) (r : Rec) (i offset : ℕ) → offset ≡ suc i → record_word c r offset ≡ get_or (c.words r) i 0
 record_word_at c r i offset e = rw e refl
 
 -- a word of a record

@@ -19,3 +19,7 @@ pub not_spelled : (s : RecordsView) (n : ℕ) (words : List ℕ) → words_in s 
     ((pair : List ℕ × ℕ) → HasLeafWords pair → leaf_words pair ≡ up_to_key words → ⊥) → ¬ (IsSpelledIn s (a_leaf n))
 unfolding IsPacked
 not_spelled s n words at none (x, there, packed) = none packed.0 packed.1 (packed.2 ∙ ap up_to_key (same_Some x words (sym there ∙ at)))
+
+-- One of the two is so exactly where the second is, if the first isn't.
+pub second : (b : Bool) (A B : Type 0) → ¬ A → ((b ≡ true) ↔ B) → ((b ≡ true) ↔ (A ⊎ B))
+second b A B not test = ((λ t. inr (test.0 t)), λ h. elim h [ inl x ↦ absurd (not x) | inr x ↦ test.1 x ])

@@ -4,7 +4,7 @@ use Rattle.compound_node.specs.declared.entries.Entry.{Entry}
 use Rattle.compound_node.specs.declared.entries.Entry.TheVariants.{Leaf}
 use Rattle.record_words.specs.Entry.{entry_word}
 use Rattle.finite_map.specs.declared.Change.{Change}
-use Rattle.versions.specs.declared.Rec.TheVariants.{Node as a_node}
+use Rattle.versions.specs.declared.Rec.TheVariants.{Node as a_node, Leaf as a_leaf}
 use Rattle.versions.specs.Told.{items_of}
 use Rattle.rowex_core.specs.declared.event.Act.{Act}
 use Rattle.rowex_core.specs.declared.event.Act.TheVariants.{Publish}
@@ -17,7 +17,7 @@ use Rattle.replay_trees.specs.declared.trees.Item.{Item as ReadItem}
 use Rattle.replay_trees.specs.Versions.{read_item}
 use Rattle.replay_state.specs.declared.passes.PassState.{PassState}
 use Rattle.replay_state.specs.Passes.{ArePassesOf}
-use Rattle.replay_state.specs.Records.{RecordsView, AreRecordsOf, HasLockedEntry, lock_in}
+use Rattle.replay_state.specs.Records.{RecordsView, AreRecordsOf, HasLockedEntry, lock_in, words_in}
 
 -- what contracts see of the state of a replay
 pub record StateView : Type 0 where
@@ -53,7 +53,7 @@ HasNamerLocked s q l = ((s.anchor ≡ Some q) × (s.root ≡ Some (Leaf l))) ⊎
 abbrev pub HasLock : StateView → ℕ → Spot → Type 0
 HasLock s q Root = s.anchor ≡ Some q
 HasLock s q (Slot n j) = (j < MAX_ENTRIES) × (lock_in s.records (a_node n) ≡ Some (Some q))
-HasLock s q (Value l) = HasNamerLocked s q l
+HasLock s q (Value l) = ((words : List ℕ) × (words_in s.records (a_leaf l) ≡ Some words)) × HasNamerLocked s q l
 
 -- the act is a publish of pass q, which has locked its word
 abbrev pub IsLockedPublish : StateView → ℕ → Act → Type 0

@@ -1,6 +1,6 @@
 //! The publish: the one step that changes the map.
 
-ghost use Rattle.std.specs.Prelude.{◌≡◌, ◌↔◌, ◌<◌, IfOk, IsTrue, OnErr};
+ghost use Rattle.std.specs.Prelude.{◌≡◌, ◌↔◌, ◌<◌, IfOk, IsTrue, OnErr, Some};
 ghost use Rattle.record_words.specs.Entry.{HasEntryWord, entry_word};
 ghost use Rattle.rowex_core.specs.declared.event.Act.TheVariants.{Publish};
 ghost use Rattle.rowex_core.specs.declared.event.Spot.TheVariants.{Root, Slot, Value};
@@ -63,10 +63,14 @@ impl State {
         ensures { IsTrue result ↔ HasNamerLocked self.now pass leaf }
     {
         let entry = Some(Entry::Leaf(leaf));
-        if self.has_locked_anchor(pass) && self.root == entry {
-            return true;
-        }
-        self.records.has_locked_entry(pass, pack_entry(entry))
+        self.has_locked_root(pass, entry) || self.records.has_locked_entry(pass, pack_entry(entry))
+    }
+
+    /// Whether `pass` has locked the anchor, and `root` is the root.
+    fn has_locked_root(&self, pass: u16, root: Option<Entry>) -> bool
+        ensures { IsTrue result ↔ ((self.now.anchor ≡ Some pass) × (self.now.root ≡ root)) }
+    {
+        self.has_locked_anchor(pass) && self.root == root
     }
 
     /// As `publish`, of the root: `root` is its new entry, whose word is `word`.
@@ -163,8 +167,8 @@ impl State {
 }
 
 /// Gives the leaf of number `leaf` the value `value`.
-fn set_value(items: &mut [Item], leaf: u32, value: u64)
-    ensures { AreRevalued leaf value items.old items.new }
+fn set_value(items: &mut Vec<Item>, leaf: u32, value: u64)
+    ensures { AreRevalued leaf value items.old.items items.new.items }
 {
     for i in 0..items.len() {
         if items[i].number == leaf {

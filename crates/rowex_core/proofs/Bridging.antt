@@ -1,15 +1,10 @@
 -- A publish that is legal for versions is legal for words.
-use Rattle.std.proofs.Common.{◌≡◌, Option, Some, None, refl, sym, ap, ◌∙◌, subst}
-use Rattle.compound_node.specs.declared.entries.Entry.{Entry}
-use Rattle.tries.specs.Tree.{Tree, IsTrie, IsBuilt}
-use Rattle.versions.specs.Heap.{Heap}
-use Rattle.versions.specs.State.{IsTop}
+use Rattle.std.proofs.Common.{◌≡◌, sym, ap, ◌∙◌, subst}
 use Rattle.versions.specs.Told.{items_of}
 use Rattle.versions.specs.Steps.{IsNextVersion}
-use Rattle.versions.proofs.Reading.{read_exact}
 use Rattle.rowex_core.specs.Cores.{heap_of}
 use Rattle.rowex_core.specs.declared.event.Spot.TheVariants.{Value}
-use Rattle.rowex_core.specs.Events.{IsLegalPublish, tree_of, stored_words, stored_root, next_tree, next_change}
+use Rattle.rowex_core.specs.Events.{IsLegalPublish, stored_words, stored_root, next_tree, next_change}
 use Rattle.rowex_core.proofs.Finding.{finds_change}
 use Rattle.rowex_core.proofs.Valuing.{tree_read, legal_publish, value_trades}
 use Rattle.rowex_core.specs.Writers.{PublishIsLegal, ValueIsLegal}

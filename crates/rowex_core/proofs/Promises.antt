@@ -31,7 +31,7 @@ use Rattle.rowex_core.specs.declared.event.Target.TheVariants.{Node as NodeTarge
 use Rattle.rowex_core.specs.Reading.{HasWordAt}
 use Rattle.rowex_core.specs.Cores.{IsLawful, bare, heap_of, word_count_of}
 use Rattle.rowex_core.specs.Words.{record_word, word_at, Shows}
-use Rattle.rowex_core.specs.Events.{IsFixedOffset, after, next_change, next_tree}
+use Rattle.rowex_core.specs.Events.{IsFixedOffset, after, next_change}
 use Rattle.rowex_core.specs.Opening.{opening, opening_words}
 use Rattle.rowex_core.specs.Statements.{OpeningIsLawful, Hindsight, Parting, InReach, EntriesInReach, PublishIsAStep, LocksApart, call_of_kind, call_of_change}
 use Rattle.rowex_core.proofs.Frames.{next_change_pass}

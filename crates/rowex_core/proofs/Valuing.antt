@@ -1,5 +1,5 @@
 -- The value of a leaf is stored: what the words say then, and the versions.
-use Rattle.std.proofs.Common.{◌≡◌, ◌≢◌, ◌⊎◌, inl, inr, ℕ, ◌+◌, ◌<◌, ◌^◌, List, [], ◌∷◌, ◌&&◌, length, set, drop, get_or, Bool, true, false, eqb, refl, sym, ap, ◌∙◌, subst, arith, lit<, Option, Some, None}
+use Rattle.std.proofs.Common.{◌≡◌, ◌≢◌, ◌⊎◌, inl, inr, ℕ, ◌+◌, ◌<◌, ◌^◌, List, [], ◌∷◌, ◌&&◌, length, set, get_or, Bool, true, false, eqb, refl, sym, ap, ◌∙◌, subst, arith, lit<, le_refl, ◌≤◌, Option, Some, None}
 use Rattle.std.specs.Prelude.{All}
 use Rattle.std.proofs.lemmas.List.Elements.{All-weaker}
 use Rattle.std.proofs.lemmas.Bool.{false≢true, cases_Bool, ne_eqb, eq-eqb, eqb-true}
@@ -15,15 +15,17 @@ use Rattle.record_words.proofs.UpToKey.{up_to_key_before, up_to_key_size, spells
 use Rattle.tries.specs.Tree.{Tree, IsTrie, IsBuilt}
 use Rattle.versions.specs.declared.Rec.{Rec}
 use Rattle.versions.specs.declared.Rec.TheVariants.{Node as a_node, Leaf as a_leaf}
-use Rattle.versions.specs.Core.{Fate, InTree}
+use Rattle.versions.specs.Core.{Fate, Free, Held, Ready, InTree, Unlinked, Marked, life_of}
 use Rattle.versions.specs.Heap.{NodeWords, Heap}
-use Rattle.versions.specs.State.{IsTop, IsLinked}
-use Rattle.versions.specs.Steps.{same_rec, in_root, in_node, IsNextVersion, IsVersionPublish}
-use Rattle.versions.proofs.Legal.{same_rec_true}
+use Rattle.versions.specs.State.{IsTop, IsLinked, IsLived, Links, Spans}
+use Rattle.versions.specs.Steps.{is_linked, next_fate, same_rec, in_root, in_node, IsNextVersion, IsVersionPublish}
+use Rattle.versions.proofs.Legal.{linked_cases, same_rec_true}
+use Rattle.versions.proofs.Publish.{within_links}
+use Rattle.tries.proofs.Reading.{some_injective as some_same}
 use Rattle.versions.specs.Trades.{HasTraded}
 use Rattle.versions.proofs.Reading.{read_exact}
-use Rattle.versions.proofs.Revalued.{IsValueStored, links_revalued, namer_links}
-use Rattle.versions.proofs.Values.{NamerNow, namer_now, named_in_tree, then_, value_publish, value_trade}
+use Rattle.versions.proofs.Revalued.{IsValueStored, revalued, links_before, links_revalued, namer_links}
+use Rattle.versions.proofs.Values.{NamerNow, namer_now, named_in_tree, in_tree_if_linked, then_, value_publish, value_trade}
 use Rattle.rowex_core.specs.declared.event.Spot.{Spot}
 use Rattle.rowex_core.specs.declared.event.Spot.TheVariants.{Root, Slot, Value}
 use Rattle.rowex_core.specs.Reading.{leaf_of, node_words_of, IsPacked}
@@ -103,6 +105,37 @@ module _ (c : Core) (q l w : ℕ) (law : IsLawful c) (named : IsLockedAt c q (Va
 
   pub value_trades : HasTraded (c.past.version c.past.now) (next_tree c (Value l) w) [] []
   value_trades = subst (λ z. HasTraded (c.past.version c.past.now) z [] []) (sym tree_is) (value_trade (bare c) law.core.state q l w named.1 (heap_of (stored_words c (Value l) w)) stored)
+
+  -- The newest tree, and that with the value.
+  pub value_tree : (t : Tree) × (c.past.version c.past.now ≡ Some t) × (next_tree c (Value l) w ≡ Some (revalued l w t))
+  value_tree = let f : NamerNow (bare c) q l = namer_now (bare c) law.core.state q l named.1 in (f.tree, f.now, tree_is)
+
+  -- Each record has the fate that it had.
+  pub fate_stays : (r : Rec) → next_fate c.past.now q (is_linked (next_tree c (Value l) w) r) (c.fate r) ≡ c.fate r
+  fate_stays r = go (c.fate r) refl (linked_cases (next_tree c (Value l) w) r)
+    where
+      linked_then : (s : ℕ) → c.fate r ≡ InTree s → IsLinked (next_tree c (Value l) w) r
+      linked_then s e =
+          let lived : s ≤ c.past.now = subst (λ z. IsLived c.past.now (life_of z)) e (law.core.state.lived r) in
+          let u = law.core.state.alive r c.past.now (subst (λ z. Spans c.past.now (life_of z) c.past.now) (sym e) (lived, le_refl c.past.now)) in
+          subst (λ z. IsLinked z r) (sym value_tree.2)
+          (links_revalued l w value_tree.0 r (subst (λ z. Links z r) (some_same (sym u.1.is_version ∙ value_tree.1)) (within_links u.1.within r u.1.is_record)))
+
+      not_ready : (p : ℕ) → c.fate r ≡ Ready p → IsLinked (next_tree c (Value l) w) r → ⊥
+      not_ready p e linked =
+          let x = in_tree_if_linked (bare c) law.core.state value_tree.0 value_tree.1 r (links_before l w value_tree.0 r (subst (λ z. IsLinked z r) value_tree.2 linked)) in
+          let z : Ready p ≡ InTree x.0 = sym e ∙ x.1 in cc
+
+      go : (f : Fate) → c.fate r ≡ f → (IsLinked (next_tree c (Value l) w) r × (is_linked (next_tree c (Value l) w) r ≡ true)) ⊎ ((¬ (IsLinked (next_tree c (Value l) w) r)) × (is_linked (next_tree c (Value l) w) r ≡ false)) →
+          next_fate c.past.now q (is_linked (next_tree c (Value l) w) r) f ≡ f
+      go Free e x = refl
+      go (Held p) e x = refl
+      go (Ready p) e (inl x) = absurd (not_ready p e x.0)
+      go (Ready p) e (inr x) = rw x.1 refl
+      go (InTree s) e (inl x) = rw x.1 refl
+      go (InTree s) e (inr x) = absurd (x.0 (linked_then s e))
+      go (Unlinked s n p) e x = refl
+      go (Marked s n p) e x = refl
 
   -- its leaf is linked before and then
   pub valued_in_tree : (since : ℕ) × (c.fate (a_leaf l) ≡ InTree since)

@@ -96,7 +96,7 @@ module _ (c : BareCore) (law : IsLawfulState (view c)) where
   linked_fate (Unlinked s l q) i h = absurd (omega arith)
   linked_fate (Marked s l q) i h = absurd (omega arith)
 
-  in_tree_if_linked : (t : Tree) → c.past.version c.past.now ≡ Some t → (r : Rec) → Links t r → (s : ℕ) × (c.fate r ≡ InTree s)
+  pub in_tree_if_linked : (t : Tree) → c.past.version c.past.now ≡ Some t → (r : Rec) → Links t r → (s : ℕ) × (c.fate r ≡ InTree s)
   in_tree_if_linked t now r h =
       let u = links_within t r h in
       linked_fate (c.fate r) (law.lived r)

@@ -6,7 +6,7 @@ use Rattle.replay_state.proofs.publish.set_value.Given as goal
 
 abbrev pub invariant-loop-i : goal.invariant-loop-i
 invariant-loop-i l = record {
-  count : length l.items ≡ length l.fn.items;
-  made : (k : ℕ) → k < l.i → (x : Item) → slice_get l.items k ≡ Some x → (y : Item) × (slice_get l.fn.items k ≡ Some y) × (read_item x ≡ with_value l.leaf l.value (read_item y));
-  left : (k : ℕ) → l.i ≤ k → slice_get l.items k ≡ slice_get l.fn.items k;
+  count : length l.items.items ≡ length l.fn.items.items;
+  made : (k : ℕ) → k < l.i → (x : Item) → slice_get l.items.items k ≡ Some x → (y : Item) × (slice_get l.fn.items.items k ≡ Some y) × (read_item x ≡ with_value l.leaf l.value (read_item y));
+  left : (k : ℕ) → l.i ≤ k → slice_get l.items.items k ≡ slice_get l.fn.items.items k;
 }

@@ -1,4 +1,4 @@
-use Rattle.std.proofs.Common.{◌≡◌, ℕ, ◌<◌, ◌+◌}
+use Rattle.std.proofs.Common.{ℕ, ◌<◌, ◌+◌}
 use Rattle.versions.specs.declared.Rec.TheVariants.{Node as a_node}
 use Rattle.replay_state.specs.Records.{HasWordStored}
 use Rattle.replay_state.proofs.records.Records.has_entry.Given as goal

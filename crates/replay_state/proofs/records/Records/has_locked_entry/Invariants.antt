@@ -1,4 +1,4 @@
-use Rattle.std.proofs.Common.{◌≡◌, ℕ, ◌<◌}
+use Rattle.std.proofs.Common.{ℕ, ◌<◌}
 use Rattle.replay_state.specs.Records.{IsEntryLocked}
 use Rattle.replay_state.proofs.records.Records.has_locked_entry.Given as goal
 

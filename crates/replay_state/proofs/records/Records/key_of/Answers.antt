@@ -1,5 +1,5 @@
 -- The words spell the leaf, or none.
-use Rattle.std.proofs.Common.{◌≡◌, sym, ap, ◌∙◌, Ok, Err}
+use Rattle.std.proofs.Common.{sym, ap, ◌∙◌}
 use Rattle.versions.specs.Heap.{LeafWords}
 use Rattle.rowex_core.proofs.Leafing.{leaf_is}
 use Rattle.replay_state.proofs.Searches.{not_spelled}
