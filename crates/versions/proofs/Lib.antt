@@ -11,3 +11,4 @@ pub mod Telling
 pub mod Reading
 pub mod Stepping
 pub mod Members
+pub mod Counting
