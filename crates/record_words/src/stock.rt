@@ -3,7 +3,7 @@
 ghost use Rattle.std.specs.Prelude.{ℕ, ◌≡◌, ◌<◌, ◌≤◌};
 ghost use Rattle.key_bits.specs.declared.TheConstants.{MAX_BYTES};
 ghost use Rattle.record_words.specs.declared.layout.Layout.{Layout};
-ghost use Rattle.record_words.specs.Layout.{class_for, stock_of, stock_for, leaves_of, leaf_size, HasStock};
+ghost use Rattle.record_words.specs.Layout.{class_for, stock_of, stock_for, stock_for_any, leaves_of, leaf_size, HasStock};
 ghost use Rattle.record_words.specs.Leaf.{words_for};
 ghost use Rattle.record_words.specs.Limits.{IsRecordCount};
 
@@ -55,6 +55,26 @@ impl Stock {
             shares,
             LeafClass::for_key(longest),
             count.saturating_add(shares),
+        )
+    }
+
+    /// A stock that is always enough for up to `count` keys at once, of at most `longest` bytes each, in an index of `passes` passes; more
+    /// than 240 bytes count as 240. All its leaf records are of the smallest class with room for such keys.
+    ///
+    /// A tree has fewer nodes than keys (`versions::laws::nodes_in_tree_are_fewer_than_keys`). So it has a node record and a leaf record for
+    /// each key. For each pass it has those that one change claims at most: a leaf record, 18 node records for each byte, and one. Records
+    /// that passes have replaced come back once no call can reach them; calls may wait for them. Sums stop at 4,294,967,295.
+    pub fn for_any_keys(count: u32, longest: usize, passes: u32) -> Stock
+        ensures stock { result ≡ stock_for_any count longest passes }
+        ensures size { 1 ≤ passes → IsRecordCount result.nodes × IsRecordCount (leaves_of result) }
+        ensures room { (layout : Layout) (leaf bytes : ℕ) → HasStock layout result → leaf < layout.leaves →
+            bytes ≤ longest → bytes ≤ MAX_BYTES → words_for bytes ≤ leaf_size layout leaf }
+    {
+        let claims = 18 * longest.min(MAX_BYTES) as u32 + 1;
+        Stock::of_class(
+            count.saturating_add(passes.saturating_mul(claims)),
+            LeafClass::for_key(longest),
+            count.saturating_add(passes),
         )
     }
 
