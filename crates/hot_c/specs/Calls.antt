@@ -86,6 +86,10 @@ HasGivenBack nodes leaves index k j = IsUnnoted index.layout k j × HasCollected
 abbrev pub AreClosed : List Handle → Type 0
 AreClosed handles = All (λ h. h.slot.opened ≡ None) handles
 
+-- C's pointers of these handles
+abbrev pub places_of : List Handle → List ℕ
+places_of = map (λ h. h.place)
+
 -- an index can have so many passes, nodes and leaves
 abbrev pub IsSize : ℕ → ℕ → ℕ → Type 0
 IsSize passes nodes leaves = IsPassCount passes × IsNodeCount nodes × IsLeafCount leaves
@@ -94,12 +98,16 @@ IsSize passes nodes leaves = IsPassCount passes × IsNodeCount nodes × IsLeafCo
 abbrev pub IsStockSize : ℕ → Stock → Type 0
 IsStockSize passes stock = IsStockPassCount passes × IsRecordCount stock.nodes × IsRecordCount (leaves_of stock)
 
+-- the new pass of this number, with a share of the index; it keeps no closed handles
+abbrev pub IsNewShare : TableView → ℕ → Opened → Type 0
+IsNewShare index q o = (o.handle.index ≡ index) × IsNewPass q o.handle.pass × (o.kept.items ≡ [])
+
 -- New passes of one index, which has so many passes and such records, each at the place of its number, and with a share of the index.
 pub record AreNew (passes : ℕ) (HasRecords : Layout → Type 0) (opened : List Opened) : Type 0 where
   pub index : TableView
   pub layout : (index.layout.passes ≡ passes) × HasRecords index.layout
   pub count : length opened ≡ passes
-  pub each : (q : ℕ) (o : Opened) → slice_get opened q ≡ Some o → (o.handle.index ≡ index) × IsNewPass q o.handle.pass
+  pub each : (q : ℕ) (o : Opened) → slice_get opened q ≡ Some o → IsNewShare index q o
 
 -- the handles are open, on one new index with such records, each with the pass of its place
 abbrev pub HaveOpenedOn : (Layout → Type 0) → List Handle → Type 0

@@ -3,7 +3,7 @@
 ghost use Rattle.std.specs.Prelude.{◌≡◌, ◌≢◌, ◌↔◌, ◌++◌, ◌∷◌, [], ℕ, All, Err, IfErr, IfOk, IsErr, IsTrue, Some, length, map, reverse, slice_get};
 ghost use Rattle.seat_calls.specs.Passes.{IsNewPass, Owns, PassView};
 ghost use Rattle.hot_index.specs.Handles.{handle_at};
-ghost use Rattle.hot_c.specs.Calls.{AreClosed, AreNew, HasCounts, IsKeeper, IsSize, IsStockSize};
+ghost use Rattle.hot_c.specs.Calls.{AreClosed, AreNew, HasCounts, IsKeeper, IsNewShare, IsSize, IsStockSize, places_of};
 ghost use Rattle.record_words.specs.Layout.{HasStock};
 
 use crate::handle::Handle;
@@ -52,7 +52,8 @@ pub fn is_stock_in_range(passes: usize, stock: &Stock) -> bool
 pub fn open_handles(handles: &mut [Handle], passes: Vec<Box<Opened, Global>>)
     requires closed { AreClosed handles.old }
     requires count { length passes.items ≡ length handles.old }
-    ensures { map (λ h. h.slot.opened) handles.new ≡ map (λ b. Some b.value) passes.items }
+    ensures opened { map (λ h. h.slot.opened) handles.new ≡ map (λ b. Some b.value) passes.items }
+    ensures places { places_of handles.new ≡ places_of handles.old }
 {
     let mut place = 0;
     for opened in passes {
@@ -152,7 +153,7 @@ fn share_index(
 ) -> Result<Vec<Box<Opened, Global>>, AllocError>
     requires { (q : ℕ) (p : PassView) → slice_get passes.items q ≡ Some p → Owns index p × IsNewPass q p }
     ensures count { IfOk result (λ shared. length shared.items ≡ length passes.items) }
-    ensures each { IfOk result (λ shared. (q : ℕ) (b : _) → slice_get shared.items q ≡ Some b → (b.value.handle.index ≡ index) × IsNewPass q b.value.handle.pass) }
+    ensures each { IfOk result (λ shared. (q : ℕ) (b : _) → slice_get shared.items q ≡ Some b → IsNewShare index q b.value) }
 {
     let index = Arc::new(alloc, index)?;
     let mut shared = Vec::new(alloc);
