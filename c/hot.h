@@ -2,7 +2,8 @@
  *
  * hot_open_index makes an index, and hot_open opens a handle on it. A handle is the right to use the index. Calls with different
  * handles may run at the same time; calls with the same handle may not. So give each thread its own handle, or hand a handle over by a
- * lock, by a thread's start or join, or by a sequentially consistent atomic. A call takes effect for all others at once, or not at all.
+ * lock, by a thread's start or join, or by a sequentially consistent atomic. A call takes effect for all others at once, or not at all; but
+ * hot_copy, hot_clear, hot_each and hot_get_packed make several calls, one after the other.
  *
  * A key is 0 to HOT_MAX_KEY bytes of any value. Keys are ordered as by memcmp, and a key comes after its own prefixes. The index
  * copies keys: the memory of a key is yours again when the call returns.
@@ -34,7 +35,7 @@
  * Each call below that makes steps gives its bound, for the worst tree that there can be.
  *
  * A handle takes some 118 KB, from when it is first opened, so that no change needs memory. hot_create and hot_create_with open all
- * their handles, so 64 of them take 7.6 MB at once. A handle of hot_open_index takes some 90 bytes until hot_open first opens it; but the
+ * their handles, so 64 of them take 7.6 MB at once. A handle of hot_open_index takes some 220 bytes until hot_open first opens it; but the
  * index takes the 118 KB of its last handle at once.
  *
  * Each handle has memory for the pairs of its scans, too, which the next scan uses again. After a scan it goes if the keys have more than
@@ -72,7 +73,8 @@ extern const uint8_t hot_last_key[HOT_MAX_KEY];
 #define HOT_TO_END hot_last_key, HOT_MAX_KEY
 
 /* How a call came out. Each call says which of these it returns. From HOT_BUSY to HOT_NO_MEMORY, and from HOT_HELD_BACK on, the call
- * was refused and changed nothing; with any other status it was made. */
+ * was refused and changed nothing; with any other status it was made. hot_copy, hot_clear, hot_each and hot_get_packed return the status
+ * of the first of their calls that was refused: what those before it did stays. */
 typedef uint32_t hot_status;
 enum {
     HOT_DONE = 0,          /* it was made; there is nothing else to tell */
@@ -163,7 +165,7 @@ void hot_stock_for_lengths(const uint32_t *keys, hot_stock *stock);
  * HOT_DONE; or HOT_OUT_OF_RANGE or HOT_OLD_PROCESSOR, where hot_create_with would return that. */
 hot_status hot_stock_bytes(const hot_stock *stock, size_t handles, size_t *bytes);
 
-/* Makes an empty index with this stock and room for so many handles, 1 to 1024, and writes it to `index`. Room for a handle takes some 80
+/* Makes an empty index with this stock and room for so many handles, 1 to 1024, and writes it to `index`. Room for a handle takes some 220
  * bytes; the handle's 118 KB are taken when hot_open first opens it, and those of the last one at once.
  * HOT_DONE; or HOT_OUT_OF_RANGE, HOT_NO_MEMORY or HOT_OLD_PROCESSOR, and then nothing is written. */
 hot_status hot_open_index(const hot_stock *stock, size_t handles, hot_index **index);

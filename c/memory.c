@@ -1,20 +1,11 @@
-/* Tests of what memory the library takes: how many bytes handles have before and after they are opened, that none is lost, and what calls
- * return where memory is refused, each allocation in turn. It is linked with --wrap for malloc, calloc, realloc and free. */
+/* Tests of what memory the library takes: how many bytes handles have before and after they are opened and between scans, that none is lost,
+ * and what calls return where memory is refused, each allocation in turn. It is linked with --wrap for malloc, calloc, realloc and free. */
 #include "hot.h"
+#include "check.h"
 #include <malloc.h>
 #include <stdio.h>
 
 #define HANDLES 1024
-
-static int failures;
-
-#define CHECK(that)                                                      \
-    do {                                                                 \
-        if (!(that)) {                                                   \
-            fprintf(stderr, "memory.c:%d: not so: %s\n", __LINE__, #that); \
-            failures = 1;                                                \
-        }                                                                \
-    } while (0)
 
 void *__real_malloc(size_t size);
 void *__real_calloc(size_t count, size_t size);
@@ -65,10 +56,11 @@ static void test_light(void) {
     CHECK(hot_stock_bytes(&stock, HANDLES, &bytes) == HOT_DONE);
     CHECK(hot_open_index(&stock, HANDLES, &index) == HOT_DONE);
     none = in_use;
-    CHECK(none - bytes <= 4000000);
     CHECK(hot_open(index, &handle) == HOT_DONE);
     one = in_use;
     CHECK(one - none <= 150000);
+    /* The last handle is open to the library, and 128 bytes of each are in the table. */
+    CHECK((none - bytes - (one - none)) / HANDLES + 128 <= 220);
     for (turn = 0; turn < 10000; turn++) {
         CHECK(hot_close(&handle) == HOT_DONE && hot_open(index, &handle) == HOT_DONE);
         CHECK(hot_upsert(&handle, (const uint8_t *)"key", 3, turn, NULL) == (turn ? HOT_WAS : HOT_NEW));
@@ -81,6 +73,34 @@ static void test_light(void) {
         CHECK(hot_close(&handles[turn]) == HOT_DONE);
     CHECK(hot_close_index(index) == HOT_DONE && in_use == 0);
     printf("%d handles take %zu bytes, and each that is open %zu\n", HANDLES, none - bytes, one - none);
+}
+
+/* Between its calls a handle keeps 64 KiB at most of what its scans took, however many pairs they listed, and some of it. */
+static void test_kept(void) {
+    enum { MANY = 8192 };
+    static const hot_stock roomy = {MANY, 0, 0, 0, 0, MANY};
+    static const size_t lengths[4] = {2, 15, 16, HOT_MAX_KEY};
+    static hot_pair pairs[MANY];
+    hot_handle handle = HOT_HANDLE;
+    uint8_t key[HOT_MAX_KEY] = {0};
+    size_t place, number, limit, count, before, most = 0;
+    uint32_t more;
+    for (place = 0; place < 4; place++) {
+        CHECK(hot_create_with(&roomy, &handle, 1) == HOT_DONE);
+        before = in_use;
+        for (number = 0; number < MANY; number++) {
+            key[0] = (uint8_t)(number >> 8), key[1] = (uint8_t)number;
+            CHECK(hot_insert(&handle, key, lengths[place], number, NULL) == HOT_INSERTED);
+        }
+        CHECK(in_use == before);
+        for (limit = 1; limit <= MANY; limit += limit < 64 ? 1 : 61) {
+            CHECK(hot_scan(&handle, key, 0, HOT_TO_END, pairs, limit, &count, &more) == HOT_DONE && count == limit);
+            CHECK(in_use - before <= (64 << 10) + 64);
+            most = in_use - before > most ? in_use - before : most;
+        }
+        CHECK(hot_close(&handle) == HOT_DONE && in_use == 0);
+    }
+    CHECK(most > 48 << 10);
 }
 
 /* What calls return where the allocation of this number is refused: that there is no memory, or what they return with it, and then all
@@ -123,6 +143,7 @@ static int test_refused(long number) {
 int main(void) {
     long number = 1;
     test_light();
+    test_kept();
     while (test_refused(number))
         number++;
     CHECK(number > 15);

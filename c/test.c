@@ -1,24 +1,11 @@
 /* Tests of the library from C: each call and each status, two threads on one index by calls that wait and by others, handles closed in
  * any order. */
 #include "hot.h"
+#include "check.h"
 #include <pthread.h>
 #include <stdio.h>
 #include <string.h>
 #include <sys/resource.h>
-
-static int failures;
-
-#define CHECK(that)                                                    \
-    do {                                                               \
-        if (!(that)) {                                                 \
-            fprintf(stderr, "test.c:%d: not so: %s\n", __LINE__, #that); \
-            __atomic_store_n(&failures, 1, __ATOMIC_SEQ_CST);          \
-        }                                                              \
-    } while (0)
-
-static const uint8_t *bytes(const char *text) {
-    return (const uint8_t *)text;
-}
 
 /* One handle: what each call answers. */
 static void test_calls(void) {
