@@ -22,6 +22,7 @@ hot_status proved_destroy(hot_handle *handle);
 
 /* And those that a program may call before it has a handle: there the processor is known to be one for which they were compiled. */
 void proved_stock_for_keys(uint32_t keys, size_t longest, hot_stock *stock);
+void proved_stock_for_any_keys(uint32_t keys, size_t longest, size_t handles, hot_stock *stock);
 hot_status proved_stock_bytes(const hot_stock *stock, size_t handles, size_t *bytes);
 
 /* Lets a handle see all that another has seen; both are of one index. */
@@ -78,6 +79,13 @@ static const hot_stock no_stock = {0, 0, 0, 0, 0, 0};
 void hot_stock_for_keys(uint32_t keys, size_t longest, hot_stock *stock) {
     if (is_processor_new())
         proved_stock_for_keys(keys, longest, stock);
+    else
+        *stock = no_stock;
+}
+
+void hot_stock_for_any_keys(uint32_t keys, size_t longest, size_t handles, hot_stock *stock) {
+    if (is_processor_new())
+        proved_stock_for_any_keys(keys, longest, handles, stock);
     else
         *stock = no_stock;
 }

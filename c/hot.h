@@ -57,8 +57,8 @@ extern "C" {
 #endif
 
 /* The version of this header. A program that is right with an earlier version of the same major number is right with this one. */
-#define HOT_VERSION_MAJOR 2
-#define HOT_VERSION_MINOR 1
+#define HOT_VERSION_MAJOR 3
+#define HOT_VERSION_MINOR 0
 #define HOT_VERSION_PATCH 0
 
 /* The version of the library that is linked: 65536 times the major number, 256 times the minor one, and the patch. */
@@ -152,9 +152,15 @@ hot_status hot_create_with(const hot_stock *stock, hot_handle *handles, size_t c
 
 /* Writes a stock for `keys` keys of at most `longest` bytes each: 9 leaves for 8 keys, of the smallest size with room for such a key,
  * one node for 8 keys, and 512 more of both. That was enough for random keys, URLs, numbers and text with a rising number, also where
- * keys came and went for long, and is for eight threads that change the index. Keys that are long chains of prefixes may take up to
- * one node each. */
+ * keys came and went for long, and is for eight threads that change the index. Random numbers with four bits set take more, and keys
+ * that somebody chose to do harm up to one node each: hot_stock_for_any_keys has room for them. */
 void hot_stock_for_keys(uint32_t keys, size_t longest, hot_stock *stock);
+
+/* Writes a stock that is always enough for `keys` keys of at most `longest` bytes each, whatever they are, in an index of so many handles:
+ * a tree has fewer nodes than keys. It has a node and a leaf for each key, and for each handle those that one change claims at most: a
+ * leaf, 18 nodes for each byte of `longest`, and one. So they are never all in use while there are no more keys; a change may have to
+ * wait for retired ones. More than 240 bytes count as 240, more than 1024 handles as 1024, and no number exceeds 4294967295. */
+void hot_stock_for_any_keys(uint32_t keys, size_t longest, size_t handles, hot_stock *stock);
 
 /* Writes a stock for keys of different lengths: `keys` has five numbers, of keys of up to 8, 24, 56, 88 and HOT_MAX_KEY bytes. For each
  * that is not 0 it has as many leaves as hot_stock_for_keys would give, and nodes for all keys together. */

@@ -528,6 +528,13 @@ class handle {
     return stock;
 }
 
+/// A stock that is always enough for `keys` keys of at most `longest` bytes each, whatever they are, in an index of so many handles.
+[[nodiscard]] inline hot_stock stock_for_any_keys(std::uint32_t keys, std::size_t longest, std::size_t handles) {
+    hot_stock stock{};
+    hot_stock_for_any_keys(keys, longest, handles, &stock);
+    return stock;
+}
+
 /// An index, which gives handles to threads. It may be moved, and gone before its handles: the last one frees what there is.
 class index {
   public:

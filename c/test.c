@@ -517,10 +517,63 @@ static void test_stock_sizes(void) {
         CHECK(hot_create_with(&stock, handles, 1) == HOT_OUT_OF_RANGE);
         hot_stock_for_keys(8, 89, &stock);
     }
+    hot_stock_for_any_keys(1000, 8, 3, &stock);
+    CHECK(stock.nodes == 1000 + 3 * 145 && stock.short_leaves == 1003 && !stock.medium_leaves && !stock.long_leaves);
+    hot_stock_for_any_keys(1000, 1000, 5000, &stock);
+    CHECK(stock.nodes == 1000 + 1024 * 4321 && stock.long_leaves == 2024 && !stock.short_leaves);
+    hot_stock_for_any_keys(4294967295u, 0, 1, &stock);
+    CHECK(stock.nodes == 4294967295u && stock.short_leaves == 4294967295u);
+    hot_stock_for_keys(8, 89, &stock);
     stock.medium_leaves = 4294967295u;
     CHECK(hot_create_with(&stock, handles, 1) == HOT_OUT_OF_RANGE);
     stock.medium_leaves = stock.nodes = 0;
     CHECK(hot_create_with(&stock, handles, 1) == HOT_OUT_OF_RANGE);
+}
+
+/* Keys that take many nodes: numbers with four bits set, numbers with one bit set in their lower half, and all prefixes of some long
+ * keys. */
+static size_t spread_key(int kind, uint32_t number, uint8_t *key) {
+    uint64_t mixed = (number + 1) * UINT64_C(0x9e3779b97f4a7c15), bits;
+    size_t at;
+    if (kind == 2) {
+        memset(key, (int)(number / (HOT_MAX_KEY + 1)), HOT_MAX_KEY);
+        return number % (HOT_MAX_KEY + 1);
+    }
+    mixed ^= mixed >> 29;
+    bits = UINT64_C(1) << mixed % 64 | UINT64_C(1) << mixed / 64 % 64 | UINT64_C(1) << mixed / 4096 % 64 | UINT64_C(1) << mixed / 262144 % 64;
+    if (kind == 1)
+        bits = (uint64_t)(number / 32) << 32 | UINT64_C(1) << number % 32;
+    for (at = 0; at < 8; at++)
+        key[at] = (uint8_t)(bits >> (56 - 8 * at));
+    return 8;
+}
+
+/* A stock for any keys is enough for them, also where some go and come again. Those of the first kind take more nodes than
+ * hot_stock_for_keys has. */
+static void test_any_keys(void) {
+    static const uint32_t many[3] = {100000, 20000, 20000};
+    static const size_t longest[3] = {8, 8, HOT_MAX_KEY};
+    int kind;
+    for (kind = 0; kind < 3; kind++) {
+        hot_handle handle = HOT_HANDLE;
+        hot_stock stock;
+        hot_counts counts;
+        uint8_t key[HOT_MAX_KEY];
+        uint32_t number, round;
+        size_t keys;
+        hot_stock_for_any_keys(many[kind], longest[kind], 1, &stock);
+        CHECK(hot_create_with(&stock, &handle, 1) == HOT_DONE);
+        for (round = 0; round < 4; round++) {
+            for (number = 0; number < many[kind]; number++)
+                CHECK(hot_upsert(&handle, key, spread_key(kind, number, key), number, NULL) < HOT_BUSY);
+            CHECK(hot_len(&handle, &keys) == HOT_DONE && hot_census(&handle, &counts) == HOT_DONE && counts.nodes.live < keys);
+            for (number = round; number < many[kind]; number += 3)
+                CHECK(hot_remove(&handle, key, spread_key(kind, number, key), NULL) < HOT_BUSY);
+        }
+        hot_stock_for_keys(many[kind], longest[kind], &stock);
+        CHECK(kind > 0 || counts.nodes.live > stock.nodes);
+        CHECK(hot_destroy(&handle) == HOT_DONE);
+    }
 }
 
 /* What a closed handle answers. */
@@ -1039,6 +1092,7 @@ int main(void) {
     test_full();
     test_stock();
     test_stock_sizes();
+    test_any_keys();
     test_sizes();
     test_handles();
     test_index();

@@ -130,6 +130,8 @@ static void test_stock() {
     hot_stock stock = hot::stock_for_keys(7, 8);
     CHECK(stock.nodes == 512 && stock.short_leaves == 519 && !stock.medium_leaves && hot::stock_bytes(stock) == 254688);
     CHECK(hot::create(stock, 1024).size() == 1024);
+    stock = hot::stock_for_any_keys(7, 8, 2);
+    CHECK(stock.nodes == 7 + 2 * 145 && stock.short_leaves == 9 && !stock.medium_leaves);
     CHECK(throws<std::invalid_argument>([&] { return hot::stock_bytes(stock, 1025); }));
     CHECK(throws<std::invalid_argument>([&] { return hot::create(stock, 1025); }));
     stock.short_leaves = stock.medium_leaves = 1;

@@ -68,6 +68,13 @@ impl Stock {
         Ok(ffi::stock_for_keys(keys, longest))
     }
 
+    /// A stock that is always enough for so many keys of at most `longest` bytes, whatever they are, in an index of so many handles:
+    /// `hot_stock_for_any_keys`.
+    pub fn for_any_keys(keys: usize, longest: usize, handles: usize) -> Result<Stock, Error> {
+        let keys = u32::try_from(keys).map_err(|_| Error::OutOfRange)?;
+        Ok(ffi::stock_for_any_keys(keys, longest, handles))
+    }
+
     /// How many bytes an index with this stock and so many handles takes. It takes twice that while it is made.
     pub fn bytes(&self, handles: usize) -> Result<usize, Error> {
         let (status, bytes) = ffi::stock_bytes(self, handles);

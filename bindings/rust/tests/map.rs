@@ -229,7 +229,9 @@ fn numbers_out_of_range() {
     assert_eq!(Hot::with_capacity(usize::MAX, 8, 1).err(), Some(Error::OutOfRange));
     assert_eq!(Hot::with_stock(&Stock::default(), 1).err(), Some(Error::OutOfRange));
     assert_eq!(Stock::default().bytes(1), Err(Error::OutOfRange));
+    assert_eq!(Stock::for_any_keys(usize::MAX, 8, 1), Err(Error::OutOfRange));
     assert!(Stock::for_keys(1000, 8).unwrap().bytes(1).unwrap() > 1000 * 32);
+    assert!(Stock::for_any_keys(1000, 8, 1).unwrap().bytes(1).unwrap() > 1000 * (32 + 464));
 }
 
 #[test]

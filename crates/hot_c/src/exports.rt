@@ -1,6 +1,6 @@
 //! The calls for programs in C. `c/hot.h` says how to use them.
 
-ghost use Rattle.std.specs.Prelude.{◌≡◌, ◌≢◌, ◌⊎◌, ◌↔◌, ℕ, List, IsOk, IsSome, None, Some, length};
+ghost use Rattle.std.specs.Prelude.{◌≡◌, ◌≢◌, ◌⊎◌, ◌↔◌, ℕ, List, IsOk, IsSome, None, Some, length, min};
 ghost use Rattle.finite_map.specs.declared.Call.TheVariants.{Add, Exchange, Get, Insert, Remove, RemoveIf, Upsert};
 ghost use Rattle.rowex_writing.specs.declared.attempts.TryFault.TheVariants.{FullLeaves};
 ghost use Rattle.seat_calls.specs.Answers.{MayRefuse};
@@ -8,7 +8,8 @@ ghost use Rattle.hot_c.specs.declared.opened.Opened.{Opened};
 ghost use Rattle.hot_c.specs.Calls.{Answers, AreClosed, FitsInKey, HasGivenBack, HasSeenRecords, HasOpenedKeeper, HaveOpened, HaveOpenedStock, IsSize, IsStockSize, OpensNext, StaysOpen, for_key, places_of};
 ghost use Rattle.hot_c.specs.Lookups.{LooksUpAll};
 ghost use Rattle.hot_c.specs.Stocks.{TakesBytes, stock_in};
-ghost use Rattle.record_words.specs.Layout.{stock_for};
+ghost use Rattle.record_words.specs.Layout.{stock_for, stock_for_any};
+ghost use Rattle.record_words.specs.declared.TheConstants.{MAX_STOCK_PASSES};
 
 use crate::handle::Handle;
 use crate::lookups::{Lookup, copy_keys, have_fitting_keys, write_found_values};
@@ -23,7 +24,7 @@ use crate::status::{
 use crate::stock::HotStock;
 use hot_index::{Call, IndexFault, RecordCounts};
 use key_bits::{Key, KeyFault};
-use record_words::{Layout, Stock};
+use record_words::{Layout, MAX_STOCK_PASSES, Stock};
 use std::alloc::Global;
 
 /// Opens each of `handles`, 1 to 64, with the pass of its place of a new empty index: `DONE`. It has `nodes` node records, 1 to 65,535,
@@ -144,6 +145,21 @@ pub extern "C" fn hot_stock_for_keys(count: u32, longest: usize, stock: &mut Hot
     ensures { stock_in stock.new ≡ stock_for count longest }
 {
     stock.set_counts(Stock::for_keys(count, longest));
+}
+
+/// Writes to `stock` that of `Stock::for_any_keys`: enough for any `count` keys at once, of at most `longest` bytes each, and of at most
+/// 240, in an index of `handles` passes, and of at most 1,024.
+#[unsafe(no_mangle)]
+pub extern "C" fn hot_stock_for_any_keys(
+    count: u32,
+    longest: usize,
+    handles: usize,
+    stock: &mut HotStock,
+)
+    ensures { stock_in stock.new ≡ stock_for_any count longest (min handles MAX_STOCK_PASSES) }
+{
+    let passes = handles.min(MAX_STOCK_PASSES as usize) as u32;
+    stock.set_counts(Stock::for_any_keys(count, longest, passes));
 }
 
 /// Writes to `bytes` how many bytes the table of an index with the records of `stock` and `handles` passes takes: `DONE`. `OUT_OF_RANGE` if

@@ -8,7 +8,7 @@ from ctypes import POINTER, Structure, c_char_p, c_size_t, c_uint32, c_uint64, c
 from pathlib import Path
 from typing import Any
 
-NAME = "libhot.so.2"
+NAME = "libhot.so.3"
 # How many bytes a handle has.
 HANDLE = 24
 
