@@ -9,7 +9,8 @@ ghost use Rattle.record_words.specs.Limits.{IsRecordCount};
 
 use crate::layout::{LeafClass, Stock};
 use crate::{
-    LARGE_WORDS, MEDIUM_WORDS, SHORT_WORDS, STOCK_SHARE, STOCK_SPARE, WIDE_WORDS, count_key_words,
+    KEY_OFFSET, LARGE_WORDS, MEDIUM_WORDS, SHORT_WORDS, STOCK_SHARE, STOCK_SPARE, WIDE_WORDS,
+    count_key_words,
 };
 use key_bits::MAX_BYTES;
 
@@ -18,7 +19,7 @@ impl LeafClass {
     pub fn for_key(bytes: usize) -> LeafClass
         ensures { result ≡ class_for bytes }
     {
-        let words = 3 + count_key_words(bytes.min(MAX_BYTES) as u64);
+        let words = KEY_OFFSET as usize + count_key_words(bytes.min(MAX_BYTES) as u64);
         if words <= SHORT_WORDS {
             LeafClass::Short
         } else if words <= MEDIUM_WORDS {

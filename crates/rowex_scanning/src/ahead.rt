@@ -13,7 +13,7 @@ use crate::scanning::Scan;
 use compound_node::Entry;
 use insert_cases::PathNode;
 use packed_pairs::Pairs;
-use record_words::Origins;
+use record_words::{LENGTH_OFFSET, Origins};
 use rowex_core::{Gate, Rec};
 use rowex_reading::load_entry;
 use rowex_table::{HotTable, NodeAt, TableSeat};
@@ -137,6 +137,6 @@ fn touch_leaf<G: Gate>(
         gate,
         Rec::Leaf(number),
         origins.start_of_leaf(number),
-        2,
+        LENGTH_OFFSET,
     );
 }
