@@ -3,6 +3,7 @@
 #define HOT_HPP
 
 #include "hot.h"
+#include <algorithm>
 #include <cstddef>
 #include <cstdint>
 #include <initializer_list>
@@ -319,8 +320,9 @@ class handle {
     handle() = default;
     /// Whether it is open.
     explicit operator bool() const { return it_ != nullptr; }
-    /// Gives the handle back to its index, whose next `open` may have it. It does nothing if the handle is closed.
-    void close() { it_.reset(); }
+    /// Gives the handle back to its index, whose next `open` may have it, and keeps nothing of the index. It does nothing if the handle is
+    /// closed.
+    void close() { it_ = std::unique_ptr<hot_handle, closer>(); }
 
     [[nodiscard]] std::optional<std::uint64_t> get(key_view key) {
         std::uint64_t value = 0;
@@ -379,6 +381,24 @@ class handle {
         }
     }
 
+    /// Gives a key the value that `change` makes of the one that it has, or removes it where `change` returns none, and returns the one that
+    /// it had. Both are std::optional. `change` is called again as long as other calls change the key meanwhile. It waits and throws as
+    /// `fetch_add` does, and throws what `change` throws; nothing is changed then.
+    template <class Change> std::optional<std::uint64_t> fetch_update(key_view key, Change change) {
+        std::optional<std::uint64_t> had = get(key);
+        for (;;) {
+            const std::optional<std::uint64_t> to = change(std::as_const(had));
+            if (to == had)
+                return had;
+            const hot::change made = !had ? insert(key, *to) : to ? exchange(key, *had, *to) : remove_if(key, *had);
+            if (made.is_refused())
+                throw std::runtime_error(made.text());
+            if (made.what != status::exists && made.what != status::differs && made.what != status::absent)
+                return had;
+            had = made.had;
+        }
+    }
+
     /// The same calls, tried once: they may return `busy` or `held_back`.
     change try_insert(key_view key, std::uint64_t value) { return put(hot_try_insert, key, value); }
     change try_upsert(key_view key, std::uint64_t value) { return put(hot_try_upsert, key, value); }
@@ -393,8 +413,12 @@ class handle {
     [[nodiscard]] range scan(key_view from, key_view upto, std::size_t pairs = page) { return range(it(), from, upto, pairs); }
     [[nodiscard]] range scan(key_view from = {}) { return scan(from, greatest()); }
     [[nodiscard]] range scan_prefix(key_view prefix) {
-        const std::size_t left = HOT_MAX_KEY - (prefix.size() < HOT_MAX_KEY ? prefix.size() : HOT_MAX_KEY);
-        return scan(prefix, std::string(prefix).append(left, '\xff'));
+        return scan(prefix, last_with(prefix));
+    }
+
+    /// The pairs whose keys begin with a prefix, the greatest key first.
+    [[nodiscard]] range scan_prefix_reverse(key_view prefix) {
+        return scan_reverse(prefix, last_with(prefix));
     }
 
     /// The pairs from one key on and below another, which is not included.
@@ -473,6 +497,12 @@ class handle {
             check(HOT_CLOSED);
         return it_.get();
     }
+    // The greatest key that begins with the prefix.
+    static std::string last_with(std::string_view prefix) {
+        std::string last(prefix);
+        last.resize(std::max<std::size_t>(last.size(), HOT_MAX_KEY), '\xff');
+        return last;
+    }
     template <class Call> void fill(Call call, key_view from, key_view upto, packed &into) {
         check(call(it(), bytes(from), from.size(), bytes(upto), upto.size(), into.keys_.data(), into.keys_.size() - 1, into.heads_.data(),
                    into.heads_.size() - 1, &into.count_, &into.more_));
@@ -550,7 +580,7 @@ class index {
     /// The same with `stock_for_keys(keys, longest)`: room for `keys` keys of at most `longest` bytes each. A call with a key that no leaf
     /// record has room for throws std::length_error.
     index(std::uint32_t keys, std::size_t longest, std::size_t handles = 64) : index(stock_for_keys(keys, longest), handles) {}
-    /// A move leaves the other index with nothing: its `open` throws std::logic_error. Handles stay open.
+    /// A move leaves the other index with nothing: its `open` throws std::logic_error, which says so. Handles stay open.
     index(index &&) = default;
     index &operator=(index &&) = default;
 
@@ -565,7 +595,7 @@ class index {
     /// The same, or none if all are open.
     [[nodiscard]] std::optional<handle> try_open() {
         if (!at_)
-            check(HOT_CLOSED);
+            throw std::logic_error("the index was moved away");
         handle one(new hot_handle HOT_HANDLE, at_);
         const hot_status status = hot_open(at_.get(), one.it());
         if (status == HOT_NO_HANDLE)
