@@ -6,14 +6,17 @@
 #include <algorithm>
 #include <cstddef>
 #include <cstdint>
+#include <cstring>
 #include <initializer_list>
 #include <iterator>
+#include <limits>
 #include <memory>
 #include <new>
 #include <optional>
 #include <stdexcept>
 #include <string>
 #include <string_view>
+#include <tuple>
 #include <type_traits>
 #include <utility>
 #include <vector>
@@ -140,6 +143,114 @@ inline std::optional<std::string> before(key_view key) {
     found.back() = static_cast<char>(static_cast<unsigned char>(found.back()) - 1);
     found.resize(HOT_MAX_KEY, '\xff');
     return found;
+}
+
+/// How keys are made from values, for `key_of` and `values_of`.
+namespace part {
+
+/// Whether a value of this type is a number that has a place in keys: not char and the like, which differ from machine to machine.
+template <class Value>
+inline constexpr bool is_number = std::is_same_v<Value, bool> || std::is_same_v<Value, float> || std::is_same_v<Value, double> ||
+                                  std::is_same_v<Value, signed char> || std::is_same_v<Value, unsigned char> ||
+                                  std::is_same_v<Value, short> || std::is_same_v<Value, unsigned short> || std::is_same_v<Value, int> ||
+                                  std::is_same_v<Value, unsigned> || std::is_same_v<Value, long> || std::is_same_v<Value, unsigned long> ||
+                                  std::is_same_v<Value, long long> || std::is_same_v<Value, unsigned long long>;
+
+/// A number's bits, changed so that they have the order of the numbers: those of bool and unsigned ones as they are; with the other sign
+/// bit for signed ones and floats that aren't negative; with all bits turned for negative floats. All zeros are one, and so is each NaN,
+/// which comes last.
+template <class Number> std::uint64_t ordered(Number value) {
+    constexpr std::uint64_t sign = std::uint64_t{1} << (8 * sizeof(Number) - 1);
+    if constexpr (std::is_floating_point_v<Number>) {
+        std::conditional_t<sizeof(Number) == 4, std::uint32_t, std::uint64_t> bits;
+        if (value == 0)
+            value = 0;
+        if (value != value)
+            value = std::numeric_limits<Number>::quiet_NaN();
+        std::memcpy(&bits, &value, sizeof bits);
+        if (value != value)
+            bits &= ~sign;
+        return bits & sign ? (2 * sign - 1) ^ bits : bits | sign;
+    } else {
+        return (static_cast<std::uint64_t>(value) & (2 * sign - 1)) ^ (std::is_signed_v<Number> ? sign : 0);
+    }
+}
+
+/// The number of these bits.
+template <class Number> Number number(std::uint64_t ordered) {
+    constexpr std::uint64_t sign = std::uint64_t{1} << (8 * sizeof(Number) - 1);
+    if constexpr (std::is_floating_point_v<Number>) {
+        const auto bits = static_cast<std::conditional_t<sizeof(Number) == 4, std::uint32_t, std::uint64_t>>(
+            ordered & sign ? ordered ^ sign : (2 * sign - 1) ^ ordered);
+        Number value;
+        std::memcpy(&value, &bits, sizeof value);
+        return value;
+    } else {
+        return static_cast<Number>(ordered ^ (std::is_signed_v<Number> ? sign : 0));
+    }
+}
+
+template <class Value> void write(std::string &key, const Value &value) {
+    if constexpr (is_number<Value>) {
+        const std::uint64_t bits = ordered(value);
+        for (std::size_t left = sizeof value; left-- > 0;)
+            key.push_back(static_cast<char>(bits >> 8 * left));
+    } else {
+        for (const char byte : key_view(value)) {
+            key.push_back(byte);
+            if (byte == '\0')
+                key.push_back('\1');
+        }
+        key.append(2, '\0');
+    }
+}
+
+/// Reads a value, and leaves what comes after it. False if the bytes are no such value.
+template <class Value> bool read(std::string_view &from, Value &to) {
+    if constexpr (is_number<Value>) {
+        if (from.size() < sizeof to)
+            return false;
+        std::uint64_t bits = 0;
+        for (const char byte : from.substr(0, sizeof to))
+            bits = bits << 8 | static_cast<unsigned char>(byte);
+        from.remove_prefix(sizeof to);
+        to = number<Value>(bits);
+        return ordered(to) == bits;
+    } else {
+        static_assert(std::is_same_v<Value, std::string>, "text is read as std::string");
+        for (std::size_t at = 0; at + 1 < from.size(); at++) {
+            to.push_back(from[at]);
+            if (from[at] != '\0')
+                continue;
+            const char next = from[++at];
+            if (next == '\0') {
+                to.pop_back();
+                from.remove_prefix(at + 1);
+            }
+            if (next != '\1')
+                return next == '\0';
+        }
+        return false;
+    }
+}
+
+} // namespace part
+
+/// A key from values, whose bytes have the order of the values: by the first one, then by the next, and so on. Integers, bool, float and
+/// double take their size; text, or bytes, takes two more bytes, and one for each 0 byte. The key of the first values is a prefix of each
+/// key that begins with them. The same values have the same bytes in each language: bindings/keys.txt says which.
+template <class... Values> [[nodiscard]] std::string key_of(const Values &...values) {
+    std::string key;
+    (part::write(key, values), ...);
+    return key;
+}
+
+/// The values of a key that `key_of` made from values of these types, of which text is std::string; or none if it is no such key.
+template <class... Values> [[nodiscard]] std::optional<std::tuple<Values...>> values_of(key_view key) {
+    std::tuple<Values...> values{};
+    std::string_view left = key;
+    const bool is_read = std::apply([&](auto &...value) { return (part::read(left, value) && ...); }, values);
+    return is_read && left.empty() ? std::optional(std::move(values)) : std::nullopt;
 }
 
 /// The order in which a scan gives its pairs: rising, falling from the last one on, or the last page alone, rising.

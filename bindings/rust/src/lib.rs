@@ -22,9 +22,11 @@
 #![deny(clippy::unwrap_used, clippy::expect_used, clippy::panic, clippy::indexing_slicing)]
 mod error;
 mod ffi;
+mod key;
 mod range;
 
 pub use error::{CompareExchangeError, Error, TryInsertError};
+pub use key::{key_of, values_of, FromKey, ToKey};
 pub use range::{KeyRange, Range};
 
 use ffi::{Index, Lease, Seen};
