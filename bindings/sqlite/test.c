@@ -601,6 +601,36 @@ static void names_and_handles(void) {
     sqlite3_close(db);
 }
 
+/* ---- Full ---- */
+
+/* Inserts keys until the index is full: how many went in. */
+static int fill_with_blobs(sqlite3 *db) {
+    int count = 0, code;
+    while ((code = run(db, "INSERT INTO t VALUES (x'%08x%08x', %d)", count / 32, 1u << count % 32, count)) == SQLITE_OK)
+        count++;
+    if (code != SQLITE_FULL)
+        fail("fill with blobs", sqlite3_errmsg(db));
+    return count;
+}
+
+/* A full table can be emptied, and filled again. */
+static void full_tables(void) {
+    static const int keys[] = {0, 1, 100, 1000};
+    for (size_t at = 0; at < sizeof keys / sizeof *keys; at++) {
+        char *arguments = sqlite3_mprintf("type=blob, longest=8, keys=%d", keys[at]);
+        sqlite3 *db = connect_to(arguments);
+        int count = fill_with_blobs(db);
+        want(db, SQLITE_OK, "BEGIN; DELETE FROM t; ROLLBACK");
+        if (number(db, "SELECT count(*) FROM t") != count)
+            fail(arguments, "a rollback did not put all back");
+        want(db, SQLITE_OK, "DELETE FROM t");
+        if (number(db, "SELECT count(*) FROM t") != 0 || fill_with_blobs(db) != count)
+            fail(arguments, "it is not as empty as it was");
+        sqlite3_close(db);
+        sqlite3_free(arguments);
+    }
+}
+
 /* ---- The application's own functions ---- */
 
 /* Is true of all keys but those that begin with the pattern's first letter. */
@@ -678,6 +708,7 @@ int main(int count, char **words) {
     loaded_twice();
     names_and_handles();
     own_functions();
+    full_tables();
     threads_at_once();
     remove(scratch);
     sqlite3_free((void *)scratch);
