@@ -65,6 +65,9 @@ pub const MAX_LEAVES: u32 = 262_143;
 /// How many bytes a word has.
 pub const WORD_BYTES: usize = 8;
 
+/// How many words a cache line has.
+pub const CACHE_LINE_WORDS: usize = 8;
+
 /// How many words a processor may fetch together: two cache lines, since with one it often fetches the one beside it. Words that
 /// different threads write often stand at least so far apart. Then no two share a line, nor two lines that are fetched together, wherever
 /// in memory the table begins. So no thread's writes slow down what another does.

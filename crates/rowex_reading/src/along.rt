@@ -12,7 +12,7 @@ use crate::lookup::find_slot;
 use crate::reading::{load_entry, load_root};
 use compound_node::Entry;
 use key_bits::Key;
-use record_words::{LENGTH_OFFSET, NUMBERS_OFFSET};
+use record_words::{CACHE_LINE_WORDS, LENGTH_OFFSET, NUMBERS_OFFSET};
 use rowex_core::{Gate, Rec};
 use rowex_table::{HotTable, NodeAt, TableSeat};
 
@@ -187,8 +187,20 @@ fn touch_record<G: Gate>(table: &HotTable, seat: &mut TableSeat, gate: &mut G, e
             let rec = Rec::Node(number);
             let start = table.start_of(rec);
             table.load_fixed_at(seat, gate, rec, start, NUMBERS_OFFSET);
-            table.load_fixed_at(seat, gate, rec, start, NUMBERS_OFFSET + 8);
-            table.load_fixed_at(seat, gate, rec, start, NUMBERS_OFFSET + 16);
+            table.load_fixed_at(
+                seat,
+                gate,
+                rec,
+                start,
+                NUMBERS_OFFSET + CACHE_LINE_WORDS as u8,
+            );
+            table.load_fixed_at(
+                seat,
+                gate,
+                rec,
+                start,
+                NUMBERS_OFFSET + 2 * CACHE_LINE_WORDS as u8,
+            );
         }
     }
 }

@@ -19,9 +19,10 @@ use compound_node::Entry;
 use insert_cases::PathNode;
 use key_bits::{Key, MAX_BYTES};
 use record_words::{
-    FIELDS_OFFSET, FIRST_KEY_WORD, FIRST_POSITIONS, FIRST_ROWS, HEAD_WORDS, KEY_OFFSET,
-    LENGTH_OFFSET, ROW_WORDS, VALUE_OFFSET, count_key_words, extract_dense_key, first_position_of,
-    key_word_at, read_entry, read_numbers, read_some_entry, search_row_words, write_key_word,
+    CACHE_LINE_WORDS, FIELDS_OFFSET, FIRST_KEY_WORD, FIRST_POSITIONS, FIRST_ROWS, HEAD_WORDS,
+    KEY_OFFSET, LENGTH_OFFSET, NODE_WORDS, ROW_WORDS, VALUE_OFFSET, count_key_words,
+    extract_dense_key, first_position_of, key_word_at, read_entry, read_numbers, read_some_entry,
+    search_row_words, write_key_word,
 };
 use rowex_core::{Gate, Rec, Spot};
 use rowex_table::{HotTable, LeafAt, NodeAt, TableSeat};
@@ -107,9 +108,24 @@ pub fn load_path_node<G: Gate>(
     }
 }
 
+/// Asks for the cache lines of the entries of `node`, so that they come while its head is searched. From the last entry on one of as many
+/// words as a line has is touched; the line of those before them has words of the head, too.
+#[inline(always)]
+fn touch_entries(table: &HotTable, node: NodeAt)
+    requires start { IsStartOf table.now.layout (a_node node.number) node.start }
+{
+    let (rec, line) = (Rec::Node(node.number), CACHE_LINE_WORDS as u8);
+    let last = NODE_WORDS as u8 - 1;
+    table.touch(rec, node.start, last - 3 * line);
+    table.touch(rec, node.start, last - 2 * line);
+    table.touch(rec, node.start, last - line);
+    table.touch(rec, node.start, last);
+}
+
 /// Loads the head of `node` and searches it for `key`. Returns the node of the key's path, with the slot to which the bits of `key` lead.
 ///
-/// All 25 words are loaded, whatever the node's size, so no load waits for another. The rows are loaded last, and stay in registers.
+/// All 25 words are loaded, whatever the node's size, so no load waits for another. Nor does the load of an entry, whose line is asked for
+/// here. The rows are loaded last, and stay in registers.
 #[inline(always)]
 pub fn search_node<G: Gate>(
     table: &HotTable,
@@ -127,6 +143,7 @@ pub fn search_node<G: Gate>(
 {
     let mut front = [0; FIRST_ROWS];
     load_head_part(table, seat, gate, node, 0, &mut front);
+    touch_entries(table, node);
     let dense = extract_dense_key(&front, key);
     let mut back = [0; ROW_WORDS];
     load_head_part(table, seat, gate, node, FIRST_ROWS, &mut back);
