@@ -97,7 +97,8 @@ pub fn first_position_of(word: u64) -> u16
 #[inline(always)]
 pub fn position_of(word: u64, column: u8) -> u16
     requires { column < 31 }
-    ensures { (node : NodeView) → IsLawfulNode node → slice_index (head_words (head_of node)) (FIRST_POSITIONS + column / 4) ≡ word → result ≡ position_at node.columns column }
+    ensures { (node : NodeView) → IsLawfulNode node → slice_index (head_words (head_of node)) (FIRST_POSITIONS + column / 4) ≡ word →
+        result ≡ position_at node.columns column }
 {
     (word >> (16 * (column % 4)) & 0xffff) as u16
 }
