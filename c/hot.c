@@ -2,6 +2,7 @@
  * one, calls for many keys, an index that opens its handles one by one, and the calls that wait: the proved library may neither wait
  * nor yield, so it says when to try again, and the wait is here. */
 #include "hot.h"
+#include "heap.h"
 #include <sched.h>
 #include <stdlib.h>
 #include <string.h>
@@ -408,12 +409,37 @@ static hot_status placed(hot_status status, hot_handle *handles, size_t count) {
     return HOT_DONE;
 }
 
+/* Begins to make an index with this stock and so many handles. */
+static void begin_making(const hot_stock *stock, size_t count) {
+    size_t bytes;
+    heap_begin(proved_stock_bytes(stock, count, &bytes) == HOT_DONE ? bytes : 0);
+}
+
+/* Ends that. If the table that was made may not be used, it closes the handles that were opened with it: memory was refused. */
+static hot_status end_making(hot_status status, hot_handle *handles, size_t count) {
+    size_t place;
+    if (heap_end() || status != HOT_DONE)
+        return status;
+    for (place = 0; place < count; place++)
+        proved_destroy(&handles[place]);
+    return HOT_NO_MEMORY;
+}
+
 hot_status hot_create(uint32_t nodes, uint32_t leaves, hot_handle *handles, size_t count) {
-    return placed(is_processor_new() ? proved_create(nodes, leaves, handles, count) : HOT_OLD_PROCESSOR, handles, count);
+    hot_stock stock = {0, 0, 0, 0, 0, 0};
+    if (!is_processor_new())
+        return HOT_OLD_PROCESSOR;
+    stock.nodes = nodes;
+    stock.long_leaves = leaves;
+    begin_making(&stock, count);
+    return placed(end_making(proved_create(nodes, leaves, handles, count), handles, count), handles, count);
 }
 
 hot_status hot_create_with(const hot_stock *stock, hot_handle *handles, size_t count) {
-    return placed(is_processor_new() ? proved_create_with(stock, handles, count) : HOT_OLD_PROCESSOR, handles, count);
+    if (!is_processor_new())
+        return HOT_OLD_PROCESSOR;
+    begin_making(stock, count);
+    return placed(end_making(proved_create_with(stock, handles, count), handles, count), handles, count);
 }
 
 hot_status hot_open_index(const hot_stock *stock, size_t handles, hot_index **index) {
@@ -425,7 +451,8 @@ hot_status hot_open_index(const hot_stock *stock, size_t handles, hot_index **in
     made = new_index(handles);
     if (made == NULL)
         return HOT_NO_MEMORY;
-    status = proved_create_keeping(stock, handles, &made->keeper);
+    begin_making(stock, handles);
+    status = end_making(proved_create_keeping(stock, handles, &made->keeper), &made->keeper, 1);
     if (status == HOT_DONE)
         *index = made;
     else
@@ -466,7 +493,9 @@ static hot_status open_kept(hot_index *index, hot_handle *handle) {
     uint16_t number;
     hot_status status;
     lock(&index->opening);
+    heap_begin(0);
     status = proved_open_kept(&index->keeper, handle);
+    heap_end();
     if (status == HOT_NO_HANDLE) {
         move_handle(handle, &index->keeper);
         status = HOT_DONE;

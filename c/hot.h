@@ -26,22 +26,26 @@
  *
  * What the library relies on, and doesn't check. No pointer is NULL but `had`, not even a key's if its length is 0; each points to what
  * its type says, and what a call writes overlaps no other argument. A handle is zeroed before it is opened, and the program never copies,
- * moves or writes its bytes. malloc, realloc and free belong to one allocator. No call is made from a signal handler, or after a fork in
- * the child of a process with threads. A call has 48 KiB of stack.
+ * moves or writes its bytes. malloc, realloc and free belong to one allocator, and 16 bytes or more begin at a multiple of 16. No call is
+ * made from a signal handler, or after a fork in the child of a process with threads. A call has 48 KiB of stack.
  *
  * A call fails only by its status. None waits for another, except hot_insert, hot_upsert, hot_exchange, hot_remove, hot_remove_if and
  * hot_add; hot_copy and hot_clear, which make such calls; hot_open and hot_stamp, for each other; and hot_stamp and hot_follow, too.
  * Each other call ends after a bounded number of steps, whatever other threads do: a step is one atomic access to a word of the index.
  * Each call below that makes steps gives its bound, for the worst tree that there can be.
  *
- * A handle takes some 118 KB, from when it is first opened, so that no change needs memory. hot_create and hot_create_with open all
- * their handles, so 64 of them take 7.6 MB at once. A handle of hot_open_index takes some 220 bytes until hot_open first opens it; but the
- * index takes the 118 KB of its last handle at once.
+ * Memory. An index has its records from the beginning, and a handle 118 KB of lists from when it is first opened, so that no change asks
+ * for memory. But a page of 4 KiB takes memory only once something is written there: so an index takes what its keys need, and a handle
+ * some 20 KB. A page that was written stays when keys go. Tables of 64 MB and more ask for huge pages, of 2 MiB, where the system lets
+ * them. If memory runs out when a page is first written, the system ends the program. So take a stock whose hot_stock_bytes the machine has
+ * to spare; or call mlockall once the index is made, which takes all of it at once. Making an index takes a processor some 0.05 s for each
+ * 100 MB of the table, as much address space as two tables, and a thousandth of one in memory. Where the system refuses such pages, all
+ * memory comes from malloc, and an index takes all of it at once.
  *
  * Each handle has memory for the pairs of its scans, too, which the next scan uses again. After a scan it goes if the keys have more than
  * 32 KiB of it, or the rest has. So a handle keeps 64 KiB of it at most between its calls.
  *
- * The library starts no threads and keeps no data outside its indexes. It needs POSIX, and an x86-64 processor of the level for which it
+ * The library starts no threads and keeps no data outside its indexes. It needs Linux, and an x86-64 processor of the level for which it
  * was compiled: x86-64-v3, which has AVX2, unless the machine that compiled it had not, or x86-64-v2 was asked for. On an older one
  * hot_create, hot_create_with, hot_open_index and hot_stock_bytes return HOT_OLD_PROCESSOR and write nothing, and stocks have no records;
  * any other call may end the program there.
@@ -126,9 +130,9 @@ typedef struct hot_pair {
     uint64_t value;
 } hot_pair;
 
-/* Makes an empty index and opens `count` handles on it, 1 to 64; all must be closed before. Each takes its 118 KB at once; for handles
- * that may stay unused take hot_open_index. The index has `nodes` node records, 1 to 65535, and `leaves` leaf records, 1 to 262143. Each key takes one leaf record; a node record holds 2 to 32 keys or nodes. Have some
- * of both to spare, since a change builds the new before it gives the old back.
+/* Makes an empty index and opens `count` handles on it, 1 to 64; all must be closed before. For handles that may stay unused take
+ * hot_open_index. The index has `nodes` node records, 1 to 65535, and `leaves` leaf records, 1 to 262143. Each key takes one leaf record; a
+ * node record holds 2 to 32 keys or nodes. Have some of both to spare, since a change builds the new before it gives the old back.
  * HOT_DONE; or HOT_OUT_OF_RANGE, for which it looks before it looks at the handles, HOT_OPEN, HOT_NO_MEMORY or HOT_OLD_PROCESSOR, and
  * then no handle was opened. */
 hot_status hot_create(uint32_t nodes, uint32_t leaves, hot_handle *handles, size_t count);
@@ -144,9 +148,8 @@ typedef struct hot_stock {
     uint32_t long_leaves;   /* up to HOT_MAX_KEY bytes; 264 */
 } hot_stock;
 
-/* Makes an empty index with this stock and opens `count` handles on it, 1 to 1024; all must be closed before. Each takes its 118 KB at
- * once, as by hot_create. The index has 1 to 4294967295 nodes, and 1 to 4294967295 leaves of all sizes together. (The leaves that
- * hot_create makes are all long.)
+/* Makes an empty index with this stock and opens `count` handles on it, 1 to 1024; all must be closed before. The index has 1 to
+ * 4294967295 nodes, and 1 to 4294967295 leaves of all sizes together. (The leaves that hot_create makes are all long.)
  * HOT_DONE; or HOT_OUT_OF_RANGE, HOT_OPEN, HOT_NO_MEMORY or HOT_OLD_PROCESSOR, as hot_create. */
 hot_status hot_create_with(const hot_stock *stock, hot_handle *handles, size_t count);
 
@@ -166,13 +169,13 @@ void hot_stock_for_any_keys(uint32_t keys, size_t longest, size_t handles, hot_s
  * that is not 0 it has as many leaves as hot_stock_for_keys would give, and nodes for all keys together. */
 void hot_stock_for_lengths(const uint32_t *keys, hot_stock *stock);
 
-/* Writes how many bytes the records and pins of an index with this stock and this number of handles take. While it is being made, an
- * index takes twice that. The 118 KB of each handle come to it.
+/* Writes how many bytes the records and pins of an index with this stock and this number of handles have. The 118 KB of each handle come
+ * to it.
  * HOT_DONE; or HOT_OUT_OF_RANGE or HOT_OLD_PROCESSOR, where hot_create_with would return that. */
 hot_status hot_stock_bytes(const hot_stock *stock, size_t handles, size_t *bytes);
 
 /* Makes an empty index with this stock and room for so many handles, 1 to 1024, and writes it to `index`. Room for a handle takes some 220
- * bytes; the handle's 118 KB are taken when hot_open first opens it, and those of the last one at once.
+ * bytes; the handle's lists are made when hot_open first opens it, and those of the last one at once.
  * HOT_DONE; or HOT_OUT_OF_RANGE, HOT_NO_MEMORY or HOT_OLD_PROCESSOR, and then nothing is written. */
 hot_status hot_open_index(const hot_stock *stock, size_t handles, hot_index **index);
 
@@ -295,7 +298,8 @@ hot_status hot_copy(hot_handle *from, hot_handle *to);
  * array `pairs` has room. Writes their number to `count`, and 1 to `more` if the range has more, else 0. Other calls may change
  * the index meanwhile: each pair was there at some moment of the call, and no key is missing that was there all along (if there
  * are more, no key up to the last one listed). A range whose `from` is above its `upto` has no pairs. To go on, begin at the key
- * that hot_after gives for the last pair's. It makes at most 168607 steps, and 60 for each pair of the limit.
+ * that hot_after gives for the last pair's. Records that other calls retire meanwhile can't be used again until the call ends: so list some
+ * thousand pairs at a time. It makes at most 168607 steps, and 60 for each pair of the limit.
  * HOT_DONE; or HOT_KEY_TOO_LONG, HOT_CLOSED, HOT_NO_MEMORY (only if it had a pair to list), and then nothing was written. */
 hot_status hot_scan(hot_handle *handle, const uint8_t *from, size_t from_length, const uint8_t *upto, size_t upto_length,
                     hot_pair *pairs, size_t limit, size_t *count, uint32_t *more);

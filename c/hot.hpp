@@ -679,10 +679,9 @@ class handle {
 /// An index, which gives handles to threads. It may be moved, and gone before its handles: the last one frees what there is.
 class index {
   public:
-    /// Makes an empty index with this stock of records, and room for so many handles, 1 to 1024, none of which is open. It takes
-    /// `stock_bytes(stock, handles)` bytes, and 118 KB for one handle; each other one takes its 118 KB when it is first opened. Throws
-    /// std::invalid_argument if a number is out of range, std::bad_alloc, or std::runtime_error if the library is compiled for newer
-    /// processors. Nothing is left then.
+    /// Makes an empty index with this stock of records, and room for so many handles, 1 to 1024, none of which is open. What
+    /// isn't used of it takes no memory. Throws std::invalid_argument if a number is out of range, std::bad_alloc, or std::runtime_error if
+    /// the library is compiled for newer processors. Nothing is left then.
     explicit index(const hot_stock &stock, std::size_t handles = 64) {
         hot_index *made = nullptr;
         check(hot_open_index(&stock, handles, &made));
@@ -719,8 +718,8 @@ class index {
     std::shared_ptr<hot_index> at_;
 };
 
-/// Makes an empty index with a stock of records, and opens `count` handles on it, 1 to 1024, each of which takes its 118 KB. The last one
-/// that is closed frees it. Throws as the constructor of `index` does, and leaves nothing then.
+/// Makes an empty index with a stock of records, and opens `count` handles on it, 1 to 1024. The last one that is closed
+/// frees it. Throws as the constructor of `index` does, and leaves nothing then.
 [[nodiscard]] inline std::vector<handle> create(const hot_stock &stock, std::size_t count = 1) {
     index made(stock, count);
     std::vector<handle> handles;

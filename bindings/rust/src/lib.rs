@@ -77,7 +77,8 @@ impl Stock {
         Ok(ffi::stock_for_any_keys(keys, longest, handles))
     }
 
-    /// How many bytes an index with this stock and so many handles takes. It takes twice that while it is made.
+    /// How many bytes an index with this stock and so many handles has. A page of it takes memory
+    /// once something is written there.
     pub fn bytes(&self, handles: usize) -> Result<usize, Error> {
         let (status, bytes) = ffi::stock_bytes(self, handles);
         Error::check(status).map(|_| bytes)
@@ -125,8 +126,8 @@ pub struct Hot {
 }
 
 impl Hot {
-    /// Makes an empty index with room for so many keys of at most `longest` bytes, and for 1 to 1,024 handles at a time. A handle takes
-    /// 118 KB from when it is first opened; those of the last one are taken at once.
+    /// Makes an empty index with room for so many keys of at most `longest` bytes, and for 1 to 1,024 handles at a time. What
+    /// isn't used takes no memory.
     pub fn with_capacity(keys: usize, longest: usize, handles: usize) -> Result<Hot, Error> {
         Hot::with_stock(&Stock::for_keys(keys, longest)?, handles)
     }
