@@ -93,19 +93,19 @@ static void test_stock_sizes(void) {
     hot_stock stock;
     size_t size = 7;
     hot_stock_for_keys(7, 8, &stock);
-    CHECK(stock.nodes == 512 && stock.short_leaves == 519 && !stock.medium_leaves && !stock.large_leaves);
-    CHECK(hot_stock_bytes(&stock, 1, &size) == HOT_DONE && size == 254688);
-    CHECK(hot_stock_bytes(&stock, MANY + 1, &size) == HOT_OUT_OF_RANGE && size == 254688);
+    CHECK(stock.nodes == 513 && stock.short_leaves == 521 && !stock.medium_leaves && !stock.large_leaves);
+    CHECK(hot_stock_bytes(&stock, 1, &size) == HOT_DONE && size == 255216);
+    CHECK(hot_stock_bytes(&stock, MANY + 1, &size) == HOT_OUT_OF_RANGE && size == 255216);
     CHECK(hot_create_with(&stock, handles, 0) == HOT_OUT_OF_RANGE);
     CHECK(hot_create_with(&stock, handles, MANY) == HOT_DONE);
     for (int i = 0; i < MANY; i++)
         CHECK(hot_destroy(&handles[i]) == HOT_DONE);
     hot_stock_for_keys(8, 89, &stock);
-    CHECK(stock.nodes == 513 && stock.long_leaves == 521 && !stock.short_leaves && !stock.wide_leaves);
+    CHECK(stock.nodes == 514 && stock.long_leaves == 522 && !stock.short_leaves && !stock.wide_leaves);
     {
         static const uint32_t keys[5] = {8, 0, 80, 0, 1}, most[5] = {4294967295u, 4294967295u, 0, 0, 0};
         hot_stock_for_lengths(keys, &stock);
-        CHECK(stock.nodes == 523 && stock.short_leaves == 521 && !stock.medium_leaves && stock.large_leaves == 602);
+        CHECK(stock.nodes == 534 && stock.short_leaves == 522 && !stock.medium_leaves && stock.large_leaves == 618);
         CHECK(!stock.wide_leaves && stock.long_leaves == 513);
         hot_stock_for_lengths(most, &stock);
         CHECK(hot_create_with(&stock, handles, 1) == HOT_OUT_OF_RANGE);

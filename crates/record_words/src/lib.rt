@@ -157,8 +157,11 @@ pub const LARGE_WORDS: usize = 10;
 /// How many words a wide leaf record has; its key has at most 88 bytes.
 pub const WIDE_WORDS: usize = 14;
 
-/// For how many keys `Stock::for_keys` has one node record, and one leaf record to spare.
-pub const STOCK_SHARE: u32 = 8;
+/// For how many keys `Stock::for_keys` has one node record.
+pub const KEYS_A_NODE: u32 = 4;
+
+/// For how many keys `Stock::for_keys` has one leaf record to spare.
+pub const KEYS_A_SPARE_LEAF: u32 = 3;
 
 /// How many more node records and leaf records `Stock::for_keys` has, however few the keys are.
 pub const STOCK_SPARE: u32 = 512;

@@ -9,8 +9,8 @@ ghost use Rattle.record_words.specs.Limits.{IsRecordCount};
 
 use crate::layout::{LeafClass, Stock};
 use crate::{
-    KEY_OFFSET, LARGE_WORDS, MEDIUM_WORDS, SHORT_WORDS, STOCK_SHARE, STOCK_SPARE, WIDE_WORDS,
-    count_key_words,
+    KEYS_A_NODE, KEYS_A_SPARE_LEAF, KEY_OFFSET, LARGE_WORDS, MEDIUM_WORDS, SHORT_WORDS, STOCK_SPARE,
+    WIDE_WORDS, count_key_words,
 };
 use key_bits::MAX_BYTES;
 
@@ -38,7 +38,7 @@ impl Stock {
     /// A stock for up to `count` keys at once, of at most `longest` bytes each; more than 240 count as 240. All its leaf records are of the
     /// smallest class with room for such keys.
     ///
-    /// It has one node record for 8 keys, and 512 more. It has one leaf record for each key, one to spare for 8 keys, and 512 more. Sums
+    /// It has one node record for 4 keys, and 512 more. It has one leaf record for each key, one to spare for 3 keys, and 512 more. Sums
     /// stop at 4,294,967,295. So each index of 1 to 1,024 passes can be made with it where there is memory.
     ///
     /// The nodes are a measured number (`docs/SIZING.md`) and no bound. Keys may be such that each node has two entries, so that `count` of
@@ -51,11 +51,10 @@ impl Stock {
         ensures room { (layout : Layout) (leaf bytes : ℕ) → HasStock layout result → leaf < layout.leaves →
             bytes ≤ longest → bytes ≤ MAX_BYTES → words_for bytes ≤ leaf_size layout leaf }
     {
-        let shares = count / STOCK_SHARE + STOCK_SPARE;
         Stock::of_class(
-            shares,
+            count / KEYS_A_NODE + STOCK_SPARE,
             LeafClass::for_key(longest),
-            count.saturating_add(shares),
+            count.saturating_add(count / KEYS_A_SPARE_LEAF + STOCK_SPARE),
         )
     }
 
