@@ -14,6 +14,7 @@ ghost use Rattle.rowex_writing.specs.Building.{IsBuilding};
 ghost use Rattle.rowex_writing.specs.Walks.{HasNoOther, HasWalked, IsClaimWalk, looks_for};
 
 use crate::building::Build;
+use crate::stretch::Stretch;
 use arrayvec::ArrayVec;
 use record_words::{LEAF_CLASSES, Layout};
 use rowex_core::{Gate, Rec};
@@ -32,8 +33,10 @@ pub(crate) const MOST_SPARE: usize = 256;
 pub struct Hint {
     /// Numbers that the pass has given back: claims begin with the last of these.
     pub spare: ArrayVec<u32, MOST_SPARE>,
-    /// The number after that of the record that was claimed last, but for spare ones: then claims go on from there.
+    /// The number with which claims go on where none of these is free.
     pub next: u32,
+    /// Where they begin when they don't go on.
+    pub stretch: Stretch,
     /// How many claims of a leaf record still try these records last, since a claim found none of them free. It begins as the number of
     /// the records. So in the long run a claim looks at one of them.
     pub skips: u32,
@@ -49,6 +52,7 @@ impl Hint {
         Hint {
             spare: ArrayVec::new(),
             next,
+            stretch: Stretch::begin_at(next),
             skips: 0,
         }
     }
@@ -62,7 +66,9 @@ impl Hint {
         ensures skips { self.new.skips ≡ 0 }
     {
         self.skips = 0;
-        if !self.spare.is_full() {
+        if self.spare.is_full() {
+            self.stretch.note_given();
+        } else {
             self.spare.push(number);
         }
     }
@@ -70,8 +76,7 @@ impl Hint {
 
 /// Claims a record of `kind` and returns its number, counted from the first of the kind on. `None` if none was free.
 ///
-/// It tries the last spare number of `hint` first, which is spare no more. Then it tries each record once, from `hint.next` on. If that
-/// claims one, `hint.next` becomes the number after it. Inline, so that no claim asks of which kind it is.
+/// It tries the last spare number of `hint` first, which is spare no more. Then it tries each record once, from where `hint` says. Inline, so that no claim asks of which kind it is.
 #[inline(always)]
 pub(crate) fn claim_by_hint<G: Gate>(
     table: &HotTable,
@@ -92,8 +97,9 @@ pub(crate) fn claim_by_hint<G: Gate>(
     if let Some(number) = claim_spare_record(table, seat, gate, kind, &mut hint.spare) {
         return Some(number);
     }
+    hint.next = hint.stretch.start();
     let number = claim_record(table, seat, gate, kind, hint.next)?;
-    hint.next = number.wrapping_add(1);
+    hint.stretch.note_claimed(hint.next, number);
     Some(number)
 }
 
@@ -273,6 +279,7 @@ fn claim_node_on_walk<G: Gate>(
         return Some(number);
     }
     let number = claim_next_record(table, seat, gate, RecordKind::Node, hint.next, left)?;
+    hint.stretch.note_claimed(hint.next, number);
     hint.next = number + 1;
     Some(number)
 }

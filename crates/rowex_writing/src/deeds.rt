@@ -115,6 +115,7 @@ pub(crate) fn push_leaf_down<G: Gate>(
     let Some(leaf) = make_leaf(table, seat, gate, build, job.key, job.value) else {
         return Err(Full::Leaves);
     };
+    build.nodes.next = build.nodes.stretch.start();
     build.left_nodes = table.layout().nodes;
     let pair = pair_with_leaf(job.key, position, Entry::Leaf(old), leaf);
     let Some(entry) = make_node(table, seat, gate, build, &pair) else {

@@ -64,6 +64,7 @@ fn grow_with_leaf<G: Gate>(
     ensures few { seat.new.known.steps + leaf_steps table.now.layout ≤
         seat.old.known.steps + deed_steps table.now.layout (locks_of job.now.span) result }
 {
+    build.nodes.next = build.nodes.stretch.start();
     build.left_nodes = table.layout().nodes;
     let Some((entry, stays)) = raise_with_leaf(table, seat, gate, build, job, new) else {
         return Err(Full::Nodes);

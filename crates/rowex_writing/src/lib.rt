@@ -52,6 +52,7 @@ mod plan;
 mod publishing;
 mod remaking;
 mod rising;
+mod stretch;
 mod taking;
 mod widening;
 
@@ -59,3 +60,4 @@ pub use attempts::{TryFault, attempt};
 pub use building::Build;
 pub use claims::Hint;
 pub use plan::Full;
+pub use stretch::Stretch;

@@ -48,7 +48,7 @@ returns-in_default-make_node g c = record {
         let (m, aim, t, planned) = c.requires.taken in
         let here = pair_here c.args.seat.now.known m job.key.now job.way.now aim job.found job.span c.args.position planned c.in-Leaf.old _ _ c.in-Leaf.is in
         let missed = c.in_default-make_node.ensures.makes.walk c.make_leaf.new.seat.known.steps
-        (walk_begins c.args.table.now.layout c.make_leaf.new.seat.known c.make_leaf.new.build.made.items c.make_leaf.new.build.nodes.next c.layout.result c.layout.ensures) in
+        (walk_begins c.args.table.now.layout c.make_leaf.new.seat.known c.make_leaf.new.build.made.items c.start-build.result c.layout.result c.layout.ensures) in
         let rise = steps_rise c.args.table.now g.G.Gate.becomes c.make_leaf.ensures.goes.acts (c.args.seat.now, c.args.gate.now) (c.make_leaf.new.seat, c.make_leaf.new.gate) c.make_leaf.ensures.goes.steps in
         record {
           not_made = c.in_default-make_node.ensures.made (made_of_leaf (item c.in-Some.leaf c.args.job.now.key.now c.args.job.now.value) c.in-Some.ensures.made.fresh ∷ []) c.in-Some.ensures.made.building;

@@ -25,7 +25,7 @@ returns-in_default-clause-full g c =
             may.nodes may.locked c.raise_with_leaf.ensures.makes.goes.stays.1 (omega (arith, may.within.0)) may.within.1 (omega (arith, may.within.1, may.depth))
             (omega (arith, no_nodes may.growing.lowest.made_leaf, c.in_default.ensures.makes.nodes, may.within.0))
             (c.in_default.ensures.makes.walk c.args.seat.now.known.steps
-            (walk_begins c.args.table.now.layout c.args.seat.now.known c.args.build.now.made.items c.args.build.now.nodes.next c.layout.result c.layout.ensures));
+            (walk_begins c.args.table.now.layout c.args.seat.now.known c.args.build.now.made.items c.start-build.result c.layout.result c.layout.ensures));
       },
     )
 
