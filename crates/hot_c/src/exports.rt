@@ -22,7 +22,7 @@ use crate::status::{
     OPEN, OUT_OF_RANGE, write_reply,
 };
 use crate::stock::HotStock;
-use hot_index::{Call, IndexFault, RecordCounts};
+use hot_index::{Call, IndexFault, RecordCounts, keep_one_node};
 use key_bits::{Key, KeyFault};
 use record_words::{Layout, MAX_STOCK_PASSES, Stock};
 use std::alloc::Global;
@@ -162,8 +162,8 @@ pub extern "C" fn hot_stock_for_any_keys(
     stock.set_counts(Stock::for_any_keys(count, longest, passes));
 }
 
-/// Writes to `bytes` how many bytes the table of an index with the records of `stock` and `handles` passes takes: `DONE`. `OUT_OF_RANGE` if
-/// there is no such index, as of `hot_create_with`; then `bytes` stays.
+/// Writes to `bytes` how many bytes the table of an index with the records of `stock` and `handles` passes takes: `DONE`. The node record
+/// that is kept for removals is counted. `OUT_OF_RANGE` if there is no such index, as of `hot_create_with`; then `bytes` stays.
 #[unsafe(no_mangle)]
 pub extern "C" fn hot_stock_bytes(stock: &HotStock, handles: usize, bytes: &mut usize) -> u32
     ensures range { ¬ IsStockSize handles (stock_in stock.now) → (result ≡ OUT_OF_RANGE) × (bytes.new ≡ bytes.old) }
@@ -174,7 +174,7 @@ pub extern "C" fn hot_stock_bytes(stock: &HotStock, handles: usize, bytes: &mut 
     };
     match Layout::with_stock(passes, stock.to_stock()) {
         Ok(layout) => {
-            *bytes = layout.bytes();
+            *bytes = keep_one_node(layout).bytes();
             DONE
         }
         Err(_) => OUT_OF_RANGE,

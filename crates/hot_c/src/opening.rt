@@ -5,6 +5,7 @@ ghost use Rattle.seat_calls.specs.Passes.{IsNewPass, Owns, PassView};
 ghost use Rattle.hot_index.specs.Handles.{handle_at};
 ghost use Rattle.hot_c.specs.Calls.{AreClosed, AreNew, HasCounts, IsKeeper, IsNewShare, IsSize, IsStockSize, places_of};
 ghost use Rattle.record_words.specs.Layout.{HasStock};
+ghost use Rattle.hot_index.specs.Kept.{kept_stock};
 
 use crate::handle::Handle;
 use crate::opened::Opened;
@@ -87,7 +88,7 @@ pub fn make_passes_with_stock(
 ) -> Result<Vec<Box<Opened, Global>>, IndexFault>
     ensures size { IsStockSize passes stock → IfErr result (λ fault. fault ≡ IndexFault.Memory) }
     ensures range { ¬ IsStockSize passes stock → IsErr result × result ≢ Err IndexFault.Memory }
-    ensures made { IfOk result (λ made. AreNew passes (λ layout. HasStock layout stock) (map (λ b. b.value) made.items)) }
+    ensures made { IfOk result (λ made. AreNew passes (λ layout. HasStock layout (kept_stock stock)) (map (λ b. b.value) made.items)) }
 {
     let (index, passes) = create_with(alloc, passes, stock)?;
     share_index(alloc, index, passes).map_err(|_| IndexFault::Memory)
@@ -102,7 +103,7 @@ pub fn make_keeper(
 ) -> Result<Box<Opened, Global>, IndexFault>
     ensures size { IsStockSize passes stock → IfErr result (λ fault. fault ≡ IndexFault.Memory) }
     ensures range { ¬ IsStockSize passes stock → IsErr result × result ≢ Err IndexFault.Memory }
-    ensures made { IfOk result (λ made. IsKeeper passes (λ layout. HasStock layout stock) made.value) }
+    ensures made { IfOk result (λ made. IsKeeper passes (λ layout. HasStock layout (kept_stock stock)) made.value) }
 {
     let (index, passes) = create_closed(alloc, passes, stock)?;
     keep_passes(alloc, index, passes).map_err(|_| IndexFault::Memory)

@@ -19,6 +19,7 @@ use Rattle.insert_cases.specs.declared.choice.PathNode.{PathNode}
 use Rattle.tries.specs.Keys.{Key}
 use Rattle.versions.specs.State.{IsHeldSince, WasAbsentSince}
 use Rattle.record_words.specs.declared.layout.Layout.{Layout}
+use Rattle.versions.specs.declared.Rec.{Rec}
 use Rattle.versions.specs.declared.Rec.TheVariants.{Node as a_node}
 use Rattle.rowex_core.specs.declared.event.Event.{Event}
 use Rattle.rowex_core.specs.declared.known.Known.{Known}
@@ -39,6 +40,7 @@ use Rattle.rowex_writing.specs.Asking.{aim_of, aim_where, reply_to, value_in}
 use Rattle.rowex_writing.specs.Attempts.{HasAnswered, HasDone, HasLoadedRoot, HasLooked, HasRefused, IsAttemptCause, IsChangeOf, IsLeafless, refusal_of}
 use Rattle.rowex_writing.specs.Changes.{AreAffected, HasChanged, HasNoRoom, HasRun, IsFull, IsPlanned}
 use Rattle.rowex_writing.specs.Locks.{HasMetLock}
+use Rattle.rowex_writing.specs.Walks.{nodes_among}
 use Rattle.rowex_writing.specs.Plans.{change, IsCase, IsNewLeafPlan}
 use Rattle.rowex_reading.specs.Ways.{IsWayOf, value_of}
 use Rattle.rowex_writing.specs.declared.plan.Aim.{Aim}
@@ -355,27 +357,27 @@ loaded_steps : (k j : Known) → HasLoadedRoot k j → k.steps ≤ j.steps
 loaded_steps k j l = let x = l.from in let y = l.upto in omega (arith, x, y)
 
 -- ---- refusals
-pub refused_busy : (layout : Layout) (key : Key) (k i j : Known) (m : ℕ) → IsPinnedSince i m → HasLoadedRoot k i → IsLater k i → IsLater i j → HasMetLock layout i j ⊎ (m < length j.front) → HasRefused layout key k j Busy
-refused_busy layout key k i j m (p, pinned, early) loaded first next why = record {
+pub refused_busy : (layout : Layout) (key : Key) (k i j : Known) (m : ℕ) (made : List Rec) → IsPinnedSince i m → HasLoadedRoot k i → IsLater k i → IsLater i j → HasMetLock layout i j ⊎ (m < length j.front) → HasRefused layout key k j made Busy
+refused_busy layout key k i j m made (p, pinned, early) loaded first next why = record {
   others = (later_trans first next).front;
   cause = elim why [ inl met ↦ inl (met_since layout k i j j (loaded_steps k i loaded) first.pass refl met) | inr moved ↦ inr (m, (p, (sym first.pin ∙ pinned), early), moved) ];
 }
 
-full_before : (layout : Layout) (key : Key) (k i j : Known) (full : Full) → k.steps ≤ i.steps → IsFull layout key i j full → IsFull layout key k j full
-full_before layout key k i j Nodes low l = lacks_so layout j.pass j.failed j.failed i.steps k.steps l (all_earlier (IsAnothers layout j.pass l.own l.locked) a_node layout.nodes j.failed k.steps i.steps low l.missed)
-full_before layout key k i j Leaves low f = λ q within room. let (step, from, at) = f q within room in (step, (omega (arith, low, from)), at)
+full_before : (layout : Layout) (key : Key) (k i j : Known) (made : List Rec) (full : Full) → k.steps ≤ i.steps → IsFull layout key i j made full → IsFull layout key k j made full
+full_before layout key k i j made Nodes low l = lacks_so layout j.pass j.failed j.failed i.steps k.steps (nodes_among made) l (all_earlier (IsAnothers layout j.pass (nodes_among made) l.locked) a_node layout.nodes j.failed k.steps i.steps low l.missed)
+full_before layout key k i j made Leaves low f = λ q within room. let (step, from, at) = f q within room in (step, (omega (arith, low, from)), at)
 
 others_since : (k i j : Known) → IsLater k i → OthersGoOn i.pass i.front j.front → OthersGoOn k.pass k.front j.front
 others_since k i j later others = others_on k.pass k.front i.front j.front later.front (subst (λ q. OthersGoOn q i.front j.front) later.pass others)
 
-full_cause : (layout : Layout) (key : Key) (k j : Known) (full : Full) → IsFull layout key k j full → IsAttemptCause layout key k j (refusal_of full)
-full_cause layout key k j Nodes f = f
-full_cause layout key k j Leaves f = f
+full_cause : (layout : Layout) (key : Key) (k j : Known) (made : List Rec) (full : Full) → IsFull layout key k j made full → IsAttemptCause layout key k j made (refusal_of full)
+full_cause layout key k j made Nodes f = f
+full_cause layout key k j made Leaves f = f
 
-pub refused_full : (layout : Layout) (key : Key) (k i j : Known) (full : Full) → HasLoadedRoot k i → IsLater k i → HasNoRoom layout key i j full → HasRefused layout key k j (refusal_of full)
-refused_full layout key k i j full loaded later none = record {
+pub refused_full : (layout : Layout) (key : Key) (k i j : Known) (made : List Rec) (full : Full) → HasLoadedRoot k i → IsLater k i → HasNoRoom layout key i j made full → HasRefused layout key k j made (refusal_of full)
+refused_full layout key k i j made full loaded later none = record {
   others = others_since k i j later none.others;
-  cause = full_cause layout key k j full (full_before layout key k i j full (loaded_steps k i loaded) none.full_of);
+  cause = full_cause layout key k j made full (full_before layout key k i j made full (loaded_steps k i loaded) none.full_of);
 }
 
 -- a refusal for want of a leaf record is for want of one

@@ -9,6 +9,7 @@ use Rattle.finite_map.specs.Fronts.{BeginsWith, OthersGoOn}
 use Rattle.finite_map.specs.Maps.{key_of}
 use Rattle.record_words.specs.declared.layout.Layout.{Layout}
 use Rattle.tries.specs.Keys.{Key}
+use Rattle.versions.specs.declared.Rec.{Rec}
 use Rattle.rowex_core.specs.declared.event.Act.{Act}
 use Rattle.rowex_core.specs.declared.event.Act.TheVariants.{LoadRef}
 use Rattle.rowex_core.specs.declared.event.Event.{Event}
@@ -90,13 +91,13 @@ IsLeafless leaves (RemoveIf key expected) result = result ≢ Err leaves
 IsLeafless leaves call result = Unit {0}
 
 -- why it was refused: a lock of it found taken by another pass what it wanted to lock, or the pass has seen a change that was made
--- since its pin; or no node record was free, or no leaf record with room for its key
-abbrev pub IsAttemptCause : Layout → Key → Known → Known → TryFault → Type 0
-IsAttemptCause layout key k j Busy = HasMetLock layout k j ⊎ ((m : ℕ) × IsPinnedSince k m × (m < length j.front))
-IsAttemptCause layout key k j FullNodes = IsFull layout key k j Nodes
-IsAttemptCause layout key k j FullLeaves = IsFull layout key k j Leaves
+-- since its pin; or no node record was free beside those that it had made, or no leaf record with room for its key
+abbrev pub IsAttemptCause : Layout → Key → Known → Known → List Rec → TryFault → Type 0
+IsAttemptCause layout key k j made Busy = HasMetLock layout k j ⊎ ((m : ℕ) × IsPinnedSince k m × (m < length j.front))
+IsAttemptCause layout key k j made FullNodes = IsFull layout key k j made Nodes
+IsAttemptCause layout key k j made FullLeaves = IsFull layout key k j made Leaves
 
 -- It was refused: no change of its own was made.
-pub record HasRefused (layout : Layout) (key : Key) (k j : Known) (fault : TryFault) : Type 0 where
+pub record HasRefused (layout : Layout) (key : Key) (k j : Known) (made : List Rec) (fault : TryFault) : Type 0 where
   pub others : OthersGoOn k.pass k.front j.front
-  pub cause : IsAttemptCause layout key k j fault
+  pub cause : IsAttemptCause layout key k j made fault

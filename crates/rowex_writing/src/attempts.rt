@@ -55,7 +55,8 @@ pub enum TryFault {
 /// record is free, nothing is changed, and the fault tells which.
 ///
 /// The pass is pinned, has no record and no lock, and has made no change since its pin. `way` is filled with the nodes that the search
-/// went through. After a change `build.gone` lists what it unlinked; else it stays. A removal is never refused as `FullLeaves`.
+/// went through. After a change `build.gone` lists what it unlinked; else it stays. If no record was free, `build.made` lists those that
+/// it had claimed, and has given up. A removal is never refused as `FullLeaves`.
 ///
 /// If it tries no lock, it makes at most 58 atomic steps, and 26 for each node on the key's way. Else it makes at most 124, and 26 for
 /// each such node. To these come 297 for each lock that it tries, four for each leaf record and two for each node record.
@@ -75,7 +76,7 @@ pub fn attempt<G: Gate>(
     ensures loaded { HasLoadedRoot seat.old.known seat.new.known }
     ensures rest { IsAtRest seat.new.known }
     ensures answered { IfOk result (HasAnswered seat.old.known seat.new.known call.now) }
-    ensures refused { IfErr result (HasRefused table.now.layout (the_key call.now) seat.old.known seat.new.known) }
+    ensures refused { IfErr result (HasRefused table.now.layout (the_key call.now) seat.old.known seat.new.known build.new.made.items) }
     ensures leafless { IsLeafless TryFault.FullLeaves call.now result }
     ensures few { seat.new.known.steps ≤ seat.old.known.steps + most_steps table.now.layout }
 {
@@ -125,7 +126,7 @@ fn try_plan<G: Gate>(
     ensures rest { IsAtRest seat.new.known }
     ensures done { result ≡ Ok tt → HasDone seat.old.known seat.new.known deed job.now.key.now job.now.value job.now.found }
     ensures refused { IfErr result (λ fault. (k : Known) → HasLoadedRoot k seat.old.known → IsLater k seat.old.known →
-        HasRefused table.now.layout job.now.key.now k seat.new.known fault) }
+        HasRefused table.now.layout job.now.key.now k seat.new.known build.new.made.items fault) }
     ensures leafless { deed ≡ Deed.Take → result ≢ Err TryFault.FullLeaves }
 {
     if !lock_and_check_span(table, seat, gate, job) {
@@ -150,7 +151,7 @@ fn change_span<G: Gate>(
     requires taken { HasTakenPlan table.now seat.old job.now deed }
     ensures run { EndsChange table.now G.becomes job.now (seat.old, gate.old) (seat.new, gate.new) }
     ensures done { result ≡ Ok tt → HasDone seat.old.known seat.new.known deed job.now.key.now job.now.value job.now.found }
-    ensures full { IfErr result (λ full. HasNoRoom table.now.layout job.now.key.now seat.old.known seat.new.known full) }
+    ensures full { IfErr result (λ full. HasNoRoom table.now.layout job.now.key.now seat.old.known seat.new.known build.new.made.items full) }
     ensures leafless { deed ≡ Deed.Take → result ≢ Err Full.Leaves }
 {
     match deed {
@@ -181,7 +182,7 @@ fn make_removal<G: Gate>(
     requires some { 0 < job.now.span.end }
     ensures run { ChangesOn table.now G.becomes (span_numbers job.now.way.now job.now.span) (seat.old, gate.old) (seat.new, gate.new) }
     ensures done { result ≡ Ok tt → HasDone seat.old.known seat.new.known Take job.now.key.now job.now.value job.now.found }
-    ensures full { IfErr result (λ full. HasNoRoom table.now.layout job.now.key.now seat.old.known seat.new.known full) }
+    ensures full { IfErr result (λ full. HasNoRoom table.now.layout job.now.key.now seat.old.known seat.new.known build.new.made.items full) }
     ensures leafless { result ≢ Err Full.Leaves }
 {
     match make_without_leaf(table, seat, gate, build, job) {

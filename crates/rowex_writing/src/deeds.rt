@@ -7,6 +7,7 @@ ghost use Rattle.rowex_writing.specs.Putting.{leaf_found};
 ghost use Rattle.rowex_writing.specs.declared.plan.Deed.TheVariants.{Put, PushDown};
 
 use crate::building::{Build, make_node};
+use crate::claims::leaves_free_node;
 use crate::growing::grow_node;
 use crate::plan::{Deed, Full, Span};
 use crate::publishing::make_leaf;
@@ -97,7 +98,8 @@ fn found_leaf(found: Found) -> Option<u32>
 }
 
 /// Makes the new leaf, and a node of it and the found leaf with a fork at `position`. Returns that node, which is to take the found leaf's
-/// place. `Full::Leaves` if no leaf record with room was free. `Full::Nodes` if no node record was free: the leaf stays in `build.made`.
+/// place. One more node record must be free then. `Full::Leaves` if no leaf record with room was free. `Full::Nodes` if no node record was
+/// free: those made by then stay in `build.made`.
 pub(crate) fn push_leaf_down<G: Gate>(
     table: &HotTable,
     seat: &mut TableSeat,
@@ -121,6 +123,9 @@ pub(crate) fn push_leaf_down<G: Gate>(
     let Some(entry) = make_node(table, seat, gate, build, &pair) else {
         return Err(Full::Nodes);
     };
+    if !leaves_free_node(table, seat, gate, build) {
+        return Err(Full::Nodes);
+    }
     Ok(Raised {
         entry: Some(entry),
         low: job.span.len,

@@ -60,5 +60,5 @@ returns-in-Err-clause-run g c = inl (
 
 pub returns-in-Err-clause-full : goal.returns-in-Err-clause-full
 returns-in-Err-clause-full g c =
-    no_room c.args.table.now g.G.Gate.becomes c.args.job.now.key.now (c.args.seat.now, c.args.gate.now) (c.carry_out_deed.new.seat, c.carry_out_deed.new.gate) (c.undo_change.new.seat, c.undo_change.new.gate) c.in-Err.full
+    no_room c.args.table.now g.G.Gate.becomes c.args.job.now.key.now (c.args.seat.now, c.args.gate.now) (c.carry_out_deed.new.seat, c.carry_out_deed.new.gate) (c.undo_change.new.seat, c.undo_change.new.gate) _ c.in-Err.full
     c.carry_out_deed.ensures.done.goes c.undo_change.ensures.works c.undo_change.ensures.rest c.in-Err.ensures.done.full.full_of

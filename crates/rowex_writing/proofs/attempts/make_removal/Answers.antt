@@ -89,5 +89,5 @@ returns-in-Err-clause-run g c = λ a h.
 
 pub returns-in-Err-clause-full : goal.returns-in-Err-clause-full
 returns-in-Err-clause-full g c =
-    no_room c.args.table.now g.G.Gate.becomes c.args.job.now.key.now (c.args.seat.now, c.args.gate.now) (c.make_without_leaf.new.seat, c.make_without_leaf.new.gate) (c.undo_change.new.seat, c.undo_change.new.gate) c.in-Err.full
+    no_room c.args.table.now g.G.Gate.becomes c.args.job.now.key.now (c.args.seat.now, c.args.gate.now) (c.make_without_leaf.new.seat, c.make_without_leaf.new.gate) (c.undo_change.new.seat, c.undo_change.new.gate) _ c.in-Err.full
     c.make_without_leaf.ensures.done.goes c.undo_change.ensures.works c.undo_change.ensures.rest c.in-Err.ensures.done.full.full_of

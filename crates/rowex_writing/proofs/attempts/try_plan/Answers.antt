@@ -13,7 +13,7 @@ use Rattle.rowex_writing.proofs.attempts.try_plan.Goals as goal
 pub returns-then-not-lock_and_check_span-clause-refused : goal.returns-then-not-lock_and_check_span-clause-refused
 returns-then-not-lock_and_check_span-clause-refused g c k loaded later =
     let (m, aim, way, planned) = c.requires.planned in
-    refused_busy c.args.table.now.layout c.args.job.now.key.now k _ _ m way.since loaded later c.lock_and_check_span.ensures.later (c.lock_and_check_span.ensures.busy c.if-not-lock_and_check_span.true m way)
+    refused_busy c.args.table.now.layout c.args.job.now.key.now k _ _ m _ way.since loaded later c.lock_and_check_span.ensures.later (c.lock_and_check_span.ensures.busy c.if-not-lock_and_check_span.true m way)
 
 -- ---- the change
 pub change_span-requires : goal.change_span-requires
@@ -43,7 +43,7 @@ returns-in-Err-clause-run g c =
 pub returns-in-Err-clause-refused : goal.returns-in-Err-clause-refused
 returns-in-Err-clause-refused g c k loaded later =
     let there = run_loaded c.args.table.now g.G.Gate.becomes k (c.args.seat.now, c.args.gate.now) (c.lock_and_check_span.new.seat, c.lock_and_check_span.new.gate) loaded c.lock_and_check_span.ensures.run.1.1 in
-    rw c.refusal_of.ensures (refused_full c.args.table.now.layout c.args.job.now.key.now k _ _ c.in-Err.full there (later_trans later c.lock_and_check_span.ensures.later) c.in-Err.ensures.full)
+    rw c.refusal_of.ensures (refused_full c.args.table.now.layout c.args.job.now.key.now k _ _ _ c.in-Err.full there (later_trans later c.lock_and_check_span.ensures.later) c.in-Err.ensures.full)
 
 pub returns-in-Err-clause-leafless : goal.returns-in-Err-clause-leafless
 returns-in-Err-clause-leafless g c take is =
