@@ -14,12 +14,13 @@
  *
  * When the index is full. A change writes new records before it retires those that it replaces. Retired records can be used again once
  * the calls that ran at that time, or began soon after, have returned: the next collection gives them back, and a change that finds no
- * record free makes a collection itself, tries again, and then counts all records. If it finds each record that it could use in use, it
- * returns HOT_FULL_NODES or HOT_FULL_LEAVES: keys must be removed first. If it finds one free, claimed by a change that is under way,
- * or retired, other calls hold records back, and it is to be tried again: hot_insert and the like do so, and hot_try_insert and the like
- * return HOT_HELD_BACK. A thread that is stopped in the middle of a call, even of a look-up or a scan, may hold back everything that is
- * retired meanwhile. The count loads one record after another: with a handful of records to spare, changes that are under way may
- * have a few of them in use for a moment.
+ * record free makes a collection itself, tries again, and then counts all records. If fewer are free than it needs, and none is claimed
+ * by a change that is under way or retired, it returns HOT_FULL_NODES or HOT_FULL_LEAVES: keys must be removed first. So it does where
+ * the index has one handle. Else other calls hold records back, and it is to be tried again: hot_insert and the like do so, and
+ * hot_try_insert and the like return HOT_HELD_BACK. An index has one node record more than asked, up to 4294967295, which insertions
+ * leave free for removals: so a full index can be emptied. A thread that is stopped in the middle of a call, even of a look-up or a
+ * scan, may hold back everything that is retired meanwhile. The count loads one record after another: with a handful of records to
+ * spare, changes that are under way may have a few of them in use for a moment.
  *
  * Keys in calls. A key, a prefix or an end of a range that has more than HOT_MAX_KEY bytes is refused as HOT_KEY_TOO_LONG by each call.
  * The value that a key had is written to `had` if the call says so, and else `had` stays as it is; it may be NULL, if it is not wanted.
@@ -90,8 +91,8 @@ enum {
     HOT_WAS = 6,           /* the key had this value, and has the new one */
     HOT_REMOVED = 7,       /* the key had this value, and is gone */
     HOT_BUSY = 8,          /* another call is in the way: try again */
-    HOT_FULL_NODES = 9,    /* too few node records were free, and a count found all in use */
-    HOT_FULL_LEAVES = 10,  /* no leaf record was free, and a count found all in use that have room for the key */
+    HOT_FULL_NODES = 9,    /* too few node records were free, and by a count none comes back */
+    HOT_FULL_LEAVES = 10,  /* no leaf record with room for the key was free, and by a count none comes back */
     HOT_KEY_TOO_LONG = 11, /* a key has more than HOT_MAX_KEY bytes, or is to be put in and no leaf record has room for it */
     HOT_CLOSED = 12,       /* the handle is closed */
     HOT_OPEN = 13,         /* a handle that was to be opened is open */
@@ -99,7 +100,7 @@ enum {
     HOT_NO_MEMORY = 15,
     HOT_EXCHANGED = 16,    /* the key had the expected value, and has the new one */
     HOT_DIFFERS = 17,      /* the key has this value, which is not the expected one, and keeps it */
-    HOT_HELD_BACK = 18,    /* too few records were free, but other calls hold some back: try again */
+    HOT_HELD_BACK = 18,    /* too few records were free, but by a count some may come back: try again */
     HOT_NO_HANDLE = 19,    /* all handles of the index are open */
     HOT_OTHER_INDEX = 20,  /* the handle, or the moment, is of another index */
     HOT_OLD_PROCESSOR = 21 /* the library was compiled for newer processors */

@@ -18,24 +18,24 @@ static void test_census(void) {
     memset(&counts, 0xee, sizeof counts);
     CHECK(hot_census(&handle, &counts) == HOT_CLOSED && counts.nodes.free == 0xeeeeeeee);
     CHECK(hot_create(100, 200, &handle, 1) == HOT_DONE);
-    CHECK(hot_census(&handle, &counts) == HOT_DONE && are(counts.nodes, 100, 0, 0, 0) && are(counts.long_leaves, 200, 0, 0, 0));
+    CHECK(hot_census(&handle, &counts) == HOT_DONE && are(counts.nodes, 101, 0, 0, 0) && are(counts.long_leaves, 200, 0, 0, 0));
     CHECK(counts.bytes == 384 + 128 + 464 * 100 + 264 * 200);
     CHECK(hot_try_insert(&handle, bytes("a"), 1, 1, &had) == HOT_INSERTED);
-    CHECK(hot_census(&handle, &counts) == HOT_DONE && are(counts.nodes, 100, 0, 0, 0) && are(counts.long_leaves, 199, 0, 1, 0));
+    CHECK(hot_census(&handle, &counts) == HOT_DONE && are(counts.nodes, 101, 0, 0, 0) && are(counts.long_leaves, 199, 0, 1, 0));
     CHECK(hot_try_insert(&handle, bytes("b"), 1, 2, &had) == HOT_INSERTED);
-    CHECK(hot_census(&handle, &counts) == HOT_DONE && are(counts.nodes, 99, 0, 1, 0) && are(counts.long_leaves, 198, 0, 2, 0));
+    CHECK(hot_census(&handle, &counts) == HOT_DONE && are(counts.nodes, 100, 0, 1, 0) && are(counts.long_leaves, 198, 0, 2, 0));
     CHECK(hot_try_insert(&handle, bytes("c"), 1, 3, &had) == HOT_INSERTED);
-    CHECK(hot_census(&handle, &counts) == HOT_DONE && are(counts.nodes, 98, 0, 1, 1) && are(counts.long_leaves, 197, 0, 3, 0));
+    CHECK(hot_census(&handle, &counts) == HOT_DONE && are(counts.nodes, 99, 0, 1, 1) && are(counts.long_leaves, 197, 0, 3, 0));
     CHECK(hot_try_remove(&handle, bytes("b"), 1, &had) == HOT_REMOVED);
-    CHECK(hot_census(&handle, &counts) == HOT_DONE && are(counts.nodes, 97, 0, 1, 2) && are(counts.long_leaves, 197, 0, 2, 1));
+    CHECK(hot_census(&handle, &counts) == HOT_DONE && are(counts.nodes, 98, 0, 1, 2) && are(counts.long_leaves, 197, 0, 2, 1));
     CHECK(hot_collect(&handle, &nodes, &leaves) == HOT_DONE && nodes == 2 && leaves == 1);
-    CHECK(hot_census(&handle, &counts) == HOT_DONE && are(counts.nodes, 99, 0, 1, 0) && are(counts.long_leaves, 198, 0, 2, 0));
+    CHECK(hot_census(&handle, &counts) == HOT_DONE && are(counts.nodes, 100, 0, 1, 0) && are(counts.long_leaves, 198, 0, 2, 0));
     CHECK(are(counts.short_leaves, 0, 0, 0, 0) && are(counts.wide_leaves, 0, 0, 0, 0));
     CHECK(hot_destroy(&handle) == HOT_DONE);
     CHECK(hot_create_with(&stock, &handle, 1) == HOT_DONE);
     CHECK(hot_try_insert(&handle, bytes("12345678"), 8, 1, &had) == HOT_INSERTED);
     CHECK(hot_try_insert(&handle, bytes("123456789"), 9, 2, &had) == HOT_INSERTED);
-    CHECK(hot_census(&handle, &counts) == HOT_DONE && are(counts.nodes, 7, 0, 1, 0) && are(counts.short_leaves, 0, 0, 1, 0));
+    CHECK(hot_census(&handle, &counts) == HOT_DONE && are(counts.nodes, 8, 0, 1, 0) && are(counts.short_leaves, 0, 0, 1, 0));
     CHECK(are(counts.medium_leaves, 1, 0, 1, 0) && are(counts.large_leaves, 0, 0, 0, 0) && are(counts.long_leaves, 3, 0, 0, 0));
     CHECK(hot_destroy(&handle) == HOT_DONE);
 }
@@ -66,6 +66,43 @@ static void test_full(void) {
     CHECK(hot_destroy(&handle) == HOT_DONE);
 }
 
+/* Puts keys in by calls that wait, until one is full: numbers that follow `seed`. How many went in. */
+static uint64_t fill(hot_handle *handle, uint64_t seed) {
+    uint64_t had, count = 0;
+    for (;; count++) {
+        seed = seed * 6364136223846793005u + 1442695040888963407u;
+        hot_status status = hot_insert(handle, (uint8_t *)&seed, sizeof seed, count, &had);
+        CHECK(status == HOT_INSERTED || status == HOT_FULL_NODES);
+        if (status != HOT_INSERTED)
+            return count;
+    }
+}
+
+/* Small indexes are filled to their last node record. Then an insertion that needs more than are free returns, and all can be removed. */
+static void test_filled(void) {
+    hot_handle handles[2] = {HOT_HANDLE, HOT_HANDLE}, large = HOT_HANDLE;
+    hot_pair pair;
+    uint64_t had, count;
+    CHECK(hot_create(2, 1000, handles, 1) == HOT_DONE);
+    for (int i = 0; i < 33; i++) {
+        uint8_t key[2] = {(uint8_t)(i * 37), 0};
+        CHECK(hot_insert(&handles[0], key, 2, 1, &had) == (i < 32 ? HOT_INSERTED : HOT_FULL_NODES));
+    }
+    CHECK(hot_destroy(&handles[0]) == HOT_DONE);
+    CHECK(hot_create(200, 10000, &large, 1) == HOT_DONE && fill(&large, 1) > 2000);
+    for (uint32_t nodes = 1; nodes <= 100; nodes++) {
+        CHECK(hot_create(nodes, 10000, handles, nodes % 2 + 1) == HOT_DONE);
+        count = fill(&handles[0], nodes);
+        CHECK(hot_first(&handles[0], bytes(""), 0, &pair) == HOT_FOUND);
+        CHECK(hot_try_remove(&handles[0], pair.key, pair.length, &had) == HOT_REMOVED);
+        CHECK(hot_clear(&handles[0]) == HOT_DONE && hot_first(&handles[0], bytes(""), 0, &pair) == HOT_ABSENT);
+        CHECK(fill(&handles[0], nodes) == count && hot_copy(&large, &handles[0]) == HOT_FULL_NODES && hot_clear(&handles[0]) == HOT_DONE);
+        for (uint32_t i = 0; i < nodes % 2 + 1; i++)
+            CHECK(hot_destroy(&handles[i]) == HOT_DONE);
+    }
+    CHECK(hot_destroy(&large) == HOT_DONE);
+}
+
 /* Leaves of several sizes: a key takes the smallest with room that is free. */
 static void test_stock(void) {
     hot_handle handle = HOT_HANDLE;
@@ -94,8 +131,8 @@ static void test_stock_sizes(void) {
     size_t size = 7;
     hot_stock_for_keys(7, 8, &stock);
     CHECK(stock.nodes == 513 && stock.short_leaves == 521 && !stock.medium_leaves && !stock.large_leaves);
-    CHECK(hot_stock_bytes(&stock, 1, &size) == HOT_DONE && size == 255216);
-    CHECK(hot_stock_bytes(&stock, MANY + 1, &size) == HOT_OUT_OF_RANGE && size == 255216);
+    CHECK(hot_stock_bytes(&stock, 1, &size) == HOT_DONE && size == 255680);
+    CHECK(hot_stock_bytes(&stock, MANY + 1, &size) == HOT_OUT_OF_RANGE && size == 255680);
     CHECK(hot_create_with(&stock, handles, 0) == HOT_OUT_OF_RANGE);
     CHECK(hot_create_with(&stock, handles, MANY) == HOT_DONE);
     for (int i = 0; i < MANY; i++)
@@ -259,6 +296,7 @@ int main(void) {
     test_census();
     test_small_rounds();
     test_full();
+    test_filled();
     test_stock();
     test_stock_sizes();
     test_any_keys();
