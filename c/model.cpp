@@ -1,4 +1,5 @@
-// Tests of hot.hpp beside std::map: random calls, also by threads at once; what closing gives back; and keys from values.
+// Tests of hot.hpp beside std::map: random calls, also by threads at once; small indexes that are filled and emptied; what closing gives
+// back; and keys from values.
 //
 //     model KEYS          KEYS is bindings/keys.txt
 //     model threads       the threads alone
@@ -14,6 +15,7 @@
 #include <random>
 #include <sstream>
 #include <thread>
+#include <unistd.h>
 
 using model = std::map<std::string, std::uint64_t>;
 using value = std::optional<std::uint64_t>;
@@ -256,6 +258,45 @@ static void test_updates() {
     CHECK(calls == 4 && handle.get("a") == 9 && handle.fetch_update("a", [](value) { return value(); }) == 9 && handle.empty());
 }
 
+// ---- Small indexes that are filled to the last record, and emptied ----
+
+// Inserts keys, in turn, until one is refused, as full: how many went in.
+static std::size_t fill(hot::handle &handle, const std::vector<std::string> &keys) {
+    for (std::size_t at = 0; at < keys.size(); at++) {
+        const hot::change made = handle.insert(keys[at], at);
+        if (made.is_refused()) {
+            CHECK(made.what == status::full_nodes || made.what == status::full_leaves);
+            return at;
+        }
+    }
+    return keys.size();
+}
+
+static void test_full(std::uint32_t nodes, std::uint32_t leaves, const std::vector<std::string> &keys) {
+    hot::handle handle = std::move(hot::create(nodes, leaves).at(0));
+    const std::size_t count = fill(handle, keys);
+    CHECK(count > 0 && count < keys.size() && handle.size() == count);
+    for (int turn = 0; turn < 2; turn++) {
+        for (std::size_t at = 0; at < count; at++)
+            CHECK(handle.get(keys[at]) == at && handle.remove(keys[at]).had == at);
+        CHECK(handle.empty() && handle.size() == 0 && fill(handle, keys) == count);
+    }
+}
+
+static void test_small() {
+    std::mt19937 random(1);
+    for (std::uint32_t nodes = 1; nodes <= 100; nodes++) {
+        std::vector<std::string> steps, any;
+        for (std::uint16_t i = 0; i < 4000; i++) {
+            steps.push_back(hot::key_of(static_cast<std::uint16_t>(i * 37)));
+            any.push_back(hot::key_of(static_cast<std::uint64_t>(random()) << 32 | 1u << random() % 32));
+        }
+        test_full(nodes, 4000, steps);
+        test_full(nodes, 4000, any);
+        test_full(4000, nodes, any);
+    }
+}
+
 // ---- Keys from values ----
 
 template <class Number> static std::string number(const std::string &text) {
@@ -339,12 +380,14 @@ static void test_keys() {
 int main(int count, char **words) {
     if (count != 2)
         return 2;
+    alarm(300); // a call that doesn't return fails the test
     if (std::string(words[1]) != "threads") {
         test_closing();
         test_updates();
         test_keys();
         test_examples(words[1]);
         test_random();
+        test_small();
     }
     test_threads();
     std::puts("the C++ model passed");
