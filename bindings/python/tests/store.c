@@ -66,9 +66,6 @@ static void shape(change *to, int kind, unsigned number) {
     }
 }
 
-/* Whether a removal is never refused as full, so that a full index can be emptied. */
-enum { CAN_EMPTY = 0 };
-
 /* Fills an index until it is refused, and empties it; each key that was put in is there, and can be removed. */
 static void fill(uint32_t nodes, int kind, int grows) {
     enum { KEYS = 1000 };
@@ -91,13 +88,13 @@ static void fill(uint32_t nodes, int kind, int grows) {
         shape(&it, kind, i);
         assert(store_read(in, look_up, &it) == HOT_FOUND && it.had == it.length);
     }
-    for (unsigned i = 0; i < count && (grows || CAN_EMPTY); i++) {
+    for (unsigned i = 0; i < count; i++) {
         shape(&it, kind, i);
         it.removes = 1;
         status = store_change(in, make, &it, it.length);
         assert(status == HOT_REMOVED || status == HOT_ABSENT);
     }
-    assert(count_of(in) == 0 || !(grows || CAN_EMPTY));
+    assert(count_of(in) == 0);
     store_close(in);
 }
 
