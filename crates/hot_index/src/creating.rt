@@ -140,7 +140,10 @@ fn make_index_with_closed_passes(
     ensures memory { result ≡ Err IndexFault.Memory → IsOk found }
 {
     match found {
-        Ok(layout) => make_index(alloc, keep_one_node(layout)).map_err(|_| IndexFault::Memory),
+        Ok(asked) => match make_index(alloc, keep_one_node(asked)) {
+            Ok(made) => Ok(made),
+            Err(_) => Err(IndexFault::Memory),
+        },
         Err(fault) => Err(IndexFault::Layout(fault)),
     }
 }

@@ -19,4 +19,4 @@ pub returns-clause-layout : goal.returns-clause-layout
 returns-clause-layout c = made_kept (λ made. made.0.layout) c.of.result c.make_index_with_open_passes.result
     (λ (l : Layout). (l.passes ≡ c.args.passes) × (l.nodes ≡ c.args.nodes) × (l.leaves ≡ c.args.leaves) × (l.long_from ≡ 0))
     (λ (l : Layout). (l.passes ≡ c.args.passes) × (l.nodes ≡ with_one_kept c.args.nodes) × (l.leaves ≡ c.args.leaves) × (l.long_from ≡ 0))
-    c.of.ensures.ok c.make_index_with_open_passes.ensures.layout (λ a b asked kept. (kept.passes ∙ asked.0, kept.nodes ∙ ap with_one_kept asked.1.0, kept.leaves ∙ asked.1.1.0, kept.long ∙ asked.1.1.1))
+    c.of.ensures.ok c.make_index_with_open_passes.ensures.layout (λ a b asked kept. (kept.passes ∙ asked.0, kept.nodes ∙ ap with_one_kept asked.1, kept.leaves ∙ asked.2, kept.long ∙ asked.3))

@@ -1,6 +1,6 @@
 -- What is told of the numbers is what was found of them.
 use Rattle.record_words.specs.declared.layout.LayoutFault.{LayoutFault}
-use Rattle.std.proofs.Common.{◌≡◌, ◌×◌, ◌∙◌}
+use Rattle.std.proofs.Common.{◌≡◌, ◌∙◌}
 use Rattle.record_words.specs.Layout.{HasStock}
 use Rattle.record_words.specs.declared.layout.Layout.{Layout}
 use Rattle.hot_index.specs.Kept.{kept_stock}
