@@ -73,7 +73,7 @@ static held *hold(connection *of, shared_index *index, int *code, char **error) 
         return it;
     }
     memset(it, 0, sizeof *it);
-    if ((status = part_take(index, &it->part)) != HOT_DONE) {
+    if ((status = part_take(index, of->point, &it->part)) != HOT_DONE) {
         if (status == HOT_NO_HANDLE) {
             *code = SQLITE_BUSY;
             *error = sqlite3_mprintf("hot: %d connections have the index: make it with more connections=",
@@ -97,6 +97,7 @@ connection *connection_use(sqlite3 *db) {
     if (!of && (of = sqlite3_malloc(sizeof *of)) != NULL) {
         memset(of, 0, sizeof *of);
         of->db = db;
+        of->point = OUTSIDE;
         of->next = connections;
         connections = of;
     }
@@ -245,8 +246,7 @@ static int savepoint(sqlite3_vtab *vtab, int point) {
     held *it;
     of->point = point;
     for (it = of->all; it; it = it->next)
-        if (!part_mark(&it->part, point))
-            return SQLITE_NOMEM;
+        part_begin_point(&it->part, point);
     return SQLITE_OK;
 }
 

@@ -223,9 +223,10 @@ const wanted_index *shared_made_as(const shared_index *of) {
     return &of->made_as;
 }
 
-hot_status part_take(shared_index *of, index_part *part) {
+hot_status part_take(shared_index *of, int point, index_part *part) {
     memset(part, 0, sizeof *part);
     part->of = of;
+    part->log.point = point;
     return hot_open(of->index, &part->handle);
 }
 
@@ -350,6 +351,7 @@ static log_entry *enter_aside(index_part *part, const log_entry *entry) {
 
 static void keep(index_part *part, log_entry *entry) {
     entry->before = part->log.last;
+    entry->point = part->log.point;
     part->log.last = entry;
 }
 
@@ -429,28 +431,19 @@ void part_forget(index_part *part) {
         part->log.last = last->before;
         sqlite3_free(last);
     }
-    part->log.mark = NULL;
+    part->log.point = NO_POINT;
 }
 
-int part_mark(index_part *part, int point) {
-    change_log *log = &part->log;
-    log_entry *made;
-    if (log->mark && log->mark->point >= point)
-        return 1;
-    if (!(made = entry_new(NULL, 0)))
-        return 0;
-    made->is_mark = 1;
-    made->point = point;
-    made->lower = log->mark;
-    log->mark = made;
-    keep(part, made);
-    return 1;
+void part_begin_point(index_part *part, int point) {
+    part->log.point = point;
 }
 
-/* The marks stay in the log, and mark nothing. */
 void part_release(index_part *part, int point) {
-    while (part->log.mark && part->log.mark->point >= point)
-        part->log.mark = part->log.mark->lower;
+    log_entry *it = part->log.last;
+    for (; it && it->point >= point; it = it->before)
+        it->point = point - 1;
+    if (part->log.point >= point)
+        part->log.point = point - 1;
 }
 
 /* Gives a key what it had, and frees the entry, or sets it aside. */
@@ -468,18 +461,10 @@ static void put_back(index_part *part, log_entry *entry) {
 }
 
 void part_roll_back(index_part *part, int point) {
-    change_log *log = &part->log;
-    const log_entry *upto = log->mark;
-    while (upto && upto->point != point)
-        upto = upto->lower;
-    while (log->last != upto) {
-        log_entry *last = log->last;
-        log->last = last->before;
-        if (last == log->mark)
-            log->mark = last->lower;
-        if (last->is_mark)
-            sqlite3_free(last);
-        else
-            put_back(part, last);
+    while (part->log.last && part->log.last->point >= point) {
+        log_entry *last = part->log.last;
+        part->log.last = last->before;
+        put_back(part, last);
     }
+    part->log.point = point;
 }

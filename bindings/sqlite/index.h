@@ -5,14 +5,14 @@
 #include <hot.h>
 #include <sqlite3ext.h>
 
-/* What a key had before a change; or the mark of a savepoint. */
+/* What a key had before a change. */
 typedef struct log_entry {
     struct log_entry *before; /* the entry before it */
-    struct log_entry *lower;  /* below it in the tree of what could not be put back; of a mark: the mark before it */
+    struct log_entry *lower;  /* below it in the tree of what could not be put back */
     struct log_entry *higher; /* in the same tree */
     uint64_t value;
     int is_there; /* whether the key had a value */
-    int is_mark, point;
+    int point;    /* the innermost savepoint that the change is in */
     uint32_t length;
     uint8_t key[];
 } log_entry;
@@ -20,7 +20,7 @@ typedef struct log_entry {
 /* What a connection has changed in an index since its transaction began, by all its tables over it. */
 typedef struct change_log {
     log_entry *last;
-    log_entry *mark; /* the last mark of a savepoint that is open */
+    int point; /* the innermost savepoint that is open */
 } change_log;
 
 typedef struct shared_index shared_index;
@@ -54,8 +54,8 @@ int shared_is_named(const shared_index *of);
 
 const wanted_index *shared_made_as(const shared_index *of);
 
-/* Opens a handle for a connection: HOT_NO_HANDLE if all are taken. */
-hot_status part_take(shared_index *of, index_part *part);
+/* Opens a handle for a connection, in which this savepoint is the innermost one: HOT_NO_HANDLE if all are taken. */
+hot_status part_take(shared_index *of, int point, index_part *part);
 void part_leave(index_part *part);
 
 /* The key's value. It is absent if it is too long. */
@@ -84,18 +84,20 @@ log_entry *entry_new(const uint8_t *key, size_t length);
 hot_status part_put(index_part *part, log_entry *entry, uint64_t value, int replaces);
 hot_status part_remove(index_part *part, log_entry *entry);
 
-/* A savepoint of this number begins, and has a mark from now on: 0 if there is no memory. Each table tells it. */
-int part_mark(index_part *part, int point);
+/* Savepoints have numbers: each has one more than that around it, and NO_POINT is the transaction itself. */
+enum { NO_POINT = -1 };
 
-/* The savepoint ends, and those within it. */
+/* A savepoint begins. Each table tells it. */
+void part_begin_point(index_part *part, int point);
+
+/* The savepoint ends, and those within it: what they have changed is the change of the one around it. */
 void part_release(index_part *part, int point);
 
 /* The transaction ends. */
 void part_forget(index_part *part);
 
-/* Takes back what was changed since the mark of the savepoint, or all if it has none, as none has that is older than the log. It is
- * never refused: what the index has no room for stays in memory beside it, and comes first, until a later change finds room. */
-enum { NO_POINT = -1 };
+/* Takes back what was changed in the savepoint and in those within it. It is never refused: what the index has no room for stays in
+ * memory beside it, and comes first, until a later change finds room. */
 void part_roll_back(index_part *part, int point);
 
 #endif

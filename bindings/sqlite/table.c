@@ -602,7 +602,8 @@ static int roll_back(sqlite3_vtab *vtab) {
 }
 
 static int savepoint(sqlite3_vtab *vtab, int point) {
-    return part_mark(&((table *)vtab)->in->part, point) ? SQLITE_OK : SQLITE_NOMEM;
+    part_begin_point(&((table *)vtab)->in->part, point);
+    return SQLITE_OK;
 }
 
 static int release(sqlite3_vtab *vtab, int point) {

@@ -106,11 +106,12 @@ static void *scarce_realloc(void *at, int size) {
 
 static void make_memory_scarce(void) {
     sqlite3_mem_methods scarce;
-    sqlite3_config(SQLITE_CONFIG_GETMALLOC, &memory);
+    int code = sqlite3_config(SQLITE_CONFIG_GETMALLOC, &memory);
     scarce = memory;
     scarce.xMalloc = scarce_malloc;
     scarce.xRealloc = scarce_realloc;
-    sqlite3_config(SQLITE_CONFIG_MALLOC, &scarce);
+    if (code != SQLITE_OK || sqlite3_config(SQLITE_CONFIG_MALLOC, &scarce) != SQLITE_OK)
+        fail("memory", "SQLite had some before");
 }
 
 /* Where libhot takes its memory from. */
@@ -145,6 +146,28 @@ static void refused_memory(const char *sql) {
         if (strcmp(rows, "a1 b2") != 0)
             fail("after memory was refused", rows);
         sqlite3_free(rows);
+        sqlite3_close(db);
+    }
+}
+
+/* Refuses each allocation of a statement within a transaction in turn: if it goes on, then with what it had before. */
+static void refused_statement(const char *before) {
+    for (int at = 0, is_done = 0; !is_done; at++) {
+        sqlite3 *db = connect_to("keys=100");
+        int code;
+        want(db, SQLITE_OK, "CREATE VIRTUAL TABLE u USING hot(keys=100); INSERT INTO t VALUES ('a', 1); BEGIN");
+        want(db, SQLITE_OK, before);
+        want(db, SQLITE_OK, "INSERT INTO u VALUES ('b', 2); INSERT INTO t VALUES ('c', 3)");
+        left = at;
+        code = sqlite3_exec(db, "INSERT INTO t VALUES ('d', 4), ('e', 5)", NULL, NULL, NULL);
+        is_done = left >= 0;
+        left = -1;
+        if (!sqlite3_get_autocommit(db)) {
+            char *rows = answer(db, "SELECT group_concat(key, '') FROM (SELECT key FROM u UNION SELECT key FROM t)");
+            if (strcmp(rows, code == SQLITE_OK ? "abcde" : "abc") != 0)
+                fail("after memory was refused in a transaction", rows);
+            sqlite3_free(rows);
+        }
         sqlite3_close(db);
     }
 }
@@ -683,19 +706,22 @@ int main(int count, char **words) {
     if (count < 2)
         fail("usage", "test HOT_TABLE.so [threads]");
     library = words[1];
+    make_memory_scarce();
     scratch = sqlite3_mprintf("%s.db", library);
     if (count > 2) {
         threads_at_once();
         puts("the test of threads passed");
         return 0;
     }
-    make_memory_scarce();
     refused_memory("BEGIN; SAVEPOINT s; INSERT INTO t VALUES ('c', 3), ('d', 4); UPDATE t SET value = 9 WHERE key = 'a';"
                    "DELETE FROM t WHERE key LIKE 'b%'; ROLLBACK TO s; INSERT OR REPLACE INTO t VALUES ('a', 3);"
                    "SELECT * FROM t ORDER BY key DESC; ROLLBACK");
     refused_memory("CREATE VIRTUAL TABLE u USING hot(name=words, keys=100); INSERT INTO u VALUES ('a', 1); DROP TABLE u");
     refused_memory("BEGIN; INSERT INTO t VALUES ('c', 3); SAVEPOINT s; DROP TABLE t; CREATE VIRTUAL TABLE t USING hot(keys=5);"
                    "INSERT INTO t VALUES ('d', 4); ROLLBACK TO s; SELECT * FROM t; DROP TABLE t; ROLLBACK");
+    refused_statement("SELECT 1");
+    refused_statement("INSERT INTO u VALUES ('', 0), ('aa', 0); DELETE FROM u");
+    refused_statement("CREATE VIRTUAL TABLE v USING hot(keys=5)");
     random_statements();
     rollback_without_room("ROLLBACK");
     rollback_without_room("ROLLBACK TO s; ROLLBACK");
