@@ -16,7 +16,8 @@ typedef struct definition {
     held *has;
     int is_named;            /* whether it says the name of its index */
     int made_in, dropped_in; /* in which savepoint the open transaction did so */
-    char *words;             /* the schema and the table */
+    char *words;             /* the schema's name, of so many bytes, and the table's */
+    size_t schema_length;
 } definition;
 
 struct connection {
@@ -178,7 +179,8 @@ static int connect_listener(sqlite3 *db, void *of, int count, const char *const 
     if (!it)
         return SQLITE_NOMEM;
     memset(it, 0, sizeof *it);
-    if ((code = sqlite3_declare_vtab(db, "CREATE TABLE x(ignored)")) != SQLITE_OK) {
+    code = sqlite3_declare_vtab(db, "CREATE TABLE x(ignored)");
+    if (code != SQLITE_OK || (code = sqlite3_vtab_config(db, SQLITE_VTAB_CONSTRAINT_SUPPORT, 1)) != SQLITE_OK) {
         sqlite3_free(it);
         return code;
     }
@@ -218,11 +220,13 @@ static int refuse_query(sqlite3_vtab *vtab, sqlite3_index_info *plan) {
     return SQLITE_CONSTRAINT;
 }
 
-static int insert_nothing(sqlite3_vtab *vtab, int count, sqlite3_value **values, sqlite3_int64 *number) {
+/* A row that is ignored is no change that SQLite counts. */
+static int ignore_row(sqlite3_vtab *vtab, int count, sqlite3_value **values, sqlite3_int64 *number) {
+    (void)vtab;
     (void)count;
     (void)values;
-    *number = sqlite3_last_insert_rowid(heard_by(vtab)->db);
-    return SQLITE_OK;
+    (void)number;
+    return SQLITE_CONSTRAINT;
 }
 
 static int end_transaction(connection *of) {
@@ -277,7 +281,7 @@ static const sqlite3_module listeners = {
     .xBestIndex = refuse_query,
     .xDisconnect = disconnect_listener,
     .xDestroy = refuse_drop,
-    .xUpdate = insert_nothing,
+    .xUpdate = ignore_row,
     .xBegin = begin,
     .xCommit = commit,
     .xRollback = roll_back,
@@ -307,7 +311,7 @@ int connection_listen(connection *of, sqlite3 *db) {
  * the table of a savepoint when it ends. */
 static int hear(connection *of, sqlite3 *db) {
     char *sql = with_name("CREATE VIRTUAL TABLE IF NOT EXISTS temp.hot_transaction_%p USING hot_transaction_%p;"
-                          "INSERT INTO temp.hot_transaction_%p VALUES (NULL), (NULL)",
+                          "INSERT OR IGNORE INTO temp.hot_transaction_%p VALUES (NULL), (NULL)",
                           of);
     int code = sql ? sqlite3_exec(db, sql, NULL, NULL, NULL) : SQLITE_NOMEM;
     sqlite3_free(sql);
@@ -322,14 +326,14 @@ static char *own_name(sqlite3 *db, const table_words *words) {
     if (words->name)
         return sqlite3_mprintf("name\n%s", words->name);
     if (file && *file)
-        return sqlite3_mprintf("file\n%s\n%s", file, words->table);
-    return sqlite3_mprintf("memory\n%p\n%s\n%s", (void *)db, words->schema, words->table);
+        return sqlite3_mprintf("file\n%d %s\n%s", (int)strlen(file), file, words->table);
+    return sqlite3_mprintf("memory\n%p\n%d %s\n%s", (void *)db, (int)strlen(words->schema), words->schema, words->table);
 }
 
 static int is_of(const definition *it, const table_words *words) {
-    size_t length = strlen(words->schema);
-    return strncmp(it->words, words->schema, length) == 0 && it->words[length] == '\n' &&
-           strcmp(it->words + length + 1, words->table) == 0;
+    size_t length = it->schema_length;
+    return strlen(words->schema) == length && memcmp(it->words, words->schema, length) == 0 &&
+           strcmp(it->words + length, words->table) == 0;
 }
 
 /* Ends definitions that the open transaction has nothing to do with: of this table, by which it had another index; and of tables
@@ -360,10 +364,11 @@ static definition *define(connection *of, const table_words *words, held *has) {
     if (it || !(it = sqlite3_malloc(sizeof *it)))
         return it;
     memset(it, 0, sizeof *it);
-    if (!(it->words = sqlite3_mprintf("%s\n%s", words->schema, words->table))) {
+    if (!(it->words = sqlite3_mprintf("%s%s", words->schema, words->table))) {
         sqlite3_free(it);
         return NULL;
     }
+    it->schema_length = strlen(words->schema);
     it->made_in = it->dropped_in = NOT_NOW;
     it->is_named = words->name != NULL;
     it->has = has;

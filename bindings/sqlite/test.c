@@ -565,6 +565,42 @@ static void drop_that_fails(void) {
     sqlite3_close(other);
 }
 
+/* A table that is created or dropped is no row that is changed. */
+static void counts_of_changes(void) {
+    static const char *const counts = "SELECT total_changes() || ' ' || last_insert_rowid()";
+    sqlite3 *db = connect_to("keys=100");
+    char *before, *after;
+    want(db, SQLITE_OK, "CREATE TABLE x(y); INSERT INTO x VALUES (1), (2), (3)");
+    before = answer(db, counts);
+    want(db, SQLITE_OK, "CREATE VIRTUAL TABLE u USING hot(keys=5); DROP TABLE u; BEGIN; DROP TABLE t; ROLLBACK");
+    after = answer(db, counts);
+    if (strcmp(before, after) != 0)
+        fail("changes are counted", after);
+    sqlite3_free(before);
+    sqlite3_free(after);
+    sqlite3_close(db);
+}
+
+/* Names with a line's end: what one file's and another's table are called reads the same. */
+static void names_of_lines(void) {
+    char *longer = sqlite3_mprintf("%s\nx", scratch);
+    sqlite3 *one, *other, *later;
+    new_scratch();
+    remove(longer);
+    one = open_file(scratch);
+    other = open_file(longer);
+    want(one, SQLITE_OK, "CREATE VIRTUAL TABLE 'x\nt' USING hot(keys=5); INSERT INTO 'x\nt' VALUES ('one', 1)");
+    want(other, SQLITE_OK, "CREATE VIRTUAL TABLE t USING hot(keys=5); INSERT INTO t VALUES ('other', 1)");
+    later = open_file(scratch);
+    if (number(later, "SELECT key = 'one' FROM 'x\nt'") != 1)
+        fail("names of lines", "a table has the rows of another file's");
+    sqlite3_close(later);
+    sqlite3_close(other);
+    sqlite3_close(one);
+    remove(longer);
+    sqlite3_free(longer);
+}
+
 /* Tables of one name= in two connections, of which each may drop its own. */
 static void tables_of_a_name(void) {
     sqlite3 *db = connect_to("name=shared, connections=2"), *other = connect_to("name=shared"), *third;
@@ -730,6 +766,8 @@ int main(int count, char **words) {
     listed_transactions("keys=100, connections=3");
     random_tables();
     drop_that_fails();
+    counts_of_changes();
+    names_of_lines();
     tables_of_a_name();
     loaded_twice();
     names_and_handles();
