@@ -443,6 +443,33 @@ void connection_leave(connection *of, held *has) {
     let_go(of, has);
 }
 
+int connection_renew(connection *of, sqlite3 *db, const table_words *words, held **has, char **error) {
+    const definition *it = definition_of(of, words, *has);
+    shared_index *index;
+    char *name;
+    held *other;
+    int code = SQLITE_OK;
+    if (words->name || (*has)->part.log.last || (it && it->made_in != NOT_NOW))
+        return SQLITE_OK;
+    if (!(name = own_name(db, words)))
+        return SQLITE_NOMEM;
+    index = shared_use(name, OLD_INDEX, &words->wanted, &code, error);
+    sqlite3_free(name);
+    if (!index)
+        return SQLITE_OK;
+    if (!(other = hold(of, index, &code, error)))
+        return code;
+    if (!define(of, words, other)) {
+        let_go(of, other);
+        return SQLITE_NOMEM;
+    }
+    other->tables++;
+    connection_leave(of, *has);
+    *has = other;
+    sweep(of, words, other);
+    return SQLITE_OK;
+}
+
 int connection_drop(connection *of, sqlite3 *db, const table_words *words, held *has) {
     int code = hear(of, db);
     definition *it = definition_of(of, words, has);

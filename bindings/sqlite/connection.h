@@ -33,6 +33,9 @@ int connection_listen(connection *of, sqlite3 *db);
 held *connection_create(connection *of, sqlite3 *db, const table_words *words, int *code, char **error);
 held *connection_join(connection *of, sqlite3 *db, const table_words *words, int *code, char **error);
 
+/* A table that another connection has committed anew while this one looked for its index has the other's from now on. */
+int connection_renew(connection *of, sqlite3 *db, const table_words *words, held **has, char **error);
+
 /* The table is gone, as it is when the schema is read anew, and its definition stays. */
 void connection_leave(connection *of, held *has);
 

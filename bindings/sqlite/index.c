@@ -7,7 +7,7 @@ SQLITE_EXTENSION_INIT3
 struct shared_index {
     shared_index *next;
     char *name;
-    int is_named; /* whether the name stands for it */
+    atomic_int is_named; /* whether the name stands for it */
     int uses;
     wanted_index made_as;
     hot_index *index;
@@ -165,9 +165,9 @@ shared_index *shared_use(const char *name, enum which which, const wanted_index 
     shared_index *has, *of = NULL;
     sqlite3_mutex_enter(mutex);
     has = named(name);
-    if (has && (which == ANY_INDEX || (which == SAME_INDEX && is_as(&has->made_as, wanted)))) {
+    if (has && (which == ANY_INDEX || (which != NEW_INDEX && is_as(&has->made_as, wanted)))) {
         of = has;
-    } else if ((of = made(name, wanted, code, error)) != NULL) {
+    } else if (which != OLD_INDEX && (of = made(name, wanted, code, error)) != NULL) {
         if (has && which == SAME_INDEX)
             has->is_named = 0;
         of->is_named = !has || which == SAME_INDEX;
@@ -211,12 +211,7 @@ void shared_unname(shared_index *of) {
 }
 
 int shared_is_named(const shared_index *of) {
-    sqlite3_mutex *mutex = all_mutex();
-    int is_named;
-    sqlite3_mutex_enter(mutex);
-    is_named = of->is_named;
-    sqlite3_mutex_leave(mutex);
-    return is_named;
+    return atomic_load(&of->is_named);
 }
 
 const wanted_index *shared_made_as(const shared_index *of) {

@@ -212,6 +212,21 @@ static table_words words_of(const table *it) {
     return words;
 }
 
+/* Sees to it, before the table is used, that its index is the one of its name. */
+static int renew(sqlite3_vtab *vtab) {
+    table *it = (table *)vtab;
+    table_words words = words_of(it);
+    char *error = NULL;
+    int code = SQLITE_OK;
+    if (!shared_is_named(it->in->part.of))
+        code = connection_renew(it->of, it->db, &words, &it->in, &error);
+    if (error) {
+        sqlite3_free(vtab->zErrMsg);
+        vtab->zErrMsg = error;
+    }
+    return code;
+}
+
 static int drop_table(sqlite3_vtab *vtab) {
     table *it = (table *)vtab;
     table_words words = words_of(it);
@@ -306,10 +321,10 @@ static int best_index(sqlite3_vtab *vtab, sqlite3_index_info *plan) {
 /* ---- Cursors ---- */
 
 static int open_cursor(sqlite3_vtab *vtab, sqlite3_vtab_cursor **made) {
-    cursor *it = sqlite3_malloc(sizeof *it);
-    (void)vtab;
+    int code = renew(vtab);
+    cursor *it = code == SQLITE_OK ? sqlite3_malloc(sizeof *it) : NULL;
     if (!it)
-        return SQLITE_NOMEM;
+        return code == SQLITE_OK ? SQLITE_NOMEM : code;
     memset(it, 0, sizeof *it);
     if (!(it->page.pairs = sqlite3_malloc64(PAGE * sizeof *it->page.pairs))) {
         sqlite3_free(it);
@@ -587,8 +602,7 @@ static int update_row(sqlite3_vtab *vtab, int count, sqlite3_value **values, sql
 }
 
 static int begin(sqlite3_vtab *vtab) {
-    (void)vtab;
-    return SQLITE_OK;
+    return renew(vtab);
 }
 
 static int commit(sqlite3_vtab *vtab) {

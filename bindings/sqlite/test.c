@@ -565,6 +565,84 @@ static void drop_that_fails(void) {
     sqlite3_close(other);
 }
 
+/* ---- A connection that comes while another one commits ---- */
+
+static sqlite3 *comes; /* it has looked for its table's index before the other's commit is told to the tables */
+
+static int connect_spy(sqlite3 *db, void *unused, int count, const char *const *words, sqlite3_vtab **made, char **error) {
+    (void)unused;
+    (void)count;
+    (void)words;
+    (void)error;
+    *made = calloc(1, sizeof **made);
+    return sqlite3_declare_vtab(db, "CREATE TABLE x(y)");
+}
+
+static int disconnect_spy(sqlite3_vtab *of) {
+    free(of);
+    return SQLITE_OK;
+}
+
+static int plan_spy(sqlite3_vtab *of, sqlite3_index_info *plan) {
+    (void)of;
+    (void)plan;
+    return SQLITE_CONSTRAINT;
+}
+
+static int update_spy(sqlite3_vtab *of, int count, sqlite3_value **values, sqlite3_int64 *row) {
+    (void)of;
+    (void)count;
+    (void)values;
+    *row = 1;
+    return SQLITE_OK;
+}
+
+static int begin_spy(sqlite3_vtab *of) {
+    (void)of;
+    return SQLITE_OK;
+}
+
+static int commit_spy(sqlite3_vtab *of) {
+    (void)of;
+    if (!comes) {
+        comes = open_file(scratch);
+        number(comes, "SELECT count(*) FROM t");
+    }
+    return SQLITE_OK;
+}
+
+static const sqlite3_module spies = {
+    .xCreate = connect_spy,
+    .xConnect = connect_spy,
+    .xBestIndex = plan_spy,
+    .xDisconnect = disconnect_spy,
+    .xDestroy = disconnect_spy,
+    .xUpdate = update_spy,
+    .xBegin = begin_spy,
+    .xCommit = commit_spy,
+    .xRollback = begin_spy,
+};
+
+static void connection_within_a_commit(void) {
+    sqlite3 *db;
+    comes = NULL;
+    new_scratch();
+    db = open_file(scratch);
+    sqlite3_create_module(db, "spy", &spies, NULL);
+    want(db, SQLITE_OK, "CREATE VIRTUAL TABLE t USING hot(keys=5)");
+    want(db, SQLITE_OK, "BEGIN; CREATE VIRTUAL TABLE temp.s USING spy; INSERT INTO s VALUES (1); DROP TABLE t;"
+                        "CREATE VIRTUAL TABLE t USING hot(keys=5); INSERT INTO t VALUES ('a', 1); COMMIT");
+    if (!comes || number(comes, "SELECT count(*) FROM t") != 1)
+        fail("a connection within a commit", "it has the index of the table that was dropped");
+    want(comes, SQLITE_OK, "INSERT INTO t VALUES ('b', 2)");
+    if (number(db, "SELECT count(*) FROM t") != 2)
+        fail("a connection within a commit", "its change is lost");
+    sqlite3_close(db);
+    if (number(comes, "SELECT count(*) FROM t") != 2)
+        fail("a connection within a commit", "the index went with the other connection");
+    sqlite3_close(comes);
+}
+
 /* A table that is created or dropped is no row that is changed. */
 static void counts_of_changes(void) {
     static const char *const counts = "SELECT total_changes() || ' ' || last_insert_rowid()";
@@ -766,6 +844,7 @@ int main(int count, char **words) {
     listed_transactions("keys=100, connections=3");
     random_tables();
     drop_that_fails();
+    connection_within_a_commit();
     counts_of_changes();
     names_of_lines();
     tables_of_a_name();
