@@ -443,7 +443,7 @@ void connection_leave(connection *of, held *has) {
     let_go(of, has);
 }
 
-int connection_renew(connection *of, sqlite3 *db, const table_words *words, held **has, char **error) {
+int connection_renew(connection *of, sqlite3 *db, const table_words *words, int changes, held **has, char **error) {
     const definition *it = definition_of(of, words, *has);
     shared_index *index;
     char *name;
@@ -455,6 +455,8 @@ int connection_renew(connection *of, sqlite3 *db, const table_words *words, held
         return SQLITE_NOMEM;
     index = shared_use(name, OLD_INDEX, &words->wanted, &code, error);
     sqlite3_free(name);
+    if (!index && changes)
+        shared_name((*has)->part.of);
     if (!index)
         return SQLITE_OK;
     if (!(other = hold(of, index, &code, error)))

@@ -33,8 +33,10 @@ int connection_listen(connection *of, sqlite3 *db);
 held *connection_create(connection *of, sqlite3 *db, const table_words *words, int *code, char **error);
 held *connection_join(connection *of, sqlite3 *db, const table_words *words, int *code, char **error);
 
-/* A table that another connection has committed anew while this one looked for its index has the other's from now on. */
-int connection_renew(connection *of, sqlite3 *db, const table_words *words, held **has, char **error);
+/* Before a table is used for which its index's name doesn't stand: another connection may have committed another one while this one
+ * looked for its index. Then the table has that from now on; or if it is to be changed, so that its definition is the last one, the
+ * name stands for the index that it has. */
+int connection_renew(connection *of, sqlite3 *db, const table_words *words, int changes, held **has, char **error);
 
 /* The table is gone, as it is when the schema is read anew, and its definition stays. */
 void connection_leave(connection *of, held *has);

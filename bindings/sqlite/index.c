@@ -168,9 +168,7 @@ shared_index *shared_use(const char *name, enum which which, const wanted_index 
     if (has && (which == ANY_INDEX || (which != NEW_INDEX && is_as(&has->made_as, wanted)))) {
         of = has;
     } else if (which != OLD_INDEX && (of = made(name, wanted, code, error)) != NULL) {
-        if (has && which == SAME_INDEX)
-            has->is_named = 0;
-        of->is_named = !has || which == SAME_INDEX;
+        of->is_named = !has;
         of->next = all;
         all = of;
     }

@@ -42,7 +42,7 @@ typedef struct index_part {
  * a new one. Where there is none such it is made, but an OLD_INDEX, which is a SAME_INDEX that is there. */
 enum which { ANY_INDEX, SAME_INDEX, NEW_INDEX, OLD_INDEX };
 
-/* Uses the index of a name. One that is made gets the name, but a NEW_INDEX only if no other has it. It stays until each use of it
+/* Uses the index of a name. One that is made gets the name, if no other has it. It stays until each use of it
  * has ended. NULL, and `code` and `error`, if there is no memory or what is wanted is out of range; or for OLD_INDEX if there is none. */
 shared_index *shared_use(const char *name, enum which which, const wanted_index *wanted, int *code, char **error);
 void shared_end_use(shared_index *of);

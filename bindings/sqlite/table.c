@@ -213,13 +213,13 @@ static table_words words_of(const table *it) {
 }
 
 /* Sees to it, before the table is used, that its index is the one of its name. */
-static int renew(sqlite3_vtab *vtab) {
+static int renew(sqlite3_vtab *vtab, int changes) {
     table *it = (table *)vtab;
     table_words words = words_of(it);
     char *error = NULL;
     int code = SQLITE_OK;
     if (!shared_is_named(it->in->part.of))
-        code = connection_renew(it->of, it->db, &words, &it->in, &error);
+        code = connection_renew(it->of, it->db, &words, changes, &it->in, &error);
     if (error) {
         sqlite3_free(vtab->zErrMsg);
         vtab->zErrMsg = error;
@@ -321,7 +321,7 @@ static int best_index(sqlite3_vtab *vtab, sqlite3_index_info *plan) {
 /* ---- Cursors ---- */
 
 static int open_cursor(sqlite3_vtab *vtab, sqlite3_vtab_cursor **made) {
-    int code = renew(vtab);
+    int code = renew(vtab, 0);
     cursor *it = code == SQLITE_OK ? sqlite3_malloc(sizeof *it) : NULL;
     if (!it)
         return code == SQLITE_OK ? SQLITE_NOMEM : code;
@@ -602,7 +602,7 @@ static int update_row(sqlite3_vtab *vtab, int count, sqlite3_value **values, sql
 }
 
 static int begin(sqlite3_vtab *vtab) {
-    return renew(vtab);
+    return renew(vtab, 1);
 }
 
 static int commit(sqlite3_vtab *vtab) {

@@ -623,15 +623,17 @@ static const sqlite3_module spies = {
     .xRollback = begin_spy,
 };
 
-static void connection_within_a_commit(void) {
+static void connection_within_a_commit(const char *arguments) {
     sqlite3 *db;
     comes = NULL;
     new_scratch();
     db = open_file(scratch);
     sqlite3_create_module(db, "spy", &spies, NULL);
     want(db, SQLITE_OK, "CREATE VIRTUAL TABLE t USING hot(keys=5)");
-    want(db, SQLITE_OK, "BEGIN; CREATE VIRTUAL TABLE temp.s USING spy; INSERT INTO s VALUES (1); DROP TABLE t;"
-                        "CREATE VIRTUAL TABLE t USING hot(keys=5); INSERT INTO t VALUES ('a', 1); COMMIT");
+    want(db, SQLITE_OK, "BEGIN; CREATE VIRTUAL TABLE temp.s USING spy; INSERT INTO s VALUES (1); DROP TABLE t");
+    if (run(db, "CREATE VIRTUAL TABLE t USING hot(%s)", arguments) != SQLITE_OK)
+        fail(arguments, sqlite3_errmsg(db));
+    want(db, SQLITE_OK, "INSERT INTO t VALUES ('a', 1); COMMIT");
     if (!comes || number(comes, "SELECT count(*) FROM t") != 1)
         fail("a connection within a commit", "it has the index of the table that was dropped");
     want(comes, SQLITE_OK, "INSERT INTO t VALUES ('b', 2)");
@@ -641,6 +643,43 @@ static void connection_within_a_commit(void) {
     if (number(comes, "SELECT count(*) FROM t") != 2)
         fail("a connection within a commit", "the index went with the other connection");
     sqlite3_close(comes);
+}
+
+/* A connection that read the schema before another one committed looks for the index of the table that was dropped. */
+static void connection_with_an_old_schema(void) {
+    sqlite3 *db, *other;
+    new_scratch();
+    db = open_file(scratch);
+    want(db, SQLITE_OK, "CREATE VIRTUAL TABLE t USING hot(keys=5)");
+    other = open_file(scratch);
+    want(other, SQLITE_OK, "SELECT * FROM sqlite_schema");
+    want(db, SQLITE_OK, "BEGIN; DROP TABLE t; CREATE VIRTUAL TABLE t USING hot(keys=6); INSERT INTO t VALUES ('a', 1); COMMIT");
+    if (number(other, "SELECT count(*) FROM t") != 1 || number(db, "SELECT count(*) FROM t") != 1)
+        fail("an old schema", "the new table lost its rows");
+    sqlite3_close(other);
+    sqlite3_close(db);
+}
+
+/* A connection without the library changes a table's definition, as another process may: all that have it agree on a new index. */
+static void definition_from_outside(void) {
+    sqlite3 *one, *other, *outside;
+    new_scratch();
+    one = open_file(scratch);
+    other = open_file(scratch);
+    want(one, SQLITE_OK, "CREATE VIRTUAL TABLE t USING hot(keys=5); INSERT INTO t VALUES ('a', 1)");
+    want(other, SQLITE_OK, "SELECT * FROM t");
+    if (sqlite3_open(scratch, &outside) != SQLITE_OK)
+        fail("open", sqlite3_errmsg(outside));
+    want(outside, SQLITE_OK, "PRAGMA writable_schema = 1; UPDATE sqlite_schema SET sql = replace(sql, '=5', '=6'); CREATE TABLE x(y)");
+    if (number(one, "SELECT count(*) FROM t") != 0 || number(other, "SELECT count(*) FROM t") != 0)
+        fail("a definition from outside", "the table has the rows of the one before");
+    want(other, SQLITE_OK, "INSERT INTO t VALUES ('b', 2)");
+    want(one, SQLITE_OK, "INSERT INTO t VALUES ('c', 3)");
+    if (number(one, "SELECT count(*) FROM t") != 2 || number(other, "SELECT count(*) FROM t") != 2)
+        fail("a definition from outside", "two connections have different rows");
+    sqlite3_close(outside);
+    sqlite3_close(one);
+    sqlite3_close(other);
 }
 
 /* A table that is created or dropped is no row that is changed. */
@@ -844,7 +883,10 @@ int main(int count, char **words) {
     listed_transactions("keys=100, connections=3");
     random_tables();
     drop_that_fails();
-    connection_within_a_commit();
+    connection_within_a_commit("keys=5");
+    connection_within_a_commit("keys=6");
+    connection_with_an_old_schema();
+    definition_from_outside();
     counts_of_changes();
     names_of_lines();
     tables_of_a_name();
