@@ -90,7 +90,7 @@ returns-then-not-leaves_free_node g c =
             let (m, aim, t, planned) = c.requires.taken in
             let here = pair_here c.args.seat.now.known m job.key.now job.way.now aim job.found job.span c.args.position planned c.in-Leaf.old _ _ c.in-Leaf.is in
             let walked = c.in-Some-make_node.ensures.makes.walk c.make_leaf.new.seat.known.steps
-            (walk_begins table.layout c.make_leaf.new.seat.known c.make_leaf.new.build.made.items c.make_leaf.new.build.nodes.next c.layout.result c.layout.ensures) in
+            (walk_begins table.layout c.make_leaf.new.seat.known c.make_leaf.new.build.made.items c.start-build.result c.layout.result c.layout.ensures) in
             let missed = c.leaves_free_node.ensures.walk c.if-not-leaves_free_node.true c.make_leaf.new.seat.known.steps walked in
             let rise = steps_rise table g.G.Gate.becomes c.make_leaf.ensures.goes.acts (c.args.seat.now, c.args.gate.now) (c.make_leaf.new.seat, c.make_leaf.new.gate) c.make_leaf.ensures.goes.steps in
             record {

@@ -65,7 +65,7 @@ returns-then-not-leaves_free_node-clause-full g c =
             may.nodes may.locked (c.leaves_free_node.ensures.goes.stays.1 ∙ c.in-Some.ensures.makes.goes.stays.1) (omega (arith, may.within.0)) may.within.1 (omega (arith, may.within.1, may.depth))
             (omega (arith, ap (λ (z : List Rec). length (nodes_among z)) made, no_nodes may.growing.lowest.made_leaf, c.in-Some.ensures.makes.nodes, may.within.0))
             (c.leaves_free_node.ensures.walk c.if-not-leaves_free_node.true c.args.seat.now.known.steps (c.in-Some.ensures.makes.walk c.args.seat.now.known.steps
-            (walk_begins c.args.table.now.layout c.args.seat.now.known c.args.build.now.made.items c.args.build.now.nodes.next c.layout.result c.layout.ensures)));
+            (walk_begins c.args.table.now.layout c.args.seat.now.known c.args.build.now.made.items c.start-build.result c.layout.result c.layout.ensures)));
       },
     )
 
