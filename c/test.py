@@ -23,7 +23,7 @@ def main() -> None:
     assert (stock.nodes, stock.short, stock.medium, stock.long) == (513, 521, 0, 0)
     assert refusal(Index, hot, stock, 1025) == refusal(Index, hot, Stock(1)) == hot.hot_status_text(14).decode()
     index = Index(hot, stock)
-    assert index.size == 255216
+    assert index.size == 255680
     for number in range(PAGE * 3):
         assert index.upsert(number.to_bytes(8, "big"), number) is None
     assert list(index.scan()) == [(number.to_bytes(8, "big"), number) for number in range(PAGE * 3)]
