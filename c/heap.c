@@ -62,7 +62,7 @@ static void unmap(pages *old) {
 static pages *map_pages(size_t bytes, size_t step) {
     size_t size = (IN_PAGES + bytes + PAGE - 1) / PAGE * PAGE, length = size + step - PAGE;
     pages *made;
-    char *begin = mmap(NULL, length, PROT_READ | PROT_WRITE, MAP_PRIVATE | MAP_ANONYMOUS | MAP_NORESERVE, -1, 0);
+    char *begin = bytes > SIZE_MAX / 2 ? MAP_FAILED : mmap(NULL, length, PROT_READ | PROT_WRITE, MAP_PRIVATE | MAP_ANONYMOUS | MAP_NORESERVE, -1, 0);
     if (begin == MAP_FAILED)
         return NULL;
     made = (pages *)(((uintptr_t)begin + step - 1) / step * step);
@@ -111,19 +111,14 @@ static int stand_in(pages *for_these) {
     return put != MAP_FAILED;
 }
 
-/* Puts pages to which nothing was written in the place of all of a block but the first, in which there is nothing but 0. Returns whether it
- * could. */
+/* Puts fresh pages in the place of all of a block but the first, in which there is nothing but 0. Returns whether it could. */
 static int renew(pages *block) {
     size_t rest = block->size - PAGE;
-    void *fresh = mmap(NULL, rest, PROT_READ | PROT_WRITE, MAP_PRIVATE | MAP_ANONYMOUS | MAP_NORESERVE, -1, 0);
-    if (fresh == MAP_FAILED)
+    char *at = (char *)block + PAGE;
+    if (mmap(at, rest, PROT_READ | PROT_WRITE, MAP_PRIVATE | MAP_ANONYMOUS | MAP_NORESERVE | MAP_FIXED, -1, 0) == MAP_FAILED)
         return 0;
     if (rest >= LEAST_HUGE_TABLE)
-        madvise(fresh, rest, MADV_HUGEPAGE);
-    if (mremap(fresh, rest, rest, MREMAP_MAYMOVE | MREMAP_FIXED, (char *)block + PAGE) == MAP_FAILED) {
-        munmap(fresh, rest);
-        return 0;
-    }
+        madvise(at, rest, MADV_HUGEPAGE);
     return 1;
 }
 
@@ -143,17 +138,20 @@ static pages *map_table(size_t bytes) {
     return made;
 }
 
-/* Frees the zeros. If they were copied to a table, it takes over their pages but the first, and still holds what it held. */
+/* Frees the zeros. If they were copied to a table, it takes over their pages but the first, and still holds what it held. Where the
+ * system refuses that, which may have taken the table's own pages away, it gets fresh ones. */
 static void free_zeros(void) {
     pages *table = making.copied, left = *making.zeros;
     char *from = (char *)making.zeros + PAGE, *end = (char *)making.zeros + left.size;
     size_t rest = left.size - PAGE;
+    int is_moved = 0;
     making.zeros = making.copied = NULL;
     if (table != NULL) {
         madvise(from, rest, MADV_DONTNEED);
-        making.is_broken = mremap(from, rest, rest, MREMAP_MAYMOVE | MREMAP_FIXED, (char *)table + PAGE) == MAP_FAILED;
+        is_moved = mremap(from, rest, rest, MREMAP_MAYMOVE | MREMAP_FIXED, (char *)table + PAGE) != MAP_FAILED;
+        making.is_broken = !is_moved && !renew(table);
     }
-    if (table == NULL || making.is_broken) {
+    if (!is_moved) {
         munmap(left.begin, left.length);
         return;
     }

@@ -62,12 +62,12 @@ void __wrap_free(void *at) {
     __real_free(at);
 }
 
-/* Without pages of its own a block comes from malloc. */
+/* Without pages of its own a block comes from malloc. Fixed ones are in the place of others. */
 void *__wrap_mmap(void *at, size_t size, int protection, int flags, int file, off_t offset) {
     if (is_refused(1))
         return MAP_FAILED;
     at = __real_mmap(at, size, protection, flags, file, offset);
-    in_use += at == MAP_FAILED ? 0 : size;
+    in_use += at == MAP_FAILED || flags & MAP_FIXED ? 0 : size;
     return at;
 }
 
@@ -76,8 +76,7 @@ int __wrap_munmap(void *at, size_t size) {
     return __real_munmap(at, size);
 }
 
-/* Pages go where others were: the same ones again, if their size is 0, and else they are moved. Those that a table gets can't be done
- * without. */
+/* Pages go where others were: the same ones again, if their size is 0, and else they are moved. */
 void *__wrap_mremap(void *at, size_t size, size_t new_size, int flags, ...) {
     va_list rest;
     void *to;

@@ -123,21 +123,25 @@ static int map_init(PyObject *self, PyObject *words, PyObject *named) {
     wanted_store wanted = {.threads = 0};
     if (!PyArg_ParseTupleAndKeywords(words, named, "OOnnp:Map", names, &keys, &capacity, &longest, &threads, &wanted.grows))
         return -1;
-    if (it->pairs) {
-        PyErr_SetString(PyExc_TypeError, "the map's __init__ was called before");
-        return -1;
-    }
     if (threads < 1 || threads > MOST_THREADS) {
         PyErr_Format(PyExc_ValueError, "threads are from 1 to %d", MOST_THREADS);
         return -1;
     }
     wanted.threads = (size_t)threads;
-    if (stock_for(capacity, longest, &wanted.stock) < 0 || codec_init(&it->codec, keys) < 0)
+    if (stock_for(capacity, longest, &wanted.stock) < 0)
         return -1;
     PyObject *module = PyImport_ImportModule("hot._hot");
-    it->pairs = module ? PyObject_GetAttrString(module, "Pairs") : NULL;
+    PyObject *pairs = module ? PyObject_GetAttrString(module, "Pairs") : NULL;
     Py_XDECREF(module);
-    return it->pairs ? map_open(it, &wanted) : -1;
+    /* Python code that ran up to here may have called it, too. */
+    if (pairs && it->pairs)
+        PyErr_SetString(PyExc_TypeError, "the map's __init__ was called before");
+    if (!pairs || it->pairs || codec_init(&it->codec, keys) < 0) {
+        Py_XDECREF(pairs);
+        return -1;
+    }
+    it->pairs = pairs;
+    return map_open(it, &wanted);
 }
 
 static int map_traverse(PyObject *self, visitproc visit, void *arg) {

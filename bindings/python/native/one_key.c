@@ -220,8 +220,10 @@ static int add(map *it, key_call *what, const change *by, int puts) {
     for (;;) {
         if (status == HOT_ABSENT && !puts)
             return status;
+        if (status < 0)
+            return -1;
         what->expected = status == HOT_ABSENT ? 0 : what->had;
-        if (status < 0 || sum(what->expected, by, &what->value) < 0)
+        if (sum(what->expected, by, &what->value) < 0)
             return -1;
         what->kind = status == HOT_ABSENT ? INSERT : EXCHANGE;
         status = call(it, what);

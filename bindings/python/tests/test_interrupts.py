@@ -372,6 +372,18 @@ class Objects(unittest.TestCase):
         self.assertRaises(TypeError, mine.__init__, {"b": 2})
         self.assertEqual(mine, {"a": 1})
 
+    def test_init_within_init(self):
+        """The inner one makes the map, and the outer one is refused."""
+        mine = SortedMap.__new__(SortedMap)
+
+        class Capacity:
+            def __index__(self):
+                mine.__init__({1: 2}, keys=int)
+                return 10
+
+        self.assertRaises(TypeError, mine.__init__, keys=str, capacity=Capacity())
+        self.assertEqual(mine, {1: 2})
+
     def test_iterators(self):
         mine = SortedMap({"a": 1})
         self.assertRaises(StopIteration, next, type(iter(mine))())
