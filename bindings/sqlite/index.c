@@ -385,18 +385,6 @@ static void say_aside(shared_index *of, log_entry *entry) {
     sqlite3_mutex_leave(of->mutex);
 }
 
-/* Removes a key from what is seen where the index has no record for the node without it. */
-static hot_status hide(index_part *part, log_entry *entry) {
-    hot_status status = hot_get(&part->handle, entry->key, entry->length, &entry->value);
-    log_entry *hidden;
-    if (status != HOT_FOUND)
-        return status;
-    if (!(hidden = entry_new(entry->key, entry->length)))
-        return HOT_NO_MEMORY;
-    say_aside(part->of, hidden);
-    return HOT_REMOVED;
-}
-
 hot_status part_remove(index_part *part, log_entry *entry) {
     log_entry *it = enter_aside(part, entry);
     hot_status status;
@@ -407,8 +395,6 @@ hot_status part_remove(index_part *part, log_entry *entry) {
         sqlite3_mutex_leave(part->of->mutex);
     } else {
         status = hot_remove(&part->handle, entry->key, entry->length, &entry->value);
-        if (status == HOT_FULL_NODES)
-            status = hide(part, entry);
     }
     entry->is_there = 1;
     if (status == HOT_REMOVED)
