@@ -9,8 +9,8 @@ ghost use Rattle.record_words.specs.Limits.{IsRecordCount};
 
 use crate::layout::{LeafClass, Stock};
 use crate::{
-    KEYS_A_NODE, KEYS_A_SPARE_LEAF, KEY_OFFSET, LARGE_WORDS, MEDIUM_WORDS, SHORT_WORDS, STOCK_SPARE,
-    WIDE_WORDS, count_key_words,
+    KEY_OFFSET, KEYS_A_NODE, KEYS_A_SPARE_LEAF, LARGE_WORDS, MEDIUM_WORDS, SHORT_WORDS,
+    STOCK_SPARE, WIDE_WORDS, count_key_words,
 };
 use key_bits::MAX_BYTES;
 
