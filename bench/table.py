@@ -1,11 +1,9 @@
 #!/usr/bin/env python3
 """Makes tables of the lines that bench/index.c writes, as they come on standard input: for each kind of keys the nanoseconds of a call of
 the index and of the B-tree in the repetition that was disturbed least, how the first is to the second, and how their medians are, for
-each number of keys.
-
-usage: table.py [FILE RECORDS]     FILE is to be a CSV of the medians, with RECORDS (fit or long) in each row; room.csv beside it is to be
-                                   one of what the index takes, if RECORDS is fit. bench/pages reads such
+each number of keys. Of the medians it makes a CSV, which bench/pages reads.
 """
+import argparse
 import csv
 import os
 import statistics
@@ -35,9 +33,6 @@ LINES = [
 
 # The columns of the CSV.
 FIELDS = ["date", "processor", "compiler", "commit", "records", "keys", "count", "call", "index_ns", "tree_ns", "ratio"]
-
-# The columns of the CSV of what the index takes: bytes a key as it is made and by hot_stock_for_keys, and keys for a node record.
-ROOM = ["date", "commit", "keys", "count", "made", "for_keys", "keys_a_node"]
 
 # What a stock has.
 STOCK = "{} nodes; leaves {} short, {} medium, {} large, {} wide, {} long"
@@ -114,14 +109,6 @@ def keep(file, title: str, columns: list, begins: list) -> None:
     file.flush()
 
 
-def keep_room(file, title: str, columns: list, begins: list) -> None:
-    """Adds what the index takes for a kind of keys to the CSV of that."""
-    day, _, _, commit, _ = begins
-    rows = csv.writer(file, lineterminator="\n")
-    rows.writerows([day, commit, title, it.keys, *(f"{figure:.1f}" for figure in it.figures)] for it in columns)
-    file.flush()
-
-
 def show(title: str, columns: list) -> None:
     """Writes the table of a kind of keys, how look-ups grow from the first column to the last, and the stock of each."""
     print(f"{title:<36}" + "".join(f"{it.keys:>31} keys" for it in columns))
@@ -142,22 +129,21 @@ def show(title: str, columns: list) -> None:
 
 
 def main() -> None:
+    words = argparse.ArgumentParser(description=__doc__)
+    words.add_argument("file", type=Path, nargs="?", metavar="FILE", help="the CSV of the medians; without it there is none")
+    words.add_argument("records", choices=["fit", "long"], nargs="?", default="fit", metavar="RECORDS", help="fit or long: stands in each row (fit)")
+    given = words.parse_args()
     title, columns = "", []
-    file, room, begins = None, None, []
-    if len(sys.argv) == 3:
-        file, begins = open(sys.argv[1], "w", newline=""), [*origin(), sys.argv[2]]
+    file, begins = None, [*origin(), given.records]
+    if given.file:
+        file = open(given.file, "w", newline="")
         csv.writer(file, lineterminator="\n").writerow(FIELDS)
-    if begins[-1:] == ["fit"]:
-        room = open(Path(sys.argv[1]).with_name("room.csv"), "w", newline="")
-        csv.writer(room, lineterminator="\n").writerow(ROOM)
     for line in sys.stdin:
         word, *words = line.split()
         if word in ("kind", "the") and columns:
             show(title, columns)
             if file:
                 keep(file, title, columns, begins)
-            if room:
-                keep_room(room, title, columns, begins)
             columns = []
         if word == "kind":
             title = line.rstrip("\n").partition(" ")[2]

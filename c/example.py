@@ -3,7 +3,7 @@
 
     put KEY NUMBER     get KEY     del KEY     list
 
-usage: example.py [LIBRARY]     where it lies, if it is not libhot.so.2 of the loader's folders
+usage: example.py [LIBRARY]     where it lies, if it is not libhot.so.3 of the loader's folders
 """
 import ctypes
 import sys
@@ -210,7 +210,7 @@ def answer(index: Index, line: str) -> list:
 
 
 def main() -> None:
-    hot = load(sys.argv[1] if len(sys.argv) > 1 else "libhot.so.2")
+    hot = load(sys.argv[1] if len(sys.argv) > 1 else "libhot.so.3")
     index = Index(hot, stock_for_keys(hot, 16384, MAX_KEY))
     for line in sys.stdin:
         try:

@@ -2,7 +2,7 @@
  * one, calls for many keys, an index that opens its handles one by one, and the calls that wait: the proved library may neither wait
  * nor yield, so it says when to try again, and the wait is here. */
 #include "hot.h"
-#include <cpuid.h>
+#include "heap.h"
 #include <sched.h>
 #include <stdlib.h>
 #include <string.h>
@@ -23,6 +23,7 @@ hot_status proved_destroy(hot_handle *handle);
 
 /* And those that a program may call before it has a handle: there the processor is known to be one for which they were compiled. */
 void proved_stock_for_keys(uint32_t keys, size_t longest, hot_stock *stock);
+void proved_stock_for_any_keys(uint32_t keys, size_t longest, size_t handles, hot_stock *stock);
 hot_status proved_stock_bytes(const hot_stock *stock, size_t handles, size_t *bytes);
 
 /* Lets a handle see all that another has seen; both are of one index. */
@@ -71,25 +72,23 @@ const char *hot_status_text(hot_status status) {
 
 /* Whether the processor and the system have what x86-64-v3 has and x86-64-v2 may lack, if that is asked for. */
 static int is_processor_new(void) {
-    enum { FMA = 1 << 12, MOVBE = 1 << 22, OSXSAVE = 1 << 27, F16C = 1 << 29, FIRST = FMA | MOVBE | OSXSAVE | F16C };
-    enum { BMI1 = 1 << 3, AVX2 = 1 << 5, BMI2 = 1 << 8, SEVENTH = BMI1 | AVX2 | BMI2, LZCNT = 1 << 5, VECTORS = 6 };
-    unsigned int a, b, c, d, saved, unread;
-    if (HOT_LEVEL == 2)
-        return 1;
-    if (HOT_LEVEL == 0 || !__get_cpuid(1, &a, &b, &c, &d) || (c & FIRST) != FIRST)
-        return 0;
-    __asm__("xgetbv" : "=a"(saved), "=d"(unread) : "c"(0));
-    if ((saved & VECTORS) != VECTORS || !__get_cpuid_count(7, 0, &a, &b, &c, &d) || (b & SEVENTH) != SEVENTH)
-        return 0;
-    return __get_cpuid(0x80000001, &a, &b, &c, &d) && (c & LZCNT) != 0;
+    return HOT_LEVEL == 2 || (HOT_LEVEL != 0 && __builtin_cpu_supports("x86-64-v3"));
 }
 
+static const hot_stock no_stock = {0, 0, 0, 0, 0, 0};
+
 void hot_stock_for_keys(uint32_t keys, size_t longest, hot_stock *stock) {
-    static const hot_stock none = {0, 0, 0, 0, 0, 0};
     if (is_processor_new())
         proved_stock_for_keys(keys, longest, stock);
     else
-        *stock = none;
+        *stock = no_stock;
+}
+
+void hot_stock_for_any_keys(uint32_t keys, size_t longest, size_t handles, hot_stock *stock) {
+    if (is_processor_new())
+        proved_stock_for_any_keys(keys, longest, handles, stock);
+    else
+        *stock = no_stock;
 }
 
 hot_status hot_stock_bytes(const hot_stock *stock, size_t handles, size_t *bytes) {
@@ -161,10 +160,19 @@ struct hot_index {
     hot_place *places;
     size_t left;       /* how many handles are open that were opened with it, or 0 */
     hot_handle keeper; /* it is the last one to be opened itself */
-    uint32_t lock;     /* 1 while a call opens a handle that the keeper keeps, or closes the index */
+    uint32_t opening;  /* locked while a call opens a handle that the keeper keeps, or closes the index */
     hot_handle teller; /* once there is a moment of the index: it has seen all that any moment tells of */
-    uint32_t is_telling; /* 1 while a call uses the teller */
+    uint32_t telling;  /* locked while a call uses the teller */
 };
+
+/* Writes the index of a handle. HOT_DONE; or HOT_CLOSED, and then nothing is written: a closed handle has none. */
+static hot_status find_index(hot_handle *handle, hot_index **index) {
+    uint16_t number;
+    hot_status status = hot_number(handle, &number);
+    if (status == HOT_DONE)
+        *index = handle->place->index;
+    return status;
+}
 
 /* Notes what a change has done with the number of keys, by its status. Only the calls of one handle write its count. */
 static hot_status counted(hot_handle *handle, hot_status status) {
@@ -296,14 +304,14 @@ hot_status hot_copy(hot_handle *from, hot_handle *to) {
 }
 
 hot_status hot_len(hot_handle *handle, size_t *count) {
-    uint16_t number;
+    hot_index *index;
     size_t place;
     int64_t keys = 0;
-    hot_status status = hot_number(handle, &number);
+    hot_status status = find_index(handle, &index);
     if (status != HOT_DONE)
         return status;
-    for (place = 0; place < handle->place->index->count; place++)
-        keys += __atomic_load_n(&handle->place->index->places[place].keys, __ATOMIC_RELAXED);
+    for (place = 0; place < index->count; place++)
+        keys += __atomic_load_n(&index->places[place].keys, __ATOMIC_RELAXED);
     *count = keys > 0 ? (size_t)keys : 0;
     return HOT_DONE;
 }
@@ -370,7 +378,7 @@ static hot_index *new_index(size_t count) {
     index->count = count;
     index->left = 0;
     index->keeper = index->teller = closed;
-    index->lock = index->is_telling = 0;
+    index->opening = index->telling = 0;
     index->places = calloc(count, sizeof *index->places);
     if (index->places == NULL) {
         free(index);
@@ -401,12 +409,37 @@ static hot_status placed(hot_status status, hot_handle *handles, size_t count) {
     return HOT_DONE;
 }
 
+/* Begins to make an index with this stock and so many handles. */
+static void begin_making(const hot_stock *stock, size_t count) {
+    size_t bytes;
+    heap_begin(proved_stock_bytes(stock, count, &bytes) == HOT_DONE ? bytes : 0);
+}
+
+/* Ends that. If the table that was made may not be used, it closes the handles that were opened with it: memory was refused. */
+static hot_status end_making(hot_status status, hot_handle *handles, size_t count) {
+    size_t place;
+    if (heap_end() || status != HOT_DONE)
+        return status;
+    for (place = 0; place < count; place++)
+        proved_destroy(&handles[place]);
+    return HOT_NO_MEMORY;
+}
+
 hot_status hot_create(uint32_t nodes, uint32_t leaves, hot_handle *handles, size_t count) {
-    return placed(is_processor_new() ? proved_create(nodes, leaves, handles, count) : HOT_OLD_PROCESSOR, handles, count);
+    hot_stock stock = {0, 0, 0, 0, 0, 0};
+    if (!is_processor_new())
+        return HOT_OLD_PROCESSOR;
+    stock.nodes = nodes;
+    stock.long_leaves = leaves;
+    begin_making(&stock, count);
+    return placed(end_making(proved_create(nodes, leaves, handles, count), handles, count), handles, count);
 }
 
 hot_status hot_create_with(const hot_stock *stock, hot_handle *handles, size_t count) {
-    return placed(is_processor_new() ? proved_create_with(stock, handles, count) : HOT_OLD_PROCESSOR, handles, count);
+    if (!is_processor_new())
+        return HOT_OLD_PROCESSOR;
+    begin_making(stock, count);
+    return placed(end_making(proved_create_with(stock, handles, count), handles, count), handles, count);
 }
 
 hot_status hot_open_index(const hot_stock *stock, size_t handles, hot_index **index) {
@@ -418,7 +451,8 @@ hot_status hot_open_index(const hot_stock *stock, size_t handles, hot_index **in
     made = new_index(handles);
     if (made == NULL)
         return HOT_NO_MEMORY;
-    status = proved_create_keeping(stock, handles, &made->keeper);
+    begin_making(stock, handles);
+    status = end_making(proved_create_keeping(stock, handles, &made->keeper), &made->keeper, 1);
     if (status == HOT_DONE)
         *index = made;
     else
@@ -444,21 +478,24 @@ static void move_handle(hot_handle *to, hot_handle *from) {
     *from = closed;
 }
 
-static void lock(hot_index *index) {
-    while (__atomic_exchange_n(&index->lock, 1, __ATOMIC_SEQ_CST) != 0)
+/* Waits until the word is 0, and makes it 1. Two are locked at once by hot_stamp alone, which takes `telling` first. */
+static void lock(uint32_t *word) {
+    while (__atomic_exchange_n(word, 1, __ATOMIC_SEQ_CST) != 0)
         sched_yield();
 }
 
-static void unlock(hot_index *index) {
-    __atomic_store_n(&index->lock, 0, __ATOMIC_SEQ_CST);
+static void unlock(uint32_t *word) {
+    __atomic_store_n(word, 0, __ATOMIC_SEQ_CST);
 }
 
 /* Opens a handle that was not opened yet: the next of those that the keeper keeps, and at last the keeper itself. */
 static hot_status open_kept(hot_index *index, hot_handle *handle) {
     uint16_t number;
     hot_status status;
-    lock(index);
+    lock(&index->opening);
+    heap_begin(0);
     status = proved_open_kept(&index->keeper, handle);
+    heap_end();
     if (status == HOT_NO_HANDLE) {
         move_handle(handle, &index->keeper);
         status = HOT_DONE;
@@ -467,7 +504,7 @@ static hot_status open_kept(hot_index *index, hot_handle *handle) {
         handle->place = &index->places[number];
         set_state(handle->place, TAKEN);
     }
-    unlock(index);
+    unlock(&index->opening);
     return status == HOT_CLOSED ? HOT_NO_HANDLE : status;
 }
 
@@ -492,6 +529,7 @@ hot_status hot_close(hot_handle *handle) {
         return status;
     if (__atomic_load_n(&place->index->left, __ATOMIC_SEQ_CST) > 0) {
         proved_destroy(handle);
+        handle->place = NULL;
         if (__atomic_sub_fetch(&place->index->left, 1, __ATOMIC_SEQ_CST) == 0)
             free_index(place->index);
         return HOT_DONE;
@@ -503,7 +541,7 @@ hot_status hot_close(hot_handle *handle) {
 
 /* Whether a handle that a program may open has been opened at this place. */
 static int was_opened(const hot_place *place) {
-    return place->state != UNOPENED && place != place->index->teller.place;
+    return __atomic_load_n(&place->state, __ATOMIC_SEQ_CST) != UNOPENED && place != place->index->teller.place;
 }
 
 /* Takes all handles that have been opened, if all were given back. */
@@ -521,9 +559,9 @@ static int take_all(hot_index *index) {
 
 hot_status hot_close_index(hot_index *index) {
     size_t place;
-    lock(index);
+    lock(&index->opening);
     if (!take_all(index)) {
-        unlock(index);
+        unlock(&index->opening);
         return HOT_OPEN;
     }
     for (place = 0; place < index->count; place++)
@@ -538,63 +576,47 @@ hot_status hot_destroy(hot_handle *handle) {
     return hot_close(handle);
 }
 
-/* The index of a handle, if it is open. */
-static hot_index *index_of(const hot_handle *handle) {
-    return handle->place == NULL ? NULL : handle->place->index;
-}
-
-/* Whether a handle is open, and of the index. */
-static hot_status is_handle_of(const hot_index *index, hot_handle *handle) {
-    uint16_t number;
-    hot_status status = hot_number(handle, &number);
-    return status != HOT_DONE || index_of(handle) == index ? status : HOT_OTHER_INDEX;
-}
-
 hot_status hot_meet(hot_handle *one, hot_handle *other) {
-    hot_index *index = index_of(one);
-    hot_status status = is_handle_of(index, one);
+    hot_index *index, *its_index;
+    hot_status status = find_index(one, &index);
     if (status == HOT_DONE)
-        status = is_handle_of(index, other);
-    if (status == HOT_DONE && one != other) {
+        status = find_index(other, &its_index);
+    if (status != HOT_DONE)
+        return status;
+    if (index != its_index)
+        return HOT_OTHER_INDEX;
+    if (one != other) {
         proved_see(one, other);
         proved_see(other, one);
     }
-    return status;
-}
-
-/* Between these two no other thread uses the teller. */
-static void begin_telling(hot_index *index) {
-    while (__atomic_exchange_n(&index->is_telling, 1, __ATOMIC_SEQ_CST))
-        sched_yield();
-}
-
-static void end_telling(hot_index *index) {
-    __atomic_store_n(&index->is_telling, 0, __ATOMIC_SEQ_CST);
+    return HOT_DONE;
 }
 
 hot_status hot_stamp(hot_handle *handle, hot_moment *moment) {
-    hot_index *index = index_of(handle);
-    hot_status status = is_handle_of(index, handle);
+    hot_index *index;
+    hot_status status = find_index(handle, &index);
     if (status != HOT_DONE)
         return status;
-    begin_telling(index);
+    lock(&index->telling);
     if (index->teller.place == NULL)
         status = hot_open(index, &index->teller);
     if (status == HOT_DONE) {
         proved_see(&index->teller, handle);
         moment->index = index;
     }
-    end_telling(index);
+    unlock(&index->telling);
     return status;
 }
 
 hot_status hot_follow(hot_handle *handle, const hot_moment *moment) {
-    hot_index *index = index_of(handle);
-    hot_status status = is_handle_of(moment->index, handle);
+    hot_index *index;
+    hot_status status = find_index(handle, &index);
     if (status != HOT_DONE)
         return status;
-    begin_telling(index);
+    if (index != moment->index)
+        return HOT_OTHER_INDEX;
+    lock(&index->telling);
     status = proved_see(handle, &index->teller);
-    end_telling(index);
+    unlock(&index->telling);
     return status;
 }

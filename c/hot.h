@@ -2,7 +2,8 @@
  *
  * hot_open_index makes an index, and hot_open opens a handle on it. A handle is the right to use the index. Calls with different
  * handles may run at the same time; calls with the same handle may not. So give each thread its own handle, or hand a handle over by a
- * lock, by a thread's start or join, or by a sequentially consistent atomic. A call takes effect for all others at once, or not at all.
+ * lock, by a thread's start or join, or by a sequentially consistent atomic. A call takes effect for all others at once, or not at all; but
+ * hot_copy, hot_clear, hot_each and hot_get_packed make several calls, one after the other.
  *
  * A key is 0 to HOT_MAX_KEY bytes of any value. Keys are ordered as by memcmp, and a key comes after its own prefixes. The index
  * copies keys: the memory of a key is yours again when the call returns.
@@ -13,34 +14,39 @@
  *
  * When the index is full. A change writes new records before it retires those that it replaces. Retired records can be used again once
  * the calls that ran at that time, or began soon after, have returned: the next collection gives them back, and a change that finds no
- * record free makes a collection itself, tries again, and then counts all records. If it finds each record that it could use in use, it
- * returns HOT_FULL_NODES or HOT_FULL_LEAVES: keys must be removed first. If it finds one free, claimed by a change that is under way,
- * or retired, other calls hold records back, and it is to be tried again: hot_insert and the like do so, and hot_try_insert and the like
- * return HOT_HELD_BACK. A thread that is stopped in the middle of a call, even of a look-up or a scan, may hold back everything that is
- * retired meanwhile. The count loads one record after another: with a handful of records to spare, changes that are under way may
- * have a few of them in use for a moment.
+ * record free makes a collection itself, tries again, and then counts all records. If fewer are free than it needs, and none is claimed
+ * by a change that is under way or retired, it returns HOT_FULL_NODES or HOT_FULL_LEAVES: keys must be removed first. So it does where
+ * the index has one handle. Else other calls hold records back, and it is to be tried again: hot_insert and the like do so, and
+ * hot_try_insert and the like return HOT_HELD_BACK. An index has one node record more than asked, up to 4294967295, which insertions
+ * leave free for removals: so a full index can be emptied. A thread that is stopped in the middle of a call, even of a look-up or a
+ * scan, may hold back everything that is retired meanwhile. The count loads one record after another: with a handful of records to
+ * spare, changes that are under way may have a few of them in use for a moment.
  *
  * Keys in calls. A key, a prefix or an end of a range that has more than HOT_MAX_KEY bytes is refused as HOT_KEY_TOO_LONG by each call.
  * The value that a key had is written to `had` if the call says so, and else `had` stays as it is; it may be NULL, if it is not wanted.
  *
  * What the library relies on, and doesn't check. No pointer is NULL but `had`, not even a key's if its length is 0; each points to what
  * its type says, and what a call writes overlaps no other argument. A handle is zeroed before it is opened, and the program never copies,
- * moves or writes its bytes. malloc, realloc and free belong to one allocator. No call is made from a signal handler, or after a fork in
- * the child of a process with threads. A call has 48 KiB of stack.
+ * moves or writes its bytes. malloc, realloc and free belong to one allocator, and 16 bytes or more begin at a multiple of 16. No call is
+ * made from a signal handler, or after a fork in the child of a process with threads. A call has 48 KiB of stack.
  *
  * A call fails only by its status. None waits for another, except hot_insert, hot_upsert, hot_exchange, hot_remove, hot_remove_if and
  * hot_add; hot_copy and hot_clear, which make such calls; hot_open and hot_stamp, for each other; and hot_stamp and hot_follow, too.
  * Each other call ends after a bounded number of steps, whatever other threads do: a step is one atomic access to a word of the index.
  * Each call below that makes steps gives its bound, for the worst tree that there can be.
  *
- * A handle takes some 118 KB, from when it is first opened, so that no change needs memory. hot_create and hot_create_with open all
- * their handles, so 64 of them take 7.6 MB at once. A handle of hot_open_index takes some 90 bytes until hot_open first opens it; but the
- * index takes the 118 KB of its last handle at once.
+ * Memory. An index has its records from the beginning, and a handle 118 KB of lists from when it is first opened, so that no change asks
+ * for memory. But a page of 4 KiB takes memory only once something is written there: so an index takes what its keys need, and a handle
+ * some 30 KB. A page that was written stays when keys go. Tables of 64 MB and more ask for huge pages, of 2 MiB, where the system lets
+ * them. If memory runs out when a page is first written, the system ends the program. So take a stock whose hot_stock_bytes the machine has
+ * to spare; or call mlockall once the index is made, which takes all of it at once. Making an index takes a processor some 0.1 s for each
+ * 100 MB of the table, as much address space as two tables, and a thousandth of one in memory. Where the system refuses such pages, all
+ * memory comes from malloc, and an index takes all of it at once.
  *
  * Each handle has memory for the pairs of its scans, too, which the next scan uses again. After a scan it goes if the keys have more than
  * 32 KiB of it, or the rest has. So a handle keeps 64 KiB of it at most between its calls.
  *
- * The library starts no threads and keeps no data outside its indexes. It needs POSIX, and an x86-64 processor of the level for which it
+ * The library starts no threads and keeps no data outside its indexes. It needs Linux, and an x86-64 processor of the level for which it
  * was compiled: x86-64-v3, which has AVX2, unless the machine that compiled it had not, or x86-64-v2 was asked for. On an older one
  * hot_create, hot_create_with, hot_open_index and hot_stock_bytes return HOT_OLD_PROCESSOR and write nothing, and stocks have no records;
  * any other call may end the program there.
@@ -56,8 +62,8 @@ extern "C" {
 #endif
 
 /* The version of this header. A program that is right with an earlier version of the same major number is right with this one. */
-#define HOT_VERSION_MAJOR 2
-#define HOT_VERSION_MINOR 1
+#define HOT_VERSION_MAJOR 3
+#define HOT_VERSION_MINOR 0
 #define HOT_VERSION_PATCH 0
 
 /* The version of the library that is linked: 65536 times the major number, 256 times the minor one, and the patch. */
@@ -72,7 +78,8 @@ extern const uint8_t hot_last_key[HOT_MAX_KEY];
 #define HOT_TO_END hot_last_key, HOT_MAX_KEY
 
 /* How a call came out. Each call says which of these it returns. From HOT_BUSY to HOT_NO_MEMORY, and from HOT_HELD_BACK on, the call
- * was refused and changed nothing; with any other status it was made. */
+ * was refused and changed nothing; with any other status it was made. hot_copy, hot_clear, hot_each and hot_get_packed return the status
+ * of the first of their calls that was refused: what those before it did stays. */
 typedef uint32_t hot_status;
 enum {
     HOT_DONE = 0,          /* it was made; there is nothing else to tell */
@@ -84,8 +91,8 @@ enum {
     HOT_WAS = 6,           /* the key had this value, and has the new one */
     HOT_REMOVED = 7,       /* the key had this value, and is gone */
     HOT_BUSY = 8,          /* another call is in the way: try again */
-    HOT_FULL_NODES = 9,    /* too few node records were free, and a count found all in use */
-    HOT_FULL_LEAVES = 10,  /* no leaf record was free, and a count found all in use that have room for the key */
+    HOT_FULL_NODES = 9,    /* too few node records were free, and by a count none comes back */
+    HOT_FULL_LEAVES = 10,  /* no leaf record with room for the key was free, and by a count none comes back */
     HOT_KEY_TOO_LONG = 11, /* a key has more than HOT_MAX_KEY bytes, or is to be put in and no leaf record has room for it */
     HOT_CLOSED = 12,       /* the handle is closed */
     HOT_OPEN = 13,         /* a handle that was to be opened is open */
@@ -93,7 +100,7 @@ enum {
     HOT_NO_MEMORY = 15,
     HOT_EXCHANGED = 16,    /* the key had the expected value, and has the new one */
     HOT_DIFFERS = 17,      /* the key has this value, which is not the expected one, and keeps it */
-    HOT_HELD_BACK = 18,    /* too few records were free, but other calls hold some back: try again */
+    HOT_HELD_BACK = 18,    /* too few records were free, but by a count some may come back: try again */
     HOT_NO_HANDLE = 19,    /* all handles of the index are open */
     HOT_OTHER_INDEX = 20,  /* the handle, or the moment, is of another index */
     HOT_OLD_PROCESSOR = 21 /* the library was compiled for newer processors */
@@ -124,9 +131,9 @@ typedef struct hot_pair {
     uint64_t value;
 } hot_pair;
 
-/* Makes an empty index and opens `count` handles on it, 1 to 64; all must be closed before. Each takes its 118 KB at once; for handles
- * that may stay unused take hot_open_index. The index has `nodes` node records, 1 to 65535, and `leaves` leaf records, 1 to 262143. Each key takes one leaf record; a node record holds 2 to 32 keys or nodes. Have some
- * of both to spare, since a change builds the new before it gives the old back.
+/* Makes an empty index and opens `count` handles on it, 1 to 64; all must be closed before. For handles that may stay unused take
+ * hot_open_index. The index has `nodes` node records, 1 to 65535, and `leaves` leaf records, 1 to 262143. Each key takes one leaf record; a
+ * node record holds 2 to 32 keys or nodes. Have some of both to spare, since a change builds the new before it gives the old back.
  * HOT_DONE; or HOT_OUT_OF_RANGE, for which it looks before it looks at the handles, HOT_OPEN, HOT_NO_MEMORY or HOT_OLD_PROCESSOR, and
  * then no handle was opened. */
 hot_status hot_create(uint32_t nodes, uint32_t leaves, hot_handle *handles, size_t count);
@@ -142,29 +149,35 @@ typedef struct hot_stock {
     uint32_t long_leaves;   /* up to HOT_MAX_KEY bytes; 264 */
 } hot_stock;
 
-/* Makes an empty index with this stock and opens `count` handles on it, 1 to 1024; all must be closed before. Each takes its 118 KB at
- * once, as by hot_create. The index has 1 to 4294967295 nodes, and 1 to 4294967295 leaves of all sizes together. (The leaves that
- * hot_create makes are all long.)
+/* Makes an empty index with this stock and opens `count` handles on it, 1 to 1024; all must be closed before. The index has 1 to
+ * 4294967295 nodes, and 1 to 4294967295 leaves of all sizes together. (The leaves that hot_create makes are all long.)
  * HOT_DONE; or HOT_OUT_OF_RANGE, HOT_OPEN, HOT_NO_MEMORY or HOT_OLD_PROCESSOR, as hot_create. */
 hot_status hot_create_with(const hot_stock *stock, hot_handle *handles, size_t count);
 
-/* Writes a stock for `keys` keys of at most `longest` bytes each: 9 leaves for 8 keys, of the smallest size with room for such a key,
- * one node for 8 keys, and 512 more of both. That was enough for random keys, URLs, numbers and text with a rising number, also where
- * keys came and went for long, and is for eight threads that change the index. Keys that are long chains of prefixes may take up to
- * one node each. */
+/* Writes a stock for `keys` keys of at most `longest` bytes each: 4 leaves for 3 keys, of the smallest size with room for such a key,
+ * one node for 4 keys, and 512 more of both. Take the most keys that there will ever be: what isn't used takes no memory. That was
+ * enough for random keys, URLs, numbers and text with a rising number, also where keys came and went for long, and is for eight threads
+ * that change the index. Numbers with few bits set may take more, and keys that somebody chose to do harm up to one node each:
+ * hot_stock_for_any_keys has room for them. */
 void hot_stock_for_keys(uint32_t keys, size_t longest, hot_stock *stock);
+
+/* Writes a stock that is always enough for `keys` keys of at most `longest` bytes each, whatever they are, in an index of so many handles:
+ * a tree has fewer nodes than keys. It has a node and a leaf for each key, and for each handle those that one change claims at most: a
+ * leaf, 18 nodes for each byte of `longest`, and one. So they are never all in use while there are no more keys; a change may have to
+ * wait for retired ones. More than 240 bytes count as 240, more than 1024 handles as 1024, and no number exceeds 4294967295. */
+void hot_stock_for_any_keys(uint32_t keys, size_t longest, size_t handles, hot_stock *stock);
 
 /* Writes a stock for keys of different lengths: `keys` has five numbers, of keys of up to 8, 24, 56, 88 and HOT_MAX_KEY bytes. For each
  * that is not 0 it has as many leaves as hot_stock_for_keys would give, and nodes for all keys together. */
 void hot_stock_for_lengths(const uint32_t *keys, hot_stock *stock);
 
-/* Writes how many bytes the records and pins of an index with this stock and this number of handles take. While it is being made, an
- * index takes twice that. The 118 KB of each handle come to it.
+/* Writes how many bytes the records and pins of an index with this stock and this number of handles have. The 118 KB of each handle come
+ * to it.
  * HOT_DONE; or HOT_OUT_OF_RANGE or HOT_OLD_PROCESSOR, where hot_create_with would return that. */
 hot_status hot_stock_bytes(const hot_stock *stock, size_t handles, size_t *bytes);
 
-/* Makes an empty index with this stock and room for so many handles, 1 to 1024, and writes it to `index`. Room for a handle takes some 80
- * bytes; the handle's 118 KB are taken when hot_open first opens it, and those of the last one at once.
+/* Makes an empty index with this stock and room for so many handles, 1 to 1024, and writes it to `index`. Room for a handle takes some 220
+ * bytes; the handle's lists are made when hot_open first opens it, and those of the last one at once.
  * HOT_DONE; or HOT_OUT_OF_RANGE, HOT_NO_MEMORY or HOT_OLD_PROCESSOR, and then nothing is written. */
 hot_status hot_open_index(const hot_stock *stock, size_t handles, hot_index **index);
 
@@ -287,7 +300,8 @@ hot_status hot_copy(hot_handle *from, hot_handle *to);
  * array `pairs` has room. Writes their number to `count`, and 1 to `more` if the range has more, else 0. Other calls may change
  * the index meanwhile: each pair was there at some moment of the call, and no key is missing that was there all along (if there
  * are more, no key up to the last one listed). A range whose `from` is above its `upto` has no pairs. To go on, begin at the key
- * that hot_after gives for the last pair's. It makes at most 168607 steps, and 60 for each pair of the limit.
+ * that hot_after gives for the last pair's. Records that other calls retire meanwhile can't be used again until the call ends: so list some
+ * thousand pairs at a time. It makes at most 168607 steps, and 60 for each pair of the limit.
  * HOT_DONE; or HOT_KEY_TOO_LONG, HOT_CLOSED, HOT_NO_MEMORY (only if it had a pair to list), and then nothing was written. */
 hot_status hot_scan(hot_handle *handle, const uint8_t *from, size_t from_length, const uint8_t *upto, size_t upto_length,
                     hot_pair *pairs, size_t limit, size_t *count, uint32_t *more);

@@ -3,16 +3,20 @@
 #define HOT_HPP
 
 #include "hot.h"
+#include <algorithm>
 #include <cstddef>
 #include <cstdint>
+#include <cstring>
 #include <initializer_list>
 #include <iterator>
+#include <limits>
 #include <memory>
 #include <new>
 #include <optional>
 #include <stdexcept>
 #include <string>
 #include <string_view>
+#include <tuple>
 #include <type_traits>
 #include <utility>
 #include <vector>
@@ -139,6 +143,114 @@ inline std::optional<std::string> before(key_view key) {
     found.back() = static_cast<char>(static_cast<unsigned char>(found.back()) - 1);
     found.resize(HOT_MAX_KEY, '\xff');
     return found;
+}
+
+/// How keys are made from values, for `key_of` and `values_of`.
+namespace part {
+
+/// Whether a value of this type is a number that has a place in keys: not char and the like, which differ from machine to machine.
+template <class Value>
+inline constexpr bool is_number = std::is_same_v<Value, bool> || std::is_same_v<Value, float> || std::is_same_v<Value, double> ||
+                                  std::is_same_v<Value, signed char> || std::is_same_v<Value, unsigned char> ||
+                                  std::is_same_v<Value, short> || std::is_same_v<Value, unsigned short> || std::is_same_v<Value, int> ||
+                                  std::is_same_v<Value, unsigned> || std::is_same_v<Value, long> || std::is_same_v<Value, unsigned long> ||
+                                  std::is_same_v<Value, long long> || std::is_same_v<Value, unsigned long long>;
+
+/// A number's bits, changed so that they have the order of the numbers: those of bool and unsigned ones as they are; with the other sign
+/// bit for signed ones and floats that aren't negative; with all bits turned for negative floats. All zeros are one, and so is each NaN,
+/// which comes last.
+template <class Number> std::uint64_t ordered(Number value) {
+    constexpr std::uint64_t sign = std::uint64_t{1} << (8 * sizeof(Number) - 1);
+    if constexpr (std::is_floating_point_v<Number>) {
+        std::conditional_t<sizeof(Number) == 4, std::uint32_t, std::uint64_t> bits;
+        if (value == 0)
+            value = 0;
+        if (value != value)
+            value = std::numeric_limits<Number>::quiet_NaN();
+        std::memcpy(&bits, &value, sizeof bits);
+        if (value != value)
+            bits &= ~sign;
+        return bits & sign ? (2 * sign - 1) ^ bits : bits | sign;
+    } else {
+        return (static_cast<std::uint64_t>(value) & (2 * sign - 1)) ^ (std::is_signed_v<Number> ? sign : 0);
+    }
+}
+
+/// The number of these bits.
+template <class Number> Number number(std::uint64_t ordered) {
+    constexpr std::uint64_t sign = std::uint64_t{1} << (8 * sizeof(Number) - 1);
+    if constexpr (std::is_floating_point_v<Number>) {
+        const auto bits = static_cast<std::conditional_t<sizeof(Number) == 4, std::uint32_t, std::uint64_t>>(
+            ordered & sign ? ordered ^ sign : (2 * sign - 1) ^ ordered);
+        Number value;
+        std::memcpy(&value, &bits, sizeof value);
+        return value;
+    } else {
+        return static_cast<Number>(ordered ^ (std::is_signed_v<Number> ? sign : 0));
+    }
+}
+
+template <class Value> void write(std::string &key, const Value &value) {
+    if constexpr (is_number<Value>) {
+        const std::uint64_t bits = ordered(value);
+        for (std::size_t left = sizeof value; left-- > 0;)
+            key.push_back(static_cast<char>(bits >> 8 * left));
+    } else {
+        for (const char byte : key_view(value)) {
+            key.push_back(byte);
+            if (byte == '\0')
+                key.push_back('\1');
+        }
+        key.append(2, '\0');
+    }
+}
+
+/// Reads a value, and leaves what comes after it. False if the bytes are no such value.
+template <class Value> bool read(std::string_view &from, Value &to) {
+    if constexpr (is_number<Value>) {
+        if (from.size() < sizeof to)
+            return false;
+        std::uint64_t bits = 0;
+        for (const char byte : from.substr(0, sizeof to))
+            bits = bits << 8 | static_cast<unsigned char>(byte);
+        from.remove_prefix(sizeof to);
+        to = number<Value>(bits);
+        return ordered(to) == bits;
+    } else {
+        static_assert(std::is_same_v<Value, std::string>, "text is read as std::string");
+        for (std::size_t at = 0; at + 1 < from.size(); at++) {
+            to.push_back(from[at]);
+            if (from[at] != '\0')
+                continue;
+            const char next = from[++at];
+            if (next == '\0') {
+                to.pop_back();
+                from.remove_prefix(at + 1);
+            }
+            if (next != '\1')
+                return next == '\0';
+        }
+        return false;
+    }
+}
+
+} // namespace part
+
+/// A key from values, whose bytes have the order of the values: by the first one, then by the next, and so on. Integers, bool, float and
+/// double take their size; text, or bytes, takes two more bytes, and one for each 0 byte. The key of the first values is a prefix of each
+/// key that begins with them. The same values have the same bytes in each language: bindings/keys.txt says which.
+template <class... Values> [[nodiscard]] std::string key_of(const Values &...values) {
+    std::string key;
+    (part::write(key, values), ...);
+    return key;
+}
+
+/// The values of a key that `key_of` made from values of these types, of which text is std::string; or none if it is no such key.
+template <class... Values> [[nodiscard]] std::optional<std::tuple<Values...>> values_of(key_view key) {
+    std::tuple<Values...> values{};
+    std::string_view left = key;
+    const bool is_read = std::apply([&](auto &...value) { return (part::read(left, value) && ...); }, values);
+    return is_read && left.empty() ? std::optional(std::move(values)) : std::nullopt;
 }
 
 /// The order in which a scan gives its pairs: rising, falling from the last one on, or the last page alone, rising.
@@ -319,8 +431,9 @@ class handle {
     handle() = default;
     /// Whether it is open.
     explicit operator bool() const { return it_ != nullptr; }
-    /// Gives the handle back to its index, whose next `open` may have it. It does nothing if the handle is closed.
-    void close() { it_.reset(); }
+    /// Gives the handle back to its index, whose next `open` may have it, and keeps nothing of the index. It does nothing if the handle is
+    /// closed.
+    void close() { it_ = std::unique_ptr<hot_handle, closer>(); }
 
     [[nodiscard]] std::optional<std::uint64_t> get(key_view key) {
         std::uint64_t value = 0;
@@ -379,6 +492,24 @@ class handle {
         }
     }
 
+    /// Gives a key the value that `change` makes of the one that it has, or removes it where `change` returns none, and returns the one that
+    /// it had. Both are std::optional. `change` is called again as long as other calls change the key meanwhile. It waits and throws as
+    /// `fetch_add` does, and throws what `change` throws; nothing is changed then.
+    template <class Change> std::optional<std::uint64_t> fetch_update(key_view key, Change change) {
+        std::optional<std::uint64_t> had = get(key);
+        for (;;) {
+            const std::optional<std::uint64_t> to = change(std::as_const(had));
+            if (to == had)
+                return had;
+            const hot::change made = !had ? insert(key, *to) : to ? exchange(key, *had, *to) : remove_if(key, *had);
+            if (made.is_refused())
+                throw std::runtime_error(made.text());
+            if (made.what != status::exists && made.what != status::differs && made.what != status::absent)
+                return had;
+            had = made.had;
+        }
+    }
+
     /// The same calls, tried once: they may return `busy` or `held_back`.
     change try_insert(key_view key, std::uint64_t value) { return put(hot_try_insert, key, value); }
     change try_upsert(key_view key, std::uint64_t value) { return put(hot_try_upsert, key, value); }
@@ -393,8 +524,12 @@ class handle {
     [[nodiscard]] range scan(key_view from, key_view upto, std::size_t pairs = page) { return range(it(), from, upto, pairs); }
     [[nodiscard]] range scan(key_view from = {}) { return scan(from, greatest()); }
     [[nodiscard]] range scan_prefix(key_view prefix) {
-        const std::size_t left = HOT_MAX_KEY - (prefix.size() < HOT_MAX_KEY ? prefix.size() : HOT_MAX_KEY);
-        return scan(prefix, std::string(prefix).append(left, '\xff'));
+        return scan(prefix, last_with(prefix));
+    }
+
+    /// The pairs whose keys begin with a prefix, the greatest key first.
+    [[nodiscard]] range scan_prefix_reverse(key_view prefix) {
+        return scan_reverse(prefix, last_with(prefix));
     }
 
     /// The pairs from one key on and below another, which is not included.
@@ -473,6 +608,12 @@ class handle {
             check(HOT_CLOSED);
         return it_.get();
     }
+    // The greatest key that begins with the prefix.
+    static std::string last_with(std::string_view prefix) {
+        std::string last(prefix);
+        last.resize(std::max<std::size_t>(last.size(), HOT_MAX_KEY), '\xff');
+        return last;
+    }
     template <class Call> void fill(Call call, key_view from, key_view upto, packed &into) {
         check(call(it(), bytes(from), from.size(), bytes(upto), upto.size(), into.keys_.data(), into.keys_.size() - 1, into.heads_.data(),
                    into.heads_.size() - 1, &into.count_, &into.more_));
@@ -528,13 +669,19 @@ class handle {
     return stock;
 }
 
+/// A stock that is always enough for `keys` keys of at most `longest` bytes each, whatever they are, in an index of so many handles.
+[[nodiscard]] inline hot_stock stock_for_any_keys(std::uint32_t keys, std::size_t longest, std::size_t handles) {
+    hot_stock stock{};
+    hot_stock_for_any_keys(keys, longest, handles, &stock);
+    return stock;
+}
+
 /// An index, which gives handles to threads. It may be moved, and gone before its handles: the last one frees what there is.
 class index {
   public:
-    /// Makes an empty index with this stock of records, and room for so many handles, 1 to 1024, none of which is open. It takes
-    /// `stock_bytes(stock, handles)` bytes, and 118 KB for one handle; each other one takes its 118 KB when it is first opened. Throws
-    /// std::invalid_argument if a number is out of range, std::bad_alloc, or std::runtime_error if the library is compiled for newer
-    /// processors. Nothing is left then.
+    /// Makes an empty index with this stock of records, and room for so many handles, 1 to 1024, none of which is open. What
+    /// isn't used of it takes no memory. Throws std::invalid_argument if a number is out of range, std::bad_alloc, or std::runtime_error if
+    /// the library is compiled for newer processors. Nothing is left then.
     explicit index(const hot_stock &stock, std::size_t handles = 64) {
         hot_index *made = nullptr;
         check(hot_open_index(&stock, handles, &made));
@@ -543,7 +690,7 @@ class index {
     /// The same with `stock_for_keys(keys, longest)`: room for `keys` keys of at most `longest` bytes each. A call with a key that no leaf
     /// record has room for throws std::length_error.
     index(std::uint32_t keys, std::size_t longest, std::size_t handles = 64) : index(stock_for_keys(keys, longest), handles) {}
-    /// A move leaves the other index with nothing: its `open` throws std::logic_error. Handles stay open.
+    /// A move leaves the other index with nothing: its `open` throws std::logic_error, which says so. Handles stay open.
     index(index &&) = default;
     index &operator=(index &&) = default;
 
@@ -558,7 +705,7 @@ class index {
     /// The same, or none if all are open.
     [[nodiscard]] std::optional<handle> try_open() {
         if (!at_)
-            check(HOT_CLOSED);
+            throw std::logic_error("the index was moved away");
         handle one(new hot_handle HOT_HANDLE, at_);
         const hot_status status = hot_open(at_.get(), one.it());
         if (status == HOT_NO_HANDLE)
@@ -571,8 +718,8 @@ class index {
     std::shared_ptr<hot_index> at_;
 };
 
-/// Makes an empty index with a stock of records, and opens `count` handles on it, 1 to 1024, each of which takes its 118 KB. The last one
-/// that is closed frees it. Throws as the constructor of `index` does, and leaves nothing then.
+/// Makes an empty index with a stock of records, and opens `count` handles on it, 1 to 1024. The last one that is closed
+/// frees it. Throws as the constructor of `index` does, and leaves nothing then.
 [[nodiscard]] inline std::vector<handle> create(const hot_stock &stock, std::size_t count = 1) {
     index made(stock, count);
     std::vector<handle> handles;

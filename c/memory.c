@@ -1,32 +1,40 @@
-/* Tests of what memory the library takes: how many bytes handles have before and after they are opened, that none is lost, and what calls
- * return where memory is refused, each allocation in turn. It is linked with --wrap for malloc, calloc, realloc and free. */
+/* Tests of what memory the library takes: how many bytes handles have before and after they are opened and between scans, what is resident, that none is
+ * lost, and what calls return where memory is refused, each allocation in turn. It is linked with --wrap for malloc, calloc, realloc, free,
+ * mmap, munmap, mremap and madvise. */
+#define _GNU_SOURCE
 #include "hot.h"
+#include "check.h"
 #include <malloc.h>
+#include <stdarg.h>
 #include <stdio.h>
+#include <string.h>
+#include <sys/mman.h>
+#include <sys/resource.h>
+#include <sys/wait.h>
+#include <unistd.h>
 
 #define HANDLES 1024
-
-static int failures;
-
-#define CHECK(that)                                                      \
-    do {                                                                 \
-        if (!(that)) {                                                   \
-            fprintf(stderr, "memory.c:%d: not so: %s\n", __LINE__, #that); \
-            failures = 1;                                                \
-        }                                                                \
-    } while (0)
 
 void *__real_malloc(size_t size);
 void *__real_calloc(size_t count, size_t size);
 void *__real_realloc(void *at, size_t size);
 void __real_free(void *at);
+void *__real_mmap(void *at, size_t size, int protection, int flags, int file, off_t offset);
+int __real_munmap(void *at, size_t size);
+void *__real_mremap(void *at, size_t size, size_t new_size, int flags, void *to);
+int __real_madvise(void *at, size_t size, int advice);
 
-/* The bytes that are in use, how many allocations were asked for, and the number of the one that is refused, or 0. */
+/* The bytes that are in use, how many allocations were asked for, the number of the one that is refused, or 0, and whether that may be
+ * done without. */
 static size_t in_use;
 static long asked, refused;
+static int is_spared;
 
-static int is_refused(void) {
-    return ++asked == refused;
+static int is_refused(int spared) {
+    if (++asked != refused)
+        return 0;
+    is_spared = spared;
+    return 1;
 }
 
 static void *counted(void *at) {
@@ -35,15 +43,15 @@ static void *counted(void *at) {
 }
 
 void *__wrap_malloc(size_t size) {
-    return is_refused() ? NULL : counted(__real_malloc(size));
+    return is_refused(0) ? NULL : counted(__real_malloc(size));
 }
 
 void *__wrap_calloc(size_t count, size_t size) {
-    return is_refused() ? NULL : counted(__real_calloc(count, size));
+    return is_refused(0) ? NULL : counted(__real_calloc(count, size));
 }
 
 void *__wrap_realloc(void *at, size_t size) {
-    if (is_refused())
+    if (is_refused(0))
         return NULL;
     in_use -= malloc_usable_size(at);
     return counted(__real_realloc(at, size));
@@ -54,7 +62,48 @@ void __wrap_free(void *at) {
     __real_free(at);
 }
 
-static const hot_stock stock = {20, 40, 0, 0, 0, 10};
+/* Without pages of its own a block comes from malloc. Fixed ones are in the place of others. */
+void *__wrap_mmap(void *at, size_t size, int protection, int flags, int file, off_t offset) {
+    if (is_refused(1))
+        return MAP_FAILED;
+    at = __real_mmap(at, size, protection, flags, file, offset);
+    in_use += at == MAP_FAILED || flags & MAP_FIXED ? 0 : size;
+    return at;
+}
+
+int __wrap_munmap(void *at, size_t size) {
+    in_use -= size;
+    return __real_munmap(at, size);
+}
+
+/* Pages go where others were: the same ones again, if their size is 0, and else they are moved. */
+void *__wrap_mremap(void *at, size_t size, size_t new_size, int flags, ...) {
+    va_list rest;
+    void *to;
+    va_start(rest, flags);
+    to = va_arg(rest, void *);
+    va_end(rest);
+    if (is_refused(1))
+        return MAP_FAILED;
+    in_use -= size;
+    return __real_mremap(at, size, new_size, flags, to);
+}
+
+int __wrap_madvise(void *at, size_t size, int advice) {
+    return is_refused(1) ? -1 : __real_madvise(at, size, advice);
+}
+
+static const hot_stock stock = {20, 40, 0, 0, 0, 10}, large_stock = {2500, 2500, 0, 0, 0, 10};
+
+/* The bytes of the process that are resident. */
+static size_t resident(void) {
+    unsigned long all, pages = 0;
+    FILE *file = fopen("/proc/self/statm", "r");
+    CHECK(file != NULL && fscanf(file, "%lu %lu", &all, &pages) == 2);
+    if (file != NULL)
+        fclose(file);
+    return pages * 4096;
+}
 
 /* 1,024 handles take little until they are opened. One that is closed and opened again takes no more. */
 static void test_light(void) {
@@ -65,10 +114,11 @@ static void test_light(void) {
     CHECK(hot_stock_bytes(&stock, HANDLES, &bytes) == HOT_DONE);
     CHECK(hot_open_index(&stock, HANDLES, &index) == HOT_DONE);
     none = in_use;
-    CHECK(none - bytes <= 4000000);
     CHECK(hot_open(index, &handle) == HOT_DONE);
     one = in_use;
     CHECK(one - none <= 150000);
+    /* The last handle is open to the library, and 128 bytes of each are in the table. */
+    CHECK((none - bytes - (one - none)) / HANDLES + 128 <= 220);
     for (turn = 0; turn < 10000; turn++) {
         CHECK(hot_close(&handle) == HOT_DONE && hot_open(index, &handle) == HOT_DONE);
         CHECK(hot_upsert(&handle, (const uint8_t *)"key", 3, turn, NULL) == (turn ? HOT_WAS : HOT_NEW));
@@ -83,18 +133,122 @@ static void test_light(void) {
     printf("%d handles take %zu bytes, and each that is open %zu\n", HANDLES, none - bytes, one - none);
 }
 
+/* Between its calls a handle keeps 64 KiB at most of what its scans took, however many pairs they listed, and some of it. */
+static void test_kept(void) {
+    enum { MANY = 8192 };
+    static const hot_stock roomy = {MANY, 0, 0, 0, 0, MANY};
+    static const size_t lengths[4] = {2, 15, 16, HOT_MAX_KEY};
+    static hot_pair pairs[MANY];
+    hot_handle handle = HOT_HANDLE;
+    uint8_t key[HOT_MAX_KEY] = {0};
+    size_t place, number, limit, count, before, most = 0;
+    uint32_t more;
+    for (place = 0; place < 4; place++) {
+        CHECK(hot_create_with(&roomy, &handle, 1) == HOT_DONE);
+        before = in_use;
+        for (number = 0; number < MANY; number++) {
+            key[0] = (uint8_t)(number >> 8), key[1] = (uint8_t)number;
+            CHECK(hot_insert(&handle, key, lengths[place], number, NULL) == HOT_INSERTED);
+        }
+        CHECK(in_use == before);
+        for (limit = 1; limit <= MANY; limit += limit < 64 ? 1 : 61) {
+            CHECK(hot_scan(&handle, key, 0, HOT_TO_END, pairs, limit, &count, &more) == HOT_DONE && count == limit);
+            CHECK(in_use - before <= (64 << 10) + 64);
+            most = in_use - before > most ? in_use - before : most;
+        }
+        CHECK(hot_close(&handle) == HOT_DONE && in_use == 0);
+    }
+    CHECK(most > 48 << 10);
+}
+
+/* What isn't used of an index is not resident: neither while there are few keys, nor in a handle. */
+static void test_resident(void) {
+    enum { KEYS = 300000, FEW = 10000, MOST = 70 };
+    hot_handle handle = HOT_HANDLE, other = HOT_HANDLE;
+    hot_index *index = NULL;
+    hot_stock roomy;
+    size_t first = resident(), made, opened, filled;
+    uint32_t key;
+    hot_stock_for_keys(KEYS, 8, &roomy);
+    CHECK(hot_open_index(&roomy, 4, &index) == HOT_DONE);
+    made = resident();
+    CHECK(made - first < 1000000);
+    CHECK(hot_open(index, &handle) == HOT_DONE && hot_open(index, &other) == HOT_DONE);
+    opened = resident();
+    CHECK(opened - made < 60000);
+    for (key = 0; key < FEW; key++) {
+        uint64_t mixed = key * 0x9E3779B97F4A7C15u;
+        CHECK(hot_insert(&handle, (const uint8_t *)&mixed, 8, key, NULL) == HOT_INSERTED);
+    }
+    filled = resident();
+    CHECK(filled - opened < (size_t)FEW * MOST);
+    CHECK(hot_close(&handle) == HOT_DONE && hot_close(&other) == HOT_DONE && hot_close_index(index) == HOT_DONE && in_use == 0);
+    printf("resident: %zu bytes once the index is made, %zu for each handle, %zu for each of %d keys\n", made - first,
+           (opened - made) / 2, (filled - opened) / FEW, FEW);
+}
+
+/* Huge pages are asked for. */
+static void test_huge(void) {
+    hot_handle handle = HOT_HANDLE;
+    hot_stock huge;
+    memset(&huge, 0, sizeof huge);
+    huge.nodes = 200000;
+    huge.short_leaves = 100000;
+    CHECK(hot_create_with(&huge, &handle, 1) == HOT_DONE);
+    CHECK(hot_upsert(&handle, (const uint8_t *)"key", 3, 1, NULL) == HOT_NEW);
+    CHECK(hot_destroy(&handle) == HOT_DONE && in_use == 0);
+}
+
+/* Where there are too few addresses, memory is refused, and nothing is left behind. */
+static void test_addresses(void) {
+    hot_handle handle = HOT_HANDLE;
+    hot_index *index = NULL;
+    hot_stock most;
+    struct rlimit before, little;
+    memset(&most, 0xff, sizeof most);
+    most.medium_leaves = most.large_leaves = most.wide_leaves = most.long_leaves = 0;
+    CHECK(getrlimit(RLIMIT_AS, &before) == 0);
+    little = before;
+    little.rlim_cur = (rlim_t)1 << 40;
+    CHECK(setrlimit(RLIMIT_AS, &little) == 0);
+    CHECK(hot_open_index(&most, 1, &index) == HOT_NO_MEMORY && index == NULL);
+    CHECK(hot_create_with(&most, &handle, 1) == HOT_NO_MEMORY);
+    CHECK(setrlimit(RLIMIT_AS, &before) == 0 && in_use == 0);
+}
+
+/* After a fork, of a process with one thread, parent and child have an index each. */
+static void test_fork(void) {
+    hot_handle handle = HOT_HANDLE;
+    uint64_t value = 0;
+    int status = 1;
+    pid_t child;
+    CHECK(hot_create_with(&large_stock, &handle, 1) == HOT_DONE);
+    CHECK(hot_upsert(&handle, (const uint8_t *)"both", 4, 1, NULL) == HOT_NEW);
+    child = fork();
+    if (child == 0) {
+        int is_right = hot_get(&handle, (const uint8_t *)"both", 4, &value) == HOT_FOUND && value == 1;
+        is_right &= hot_upsert(&handle, (const uint8_t *)"both", 4, 2, NULL) == HOT_WAS;
+        is_right &= hot_upsert(&handle, (const uint8_t *)"child", 5, 2, NULL) == HOT_NEW;
+        _exit(!is_right || hot_destroy(&handle) != HOT_DONE);
+    }
+    CHECK(child > 0 && waitpid(child, &status, 0) == child && status == 0);
+    CHECK(hot_get(&handle, (const uint8_t *)"both", 4, &value) == HOT_FOUND && value == 1);
+    CHECK(hot_get(&handle, (const uint8_t *)"child", 5, &value) == HOT_ABSENT);
+    CHECK(hot_destroy(&handle) == HOT_DONE && in_use == 0);
+}
+
 /* What calls return where the allocation of this number is refused: that there is no memory, or what they return with it, and then all
  * goes on. Tells whether one was refused. */
-static int test_refused(long number) {
+static int test_refused(const hot_stock *asks, long number) {
     hot_handle handles[3] = {HOT_HANDLE, HOT_HANDLE, HOT_HANDLE};
     hot_index *index = NULL;
     hot_status status;
     hot_pair pairs[3];
     uint32_t more;
     size_t count, place, tries;
-    asked = 0;
+    asked = is_spared = 0;
     refused = number;
-    for (tries = 0; (status = hot_open_index(&stock, 3, &index)) == HOT_NO_MEMORY; tries++)
+    for (tries = 0; (status = hot_open_index(asks, 3, &index)) == HOT_NO_MEMORY; tries++)
         CHECK(index == NULL && in_use == 0);
     CHECK(status == HOT_DONE);
     for (place = 0; place < 3; place++) {
@@ -110,23 +264,35 @@ static int test_refused(long number) {
     for (place = 0; place < 3; place++)
         CHECK(hot_close(&handles[place]) == HOT_DONE);
     CHECK(hot_close_index(index) == HOT_DONE && in_use == 0);
-    for (; (status = hot_create_with(&stock, handles, 3)) == HOT_NO_MEMORY; tries++)
+    for (; (status = hot_create_with(asks, handles, 3)) == HOT_NO_MEMORY; tries++)
         CHECK(in_use == 0 && hot_len(&handles[0], &count) == HOT_CLOSED);
     CHECK(status == HOT_DONE);
     for (place = 0; place < 3; place++)
         CHECK(hot_close(&handles[place]) == HOT_DONE);
-    CHECK(in_use == 0 && tries == (asked >= number));
+    CHECK(in_use == 0 && tries <= (size_t)(asked >= number) && (tries > 0 || is_spared || asked < number));
     refused = 0;
-    return tries > 0;
+    return asked >= number;
+}
+
+static long test_each_refused(const hot_stock *asks) {
+    long number = 1;
+    while (test_refused(asks, number))
+        number++;
+    return number - 1;
 }
 
 int main(void) {
-    long number = 1;
+    long few, more;
+    test_resident();
     test_light();
-    while (test_refused(number))
-        number++;
-    CHECK(number > 15);
+    test_kept();
+    test_huge();
+    test_addresses();
+    test_fork();
+    few = test_each_refused(&stock);
+    more = test_each_refused(&large_stock);
+    CHECK(few > 15 && more > few);
     if (!failures)
-        printf("passed: each of %ld allocations was refused in turn, and nothing was lost\n", number - 1);
+        printf("passed: each of %ld allocations was refused in turn, and nothing was lost\n", few + more);
     return failures;
 }

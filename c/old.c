@@ -19,6 +19,9 @@ int main(void) {
     stock.nodes = 1;
     hot_stock_for_keys(100, 8, &stock);
     is_right &= memcmp(&stock, &none, sizeof none) == 0;
+    stock.nodes = 1;
+    hot_stock_for_any_keys(100, 8, 1, &stock);
+    is_right &= memcmp(&stock, &none, sizeof none) == 0;
     puts(is_right ? "passed: an old processor" : "FAILED: an old processor");
     return !is_right;
 }

@@ -125,11 +125,30 @@ static void test_full() {
     CHECK(std::string(change.text()) == hot_status_text(HOT_FULL_LEAVES));
 }
 
+// Small indexes are filled to their last node record, and emptied again.
+static void test_filled() {
+    for (std::uint32_t nodes = 1; nodes <= 100; nodes++) {
+        auto handles = hot::create(nodes, 10000, nodes % 2 + 1);
+        std::uint64_t number = nodes;
+        hot::change change{hot::status::inserted, {}};
+        do {
+            number = number * 6364136223846793005u + 1442695040888963407u;
+            change = handles[0].insert(std::string(reinterpret_cast<const char *>(&number), sizeof number), 1);
+        } while (!change.is_refused());
+        CHECK(change.what == hot::status::full_nodes && handles[0].size() >= 2);
+        while (const auto first = handles[0].first())
+            CHECK(handles[0].remove(first->key).what == hot::status::removed);
+        CHECK(handles[0].empty());
+    }
+}
+
 // Leaves of two sizes: a key takes the smallest with room that is free. And the stock for so many keys, and what it takes.
 static void test_stock() {
     hot_stock stock = hot::stock_for_keys(7, 8);
-    CHECK(stock.nodes == 512 && stock.short_leaves == 519 && !stock.medium_leaves && hot::stock_bytes(stock) == 254688);
+    CHECK(stock.nodes == 513 && stock.short_leaves == 521 && !stock.medium_leaves && hot::stock_bytes(stock) == 255680);
     CHECK(hot::create(stock, 1024).size() == 1024);
+    stock = hot::stock_for_any_keys(7, 8, 2);
+    CHECK(stock.nodes == 7 + 2 * 145 && stock.short_leaves == 9 && !stock.medium_leaves);
     CHECK(throws<std::invalid_argument>([&] { return hot::stock_bytes(stock, 1025); }));
     CHECK(throws<std::invalid_argument>([&] { return hot::create(stock, 1025); }));
     stock.short_leaves = stock.medium_leaves = 1;
@@ -332,6 +351,7 @@ int main() {
     test_order();
     test_expected();
     test_full();
+    test_filled();
     test_stock();
     test_scans();
     test_ends();

@@ -20,10 +20,10 @@ def refusal(call, *words) -> str | None:
 def main() -> None:
     hot = load(sys.argv[1])
     stock = stock_for_keys(hot, 7, 8)
-    assert (stock.nodes, stock.short, stock.medium, stock.long) == (512, 519, 0, 0)
+    assert (stock.nodes, stock.short, stock.medium, stock.long) == (513, 521, 0, 0)
     assert refusal(Index, hot, stock, 1025) == refusal(Index, hot, Stock(1)) == hot.hot_status_text(14).decode()
     index = Index(hot, stock)
-    assert index.size == 254688
+    assert index.size == 255680
     for number in range(PAGE * 3):
         assert index.upsert(number.to_bytes(8, "big"), number) is None
     assert list(index.scan()) == [(number.to_bytes(8, "big"), number) for number in range(PAGE * 3)]

@@ -3,6 +3,7 @@
  * share three handles; four that send each other moments; and two that take most keys out and put them in again beside two that scan. */
 #define _GNU_SOURCE
 #include "hot.h"
+#include "check.h"
 #include <pthread.h>
 #include <sched.h>
 #include <stdio.h>
@@ -14,16 +15,6 @@
 #define CHANGES 100000
 #define ADDS 5000
 #define LIMIT 64
-
-static int failures;
-
-#define CHECK(that)                                                       \
-    do {                                                                  \
-        if (!(that)) {                                                    \
-            fprintf(stderr, "threads.c:%d: not so: %s\n", __LINE__, #that); \
-            __atomic_store_n(&failures, 1, __ATOMIC_SEQ_CST);             \
-        }                                                                 \
-    } while (0)
 
 /* A key: the digits of its number and then as many bytes more as its number says, so that each size of leaf records has some. */
 typedef struct key {
@@ -343,7 +334,7 @@ static void judge(hot_handle *handle, const member *members, unsigned keys, unsi
     }
     CHECK(counts.long_leaves.live == there && counts.long_leaves.held == 0 && counts.nodes.held == 0);
     CHECK(hot_collect(handle, &given[0], &given[1]) == HOT_DONE && hot_census(handle, &counts) == HOT_DONE);
-    CHECK(counts.long_leaves.free == leaves && counts.nodes.free == nodes);
+    CHECK(counts.long_leaves.free == leaves && counts.nodes.free == nodes + 1);
 }
 
 static void test_crowd(unsigned keys, unsigned nodes, unsigned leaves) {

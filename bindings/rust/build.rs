@@ -5,8 +5,8 @@ use std::path::{Path, PathBuf};
 use std::{env, fs, process};
 
 /// The version from which on the library has the calls of `ffi.rs`.
-const MAJOR: u32 = 2;
-const MINOR: u32 = 1;
+const MAJOR: u32 = 3;
+const MINOR: u32 = 0;
 
 fn main() {
     for name in ["HOT_DIR", "HOT_SHARED", "PKG_CONFIG", "PKG_CONFIG_PATH"] {
@@ -55,7 +55,7 @@ fn check(header: &Path) -> Result<(), String> {
     println!("cargo:rerun-if-changed={}", header.display());
     let text = fs::read_to_string(header).map_err(|why| format!("{}: {why}", header.display()))?;
     match (number(&text, "MAJOR"), number(&text, "MINOR")) {
-        (Some(MAJOR), Some(minor)) if minor >= MINOR => Ok(()),
+        (Some(major), Some(minor)) if major == MAJOR && (major, minor) >= (MAJOR, MINOR) => Ok(()),
         (Some(major), Some(minor)) => Err(format!("{} is of version {major}.{minor}", header.display())),
         _ => Err(format!("{} says no version", header.display())),
     }

@@ -6,7 +6,8 @@ SQLITE_EXTENSION_INIT3
 
 struct shared_index {
     shared_index *next;
-    char *name; /* NULL once it is unnamed */
+    char *name;
+    atomic_int is_named; /* whether the name stands for it */
     int uses;
     wanted_index made_as;
     hot_index *index;
@@ -146,13 +147,28 @@ static shared_index *made(const char *name, const wanted_index *wanted, int *cod
     return of;
 }
 
-shared_index *shared_use(const char *name, const wanted_index *wanted, int *code, char **error) {
+/* The index that has this name. Under the mutex. */
+static shared_index *named(const char *name) {
+    shared_index *of = all;
+    while (of && (!of->is_named || strcmp(of->name, name) != 0))
+        of = of->next;
+    return of;
+}
+
+static int is_as(const wanted_index *one, const wanted_index *other) {
+    return one->keys == other->keys && one->longest == other->longest && one->handles == other->handles &&
+           one->is_text == other->is_text;
+}
+
+shared_index *shared_use(const char *name, enum which which, const wanted_index *wanted, int *code, char **error) {
     sqlite3_mutex *mutex = all_mutex();
-    shared_index *of;
+    shared_index *has, *of = NULL;
     sqlite3_mutex_enter(mutex);
-    for (of = all; of && (!of->name || strcmp(of->name, name) != 0); of = of->next) {
-    }
-    if (!of && (of = made(name, wanted, code, error)) != NULL) {
+    has = named(name);
+    if (has && (which == ANY_INDEX || (which != NEW_INDEX && is_as(&has->made_as, wanted)))) {
+        of = has;
+    } else if (which != OLD_INDEX && (of = made(name, wanted, code, error)) != NULL) {
+        of->is_named = !has;
         of->next = all;
         all = of;
     }
@@ -175,27 +191,40 @@ void shared_end_use(shared_index *of) {
     sqlite3_mutex_leave(mutex);
 }
 
+void shared_name(shared_index *of) {
+    sqlite3_mutex *mutex = all_mutex();
+    shared_index *has;
+    sqlite3_mutex_enter(mutex);
+    if ((has = named(of->name)) != NULL)
+        has->is_named = 0;
+    of->is_named = 1;
+    sqlite3_mutex_leave(mutex);
+}
+
 void shared_unname(shared_index *of) {
     sqlite3_mutex *mutex = all_mutex();
     sqlite3_mutex_enter(mutex);
-    sqlite3_free(of->name);
-    of->name = NULL;
+    of->is_named = 0;
     sqlite3_mutex_leave(mutex);
+}
+
+int shared_is_named(const shared_index *of) {
+    return atomic_load(&of->is_named);
 }
 
 const wanted_index *shared_made_as(const shared_index *of) {
     return &of->made_as;
 }
 
-hot_status part_take(shared_index *of, change_log *log, index_part *part) {
+hot_status part_take(shared_index *of, int point, index_part *part) {
     memset(part, 0, sizeof *part);
     part->of = of;
-    part->log = log;
+    part->log.point = point;
     return hot_open(of->index, &part->handle);
 }
 
 void part_leave(index_part *part) {
-    part_end(part);
+    part_forget(part);
     hot_close(&part->handle);
 }
 
@@ -314,8 +343,9 @@ static log_entry *enter_aside(index_part *part, const log_entry *entry) {
 }
 
 static void keep(index_part *part, log_entry *entry) {
-    entry->before = part->log->last;
-    part->log->last = entry;
+    entry->before = part->log.last;
+    entry->point = part->log.point;
+    part->log.last = entry;
 }
 
 hot_status part_put(index_part *part, log_entry *entry, uint64_t value, int replaces) {
@@ -355,18 +385,6 @@ static void say_aside(shared_index *of, log_entry *entry) {
     sqlite3_mutex_leave(of->mutex);
 }
 
-/* Removes a key from what is seen where the index has no record for the node without it. */
-static hot_status hide(index_part *part, log_entry *entry) {
-    hot_status status = hot_get(&part->handle, entry->key, entry->length, &entry->value);
-    log_entry *hidden;
-    if (status != HOT_FOUND)
-        return status;
-    if (!(hidden = entry_new(entry->key, entry->length)))
-        return HOT_NO_MEMORY;
-    say_aside(part->of, hidden);
-    return HOT_REMOVED;
-}
-
 hot_status part_remove(index_part *part, log_entry *entry) {
     log_entry *it = enter_aside(part, entry);
     hot_status status;
@@ -377,8 +395,6 @@ hot_status part_remove(index_part *part, log_entry *entry) {
         sqlite3_mutex_leave(part->of->mutex);
     } else {
         status = hot_remove(&part->handle, entry->key, entry->length, &entry->value);
-        if (status == HOT_FULL_NODES)
-            status = hide(part, entry);
     }
     entry->is_there = 1;
     if (status == HOT_REMOVED)
@@ -388,49 +404,25 @@ hot_status part_remove(index_part *part, log_entry *entry) {
     return status;
 }
 
-static void forget(change_log *log) {
-    while (log->last) {
-        log_entry *last = log->last;
-        log->last = last->before;
+void part_forget(index_part *part) {
+    while (part->log.last) {
+        log_entry *last = part->log.last;
+        part->log.last = last->before;
         sqlite3_free(last);
     }
-    log->mark = NULL;
+    part->log.point = NO_POINT;
 }
 
-void part_begin(index_part *part) {
-    if (part->takes_part)
-        return;
-    part->takes_part = 1;
-    part->log->tables++;
+void part_begin_point(index_part *part, int point) {
+    part->log.point = point;
 }
 
-void part_end(index_part *part) {
-    if (!part->takes_part)
-        return;
-    part->takes_part = 0;
-    if (--part->log->tables == 0)
-        forget(part->log);
-}
-
-int part_mark(index_part *part, int point) {
-    change_log *log = part->log;
-    log_entry *made;
-    if (log->mark && log->mark->point >= point)
-        return 1;
-    if (!(made = entry_new(NULL, 0)))
-        return 0;
-    made->is_mark = 1;
-    made->point = point;
-    made->lower = log->mark;
-    log->mark = made;
-    keep(part, made);
-    return 1;
-}
-
-/* The marks stay in the log, and mark nothing. */
 void part_release(index_part *part, int point) {
-    while (part->log->mark && part->log->mark->point >= point)
-        part->log->mark = part->log->mark->lower;
+    log_entry *it = part->log.last;
+    for (; it && it->point >= point; it = it->before)
+        it->point = point - 1;
+    if (part->log.point >= point)
+        part->log.point = point - 1;
 }
 
 /* Gives a key what it had, and frees the entry, or sets it aside. */
@@ -448,18 +440,10 @@ static void put_back(index_part *part, log_entry *entry) {
 }
 
 void part_roll_back(index_part *part, int point) {
-    change_log *log = part->log;
-    const log_entry *upto = log->mark;
-    while (upto && upto->point != point)
-        upto = upto->lower;
-    while (log->last != upto) {
-        log_entry *last = log->last;
-        log->last = last->before;
-        if (last == log->mark)
-            log->mark = last->lower;
-        if (last->is_mark)
-            sqlite3_free(last);
-        else
-            put_back(part, last);
+    while (part->log.last && part->log.last->point >= point) {
+        log_entry *last = part->log.last;
+        part->log.last = last->before;
+        put_back(part, last);
     }
+    part->log.point = point;
 }

@@ -1,27 +1,26 @@
-/* An index that tables share, and the log by which a connection takes its changes back. */
+/* Indexes that connections share, and the log by which a connection takes its changes back. */
 #ifndef INDEX_H
 #define INDEX_H
 
 #include <hot.h>
 #include <sqlite3ext.h>
 
-/* What a key had before a change; or the mark of a savepoint. */
+/* What a key had before a change. */
 typedef struct log_entry {
     struct log_entry *before; /* the entry before it */
-    struct log_entry *lower;  /* below it in the tree of what could not be put back; of a mark: the mark before it */
+    struct log_entry *lower;  /* below it in the tree of what could not be put back */
     struct log_entry *higher; /* in the same tree */
     uint64_t value;
     int is_there; /* whether the key had a value */
-    int is_mark, point;
+    int point;    /* the innermost savepoint that the change is in */
     uint32_t length;
     uint8_t key[];
 } log_entry;
 
 /* What a connection has changed in an index since its transaction began, by all its tables over it. */
 typedef struct change_log {
-    int tables; /* how many of them take part in the transaction */
     log_entry *last;
-    log_entry *mark; /* the last mark of a savepoint that is open */
+    int point; /* the innermost savepoint that is open */
 } change_log;
 
 typedef struct shared_index shared_index;
@@ -32,26 +31,31 @@ typedef struct wanted_index {
     int is_text;
 } wanted_index;
 
-/* A table's part of an index: a handle of its own, and the log of its connection. It stays where it is. */
+/* A connection's part of an index: a handle, and a log. It stays where it is. */
 typedef struct index_part {
     shared_index *of;
     hot_handle handle;
-    change_log *log;
-    int takes_part; /* in a transaction */
+    change_log log;
 } index_part;
 
-/* The index of a name, made as is wanted if there is none. It stays until each use of it has ended. NULL, and `code` and `error`,
- * if there is no memory or what is wanted is out of range. */
-shared_index *shared_use(const char *name, const wanted_index *wanted, int *code, char **error);
+/* Which index a name stands for: the one that has it, whatever it was made as; the one that has it, if it was made as is wanted; or
+ * a new one. Where there is none such it is made, but an OLD_INDEX, which is a SAME_INDEX that is there. */
+enum which { ANY_INDEX, SAME_INDEX, NEW_INDEX, OLD_INDEX };
+
+/* Uses the index of a name. One that is made gets the name, if no other has it. It stays until each use of it
+ * has ended. NULL, and `code` and `error`, if there is no memory or what is wanted is out of range; or for OLD_INDEX if there is none. */
+shared_index *shared_use(const char *name, enum which which, const wanted_index *wanted, int *code, char **error);
 void shared_end_use(shared_index *of);
 
-/* From now on the name is free for another index. */
+/* From now on its name stands for this index, and for no other; or not for this one. */
+void shared_name(shared_index *of);
 void shared_unname(shared_index *of);
+int shared_is_named(const shared_index *of);
 
 const wanted_index *shared_made_as(const shared_index *of);
 
-/* Opens a handle for a table: HOT_NO_HANDLE if all are taken. */
-hot_status part_take(shared_index *of, change_log *log, index_part *part);
+/* Opens a handle for a connection, in which this savepoint is the innermost one: HOT_NO_HANDLE if all are taken. */
+hot_status part_take(shared_index *of, int point, index_part *part);
 void part_leave(index_part *part);
 
 /* The key's value. It is absent if it is too long. */
@@ -80,19 +84,20 @@ log_entry *entry_new(const uint8_t *key, size_t length);
 hot_status part_put(index_part *part, log_entry *entry, uint64_t value, int replaces);
 hot_status part_remove(index_part *part, log_entry *entry);
 
-/* A table takes part in a transaction of its connection from here to here. The log is forgotten with the last of them. */
-void part_begin(index_part *part);
-void part_end(index_part *part);
+/* Savepoints have numbers: each has one more than that around it, and NO_POINT is the transaction itself. */
+enum { NO_POINT = -1 };
 
-/* A savepoint of this number begins, and has a mark from now on: 0 if there is no memory. Each table tells it. */
-int part_mark(index_part *part, int point);
+/* A savepoint begins. Each table tells it. */
+void part_begin_point(index_part *part, int point);
 
-/* The savepoint ends, and those within it. */
+/* The savepoint ends, and those within it: what they have changed is the change of the one around it. */
 void part_release(index_part *part, int point);
 
-/* Takes back what was changed since the mark of the savepoint, or all if it has none, as none has that is older than the log. It is
- * never refused: what the index has no room for stays in memory beside it, and comes first, until a later change finds room. */
-enum { NO_POINT = -1 };
+/* The transaction ends. */
+void part_forget(index_part *part);
+
+/* Takes back what was changed in the savepoint and in those within it. It is never refused: what the index has no room for stays in
+ * memory beside it, and comes first, until a later change finds room. */
 void part_roll_back(index_part *part, int point);
 
 #endif

@@ -8,32 +8,19 @@
  *
  *     type=blob         the keys are blobs
  *     name=words        tables of this name, in any database of the process, have one index
- *     connections=16    how many tables may have the index at a time: by default 16
+ *     connections=16    how many connections may have the index at a time: by default 16
  *
  * Without a name, connections to one file have one index for a table of it; a table of a database in memory has its own. An index
- * goes with the last connection that has used it. A table of a name whose index is there is refused if it says another number of keys=
- * or longest=. */
-#include "index.h"
+ * goes with the last connection that has used it. A table of a name whose index is there is refused if it says another number of
+ * keys= or longest=. */
+#include "connection.h"
 #include <stdlib.h>
 #include <string.h>
 SQLITE_EXTENSION_INIT1
 
 /* How a cursor is to go, as a number from best_index to filter_rows. */
-enum { EQUAL = 1, FROM = 2, UPTO = 4, LIKE = 8, GLOB = 16, FALLING = 32 };
+enum { EQUAL = 1, FROM = 2, UPTO = 4, CASELESS = 8, FALLING = 16 };
 enum { FIRST_PAGE = 4, PAGE = 128 };
-
-/* An index that a connection has used, which stays as long as the connection does, and what it has changed there. */
-typedef struct held {
-    struct held *next;
-    shared_index *index;
-    int tables; /* how many tables of the connection have it now */
-    change_log log;
-} held;
-
-/* What the tables of a connection share. */
-typedef struct connection {
-    held *all;
-} connection;
 
 /* A table of a connection. */
 typedef struct table {
@@ -41,9 +28,9 @@ typedef struct table {
     sqlite3 *db;
     connection *of;
     held *in;
-    int is_text, is_named;
+    int is_text;
     double keys;
-    index_part part;
+    char *schema, *name, *index_name; /* in one piece with the table; the last is NULL if it says none */
 } table;
 
 /* A scan of a table: a page of it, and the keys that are still to be listed. */
@@ -51,7 +38,7 @@ typedef struct cursor {
     sqlite3_vtab_cursor base;
     key_bound from, upto;
     int falls;
-    key_bound folded; /* LIKE: what keys begin with, in capitals */
+    key_bound folded; /* CASELESS: what keys begin with, in capitals */
     key_page page;
     size_t at;
 } cursor;
@@ -74,13 +61,6 @@ static int refused(sqlite3_vtab *vtab, hot_status status) {
 }
 
 /* ---- Tables ---- */
-
-/* What a table is made with. The name is to be freed. */
-typedef struct arguments {
-    wanted_index wanted;
-    int has_keys, has_longest; /* whether it says so */
-    char *name;
-} arguments;
 
 /* The value of the argument, if the text is one of this name. */
 static const char *value_of(const char *text, const char *name) {
@@ -110,7 +90,7 @@ static int read_number(const char *text, sqlite3_int64 least, sqlite3_int64 most
 }
 
 /* Reads an argument: 0 if there is none such. */
-static int read_argument(const char *text, arguments *to) {
+static int read_argument(const char *text, table_words *to) {
     const char *value;
     if ((value = value_of(text, "keys")) != NULL)
         return to->has_keys = read_number(value, 0, UINT32_MAX, &to->wanted.keys);
@@ -123,94 +103,10 @@ static int read_argument(const char *text, arguments *to) {
         return to->wanted.is_text || sqlite3_stricmp(value, "blob") == 0;
     }
     if ((value = value_of(text, "name")) != NULL && *value) {
-        sqlite3_free(to->name);
-        to->name = sqlite3_mprintf("name\n%s", value);
+        to->name = value;
         return 1;
     }
     return 0;
-}
-
-/* The name of an index whose table has none: that of the table in its file, or in this connection's memory. */
-static char *own_name(sqlite3 *db, const char *const *words) {
-    const char *file = sqlite3_db_filename(db, words[1]);
-    if (file && *file)
-        return sqlite3_mprintf("file\n%s\n%s", file, words[2]);
-    return sqlite3_mprintf("memory\n%p\n%s\n%s", (void *)db, words[1], words[2]);
-}
-
-/* Holds the index as long as the connection does; NULL if there is no memory. */
-static held *hold(connection *of, shared_index *index) {
-    held *it;
-    for (it = of->all; it && it->index != index; it = it->next) {
-    }
-    if (it || !(it = sqlite3_malloc(sizeof *it))) {
-        shared_end_use(index);
-        return it;
-    }
-    memset(it, 0, sizeof *it);
-    it->index = index;
-    it->next = of->all;
-    of->all = it;
-    return it;
-}
-
-static void let_go(connection *of, held *it) {
-    held **place = &of->all;
-    while (*place != it)
-        place = &(*place)->next;
-    *place = it->next;
-    shared_end_use(it->index);
-    sqlite3_free(it);
-}
-
-static void close_connection(void *of) {
-    connection *it = of;
-    while (it->all)
-        let_go(it, it->all);
-    sqlite3_free(it);
-}
-
-/* Why the table can't have the index, or NULL. */
-static char *mismatch(const table *it, const arguments *made_with) {
-    const wanted_index *made_as = shared_made_as(it->in->index), *wanted = &made_with->wanted;
-    if (made_as->is_text != wanted->is_text)
-        return sqlite3_mprintf("hot: the index has keys of another type");
-    if (it->is_named && ((made_with->has_keys && made_as->keys != wanted->keys) ||
-                         (made_with->has_longest && made_as->longest != wanted->longest)))
-        return sqlite3_mprintf("hot: the index was made with keys=%lld, longest=%lld", made_as->keys, made_as->longest);
-    return NULL;
-}
-
-/* Gives the table its index, and a handle. */
-static int join(table *it, const arguments *made_with, char **error) {
-    hot_status status;
-    int code;
-    shared_index *index = shared_use(made_with->name, &made_with->wanted, &code, error);
-    if (!index)
-        return code;
-    if (!(it->in = hold(it->of, index)))
-        return SQLITE_NOMEM;
-    if ((*error = mismatch(it, made_with)) != NULL)
-        return SQLITE_ERROR;
-    status = part_take(index, &it->in->log, &it->part);
-    if (status == HOT_NO_HANDLE) {
-        *error =
-            sqlite3_mprintf("hot: %d tables have the index: make it with more connections=", (int)shared_made_as(index)->handles);
-        return SQLITE_BUSY;
-    }
-    if (status != HOT_DONE)
-        return SQLITE_NOMEM;
-    it->in->tables++;
-    it->keys = (double)shared_made_as(index)->keys;
-    return SQLITE_OK;
-}
-
-static int disconnect_table(sqlite3_vtab *vtab) {
-    table *it = (table *)vtab;
-    it->in->tables--;
-    part_leave(&it->part);
-    sqlite3_free(it);
-    return SQLITE_OK;
 }
 
 static int note_encoding(void *is_utf8, int count, char **values, char **names) {
@@ -236,73 +132,122 @@ static int declare(sqlite3 *db, int is_text, char **error) {
     return code == SQLITE_OK ? sqlite3_vtab_config(db, SQLITE_VTAB_CONSTRAINT_SUPPORT, 1) : code;
 }
 
-static int connect_table(sqlite3 *db, void *of, int count, const char *const *words, sqlite3_vtab **made, char **error) {
-    arguments with = {{10000, 24, 16, 1}, 0, 0, NULL};
-    table *it = sqlite3_malloc(sizeof *it);
-    int at, code = it ? SQLITE_OK : SQLITE_NOMEM;
-    for (at = 3; at < count && code == SQLITE_OK; at++) {
-        if (!read_argument(words[at], &with)) {
-            *error = sqlite3_mprintf("hot: '%s' is no argument, or out of range", words[at]);
-            code = SQLITE_ERROR;
-        }
+/* A table with the words that it will want again: NULL if there is no memory. */
+static table *table_new(sqlite3 *db, connection *of, const table_words *words) {
+    const char *const texts[] = {words->schema, words->table, words->name ? words->name : ""};
+    char *to;
+    int at;
+    size_t size = 0;
+    table *it;
+    for (at = 0; at < 3; at++)
+        size += strlen(texts[at]) + 1;
+    if (!(it = sqlite3_malloc64(sizeof *it + size)))
+        return NULL;
+    memset(it, 0, sizeof *it);
+    to = (char *)(it + 1);
+    for (at = 0; at < 3; at++) {
+        char **place = at == 0 ? &it->schema : at == 1 ? &it->name : &it->index_name;
+        *place = strcpy(to, texts[at]);
+        to += strlen(to) + 1;
     }
-    if (code == SQLITE_OK) {
-        memset(it, 0, sizeof *it);
-        it->db = db;
-        it->of = of;
-        it->is_text = with.wanted.is_text;
-        it->is_named = with.name != NULL;
-        if (!with.name)
-            with.name = own_name(db, words);
-        code = with.name ? join(it, &with, error) : SQLITE_NOMEM;
-        if (code == SQLITE_OK && (code = declare(db, it->is_text, error)) != SQLITE_OK) {
-            disconnect_table(&it->base);
-            it = NULL;
-        }
-    }
-    sqlite3_free(with.name);
-    if (code == SQLITE_OK)
-        *made = &it->base;
-    else
+    if (!words->name)
+        it->index_name = NULL;
+    it->db = db;
+    it->of = of;
+    it->is_text = words->wanted.is_text;
+    return it;
+}
+
+static int make_table(sqlite3 *db, connection *of, const table_words *words, int is_new, table **made, char **error) {
+    int code = declare(db, words->wanted.is_text, error);
+    table *it = code == SQLITE_OK ? table_new(db, of, words) : NULL;
+    if (!it)
+        return code == SQLITE_OK ? SQLITE_NOMEM : code;
+    it->in = (is_new ? connection_create : connection_join)(of, db, words, &code, error);
+    if (!it->in) {
         sqlite3_free(it);
-    return code;
-}
-
-/* Another function than connect_table, since there is no table hot that is not created. */
-static int create_table(sqlite3 *db, void *of, int count, const char *const *words, sqlite3_vtab **made, char **error) {
-    return connect_table(db, of, count, words, made, error);
-}
-
-static int drop_table(sqlite3_vtab *vtab) {
-    const table *it = (table *)vtab;
-    connection *of = it->of;
-    held *in = it->in;
-    if (!it->is_named)
-        shared_unname(in->index);
-    disconnect_table(vtab);
-    if (!in->tables)
-        let_go(of, in);
+        return code;
+    }
+    it->keys = (double)shared_made_as(it->in->part.of)->keys;
+    connection_use(db);
+    *made = it;
     return SQLITE_OK;
 }
 
+/* Reads what the table is made with, and makes it. */
+static int read_table(sqlite3 *db, connection *of, int count, const char *const *words, int is_new, sqlite3_vtab **made,
+                      char **error) {
+    table_words with = {words[1], words[2], NULL, {10000, 24, 16, 1}, 0, 0};
+    table *it = NULL;
+    int at, code;
+    for (at = 3; at < count; at++) {
+        if (!read_argument(words[at], &with)) {
+            *error = sqlite3_mprintf("hot: '%s' is no argument, or out of range", words[at]);
+            return SQLITE_ERROR;
+        }
+    }
+    code = make_table(db, of, &with, is_new, &it, error);
+    *made = it ? &it->base : NULL;
+    return code;
+}
+
+static int create_table(sqlite3 *db, void *of, int count, const char *const *words, sqlite3_vtab **made, char **error) {
+    return read_table(db, of, count, words, 1, made, error);
+}
+
+static int connect_table(sqlite3 *db, void *of, int count, const char *const *words, sqlite3_vtab **made, char **error) {
+    return read_table(db, of, count, words, 0, made, error);
+}
+
+static int disconnect_table(sqlite3_vtab *vtab) {
+    table *it = (table *)vtab;
+    connection_leave(it->of, it->in);
+    connection_end_use(it->of);
+    sqlite3_free(it);
+    return SQLITE_OK;
+}
+
+static table_words words_of(const table *it) {
+    table_words words = {it->schema, it->name, it->index_name, *shared_made_as(it->in->part.of), 0, 0};
+    return words;
+}
+
+/* Sees to it, before the table is used, that its index is the one of its name. */
+static int renew(sqlite3_vtab *vtab, int changes) {
+    table *it = (table *)vtab;
+    table_words words = words_of(it);
+    char *error = NULL;
+    int code = SQLITE_OK;
+    if (!shared_is_named(it->in->part.of))
+        code = connection_renew(it->of, it->db, &words, changes, &it->in, &error);
+    if (error) {
+        sqlite3_free(vtab->zErrMsg);
+        vtab->zErrMsg = error;
+    }
+    return code;
+}
+
+static int drop_table(sqlite3_vtab *vtab) {
+    table *it = (table *)vtab;
+    table_words words = words_of(it);
+    int code = connection_drop(it->of, it->db, &words, it->in);
+    return code == SQLITE_OK ? disconnect_table(vtab) : code;
+}
+
 static int rename_table(sqlite3_vtab *vtab, const char *name) {
-    (void)name;
-    return ((table *)vtab)->is_named ? SQLITE_OK
-                                     : fails(vtab, SQLITE_ERROR, "only a table that was made with name= can be renamed");
+    table *it = (table *)vtab;
+    table_words words = words_of(it);
+    if (!it->index_name)
+        return fails(vtab, SQLITE_ERROR, "only a table that was made with name= can be renamed");
+    return connection_rename(it->of, it->db, &words, it->in, name);
 }
 
 /* ---- Plans ---- */
 
 /* What a constraint on the key gives a cursor: how to go, or 0. */
-static int way_of(sqlite3_index_info *plan, int at, int is_text) {
+static int way_of(sqlite3_index_info *plan, int at) {
     const struct sqlite3_index_constraint *it = &plan->aConstraint[at];
     if (it->iColumn != 0 || !it->usable)
-        return 0;
-    if (it->op == SQLITE_INDEX_CONSTRAINT_LIKE)
-        return is_text ? LIKE : 0;
-    if (it->op == SQLITE_INDEX_CONSTRAINT_GLOB)
-        return is_text ? GLOB : 0;
-    if (sqlite3_stricmp(sqlite3_vtab_collation(plan, at), "BINARY") != 0)
         return 0;
     switch (it->op) {
     case SQLITE_INDEX_CONSTRAINT_EQ: return EQUAL;
@@ -314,34 +259,60 @@ static int way_of(sqlite3_index_info *plan, int at, int is_text) {
     }
 }
 
-/* SQLite checks each row again: so of several constraints of a kind one is enough, and a range may be wider than what was asked
- * for. */
+/* The first constraint of this way by a collation: -1 if there is none. */
+static int find_constraint(sqlite3_index_info *plan, int way, const char *collation) {
+    int at;
+    for (at = 0; at < plan->nConstraint; at++)
+        if (way_of(plan, at) == way && sqlite3_stricmp(sqlite3_vtab_collation(plan, at), collation) == 0)
+            return at;
+    return -1;
+}
+
+/* What a query plan says of it. */
+static char *text_of(int way) {
+    static const char *const texts[] = {"all keys", "key=?", "key>?", "", "key<?", "", "key>? AND key<?", "", "key LIKE ?"};
+    static const char *const falling[] = {"all keys, falling", "key=?", "key>?, falling",          "",
+                                          "key<?, falling",    "",      "key>? AND key<?, falling"};
+    return (char *)((way & FALLING) ? falling[way & ~FALLING] : texts[way]);
+}
+
+/* SQLite makes a range of LIKE and GLOB, if they are its own: that of LIKE is one by NOCASE, of what begins with some letters. It
+ * checks each row again: so of several constraints of a kind one is enough, and a range may be wider than what was asked for. */
+static int choose(sqlite3_index_info *plan, double *rows) {
+    int equal = find_constraint(plan, EQUAL, "BINARY");
+    int from = find_constraint(plan, FROM, "BINARY"), upto = find_constraint(plan, UPTO, "BINARY");
+    int way = 0;
+    if (equal >= 0) {
+        plan->aConstraintUsage[equal].argvIndex = 1;
+        *rows = 1;
+        return EQUAL;
+    }
+    if (from < 0 && upto < 0) {
+        from = find_constraint(plan, FROM, "NOCASE");
+        upto = find_constraint(plan, UPTO, "NOCASE");
+        if (from < 0 || upto < 0)
+            return 0;
+        way = CASELESS;
+    }
+    *rows /= from >= 0 && upto >= 0 ? 16 : 4;
+    if (from >= 0)
+        plan->aConstraintUsage[from].argvIndex = 1;
+    if (upto >= 0)
+        plan->aConstraintUsage[upto].argvIndex = from >= 0 ? 2 : 1;
+    return way ? way : (from >= 0 ? FROM : 0) | (upto >= 0 ? UPTO : 0);
+}
+
 static int best_index(sqlite3_vtab *vtab, sqlite3_index_info *plan) {
-    static const int kinds[] = {EQUAL, FROM, UPTO, LIKE | GLOB};
-    static const double parts[] = {1e9, 4, 4, 16};
     const table *it = (table *)vtab;
     double rows = it->keys;
-    int kind, at, next = 1, way = 0;
-    for (kind = 0; kind < 4; kind++) {
-        /* After = no other is wanted, and after a range no LIKE. */
-        if ((kind > 0 && way & EQUAL) || (kind == 3 && way))
-            break;
-        for (at = 0; at < plan->nConstraint; at++) {
-            int this_way = way_of(plan, at, it->is_text);
-            if (this_way & kinds[kind]) {
-                way |= this_way;
-                rows /= parts[kind];
-                plan->aConstraintUsage[at].argvIndex = next++;
-                break;
-            }
-        }
-    }
-    /* LIKE skips keys in rising order alone. Keys are different: what comes after the key in ORDER BY makes no difference. */
-    if (plan->nOrderBy > 0 && plan->aOrderBy[0].iColumn == 0 && !(way & LIKE && plan->aOrderBy[0].desc)) {
+    int way = choose(plan, &rows);
+    /* CASELESS goes in rising order alone. Keys are different: what comes after the key in ORDER BY makes no difference. */
+    if (plan->nOrderBy > 0 && plan->aOrderBy[0].iColumn == 0 && !(way & CASELESS && plan->aOrderBy[0].desc)) {
         way |= plan->aOrderBy[0].desc ? FALLING : 0;
         plan->orderByConsumed = 1;
     }
     plan->idxNum = way;
+    plan->idxStr = text_of(way);
     plan->estimatedRows = rows < 1 ? 1 : (sqlite3_int64)rows;
     plan->estimatedCost = way & EQUAL ? 5 : 10 + rows;
     return SQLITE_OK;
@@ -350,10 +321,10 @@ static int best_index(sqlite3_vtab *vtab, sqlite3_index_info *plan) {
 /* ---- Cursors ---- */
 
 static int open_cursor(sqlite3_vtab *vtab, sqlite3_vtab_cursor **made) {
-    cursor *it = sqlite3_malloc(sizeof *it);
-    (void)vtab;
+    int code = renew(vtab, 0);
+    cursor *it = code == SQLITE_OK ? sqlite3_malloc(sizeof *it) : NULL;
     if (!it)
-        return SQLITE_NOMEM;
+        return code == SQLITE_OK ? SQLITE_NOMEM : code;
     memset(it, 0, sizeof *it);
     if (!(it->page.pairs = sqlite3_malloc64(PAGE * sizeof *it->page.pairs))) {
         sqlite3_free(it);
@@ -371,7 +342,7 @@ static int close_cursor(sqlite3_vtab_cursor *of) {
 }
 
 static index_part *part_of(cursor *it) {
-    return &((table *)it->base.pVtab)->part;
+    return &((table *)it->base.pVtab)->in->part;
 }
 
 static int load(cursor *it) {
@@ -401,6 +372,9 @@ static int is_capital(uint8_t byte) {
 static uint8_t capital_of(uint8_t byte) {
     return byte >= 'a' && byte <= 'z' ? byte & ~32 : byte;
 }
+static uint8_t small_of(uint8_t byte) {
+    return is_capital(byte) ? byte | 32 : byte;
+}
 
 /* The least bytes from the pair's key on that are the folded ones, whatever their case, if the key doesn't begin so: 0 if there are
  * none. If the key does, they are its own. */
@@ -409,7 +383,7 @@ static int next_folded(const key_bound *folded, const hot_pair *pair, key_bound 
     to->length = folded->length;
     memcpy(to->key, folded->key, folded->length);
     for (at = 0; at < folded->length && at < pair->length; at++) {
-        uint8_t capital = folded->key[at], small = is_capital(capital) ? capital | 32 : capital, byte = pair->key[at];
+        uint8_t capital = folded->key[at], small = small_of(capital), byte = pair->key[at];
         if (byte < capital)
             return 1;
         if (byte > small) {
@@ -437,7 +411,7 @@ static int begins_so(const key_bound *folded, const hot_pair *pair) {
     return at == folded->length;
 }
 
-/* Goes on to a row that there is, for LIKE to one that begins as it should. */
+/* Goes on to a row that there is, for CASELESS to one that begins as it should. */
 static int find_row(cursor *it) {
     int code = SQLITE_OK;
     for (;;) {
@@ -491,21 +465,24 @@ static int set_bound(const table *of, sqlite3_value *value, key_bound *bound) {
     return 1;
 }
 
-/* Makes what a pattern begins with the range's beginning and end. */
-static void set_pattern(cursor *it, sqlite3_value *value, int is_like) {
-    const char *special = is_like ? "%_" : "*?[";
-    const uint8_t *bytes;
-    size_t length, at;
-    if (!bytes_of((table *)it->base.pVtab, value, &bytes, &length))
+/* If keys from the one value on and below the other, by NOCASE, are those that begin with the first one, whatever their case, the
+ * scan is of these: else of all. */
+static void set_caseless(cursor *it, sqlite3_value *from, sqlite3_value *below) {
+    const table *of = (table *)it->base.pVtab;
+    const uint8_t *first, *end;
+    size_t length, end_length, at;
+    if (!bytes_of(of, from, &first, &length) || !bytes_of(of, below, &end, &end_length) || length != end_length || length == 0)
         return;
-    for (at = 0; at < length && at < HOT_MAX_KEY && bytes[at] && !strchr(special, bytes[at]); at++) {
-        uint8_t capital = is_like ? capital_of(bytes[at]) : bytes[at];
-        it->from.key[at] = capital;
-        it->upto.key[at] = is_like && is_capital(capital) ? capital | 32 : capital;
+    for (at = 0; at + 1 < length && small_of(first[at]) == small_of(end[at]); at++) {
+    }
+    if (at + 1 < length || small_of(first[at]) + 1 != small_of(end[at]))
+        return;
+    for (at = 0; at < length && at < HOT_MAX_KEY; at++) {
+        it->from.key[at] = capital_of(first[at]);
+        it->upto.key[at] = small_of(first[at]);
     }
     it->from.length = at;
-    if (is_like)
-        it->folded = it->from;
+    it->folded = it->from;
 }
 
 /* A single key: its row is the page. 0 if the value is of another type, so that all keys have to be looked at. */
@@ -545,8 +522,8 @@ static int filter_rows(sqlite3_vtab_cursor *of, int way, const char *text, int c
         has_keys = set_bound(from_table, *values++, &it->from);
     if (way & UPTO)
         has_keys = set_bound(from_table, *values, &it->upto) && has_keys;
-    if (way & (LIKE | GLOB))
-        set_pattern(it, *values, way & LIKE);
+    if (way & CASELESS)
+        set_caseless(it, values[0], values[1]);
     if (!has_keys || (code = load(it)) != SQLITE_OK)
         return code;
     return find_row(it);
@@ -584,7 +561,7 @@ static int take(table *it, const uint8_t *key, size_t length) {
         return SQLITE_OK;
     if (!(entry = entry_new(key, length)))
         return SQLITE_NOMEM;
-    status = part_remove(&it->part, entry);
+    status = part_remove(&it->in->part, entry);
     return status == HOT_REMOVED || status == HOT_ABSENT ? SQLITE_OK : refused(&it->base, status);
 }
 
@@ -595,7 +572,7 @@ static int put(table *it, const uint8_t *key, size_t length, sqlite3_int64 value
         return refused(&it->base, HOT_KEY_TOO_LONG);
     if (!(entry = entry_new(key, length)))
         return SQLITE_NOMEM;
-    status = part_put(&it->part, entry, (uint64_t)value, replaces);
+    status = part_put(&it->in->part, entry, (uint64_t)value, replaces);
     if (status == HOT_EXISTS) {
         if (sqlite3_vtab_on_conflict(it->db) == SQLITE_IGNORE)
             return SQLITE_CONSTRAINT;
@@ -625,31 +602,31 @@ static int update_row(sqlite3_vtab *vtab, int count, sqlite3_value **values, sql
 }
 
 static int begin(sqlite3_vtab *vtab) {
-    part_begin(&((table *)vtab)->part);
-    return SQLITE_OK;
+    return renew(vtab, 1);
 }
 
 static int commit(sqlite3_vtab *vtab) {
-    part_end(&((table *)vtab)->part);
+    part_forget(&((table *)vtab)->in->part);
     return SQLITE_OK;
 }
 
 static int roll_back(sqlite3_vtab *vtab) {
-    part_roll_back(&((table *)vtab)->part, NO_POINT);
-    return commit(vtab);
+    part_roll_back(&((table *)vtab)->in->part, NO_POINT);
+    return SQLITE_OK;
 }
 
 static int savepoint(sqlite3_vtab *vtab, int point) {
-    return part_mark(&((table *)vtab)->part, point) ? SQLITE_OK : SQLITE_NOMEM;
+    part_begin_point(&((table *)vtab)->in->part, point);
+    return SQLITE_OK;
 }
 
 static int release(sqlite3_vtab *vtab, int point) {
-    part_release(&((table *)vtab)->part, point);
+    part_release(&((table *)vtab)->in->part, point);
     return SQLITE_OK;
 }
 
 static int roll_back_to(sqlite3_vtab *vtab, int point) {
-    part_roll_back(&((table *)vtab)->part, point);
+    part_roll_back(&((table *)vtab)->in->part, point);
     return SQLITE_OK;
 }
 
@@ -677,14 +654,28 @@ static const sqlite3_module module = {
     .xRollbackTo = roll_back_to,
 };
 
-/* What .load and sqlite3_load_extension call: the only name that the library shows. */
+/* Sets what SQLite's calls go by, once for all connections, since other threads may make such calls already. */
+static void set_api(const sqlite3_api_routines *api) {
+    sqlite3_mutex *mutex = api->mutex_alloc(SQLITE_MUTEX_STATIC_APP1);
+    api->mutex_enter(mutex);
+    if (!sqlite3_api)
+        SQLITE_EXTENSION_INIT2(api);
+    api->mutex_leave(mutex);
+}
+
+/* What .load and sqlite3_load_extension call: the only name that the library shows. A connection may load it again. */
 __attribute__((visibility("default"))) int sqlite3_hottable_init(sqlite3 *db, char **error, const sqlite3_api_routines *api) {
     connection *of;
+    int code;
     (void)error;
-    SQLITE_EXTENSION_INIT2(api);
-    if (!(of = sqlite3_malloc(sizeof *of)))
+    set_api(api);
+    if (!(of = connection_use(db)))
         return SQLITE_NOMEM;
-    of->all = NULL;
-    /* If it fails, it calls close_connection itself. */
-    return sqlite3_create_module_v2(db, "hot", &module, of, close_connection);
+    /* If either fails, it ends its use itself. */
+    code = connection_listen(of, db);
+    if (code != SQLITE_OK) {
+        connection_end_use(of);
+        return code;
+    }
+    return sqlite3_create_module_v2(db, "hot", &module, of, connection_end_use);
 }

@@ -1,7 +1,9 @@
-/* Tests hot_table.so beside ordinary tables: by random statements, by rollbacks of which another connection has taken the room, and
- * by threads with a connection each.
+/* Tests hot_table.so beside ordinary tables: by random statements, also by ones that create and drop tables, by rollbacks of which
+ * another connection has taken the room, by refusing each allocation, and by threads with a connection each.
  *
- *     test HOT_TABLE.so
+ *     test HOT_TABLE.so [threads]     the threads alone
+ *
+ * HOT_TABLE.so takes its memory from this program: -Wl,--wrap=malloc,--wrap=calloc,--wrap=realloc.
  */
 #include <pthread.h>
 #include <sqlite3.h>
@@ -10,7 +12,7 @@
 #include <stdlib.h>
 #include <string.h>
 
-enum { THREADS = 4, ROUNDS = 60, STATEMENTS = 3000 };
+enum { THREADS = 4, ROUNDS = 60, STATEMENTS = 3000, CHANGES_OF_TABLES = 4000, READERS = 3 };
 
 static const char *library;
 
@@ -61,18 +63,27 @@ static int number(sqlite3 *db, const char *sql) {
     return found;
 }
 
-/* A connection with a table t over the index of this name, and an ordinary table p. */
-static sqlite3 *connect_to(const char *arguments) {
+/* A connection to a file that has loaded the library. */
+static sqlite3 *open_file(const char *file) {
     sqlite3 *db;
     char *error = NULL;
-    if (sqlite3_open(":memory:", &db) != SQLITE_OK)
-        fail("open", "no memory");
+    if (sqlite3_open(file, &db) != SQLITE_OK)
+        fail("open", sqlite3_errmsg(db));
     sqlite3_enable_load_extension(db, 1);
     if (sqlite3_load_extension(db, library, NULL, &error) != SQLITE_OK)
         fail(library, error);
+    want(db, SQLITE_OK, "PRAGMA synchronous = OFF; PRAGMA journal_mode = MEMORY");
+    return db;
+}
+
+static const char *const ordinary_table = "CREATE TABLE p(key TEXT PRIMARY KEY NOT NULL, value INTEGER NOT NULL) WITHOUT ROWID";
+
+/* A connection with a table t over the index of this name, and an ordinary table p. */
+static sqlite3 *connect_to(const char *arguments) {
+    sqlite3 *db = open_file(":memory:");
     if (run(db, "CREATE VIRTUAL TABLE t USING hot(%s)", arguments) != SQLITE_OK)
         fail(arguments, sqlite3_errmsg(db));
-    want(db, SQLITE_OK, "CREATE TABLE p(key TEXT PRIMARY KEY NOT NULL, value INTEGER NOT NULL) WITHOUT ROWID");
+    want(db, SQLITE_OK, ordinary_table);
     return db;
 }
 
@@ -81,27 +92,45 @@ static sqlite3 *connect_to(const char *arguments) {
 static sqlite3_mem_methods memory;
 static int left = -1; /* how many allocations until one is refused; negative: none is */
 
+static int is_refused(void) {
+    return left >= 0 && left-- == 0;
+}
+
 static void *scarce_malloc(int size) {
-    return left >= 0 && left-- == 0 ? NULL : memory.xMalloc(size);
+    return is_refused() ? NULL : memory.xMalloc(size);
 }
 
 static void *scarce_realloc(void *at, int size) {
-    return left >= 0 && left-- == 0 ? NULL : memory.xRealloc(at, size);
+    return is_refused() ? NULL : memory.xRealloc(at, size);
 }
 
 static void make_memory_scarce(void) {
     sqlite3_mem_methods scarce;
-    sqlite3_config(SQLITE_CONFIG_GETMALLOC, &memory);
+    int code = sqlite3_config(SQLITE_CONFIG_GETMALLOC, &memory);
     scarce = memory;
     scarce.xMalloc = scarce_malloc;
     scarce.xRealloc = scarce_realloc;
-    sqlite3_config(SQLITE_CONFIG_MALLOC, &scarce);
+    if (code != SQLITE_OK || sqlite3_config(SQLITE_CONFIG_MALLOC, &scarce) != SQLITE_OK)
+        fail("memory", "SQLite had some before");
+}
+
+/* Where libhot takes its memory from. */
+void *__wrap_malloc(size_t size) {
+    return is_refused() ? NULL : malloc(size);
+}
+
+void *__wrap_calloc(size_t count, size_t size) {
+    return is_refused() ? NULL : calloc(count, size);
+}
+
+void *__wrap_realloc(void *at, size_t size) {
+    return is_refused() ? NULL : realloc(at, size);
 }
 
 /* Refuses each allocation of these statements in turn: the rows are as they were, and the status tells it. */
 static void refused_memory(const char *sql) {
     for (int at = 0, is_done = 0; !is_done; at++) {
-        sqlite3 *db = connect_to("keys=100");
+        sqlite3 *db = connect_to("keys=100, connections=2");
         char *rows;
         int code;
         want(db, SQLITE_OK, "INSERT INTO t VALUES ('a', 1), ('b', 2)");
@@ -117,6 +146,28 @@ static void refused_memory(const char *sql) {
         if (strcmp(rows, "a1 b2") != 0)
             fail("after memory was refused", rows);
         sqlite3_free(rows);
+        sqlite3_close(db);
+    }
+}
+
+/* Refuses each allocation of a statement within a transaction in turn: if it goes on, then with what it had before. */
+static void refused_statement(const char *before) {
+    for (int at = 0, is_done = 0; !is_done; at++) {
+        sqlite3 *db = connect_to("keys=100");
+        int code;
+        want(db, SQLITE_OK, "CREATE VIRTUAL TABLE u USING hot(keys=100); INSERT INTO t VALUES ('a', 1); BEGIN");
+        want(db, SQLITE_OK, before);
+        want(db, SQLITE_OK, "INSERT INTO u VALUES ('b', 2); INSERT INTO t VALUES ('c', 3)");
+        left = at;
+        code = sqlite3_exec(db, "INSERT INTO t VALUES ('d', 4), ('e', 5)", NULL, NULL, NULL);
+        is_done = left >= 0;
+        left = -1;
+        if (!sqlite3_get_autocommit(db)) {
+            char *rows = answer(db, "SELECT group_concat(key, '') FROM (SELECT key FROM u UNION SELECT key FROM t)");
+            if (strcmp(rows, code == SQLITE_OK ? "abcde" : "abc") != 0)
+                fail("after memory was refused in a transaction", rows);
+            sqlite3_free(rows);
+        }
         sqlite3_close(db);
     }
 }
@@ -316,20 +367,482 @@ static void threads_at_once(void) {
     sqlite3_close(db);
 }
 
+/* ---- Tables that come and go ---- */
+
+static const char *scratch; /* a file for a database */
+
+static void new_scratch(void) {
+    remove(scratch);
+}
+
+/* What a connection sees in both tables: whether they are there, and their rows. */
+static void compare_tables(sqlite3 *db, const char *after) {
+    static const char *const form =
+        "SELECT count(*) || ' ' || ifnull(group_concat(key || value, ' '), '') FROM (SELECT * FROM %s ORDER BY key)";
+    int mine = run(db, "SELECT 1 FROM t"), others = run(db, "SELECT 1 FROM p");
+    char *one, *other;
+    if (mine != others)
+        fail(after, mine == SQLITE_OK ? "the table is there, and the ordinary one is not" : "the ordinary table is there alone");
+    if (mine != SQLITE_OK)
+        return;
+    one = answer(db, form, "t");
+    other = answer(db, form, "p");
+    if (strcmp(one, other) != 0) {
+        fprintf(stderr, "hot: %s\nordinary: %s\n", one, other);
+        fail("the tables differ after", after);
+    }
+    sqlite3_free(one);
+    sqlite3_free(other);
+}
+
+/* Runs a statement for each table: both have the same status. It says it. */
+static int run_both(sqlite3 *db, const char *mine, const char *others) {
+    int code = run(db, "%s", mine), other = run(db, "%s", others);
+    if (code != other)
+        fail(mine, sqlite3_errmsg(db));
+    return code;
+}
+
+/* What else a connection may do: none of it shows in the two tables. */
+static void change_others(sqlite3 *db, unsigned *seed) {
+    static const char *const forms[] = {
+        "CREATE TABLE other(x)",
+        "DROP TABLE other",
+        "VACUUM",
+        "PRAGMA temp_store = 1",
+        "PRAGMA temp_store = 2",
+        "ALTER TABLE t RENAME TO renamed",
+        "ATTACH ':memory:' AS m",
+        "DETACH m",
+        "CREATE VIRTUAL TABLE m.within USING hot(keys=7)",
+        "INSERT INTO m.within VALUES ('a', 1)",
+        "DROP TABLE m.within",
+        "CREATE VIRTUAL TABLE temp.one USING hot(name=shared)",
+        "INSERT OR REPLACE INTO temp.one VALUES ('a', 1)",
+        "ALTER TABLE temp.one RENAME TO other_one",
+        "ALTER TABLE temp.other_one RENAME TO one",
+        "DROP TABLE temp.one",
+    };
+    unsigned at = draw(seed, 1 + sizeof forms / sizeof *forms);
+    if (at == 0)
+        sqlite3_load_extension(db, library, NULL, NULL);
+    else
+        run(db, "%s", forms[at - 1]);
+}
+
+static void change_tables(sqlite3 *db, unsigned *seed) {
+    static const char *const arguments[] = {"", "(keys=5, longest=20)", "(keys=2000)", "(connections=5)"};
+    char *mine = NULL, *others = NULL, one[16], two[16];
+    const char *form;
+    switch (draw(seed, 8)) {
+    case 0: run_both(db, "DROP TABLE t", "DROP TABLE p"); return;
+    case 1:
+    case 2: mine = sqlite3_mprintf("CREATE VIRTUAL TABLE t USING hot%s", arguments[draw(seed, 4)]); break;
+    case 3: change_others(db, seed); return;
+    default:
+        draw_change(seed, "", &form, one, two);
+        mine = sqlite3_mprintf(form, "t", one, two);
+        others = sqlite3_mprintf(form, "p", one, two);
+    }
+    run_both(db, mine, others ? others : ordinary_table);
+    sqlite3_free(mine);
+    sqlite3_free(others);
+}
+
+/* Tables that are created, changed and dropped by connections to a file, one of which may be in a transaction. They come and go. */
+static void random_tables(void) {
+    sqlite3 *all[READERS] = {NULL};
+    unsigned seed = 1;
+    int within = -1; /* who is in a transaction */
+    new_scratch();
+    for (int turn = 0; turn < CHANGES_OF_TABLES; turn++) {
+        int at = within >= 0 ? within : (int)draw(&seed, READERS);
+        if (!all[at])
+            all[at] = open_file(scratch);
+        if (draw(&seed, 3) == 0)
+            draw_transaction(all[at], &seed);
+        change_tables(all[at], &seed);
+        within = sqlite3_get_autocommit(all[at]) ? -1 : at;
+        compare_tables(all[at], "a change");
+        for (int other = 0; other < READERS && within < 0; other++)
+            if (all[other])
+                compare_tables(all[other], "a change of another connection");
+        if (within < 0 && draw(&seed, 40) == 0) {
+            int is_alone = !all[(at + 1) % READERS] && !all[(at + 2) % READERS];
+            if (is_alone)
+                run(all[at], "DELETE FROM p"); /* rows go with the last connection */
+            sqlite3_close(all[at]);
+            all[at] = NULL;
+        }
+    }
+    for (int at = 0; at < READERS; at++)
+        sqlite3_close(all[at]);
+}
+
+/* What a transaction leaves in the table, which has the row a1, in connections that were there and in later ones; or "none". */
+static const struct transaction {
+    const char *statements, *rows;
+} transactions[] = {
+    {"BEGIN; INSERT INTO t VALUES ('b', 2); DROP TABLE t; ROLLBACK", "a1"},
+    {"BEGIN; DELETE FROM t; DROP TABLE t; ROLLBACK", "a1"},
+    {"BEGIN; UPDATE t SET value = 2; DROP TABLE t; COMMIT", "none"},
+    {"BEGIN; INSERT INTO t VALUES ('b', 2); SAVEPOINT s; INSERT INTO t VALUES ('c', 3); DROP TABLE t; ROLLBACK TO s; COMMIT",
+     "a1 b2"},
+    {"BEGIN; DROP TABLE t; CREATE VIRTUAL TABLE t USING hot(keys=5); INSERT INTO t VALUES ('b', 2); COMMIT", "b2"},
+    {"BEGIN; DROP TABLE t; CREATE VIRTUAL TABLE t USING hot(keys=5); INSERT INTO t VALUES ('b', 2); ROLLBACK", "a1"},
+    {"SAVEPOINT s; DROP TABLE t; CREATE VIRTUAL TABLE t USING hot; INSERT INTO t VALUES ('b', 2); ROLLBACK TO s; RELEASE s", "a1"},
+    {"BEGIN; SAVEPOINT s; DROP TABLE t; SAVEPOINT u; CREATE VIRTUAL TABLE t USING hot; ROLLBACK TO u; ROLLBACK TO s; COMMIT", "a1"},
+    {"BEGIN; SAVEPOINT s; DROP TABLE t; RELEASE s; CREATE VIRTUAL TABLE t USING hot; SAVEPOINT u; INSERT INTO t VALUES ('b', 2);"
+     "RELEASE u; SAVEPOINT v; INSERT INTO t VALUES ('c', 3); ROLLBACK TO v; COMMIT",
+     "b2"},
+    {"DROP TABLE t; BEGIN; CREATE VIRTUAL TABLE t USING hot; INSERT INTO t VALUES ('b', 2); COMMIT;"
+     "BEGIN; INSERT INTO t VALUES ('c', 3); ROLLBACK",
+     "b2"},
+    {"DROP TABLE t; BEGIN; CREATE VIRTUAL TABLE t USING hot(keys=0, longest=8); ROLLBACK;"
+     "CREATE VIRTUAL TABLE t USING hot(keys=2000, longest=40); INSERT INTO t VALUES (hex(zeroblob(20)), 1);"
+     "UPDATE t SET key = 'b', value = 2",
+     "b2"},
+    {"DROP TABLE t; BEGIN; CREATE VIRTUAL TABLE t USING hot(type=blob); ROLLBACK; CREATE VIRTUAL TABLE t USING hot;"
+     "INSERT INTO t VALUES ('b', 2)",
+     "b2"},
+    {"DROP TABLE t; BEGIN; SAVEPOINT s; CREATE VIRTUAL TABLE t USING hot(type=blob); ROLLBACK TO s;"
+     "CREATE VIRTUAL TABLE t USING hot; INSERT INTO t VALUES ('b', 2); COMMIT",
+     "b2"},
+    {"DROP TABLE t; BEGIN; CREATE VIRTUAL TABLE t USING hot; INSERT INTO t VALUES ('b', 2); DROP TABLE t; COMMIT", "none"},
+    {"DROP TABLE t; CREATE VIRTUAL TABLE t USING hot(keys=5); INSERT INTO t VALUES ('b', 2)", "b2"},
+    {"BEGIN; ALTER TABLE t RENAME TO u; ROLLBACK", "a1"},
+};
+
+static void wants_in_t(sqlite3 *db, const struct transaction *it) {
+    char *found = run(db, "SELECT 1 FROM t") != SQLITE_OK ? sqlite3_mprintf("none")
+                                                          : answer(db, "SELECT ifnull(group_concat(key || value, ' '), '') FROM t");
+    if (strcmp(found, it->rows) != 0)
+        fail(it->statements, found);
+    sqlite3_free(found);
+}
+
+static void listed_transactions(const char *arguments) {
+    for (size_t at = 0; at < sizeof transactions / sizeof *transactions; at++) {
+        const struct transaction *it = &transactions[at];
+        sqlite3 *db, *other, *later;
+        new_scratch();
+        db = open_file(scratch);
+        other = open_file(scratch);
+        run(db, "CREATE VIRTUAL TABLE t USING hot(%s)", arguments);
+        want(db, SQLITE_OK, "INSERT INTO t VALUES ('a', 1)");
+        want(other, SQLITE_OK, "SELECT * FROM t");
+        run(db, "%s", it->statements);
+        run(db, "COMMIT");
+        later = open_file(scratch);
+        wants_in_t(db, it);
+        wants_in_t(other, it);
+        wants_in_t(later, it);
+        sqlite3_close(db);
+        wants_in_t(other, it);
+        sqlite3_close(later);
+        sqlite3_close(other);
+    }
+}
+
+/* A DROP TABLE that fails at its end, since another connection reads, has dropped nothing. */
+static void drop_that_fails(void) {
+    sqlite3 *db, *other;
+    sqlite3_stmt *query;
+    new_scratch();
+    db = open_file(scratch);
+    other = open_file(scratch);
+    want(db, SQLITE_OK,
+         "CREATE TABLE x(y); INSERT INTO x VALUES (1), (2); CREATE VIRTUAL TABLE t USING hot; INSERT INTO t VALUES ('a', 1)");
+    if (sqlite3_prepare_v2(other, "SELECT y FROM x", -1, &query, NULL) != SQLITE_OK || sqlite3_step(query) != SQLITE_ROW)
+        fail("a reader", sqlite3_errmsg(other));
+    want(db, SQLITE_BUSY, "DROP TABLE t");
+    if (number(db, "SELECT count(*) FROM t") != 1 || number(other, "SELECT count(*) FROM t") != 1)
+        fail("DROP TABLE", "a table that was not dropped lost its rows");
+    sqlite3_finalize(query);
+    want(db, SQLITE_OK, "DROP TABLE t");
+    want(other, SQLITE_ERROR, "SELECT * FROM t");
+    sqlite3_close(db);
+    sqlite3_close(other);
+}
+
+/* ---- A connection that comes while another one commits ---- */
+
+static sqlite3 *comes; /* it has looked for its table's index before the other's commit is told to the tables */
+
+static int connect_spy(sqlite3 *db, void *unused, int count, const char *const *words, sqlite3_vtab **made, char **error) {
+    (void)unused;
+    (void)count;
+    (void)words;
+    (void)error;
+    *made = calloc(1, sizeof **made);
+    return sqlite3_declare_vtab(db, "CREATE TABLE x(y)");
+}
+
+static int disconnect_spy(sqlite3_vtab *of) {
+    free(of);
+    return SQLITE_OK;
+}
+
+static int plan_spy(sqlite3_vtab *of, sqlite3_index_info *plan) {
+    (void)of;
+    (void)plan;
+    return SQLITE_CONSTRAINT;
+}
+
+static int update_spy(sqlite3_vtab *of, int count, sqlite3_value **values, sqlite3_int64 *row) {
+    (void)of;
+    (void)count;
+    (void)values;
+    *row = 1;
+    return SQLITE_OK;
+}
+
+static int begin_spy(sqlite3_vtab *of) {
+    (void)of;
+    return SQLITE_OK;
+}
+
+static int commit_spy(sqlite3_vtab *of) {
+    (void)of;
+    if (!comes) {
+        comes = open_file(scratch);
+        number(comes, "SELECT count(*) FROM t");
+    }
+    return SQLITE_OK;
+}
+
+static const sqlite3_module spies = {
+    .xCreate = connect_spy,
+    .xConnect = connect_spy,
+    .xBestIndex = plan_spy,
+    .xDisconnect = disconnect_spy,
+    .xDestroy = disconnect_spy,
+    .xUpdate = update_spy,
+    .xBegin = begin_spy,
+    .xCommit = commit_spy,
+    .xRollback = begin_spy,
+};
+
+static void connection_within_a_commit(const char *arguments) {
+    sqlite3 *db;
+    comes = NULL;
+    new_scratch();
+    db = open_file(scratch);
+    sqlite3_create_module(db, "spy", &spies, NULL);
+    want(db, SQLITE_OK, "CREATE VIRTUAL TABLE t USING hot(keys=5)");
+    want(db, SQLITE_OK, "BEGIN; CREATE VIRTUAL TABLE temp.s USING spy; INSERT INTO s VALUES (1); DROP TABLE t");
+    if (run(db, "CREATE VIRTUAL TABLE t USING hot(%s)", arguments) != SQLITE_OK)
+        fail(arguments, sqlite3_errmsg(db));
+    want(db, SQLITE_OK, "INSERT INTO t VALUES ('a', 1); COMMIT");
+    if (!comes || number(comes, "SELECT count(*) FROM t") != 1)
+        fail("a connection within a commit", "it has the index of the table that was dropped");
+    want(comes, SQLITE_OK, "INSERT INTO t VALUES ('b', 2)");
+    if (number(db, "SELECT count(*) FROM t") != 2)
+        fail("a connection within a commit", "its change is lost");
+    sqlite3_close(db);
+    if (number(comes, "SELECT count(*) FROM t") != 2)
+        fail("a connection within a commit", "the index went with the other connection");
+    sqlite3_close(comes);
+}
+
+/* A connection that read the schema before another one committed looks for the index of the table that was dropped. */
+static void connection_with_an_old_schema(void) {
+    sqlite3 *db, *other;
+    new_scratch();
+    db = open_file(scratch);
+    want(db, SQLITE_OK, "CREATE VIRTUAL TABLE t USING hot(keys=5)");
+    other = open_file(scratch);
+    want(other, SQLITE_OK, "SELECT * FROM sqlite_schema");
+    want(db, SQLITE_OK, "BEGIN; DROP TABLE t; CREATE VIRTUAL TABLE t USING hot(keys=6); INSERT INTO t VALUES ('a', 1); COMMIT");
+    if (number(other, "SELECT count(*) FROM t") != 1 || number(db, "SELECT count(*) FROM t") != 1)
+        fail("an old schema", "the new table lost its rows");
+    sqlite3_close(other);
+    sqlite3_close(db);
+}
+
+/* A connection without the library changes a table's definition, as another process may: all that have it agree on a new index. */
+static void definition_from_outside(void) {
+    sqlite3 *one, *other, *outside;
+    new_scratch();
+    one = open_file(scratch);
+    other = open_file(scratch);
+    want(one, SQLITE_OK, "CREATE VIRTUAL TABLE t USING hot(keys=5); INSERT INTO t VALUES ('a', 1)");
+    want(other, SQLITE_OK, "SELECT * FROM t");
+    if (sqlite3_open(scratch, &outside) != SQLITE_OK)
+        fail("open", sqlite3_errmsg(outside));
+    want(outside, SQLITE_OK, "PRAGMA writable_schema = 1; UPDATE sqlite_schema SET sql = replace(sql, '=5', '=6'); CREATE TABLE x(y)");
+    if (number(one, "SELECT count(*) FROM t") != 0 || number(other, "SELECT count(*) FROM t") != 0)
+        fail("a definition from outside", "the table has the rows of the one before");
+    want(other, SQLITE_OK, "INSERT INTO t VALUES ('b', 2)");
+    want(one, SQLITE_OK, "INSERT INTO t VALUES ('c', 3)");
+    if (number(one, "SELECT count(*) FROM t") != 2 || number(other, "SELECT count(*) FROM t") != 2)
+        fail("a definition from outside", "two connections have different rows");
+    sqlite3_close(outside);
+    sqlite3_close(one);
+    sqlite3_close(other);
+}
+
+/* A table that is created or dropped is no row that is changed. */
+static void counts_of_changes(void) {
+    static const char *const counts = "SELECT total_changes() || ' ' || last_insert_rowid()";
+    sqlite3 *db = connect_to("keys=100");
+    char *before, *after;
+    want(db, SQLITE_OK, "CREATE TABLE x(y); INSERT INTO x VALUES (1), (2), (3)");
+    before = answer(db, counts);
+    want(db, SQLITE_OK, "CREATE VIRTUAL TABLE u USING hot(keys=5); DROP TABLE u; BEGIN; DROP TABLE t; ROLLBACK");
+    after = answer(db, counts);
+    if (strcmp(before, after) != 0)
+        fail("changes are counted", after);
+    sqlite3_free(before);
+    sqlite3_free(after);
+    sqlite3_close(db);
+}
+
+/* Names with a line's end: what one file's and another's table are called reads the same. */
+static void names_of_lines(void) {
+    char *longer = sqlite3_mprintf("%s\nx", scratch);
+    sqlite3 *one, *other, *later;
+    new_scratch();
+    remove(longer);
+    one = open_file(scratch);
+    other = open_file(longer);
+    want(one, SQLITE_OK, "CREATE VIRTUAL TABLE 'x\nt' USING hot(keys=5); INSERT INTO 'x\nt' VALUES ('one', 1)");
+    want(other, SQLITE_OK, "CREATE VIRTUAL TABLE t USING hot(keys=5); INSERT INTO t VALUES ('other', 1)");
+    later = open_file(scratch);
+    if (number(later, "SELECT key = 'one' FROM 'x\nt'") != 1)
+        fail("names of lines", "a table has the rows of another file's");
+    sqlite3_close(later);
+    sqlite3_close(other);
+    sqlite3_close(one);
+    remove(longer);
+    sqlite3_free(longer);
+}
+
+/* Tables of one name= in two connections, of which each may drop its own. */
+static void tables_of_a_name(void) {
+    sqlite3 *db = connect_to("name=shared, connections=2"), *other = connect_to("name=shared"), *third;
+    want(db, SQLITE_OK, "BEGIN; INSERT INTO t VALUES ('a', 1); DROP TABLE t; ROLLBACK");
+    if (number(other, "SELECT count(*) FROM t") != 0)
+        fail("a name", "an insertion was not taken back with its table");
+    want(db, SQLITE_OK, "BEGIN; INSERT INTO t VALUES ('a', 1); DROP TABLE t; COMMIT");
+    if (number(other, "SELECT count(*) FROM t") != 1)
+        fail("a name", "an insertion was lost with its table");
+    /* Two tables, of which the schema was read anew. */
+    want(db, SQLITE_OK, "CREATE VIRTUAL TABLE t USING hot(name=shared); CREATE VIRTUAL TABLE u USING hot(name=shared)");
+    want(db, SQLITE_OK,
+         "BEGIN; CREATE TABLE gone(x); ROLLBACK; DROP TABLE u; BEGIN; ALTER TABLE t RENAME TO r; ROLLBACK; ALTER TABLE t RENAME TO "
+         "v");
+    third = open_file(":memory:");
+    want(third, SQLITE_BUSY, "CREATE VIRTUAL TABLE t USING hot(name=shared)");
+    sqlite3_close(other);
+    want(third, SQLITE_OK, "CREATE VIRTUAL TABLE t USING hot(name=shared)");
+    if (number(db, "SELECT value FROM v") != 1 || number(third, "SELECT count(*) FROM t") != 1)
+        fail("a name", "the rows went with one of two tables");
+    /* Once none of its tables is left, the name is free for an index of another size. */
+    want(third, SQLITE_ERROR, "CREATE VIRTUAL TABLE w USING hot(name=shared, keys=7)");
+    want(third, SQLITE_OK, "DROP TABLE t");
+    want(db, SQLITE_OK, "DROP TABLE v");
+    want(third, SQLITE_OK, "CREATE VIRTUAL TABLE w USING hot(name=shared, keys=7)");
+    sqlite3_close(third);
+    sqlite3_close(db);
+}
+
+/* A connection may load the library again, also while a transaction is open, and tables stay what they are. */
+static void loaded_twice(void) {
+    sqlite3 *db = connect_to("name=twice");
+    want(db, SQLITE_OK,
+         "INSERT INTO t VALUES ('a', 1); BEGIN; INSERT INTO t VALUES ('b', 2); CREATE VIRTUAL TABLE u USING hot(name=twice)");
+    if (sqlite3_load_extension(db, library, NULL, NULL) != SQLITE_OK)
+        fail("loaded twice", sqlite3_errmsg(db));
+    want(db, SQLITE_OK, "CREATE VIRTUAL TABLE v USING hot(name=twice); UPDATE v SET value = 5; UPDATE t SET value = 6; ROLLBACK");
+    want(db, SQLITE_OK, "CREATE VIRTUAL TABLE v USING hot(name=twice)");
+    if (number(db, "SELECT sum(value) FROM v") != 1)
+        fail("loaded twice", "a rollback is not as it was");
+    sqlite3_close(db);
+}
+
+/* A name of a table in memory whose database is gone is free, and a table whose connection comes and goes takes no handles. */
+static void names_and_handles(void) {
+    sqlite3 *db = connect_to("connections=1");
+    want(db, SQLITE_OK, "ATTACH ':memory:' AS m; CREATE VIRTUAL TABLE m.x USING hot; INSERT INTO m.x VALUES ('a', 1); DETACH m");
+    want(db, SQLITE_OK, "ATTACH ':memory:' AS m; CREATE VIRTUAL TABLE m.x USING hot(type=blob, keys=5)");
+    if (number(db, "SELECT count(*) FROM m.x") != 0)
+        fail("DETACH", "a table has the rows of one that is gone");
+    want(db, SQLITE_OK, "BEGIN");
+    for (int turn = 0; turn < 20; turn++)
+        want(db, SQLITE_OK,
+             "SAVEPOINT s; CREATE TABLE gone(x); INSERT INTO t VALUES ('a', 1); ROLLBACK TO s; INSERT INTO t VALUES ('b', 2); "
+             "DELETE FROM t");
+    want(db, SQLITE_OK, "COMMIT");
+    sqlite3_close(db);
+}
+
+/* ---- Full ---- */
+
+/* Inserts keys until the index is full: how many went in. */
+static int fill_with_blobs(sqlite3 *db) {
+    int count = 0, code;
+    while ((code = run(db, "INSERT INTO t VALUES (x'%08x%08x', %d)", count / 32, 1u << count % 32, count)) == SQLITE_OK)
+        count++;
+    if (code != SQLITE_FULL)
+        fail("fill with blobs", sqlite3_errmsg(db));
+    return count;
+}
+
+/* A full table can be emptied, and filled again. */
+static void full_tables(void) {
+    static const int keys[] = {0, 1, 100, 1000};
+    for (size_t at = 0; at < sizeof keys / sizeof *keys; at++) {
+        char *arguments = sqlite3_mprintf("type=blob, longest=8, keys=%d", keys[at]);
+        sqlite3 *db = connect_to(arguments);
+        int count = fill_with_blobs(db);
+        want(db, SQLITE_OK, "BEGIN; DELETE FROM t; ROLLBACK");
+        if (number(db, "SELECT count(*) FROM t") != count)
+            fail(arguments, "a rollback did not put all back");
+        want(db, SQLITE_OK, "DELETE FROM t");
+        if (number(db, "SELECT count(*) FROM t") != 0 || fill_with_blobs(db) != count)
+            fail(arguments, "it is not as empty as it was");
+        sqlite3_close(db);
+        sqlite3_free(arguments);
+    }
+}
+
+/* ---- The application's own functions ---- */
+
+/* Is true of all keys but those that begin with the pattern's first letter. */
+static void other_like(sqlite3_context *to, int count, sqlite3_value **values) {
+    const char *pattern = (const char *)sqlite3_value_text(values[0]), *key = (const char *)sqlite3_value_text(values[1]);
+    (void)count;
+    sqlite3_result_int(to, !pattern || !key || *pattern != *key);
+}
+
+static void own_functions(void) {
+    static const char *const queries[] = {"key LIKE 'a%'", "key LIKE 'a%' AND key > 'b'", "key GLOB 'a*'",
+                                          "key LIKE 'b%' ORDER BY key DESC"};
+    sqlite3 *db = connect_to("keys=100");
+    want(db, SQLITE_OK, "INSERT INTO t VALUES ('a', 1), ('A', 2), ('ab', 3), ('b', 4), ('c', 5); INSERT INTO p SELECT * FROM t");
+    for (int is_own = 0; is_own < 2; is_own++) {
+        for (size_t at = 0; at < sizeof queries / sizeof *queries; at++) {
+            char *mine = answer(db, "SELECT ifnull(group_concat(key), '') FROM (SELECT key FROM t WHERE %s)", queries[at]);
+            char *others = answer(db, "SELECT ifnull(group_concat(key), '') FROM (SELECT key FROM p WHERE %s)", queries[at]);
+            if (strcmp(mine, others) != 0)
+                fail(queries[at], mine);
+            sqlite3_free(mine);
+            sqlite3_free(others);
+        }
+        sqlite3_create_function(db, "like", 2, SQLITE_UTF8, NULL, other_like, NULL, NULL);
+        sqlite3_create_function(db, "glob", 2, SQLITE_UTF8, NULL, other_like, NULL, NULL);
+    }
+    sqlite3_close(db);
+}
+
 /* The same index in connections to one file, until the last one is closed. */
 static void one_file(void) {
-    char *name = sqlite3_mprintf("%s.db", library);
+    new_scratch();
     for (int turn = 0; turn < 2; turn++) {
-        sqlite3 *both[2];
-        for (int at = 0; at < 2; at++) {
-            if (sqlite3_open(name, &both[at]) != SQLITE_OK)
-                fail(name, sqlite3_errmsg(both[at]));
-            sqlite3_enable_load_extension(both[at], 1);
-            if (sqlite3_load_extension(both[at], library, NULL, NULL) != SQLITE_OK)
-                fail(name, sqlite3_errmsg(both[at]));
-        }
+        sqlite3 *both[2] = {open_file(scratch), open_file(scratch)};
         if (turn == 0)
-            want(both[0], SQLITE_OK, "DROP TABLE IF EXISTS t; CREATE VIRTUAL TABLE t USING hot(keys=100)");
+            want(both[0], SQLITE_OK, "CREATE VIRTUAL TABLE t USING hot(keys=100)");
         if (number(both[1], "SELECT count(*) FROM t") != 0)
             fail("a file", "the index is older than its connections");
         want(both[0], SQLITE_OK, "INSERT INTO t VALUES ('a', 1)");
@@ -340,24 +853,52 @@ static void one_file(void) {
             fail("a file", "the index went too early");
         sqlite3_close(both[1]);
     }
-    remove(name);
-    sqlite3_free(name);
 }
 
 int main(int count, char **words) {
-    if (count != 2)
-        fail("usage", "test HOT_TABLE.so");
+    if (count < 2)
+        fail("usage", "test HOT_TABLE.so [threads]");
     library = words[1];
     make_memory_scarce();
+    scratch = sqlite3_mprintf("%s.db", library);
+    if (count > 2) {
+        threads_at_once();
+        puts("the test of threads passed");
+        return 0;
+    }
     refused_memory("BEGIN; SAVEPOINT s; INSERT INTO t VALUES ('c', 3), ('d', 4); UPDATE t SET value = 9 WHERE key = 'a';"
                    "DELETE FROM t WHERE key LIKE 'b%'; ROLLBACK TO s; INSERT OR REPLACE INTO t VALUES ('a', 3);"
                    "SELECT * FROM t ORDER BY key DESC; ROLLBACK");
     refused_memory("CREATE VIRTUAL TABLE u USING hot(name=words, keys=100); INSERT INTO u VALUES ('a', 1); DROP TABLE u");
+    refused_memory("BEGIN; INSERT INTO t VALUES ('c', 3); SAVEPOINT s; DROP TABLE t; CREATE VIRTUAL TABLE t USING hot(keys=5);"
+                   "INSERT INTO t VALUES ('d', 4); ROLLBACK TO s; SELECT * FROM t; DROP TABLE t; ROLLBACK");
+    refused_statement("SELECT 1");
+    refused_statement("INSERT INTO u VALUES ('', 0), ('aa', 0); DELETE FROM u");
+    refused_statement("CREATE VIRTUAL TABLE v USING hot(keys=5)");
     random_statements();
     rollback_without_room("ROLLBACK");
     rollback_without_room("ROLLBACK TO s; ROLLBACK");
     one_file();
+    listed_transactions("keys=100");
+    listed_transactions("keys=100, connections=3");
+    random_tables();
+    drop_that_fails();
+    connection_within_a_commit("keys=5");
+    connection_within_a_commit("keys=6");
+    connection_with_an_old_schema();
+    definition_from_outside();
+    counts_of_changes();
+    names_of_lines();
+    tables_of_a_name();
+    loaded_twice();
+    names_and_handles();
+    own_functions();
+    full_tables();
     threads_at_once();
+    remove(scratch);
+    sqlite3_free((void *)scratch);
+    if (sqlite3_memory_used() != 0)
+        fail("memory", "some was not given back");
     puts("the test of tables passed");
     return 0;
 }

@@ -1,6 +1,7 @@
 """A SortedMap of any values, for tests that were written for dicts of any values."""
 
 from hot import Codec, SortedMap
+from hot._hot import ITEMS, KEYS
 
 
 def encode(key):
@@ -20,56 +21,53 @@ def decode(key):
     )
 
 
-class Table:
-    """The index of a map whose values are places in a list."""
-
-    def __init__(self, index, values):
-        self.index, self.values = index, values
-
-    def __len__(self):
-        return len(self.index)
-
-    def __getattr__(self, name):
-        return getattr(self.index, name)
-
-    def change(self, *words):
-        status, had = self.index.change(*words)
-        return status, self.values[had] if had < len(self.values) else None
-
-    def pairs(self, *words):
-        return ((key, self.values[at]) for key, at in self.index.pairs(*words))
-
-
 class Objects(SortedMap):
-    """A map of any values, with dict's signatures where SortedDict has others."""
+    """A map whose values are places in a list, with dict's signatures where SortedDict
+    has others."""
 
     def __init__(self, data=(), /, **more):
+        self.held, self.places = [], {}
         super().__init__(keys=Codec(encode, decode), threads=2)
-        self.values_held, self.places = [], {}
-        self._index = Table(self._index, self.values_held)
         self._options = {}
         self.update(data)
         self.update(more)
 
-    def _number(self, value):
+    def place(self, value):
         # A value is kept, so that no other one gets its id.
         if id(value) not in self.places:
-            self.places[id(value)] = len(self.values_held)
-            self.values_held.append(value)
+            self.places[id(value)] = len(self.held)
+            self.held.append(value)
         return self.places[id(value)]
 
     def __getitem__(self, key):
-        return self.values_held[super().__getitem__(key)]
+        return self.held[super().__getitem__(key)]
+
+    def __setitem__(self, key, value):
+        super().__setitem__(key, self.place(value))
 
     def get(self, key, default=None):
         at = super().get(key)
-        return default if at is None else self.values_held[at]
+        return default if at is None else self.held[at]
 
-    def __contains__(self, key):
-        return self._find(key) is not None
+    def setdefault(self, key, default=None):
+        return self.held[super().setdefault(key, self.place(default))]
+
+    def pop(self, key, *default):
+        return self.held[super().pop(key, *map(self.place, default))]
+
+    def remove_if(self, key, expected):
+        return super().remove_if(key, self.place(expected))
 
     def popitem(self):
         return SortedMap.popitem(self)
+
+    def _list(self, what, *words):
+        found = super()._list(what, *words)
+        if what == KEYS:
+            return found
+        if what == ITEMS:
+            return ((key, self.held[at]) for key, at in found)
+        return map(self.held.__getitem__, found)
 
     def __repr__(self):
         return f"{type(self).__name__}({dict(self)!r})"

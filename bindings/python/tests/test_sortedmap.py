@@ -10,6 +10,8 @@ from pathlib import Path
 
 from hot import Codec, FullError, SortedMap
 
+from apart import run_apart
+
 LETTERS = {bytes: [0, 1, 97, 254, 255], str: ["a", "b", "é", "\U0001f600", "\0"]}
 
 
@@ -121,6 +123,22 @@ class Random(unittest.TestCase):
         self.assertEqual(list(reversed(mine.items())), sorted(other.items())[::-1])
         keys = draw.sample(sorted(other), 3000) + [b"absent", b"x" * 241]
         self.assertEqual(mine.get_many(keys), [other.get(key) for key in keys])
+
+    def test_grows_by_nodes(self):
+        """With keys of which few share a node: a number, and one bit."""
+        keys = run_apart("""
+            import random
+            from hot import SortedMap
+
+            draw, mine, other = random.Random(4), SortedMap(keys=int), set()
+            for _ in range(40000):
+                key = draw.randrange(5000) << 32 | 1 << draw.randrange(32)
+                mine[key] = 1
+                other.add(key)
+            assert list(mine) == sorted(other)
+            print(len(mine))
+        """)
+        self.assertGreater(int(keys), 30000)
 
     def test_iterator_while_it_grows(self):
         mine = SortedMap({"b": 1, "c": 2})

@@ -1,6 +1,8 @@
 """Threads that use a map at the same time, while it grows."""
 
+import sys
 import threading
+import time
 import unittest
 
 from hot import SortedMap
@@ -68,6 +70,38 @@ class Threads(unittest.TestCase):
         together(2, work)
         done.clear()
         together(4, lambda number: work((0, 1, 3, 5)[number]))
+
+    def test_others_run(self):
+        """Long calls let other threads run: here no thread would end its turn else."""
+        mine = SortedMap(((number, number) for number in range(60000)), keys=int)
+        calls = [
+            lambda: mine.get_many(range(60000)),
+            lambda: mine.update((number, 1) for number in range(60000, 140000)),
+            SortedMap(keys=int, capacity=500000).clear,
+        ]
+        turns, is_done = 0, False
+
+        def work(number):
+            nonlocal turns, is_done
+            if number:
+                while not is_done:
+                    turns += 1
+                    time.sleep(0.0001)
+                return
+            try:
+                for call in calls:
+                    before = turns
+                    call()
+                    self.assertGreater(turns, before)
+            finally:
+                is_done = True
+
+        was = sys.getswitchinterval()
+        sys.setswitchinterval(60)
+        try:
+            together(2, work)
+        finally:
+            sys.setswitchinterval(was)
 
     def test_one_winner(self):
         """Of threads that take the last pair at the same time one gets it."""

@@ -101,6 +101,7 @@ extern "C" {
     fn hot_open(index: *mut RawIndex, handle: *mut RawHandle) -> Status;
     fn hot_close(handle: *mut RawHandle) -> Status;
     fn hot_stock_for_keys(keys: u32, longest: usize, stock: *mut Stock);
+    fn hot_stock_for_any_keys(keys: u32, longest: usize, handles: usize, stock: *mut Stock);
     fn hot_stock_bytes(stock: *const Stock, handles: usize, bytes: *mut usize) -> Status;
     fn hot_get(handle: *mut RawHandle, key: *const u8, length: usize, value: *mut u64) -> Status;
     fn hot_get_many(handle: *mut RawHandle, lookups: *mut RawLookup, count: usize) -> Status;
@@ -164,6 +165,13 @@ pub(crate) fn stock_for_keys(keys: u32, longest: usize) -> Stock {
     let mut stock = Stock::default();
     // SAFETY: it writes a stock.
     unsafe { hot_stock_for_keys(keys, longest, &mut stock) };
+    stock
+}
+
+pub(crate) fn stock_for_any_keys(keys: u32, longest: usize, handles: usize) -> Stock {
+    let mut stock = Stock::default();
+    // SAFETY: it writes a stock.
+    unsafe { hot_stock_for_any_keys(keys, longest, handles, &mut stock) };
     stock
 }
 

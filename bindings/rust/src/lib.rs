@@ -22,9 +22,11 @@
 #![deny(clippy::unwrap_used, clippy::expect_used, clippy::panic, clippy::indexing_slicing)]
 mod error;
 mod ffi;
+mod key;
 mod range;
 
 pub use error::{CompareExchangeError, Error, TryInsertError};
+pub use key::{key_of, values_of, FromKey, ToKey};
 pub use range::{KeyRange, Range};
 
 use ffi::{Index, Lease, Seen};
@@ -68,7 +70,15 @@ impl Stock {
         Ok(ffi::stock_for_keys(keys, longest))
     }
 
-    /// How many bytes an index with this stock and so many handles takes. It takes twice that while it is made.
+    /// A stock that is always enough for so many keys of at most `longest` bytes, whatever they are, in an index of so many handles:
+    /// `hot_stock_for_any_keys`.
+    pub fn for_any_keys(keys: usize, longest: usize, handles: usize) -> Result<Stock, Error> {
+        let keys = u32::try_from(keys).map_err(|_| Error::OutOfRange)?;
+        Ok(ffi::stock_for_any_keys(keys, longest, handles))
+    }
+
+    /// How many bytes an index with this stock and so many handles has. A page of it takes memory
+    /// once something is written there.
     pub fn bytes(&self, handles: usize) -> Result<usize, Error> {
         let (status, bytes) = ffi::stock_bytes(self, handles);
         Error::check(status).map(|_| bytes)
@@ -116,8 +126,8 @@ pub struct Hot {
 }
 
 impl Hot {
-    /// Makes an empty index with room for so many keys of at most `longest` bytes, and for 1 to 1,024 handles at a time. A handle takes
-    /// 118 KB from when it is first opened; those of the last one are taken at once.
+    /// Makes an empty index with room for so many keys of at most `longest` bytes, and for 1 to 1,024 handles at a time. What
+    /// isn't used takes no memory.
     pub fn with_capacity(keys: usize, longest: usize, handles: usize) -> Result<Hot, Error> {
         Hot::with_stock(&Stock::for_keys(keys, longest)?, handles)
     }

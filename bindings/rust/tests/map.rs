@@ -1,11 +1,13 @@
-//! The index beside a `BTreeMap`: random calls, random ranges from both ends, and the edges of keys.
+//! The index beside a `BTreeMap`: random calls, also by threads at once, random ranges from both ends, and the edges of keys.
 use hot::{CompareExchangeError, Error, Handle, Hot, KeyRange, Stock, TryInsertError, MAX_KEY};
 use std::collections::BTreeMap;
 use std::ops::Bound;
+use std::thread;
 
 type Model = BTreeMap<Vec<u8>, u64>;
 
-struct Random(u64);
+/// Random numbers, and what all keys begin with.
+struct Random(u64, &'static [u8]);
 
 impl Random {
     fn below(&mut self, limit: u64) -> u64 {
@@ -17,15 +19,16 @@ impl Random {
 
     /// Few letters and all lengths, so that there are prefixes, equal keys and long ones.
     fn key(&mut self) -> Vec<u8> {
+        let room = MAX_KEY as u64 - self.1.len() as u64;
         let length = match self.below(20) {
-            0 => MAX_KEY as u64,
-            1 => MAX_KEY as u64 - 1,
+            0 => room,
+            1 => room - 1,
             2 => self.below(60),
             _ => self.below(5),
         };
-        (0..length)
-            .map(|_| [0, 1, b'a', 0xfe, 0xff][self.below(5) as usize])
-            .collect()
+        let mut key = self.1.to_vec();
+        key.extend((0..length).map(|_| [0, 1, b'a', 0xfe, 0xff][self.below(5) as usize]));
+        key
     }
 
     fn bound(&mut self) -> Bound<Vec<u8>> {
@@ -149,7 +152,7 @@ fn check_look_ups(handle: &Handle, model: &Model, random: &mut Random) {
 #[test]
 fn random_calls_return_what_a_btree_map_does() {
     for seed in 1..=10 {
-        let mut random = Random(0x9e37_79b9_7f4a_7c15_u64.wrapping_mul(seed));
+        let mut random = Random(0x9e37_79b9_7f4a_7c15_u64.wrapping_mul(seed), &[]);
         let handle = Hot::with_capacity(2000, MAX_KEY, 1).unwrap().handle().unwrap();
         let mut model = Model::new();
         for round in 0..2000 {
@@ -169,6 +172,28 @@ fn random_calls_return_what_a_btree_map_does() {
         );
         assert!(handle.into_iter().eq(model));
     }
+}
+
+/// Each thread has keys of its own, beside which those of the others come and go.
+#[test]
+fn random_calls_of_threads_at_once() {
+    let hot = Hot::with_capacity(8000, MAX_KEY, 4).unwrap();
+    thread::scope(|scope| {
+        for begin in [b"b", b"c", b"d", b"e"] {
+            let handle = hot.handle().unwrap();
+            scope.spawn(move || {
+                let mut random = Random(u64::from(begin[0]), begin);
+                let mut model = Model::new();
+                for round in 0..2000 {
+                    change(&handle, &mut model, &mut random);
+                    if round % 16 == 0 {
+                        assert!(handle.prefix(begin).eq(model.clone()));
+                        assert!(handle.prefix(begin).rev().eq(model.clone().into_iter().rev()));
+                    }
+                }
+            });
+        }
+    });
 }
 
 #[test]
@@ -229,7 +254,9 @@ fn numbers_out_of_range() {
     assert_eq!(Hot::with_capacity(usize::MAX, 8, 1).err(), Some(Error::OutOfRange));
     assert_eq!(Hot::with_stock(&Stock::default(), 1).err(), Some(Error::OutOfRange));
     assert_eq!(Stock::default().bytes(1), Err(Error::OutOfRange));
+    assert_eq!(Stock::for_any_keys(usize::MAX, 8, 1), Err(Error::OutOfRange));
     assert!(Stock::for_keys(1000, 8).unwrap().bytes(1).unwrap() > 1000 * 32);
+    assert!(Stock::for_any_keys(1000, 8, 1).unwrap().bytes(1).unwrap() > 1000 * (32 + 464));
 }
 
 #[test]

@@ -12,7 +12,7 @@ ghost use Rattle.epochs.specs.Rounds.{AdvancesEpoch, BeginsRound, FindsBound, Ha
 ghost use Rattle.epochs.specs.declared.collection.Visited.TheVariants.{Waits};
 
 use crate::limbo::{Limbo, MOST_VISITED};
-use record_words::{EPOCHS, Layout, Tag, unpack_state};
+use record_words::{EPOCHS, Layout, Tag, read_obsolete_epoch, unpack_state};
 use rowex_core::{Gate, Rec};
 use rowex_table::{HotTable, RecordAt, TableSeat};
 use std::ops::Range;
@@ -355,9 +355,8 @@ fn epoch_below(word: u64, bound: u64) -> Option<u64>
     ensures { MatchOption result ((epoch : ℕ) → 1 ≤ epoch → epoch < EPOCHS → epoch < bound → word ≢ state_word (Obsolete epoch))
         (λ epoch. (1 ≤ epoch) × (epoch < EPOCHS) × (epoch < bound) × (word ≡ state_word (Obsolete epoch))) }
 {
-    let epoch = word / 8;
-    if word % 8 == 4 && epoch != 0 && epoch < bound.min(EPOCHS) {
-        return Some(epoch);
+    match read_obsolete_epoch(word) {
+        Some(epoch) if epoch < bound => Some(epoch),
+        _ => None,
     }
-    None
 }

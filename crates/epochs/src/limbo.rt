@@ -105,11 +105,16 @@ impl Limbo {
         true
     }
 
-    /// Takes the oldest `count` records out of the list; all, if there are fewer.
+    /// Takes the oldest `count` records out of the list; all, if there are fewer. An empty list begins again at its first place: so short
+    /// ones stay in little memory.
     pub(crate) fn drop_oldest_records(&mut self, count: usize)
         ensures { (self.new.count ≡ self.old.count - count) × (self.new.retired ≡ self.old.retired) }
     {
-        self.first = self.first.wrapping_add(count) % MOST_WAITING;
         self.count = self.count.saturating_sub(count);
+        if self.count == 0 {
+            self.first = 0;
+        } else {
+            self.first = self.first.wrapping_add(count) % MOST_WAITING;
+        }
     }
 }

@@ -85,3 +85,9 @@ pub alike : {A B C : Type 0} (f : A → C) (g : B → C) (n : ℕ) (xs : List A)
     → take n (map f xs) ≡ take n (map g ys) → take (n + 1) (map f (slice_set xs n x)) ≡ take (n + 1) (map g ys)
 alike f g n xs ys x y rest low at e before =
     let more : suc n ≡ n + 1 = omega arith in subst (λ m. take m (map f (slice_set xs n x)) ≡ take m (map g ys)) more (same_images f g n xs ys x y rest low at e before)
+
+-- where one item is exchanged for another with the same image, the images stay
+pub same_image : {A B : Type 0} (f : A → B) (n : ℕ) (xs : List A) (x d : A) → n < length xs → f x ≡ f (get_or xs n d) → map f (slice_set xs n x) ≡ map f xs
+same_image f n [] x d low e = absurd (omega (arith, low))
+same_image f zero (z ∷ xs) x d low e = ap (λ y. y ∷ map f xs) e
+same_image f (suc n) (z ∷ xs) x d low e = ap (λ ys. f z ∷ ys) (same_image f n xs x d (omega (arith, low)) e)

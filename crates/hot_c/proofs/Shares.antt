@@ -5,8 +5,7 @@ use Rattle.std.specs.List.{slice_get}
 use Rattle.std.proofs.lemmas.List.{length-map}
 use Rattle.record_words.specs.declared.layout.Layout.{Layout}
 use Rattle.rowex_table.specs.Seats.{TableView}
-use Rattle.seat_calls.specs.Passes.{IsNewPass}
-use Rattle.hot_c.specs.Calls.{AreNew, HaveOpenedOn}
+use Rattle.hot_c.specs.Calls.{AreNew, HaveOpenedOn, IsNewShare}
 use Rattle.hot_c.specs.declared.handle.Handle.{Handle}
 use Rattle.hot_c.specs.declared.opened.Opened.{Opened}
 use Rattle.hot_c.proofs.Places.{mapped}
@@ -14,9 +13,9 @@ use Rattle.hot_c.proofs.Places.{mapped}
 abbrev pub Shared : Type 0
 Shared = Box Opened Global
 
--- each has its share of the index, and the pass of its place
+-- each has its share of the index, and the pass of its place, and keeps no other
 abbrev pub AreShares : TableView → List Shared → Type 0
-AreShares index shared = (q : ℕ) (b : Shared) → slice_get shared q ≡ Some b → (b.value.handle.index ≡ index) × IsNewPass q b.value.handle.pass
+AreShares index shared = (q : ℕ) (b : Shared) → slice_get shared q ≡ Some b → IsNewShare index q b.value
 
 pub are_new : {E D : Type 0} (Q : E → D → Type 0) (index : TableView) (passes count : ℕ) (HasRecords : Layout → Type 0) (r : Result (Vec Shared Global) E) (s : Result (Vec Shared Global) D)
     → MatchResult r (λ x. s ≡ Ok x) (λ e. IsErrAnd s (Q e)) → (index.layout.passes ≡ passes) × HasRecords index.layout → count ≡ passes
@@ -26,7 +25,7 @@ are_new Q index passes count HasRecords (Ok x) s same layout all long each = sub
   layout = layout;
   count = length-map x.items (λ (b : Shared). b.value) ∙ long ∙ all;
   each = λ q o got. let found = mapped (λ (b : Shared). b.value) x.items q o got in
-      subst (λ (p : Opened). (p.handle.index ≡ index) × IsNewPass q p.handle.pass) found.2 (each q found.0 found.1);
+      subst (IsNewShare index q) found.2 (each q found.0 found.1);
 })
 are_new Q index passes count HasRecords (Err e) (Err d) same layout all long each = tt
 are_new Q index passes count HasRecords (Err e) (Ok x) same layout all long each = absurd same

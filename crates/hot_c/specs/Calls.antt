@@ -9,20 +9,21 @@ use Rattle.record_words.specs.Layout.{HasStock, leaves_of}
 use Rattle.record_words.specs.declared.layout.Layout.{Layout}
 use Rattle.record_words.specs.declared.layout.Stock.{Stock}
 use Rattle.rowex_table.specs.Seats.{TableView}
-use Rattle.rowex_writing.specs.declared.attempts.TryFault.{TryFault}
-use Rattle.rowex_writing.specs.declared.attempts.TryFault.TheVariants.{Busy, FullNodes, FullLeaves}
 use Rattle.seat_calls.specs.Answers.{IsNoted, IsRefused, IsUnnoted}
-use Rattle.seat_calls.specs.Calls.{MakesSteps}
+use Rattle.seat_calls.specs.Calls.{GetsOr, IsTriedAndCounted}
 use Rattle.seat_calls.specs.Census.{HasCounted}
 use Rattle.hot_index.specs.Handles.{HandleView, Stays}
 use Rattle.seat_calls.specs.Passes.{PassView, IsNewPass}
-use Rattle.seat_calls.specs.Traces.{HasCollected, untold}
+use Rattle.seat_calls.specs.Traces.{HasCollected, HasGot, untold}
 use Rattle.seat_calls.specs.declared.census.RecordCounts.{RecordCounts}
-use Rattle.hot_c.specs.Refusals.{TellsOfLeaves, TellsOfNodes}
+use Rattle.seat_calls.specs.Refusals.{fault_in}
+use Rattle.seat_calls.specs.declared.refusals.Refusal.{Refusal}
+use Rattle.hot_index.specs.Kept.{kept_stock, with_one_kept}
+use Rattle.hot_c.specs.Refusals.{TellsRefusal}
 use Rattle.hot_c.specs.Statuses.{reply_status, value_after}
 use Rattle.hot_c.specs.declared.handle.Handle.{Handle}
 use Rattle.hot_c.specs.declared.opened.Opened.{Opened}
-use Rattle.hot_c.specs.declared.status.TheConstants.{BUSY, CLOSED, DONE, KEY_TOO_LONG, NO_HANDLE, NO_MEMORY}
+use Rattle.hot_c.specs.declared.status.TheConstants.{CLOSED, DONE, KEY_TOO_LONG, NO_HANDLE, NO_MEMORY}
 
 -- the key is short enough
 abbrev pub FitsInKey : List ℕ → Type 0
@@ -37,9 +38,12 @@ pub record StaysOpen (Became : TableView → PassView → PassView → Type 0) (
   pub stays : Stays Became before.handle after.handle
   pub keeps : after.kept.items ≡ before.kept.items
 
--- A call had this outcome, by its steps: it was noted with the reply, or refused for the cause.
-abbrev pub HasOutcome : Call → Result Reply TryFault → TableView → PassView → PassView → Type 0
-HasOutcome call outcome index k j = MatchResult outcome (IsNoted index.layout k j call) (IsRefused index.layout call k j) × MakesSteps call outcome index k j
+-- A call had this outcome, by its steps: it was noted with the reply, or refused for the cause. After a change that found no record free all
+-- records were counted, and the refusal says what the count says.
+abbrev pub HasOutcome : Call → Result Reply Refusal → TableView → PassView → PassView → Type 0
+HasOutcome call outcome index k j =
+    MatchResult outcome (IsNoted index.layout k j call) (λ refusal. IsRefused index.layout call k j (fault_in refusal)) ×
+    GetsOr call (HasGot index untold (k, tt) (j, tt)) (IsTriedAndCounted call outcome index untold (k, tt) (j, tt))
 
 -- the call with this key in place of its own
 abbrev pub for_key : List ℕ → Call → Call
@@ -55,20 +59,9 @@ for_key key (RemoveIf own expected) = RemoveIf key expected
 abbrev pub HasSeenRecords : RecordCounts → TableView → PassView → PassView → Type 0
 HasSeenRecords counts index k j = IsUnnoted index.layout k j × HasCounted index untold (k, tt) (j, tt) counts
 
--- A call was refused, and after it all records were counted, of which this is told.
-pub record IsCounted (call : Call) (fault : TryFault) (Tells : RecordCounts → Type 0) (index : TableView) (k j : PassView) : Type 0 where
-  pub between : PassView
-  pub refused : HasOutcome call (Err fault) index k between
-  pub counts : RecordCounts
-  pub seen : HasSeenRecords counts index between j
-  pub tells : Tells counts
-
--- A call for a key of this length was made, and the status tells its outcome: after one that found no record free, by a count of them.
-abbrev pub TellsOutcome : ℕ → Call → ℕ → Result Reply TryFault → TableView → PassView → PassView → Type 0
-TellsOutcome size call status (Ok reply) index k j = HasOutcome call (Ok reply) index k j × (status ≡ reply_status reply)
-TellsOutcome size call status (Err Busy) index k j = HasOutcome call (Err Busy) index k j × (status ≡ BUSY)
-TellsOutcome size call status (Err FullNodes) index k j = IsCounted call FullNodes (λ counts. TellsOfNodes counts status) index k j
-TellsOutcome size call status (Err FullLeaves) index k j = IsCounted call FullLeaves (λ counts. TellsOfLeaves size counts status) index k j
+-- A call for a key of this length was made, and the status tells its outcome.
+abbrev pub TellsOutcome : ℕ → Call → ℕ → Result Reply Refusal → TableView → PassView → PassView → Type 0
+TellsOutcome size call status outcome index k j = HasOutcome call outcome index k j × MatchResult outcome (λ reply. status ≡ reply_status reply) (λ refusal. TellsRefusal size refusal status)
 
 -- A call for a key through a handle, which finds `before` where C wants a value and leaves `after`. A closed handle and a key that
 -- is too long are told as such, and nothing has changed; else the call is made, and its outcome told.
@@ -76,7 +69,7 @@ pub record Answers (key : List ℕ) (call : Call) (old new : Option Opened) (bef
   pub closed : old ≡ None → (status ≡ CLOSED) × (new ≡ old) × (after ≡ before)
   pub long : IsSome old → ¬ FitsInKey key → (status ≡ KEY_TOO_LONG) × (new ≡ old) × (after ≡ before)
   pub made : IsSome old → FitsInKey key →
-      (outcome : Result Reply TryFault) × StaysOpen (TellsOutcome (length key) call status outcome) old new × (after ≡ value_after before outcome)
+      (outcome : Result Reply Refusal) × StaysOpen (TellsOutcome (length key) call status outcome) old new × (after ≡ value_after before outcome)
 
 -- a round of collection, which gave back so many nodes and leaves
 abbrev pub HasGivenBack : ℕ → ℕ → TableView → PassView → PassView → Type 0
@@ -86,6 +79,10 @@ HasGivenBack nodes leaves index k j = IsUnnoted index.layout k j × HasCollected
 abbrev pub AreClosed : List Handle → Type 0
 AreClosed handles = All (λ h. h.slot.opened ≡ None) handles
 
+-- C's pointers of these handles
+abbrev pub places_of : List Handle → List ℕ
+places_of = map (λ h. h.place)
+
 -- an index can have so many passes, nodes and leaves
 abbrev pub IsSize : ℕ → ℕ → ℕ → Type 0
 IsSize passes nodes leaves = IsPassCount passes × IsNodeCount nodes × IsLeafCount leaves
@@ -94,28 +91,32 @@ IsSize passes nodes leaves = IsPassCount passes × IsNodeCount nodes × IsLeafCo
 abbrev pub IsStockSize : ℕ → Stock → Type 0
 IsStockSize passes stock = IsStockPassCount passes × IsRecordCount stock.nodes × IsRecordCount (leaves_of stock)
 
+-- the new pass of this number, with a share of the index; it keeps no closed handles
+abbrev pub IsNewShare : TableView → ℕ → Opened → Type 0
+IsNewShare index q o = (o.handle.index ≡ index) × IsNewPass q o.handle.pass × (o.kept.items ≡ [])
+
 -- New passes of one index, which has so many passes and such records, each at the place of its number, and with a share of the index.
 pub record AreNew (passes : ℕ) (HasRecords : Layout → Type 0) (opened : List Opened) : Type 0 where
   pub index : TableView
   pub layout : (index.layout.passes ≡ passes) × HasRecords index.layout
   pub count : length opened ≡ passes
-  pub each : (q : ℕ) (o : Opened) → slice_get opened q ≡ Some o → (o.handle.index ≡ index) × IsNewPass q o.handle.pass
+  pub each : (q : ℕ) (o : Opened) → slice_get opened q ≡ Some o → IsNewShare index q o
 
 -- the handles are open, on one new index with such records, each with the pass of its place
 abbrev pub HaveOpenedOn : (Layout → Type 0) → List Handle → Type 0
 HaveOpenedOn HasRecords handles = (opened : List Opened) × (map (λ h. h.slot.opened) handles ≡ map Some opened) × AreNew (length handles) HasRecords opened
 
--- so many nodes and leaves, which are all long
+-- so many nodes, and the one that is kept, and so many leaves, which are all long
 abbrev pub HasCounts : ℕ → ℕ → Layout → Type 0
-HasCounts nodes leaves layout = (layout.nodes ≡ nodes) × (layout.leaves ≡ leaves) × (layout.long_from ≡ 0)
+HasCounts nodes leaves layout = (layout.nodes ≡ with_one_kept nodes) × (layout.leaves ≡ leaves) × (layout.long_from ≡ 0)
 
 -- the handles are open on one new index with this number of nodes and of leaves, which are all long
 abbrev pub HaveOpened : ℕ → ℕ → List Handle → Type 0
 HaveOpened nodes leaves = HaveOpenedOn (HasCounts nodes leaves)
 
--- the handles are open on one new index with this stock
+-- the handles are open on one new index with this stock, and the node record that is kept
 abbrev pub HaveOpenedStock : Stock → List Handle → Type 0
-HaveOpenedStock stock = HaveOpenedOn (λ layout. HasStock layout stock)
+HaveOpenedStock stock = HaveOpenedOn (λ layout. HasStock layout (kept_stock stock))
 
 -- The first handle of a new index, with the last of so many passes. It keeps the others, the one with the least number as the next to
 -- be opened.
@@ -127,7 +128,7 @@ pub record IsKeeper (passes : ℕ) (HasRecords : Layout → Type 0) (opened : Op
 
 -- a handle was opened that keeps the others of a new index with this stock
 abbrev pub HasOpenedKeeper : ℕ → Stock → Option Opened → Type 0
-HasOpenedKeeper passes stock new = (opened : Opened) × (new ≡ Some opened) × IsKeeper passes (λ layout. HasStock layout stock) opened
+HasOpenedKeeper passes stock new = (opened : Opened) × (new ≡ Some opened) × IsKeeper passes (λ layout. HasStock layout (kept_stock stock)) opened
 
 -- it keeps the same closed handles as before
 abbrev pub KeepsAll : Opened → Opened → Type 0

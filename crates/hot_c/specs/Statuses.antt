@@ -2,7 +2,6 @@
 use Rattle.std.specs.Prelude.{ℕ, Result, Ok}
 use Rattle.finite_map.specs.declared.Reply.{Reply}
 use Rattle.finite_map.specs.declared.Reply.TheVariants.{Inserted, Exists, New, Was, Exchanged, Differs, Value, Absent, Removed}
-use Rattle.rowex_writing.specs.declared.attempts.TryFault.{TryFault}
 use Rattle.hot_c.specs.declared.status.TheConstants.{FOUND, ABSENT, INSERTED, EXISTS, NEW, WAS, EXCHANGED, DIFFERS, REMOVED}
 
 abbrev pub reply_status : Reply → ℕ
@@ -17,7 +16,7 @@ reply_status (Differs value) = DIFFERS
 reply_status (Removed value) = REMOVED
 
 -- C's value after the call: that of the outcome, if it has one, and else the one before it
-abbrev pub value_after : ℕ → Result Reply TryFault → ℕ
+abbrev pub value_after : {E : Type 0} → ℕ → Result Reply E → ℕ
 value_after before (Ok (Value value)) = value
 value_after before (Ok (Exists value)) = value
 value_after before (Ok (Was value)) = value

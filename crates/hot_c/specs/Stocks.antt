@@ -4,15 +4,16 @@ use Rattle.record_words.specs.Layout.{HasStock, word_count}
 use Rattle.record_words.specs.declared.TheConstants.{WORD_BYTES}
 use Rattle.record_words.specs.declared.layout.Layout.{Layout}
 use Rattle.record_words.specs.declared.layout.Stock.{Stock}
+use Rattle.hot_index.specs.Kept.{kept_stock}
 use Rattle.hot_c.specs.declared.stock.HotStock.{HotStock}
 
 -- the stock with the numbers of C's
 abbrev pub stock_in : HotStock → Stock
 stock_in it = record { nodes = it.nodes; short = it.short; medium = it.medium; large = it.large; wide = it.wide; long = it.long }
 
--- the table of so many passes and this stock takes so many bytes
+-- the table of so many passes and this stock takes so many bytes, with the node record that is kept
 pub record TakesBytes (passes : ℕ) (stock : Stock) (bytes : ℕ) : Type 0 where
   pub layout : Layout
   pub passes_are : layout.passes ≡ passes
-  pub stock_is : HasStock layout stock
+  pub stock_is : HasStock layout (kept_stock stock)
   pub bytes_are : bytes ≡ WORD_BYTES * word_count layout

@@ -1,5 +1,6 @@
 //! The calls for the ends of a range, for programs in C: its first pair and its last pair.
 
+ghost use Rattle.std.specs.Prelude.{◌≡◌};
 ghost use Rattle.hot_c.specs.Ends.{FindsFirst, FindsIn, FindsLast};
 
 use crate::handle::Handle;
@@ -12,6 +13,7 @@ use key_bits::MAX_BYTES;
 #[unsafe(no_mangle)]
 pub extern "C" fn hot_first(handle: &mut Handle, from: &[u8], pair: &mut Pair) -> u32
     ensures call { FindsFirst from.now handle.old.slot.opened handle.new.slot.opened pair.old pair.new result }
+    ensures place { handle.new.place ≡ handle.old.place }
 {
     let query = Query {
         order: Order::Upwards,
@@ -26,6 +28,7 @@ pub extern "C" fn hot_first(handle: &mut Handle, from: &[u8], pair: &mut Pair) -
 #[unsafe(no_mangle)]
 pub extern "C" fn hot_last(handle: &mut Handle, upto: &[u8], pair: &mut Pair) -> u32
     ensures call { FindsLast upto.now handle.old.slot.opened handle.new.slot.opened pair.old pair.new result }
+    ensures place { handle.new.place ≡ handle.old.place }
 {
     let query = Query {
         order: Order::Downwards,
@@ -38,7 +41,8 @@ pub extern "C" fn hot_last(handle: &mut Handle, upto: &[u8], pair: &mut Pair) ->
 /// Writes to `pair` the one that a scan of `query` for one pair finds: `FOUND`. `ABSENT` if it finds none. It fails with `CLOSED`,
 /// `KEY_TOO_LONG` or `NO_MEMORY`, as `fill_list` does. Only `FOUND` writes.
 fn find_pair(handle: &mut Handle, query: &Query, pair: &mut Pair) -> u32
-    ensures { FindsIn query.now.order query.now.from.now query.now.upto.now handle.old.slot.opened handle.new.slot.opened pair.old pair.new result }
+    ensures call { FindsIn query.now.order query.now.from.now query.now.upto.now handle.old.slot.opened handle.new.slot.opened pair.old pair.new result }
+    ensures place { handle.new.place ≡ handle.old.place }
 {
     match fill_list(handle, query, 1) {
         Ok(_) => {

@@ -1,14 +1,15 @@
 //! The calls for programs in C. `c/hot.h` says how to use them.
 
-ghost use Rattle.std.specs.Prelude.{◌≡◌, ◌≢◌, ◌⊎◌, ◌↔◌, ℕ, List, IsOk, IsSome, None, Some, length};
+ghost use Rattle.std.specs.Prelude.{◌≡◌, ◌≢◌, ◌⊎◌, ◌↔◌, ℕ, List, IsOk, IsSome, None, Some, length, min};
 ghost use Rattle.finite_map.specs.declared.Call.TheVariants.{Add, Exchange, Get, Insert, Remove, RemoveIf, Upsert};
 ghost use Rattle.rowex_writing.specs.declared.attempts.TryFault.TheVariants.{FullLeaves};
 ghost use Rattle.seat_calls.specs.Answers.{MayRefuse};
 ghost use Rattle.hot_c.specs.declared.opened.Opened.{Opened};
-ghost use Rattle.hot_c.specs.Calls.{Answers, AreClosed, FitsInKey, HasGivenBack, HasSeenRecords, HasOpenedKeeper, HaveOpened, HaveOpenedStock, IsSize, IsStockSize, OpensNext, StaysOpen, for_key};
+ghost use Rattle.hot_c.specs.Calls.{Answers, AreClosed, FitsInKey, HasGivenBack, HasSeenRecords, HasOpenedKeeper, HaveOpened, HaveOpenedStock, IsSize, IsStockSize, OpensNext, StaysOpen, for_key, places_of};
 ghost use Rattle.hot_c.specs.Lookups.{LooksUpAll};
 ghost use Rattle.hot_c.specs.Stocks.{TakesBytes, stock_in};
-ghost use Rattle.record_words.specs.Layout.{stock_for};
+ghost use Rattle.record_words.specs.Layout.{stock_for, stock_for_any};
+ghost use Rattle.record_words.specs.declared.TheConstants.{MAX_STOCK_PASSES};
 
 use crate::handle::Handle;
 use crate::lookups::{Lookup, copy_keys, have_fitting_keys, write_found_values};
@@ -21,9 +22,9 @@ use crate::status::{
     OPEN, OUT_OF_RANGE, write_reply,
 };
 use crate::stock::HotStock;
-use hot_index::{Call, IndexFault, RecordCounts};
+use hot_index::{Call, IndexFault, RecordCounts, keep_one_node};
 use key_bits::{Key, KeyFault};
-use record_words::{Layout, Stock};
+use record_words::{Layout, MAX_STOCK_PASSES, Stock};
 use std::alloc::Global;
 
 /// Opens each of `handles`, 1 to 64, with the pass of its place of a new empty index: `DONE`. It has `nodes` node records, 1 to 65,535,
@@ -34,6 +35,7 @@ pub extern "C" fn hot_create(alloc: Global, nodes: u32, leaves: u32, handles: &m
     ensures open { IsSize (length handles.old) nodes leaves → ¬ AreClosed handles.old → (result ≡ OPEN) × (handles.new ≡ handles.old) }
     ensures made { AreClosed handles.old → IsSize (length handles.old) nodes leaves →
         ((result ≡ DONE) × HaveOpened nodes leaves handles.new) ⊎ ((result ≡ NO_MEMORY) × (handles.new ≡ handles.old)) }
+    ensures places { places_of handles.new ≡ places_of handles.old }
 {
     if !are_counts_in_range(handles.len(), nodes, leaves) {
         return OUT_OF_RANGE;
@@ -60,6 +62,7 @@ pub extern "C" fn hot_create_with(alloc: Global, stock: &HotStock, handles: &mut
     ensures open { IsStockSize (length handles.old) (stock_in stock.now) → ¬ AreClosed handles.old → (result ≡ OPEN) × (handles.new ≡ handles.old) }
     ensures made { AreClosed handles.old → IsStockSize (length handles.old) (stock_in stock.now) →
         ((result ≡ DONE) × HaveOpenedStock (stock_in stock.now) handles.new) ⊎ ((result ≡ NO_MEMORY) × (handles.new ≡ handles.old)) }
+    ensures places { places_of handles.new ≡ places_of handles.old }
 {
     let records = stock.to_stock();
     if !is_stock_in_range(handles.len(), &records) {
@@ -91,6 +94,7 @@ pub extern "C" fn hot_create_keeping(
     ensures open { IsStockSize passes (stock_in stock.now) → IsSome handle.old.slot.opened → (result ≡ OPEN) × (handle.new ≡ handle.old) }
     ensures made { handle.old.slot.opened ≡ None → IsStockSize passes (stock_in stock.now) →
         ((result ≡ DONE) × HasOpenedKeeper passes (stock_in stock.now) handle.new.slot.opened) ⊎ ((result ≡ NO_MEMORY) × (handle.new ≡ handle.old)) }
+    ensures place { handle.new.place ≡ handle.old.place }
 {
     let records = stock.to_stock();
     if !is_stock_in_range(passes, &records) {
@@ -117,6 +121,7 @@ pub extern "C" fn hot_open_kept(alloc: Global, keeper: &mut Handle, handle: &mut
     ensures open { IsSome keeper.old.slot.opened → IsSome handle.old.slot.opened → (result ≡ OPEN) × (keeper.new ≡ keeper.old) × (handle.new ≡ handle.old) }
     ensures opened { (was : Opened) → keeper.old.slot.opened ≡ Some was → handle.old.slot.opened ≡ None →
         OpensNext was keeper.new.slot.opened handle.new.slot.opened result }
+    ensures places { (keeper.new.place ≡ keeper.old.place) × (handle.new.place ≡ handle.old.place) }
 {
     if !keeper.is_open() {
         return CLOSED;
@@ -142,8 +147,23 @@ pub extern "C" fn hot_stock_for_keys(count: u32, longest: usize, stock: &mut Hot
     stock.set_counts(Stock::for_keys(count, longest));
 }
 
-/// Writes to `bytes` how many bytes the table of an index with the records of `stock` and `handles` passes takes: `DONE`. `OUT_OF_RANGE` if
-/// there is no such index, as of `hot_create_with`; then `bytes` stays.
+/// Writes to `stock` that of `Stock::for_any_keys`: enough for any `count` keys at once, of at most `longest` bytes each, and of at most
+/// 240, in an index of `handles` passes, and of at most 1,024.
+#[unsafe(no_mangle)]
+pub extern "C" fn hot_stock_for_any_keys(
+    count: u32,
+    longest: usize,
+    handles: usize,
+    stock: &mut HotStock,
+)
+    ensures { stock_in stock.new ≡ stock_for_any count longest (min handles MAX_STOCK_PASSES) }
+{
+    let passes = handles.min(MAX_STOCK_PASSES as usize) as u32;
+    stock.set_counts(Stock::for_any_keys(count, longest, passes));
+}
+
+/// Writes to `bytes` how many bytes the table of an index with the records of `stock` and `handles` passes takes: `DONE`. The node record
+/// that is kept for removals is counted. `OUT_OF_RANGE` if there is no such index, as of `hot_create_with`; then `bytes` stays.
 #[unsafe(no_mangle)]
 pub extern "C" fn hot_stock_bytes(stock: &HotStock, handles: usize, bytes: &mut usize) -> u32
     ensures range { ¬ IsStockSize handles (stock_in stock.now) → (result ≡ OUT_OF_RANGE) × (bytes.new ≡ bytes.old) }
@@ -154,7 +174,7 @@ pub extern "C" fn hot_stock_bytes(stock: &HotStock, handles: usize, bytes: &mut 
     };
     match Layout::with_stock(passes, stock.to_stock()) {
         Ok(layout) => {
-            *bytes = layout.bytes();
+            *bytes = keep_one_node(layout).bytes();
             DONE
         }
         Err(_) => OUT_OF_RANGE,
@@ -168,6 +188,7 @@ pub extern "C" fn hot_number(handle: &mut Handle, number: &mut u16) -> u32
     ensures closed { handle.old.slot.opened ≡ None → (result ≡ CLOSED) × (number.new ≡ number.old) }
     ensures number { (was : Opened) → handle.old.slot.opened ≡ Some was → (result ≡ DONE) × (number.new ≡ was.handle.pass.number) }
     ensures kept { handle.new.slot.opened ≡ handle.old.slot.opened }
+    ensures place { handle.new.place ≡ handle.old.place }
 {
     if !handle.is_open() {
         return CLOSED;
@@ -182,6 +203,7 @@ pub extern "C" fn hot_number(handle: &mut Handle, number: &mut u16) -> u32
 pub extern "C" fn hot_get(handle: &mut Handle, key: &[u8], value: &mut u64) -> u32
     ensures call { Answers key.now (Get key.now) handle.old.slot.opened handle.new.slot.opened value.old value.new result }
     ensures unrefused { (result ≢ BUSY) × (result ≢ HELD_BACK) × (result ≢ FULL_NODES) × (result ≢ FULL_LEAVES) }
+    ensures place { handle.new.place ≡ handle.old.place }
 {
     if !handle.is_open() {
         return CLOSED;
@@ -201,7 +223,8 @@ pub extern "C" fn hot_get_many(
     handle: &mut Handle,
     lookups: &mut [Lookup<'_>],
 ) -> u32
-    ensures { LooksUpAll handle.old.slot.opened handle.new.slot.opened lookups.old lookups.new result }
+    ensures call { LooksUpAll handle.old.slot.opened handle.new.slot.opened lookups.old lookups.new result }
+    ensures place { handle.new.place ≡ handle.old.place }
 {
     if !handle.is_open() {
         return CLOSED;
@@ -225,6 +248,7 @@ pub extern "C" fn hot_get_many(
 #[unsafe(no_mangle)]
 pub extern "C" fn hot_try_insert(handle: &mut Handle, key: &[u8], value: u64, had: &mut u64) -> u32
     ensures call { Answers key.now (Insert key.now value) handle.old.slot.opened handle.new.slot.opened had.old had.new result }
+    ensures place { handle.new.place ≡ handle.old.place }
 {
     let mut call = Call::Insert(Key::empty(), value);
     make_call(handle, &mut call, key, had)
@@ -235,6 +259,7 @@ pub extern "C" fn hot_try_insert(handle: &mut Handle, key: &[u8], value: u64, ha
 #[unsafe(no_mangle)]
 pub extern "C" fn hot_try_upsert(handle: &mut Handle, key: &[u8], value: u64, had: &mut u64) -> u32
     ensures call { Answers key.now (Upsert key.now value) handle.old.slot.opened handle.new.slot.opened had.old had.new result }
+    ensures place { handle.new.place ≡ handle.old.place }
 {
     let mut call = Call::Upsert(Key::empty(), value);
     make_call(handle, &mut call, key, had)
@@ -251,6 +276,7 @@ pub extern "C" fn hot_try_exchange(
     had: &mut u64,
 ) -> u32
     ensures call { Answers key.now (Exchange key.now expected value) handle.old.slot.opened handle.new.slot.opened had.old had.new result }
+    ensures place { handle.new.place ≡ handle.old.place }
 {
     let mut call = Call::Exchange(Key::empty(), expected, value);
     make_call(handle, &mut call, key, had)
@@ -261,6 +287,7 @@ pub extern "C" fn hot_try_exchange(
 #[unsafe(no_mangle)]
 pub extern "C" fn hot_try_add(handle: &mut Handle, key: &[u8], delta: u64, had: &mut u64) -> u32
     ensures call { Answers key.now (Add key.now delta) handle.old.slot.opened handle.new.slot.opened had.old had.new result }
+    ensures place { handle.new.place ≡ handle.old.place }
 {
     let mut call = Call::Add(Key::empty(), delta);
     make_call(handle, &mut call, key, had)
@@ -272,6 +299,7 @@ pub extern "C" fn hot_try_add(handle: &mut Handle, key: &[u8], delta: u64, had: 
 pub extern "C" fn hot_try_remove(handle: &mut Handle, key: &[u8], had: &mut u64) -> u32
     ensures call { Answers key.now (Remove key.now) handle.old.slot.opened handle.new.slot.opened had.old had.new result }
     ensures leafless { result ≢ FULL_LEAVES }
+    ensures place { handle.new.place ≡ handle.old.place }
 {
     let mut call = Call::Remove(Key::empty());
     make_call(handle, &mut call, key, had)
@@ -288,6 +316,7 @@ pub extern "C" fn hot_try_remove_if(
 ) -> u32
     ensures call { Answers key.now (RemoveIf key.now expected) handle.old.slot.opened handle.new.slot.opened had.old had.new result }
     ensures leafless { result ≢ FULL_LEAVES }
+    ensures place { handle.new.place ≡ handle.old.place }
 {
     let mut call = Call::RemoveIf(Key::empty(), expected);
     make_call(handle, &mut call, key, had)
@@ -299,6 +328,7 @@ pub extern "C" fn hot_try_remove_if(
 fn make_call(handle: &mut Handle, call: &mut Call, key: &[u8], had: &mut u64) -> u32
     ensures call { Answers key.now (for_key key.now call.old) handle.old.slot.opened handle.new.slot.opened had.old had.new result }
     ensures leafless { ¬ MayRefuse (for_key key.now call.old) FullLeaves → result ≢ FULL_LEAVES }
+    ensures place { handle.new.place ≡ handle.old.place }
 {
     if !handle.is_open() {
         return CLOSED;
@@ -333,6 +363,7 @@ fn make_call_on_open_handle(handle: &mut Handle, call: &Call, size: usize, had: 
     requires { IsSome handle.old.slot.opened }
     ensures call { (key : List ℕ) → FitsInKey key → length key ≡ size → Answers key call.now handle.old.slot.opened handle.new.slot.opened had.old had.new result }
     ensures leafless { ¬ MayRefuse call.now FullLeaves → result ≢ FULL_LEAVES }
+    ensures place { handle.new.place ≡ handle.old.place }
 {
     handle.slot.lend().try_call(call, size, had)
 }
@@ -343,6 +374,7 @@ fn make_call_on_open_handle(handle: &mut Handle, call: &Call, size: usize, had: 
 pub extern "C" fn hot_collect(handle: &mut Handle, nodes: &mut u32, leaves: &mut u32) -> u32
     ensures closed { handle.old.slot.opened ≡ None → (result ≡ CLOSED) × (handle.new.slot.opened ≡ None) × (nodes.new ≡ nodes.old) × (leaves.new ≡ leaves.old) }
     ensures round { IsSome handle.old.slot.opened → (result ≡ DONE) × StaysOpen (HasGivenBack nodes.new leaves.new) handle.old.slot.opened handle.new.slot.opened }
+    ensures place { handle.new.place ≡ handle.old.place }
 {
     if !handle.is_open() {
         return CLOSED;
@@ -359,6 +391,7 @@ pub extern "C" fn hot_collect(handle: &mut Handle, nodes: &mut u32, leaves: &mut
 pub extern "C" fn hot_census(handle: &mut Handle, counts: &mut RecordCounts) -> u32
     ensures closed { handle.old.slot.opened ≡ None → (result ≡ CLOSED) × (handle.new.slot.opened ≡ None) × (counts.new ≡ counts.old) }
     ensures counted { IsSome handle.old.slot.opened → (result ≡ DONE) × StaysOpen (HasSeenRecords counts.new) handle.old.slot.opened handle.new.slot.opened }
+    ensures place { handle.new.place ≡ handle.old.place }
 {
     if !handle.is_open() {
         return CLOSED;
@@ -373,6 +406,7 @@ pub extern "C" fn hot_destroy(alloc: Global, handle: &mut Handle) -> u32
     ensures closed { handle.old.slot.opened ≡ None → result ≡ CLOSED }
     ensures done { IsSome handle.old.slot.opened → result ≡ DONE }
     ensures gone { handle.new.slot.opened ≡ None }
+    ensures place { handle.new.place ≡ handle.old.place }
 {
     if handle.is_open() {
         drop(handle.close(alloc));

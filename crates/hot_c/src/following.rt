@@ -1,5 +1,6 @@
 //! How a handle sees what another has seen, for programs in C: so their calls are ordered in time.
 
+ghost use Rattle.std.specs.Prelude.{◌≡◌};
 ghost use Rattle.hot_c.specs.Following.{AreAtOneIndex, SeesLeader};
 
 use crate::handle::Handle;
@@ -10,7 +11,8 @@ use crate::status::{CLOSED, DONE};
 #[unsafe(no_mangle)]
 pub extern "C" fn hot_see(handle: &mut Handle, leader: &mut Handle) -> u32
     requires { AreAtOneIndex handle.old.slot.opened leader.old.slot.opened }
-    ensures { SeesLeader handle.old.slot.opened handle.new.slot.opened leader.old.slot.opened leader.new.slot.opened result }
+    ensures call { SeesLeader handle.old.slot.opened handle.new.slot.opened leader.old.slot.opened leader.new.slot.opened result }
+    ensures places { (handle.new.place ≡ handle.old.place) × (leader.new.place ≡ leader.old.place) }
 {
     if !handle.is_open() || !leader.is_open() {
         return CLOSED;

@@ -15,7 +15,7 @@ const TAG: u32 = 0x544f_4821;
 pub struct Handle {
     tag: u32,
     pub slot: Slot,
-    /// A pointer of `c/hot.c`, to what the index keeps of the handle. Nothing here reads it.
+    /// A pointer of `c/hot.c`, to what the index keeps of the handle. Nothing here reads it, and each call leaves it as it is.
     pub place: usize,
     pub ghost tagged: { (tag ≡ 0x544f_4821) ↔ IsSome slot.opened },
 }
@@ -33,6 +33,7 @@ impl Handle {
         requires { IsSome self.old.slot.opened }
         ensures value { self.old.slot.opened ≡ Some result.value }
         ensures gone { self.new.slot.opened ≡ None }
+        ensures place { self.new.place ≡ self.old.place }
     {
         self.tag = 0;
         let slot = replace(&mut self.slot, Slot::empty());
@@ -42,7 +43,8 @@ impl Handle {
     /// Opens the handle, which is closed, with `opened`.
     pub fn open(&mut self, opened: Box<Opened, Global>)
         requires { self.old.slot.opened ≡ None }
-        ensures { self.new.slot.opened ≡ Some opened.value }
+        ensures opened { self.new.slot.opened ≡ Some opened.value }
+        ensures place { self.new.place ≡ self.old.place }
     {
         self.tag = TAG;
         self.slot = Slot::of(opened);

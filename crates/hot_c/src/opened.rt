@@ -3,9 +3,10 @@
 ghost use Rattle.std.specs.Prelude.{◌≡◌, [], IfErr, IfOk, MatchOption, Result};
 ghost use Rattle.finite_map.specs.declared.Call.TheVariants.{Get};
 ghost use Rattle.finite_map.specs.declared.Reply.{Reply as ReplyView};
-ghost use Rattle.rowex_writing.specs.declared.attempts.TryFault.{TryFault as FaultView};
 ghost use Rattle.seat_calls.specs.Answers.{IsNoted, MayRefuse, range_from};
 ghost use Rattle.seat_calls.specs.Calls.{IsRangeRead};
+ghost use Rattle.seat_calls.specs.Refusals.{fault_in};
+ghost use Rattle.seat_calls.specs.declared.refusals.Refusal.{Refusal as RefusalView};
 ghost use Rattle.hot_index.specs.Handles.{Stays};
 ghost use Rattle.hot_index.specs.Stamps.{HasCaughtUp, IsStampFrom};
 ghost use Rattle.seat_calls.specs.Traces.{HasGot, untold};
@@ -15,9 +16,9 @@ ghost use Rattle.hot_c.specs.Orders.{IsFilledIn};
 ghost use Rattle.hot_c.specs.Statuses.{value_after};
 
 use crate::pairs::Order;
-use crate::refusals::{tell_lack_of_leaves, tell_lack_of_nodes};
-use crate::status::{BUSY, write_reply};
-use hot_index::{Call, ClosedHandle, Handle, Index, Reply, ShowsIndex, Stamp, TryFault};
+use crate::refusals::tell_refusal;
+use crate::status::write_reply;
+use hot_index::{Call, ClosedHandle, Handle, Index, Reply, ShowsIndex, Stamp};
 use key_bits::Key;
 use packed_pairs::Pairs;
 use std::alloc::{AllocError, Global};
@@ -71,17 +72,15 @@ impl Opened {
     }
 
     /// Tries to make `call`, whose key has `size` bytes, and returns the status. The reply's value, if it has one, goes to `had`; else
-    /// `had` stays. If no record is free, it counts all records. So the status tells whether other calls hold some back.
+    /// `had` stays. If no record is free, it counts all records. So the status tells whether some may come back.
     pub fn try_call(&mut self, call: &Call, size: usize, had: &mut u64) -> u32
-        ensures call { (outcome : Result ReplyView FaultView) × Stays (TellsOutcome size call.now result outcome) self.old.handle self.new.handle
-            × (had.new ≡ value_after had.old outcome) × IfErr outcome (MayRefuse call.now) }
+        ensures call { (outcome : Result ReplyView RefusalView) × Stays (TellsOutcome size call.now result outcome) self.old.handle self.new.handle
+            × (had.new ≡ value_after had.old outcome) × IfErr outcome (λ refusal. MayRefuse call.now (fault_in refusal)) }
         ensures keeps { self.new.kept.items ≡ self.old.kept.items }
     {
-        match self.handle.try_call(call) {
+        match self.handle.try_counted(call) {
             Ok(reply) => write_reply(reply, had),
-            Err(TryFault::Busy) => BUSY,
-            Err(TryFault::FullNodes) => tell_lack_of_nodes(&self.handle.census()),
-            Err(TryFault::FullLeaves) => tell_lack_of_leaves(size, &self.handle.census()),
+            Err(refusal) => tell_refusal(size, refusal),
         }
     }
 

@@ -3,8 +3,9 @@
 ghost use Rattle.std.specs.Prelude.{◌≡◌, ◌≢◌, ◌↔◌, ◌++◌, ◌∷◌, [], ℕ, All, Err, IfErr, IfOk, IsErr, IsTrue, Some, length, map, reverse, slice_get};
 ghost use Rattle.seat_calls.specs.Passes.{IsNewPass, Owns, PassView};
 ghost use Rattle.hot_index.specs.Handles.{handle_at};
-ghost use Rattle.hot_c.specs.Calls.{AreClosed, AreNew, HasCounts, IsKeeper, IsSize, IsStockSize};
+ghost use Rattle.hot_c.specs.Calls.{AreClosed, AreNew, HasCounts, IsKeeper, IsNewShare, IsSize, IsStockSize, places_of};
 ghost use Rattle.record_words.specs.Layout.{HasStock};
+ghost use Rattle.hot_index.specs.Kept.{kept_stock};
 
 use crate::handle::Handle;
 use crate::opened::Opened;
@@ -52,7 +53,8 @@ pub fn is_stock_in_range(passes: usize, stock: &Stock) -> bool
 pub fn open_handles(handles: &mut [Handle], passes: Vec<Box<Opened, Global>>)
     requires closed { AreClosed handles.old }
     requires count { length passes.items ≡ length handles.old }
-    ensures { map (λ h. h.slot.opened) handles.new ≡ map (λ b. Some b.value) passes.items }
+    ensures opened { map (λ h. h.slot.opened) handles.new ≡ map (λ b. Some b.value) passes.items }
+    ensures places { places_of handles.new ≡ places_of handles.old }
 {
     let mut place = 0;
     for opened in passes {
@@ -86,7 +88,7 @@ pub fn make_passes_with_stock(
 ) -> Result<Vec<Box<Opened, Global>>, IndexFault>
     ensures size { IsStockSize passes stock → IfErr result (λ fault. fault ≡ IndexFault.Memory) }
     ensures range { ¬ IsStockSize passes stock → IsErr result × result ≢ Err IndexFault.Memory }
-    ensures made { IfOk result (λ made. AreNew passes (λ layout. HasStock layout stock) (map (λ b. b.value) made.items)) }
+    ensures made { IfOk result (λ made. AreNew passes (λ layout. HasStock layout (kept_stock stock)) (map (λ b. b.value) made.items)) }
 {
     let (index, passes) = create_with(alloc, passes, stock)?;
     share_index(alloc, index, passes).map_err(|_| IndexFault::Memory)
@@ -101,7 +103,7 @@ pub fn make_keeper(
 ) -> Result<Box<Opened, Global>, IndexFault>
     ensures size { IsStockSize passes stock → IfErr result (λ fault. fault ≡ IndexFault.Memory) }
     ensures range { ¬ IsStockSize passes stock → IsErr result × result ≢ Err IndexFault.Memory }
-    ensures made { IfOk result (λ made. IsKeeper passes (λ layout. HasStock layout stock) made.value) }
+    ensures made { IfOk result (λ made. IsKeeper passes (λ layout. HasStock layout (kept_stock stock)) made.value) }
 {
     let (index, passes) = create_closed(alloc, passes, stock)?;
     keep_passes(alloc, index, passes).map_err(|_| IndexFault::Memory)
@@ -152,7 +154,7 @@ fn share_index(
 ) -> Result<Vec<Box<Opened, Global>>, AllocError>
     requires { (q : ℕ) (p : PassView) → slice_get passes.items q ≡ Some p → Owns index p × IsNewPass q p }
     ensures count { IfOk result (λ shared. length shared.items ≡ length passes.items) }
-    ensures each { IfOk result (λ shared. (q : ℕ) (b : _) → slice_get shared.items q ≡ Some b → (b.value.handle.index ≡ index) × IsNewPass q b.value.handle.pass) }
+    ensures each { IfOk result (λ shared. (q : ℕ) (b : _) → slice_get shared.items q ≡ Some b → IsNewShare index q b.value) }
 {
     let index = Arc::new(alloc, index)?;
     let mut shared = Vec::new(alloc);

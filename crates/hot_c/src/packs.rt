@@ -27,6 +27,7 @@ pub extern "C" fn hot_scan_packed(
 ) -> u32
     ensures call { ListsPacked from.now upto.now handle.old.slot.opened handle.new.slot.opened
         (packing bytes.old heads.old count.old more.old) (packing bytes.new heads.new count.new more.new) result }
+    ensures place { handle.new.place ≡ handle.old.place }
 {
     let order = Order::Upwards;
     let query = Query { order, from, upto };
@@ -47,6 +48,7 @@ pub extern "C" fn hot_scan_packed_reverse(
 ) -> u32
     ensures call { ListsPackedReverse from.now upto.now handle.old.slot.opened handle.new.slot.opened
         (packing bytes.old heads.old count.old more.old) (packing bytes.new heads.new count.new more.new) result }
+    ensures place { handle.new.place ≡ handle.old.place }
 {
     let order = Order::Downwards;
     let query = Query { order, from, upto };
@@ -62,8 +64,9 @@ fn list_packed_pairs(
     count: &mut usize,
     more: &mut u32,
 ) -> u32
-    ensures { ListsPackedBy (IsFilledIn query.now.order) query.now.from.now query.now.upto.now handle.old.slot.opened handle.new.slot.opened
+    ensures call { ListsPackedBy (IsFilledIn query.now.order) query.now.from.now query.now.upto.now handle.old.slot.opened handle.new.slot.opened
         (packing bytes.old heads.old count.old more.old) (packing bytes.new heads.new count.new more.new) result }
+    ensures place { handle.new.place ≡ handle.old.place }
 {
     match fill_list(handle, query, heads.len()) {
         Ok((found, is_more)) => {

@@ -1,6 +1,6 @@
 //! The scans of a range, for programs in C.
 
-ghost use Rattle.std.specs.Prelude.{◌<◌, ◌^◌, IfErr, IfOk};
+ghost use Rattle.std.specs.Prelude.{◌≡◌, ◌<◌, ◌^◌, IfErr, IfOk};
 ghost use Rattle.seat_calls.specs.Answers.{range_from};
 ghost use Rattle.hot_c.specs.Orders.{IsFilledIn, IsListedIn};
 ghost use Rattle.hot_c.specs.Scans.{HasFilled, Lists, ListsBy, ListsLast, ListsNothing, ListsReverse, listing};
@@ -24,6 +24,7 @@ pub extern "C" fn hot_scan(
 ) -> u32
     ensures call { Lists from.now upto.now handle.old.slot.opened handle.new.slot.opened
         (listing room.old count.old more.old) (listing room.new count.new more.new) result }
+    ensures place { handle.new.place ≡ handle.old.place }
 {
     let order = Order::Upwards;
     let query = Query { order, from, upto };
@@ -43,6 +44,7 @@ pub extern "C" fn hot_scan_reverse(
 ) -> u32
     ensures call { ListsReverse from.now upto.now handle.old.slot.opened handle.new.slot.opened
         (listing room.old count.old more.old) (listing room.new count.new more.new) result }
+    ensures place { handle.new.place ≡ handle.old.place }
 {
     let order = Order::Downwards;
     let query = Query { order, from, upto };
@@ -62,6 +64,7 @@ pub extern "C" fn hot_scan_last(
 ) -> u32
     ensures call { ListsLast from.now upto.now handle.old.slot.opened handle.new.slot.opened
         (listing room.old count.old more.old) (listing room.new count.new more.new) result }
+    ensures place { handle.new.place ≡ handle.old.place }
 {
     let order = Order::LastUpwards;
     let query = Query { order, from, upto };
@@ -76,8 +79,9 @@ fn list_pairs_of_query(
     count: &mut usize,
     more: &mut u32,
 ) -> u32
-    ensures { ListsBy (IsListedIn query.now.order) query.now.from.now query.now.upto.now handle.old.slot.opened handle.new.slot.opened
+    ensures call { ListsBy (IsListedIn query.now.order) query.now.from.now query.now.upto.now handle.old.slot.opened handle.new.slot.opened
         (listing room.old count.old more.old) (listing room.new count.new more.new) result }
+    ensures place { handle.new.place ≡ handle.old.place }
 {
     match fill_list(handle, query, room.len()) {
         Ok((found, is_more)) => {
@@ -99,6 +103,7 @@ pub fn fill_list(handle: &mut Handle, query: &Query, limit: usize) -> Result<(us
         handle.old.slot.opened handle.new.slot.opened found.0 found.1) }
     ensures short { IfOk result (λ found. found.0 < 2 ^ 63) }
     ensures err { IfErr result (ListsNothing (range_from query.now.from.now query.now.upto.now limit) handle.old.slot.opened handle.new.slot.opened) }
+    ensures place { handle.new.place ≡ handle.old.place }
 {
     if !handle.is_open() {
         return Err(CLOSED);

@@ -113,16 +113,16 @@ taken_but Taken (suc n) own each = ⊎_elim
     other q low rest keep (inl taken) = inl taken
     other q low rest keep (inr has) = inr (keep (a_node q) (λ e. let same : q ≡ n = cc in omega (arith, low, same)) has)
 
-module _ (layout : Layout) (k j : PassView) (one : layout.passes ≡ 1) (mine : j.number < layout.passes) (l : LacksNodes layout j.number j.failed k.steps) where
-  missed : AllMissed (λ r by. IsNobodys r by ⊎ Contains l.own r) a_node layout.nodes j.failed k.steps
+module _ (layout : Layout) (k j : PassView) (one : layout.passes ≡ 1) (mine : j.number < layout.passes) (own : List Rec) (l : LacksNodes layout j.number j.failed k.steps own) where
+  missed : AllMissed (λ r by. IsNobodys r by ⊎ Contains own r) a_node layout.nodes j.failed k.steps
   missed q low =
-      missed_so (IsAnothers layout j.number l.own l.locked) (λ r by. IsNobodys r by ⊎ Contains l.own r) j.failed (a_node q) k.steps (λ by. alone layout j.number l.own l.locked (a_node q) by one mine) (l.missed q low)
+      missed_so (IsAnothers layout j.number own l.locked) (λ r by. IsNobodys r by ⊎ Contains own r) j.failed (a_node q) k.steps (λ by. alone layout j.number own l.locked (a_node q) by one mine) (l.missed q low)
 
   abbrev Taken : ℕ → Type 0
   Taken n = HasMissedSince IsNobodys j.failed (a_node n) k.steps
 
-  all_taken : AreTaken Taken layout.nodes (length l.own)
-  all_taken = taken_but Taken layout.nodes l.own (λ q low. nobodys_or_own l.own j.failed (a_node q) k.steps (missed q low))
+  all_taken : AreTaken Taken layout.nodes (length own)
+  all_taken = taken_but Taken layout.nodes own (λ q low. nobodys_or_own own j.failed (a_node q) k.steps (missed q low))
 
   third_is_taken : ThirdIsTaken layout k j
   third_is_taken = ⊎_elim
@@ -131,7 +131,7 @@ module _ (layout : Layout) (k j : PassView) (one : layout.passes ≡ 1) (mine : 
         apart = l.apart;
         many = (let many = all_taken.many in let few = l.few in omega arith);
         each = λ n there. (let low = all_of (λ n. n < layout.nodes) n l.locked l.low there in
-            (low, missed_so (IsAnothers layout j.number l.own l.locked) IsNobodys j.failed (a_node n) k.steps (λ by. locked_nobodys layout j.number l.own l.locked n by there) (l.missed n low)));
+            (low, missed_so (IsAnothers layout j.number own l.locked) IsNobodys j.failed (a_node n) k.steps (λ by. locked_nobodys layout j.number own l.locked n by there) (l.missed n low)));
       })
       (λ (more : length l.locked ≤ length all_taken.nodes). record {
         nodes = all_taken.nodes;
@@ -144,5 +144,5 @@ module _ (layout : Layout) (k j : PassView) (one : layout.passes ≡ 1) (mine : 
 pub one_pass_full_is_full : OnePassFullIsFull
 one_pass_full_is_full layout key k j one mine = (
   λ all q low room. missed_so (IsAnothers layout j.number [] []) IsNobodys j.failed (a_leaf q) k.steps (λ by. alone_with_none layout j.number (a_leaf q) by one mine) (all q low room),
-  λ l. (third_is_taken layout k j one mine l, (l.own, (let few = l.few in let most = l.most in omega arith), missed layout k j one mine l)),
+  λ lacks. (let (own, l) = lacks in (third_is_taken layout k j one mine own l, (own, (let few = l.few in let most = l.most in omega arith), missed layout k j one mine own l))),
 )

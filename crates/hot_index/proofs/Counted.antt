@@ -20,6 +20,8 @@ use Rattle.rowex_writing.specs.declared.plan.Full.{Full}
 use Rattle.tries.specs.Keys.{Key}
 use Rattle.seat_calls.specs.Answers.{IsNoted, IsUnnoted, got}
 use Rattle.seat_calls.specs.Asked.{HasReplied, last_try}
+use Rattle.seat_calls.specs.Refusals.{as_tried}
+use Rattle.seat_calls.specs.declared.refusals.Refusal.{Refusal}
 use Rattle.seat_calls.specs.Passes.{IsSettled, PassView, pass_of}
 use Rattle.seat_calls.proofs.Noting.{get_changes_nothing}
 use Rattle.hot_index.specs.Passes.{IsSettledWith}
@@ -87,6 +89,11 @@ module _ (table : TableView) (call : Call) (s t : SeatView) (old new : KeyCount)
   pub waited_on : (r : Result Reply Full) → HasReplied table call (last_try r) s t → CountsAnswer r old new → IsSettledWith s.known old → IsSettledWith t.known new
   waited_on (Ok reply) replied counts was = tried_on (Ok reply) replied counts was
   waited_on (Err full) replied counts was = tried_on (last_try (Err full)) replied counts was
+
+  -- of one that was counted
+  pub counted_on : (r : Result Reply Refusal) → HasReplied table call (as_tried r) s t → CountsAnswer r old new → IsSettledWith s.known old → IsSettledWith t.known new
+  counted_on (Ok reply) replied counts was = tried_on (Ok reply) replied counts was
+  counted_on (Err refusal) replied counts was = tried_on (as_tried (Err refusal)) replied counts was
 
 -- All counts
 

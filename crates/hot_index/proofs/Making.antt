@@ -1,5 +1,10 @@
 -- The passes of a new index, one after the other.
-use Rattle.std.proofs.Common.{◌≡◌, ◌↔◌, ℕ, zero, suc, ◌+◌, List, [], ◌∷◌, ◌++◌, length, Some, refl, ap, subst, arith}
+use Rattle.std.proofs.Common.{◌≡◌, ◌↔◌, ◌∙◌, ℕ, zero, suc, ◌+◌, List, [], ◌∷◌, ◌++◌, length, Some, Result, Ok, Err, refl, ap, subst, arith}
+use Rattle.std.specs.Prelude.{IfOk}
+use Rattle.record_words.specs.Layout.{HasStock}
+use Rattle.record_words.specs.declared.layout.Layout.{Layout}
+use Rattle.record_words.specs.declared.layout.Stock.{Stock}
+use Rattle.hot_index.specs.Kept.{HasOneKept, kept_stock, with_one_kept}
 use Rattle.std.specs.List.{slice_get}
 use mathlib.Core.Option.{some}
 use lib.ListN.{get_elem?}
@@ -45,3 +50,19 @@ new_pass table q s new = (new.0, (ap (λ (k : Known). k.pass) new.1, ap (λ (k :
 -- what is told just if something was found is told just if what that means holds
 pub told_as_found : {Told Found Means : Type 0} → (Told ↔ Found) → (Found ↔ Means) → (Told ↔ Means)
 told_as_found told found = ((λ t. found.0 (told.0 t)), (λ m. told.1 (found.1 m)))
+
+-- what was found of the layout that was asked for holds of the one that is made, but for the record that is kept
+pub made_kept : {X E F : Type 0} (layout_of : X → Layout) (found : Result Layout F) (result : Result X E) (Asked Made : Layout → Type 0) → IfOk found Asked →
+    IfOk result (λ made. (asked : Layout) × (found ≡ Ok asked) × HasOneKept asked (layout_of made)) → ((a b : Layout) → Asked a → HasOneKept a b → Made b) → IfOk result (λ made. Made (layout_of made))
+made_kept layout_of found (Ok made) Asked Made ok (asked, is, kept) so = so asked (layout_of made) (subst (λ r. IfOk r Asked) is ok) kept
+made_kept layout_of found (Err fault) Asked Made ok kept so = tt
+
+pub kept_has : (asked layout : Layout) (stock : Stock) → HasOneKept asked layout → HasStock asked stock → HasStock layout (kept_stock stock)
+kept_has asked layout stock kept has = record {
+  nodes = kept.nodes ∙ ap with_one_kept has.nodes;
+  short = kept.medium ∙ has.short;
+  medium = (let k = kept.large in let m = kept.medium in let h = has.medium in omega (arith, k, m, h));
+  large = (let k = kept.wide in let m = kept.large in let h = has.large in omega (arith, k, m, h));
+  wide = (let k = kept.long in let m = kept.wide in let h = has.wide in omega (arith, k, m, h));
+  long = (let k = kept.leaves in let m = kept.long in let h = has.long in omega (arith, k, m, h));
+}

@@ -4,4 +4,5 @@ pub mod Ranges
 pub mod Cursors
 pub mod Stamps
 pub mod Handles
+pub mod Kept
 pub mod Statements

@@ -1,5 +1,5 @@
 -- What the contracts of the index give in other words.
-use Rattle.std.specs.Prelude.{◌≡◌, ◌⊎◌, ◌*◌, ◌<◌, ◌≤◌, ℕ, List, [], length, slice_get, Contains, Option, Some, None}
+use Rattle.std.specs.Prelude.{◌+◌, ◌≡◌, ◌⊎◌, ◌*◌, ◌<◌, ◌≤◌, ℕ, List, [], length, slice_get, Contains, Option, Some, None}
 use Rattle.key_bits.specs.Key.{IsKey}
 use Rattle.finite_map.specs.declared.Call.{Call}
 use Rattle.finite_map.specs.declared.Change.{Change}
@@ -35,19 +35,19 @@ OnePassIsNeverBusy = (layout : Layout) (key : Key) (k j : PassView) → layout.p
 abbrev pub IsNobodys : Rec → Option ℕ → Type 0
 IsNobodys r by = by ≡ None
 
--- each node record was in the tree or retired when its turn came, but for 4,320, which the call may have claimed itself
+-- each node record was in the tree or retired when its turn came, but for 4,321, which the call may have claimed itself
 abbrev pub AreTakenButOwn : Layout → PassView → PassView → Type 0
-AreTakenButOwn layout k j = (own : List Rec) × (length own ≤ 2 * most_nodes) × AllMissed (λ r by. IsNobodys r by ⊎ Contains own r) a_node layout.nodes j.failed k.steps
+AreTakenButOwn layout k j = (own : List Rec) × (length own ≤ 2 * most_nodes + 1) × AllMissed (λ r by. IsNobodys r by ⊎ Contains own r) a_node layout.nodes j.failed k.steps
 
--- At least a third of the node records were in the tree or retired when their turn came: these, each listed once.
+-- At least a third of the node records, but one, were in the tree or retired when their turn came: these, each listed once.
 pub record ThirdIsTaken (layout : Layout) (k j : PassView) : Type 0 where
   pub nodes : List ℕ
   pub apart : AreApart nodes
-  pub many : layout.nodes ≤ 3 * length nodes
+  pub many : layout.nodes ≤ 3 * length nodes + 1
   pub each : (n : ℕ) → IsOneOf n nodes → (n < layout.nodes) × HasMissedSince IsNobodys j.failed (a_node n) k.steps
 
 -- A call of a pass whose index has no other pass lacks a leaf record only if each that has room for its key was in the tree or retired, when
--- its turn came. It lacks a node record only if at least a third of these were so, and all but some that it may have claimed itself.
+-- its turn came. It lacks a node record only if at least a third of these, but one, were so, and all but some that it may have claimed itself.
 abbrev pub OnePassFullIsFull : Type 0
 OnePassFullIsFull =
     (layout : Layout) (key : Key) (k j : PassView) → layout.passes ≡ 1 → j.number < layout.passes →

@@ -3,7 +3,7 @@
 ghost use Rattle.std.specs.Prelude.{◌≡◌, ◌+◌, ◌≤◌, IfErr, MatchResult};
 ghost use Rattle.rowex_writing.specs.declared.plan.Full.{Full as FullValue};
 ghost use Rattle.seat_calls.specs.Answers.{IsNoted, IsRefused, MayLack, MayRefuse, fault_of};
-ghost use Rattle.seat_calls.specs.Calls.{GetsOrTries, IsCallTried, MakesStepsWith};
+ghost use Rattle.seat_calls.specs.Calls.{GetsOrTries, IsCallCounted, IsCallTried, MakesStepsWith};
 ghost use Rattle.seat_calls.specs.Counts.{try_steps};
 ghost use Rattle.seat_calls.specs.Passes.{Owns};
 ghost use Rattle.seat_calls.specs.Traces.{HasTold};
@@ -12,6 +12,7 @@ use crate::index::{Index, Pass, reply_to_get};
 use finite_map::{Call, Reply};
 use rowex_core::{Gate, NoGate};
 use rowex_writing::{Full, TryFault};
+use seat_calls::Refusal;
 use std::sync::Wait;
 
 impl Index {
@@ -45,6 +46,18 @@ impl Index {
         match call {
             Call::Get(key) => Ok(reply_to_get(self.get_with(pass, key, gate))),
             _ => self.try_change_with(pass, gate, call),
+        }
+    }
+
+    /// Does what `try_call` does. If a change found no record free, it counts all records then, as `census` does, and the refusal says what
+    /// the count says. It makes one step more for each record then.
+    pub fn try_counted(&self, pass: &mut Pass, call: &Call) -> Result<Reply, Refusal>
+        requires { Owns self.now pass.old }
+        ensures { IsCallCounted call.now result self.now pass.old pass.new }
+    {
+        match call {
+            Call::Get(key) => Ok(reply_to_get(self.get_with(pass, key, &mut NoGate))),
+            _ => self.try_and_count_with(pass, &mut NoGate, call),
         }
     }
 

@@ -5,7 +5,9 @@ ghost use mathlib.Core.Option.{some};
 ghost use lib.ListN.{get_elem?};
 ghost use Rattle.record_words.specs.Layout.{HasStock, leaves_of};
 ghost use Rattle.record_words.specs.Limits.{IsPassCount, IsStockPassCount, IsNodeCount, IsLeafCount, IsRecordCount};
+ghost use Rattle.record_words.specs.declared.layout.Layout.{Layout as LayoutView};
 ghost use Rattle.rowex_table.specs.Seats.{IsNewSeatOf, SeatView};
+ghost use Rattle.hot_index.specs.Kept.{HasOneKept, kept_stock, with_one_kept};
 ghost use Rattle.seat_calls.specs.Passes.{PassView, Owns, IsNewPass};
 
 use crate::closed::ClosedPass;
@@ -31,14 +33,14 @@ pub enum IndexFault {
 /// Returns it with its passes in the order of their numbers. It checks the three numbers first, in this order. The fault `Layout` has the
 /// first that is out of range; `Memory` if memory is refused.
 ///
-/// All leaf records are long. So a call that lacks one has found each of them taken (`laws::all_long_full_is_full`).
+/// The index has one node record more, which insertions leave free, so that a removal finds one. All leaf records are long. So a call that lacks one has found each of them taken (`laws::all_long_full_is_full`).
 pub fn create(
     alloc: Global,
     passes: u32,
     nodes: u32,
     leaves: u32,
 ) -> Result<(Index, Vec<Pass>), IndexFault>
-    ensures layout { IfOk result (λ made. (made.0.layout.passes ≡ passes) × (made.0.layout.nodes ≡ nodes)
+    ensures layout { IfOk result (λ made. (made.0.layout.passes ≡ passes) × (made.0.layout.nodes ≡ with_one_kept nodes)
         × (made.0.layout.leaves ≡ leaves) × (made.0.layout.long_from ≡ 0)) }
     ensures count { IfOk result (λ made. length made.1.items ≡ passes) }
     ensures each { IfOk result (λ made. (q : ℕ) (p : PassView) → slice_get made.1.items q ≡ Some p → Owns made.0 p × IsNewPass q p) }
@@ -55,13 +57,14 @@ pub fn create(
 /// A stock has 1 to 4,294,967,295 node records, and 1 to 4,294,967,295 leaf records of all classes together. It checks the numbers first,
 /// in this order. The fault `Layout` has the first that is out of range; `Memory` if memory is refused.
 ///
-/// `Layout::bytes` returns the bytes of the table. Twice as many are in use while it is made.
+/// The index has one node record more, as after `create`; if the stock has 4,294,967,295, it has no more. `Layout::bytes` of
+/// `keep_one_node` returns the bytes of the table. Twice as many are in use while it is made.
 pub fn create_with(
     alloc: Global,
     passes: u32,
     stock: Stock,
 ) -> Result<(Index, Vec<Pass>), IndexFault>
-    ensures layout { IfOk result (λ made. (made.0.layout.passes ≡ passes) × HasStock made.0.layout stock) }
+    ensures layout { IfOk result (λ made. (made.0.layout.passes ≡ passes) × HasStock made.0.layout (kept_stock stock)) }
     ensures count { IfOk result (λ made. length made.1.items ≡ passes) }
     ensures each { IfOk result (λ made. (q : ℕ) (p : PassView) → slice_get made.1.items q ≡ Some p → Owns made.0 p × IsNewPass q p) }
     ensures passes { (result ≡ Err (IndexFault.Layout LayoutFault.Passes)) ↔ ¬ IsStockPassCount passes }
@@ -78,7 +81,7 @@ pub fn create_closed(
     passes: u32,
     stock: Stock,
 ) -> Result<(Index, Vec<ClosedPass>), IndexFault>
-    ensures layout { IfOk result (λ made. (made.0.layout.passes ≡ passes) × HasStock made.0.layout stock) }
+    ensures layout { IfOk result (λ made. (made.0.layout.passes ≡ passes) × HasStock made.0.layout (kept_stock stock)) }
     ensures count { IfOk result (λ made. length made.1.items ≡ passes) }
     ensures each { IfOk result (λ made. (q : ℕ) (p : PassView) → slice_get made.1.items q ≡ Some p → Owns made.0 p × IsNewPass q p) }
     ensures passes { (result ≡ Err (IndexFault.Layout LayoutFault.Passes)) ↔ ¬ IsStockPassCount passes }
@@ -94,7 +97,7 @@ fn make_index_with_open_passes(
     alloc: Global,
     found: Result<Layout, LayoutFault>,
 ) -> Result<(Index, Vec<Pass>), IndexFault>
-    ensures layout { IfOk result (λ made. found ≡ Ok made.0.layout) }
+    ensures layout { IfOk result (λ made. (asked : LayoutView) × (found ≡ Ok asked) × HasOneKept asked made.0.layout) }
     ensures count { IfOk result (λ made. length made.1.items ≡ made.0.layout.passes) }
     ensures each { IfOk result (λ made. (q : ℕ) (p : PassView) → slice_get made.1.items q ≡ Some p → Owns made.0 p × IsNewPass q p) }
     ensures fault { (fault : LayoutFault) → (result ≡ Err (IndexFault.Layout fault)) ↔ (found ≡ Err fault) }
@@ -130,15 +133,34 @@ fn make_index_with_closed_passes(
     alloc: Global,
     found: Result<Layout, LayoutFault>,
 ) -> Result<(Index, Vec<ClosedPass>), IndexFault>
-    ensures layout { IfOk result (λ made. found ≡ Ok made.0.layout) }
+    ensures layout { IfOk result (λ made. (asked : LayoutView) × (found ≡ Ok asked) × HasOneKept asked made.0.layout) }
     ensures count { IfOk result (λ made. length made.1.items ≡ made.0.layout.passes) }
     ensures each { IfOk result (λ made. (q : ℕ) (p : PassView) → slice_get made.1.items q ≡ Some p → Owns made.0 p × IsNewPass q p) }
     ensures fault { (fault : LayoutFault) → (result ≡ Err (IndexFault.Layout fault)) ↔ (found ≡ Err fault) }
     ensures memory { result ≡ Err IndexFault.Memory → IsOk found }
 {
     match found {
-        Ok(layout) => make_index(alloc, layout).map_err(|_| IndexFault::Memory),
+        Ok(asked) => match make_index(alloc, keep_one_node(asked)) {
+            Ok(made) => Ok(made),
+            Err(_) => Err(IndexFault::Memory),
+        },
         Err(fault) => Err(IndexFault::Layout(fault)),
+    }
+}
+
+/// The layout of the index that one asks for by `layout`: it has one node record more, which insertions leave for the removals. If it has
+/// 4,294,967,295 already, it has no more.
+pub fn keep_one_node(layout: Layout) -> Layout
+    ensures { HasOneKept layout result }
+{
+    Layout {
+        passes: layout.passes,
+        nodes: layout.nodes.saturating_add(1),
+        leaves: layout.leaves,
+        medium_from: layout.medium_from,
+        large_from: layout.large_from,
+        wide_from: layout.wide_from,
+        long_from: layout.long_from,
     }
 }
 

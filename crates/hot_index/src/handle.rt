@@ -7,7 +7,7 @@ ghost use Rattle.finite_map.specs.Reverse.{IsLawfulReverseScan};
 ghost use Rattle.key_counts.specs.Counts.{IsCountOf};
 ghost use Rattle.rowex_table.specs.Seats.{IsShownAll};
 ghost use Rattle.seat_calls.specs.Answers.{HaveMet, IsNoted, IsUnnoted, got, range_from};
-ghost use Rattle.seat_calls.specs.Calls.{IsAwaited, IsCallTried, IsListRead, IsListReadBy, IsRangeRead, IsScanRead, IsScanReadBy, IsTried};
+ghost use Rattle.seat_calls.specs.Calls.{IsAwaited, IsCallCounted, IsCallTried, IsListRead, IsListReadBy, IsRangeRead, IsScanRead, IsScanReadBy, IsTried};
 ghost use Rattle.seat_calls.specs.Census.{HasCounted};
 ghost use Rattle.hot_index.specs.Handles.{Stays, handle_at};
 ghost use Rattle.seat_calls.specs.Many.{AreNoted, HasGotMany, gets};
@@ -25,7 +25,7 @@ use key_bits::Key;
 use key_counts::KeyCount;
 use packed_pairs::Pairs;
 use rowex_writing::{Full, TryFault};
-use seat_calls::RecordCounts;
+use seat_calls::{RecordCounts, Refusal};
 use std::alloc::{AllocError, Global};
 use std::marker::Model;
 use std::sync::{Arc, Wait};
@@ -235,6 +235,13 @@ impl<I: ShowsIndex> Handle<I> {
         ensures { Stays (IsCallTried call.now result) self.old self.new }
     {
         self.index.show().try_call(&mut self.pass, call)
+    }
+
+    /// Tries to make `call`, and counts all records if it found none free, as `Index::try_counted` does. A get is never refused.
+    pub fn try_counted(&mut self, call: &Call) -> Result<Reply, Refusal>
+        ensures { Stays (IsCallCounted call.now result) self.old self.new }
+    {
+        self.index.show().try_counted(&mut self.pass, call)
     }
 
     /// The first `limit` pairs from `from` to `upto`, and whether there are more, as `Index::scan` returns. An error if memory is refused.

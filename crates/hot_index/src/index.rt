@@ -7,7 +7,7 @@ ghost use Rattle.key_counts.specs.Counts.{IsCountOf};
 ghost use Rattle.rowex_table.specs.Seats.{IsShownAll};
 ghost use Rattle.seat_calls.specs.Passes.{Owns};
 ghost use Rattle.seat_calls.specs.Answers.{IsNoted, IsUnnoted, HaveMet, got};
-ghost use Rattle.seat_calls.specs.Calls.{IsAwaited, IsAwaitedWith, IsTried, IsTriedWith};
+ghost use Rattle.seat_calls.specs.Calls.{IsAwaited, IsAwaitedWith, IsCountedWith, IsTried, IsTriedWith};
 ghost use Rattle.seat_calls.specs.Census.{HasCounted};
 ghost use Rattle.seat_calls.specs.Many.{AreNoted, HasGotMany, gets};
 ghost use Rattle.seat_calls.specs.Traces.{HasCollected, HasGot, untold};
@@ -22,7 +22,8 @@ use rowex_reading::look_up;
 use rowex_table::{HotTable, TableSeat};
 use rowex_writing::{Full, TryFault};
 use seat_calls::{
-    RecordCounts, Scratch, count_records, end_get, end_gets, look_up_each, retry_change, try_change,
+    RecordCounts, Refusal, Scratch, count_records, end_get, end_gets, look_up_each, retry_change,
+    try_and_count, try_change,
 };
 use std::marker::Model;
 use std::sync::Wait;
@@ -123,7 +124,8 @@ impl Index {
     /// It returns `Busy` only if another pass has locked or retired what it wants to lock, or has made a change. That change came since
     /// the pin under which the call loaded the root last. So an index of one pass is never busy.
     ///
-    /// It returns `FullNodes` only if it found each node record not free when its turn came. For `FullLeaves` the same holds of each leaf
+    /// It returns `FullNodes` only if it found each node record not free when its turn came, beside those that it had claimed itself. One
+    /// that is free is left for the removals. For `FullLeaves` the same holds of each leaf
     /// record with room for the key. It makes the round of collection first. Then it looks again, unless the index has one pass
     /// and the round gave back none of the kind.
     ///
@@ -158,12 +160,12 @@ impl Index {
 
     /// Inserts `key` with `value`: `Inserted`; or `Exists` with the value that the key has already, and keeps. `rt` allows it to wait.
     ///
-    /// Where `try_insert` would return `Busy`, it lets other threads run and begins again, as often as need be. It also begins again
-    /// where no record is free, if records may come back. Then another pass's call keeps retired ones from reuse, or other passes
-    /// may have taken what a round of collection gave back.
+    /// Where `try_insert` would return `Busy`, it lets other threads run and begins again, as often as need be. Where no record is free, it
+    /// counts all records, as `census` does. It begins again if by that count a record may come back: one is held or obsolete, or as many
+    /// are free as it needs. In an index of one pass it makes one try.
     ///
-    /// It returns `Full` only if its last try found no node record free, or no leaf record with room for the key, as `try_insert` says. It
-    /// has changed nothing then, and holds no lock and no record.
+    /// It returns `Full` only if its last try found no node record free, or no leaf record with room for the key, as `try_insert` says, and
+    /// the count after it said so. It has changed nothing then, and holds no lock and no record.
     pub fn insert<R: Wait>(
         &self,
         rt: &R,
@@ -370,6 +372,22 @@ impl Index {
         ensures { IsTriedWith call.now result self.now G.becomes (pass.old, gate.old) (pass.new, gate.new) }
     {
         let answer = try_change(&self.table, &mut pass.seat, gate, &mut pass.scratch, call);
+        pass.count.note_answer(&answer);
+        answer
+    }
+
+    /// Tries to make the change `call`, as `try_change_with` does. If no record was free, it counts all records then, and the refusal says
+    /// what the count says. `count` changes as in `try_change_with`.
+    pub(crate) fn try_and_count_with<G: Gate>(
+        &self,
+        pass: &mut Pass,
+        gate: &mut G,
+        call: &Call,
+    ) -> Result<Reply, Refusal>
+        requires { Owns self.now pass.old }
+        ensures { IsCountedWith call.now result self.now G.becomes (pass.old, gate.old) (pass.new, gate.new) }
+    {
+        let answer = try_and_count(&self.table, &mut pass.seat, gate, &mut pass.scratch, call);
         pass.count.note_answer(&answer);
         answer
     }

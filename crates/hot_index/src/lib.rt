@@ -48,7 +48,7 @@ mod scans;
 mod stamp;
 
 pub use closed::{ClosedHandle, ClosedPass};
-pub use creating::{IndexFault, create, create_closed, create_with};
+pub use creating::{IndexFault, create, create_closed, create_with, keep_one_node};
 pub use cursor::{Cursor, Rest};
 pub use epochs::Given;
 pub use finite_map::{Call, Reply, Scan};
@@ -61,5 +61,5 @@ pub use packed_pairs::Pairs;
 pub use record_words::{LayoutFault, Stock};
 pub use rowex_core::{Event, Gate, NoGate};
 pub use rowex_writing::{Full, TryFault};
-pub use seat_calls::{RecordCounts, StateCounts};
+pub use seat_calls::{RecordCounts, Refusal, StateCounts};
 pub use stamp::Stamp;

@@ -1,7 +1,7 @@
 //! Byte keys of bounded length, their bits, the first bit at which two keys differ, and bits gathered into a word.
 #![tactic(auto)]
 
-ghost use Rattle.std.specs.Prelude.{[], ◌≡◌, ◌≢◌, ℕ, ◌+◌, ◌*◌, ◌≤◌, ◌<◌, ◌↔◌, ◌++◌, drop, length, take, IsTrue, IsOk, IsNone, IfOk, IfErr, IfSome, false, if◌then◌else◌};
+ghost use Rattle.std.specs.Prelude.{[], ◌≡◌, ◌≢◌, ℕ, ◌+◌, ◌*◌, ◌≤◌, ◌<◌, ◌↔◌, ◌++◌, drop, length, replicate, take, IsTrue, IsOk, IsNone, IfOk, IfErr, IfSome, false, if◌then◌else◌};
 ghost use Rattle.std.specs.Cmp.Lexicographic.{slice_cmp};
 ghost use Rattle.std.specs.Int.{to_be_bytes, w64};
 ghost use Rattle.std.specs.Ordering.{nat_cmp};
@@ -12,6 +12,7 @@ ghost use Rattle.key_bits.specs.Key.{HoldsKey, IsKey, with_zeros};
 use std::cmp::Ordering;
 use std::hash::{Hash, Hasher};
 use std::marker::Model;
+use std::simd::prelude::*;
 
 /// The most bytes that a key has. Every other bound on keys and their bits is computed from this one. The bits of a key stand at
 /// positions below `9 * MAX_BYTES`, and so does the first difference of two keys.
@@ -137,14 +138,26 @@ impl Key {
     }
 }
 
-/// Writes `bytes` to the front of `array`; what is behind them stays. Keys of eight bytes are common, and are written as one word.
+/// Writes `bytes` to the front of `array`, which has 0 everywhere. The first 32 bytes of the array are written by one store, if the key has
+/// as many or is one of the common keys of eight bytes: a load of sixteen of them would wait longer for two stores.
 #[inline(always)]
 fn write_key_bytes(array: &mut [u8; MAX_BYTES], bytes: &[u8])
-    requires { length bytes.now ≤ MAX_BYTES }
-    ensures { array.new ≡ bytes.now ++ drop (length bytes.now) array.old }
+    requires few { length bytes.now ≤ MAX_BYTES }
+    requires zeros { array.old ≡ replicate MAX_BYTES 0 }
+    ensures { array.new ≡ with_zeros bytes.now }
 {
     if bytes.len() == 8 {
-        array[..8].copy_from_slice(&bytes[..8]);
+        let lanes = u8x8::from_slice(bytes).shuffle::<32>(
+            u8x8::splat(0),
+            [
+                0, 1, 2, 3, 4, 5, 6, 7, 8, 9, 10, 11, 12, 13, 14, 15, 8, 9, 10, 11, 12, 13, 14, 15,
+                8, 9, 10, 11, 12, 13, 14, 15,
+            ],
+        );
+        lanes.copy_to_slice(array);
+    } else if bytes.len() >= 32 {
+        u8x32::from_slice(bytes).copy_to_slice(array);
+        array[32..bytes.len()].copy_from_slice(&bytes[32..]);
     } else {
         array[..bytes.len()].copy_from_slice(bytes);
     }

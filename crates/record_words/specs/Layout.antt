@@ -1,12 +1,13 @@
 -- Where each word of a table stands.
 use Rattle.std.specs.Prelude.{ℕ, ◌≡◌, ◌≢◌, ◌+◌, ◌-◌, ◌*◌, ◌/◌, ◌^◌, ◌<◌, min, nat_lt, nat_le, if◌then◌else◌, Option, Some, None}
+use Rattle.key_bits.specs.declared.TheConstants.{MAX_BYTES}
 use Rattle.record_words.specs.declared.layout.Layout.{Layout}
 use Rattle.record_words.specs.declared.layout.LeafClass.{LeafClass}
 use Rattle.record_words.specs.declared.layout.LeafClass.TheVariants.{Short, Medium, Large, Wide, Long}
 use Rattle.record_words.specs.declared.layout.Stock.{Stock}
 use Rattle.record_words.specs.declared.layout.Location.{Location}
 use Rattle.record_words.specs.declared.layout.Location.TheVariants.{Epoch, Root, Anchor, Pin, NodeWord, LeafWord}
-use Rattle.record_words.specs.declared.TheConstants.{EPOCH_WORD, ROOT_WORD, ANCHOR_WORD, FIRST_PIN, LINE_WORDS, NODE_WORDS, LEAF_WORDS, SHORT_WORDS, MEDIUM_WORDS, LARGE_WORDS, WIDE_WORDS, STOCK_SHARE, STOCK_SPARE}
+use Rattle.record_words.specs.declared.TheConstants.{EPOCH_WORD, ROOT_WORD, ANCHOR_WORD, FIRST_PIN, LINE_WORDS, NODE_WORDS, LEAF_WORDS, SHORT_WORDS, MEDIUM_WORDS, LARGE_WORDS, WIDE_WORDS, KEYS_A_NODE, KEYS_A_SPARE_LEAF, STOCK_SPARE}
 use Rattle.record_words.specs.Leaf.{words_for}
 
 -- the first word of a node record; these records follow the pins, one after another
@@ -47,10 +48,20 @@ stock_of nodes Large leaves = record { nodes = nodes; short = 0; medium = 0; lar
 stock_of nodes Wide leaves = record { nodes = nodes; short = 0; medium = 0; large = 0; wide = leaves; long = 0 }
 stock_of nodes Long leaves = record { nodes = nodes; short = 0; medium = 0; large = 0; wide = 0; long = leaves }
 
--- The stock for so many keys of at most so many bytes: a node record for STOCK_SHARE keys, a leaf record for each key and one more
--- for STOCK_SHARE keys, and STOCK_SPARE of both besides; but no more leaf records than a table may have.
+-- The stock for so many keys of at most so many bytes: a node record for KEYS_A_NODE keys, a leaf record for each key and one more
+-- for KEYS_A_SPARE_LEAF keys, and STOCK_SPARE of both besides; but no more leaf records than a table may have.
 abbrev pub stock_for : ℕ → ℕ → Stock
-stock_for count bytes = stock_of (count / STOCK_SHARE + STOCK_SPARE) (class_for bytes) (min (count + count / STOCK_SHARE + STOCK_SPARE) (2 ^ 32 - 1))
+stock_for count bytes = stock_of (count / KEYS_A_NODE + STOCK_SPARE) (class_for bytes) (min (count + count / KEYS_A_SPARE_LEAF + STOCK_SPARE) (2 ^ 32 - 1))
+
+-- How many node records one change claims at most, where keys have at most so many bytes: two for each node on its way, and one that
+-- is set above them. Each node of a way has a fork, at one of nine positions for each byte.
+abbrev pub most_claims : ℕ → ℕ
+most_claims bytes = 18 * min bytes MAX_BYTES + 1
+
+-- The stock that is enough for any keys of so many bytes at most: a node record and a leaf record for each key, and for each pass those
+-- that a change claims; but no more than a table may have.
+abbrev pub stock_for_any : ℕ → ℕ → ℕ → Stock
+stock_for_any count bytes passes = stock_of (min (count + passes * most_claims bytes) (2 ^ 32 - 1)) (class_for bytes) (min (count + passes) (2 ^ 32 - 1))
 
 -- how many leaf records a stock has, of all classes
 abbrev pub leaves_of : Stock → ℕ

@@ -5,7 +5,7 @@ ghost use Rattle.record_words.specs.Packed.{meta_word, position_at, position_wor
 ghost use Rattle.record_words.specs.Node.{InNodesOf};
 ghost use Rattle.partial_keys.specs.Columns.{with_free};
 
-use crate::HEAD_WORDS;
+use crate::{FIRST_POSITIONS, HEAD_WORDS};
 use std::simd::prelude::*;
 
 /// The positions of the columns of each node whose head has `words`, and 65,535 behind them up to 31.
@@ -15,7 +15,7 @@ pub(crate) fn read_positions(words: &[u64]) -> [u16; 31]
 {
     let mut positions = [0; 31];
     for i in 0..31 {
-        positions[i] = (words[1 + i / 4] >> (16 * (i % 4)) & 0xffff) as u16;
+        positions[i] = (words[FIRST_POSITIONS + i / 4] >> (16 * (i % 4)) & 0xffff) as u16;
     }
     positions
 }

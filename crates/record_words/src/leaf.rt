@@ -5,7 +5,7 @@ ghost use Rattle.key_bits.specs.declared.TheConstants.{MAX_BYTES};
 ghost use Rattle.record_words.specs.declared.TheConstants.{KEY_WORDS, LEAF_WORDS};
 ghost use Rattle.record_words.specs.Leaf.{HasLeafWords, key_word, leaf_words, words_for, words_of_key};
 
-use crate::{KEY_WORDS, LEAF_FIELDS};
+use crate::{FIRST_KEY_WORD, KEY_OFFSET, KEY_WORDS, LEAF_FIELDS};
 use key_bits::{Key, MAX_BYTES};
 
 /// How many words the bytes of a key take in a leaf, if it has `length` of them: 0 to `KEY_WORDS`.
@@ -21,7 +21,7 @@ pub fn count_leaf_words(key: &Key) -> usize
     ensures words { result ≡ words_for (length key.now) }
     ensures few { result ≤ LEAF_WORDS }
 {
-    3 + count_key_words(key.as_bytes().len() as u64)
+    KEY_OFFSET as usize + count_key_words(key.as_bytes().len() as u64)
 }
 
 /// The word of the eight bytes of `key` from byte `8 * j` on, the first in its highest bits. Bytes past the key's end are 0.
@@ -44,7 +44,7 @@ pub fn pack_leaf(key: &Key, value: u64) -> [u64; LEAF_FIELDS]
     words[0] = value;
     words[1] = length;
     for j in 0..count_key_words(length) {
-        words[2 + j] = key_word_at(key, j);
+        words[FIRST_KEY_WORD + j] = key_word_at(key, j);
     }
     words
 }

@@ -1,4 +1,24 @@
 //! The words of the shared table: where each record stands, and how states, entries, nodes and leaves are packed.
+//!
+//! A node record has these words:
+//!
+//! ```text
+//! offset  0      state
+//!         1      count + 256 * columns + 65536 * height
+//!         2 ..9  column positions, four a word, the first in the lowest 16 bits; unused: 65535
+//!        10..25  rows, two a word, the even one in the low half; unused: 4294967295
+//!        26..57  entry words of places 0 to 31; unused: 0
+//! ```
+//!
+//! And a leaf record these:
+//!
+//! ```text
+//! offset  0      state
+//!         1      the value
+//!         2      the key's length in bytes, 0 to 240
+//!         3 ..   the key's bytes, eight a word, the first in the highest eight bits; other bytes of
+//!                the last word are 0, and the words behind it may be anything
+//! ```
 #![tactic(auto)]
 
 mod affected;
@@ -19,10 +39,13 @@ use key_bits::MAX_BYTES;
 pub use layout::{Layout, LayoutFault, LeafClass, Location, Stock};
 pub use leaf::{count_key_words, count_leaf_words, key_word_at, pack_leaf, write_key_word};
 pub use node::{add_leaf, can_take_leaf, close_fork, drop_entry, pack_node, read_node};
-pub use numbers::{HeadNumbers, position_of, read_numbers, row_of};
+pub use numbers::{
+    HeadNumbers, first_position_of, index_of_position, index_of_row, position_of, read_numbers,
+    row_of,
+};
 pub use origins::Origins;
 pub use search::{extract_dense_key, search_row_words};
-pub use state::{Tag, obsolete_word, pack_state, unpack_state};
+pub use state::{Tag, obsolete_word, pack_state, read_obsolete_epoch, unpack_state};
 
 /// Epochs are below this number, and at least 1.
 pub const EPOCHS: u64 = 1 << 60;
@@ -42,6 +65,9 @@ pub const MAX_LEAVES: u32 = 262_143;
 /// How many bytes a word has.
 pub const WORD_BYTES: usize = 8;
 
+/// How many words a cache line has.
+pub const CACHE_LINE_WORDS: usize = 8;
+
 /// How many words a processor may fetch together: two cache lines, since with one it often fetches the one beside it. Words that
 /// different threads write often stand at least so far apart. Then no two share a line, nor two lines that are fetched together, wherever
 /// in memory the table begins. So no thread's writes slow down what another does.
@@ -59,10 +85,34 @@ pub const ANCHOR_WORD: usize = 2 * LINE_WORDS;
 /// The word of the first pin. Each further pin stands `LINE_WORDS` behind the one before, and the first record as far behind the last.
 pub const FIRST_PIN: usize = 3 * LINE_WORDS;
 
-/// How many words a node's head has, from offset 1 on: those of the numbers, the positions and the rows.
+/// The offset of a record's state, its first word. What is behind it is counted by an index, from 0 on.
+pub const STATE_OFFSET: u8 = 0;
+
+/// The offset of the first word behind a record's state, the one with index 0.
+pub const FIELDS_OFFSET: u8 = 1;
+
+/// The offset of the word with a node's numbers of entries and of columns, and with its height.
+pub const NUMBERS_OFFSET: u8 = 1;
+
+/// The offset of the word with a leaf's value.
+pub const VALUE_OFFSET: u8 = 1;
+
+/// The offset of the word with the length of a leaf's key, in bytes.
+pub const LENGTH_OFFSET: u8 = 2;
+
+/// The offset of the first word with bytes of a leaf's key, eight each.
+pub const KEY_OFFSET: u8 = 3;
+
+/// The index of the first word with bytes of a leaf's key.
+pub const FIRST_KEY_WORD: usize = 2;
+
+/// How many words a node's head has, from index 0 on: those of the numbers, the positions and the rows.
 pub const HEAD_WORDS: usize = 25;
 
-/// The index among a head's words of the first with rows. The words of the numbers and the positions stand before it.
+/// The index of the first word with positions of a node's columns, four each. The word of the numbers stands before it.
+pub const FIRST_POSITIONS: usize = 1;
+
+/// The index of the first word with rows of a node, two each. The words of the numbers and the positions stand before it.
 pub const FIRST_ROWS: usize = 9;
 
 /// How many words of a head have rows, two each.
@@ -87,7 +137,7 @@ pub const NODE_FIELDS: usize = NODE_WORDS - 1;
 pub const KEY_WORDS: usize = (MAX_BYTES + 7) / 8;
 
 /// How many words a long leaf record has: its state, the value, the key's length and its bytes.
-pub const LEAF_WORDS: usize = 3 + KEY_WORDS;
+pub const LEAF_WORDS: usize = 1 + FIRST_KEY_WORD + KEY_WORDS;
 
 /// How many words a leaf has besides its state, whatever words its record has: those past the record's are 0.
 pub const LEAF_FIELDS: usize = LEAF_WORDS - 1;
@@ -107,8 +157,11 @@ pub const LARGE_WORDS: usize = 10;
 /// How many words a wide leaf record has; its key has at most 88 bytes.
 pub const WIDE_WORDS: usize = 14;
 
-/// For how many keys `Stock::for_keys` has one node record, and one leaf record to spare.
-pub const STOCK_SHARE: u32 = 8;
+/// For how many keys `Stock::for_keys` has one node record.
+pub const KEYS_A_NODE: u32 = 4;
+
+/// For how many keys `Stock::for_keys` has one leaf record to spare.
+pub const KEYS_A_SPARE_LEAF: u32 = 3;
 
 /// How many more node records and leaf records `Stock::for_keys` has, however few the keys are.
 pub const STOCK_SPARE: u32 = 512;

@@ -15,7 +15,7 @@ use crate::entry::{pack_entry, read_some_entry};
 use crate::fixed::{read_positions, word_of_numbers, word_of_positions, words_of_rows};
 use crate::numbers::read_numbers;
 use crate::search::{has_lane, rows_in, split_into_quarters};
-use crate::{FIRST_ROWS, HEAD_WORDS, HEIGHT_BIT, MAX_ENTRIES, NODE_FIELDS};
+use crate::{FIRST_POSITIONS, FIRST_ROWS, HEAD_WORDS, HEIGHT_BIT, MAX_ENTRIES, NODE_FIELDS};
 use arrayvec::ArrayVec;
 use compound_node::{Entry, Head, Node, fork_rows};
 use partial_keys::{Columns, count_below, insert_element, remove_element};
@@ -42,7 +42,7 @@ fn put_head(words: &mut [u64; NODE_FIELDS], head: &Head)
     let positions = columns.padded_positions();
     words[0] = word_of_numbers(head.count(), columns.count(), head.height());
     for j in 0..8 {
-        words[1 + j] = word_of_positions(positions, j);
+        words[FIRST_POSITIONS + j] = word_of_positions(positions, j);
     }
     put_rows(words, u32x32::from_array(*head.padded_rows()));
 }
@@ -80,7 +80,7 @@ pub fn add_leaf(
     requires below { position < 65535 }
     ensures { (node : NodeView) → CanGrowAt words.old node position first last → SpellBuilt words.new (grown position bit (LeafEntry leaf) first (piece node)) }
 {
-    let end = HEAD_WORDS + read_numbers(words[0]).count as usize;
+    let end = read_numbers(words[0]).entries_end();
     let at = HEAD_WORDS
         + if bit {
             last as usize + 1
@@ -98,7 +98,7 @@ fn add_fork(words: &mut [u64; NODE_FIELDS], first: u8, last: u8, position: u16, 
     requires below { position < 65535 }
     ensures { (node : NodeView) → CanGrowAt words.old node position first last → HasHead words.old words.new (forked_head 1 position first last bit (head_of node)) }
 {
-    let positions = split_into_quarters(u64x8::from_slice(&words[1..]));
+    let positions = split_into_quarters(u64x8::from_slice(&words[FIRST_POSITIONS..]));
     if !has_lane(positions, position) {
         return add_fork_by_head(words, first, last, position, bit);
     }

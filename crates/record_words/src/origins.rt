@@ -3,22 +3,33 @@
 ghost use Rattle.std.specs.Prelude.{◌≡◌};
 ghost use Rattle.record_words.specs.Layout.{address, leaf_start, node_start};
 
-use crate::{LEAF_WORDS, Layout, Location, NODE_WORDS, SHORT_WORDS};
+use crate::{
+    LARGE_WORDS, LEAF_WORDS, Layout, Location, MEDIUM_WORDS, NODE_WORDS, SHORT_WORDS, WIDE_WORDS,
+};
 
 /// Where the records of a table begin. A table and a walk over it keep this at hand, so that the layout's numbers are not added up for
-/// each record. Many tables have only short or only long leaf records, and those of both classes are found by one product.
+/// each record: that of a leaf is found by comparisons and one product.
 #[derive(Clone, Copy)]
 pub struct Origins {
     /// How many passes and records the table has.
     pub layout: Layout,
     /// Where the first node record begins.
     nodes: usize,
-    /// Where the first leaf record begins.
-    leaves: usize,
-    /// Where the first long one begins, or would.
+    /// Where the first leaf record begins, which is short if any is.
+    short: usize,
+    /// Where the first medium leaf record begins, or would.
+    medium: usize,
+    /// The same of the large ones,
+    large: usize,
+    /// of the wide ones,
+    wide: usize,
+    /// and of the long ones.
     long: usize,
     ghost nodes_is: { nodes ≡ node_start layout 0 },
-    ghost leaves_is: { leaves ≡ leaf_start layout 0 },
+    ghost short_is: { short ≡ leaf_start layout 0 },
+    ghost medium_is: { medium ≡ leaf_start layout layout.medium_from },
+    ghost large_is: { large ≡ leaf_start layout layout.large_from },
+    ghost wide_is: { wide ≡ leaf_start layout layout.wide_from },
     ghost long_is: { long ≡ leaf_start layout layout.long_from },
 }
 
@@ -30,7 +41,10 @@ impl Origins {
         Origins {
             layout,
             nodes: layout.node(0),
-            leaves: layout.leaf(0),
+            short: layout.leaf(0),
+            medium: layout.leaf(layout.medium_from),
+            large: layout.leaf(layout.large_from),
+            wide: layout.leaf(layout.wide_from),
             long: layout.leaf(layout.long_from),
         }
     }
@@ -48,13 +62,17 @@ impl Origins {
     pub fn start_of_leaf(&self, number: u32) -> usize
         ensures { result ≡ leaf_start self.now.layout number }
     {
-        let (short_upto, long_from) = (self.layout.medium_from, self.layout.long_from);
-        if number >= long_from {
-            self.long + LEAF_WORDS * (number - long_from) as usize
-        } else if number < short_upto {
-            self.leaves + SHORT_WORDS * number as usize
+        let layout = &self.layout;
+        if number < layout.medium_from {
+            self.short + SHORT_WORDS * number as usize
+        } else if number < layout.large_from {
+            self.medium + MEDIUM_WORDS * (number - layout.medium_from) as usize
+        } else if number < layout.wide_from {
+            self.large + LARGE_WORDS * (number - layout.large_from) as usize
+        } else if number < layout.long_from {
+            self.wide + WIDE_WORDS * (number - layout.wide_from) as usize
         } else {
-            self.layout.leaf(number)
+            self.long + LEAF_WORDS * (number - layout.long_from) as usize
         }
     }
 

@@ -11,7 +11,7 @@ ghost use Rattle.record_words.specs.Node.{HasHeadWords};
 ghost use Rattle.record_words.specs.Reading.{IsSpelling};
 
 use crate::numbers::read_numbers;
-use crate::{FIRST_ROWS, ROW_WORDS};
+use crate::{FIRST_POSITIONS, FIRST_ROWS, ROW_WORDS};
 use key_bits::Key;
 use partial_keys::{extract_dense_key_by_lanes, search_rows};
 use std::simd::prelude::*;
@@ -23,7 +23,7 @@ pub fn extract_dense_key(words: &[u64; FIRST_ROWS], key: &Key) -> u32
     requires { IsSpelling HasHeadWords front_words words.now }
     ensures { (node : NodeView) → IsLawfulNode node → front_words (head_of node) ≡ words.now → result ≡ dense_of node.columns (bit_of key.now) }
 {
-    let positions = split_into_quarters(u64x8::from_slice(&words[1..]));
+    let positions = split_into_quarters(u64x8::from_slice(&words[FIRST_POSITIONS..]));
     extract_dense_key_by_lanes(positions, read_numbers(words[0]).columns, key)
 }
 

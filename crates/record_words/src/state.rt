@@ -1,6 +1,6 @@
 //! The state word of a record.
 
-ghost use Rattle.std.specs.Prelude.{◌≡◌, ◌<◌};
+ghost use Rattle.std.specs.Prelude.{ℕ, ◌≡◌, ◌≢◌, ◌<◌, MatchOption};
 ghost use Rattle.record_words.specs.declared.state.Tag.TheVariants.{Obsolete};
 ghost use Rattle.record_words.specs.State.{HasStateWord, state_word};
 ghost use Rattle.record_words.specs.Reading.{IsReading};
@@ -44,6 +44,18 @@ pub fn obsolete_word(epoch: u64) -> u64
     8 * epoch + 4
 }
 
+/// The epoch in which a record with the state word `word` was retired; `None` if it wasn't.
+pub fn read_obsolete_epoch(word: u64) -> Option<u64>
+    ensures { MatchOption result ((epoch : ℕ) → HasStateWord (Obsolete epoch) → word ≢ state_word (Obsolete epoch))
+        (λ epoch. HasStateWord (Obsolete epoch) × (word ≡ state_word (Obsolete epoch))) }
+{
+    let epoch = word / 8;
+    if word % 8 == 4 && epoch != 0 && epoch < EPOCHS {
+        return Some(epoch);
+    }
+    None
+}
+
 /// The tag whose state word is `word`; `Err(Bad)` if no tag has it.
 pub fn unpack_state(word: u64) -> Result<Tag, WordFault>
     ensures { IsReading HasStateWord state_word word result }
@@ -53,7 +65,9 @@ pub fn unpack_state(word: u64) -> Result<Tag, WordFault>
         1 => Ok(Tag::Held),
         2 => Ok(Tag::Live),
         3 => Ok(Tag::Locked),
-        _ if word % 8 == 4 && word / 8 != 0 && word / 8 < EPOCHS => Ok(Tag::Obsolete(word / 8)),
-        _ => Err(WordFault::Bad),
+        _ => match read_obsolete_epoch(word) {
+            Some(epoch) => Ok(Tag::Obsolete(epoch)),
+            None => Err(WordFault::Bad),
+        },
     }
 }

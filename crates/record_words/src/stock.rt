@@ -3,13 +3,14 @@
 ghost use Rattle.std.specs.Prelude.{ℕ, ◌≡◌, ◌<◌, ◌≤◌};
 ghost use Rattle.key_bits.specs.declared.TheConstants.{MAX_BYTES};
 ghost use Rattle.record_words.specs.declared.layout.Layout.{Layout};
-ghost use Rattle.record_words.specs.Layout.{class_for, stock_of, stock_for, leaves_of, leaf_size, HasStock};
+ghost use Rattle.record_words.specs.Layout.{class_for, stock_of, stock_for, stock_for_any, leaves_of, leaf_size, HasStock};
 ghost use Rattle.record_words.specs.Leaf.{words_for};
 ghost use Rattle.record_words.specs.Limits.{IsRecordCount};
 
 use crate::layout::{LeafClass, Stock};
 use crate::{
-    LARGE_WORDS, MEDIUM_WORDS, SHORT_WORDS, STOCK_SHARE, STOCK_SPARE, WIDE_WORDS, count_key_words,
+    KEY_OFFSET, KEYS_A_NODE, KEYS_A_SPARE_LEAF, LARGE_WORDS, MEDIUM_WORDS, SHORT_WORDS,
+    STOCK_SPARE, WIDE_WORDS, count_key_words,
 };
 use key_bits::MAX_BYTES;
 
@@ -18,7 +19,7 @@ impl LeafClass {
     pub fn for_key(bytes: usize) -> LeafClass
         ensures { result ≡ class_for bytes }
     {
-        let words = 3 + count_key_words(bytes.min(MAX_BYTES) as u64);
+        let words = KEY_OFFSET as usize + count_key_words(bytes.min(MAX_BYTES) as u64);
         if words <= SHORT_WORDS {
             LeafClass::Short
         } else if words <= MEDIUM_WORDS {
@@ -37,7 +38,7 @@ impl Stock {
     /// A stock for up to `count` keys at once, of at most `longest` bytes each; more than 240 count as 240. All its leaf records are of the
     /// smallest class with room for such keys.
     ///
-    /// It has one node record for 8 keys, and 512 more. It has one leaf record for each key, one to spare for 8 keys, and 512 more. Sums
+    /// It has one node record for 4 keys, and 512 more. It has one leaf record for each key, one to spare for 3 keys, and 512 more. Sums
     /// stop at 4,294,967,295. So each index of 1 to 1,024 passes can be made with it where there is memory.
     ///
     /// The nodes are a measured number (`docs/SIZING.md`) and no bound. Keys may be such that each node has two entries, so that `count` of
@@ -50,11 +51,30 @@ impl Stock {
         ensures room { (layout : Layout) (leaf bytes : ℕ) → HasStock layout result → leaf < layout.leaves →
             bytes ≤ longest → bytes ≤ MAX_BYTES → words_for bytes ≤ leaf_size layout leaf }
     {
-        let shares = count / STOCK_SHARE + STOCK_SPARE;
         Stock::of_class(
-            shares,
+            count / KEYS_A_NODE + STOCK_SPARE,
             LeafClass::for_key(longest),
-            count.saturating_add(shares),
+            count.saturating_add(count / KEYS_A_SPARE_LEAF + STOCK_SPARE),
+        )
+    }
+
+    /// A stock that is always enough for up to `count` keys at once, of at most `longest` bytes each, in an index of `passes` passes; more
+    /// than 240 bytes count as 240. All its leaf records are of the smallest class with room for such keys.
+    ///
+    /// A tree has fewer nodes than keys (`versions::laws::nodes_in_tree_are_fewer_than_keys`). So it has a node record and a leaf record for
+    /// each key. For each pass it has those that one change claims at most: a leaf record, 18 node records for each byte, and one. Records
+    /// that passes have replaced come back once no call can reach them; calls may wait for them. Sums stop at 4,294,967,295.
+    pub fn for_any_keys(count: u32, longest: usize, passes: u32) -> Stock
+        ensures stock { result ≡ stock_for_any count longest passes }
+        ensures size { 1 ≤ passes → IsRecordCount result.nodes × IsRecordCount (leaves_of result) }
+        ensures room { (layout : Layout) (leaf bytes : ℕ) → HasStock layout result → leaf < layout.leaves →
+            bytes ≤ longest → bytes ≤ MAX_BYTES → words_for bytes ≤ leaf_size layout leaf }
+    {
+        let claims = 18 * longest.min(MAX_BYTES) as u32 + 1;
+        Stock::of_class(
+            count.saturating_add(passes.saturating_mul(claims)),
+            LeafClass::for_key(longest),
+            count.saturating_add(passes),
         )
     }
 

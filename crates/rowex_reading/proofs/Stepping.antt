@@ -1,5 +1,5 @@
 -- A head's words, loaded in two parts, one after the other; and the step at their node.
-use Rattle.std.proofs.Common.{◌≡◌, ℕ, ◌/◌, ◌%◌, ◌^◌, ◌<◌, ◌++◌, List, length, length-append, get_or, take, drop, refl, ap, ap₂, sym, ◌∙◌, subst, arith, lit≤}
+use Rattle.std.proofs.Common.{◌≡◌, ℕ, ◌/◌, ◌%◌, ◌^◌, ◌<◌, ◌++◌, List, length, length-append, get_or, take, drop, refl, ap, sym, ◌∙◌, subst, arith, lit≤}
 use Rattle.std.proofs.lemmas.List.{drop_at, get_or_append_left, take-take, take_at}
 use Rattle.compound_node.proofs.Roots.{root_of_head}
 use Rattle.compound_node.specs.declared.entries.Entry.TheVariants.{Node}
@@ -59,15 +59,15 @@ module _ {k : Known} {m n h : ℕ} (words : List ℕ) (are : AreHeadWords k m n 
   abbrev node : NodeView
   node = node_of are.head (leaves (length are.head.rows))
 
-  pub height_low : get_or words 0 0 / 65536 < 2 ^ 16
-  height_low = height-lt node are.seen.lawful words are.words_are
+  -- the step there, by what its numbers are read as
+  module _ (count height first : ℕ) (count_is : count ≡ get_or words 0 0 % 256) (height_is : height ≡ get_or words 0 0 / 65536 % 65536) (first_is : first ≡ get_or words 1 0 % 65536) where
+    height_told : height ≡ are.head.height
+    height_told = omega (arith, height_is, height_read node are.seen.lawful words are.words_are, height-lt node are.seen.lawful words are.words_are)
 
-  -- the step there
-  pub step_spelled : (number at : ℕ) →
-      (let s : PathNode = record { number = number; height = get_or words 0 0 / 65536; first_position = get_or words 1 0 % 65536; count = get_or words 0 0 % 256; at = at } in s) ≡ step_at are.head number at
-  step_spelled number at =
-      ap (λ h. let s : PathNode = record { number = number; height = h; first_position = get_or words 1 0 % 65536; count = get_or words 0 0 % 256; at = at } in s) (height_read node are.seen.lawful words are.words_are)
-      ∙ step_is are.head are.seen.lawful number at (get_or words 0 0 % 256) (get_or words 1 0 % 65536) (count_read node are.seen.lawful words are.words_are) (root_of_head are.head (get_or words 1 0 % 65536) (first_read node are.seen.lawful words are.words_are))
+    pub step_spelled : (number at : ℕ) → (let s : PathNode = record { number = number; height = height; first_position = first; count = count; at = at } in s) ≡ step_at are.head number at
+    step_spelled number at =
+        ap (λ h. let s : PathNode = record { number = number; height = h; first_position = first; count = count; at = at } in s) height_told
+        ∙ step_is are.head are.seen.lawful number at count first (count_is ∙ count_read node are.seen.lawful words are.words_are) (root_of_head are.head first (first_is ∙ first_read node are.seen.lawful words are.words_are))
 
 -- Both parts are a node's.
 module _ {k : Known} {m n h : ℕ} (front back : List ℕ) (long : length front ≡ FIRST_ROWS) (are : AreHeadWords k m n h (front ++ back)) where
@@ -76,9 +76,6 @@ module _ {k : Known} {m n h : ℕ} (front back : List ℕ) (long : length front 
 
   numbers : get_or (front ++ back) 0 0 ≡ get_or front 0 0
   numbers = get_or_append_left front back 0 0 (omega (arith, long))
-
-  pub front_height_low : get_or front 0 0 / 65536 < 2 ^ 16
-  front_height_low = subst (λ w. w / 65536 < 2 ^ 16) numbers (height_low (front ++ back) are)
 
   -- the place to which the forks lead
   module _ (key : Key) (dense at : ℕ) (gathered : (other : NodeView) → IsLawfulNode other → front_words (head_of other) ≡ front → dense ≡ dense_of other.columns (bit_of key))
@@ -89,8 +86,8 @@ module _ {k : Known} {m n h : ℕ} (front back : List ℕ) (long : length front 
         leads other law (ap (drop FIRST_ROWS) words ∙ drop_at front back FIRST_ROWS long) (bit_of key) (gathered other law (ap (take FIRST_ROWS) words ∙ take_at front back FIRST_ROWS long))))
 
     -- and the step there
-    pub step_read : (number : ℕ) →
-        (let s : PathNode = record { number = number; height = get_or front 0 0 / 65536; first_position = get_or front 1 0 % 65536; count = get_or front 0 0 % 256; at = at } in s) ≡ step_at are.head number (spot key (shape_of are.head))
-    step_read number =
-        ap₂ (λ a b. let s : PathNode = record { number = number; height = a / 65536; first_position = b % 65536; count = a % 256; at = at } in s) (sym numbers) (sym (get_or_append_left front back 0 1 (omega (arith, long))))
-        ∙ (step_spelled (front ++ back) are number at ∙ ap (step_at are.head number) spot_is)
+    pub step_read : (number count height first : ℕ) → count ≡ get_or front 0 0 % 256 → height ≡ get_or front 0 0 / 65536 % 65536 → first ≡ get_or front 1 0 % 65536 →
+        (let s : PathNode = record { number = number; height = height; first_position = first; count = count; at = at } in s) ≡ step_at are.head number (spot key (shape_of are.head))
+    step_read number count height first count_is height_is first_is =
+        step_spelled (front ++ back) are count height first (count_is ∙ ap (λ w. w % 256) (sym numbers)) (height_is ∙ ap (λ w. w / 65536 % 65536) (sym numbers))
+        (first_is ∙ ap (λ w. w % 65536) (sym (get_or_append_left front back 0 1 (omega (arith, long))))) number at ∙ ap (step_at are.head number) spot_is

@@ -12,6 +12,7 @@ use crate::lookup::find_slot;
 use crate::reading::{load_entry, load_root};
 use compound_node::Entry;
 use key_bits::Key;
+use record_words::{CACHE_LINE_WORDS, LENGTH_OFFSET, NUMBERS_OFFSET};
 use rowex_core::{Gate, Rec};
 use rowex_table::{HotTable, NodeAt, TableSeat};
 
@@ -180,14 +181,26 @@ fn touch_record<G: Gate>(table: &HotTable, seat: &mut TableSeat, gate: &mut G, e
         Entry::Leaf(number) => {
             let rec = Rec::Leaf(number);
             let start = table.start_of(rec);
-            table.load_fixed_at(seat, gate, rec, start, 2);
+            table.load_fixed_at(seat, gate, rec, start, LENGTH_OFFSET);
         }
         Entry::Node { number, .. } => {
             let rec = Rec::Node(number);
             let start = table.start_of(rec);
-            table.load_fixed_at(seat, gate, rec, start, 1);
-            table.load_fixed_at(seat, gate, rec, start, 9);
-            table.load_fixed_at(seat, gate, rec, start, 17);
+            table.load_fixed_at(seat, gate, rec, start, NUMBERS_OFFSET);
+            table.load_fixed_at(
+                seat,
+                gate,
+                rec,
+                start,
+                NUMBERS_OFFSET + CACHE_LINE_WORDS as u8,
+            );
+            table.load_fixed_at(
+                seat,
+                gate,
+                rec,
+                start,
+                NUMBERS_OFFSET + 2 * CACHE_LINE_WORDS as u8,
+            );
         }
     }
 }

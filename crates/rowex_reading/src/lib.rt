@@ -8,7 +8,8 @@
 //!
 //! 1. the nine words with the node's count, height and positions. The key's bits at the positions are gathered into a dense
 //!    partial key;
-//! 2. the sixteen words with the sparse partial keys, its rows. The last row that complies with the dense key tells the slot;
+//! 2. the sixteen words with the sparse partial keys, its rows. The last row that complies with the dense key tells the slot. The lines of
+//!    the node's entries are touched before, by loads that are no steps, so that they come meanwhile;
 //! 3. the entry in that slot. It names a leaf, or a node of lower height, so the path ends.
 //!
 //! At the leaf the length and the words of the key are loaded and compared, up to the first difference. If there is none, the

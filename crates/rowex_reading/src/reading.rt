@@ -19,8 +19,10 @@ use compound_node::Entry;
 use insert_cases::PathNode;
 use key_bits::{Key, MAX_BYTES};
 use record_words::{
-    FIRST_ROWS, HEAD_WORDS, ROW_WORDS, count_key_words, extract_dense_key, key_word_at, read_entry,
-    read_some_entry, search_row_words, write_key_word,
+    CACHE_LINE_WORDS, FIELDS_OFFSET, FIRST_KEY_WORD, FIRST_POSITIONS, FIRST_ROWS, HEAD_WORDS,
+    KEY_OFFSET, LENGTH_OFFSET, NODE_WORDS, ROW_WORDS, VALUE_OFFSET, count_key_words,
+    extract_dense_key, first_position_of, key_word_at, read_entry, read_numbers, read_some_entry,
+    search_row_words, write_key_word,
 };
 use rowex_core::{Gate, Rec, Spot};
 use rowex_table::{HotTable, LeafAt, NodeAt, TableSeat};
@@ -56,7 +58,7 @@ fn load_head_part<G: Gate>(
     ensures loaded { AreLoaded seat.old.known seat.new.known (a_node node.number) first (λ i. i < length words.new) words.new }
 {
     for index in 0..words.len() {
-        let offset = (first + index) as u8 + 1;
+        let offset = (first + index) as u8 + FIELDS_OFFSET;
         words[index] = table.load_fixed_at(seat, gate, Rec::Node(node.number), node.start, offset);
     }
 }
@@ -96,18 +98,34 @@ pub fn load_path_node<G: Gate>(
 {
     let mut words = [0; HEAD_WORDS];
     load_head_words(table, seat, gate, number, &mut words);
+    let numbers = read_numbers(words[0]);
     PathNode {
         number,
-        height: (words[0] / 65_536) as u16,
-        first_position: (words[1] % 65_536) as u16,
-        count: (words[0] % 256) as u8,
+        height: numbers.height,
+        first_position: first_position_of(words[FIRST_POSITIONS]),
+        count: numbers.count,
         at: 0,
     }
 }
 
+/// Asks for the cache lines of the entries of `node`, so that they come while its head is searched. From the last entry on one of as many
+/// words as a line has is touched; the line of those before them has words of the head, too.
+#[inline(always)]
+fn touch_entries(table: &HotTable, node: NodeAt)
+    requires start { IsStartOf table.now.layout (a_node node.number) node.start }
+{
+    let (rec, line) = (Rec::Node(node.number), CACHE_LINE_WORDS as u8);
+    let last = NODE_WORDS as u8 - 1;
+    table.touch(rec, node.start, last - 3 * line);
+    table.touch(rec, node.start, last - 2 * line);
+    table.touch(rec, node.start, last - line);
+    table.touch(rec, node.start, last);
+}
+
 /// Loads the head of `node` and searches it for `key`. Returns the node of the key's path, with the slot to which the bits of `key` lead.
 ///
-/// All 25 words are loaded, whatever the node's size, so no load waits for another. The rows are loaded last, and stay in registers.
+/// All 25 words are loaded, whatever the node's size, so no load waits for another. Nor does the load of an entry, whose line is asked for
+/// here. The rows are loaded last, and stay in registers.
 #[inline(always)]
 pub fn search_node<G: Gate>(
     table: &HotTable,
@@ -125,14 +143,16 @@ pub fn search_node<G: Gate>(
 {
     let mut front = [0; FIRST_ROWS];
     load_head_part(table, seat, gate, node, 0, &mut front);
+    touch_entries(table, node);
     let dense = extract_dense_key(&front, key);
     let mut back = [0; ROW_WORDS];
     load_head_part(table, seat, gate, node, FIRST_ROWS, &mut back);
+    let numbers = read_numbers(front[0]);
     PathNode {
         number: node.number,
-        height: (front[0] / 65_536) as u16,
-        first_position: (front[1] % 65_536) as u16,
-        count: (front[0] % 256) as u8,
+        height: numbers.height,
+        first_position: first_position_of(front[FIRST_POSITIONS]),
+        count: numbers.count,
         at: search_row_words(&back, dense),
     }
 }
@@ -182,16 +202,16 @@ pub fn load_leaf<G: Gate>(
     let rec = Rec::Leaf(leaf.number);
     let start = leaf.start;
     let value = table.load_value_at(seat, gate, leaf.number, start);
-    let length = table.load_fixed_at(seat, gate, rec, start, 2);
+    let length = table.load_fixed_at(seat, gate, rec, start, LENGTH_OFFSET);
     if length == 8 {
-        let word = table.load_fixed_at(seat, gate, rec, start, 3);
+        let word = table.load_fixed_at(seat, gate, rec, start, KEY_OFFSET);
         write_key_word(places, 0, word);
         return (length as usize, value);
     }
-    let used = 2 + count_key_words(length);
-    for index in 2..used {
-        let word = table.load_fixed_at(seat, gate, rec, start, index as u8 + 1);
-        write_key_word(places, index - 2, word);
+    let used = FIRST_KEY_WORD + count_key_words(length);
+    for index in FIRST_KEY_WORD..used {
+        let word = table.load_fixed_at(seat, gate, rec, start, index as u8 + FIELDS_OFFSET);
+        write_key_word(places, index - FIRST_KEY_WORD, word);
     }
     (length as usize, value)
 }
@@ -239,13 +259,14 @@ fn compare_leaf<G: Gate>(
         Sure seat.new.known (λ s. IsCompared s m leaf.number key.now result) }
 {
     let rec = Rec::Leaf(leaf.number);
-    if table.load_fixed_at(seat, gate, rec, leaf.start, 2) != size {
+    if table.load_fixed_at(seat, gate, rec, leaf.start, LENGTH_OFFSET) != size {
         return None;
     }
-    let end = 2 + count_key_words(size);
-    for index in 2..end {
-        let word = table.load_fixed_at(seat, gate, rec, leaf.start, index as u8 + 1);
-        if word != key_word_at(key, index - 2) {
+    let end = FIRST_KEY_WORD + count_key_words(size);
+    for index in FIRST_KEY_WORD..end {
+        let offset = index as u8 + FIELDS_OFFSET;
+        let word = table.load_fixed_at(seat, gate, rec, leaf.start, offset);
+        if word != key_word_at(key, index - FIRST_KEY_WORD) {
             return None;
         }
     }

@@ -22,7 +22,7 @@ use Rattle.rowex_core.specs.declared.known.Holding.TheVariants.{Held, Ready as I
 use Rattle.rowex_core.specs.declared.known.Known.{Known}
 use Rattle.rowex_core.specs.declared.known.Locked.{Locked}
 use Rattle.rowex_core.specs.declared.known.Owned.{Owned}
-use Rattle.rowex_core.specs.Cores.{Core, IsLawful, holder_of}
+use Rattle.rowex_core.specs.Cores.{Core, HasRecord, IsLawful, holder_of}
 use Rattle.rowex_core.specs.Words.{lock_of, tag_of}
 use Rattle.rowex_core.specs.Events.{word_of}
 use Rattle.rowex_core.specs.Sharing.{IsLocked, IsOwned, fate_of}
@@ -61,6 +61,14 @@ begins_low n from some = go (nat_lt from n) refl
 pub first_turn : (n from : ℕ) → from < n → from ≡ wrapped n from 0
 first_turn n from low = grind arith
 
+-- the number to begin at is the one of the first turn
+pub begin_turn : (n from : ℕ) → begin_of n from ≡ wrapped n (begin_of n from) 0
+begin_turn zero from = grind arith
+begin_turn (suc n) from = first_turn (suc n) (begin_of (suc n) from) (begins_low (suc n) from (omega arith))
+
+pub begins_turned : (n from m number : ℕ) → m < n → number ≡ wrapped n (begin_of n from) m → number < n
+begins_turned n from m number low is = rw is (turned_low n (begin_of n from) m (begins_low n from (omega arith)) low)
+
 -- the numbers behind that of a turn, up to the last, are those of the turns behind
 pub turned_by : (n from m i : ℕ) → from < n → m + i < n → wrapped n from m + i < n → wrapped n from m + i ≡ wrapped n from (m + i)
 turned_by n from m i low below few = grind arith
@@ -91,6 +99,10 @@ turned_to n from q low below = go (nat_lt q from) refl
 pub has_index : (kind : RecordKind) (layout : Layout) (i : ℕ) → i < count_of kind layout → HasIndex kind i
 has_index Node layout i low = tt
 has_index (Leaf first end) layout i low = omega arith
+
+pub has_record : (kind : RecordKind) (layout : Layout) (i : ℕ) → IsKindOf kind layout → i < count_of kind layout → HasRecord layout (record_of kind i)
+has_record Node layout i is low = low
+has_record (Leaf first end) layout i is low = omega arith
 
 pub starts_at : (kind : RecordKind) (layout : Layout) (i : ℕ) → IsKindOf kind layout → i < count_of kind layout → IsStartOf layout (record_of kind i) (first_word kind layout i)
 starts_at Node layout i is low = (low, omega arith)

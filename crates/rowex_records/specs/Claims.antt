@@ -17,7 +17,7 @@ use Rattle.rowex_core.specs.declared.known.Owned.{Owned}
 use Rattle.rowex_core.specs.Cores.{word_count_of}
 use Rattle.rowex_core.specs.Events.{word_of}
 use Rattle.rowex_table.specs.Made.{nodes_of}
-use Rattle.rowex_table.specs.Runs.{Does, InTurn}
+use Rattle.rowex_table.specs.Runs.{Does, InTurn, Steps}
 use Rattle.rowex_table.specs.Seats.{TableView, SeatView}
 use Rattle.rowex_records.specs.declared.claiming.RecordKind.{RecordKind}
 use Rattle.rowex_records.specs.declared.claiming.RecordKind.TheVariants.{Node, Leaf}
@@ -140,6 +140,16 @@ pub record Claims {G : Type 0} (table : TableView) (becomes : G → Event → G 
   pub before : SeatView × G
   pub none : FindsNone table becomes kind n from tried a before
   pub one : ClaimsOne table becomes (kind number) before b
+
+-- Of the n records of the kind the pass tries fewer than m, from this one on, and finds none of them free. Then it loads the state of the
+-- one of this number, and finds it free.
+pub record FindsFree {G : Type 0} (table : TableView) (becomes : G → Event → G → Type 0) (kind : ℕ → Rec) (n from m number : ℕ) (a b : SeatView × G) : Type 0 where
+  pub tried : ℕ
+  pub low : tried < m
+  pub number_is : number ≡ wrapped n from tried
+  pub before : SeatView × G
+  pub none : FindsNone table becomes kind n from tried a before
+  pub free : Steps table becomes (LoadState (kind number) 0) before b
 
 -- The pass goes on, after tries that found none free, with so many records of the kind from this number on, which follow those. The result is
 -- none, or how many it tried of these before the one that it has claimed.

@@ -5,7 +5,7 @@ ghost use Rattle.rowex_core.specs.Cores.{HasRecord};
 ghost use Rattle.rowex_table.specs.Rights.{IsClaimed};
 ghost use Rattle.rowex_table.specs.Rule.{IsStartOf};
 ghost use Rattle.rowex_table.specs.Seats.{IsSeatOf};
-ghost use Rattle.rowex_records.specs.Claims.{AllMissed, IsAnothersTo, Claims, ClaimsOne, FindsNone, GoesOnBehind, MissesNumber, MissesOne, TriesSome, HasIndex, IsKindOf, GoesOnTrying, begin_of, count_of, record_of};
+ghost use Rattle.rowex_records.specs.Claims.{AllMissed, IsAnothersTo, Claims, ClaimsOne, FindsFree, FindsNone, GoesOnBehind, MissesNumber, MissesOne, TriesSome, HasIndex, IsKindOf, GoesOnTrying, begin_of, count_of, record_of};
 ghost use Rattle.rowex_records.specs.Starts.{IsSpan, first_word};
 ghost use Rattle.rowex_records.specs.Records.{GivesUp, GivesUpAll, HoldsJust};
 
@@ -274,6 +274,39 @@ fn try_claim_record<G: Gate>(
         return false;
     }
     table.claim_at(seat, gate, at) == 0
+}
+
+/// Returns the number of the first record of `kind` that a load finds free, counted from 0 at the first of the kind. It claims nothing.
+///
+/// It loads the states of `most` records, once each, from number `from` on, and from 0 on after the last; `None` if none of them was
+/// free. `most` counts as no more than the kind has. A `from` that is out of range counts as 0.
+pub fn find_free_record<G: Gate>(
+    table: &HotTable,
+    seat: &mut TableSeat,
+    gate: &mut G,
+    kind: RecordKind,
+    from: u32,
+    most: u32,
+) -> Option<u32>
+    requires own { IsSeatOf table.now seat.old }
+    requires kind { IsKindOf kind table.now.layout }
+    ensures finds { MatchOption result
+        (let n = count_of kind table.now.layout in
+        FindsNone table.now G.becomes (record_of kind) n (begin_of n from) (min n most) (seat.old, gate.old) (seat.new, gate.new))
+        (λ number. let n = count_of kind table.now.layout in
+        FindsFree table.now G.becomes (record_of kind) n (begin_of n from) (min n most) number (seat.old, gate.old) (seat.new, gate.new)) }
+{
+    let all = kind.count(table.layout());
+    let most = all.min(most);
+    let mut number = number_or_zero(from, all);
+    for tried in 0..most {
+        let rec = kind.record_at(number);
+        if table.load_state(seat, gate, rec) == 0 {
+            return Some(number);
+        }
+        number = number_or_zero(number + 1, all);
+    }
+    None
 }
 
 /// The number to begin at, of `all` records: `from`, or 0 if `from` is out of range.

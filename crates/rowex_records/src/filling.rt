@@ -17,7 +17,8 @@ ghost use Rattle.rowex_records.specs.Records.{HaveBelow, IsBehindValue, IsFilled
 
 use key_bits::Key;
 use record_words::{
-    FIRST_ENTRY, FIRST_ROWS, HEAD_WORDS, NODE_FIELDS, count_key_words, key_word_at,
+    FIELDS_OFFSET, FIRST_ENTRY, FIRST_POSITIONS, FIRST_ROWS, HEAD_WORDS, KEY_OFFSET, LENGTH_OFFSET,
+    NODE_FIELDS, NUMBERS_OFFSET, VALUE_OFFSET, count_key_words, key_word_at, read_numbers,
 };
 use rowex_core::{Gate, Rec};
 use rowex_table::{HotTable, NodeAt, RecordAt, TableSeat};
@@ -48,11 +49,11 @@ pub fn fill_leaf<G: Gate>(
     let rec = Rec::Leaf(number);
     let start = table.start_of(rec);
     let at = RecordAt { rec, start };
-    store_word(table, seat, gate, at, 1, value);
-    store_word_if_changed(table, seat, gate, at, 2, length);
+    store_word(table, seat, gate, at, VALUE_OFFSET, value);
+    store_word_if_changed(table, seat, gate, at, LENGTH_OFFSET, length);
     for index in 0..count_key_words(length) {
         let word = key_word_at(key, index);
-        store_word(table, seat, gate, at, index as u8 + 3, word);
+        store_word(table, seat, gate, at, index as u8 + KEY_OFFSET, word);
     }
 }
 
@@ -76,21 +77,26 @@ pub fn fill_node<G: Gate>(
 {
     let rec = Rec::Node(number);
     let start = table.start_of(rec);
-    let entries = (words[0] % 256) as usize;
-    let columns = (words[0] / 256 % 256) as usize;
-    // A word has the positions of four columns, or two rows, or an entry.
-    let positions = 1 + (columns + 3) / 4;
-    let rows = FIRST_ROWS + (entries + 1) / 2;
-    let leads = HEAD_WORDS + entries;
-    store_word(table, seat, gate, RecordAt { rec, start }, 1, words[0]);
+    let numbers = read_numbers(words[0]);
+    let positions = numbers.positions_end();
+    let rows = numbers.rows_end();
+    let leads = numbers.entries_end();
+    store_word(
+        table,
+        seat,
+        gate,
+        RecordAt { rec, start },
+        NUMBERS_OFFSET,
+        words[0],
+    );
     let node = NodeAt { number, start };
-    set_eight_words(table, seat, gate, node, words, 1..positions);
-    set_eight_words(table, seat, gate, node, words, 9..rows);
-    set_eight_words(table, seat, gate, node, words, 17..rows);
-    set_eight_words(table, seat, gate, node, words, 25..leads);
-    set_eight_words(table, seat, gate, node, words, 33..leads);
-    set_eight_words(table, seat, gate, node, words, 41..leads);
-    set_eight_words(table, seat, gate, node, words, 49..leads);
+    set_eight_words(table, seat, gate, node, words, FIRST_POSITIONS..positions);
+    set_eight_words(table, seat, gate, node, words, FIRST_ROWS..rows);
+    set_eight_words(table, seat, gate, node, words, FIRST_ROWS + 8..rows);
+    set_eight_words(table, seat, gate, node, words, HEAD_WORDS..leads);
+    set_eight_words(table, seat, gate, node, words, HEAD_WORDS + 8..leads);
+    set_eight_words(table, seat, gate, node, words, HEAD_WORDS + 16..leads);
+    set_eight_words(table, seat, gate, node, words, HEAD_WORDS + 24..leads);
 }
 
 /// Fills eight words of the claimed node record `node`, with those of `words` from index `used.start` on. The node has something in those
@@ -116,13 +122,20 @@ fn set_eight_words<G: Gate>(
     if used.start + 8 <= used.end {
         for place in 0..8 {
             let index = used.start + place;
-            store_word(table, seat, gate, at, index as u8 + 1, words[index]);
+            store_word(
+                table,
+                seat,
+                gate,
+                at,
+                index as u8 + FIELDS_OFFSET,
+                words[index],
+            );
         }
         return;
     }
     for place in 0..8 {
         let index = used.start + place;
-        let offset = index as u8 + 1;
+        let offset = index as u8 + FIELDS_OFFSET;
         if index < used.end {
             store_word(table, seat, gate, at, offset, words[index]);
         } else {

@@ -5,6 +5,7 @@ mod claiming;
 mod filling;
 
 pub use claiming::{
-    RecordKind, claim_by_number, claim_next_record, claim_record, give_up_record, give_up_records,
+    RecordKind, claim_by_number, claim_next_record, claim_record, find_free_record, give_up_record,
+    give_up_records,
 };
 pub use filling::{fill_leaf, fill_node, make_ready};

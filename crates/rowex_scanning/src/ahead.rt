@@ -13,7 +13,7 @@ use crate::scanning::Scan;
 use compound_node::Entry;
 use insert_cases::PathNode;
 use packed_pairs::Pairs;
-use record_words::Origins;
+use record_words::{LENGTH_OFFSET, Origins};
 use rowex_core::{Gate, Rec};
 use rowex_reading::load_entry;
 use rowex_table::{HotTable, NodeAt, TableSeat};
@@ -117,8 +117,8 @@ pub(crate) fn load_entries_ahead<G: Gate>(
     Ahead { count, node: None }
 }
 
-/// Loads a word of the record of leaf `number` and ignores it, so that its cache line is there when the leaf is read. `origins` are those
-/// of `table`.
+/// Loads a word of the record of leaf `number` and ignores it, and touches the last one, so that its cache lines are there when the leaf is
+/// read. `origins` are those of `table`.
 #[inline(always)]
 fn touch_leaf<G: Gate>(
     table: &HotTable,
@@ -132,11 +132,8 @@ fn touch_leaf<G: Gate>(
     requires led { (m : ℕ) × IsLedTo seat.old.known m (LeafEntry number) }
     ensures reads { Reads table.now G.becomes 0 1 (seat.old, gate.old) (seat.new, gate.new) }
 {
-    table.load_fixed_at(
-        seat,
-        gate,
-        Rec::Leaf(number),
-        origins.start_of_leaf(number),
-        2,
-    );
+    let (rec, start) = (Rec::Leaf(number), origins.start_of_leaf(number));
+    let last = origins.layout.leaf_size(number) - 1;
+    table.touch(rec, start, last as u8);
+    table.load_fixed_at(seat, gate, rec, start, LENGTH_OFFSET);
 }

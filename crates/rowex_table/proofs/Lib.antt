@@ -10,3 +10,4 @@ pub mod ActsAfter
 pub mod ActsLeave
 pub mod Seeing
 pub mod Linking
+pub mod Touched

@@ -4,7 +4,7 @@ ghost use Rattle.std.specs.Prelude.{◌≡◌};
 ghost use Rattle.rowex_core.specs.Events.{spot_word, target_word};
 ghost use Rattle.rowex_table.specs.Rule.{HasEntrySlot};
 
-use record_words::{FIRST_ENTRY, Location};
+use record_words::{FIRST_ENTRY, Location, STATE_OFFSET};
 use rowex_core::{Spot, Target};
 
 /// The location of `spot`: the root, the word of slot 0 to 31 of a node record, or the value of a leaf record.
@@ -28,6 +28,9 @@ pub(crate) fn lock_location(target: Target) -> Location
 {
     match target {
         Target::Anchor => Location::Anchor,
-        Target::Node(node) => Location::NodeWord { node, offset: 0 },
+        Target::Node(node) => Location::NodeWord {
+            node,
+            offset: STATE_OFFSET,
+        },
     }
 }

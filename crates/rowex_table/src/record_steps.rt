@@ -173,6 +173,16 @@ impl HotTable {
         self.load_word_at::<Brand, G>(seat, gate, act, start + offset as usize)
     }
 
+    /// Loads the word at `offset` of `rec` and ignores it, so that its cache line is on its way when it is needed. This is no step: no gate is
+    /// told of it, and no pass knows it. `start` is the number of the first word of `rec`.
+    #[inline(always)]
+    pub fn touch(&self, rec: Rec, start: usize, offset: u8)
+        requires start { IsStartOf self.now.layout rec start }
+        requires range { HasWord self.now.layout rec offset }
+    {
+        self.table.shared.peek(start + offset as usize);
+    }
+
     /// Makes `rec` obsolete in `epoch`. The pass has unlinked `rec`, and then loaded this epoch, and none since.
     pub fn mark<G: Gate>(&self, seat: &mut TableSeat, gate: &mut G, rec: Rec, epoch: u64)
         requires own { IsSeatOf self.now seat.old }

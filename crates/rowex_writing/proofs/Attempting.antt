@@ -19,6 +19,7 @@ use Rattle.insert_cases.specs.declared.choice.PathNode.{PathNode}
 use Rattle.tries.specs.Keys.{Key}
 use Rattle.versions.specs.State.{IsHeldSince, WasAbsentSince}
 use Rattle.record_words.specs.declared.layout.Layout.{Layout}
+use Rattle.versions.specs.declared.Rec.{Rec}
 use Rattle.versions.specs.declared.Rec.TheVariants.{Node as a_node}
 use Rattle.rowex_core.specs.declared.event.Event.{Event}
 use Rattle.rowex_core.specs.declared.known.Known.{Known}
@@ -39,6 +40,7 @@ use Rattle.rowex_writing.specs.Asking.{aim_of, aim_where, reply_to, value_in}
 use Rattle.rowex_writing.specs.Attempts.{HasAnswered, HasDone, HasLoadedRoot, HasLooked, HasRefused, IsAttemptCause, IsChangeOf, IsLeafless, refusal_of, revalued, HasFailed, GivesValue, HasMissed, IsFullFault, IsFullOfNew}
 use Rattle.rowex_writing.specs.Changes.{AreAffected, HasChanged, HasNoRoom, HasRun, IsFull, IsPlanned}
 use Rattle.rowex_writing.specs.Locks.{HasMetLock}
+use Rattle.rowex_writing.specs.Walks.{nodes_among}
 use Rattle.rowex_writing.specs.Plans.{change, IsCase, IsNewLeafPlan}
 use Rattle.rowex_reading.specs.Ways.{IsWayOf, value_of}
 use Rattle.rowex_writing.specs.declared.plan.Aim.{Aim}
@@ -437,36 +439,36 @@ loaded_steps : (k j : Known) → HasLoadedRoot k j → k.steps ≤ j.steps
 loaded_steps k j l = let x = l.from in let y = l.upto in omega (arith, x, y)
 
 -- ---- refusals
-pub refused_busy : (layout : Layout) (key : Key) (k i j : Known) (m : ℕ) → IsPinnedSince i m → HasLoadedRoot k i → IsLater k i → IsLater i j → HasMetLock layout i j ⊎ (m < length j.front) → HasRefused layout key k j Busy
-refused_busy layout key k i j m (p, pinned, early) loaded first next why = record {
+pub refused_busy : (layout : Layout) (key : Key) (k i j : Known) (m : ℕ) (made : List Rec) → IsPinnedSince i m → HasLoadedRoot k i → IsLater k i → IsLater i j → HasMetLock layout i j ⊎ (m < length j.front) → HasRefused layout key k j made Busy
+refused_busy layout key k i j m made (p, pinned, early) loaded first next why = record {
   others = (later_trans first next).front;
   cause = elim why [ inl met ↦ inl (met_since layout k i j j (loaded_steps k i loaded) first.pass refl met) | inr moved ↦ inr (m, (p, (sym first.pin ∙ pinned), early), moved) ];
 }
 
-full_before : (layout : Layout) (key : Key) (k i j : Known) (full : Full) → k.steps ≤ i.steps → IsFull layout key i j full → IsFull layout key k j full
-full_before layout key k i j Nodes low l = lacks_so layout j.pass j.failed j.failed i.steps k.steps l (all_earlier (IsAnothers layout j.pass l.own l.locked) a_node layout.nodes j.failed k.steps i.steps low l.missed)
-full_before layout key k i j Leaves low f = λ q within room. let (step, from, at) = f q within room in (step, (omega (arith, low, from)), at)
+full_before : (layout : Layout) (key : Key) (k i j : Known) (made : List Rec) (full : Full) → k.steps ≤ i.steps → IsFull layout key i j made full → IsFull layout key k j made full
+full_before layout key k i j made Nodes low l = lacks_so layout j.pass j.failed j.failed i.steps k.steps (nodes_among made) l (all_earlier (IsAnothers layout j.pass (nodes_among made) l.locked) a_node layout.nodes j.failed k.steps i.steps low l.missed)
+full_before layout key k i j made Leaves low f = λ q within room. let (step, from, at) = f q within room in (step, (omega (arith, low, from)), at)
 
-full_cause : (layout : Layout) (key : Key) (k j : Known) (full : Full) → IsFull layout key k j full → IsAttemptCause layout key k j (refusal_of full)
-full_cause layout key k j Nodes f = f
-full_cause layout key k j Leaves f = f
+full_cause : (layout : Layout) (key : Key) (k j : Known) (made : List Rec) (full : Full) → IsFull layout key k j made full → IsAttemptCause layout key k j made (refusal_of full)
+full_cause layout key k j made Nodes f = f
+full_cause layout key k j made Leaves f = f
 
-pub refused_full : (layout : Layout) (key : Key) (k i j : Known) (full : Full) → HasLoadedRoot k i → IsLater k i → HasNoRoom layout key i j full → HasRefused layout key k j (refusal_of full)
-refused_full layout key k i j full loaded later none = record {
+pub refused_full : (layout : Layout) (key : Key) (k i j : Known) (made : List Rec) (full : Full) → HasLoadedRoot k i → IsLater k i → HasNoRoom layout key i j made full → HasRefused layout key k j made (refusal_of full)
+refused_full layout key k i j made full loaded later none = record {
   others = (later_trans later none.later).front;
-  cause = full_cause layout key k j full (full_before layout key k i j full (loaded_steps k i loaded) none.full_of);
+  cause = full_cause layout key k j made full (full_before layout key k i j made full (loaded_steps k i loaded) none.full_of);
 }
 
 -- a change that failed
-pub refused_failed : (layout : Layout) (job : Job) (k i j : Known) (fault : TryFault) (m : ℕ) → IsJobFrom layout i m job → HasLoadedRoot k i → IsLater k i → HasFailed layout job i j fault → HasRefused layout job.key.now k j fault
-refused_failed layout job k i j Busy m from loaded first (rest, later, moved) = refused_busy layout job.key.now k i j m from.since loaded first later (inr (moved m from))
-refused_failed layout job k i j FullNodes m from loaded first none = refused_full layout job.key.now k i j Nodes loaded first none
-refused_failed layout job k i j FullLeaves m from loaded first none = refused_full layout job.key.now k i j Leaves loaded first none
+pub refused_failed : (layout : Layout) (job : Job) (k i j : Known) (made : List Rec) (fault : TryFault) (m : ℕ) → IsJobFrom layout i m job → HasLoadedRoot k i → IsLater k i → HasFailed layout job i j made fault → HasRefused layout job.key.now k j made fault
+refused_failed layout job k i j made Busy m from loaded first (rest, later, moved) = refused_busy layout job.key.now k i j m made from.since loaded first later (inr (moved m from))
+refused_failed layout job k i j made FullNodes m from loaded first none = refused_full layout job.key.now k i j made Nodes loaded first none
+refused_failed layout job k i j made FullLeaves m from loaded first none = refused_full layout job.key.now k i j made Leaves loaded first none
 
-pub failed_later : (layout : Layout) (job : Job) (i j : Known) (fault : TryFault) → HasFailed layout job i j fault → IsLater i j
-failed_later layout job i j Busy failed = failed.1
-failed_later layout job i j FullNodes none = none.later
-failed_later layout job i j FullLeaves none = none.later
+pub failed_later : (layout : Layout) (job : Job) (i j : Known) (made : List Rec) (fault : TryFault) → HasFailed layout job i j made fault → IsLater i j
+failed_later layout job i j made Busy failed = failed.1
+failed_later layout job i j made FullNodes none = none.later
+failed_later layout job i j made FullLeaves none = none.later
 
 -- a call that gives its key a value takes none away
 no_removal : (call : Call) (held : Option ℕ) → aim_of call held ≡ Some ToRemove → GivesValue call → ⊥

@@ -11,7 +11,7 @@ use Rattle.rowex_core.specs.declared.event.Act.TheVariants.{Claim, LoadState}
 use Rattle.rowex_core.specs.declared.event.Event.{Event}
 use Rattle.rowex_table.specs.Made.{Made}
 use Rattle.rowex_table.specs.Seats.{TableView, SeatView}
-use Rattle.rowex_records.specs.Claims.{Claims, FindsNone}
+use Rattle.rowex_records.specs.Claims.{Claims, FindsFree, FindsNone}
 use Rattle.rowex_reading.proofs.Counting.{runs_count}
 use Rattle.rowex_reading.specs.declared.descent.Found.{Found}
 use Rattle.rowex_reading.specs.declared.descent.Found.TheVariants.{Nothing, Leaf}
@@ -48,6 +48,12 @@ module _ {G : Type 0} (table : TableView) (becomes : G → Event → G → Type 
       let before = none_count kind n from c.tried a c.before c.none in
       let one = runs_count table becomes (LoadState (kind number) 0 ∷ Claim (kind number) 0 ∷ []) c.before b c.one.does.steps in
       omega (arith, before, one)
+
+  pub free_count : (kind : ℕ → Rec) (n from m number : ℕ) (a b : SeatView × G) → FindsFree table becomes kind n from m number a b → b.0.known.steps ≤ a.0.known.steps + 2 * m
+  free_count kind n from m number a b f =
+      let before = none_count kind n from f.tried a f.before f.none in
+      let one = runs_count table becomes (LoadState (kind number) 0 ∷ []) f.before b (b, f.free, refl) in
+      omega (arith, before, one, f.low)
 
 -- ---- node records among those that are made
 -- where a leaf alone is made, none is

@@ -181,12 +181,11 @@ pub range_records : (layout : Layout) (way : List PathNode) (b d : ℕ) → AreN
 range_records layout way b d nodes = node_records layout (slice_range way b d) (range_nodes layout way b d nodes)
 
 -- ---- none was free
--- The pass has locked a span, and has made two node records for each node of it, or fewer.
+-- The pass has locked a span, and has made two node records for each node of it and one, or fewer.
 pub lacks_nodes : (layout : Layout) (k j : Known) (way : List PathNode) (span : Span) (made : List Rec) (since : ℕ) → AreNodes layout way → HasLockedSpan k way span → j.locks ≡ k.locks →
-    span.end ≤ span.len → span.len ≤ length way → span.len ≤ span.end - 1 + most_nodes → length (nodes_among made) ≤ 2 * (span.len - span.end) →
-    AllMissed (IsAnothersBut layout j made) a_node layout.nodes j.failed since → LacksNodes layout j.pass j.failed since
+    span.end ≤ span.len → span.len ≤ length way → span.len ≤ span.end - 1 + most_nodes → length (nodes_among made) ≤ 2 * (span.len - span.end) + 1 →
+    AllMissed (IsAnothersBut layout j made) a_node layout.nodes j.failed since → LacksNodes layout j.pass j.failed since (nodes_among made)
 lacks_nodes layout k j way span made since nodes taken same order within depth few missed = record {
-  own = nodes_among made;
   locked = numbers;
   few = omega (arith, size, few, order);
   most = omega (arith, size, depth);
@@ -207,28 +206,28 @@ lacks_nodes layout k j way span made since nodes taken same order within depth f
         let (l, at, is) = taken.nodes.0.each n there in
         subst (λ (z : List Locked). IsOneOf n (nodes_of z)) (sym same) (subst (λ m. IsOneOf m (nodes_of k.locks)) is (map_of (λ (z : Locked). z.node) l k.locks at))
 
-full_on : {G : Type 0} (table : TableView) (becomes : G → Event → G → Type 0) (key : Key) (k : Known) (b c : SeatView × G) (full : Full) → c.0.known.pass ≡ b.0.known.pass → HasRun table becomes b c → IsFull table.layout key k b.0.known full → IsFull table.layout key k c.0.known full
-full_on table becomes key k b c Nodes same run l =
-    subst (λ q. LacksNodes table.layout q c.0.known.failed k.steps) (sym same)
-    (lacks_so table.layout b.0.known.pass b.0.known.failed c.0.known.failed k.steps k.steps l
-    (missed_on table becomes (IsAnothers table.layout b.0.known.pass l.own l.locked) a_node table.layout.nodes k.steps b c run l.missed))
-full_on table becomes key k b c Leaves same run missed =
+full_on : {G : Type 0} (table : TableView) (becomes : G → Event → G → Type 0) (key : Key) (k : Known) (b c : SeatView × G) (made : List Rec) (full : Full) → c.0.known.pass ≡ b.0.known.pass → HasRun table becomes b c → IsFull table.layout key k b.0.known made full → IsFull table.layout key k c.0.known made full
+full_on table becomes key k b c made Nodes same run l =
+    subst (λ q. LacksNodes table.layout q c.0.known.failed k.steps (nodes_among made)) (sym same)
+    (lacks_so table.layout b.0.known.pass b.0.known.failed c.0.known.failed k.steps k.steps (nodes_among made) l
+    (missed_on table becomes (IsAnothers table.layout b.0.known.pass (nodes_among made) l.locked) a_node table.layout.nodes k.steps b c run l.missed))
+full_on table becomes key k b c made Leaves same run missed =
     subst (λ q. LacksLeaves table.layout key q c.0.known.failed k.steps) (sym same)
     (missed_from_on table becomes (IsAnothers table.layout b.0.known.pass [] []) (words_for (length key)) k.steps b c run missed)
 
-pub no_room : {G : Type 0} (table : TableView) (becomes : G → Event → G → Type 0) (key : Key) (a b c : SeatView × G) (full : Full) → WorksOn table becomes a b → Works table becomes b c → IsAtRest c.0.known →
-    IsFull table.layout key a.0.known b.0.known full → HasNoRoom table.layout key a.0.known c.0.known full
-no_room table becomes key a b c full goes works rest missed = record {
+pub no_room : {G : Type 0} (table : TableView) (becomes : G → Event → G → Type 0) (key : Key) (a b c : SeatView × G) (made : List Rec) (full : Full) → WorksOn table becomes a b → Works table becomes b c → IsAtRest c.0.known →
+    IsFull table.layout key a.0.known b.0.known made full → HasNoRoom table.layout key a.0.known c.0.known made full
+no_room table becomes key a b c made full goes works rest missed = record {
   rest = rest;
   later = later_transitive a.0.known b.0.known c.0.known goes.stays.0 (works_later table becomes b c works);
-  full_of = full_on table becomes key a.0.known b c full (works_later table becomes b c works).pass (works_run table becomes b c works) missed;
+  full_of = full_on table becomes key a.0.known b c made full (works_later table becomes b c works).pass (works_run table becomes b c works) missed;
 }
 
 -- nor since an earlier version
-pub full_since : (layout : Layout) (key : Key) (a b c : Known) (full : Full) → a.steps ≤ b.steps → IsFull layout key b c full → IsFull layout key a c full
-full_since layout key a b c Nodes count l =
-    lacks_so layout c.pass c.failed c.failed b.steps a.steps l (λ q low. (let (step, late, miss) = l.missed q low in (step, le_trans count late, miss)))
-full_since layout key a b c Leaves count missed = λ q low room. (let (step, late, miss) = missed q low room in (step, le_trans count late, miss))
+pub full_since : (layout : Layout) (key : Key) (a b c : Known) (made : List Rec) (full : Full) → a.steps ≤ b.steps → IsFull layout key b c made full → IsFull layout key a c made full
+full_since layout key a b c made Nodes count l =
+    lacks_so layout c.pass c.failed c.failed b.steps a.steps (nodes_among made) l (λ q low. (let (step, late, miss) = l.missed q low in (step, le_trans count late, miss)))
+full_since layout key a b c made Leaves count missed = λ q low room. (let (step, late, miss) = missed q low room in (step, le_trans count late, miss))
 
 -- ---- the leaf's record is made
 pub may_grow : (table : TableView) (a b : SeatView) (made : List Rec) (m : ℕ) (job : Job) (aim : Aim) (new : NewLeaf) → HasTakenSpan table a m new.key.now job.way.now job.found job.span →

@@ -97,9 +97,9 @@ module _ {G : Type 0} (table : TableView) (becomes : G → Event → G → Type 
   missed_from_on Whose words since a b run missed = λ q low room. missed_there Whose (a_leaf q) since a b run (missed q low room)
 
 -- what these failed steps tell of the lack of a node record, others may
-pub lacks_so : (layout : Layout) (q : ℕ) (tried more : List Failed) (since earlier : ℕ) (l : LacksNodes layout q tried since) → AllMissed (IsAnothers layout q l.own l.locked) a_node layout.nodes more earlier →
-    LacksNodes layout q more earlier
-lacks_so layout q tried more since earlier l missed = record { own = l.own; locked = l.locked; few = l.few; most = l.most; apart = l.apart; low = l.low; missed = missed }
+pub lacks_so : (layout : Layout) (q : ℕ) (tried more : List Failed) (since earlier : ℕ) (own : List Rec) (l : LacksNodes layout q tried since own) → AllMissed (IsAnothers layout q own l.locked) a_node layout.nodes more earlier →
+    LacksNodes layout q more earlier own
+lacks_so layout q tried more since earlier own l missed = record { locked = l.locked; few = l.few; most = l.most; apart = l.apart; low = l.low; missed = missed }
 
 -- ---- records that are given up
 reverse_more : {X : Type 0} (x : X) (xs : List X) → reverse (x ∷ xs) ≡ reverse xs ++ x ∷ []

@@ -28,16 +28,20 @@ use Rattle.rowex_core.specs.declared.event.Event.{Event}
 use Rattle.rowex_core.specs.declared.known.Holding.TheVariants.{Held}
 use Rattle.rowex_core.specs.declared.known.Known.{Known}
 use Rattle.rowex_core.specs.declared.known.Owned.{Owned}
-use Rattle.rowex_core.specs.Cores.{FitsIn, word_count_of}
+use Rattle.rowex_core.specs.Cores.{FitsIn, holder_of, word_count_of}
+use Rattle.rowex_core.specs.Events.{word_of}
+use Rattle.rowex_core.specs.Knowing.{failed_with}
+use Rattle.rowex_core.specs.declared.known.FailedAct.TheVariants.{LoadState as a_load}
 use Rattle.rowex_core.specs.Reading.{IsPacked}
 use Rattle.rowex_core.proofs.Leafing.{leaf_size_is}
 use Rattle.rowex_table.specs.Made.{IsLater, Made, held_as, recs_of}
-use Rattle.rowex_table.specs.Runs.{Runs, Does, InTurn}
+use Rattle.rowex_table.specs.Runs.{Runs, Does, InTurn, Steps}
 use Rattle.rowex_table.specs.Seats.{TableView, SeatView, IsSeatOf}
 use Rattle.rowex_table.proofs.Running.{runs_same}
-use Rattle.rowex_records.specs.Claims.{claiming, wrapped, Misses, MissesOne, MissesNumber, HoldsOneMore, ClaimsOne, FindsNone, Claims}
+use Rattle.rowex_records.specs.Claims.{claiming, wrapped, Misses, MissesOne, MissesNumber, HoldsOneMore, ClaimsOne, FindsFree, FindsNone, Claims}
 use Rattle.rowex_records.specs.Records.{fill_with, filling, load_of_word, fill_unless_found, owning, stored, stored_in, SetsAll, SetsSome, SetsWord}
 use Rattle.rowex_records.proofs.Filled.{leaf_stored, left_beside}
+use Rattle.rowex_records.proofs.Making.{counted, looks_one}
 use Rattle.publish_laws.specs.Loops.{StaysLocked}
 use Rattle.publish_laws.specs.Rises.{made_of_node}
 use Rattle.rowex_reading.specs.Possible.{IsPossible}
@@ -58,6 +62,10 @@ in_turn_plain Parts each (suc n) acts (before, last, first, second, is) =
 -- a load of a state, and a claim after it
 look_plain : (r : Rec) (word : ℕ) → All TriesNoLock (LoadState r word ∷ [])
 look_plain r word = All-cons TriesNoLock (LoadState r word) [] tt (λ i d low. absurd (omega arith))
+
+own_looked : (r : Rec) (word : ℕ) (free : Bool) (by : Option ℕ) (k j : Known) → j ≡ counted k (if free then k else failed_with k (a_load by) (word_of r 0) word) → j.own ≡ k.own
+own_looked r word true by k j e = ap (λ (z : Known). z.own) e
+own_looked r word false by k j e = ap (λ (z : Known). z.own) e
 
 try_plain : (r : Rec) (word : ℕ) → All TriesNoLock (LoadState r 0 ∷ Claim r word ∷ [])
 try_plain r word = All-cons TriesNoLock (LoadState r 0) (Claim r word ∷ []) tt (All-cons TriesNoLock (Claim r word) [] tt (λ i d low. absurd (omega arith)))
@@ -115,6 +123,24 @@ module _ {G : Type 0} (table : TableView) (becomes : G → Event → G → Type 
 
   pub miss_on : (r : Rec) (a b : SeatView × G) → MissesOne table becomes r a b → WorksOn table becomes a b
   miss_on r a b one = claims_on one.acts a b (miss_plain r one.acts one.misses) one.does
+
+  -- a load of a state, whatever it finds
+  pub look_on : (r : Rec) (word : ℕ) (a b : SeatView × G) → Steps table becomes (LoadState r word) a b → WorksOn table becomes a b
+  look_on r word a b step = claims_on (LoadState r word ∷ []) a b (look_plain r word) (looks_one table becomes r word a b step)
+
+  pub look_own : (r : Rec) (word : ℕ) (a b : SeatView × G) → Steps table becomes (LoadState r word) a b → b.0.known.own ≡ a.0.known.own
+  look_own r word a b step = own_looked r word (nat_eq word 0) (holder_of (step.event.core.fate r)) a.0.known b.0.known step.event.learned_is
+
+  pub look_steps : (r : Rec) (word : ℕ) (a b : SeatView × G) → Steps table becomes (LoadState r word) a b → b.0.known.steps ≡ a.0.known.steps + 1
+  look_steps r word a b step = ap (λ (z : Known). z.steps) (looks_one table becomes r word a b step).rest
+
+  -- one that finds some record free, after others that were not
+  pub free_on : (kind : ℕ → Rec) (n from m number : ℕ) (a b : SeatView × G) → FindsFree table becomes kind n from m number a b → WorksOn table becomes a b
+  free_on kind n from m number a b free =
+      goes_more table becomes a free.before b (none_on kind n from free.tried a free.before free.none) (look_on (kind number) 0 free.before b free.free)
+
+  pub free_own : (kind : ℕ → Rec) (n from m number : ℕ) (a b : SeatView × G) → FindsFree table becomes kind n from m number a b → b.0.known.own ≡ a.0.known.own
+  free_own kind n from m number a b free = look_own (kind number) 0 free.before b free.free ∙ free.none.own
 
   pub number_on : (kind : ℕ → Rec) (n number : ℕ) (a b : SeatView × G) → MissesNumber table becomes kind n number a b → WorksOn table becomes a b
   number_on kind n number a b (inl (out, same)) = subst (λ (z : SeatView × G). WorksOn table becomes a z) (sym same) (goes_none table becomes a)

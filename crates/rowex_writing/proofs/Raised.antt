@@ -136,7 +136,7 @@ none_free_since table a m b made job (Ok raised) count none = tt
 none_free_since table a m b made job (Err full) count none = record {
   not_made = none.not_made;
   few = none.few;
-  full_of = full_since table.layout job.key.now a m b.known full count none.full_of;
+  full_of = full_since table.layout job.key.now a m b.known made full count none.full_of;
 }
 
 -- where it was a node record, it was no leaf record
@@ -147,7 +147,7 @@ nodes_alone (Err Leaves) P h = absurd (let z = h.0 in cc)
 
 -- no leaf record was free, the first that a deed wants
 pub no_leaf_free : {G : Type 0} {table : TableView} {becomes : G → Event → G → Type 0} {a b : (SeatView × G) × Build} {job : Job} {deed : Deed} → WorksOn table becomes a.0 b.0 →
-    IsBuilding table b.0.0 b.1.made.items [] × IsFull table.layout job.key.now a.0.0.known b.0.0.known Leaves → b.0.0.known.steps ≤ a.0.0.known.steps + leaf_steps table.layout → spare_steps deed ≡ 0 → CarriesOut table becomes a b job deed (Err Leaves)
+    IsBuilding table b.0.0 b.1.made.items [] × IsFull table.layout job.key.now a.0.0.known b.0.0.known b.1.made.items Leaves → b.0.0.known.steps ≤ a.0.0.known.steps + leaf_steps table.layout → spare_steps deed ≡ 0 → CarriesOut table becomes a b job deed (Err Leaves)
 no_leaf_free goes (building, missed) few none = record {
   goes = goes;
   raised = tt;

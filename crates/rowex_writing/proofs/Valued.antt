@@ -217,10 +217,10 @@ pub holds_taken : (table : TableView) (a : SeatView) (m : ℕ) (job : Job) → H
 holds_taken table a m job t = record { seat = t.seat; possible = t.possible; within = t.within; from = (m, t.way_of); locked = t.locked }
 
 -- a failure since an earlier version
-pub failed_since : (layout : Layout) (job : Job) (a b c : Known) (fault : TryFault) → IsLater a b → fault ≡ Busy → HasFailed layout job b c fault → HasFailed layout job a c fault
-failed_since layout job a b c Busy later is (rest, after, moved) = (rest, later_trans later after, λ m from. moved m (job_later layout a b m job later from))
-failed_since layout job a b c FullNodes later is failed = absurd (cc)
-failed_since layout job a b c FullLeaves later is failed = absurd (cc)
+pub failed_since : (layout : Layout) (job : Job) (a b c : Known) (made : List Rec) (fault : TryFault) → IsLater a b → fault ≡ Busy → HasFailed layout job b c made fault → HasFailed layout job a c made fault
+failed_since layout job a b c made Busy later is (rest, after, moved) = (rest, later_trans later after, λ m from. moved m (job_later layout a b m job later from))
+failed_since layout job a b c made FullNodes later is failed = absurd (cc)
+failed_since layout job a b c made FullLeaves later is failed = absurd (cc)
 
 -- where nothing goes all that is locked is kept
 pub all_kept : (locks : List Locked) (kept : List ℕ) → LocksJust locks kept → AreKept (nodes_of locks) [] kept
@@ -239,9 +239,9 @@ pub anchored_on : (b : Bool) (k j : Known) → (k.anchor ≡ None → j.anchor �
 anchored_on true k j kept is = kept.1 is
 anchored_on false k j kept is = kept.0 is
 
-pub failed_before : (layout : Layout) (job : Job) (a b c : Known) (r : Result ⊤ TryFault) → IsLater a b → IfErr r (λ fault. (fault ≡ Busy) × HasFailed layout job b c fault) → IfErr r (HasFailed layout job a c)
-failed_before layout job a b c (Ok x) later h = tt
-failed_before layout job a b c (Err fault) later h = failed_since layout job a b c fault later h.0 h.1
+pub failed_before : (layout : Layout) (job : Job) (a b c : Known) (made : List Rec) (r : Result ⊤ TryFault) → IsLater a b → IfErr r (λ fault. (fault ≡ Busy) × HasFailed layout job b c made fault) → IfErr r (HasFailed layout job a c made)
+failed_before layout job a b c made (Ok x) later h = tt
+failed_before layout job a b c made (Err fault) later h = failed_since layout job a b c made fault later h.0 h.1
 
 pub busy_leafless : {X : Type 0} (r : Result X TryFault) (P : TryFault → Type 0) → IfErr r (λ fault. (fault ≡ Busy) × P fault) → r ≢ Err FullLeaves
 busy_leafless (Ok x) P h = λ e. cc
@@ -278,9 +278,9 @@ pub front_grown : {k j : Known} → IsLater k j → length k.front ≤ length j.
 front_grown {k} {j} later = omega (arith, ap length later.front.1, length-append k.front later.front.0)
 
 -- no record was free
-pub full_failed : (layout : Layout) (job : Job) (k j : Known) (full : Full) → HasNoRoom layout job.key.now k j full → HasFailed layout job k j (refusal_of full)
-full_failed layout job k j Nodes none = none
-full_failed layout job k j Leaves none = none
+pub full_failed : (layout : Layout) (job : Job) (k j : Known) (made : List Rec) (full : Full) → HasNoRoom layout job.key.now k j made full → HasFailed layout job k j made (refusal_of full)
+full_failed layout job k j made Nodes none = none
+full_failed layout job k j made Leaves none = none
 
 -- a change that a store of a value has made
 pub value_changed : (layout : Layout) (k j i : Known) (spot : Spot) (w : ℕ) (x : Change) (was : Option ℕ) (kept : List ℕ) → HasPublished k j x was [] kept → IsEvent layout (Publish spot w) silent k j →

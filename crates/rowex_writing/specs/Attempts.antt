@@ -9,6 +9,7 @@ use Rattle.finite_map.specs.Fronts.{BeginsWith, OthersGoOn}
 use Rattle.finite_map.specs.Maps.{key_of}
 use Rattle.record_words.specs.declared.layout.Layout.{Layout}
 use Rattle.tries.specs.Keys.{Key}
+use Rattle.versions.specs.declared.Rec.{Rec}
 use Rattle.rowex_core.specs.declared.event.Act.{Act}
 use Rattle.rowex_core.specs.declared.event.Act.TheVariants.{LoadRef}
 use Rattle.rowex_core.specs.declared.event.Event.{Event}
@@ -99,11 +100,11 @@ HasLoadedFound k found = (number value : ℕ) → found ≡ Leaf number value No
 abbrev pub HasMoved : Layout → Job → Known → Known → Type 0
 HasMoved layout job k j = (m : ℕ) → IsJobFrom layout k m job → m < length j.front
 
--- why a planned change was not made: another pass has made one since the search, or no record was free
-abbrev pub HasFailed : Layout → Job → Known → Known → TryFault → Type 0
-HasFailed layout job k j Busy = IsAtRest j × IsLater k j × HasMoved layout job k j
-HasFailed layout job k j FullNodes = HasNoRoom layout job.key.now k j Nodes
-HasFailed layout job k j FullLeaves = HasNoRoom layout job.key.now k j Leaves
+-- why a planned change was not made: another pass has made one since the search, or no record was free beside those that it had made
+abbrev pub HasFailed : Layout → Job → Known → Known → List Rec → TryFault → Type 0
+HasFailed layout job k j made Busy = IsAtRest j × IsLater k j × HasMoved layout job k j
+HasFailed layout job k j made FullNodes = HasNoRoom layout job.key.now k j made Nodes
+HasFailed layout job k j made FullLeaves = HasNoRoom layout job.key.now k j made Leaves
 
 -- the refusal of a call for whose change no record of the kind was free
 abbrev pub refusal_of : Full → TryFault
@@ -126,11 +127,11 @@ IsLeafless leaves (RemoveIf key expected) result = result ≢ Err leaves
 IsLeafless leaves call result = Unit {0}
 
 -- why it was refused: a lock of it found taken by another pass what it wanted to lock, or the pass has seen a change that was made
--- since its pin; or no node record was free, or no leaf record with room for its key
-abbrev pub IsAttemptCause : Layout → Key → Known → Known → TryFault → Type 0
-IsAttemptCause layout key k j Busy = HasMetLock layout k j ⊎ ((m : ℕ) × IsPinnedSince k m × (m < length j.front))
-IsAttemptCause layout key k j FullNodes = IsFull layout key k j Nodes
-IsAttemptCause layout key k j FullLeaves = IsFull layout key k j Leaves
+-- since its pin; or no node record was free beside those that it had made, or no leaf record with room for its key
+abbrev pub IsAttemptCause : Layout → Key → Known → Known → List Rec → TryFault → Type 0
+IsAttemptCause layout key k j made Busy = HasMetLock layout k j ⊎ ((m : ℕ) × IsPinnedSince k m × (m < length j.front))
+IsAttemptCause layout key k j made FullNodes = IsFull layout key k j made Nodes
+IsAttemptCause layout key k j made FullLeaves = IsFull layout key k j made Leaves
 
 -- the fault is that no record was free
 abbrev pub IsFullFault : TryFault → Type 0
@@ -152,6 +153,6 @@ abbrev pub IsFullOfNew : Known → Call → TryFault → Type 0
 IsFullOfNew j call fault = IsFullFault fault → GivesValue call → HasMissed j (key_of call)
 
 -- It was refused: no change of its own was made.
-pub record HasRefused (layout : Layout) (key : Key) (k j : Known) (fault : TryFault) : Type 0 where
+pub record HasRefused (layout : Layout) (key : Key) (k j : Known) (made : List Rec) (fault : TryFault) : Type 0 where
   pub others : OthersGoOn k.pass k.front j.front
-  pub cause : IsAttemptCause layout key k j fault
+  pub cause : IsAttemptCause layout key k j made fault

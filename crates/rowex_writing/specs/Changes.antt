@@ -37,6 +37,7 @@ use Rattle.rowex_writing.specs.Jobs.{IsJobFrom}
 use Rattle.rowex_writing.specs.Locks.{HasLockedSpan, TriesBy, TriesOnceBy}
 use Rattle.rowex_writing.specs.Plans.{change, IsPlan}
 use Rattle.rowex_writing.specs.Remaking.{AffectsJust}
+use Rattle.rowex_writing.specs.Walks.{nodes_among}
 use Rattle.rowex_reading.specs.Ways.{IsWayOf, named}
 use Rattle.rowex_writing.specs.declared.plan.Aim.{Aim}
 use Rattle.rowex_writing.specs.declared.deeds.Job.{Job}
@@ -126,12 +127,12 @@ pub record HasChanged (k j : Known) (x : Change) (was : Option ℕ) : Type 0 whe
   pub fits : Fits (map_of before) x
   pub was_held : value_at (map_of before) x.key ≡ was
 
--- Pass q lacks a node record: each was found not free, at this step or a later one. Its own were at most two for each node that it had
--- locked. Each locked one was nobody's. Any other was another pass's, or nobody's, and then in the tree or retired.
-pub record LacksNodes (layout : Layout) (q : ℕ) (failed : List Failed) (since : ℕ) : Type 0 where
-  pub own : List Rec
+-- Pass q lacks a node record beside these of its own: each was found not free, at this step or a later one. Its own were at most two for
+-- each node that it had locked, and one. Each locked one was nobody's. Any other was another pass's, or nobody's, and then in the tree or
+-- retired.
+pub record LacksNodes (layout : Layout) (q : ℕ) (failed : List Failed) (since : ℕ) (own : List Rec) : Type 0 where
   pub locked : List ℕ
-  pub few : length own ≤ 2 * length locked
+  pub few : length own ≤ 2 * length locked + 1
   pub most : length locked ≤ most_nodes
   pub apart : AreApart locked
   pub low : All (λ n. n < layout.nodes) locked
@@ -142,16 +143,17 @@ pub record LacksNodes (layout : Layout) (q : ℕ) (failed : List Failed) (since 
 abbrev pub LacksLeaves : Layout → Key → ℕ → List Failed → ℕ → Type 0
 LacksLeaves layout key q failed since = AllMissedFrom (IsAnothers layout q [] []) layout (words_for (length key)) failed since
 
--- no record was free, when the pass wanted one: of the nodes, or of the leaf records that have room for this key
-abbrev pub IsFull : Layout → Key → Known → Known → Full → Type 0
-IsFull layout key k j Nodes = LacksNodes layout j.pass j.failed k.steps
-IsFull layout key k j Leaves = LacksLeaves layout key j.pass j.failed k.steps
+-- No record was free, when the pass wanted one: of the nodes, beside those that it had made; or of the leaf records that have room for this
+-- key.
+abbrev pub IsFull : Layout → Key → Known → Known → List Rec → Full → Type 0
+IsFull layout key k j made Nodes = LacksNodes layout j.pass j.failed k.steps (nodes_among made)
+IsFull layout key k j made Leaves = LacksLeaves layout key j.pass j.failed k.steps
 
--- The pass has made no change, for want of a record; it has nothing of its own and no lock.
-pub record HasNoRoom (layout : Layout) (key : Key) (k j : Known) (full : Full) : Type 0 where
+-- The pass has made no change, for want of a record beside those that it had made; it has nothing of its own and no lock.
+pub record HasNoRoom (layout : Layout) (key : Key) (k j : Known) (made : List Rec) (full : Full) : Type 0 where
   pub rest : IsAtRest j
   pub later : IsLater k j
-  pub full_of : IsFull layout key k j full
+  pub full_of : IsFull layout key k j made full
 
 -- the change that gives the key this value, by what was found of it
 abbrev pub IsPutChange : ℕ → Key → ℕ → Found → Change → Option ℕ → Type 0

@@ -59,7 +59,7 @@ HasRaised table k b made job deed raised =
 pub record HasNoneFree (table : TableView) (k : Known) (b : SeatView) (made : List Rec) (job : Job) (full : Full) : Type 0 where
   pub not_made : HasNotMade table b made
   pub few : length made ≤ 2 * locks_of job.span
-  pub full_of : IsFull table.layout job.key.now k b.known full
+  pub full_of : IsFull table.layout job.key.now k b.known made full
 
 -- The pass has carried out the deed, as far as others don't see it, or no record was free: with these answers, and so many steps.
 -- Before and after it are the seat, the gate and what is built.

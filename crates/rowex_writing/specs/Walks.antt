@@ -1,5 +1,5 @@
 -- The walk of a change over the node records, with which its claims go on one after the other, and what they make.
-use Rattle.std.specs.Prelude.{◌≡◌, ◌⊎◌, ℕ, ◌+◌, ◌*◌, ◌<◌, ◌≤◌, List, [], ◌∷◌, length, Contains, MatchOption, Option, Some, None}
+use Rattle.std.specs.Prelude.{◌≡◌, ◌⊎◌, ℕ, ◌+◌, ◌*◌, ◌<◌, ◌≤◌, List, [], ◌∷◌, length, Contains, Bool, true, false, MatchOption, Option, Some, None}
 use Rattle.record_words.specs.declared.layout.Layout.{Layout}
 use Rattle.versions.specs.declared.Rec.{Rec}
 use Rattle.versions.specs.declared.Rec.TheVariants.{Node as a_node, Leaf as a_leaf}
@@ -34,6 +34,11 @@ HasWalked layout since k build = IsClaimWalk layout since k build.made.items bui
 abbrev pub looks_for : {X : Type 0} → Build → Option X → ℕ
 looks_for after None = length after.made.items
 looks_for after (Some x) = 0
+
+-- and so before the answer is no
+abbrev pub looks_unless : Bool → Build → ℕ
+looks_unless false after = length after.made.items
+looks_unless true after = 0
 
 -- the node records of a list
 abbrev pub nodes_among : List Rec → List Rec

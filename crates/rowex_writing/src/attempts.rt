@@ -60,8 +60,9 @@ pub enum TryFault {
 /// record is free, nothing is changed, and the fault tells which.
 ///
 /// The pass is pinned, has no record and no lock, and has made no change since its pin. `way` is filled with the nodes that the search
-/// went through. After a change `build.gone` lists what it unlinked; else it stays. A removal is never refused as `FullLeaves`. A call that
-/// gives its key a value is never refused as full if the search found the key.
+/// went through. After a change `build.gone` lists what it unlinked; else it stays. If no record was free, `build.made` lists those that
+/// it had claimed, and has given up. A removal is never refused as `FullLeaves`. A call that gives its key a value is never refused as full
+/// if the search found the key.
 ///
 /// If it tries no lock, it makes at most 58 atomic steps, and 26 for each node on the key's way. Else it makes at most 124, and 26 for
 /// each such node. To these come 297 for each lock that it tries, four for each leaf record and two for each node record.
@@ -81,7 +82,7 @@ pub fn attempt<G: Gate>(
     ensures loaded { HasLoadedRoot seat.old.known seat.new.known }
     ensures rest { IsAtRest seat.new.known }
     ensures answered { IfOk result (HasAnswered seat.old.known seat.new.known call.now) }
-    ensures refused { IfErr result (HasRefused table.now.layout (the_key call.now) seat.old.known seat.new.known) }
+    ensures refused { IfErr result (HasRefused table.now.layout (the_key call.now) seat.old.known seat.new.known build.new.made.items) }
     ensures leafless { IsLeafless TryFault.FullLeaves call.now result }
     ensures full { IfErr result (IsFullOfNew seat.new.known call.now) }
     ensures few { seat.new.known.steps ≤ seat.old.known.steps + most_steps table.now.layout }
@@ -136,7 +137,7 @@ fn try_plan<G: Gate>(
     ensures done { IfOk result (λ now. IsFoundAgain call.now job.now.found now ×
         HasDone seat.old.known seat.new.known deed job.now.key.now (the_value_in call.now (the_value now)) now) }
     ensures refused { IfErr result (λ fault. (k : Known) → HasLoadedRoot k seat.old.known → IsLater k seat.old.known →
-        HasRefused table.now.layout job.now.key.now k seat.new.known fault) }
+        HasRefused table.now.layout job.now.key.now k seat.new.known build.new.made.items fault) }
     ensures later { IfErr result (λ fault. IsLater seat.old.known seat.new.known) }
     ensures whole { deed ≡ Deed.Value → IfErr result (λ fault. fault ≡ TryFault.Busy) }
     ensures leafless { deed ≡ Deed.Take → result ≢ Err TryFault.FullLeaves }
@@ -175,7 +176,7 @@ fn change_span<G: Gate>(
     requires loaded { HasLoadedFound seat.old.known job.now.found }
     ensures run { EndsChange table.now G.becomes job.now (held_loads job.now.found) (seat.old, gate.old) (seat.new, gate.new) }
     ensures done { result ≡ Ok tt → HasDone seat.old.known seat.new.known deed job.now.key.now job.now.value job.now.found }
-    ensures failed { IfErr result (HasFailed table.now.layout job.now seat.old.known seat.new.known) }
+    ensures failed { IfErr result (HasFailed table.now.layout job.now seat.old.known seat.new.known build.new.made.items) }
     ensures whole { deed ≡ Deed.Value → result ≡ Ok tt }
     ensures leafless { deed ≡ Deed.Take → result ≢ Err TryFault.FullLeaves }
 {
@@ -208,7 +209,7 @@ fn make_removal<G: Gate>(
     requires some { 0 < job.now.span.end }
     ensures run { ChangesOn table.now G.becomes (span_numbers job.now.way.now job.now.span) 1 (seat.old, gate.old) (seat.new, gate.new) }
     ensures done { result ≡ Ok tt → HasDone seat.old.known seat.new.known Take job.now.key.now job.now.value job.now.found }
-    ensures failed { IfErr result (HasFailed table.now.layout job.now seat.old.known seat.new.known) }
+    ensures failed { IfErr result (HasFailed table.now.layout job.now seat.old.known seat.new.known build.new.made.items) }
     ensures leafless { result ≢ Err TryFault.FullLeaves }
 {
     match make_without_leaf(table, seat, gate, build, job) {
@@ -240,7 +241,7 @@ fn publish_or_undo<G: Gate>(
     ensures run { HasRun table.now G.becomes (seat.old, gate.old) (seat.new, gate.new) }
     ensures changed { result ≡ Ok tt → (x : Change) (was : Option ℕ) → MayReplace table.now seat.old build.old.made.items job.now raised x was →
         HasChanged seat.old.known seat.new.known x was }
-    ensures failed { IfErr result (λ fault. (fault ≡ TryFault.Busy) × HasFailed table.now.layout job.now seat.old.known seat.new.known fault) }
+    ensures failed { IfErr result (λ fault. (fault ≡ TryFault.Busy) × HasFailed table.now.layout job.now seat.old.known seat.new.known build.new.made.items fault) }
     ensures few { seat.new.known.steps ≤
         seat.old.known.steps + held_loads job.now.found + length build.old.made.items + length (leaf_gone raised.leaf) + locks_of job.now.span + 3 }
 {

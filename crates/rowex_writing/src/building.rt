@@ -17,7 +17,9 @@ use crate::remaking::{NewLeaf, add_leaf};
 use arrayvec::ArrayVec;
 use compound_node::{Entry, Half, Node};
 use insert_cases::{Grown, Risen};
-use record_words::{HEAD_WORDS, LEAF_CLASSES, NODE_FIELDS, affected_slots, pack_node};
+use record_words::{
+    HEAD_WORDS, LEAF_CLASSES, NODE_FIELDS, affected_slots, pack_node, read_numbers,
+};
 use rowex_core::{Gate, Rec};
 use rowex_records::fill_node;
 use rowex_table::{HotTable, TableSeat};
@@ -91,7 +93,7 @@ pub(crate) fn make_node_from_words<G: Gate>(
     build.made.push(Rec::Node(number));
     Some(Entry::Node {
         number,
-        height: (words[0] / 65_536) as u16,
+        height: read_numbers(words[0]).height,
     })
 }
 

@@ -1,6 +1,6 @@
 //! Claims of the records that a change makes: first of one that the pass has given back, and else on from the last claim.
 
-ghost use Rattle.std.specs.Prelude.{◌≡◌, ◌<◌, ◌≤◌, ◌+◌, ◌-◌, ◌*◌, MatchOption, ◌++◌, ◌∷◌, [], List, ℕ, Contains, length};
+ghost use Rattle.std.specs.Prelude.{◌≡◌, false, ◌<◌, ◌≤◌, ◌+◌, ◌-◌, ◌*◌, MatchOption, ◌++◌, ◌∷◌, [], List, ℕ, Contains, length};
 ghost use Rattle.record_words.specs.Layout.{leaf_size};
 ghost use Rattle.record_words.specs.declared.TheConstants.{LEAF_WORDS};
 ghost use Rattle.versions.specs.declared.Rec.TheVariants.{Leaf as a_leaf, Node as a_node};
@@ -11,13 +11,16 @@ ghost use Rattle.rowex_writing.specs.Going.{WorksOn};
 ghost use Rattle.versions.specs.declared.Rec.{Rec as Record};
 ghost use Rattle.rowex_table.specs.Made.{Made};
 ghost use Rattle.rowex_writing.specs.Building.{IsBuilding};
-ghost use Rattle.rowex_writing.specs.Walks.{HasNoOther, HasWalked, IsClaimWalk, looks_for};
+ghost use Rattle.rowex_writing.specs.Walks.{HasNoOther, HasWalked, IsClaimWalk, looks_for, looks_unless};
 
 use crate::building::Build;
+use crate::stretch::Stretch;
 use arrayvec::ArrayVec;
 use record_words::{LEAF_CLASSES, Layout};
 use rowex_core::{Gate, Rec};
-use rowex_records::{RecordKind, claim_by_number, claim_next_record, claim_record};
+use rowex_records::{
+    RecordKind, claim_by_number, claim_next_record, claim_record, find_free_record,
+};
 use rowex_table::{HotTable, TableSeat};
 
 /// The most numbers of records of one kind that a pass keeps to begin claims with.
@@ -32,8 +35,10 @@ pub(crate) const MOST_SPARE: usize = 256;
 pub struct Hint {
     /// Numbers that the pass has given back: claims begin with the last of these.
     pub spare: ArrayVec<u32, MOST_SPARE>,
-    /// The number after that of the record that was claimed last, but for spare ones: then claims go on from there.
+    /// The number with which claims go on where none of these is free.
     pub next: u32,
+    /// Where they begin when they don't go on.
+    pub stretch: Stretch,
     /// How many claims of a leaf record still try these records last, since a claim found none of them free. It begins as the number of
     /// the records. So in the long run a claim looks at one of them.
     pub skips: u32,
@@ -49,6 +54,7 @@ impl Hint {
         Hint {
             spare: ArrayVec::new(),
             next,
+            stretch: Stretch::begin_at(next),
             skips: 0,
         }
     }
@@ -62,7 +68,9 @@ impl Hint {
         ensures skips { self.new.skips ≡ 0 }
     {
         self.skips = 0;
-        if !self.spare.is_full() {
+        if self.spare.is_full() {
+            self.stretch.note_given();
+        } else {
             self.spare.push(number);
         }
     }
@@ -70,8 +78,7 @@ impl Hint {
 
 /// Claims a record of `kind` and returns its number, counted from the first of the kind on. `None` if none was free.
 ///
-/// It tries the last spare number of `hint` first, which is spare no more. Then it tries each record once, from `hint.next` on. If that
-/// claims one, `hint.next` becomes the number after it. Inline, so that no claim asks of which kind it is.
+/// It tries the last spare number of `hint` first, which is spare no more. Then it tries each record once, from where `hint` says. Inline, so that no claim asks of which kind it is.
 #[inline(always)]
 pub(crate) fn claim_by_hint<G: Gate>(
     table: &HotTable,
@@ -92,8 +99,9 @@ pub(crate) fn claim_by_hint<G: Gate>(
     if let Some(number) = claim_spare_record(table, seat, gate, kind, &mut hint.spare) {
         return Some(number);
     }
+    hint.next = hint.stretch.start();
     let number = claim_record(table, seat, gate, kind, hint.next)?;
-    hint.next = number.wrapping_add(1);
+    hint.stretch.note_claimed(hint.next, number);
     Some(number)
 }
 
@@ -234,6 +242,59 @@ pub(crate) fn claim_node<G: Gate>(
     None
 }
 
+/// Whether one node record more is free than the change has claimed. It is not claimed, but left for the removals. `false` if each was
+/// found not free since the change began to claim them.
+///
+/// It looks at the last spare one first, and then goes on with the walk of the claims. So the next claims begin with the one that it found.
+/// Where it finds none, the change has made those that were its own, which are looked at now.
+pub(crate) fn leaves_free_node<G: Gate>(
+    table: &HotTable,
+    seat: &mut TableSeat,
+    gate: &mut G,
+    build: &mut Build,
+) -> bool
+    requires building { (news : List Made) × IsBuilding table.now seat.old build.old.made.items news }
+    ensures goes { WorksOn table.now G.becomes (seat.old, gate.old) (seat.new, gate.new) }
+    ensures own { seat.new.known.own ≡ seat.old.known.own }
+    ensures made { build.new.made.items ≡ build.old.made.items }
+    ensures walk { result ≡ false → (since : ℕ) → HasWalked table.now.layout since seat.old.known build.old →
+        AllMissed (IsAnothersBut table.now.layout seat.new.known build.new.made.items) a_node table.now.layout.nodes seat.new.known.failed since }
+    ensures few { seat.new.known.steps ≤ seat.old.known.steps + 2 * build.old.left_nodes + 1 + looks_unless result build.new }
+{
+    if is_last_free(table, seat, gate, build.nodes.spare.as_slice()) {
+        return true;
+    }
+    let (next, left) = (build.nodes.next, build.left_nodes);
+    if let Some(number) = find_free_record(table, seat, gate, RecordKind::Node, next, left) {
+        build.nodes.next = number;
+        return true;
+    }
+    load_states(table, seat, gate, build.made.as_slice());
+    false
+}
+
+/// Whether a load finds the node record free that has the last number in `spare`. `false`, and no step, if there is none.
+fn is_last_free<G: Gate>(
+    table: &HotTable,
+    seat: &mut TableSeat,
+    gate: &mut G,
+    spare: &[u32],
+) -> bool
+    requires own { IsSeatOf table.now seat.old }
+    ensures goes { WorksOn table.now G.becomes (seat.old, gate.old) (seat.new, gate.new) }
+    ensures own { seat.new.known.own ≡ seat.old.known.own }
+    ensures few { seat.new.known.steps ≤ seat.old.known.steps + 1 }
+{
+    if spare.is_empty() {
+        return false;
+    }
+    let number = spare[spare.len() - 1];
+    if number >= table.layout().nodes {
+        return false;
+    }
+    table.load_state(seat, gate, Rec::Node(number)) == 0
+}
+
 /// Loads the states of the records `made`, which the pass has made, so that each was found not free.
 fn load_states<G: Gate>(table: &HotTable, seat: &mut TableSeat, gate: &mut G, made: &[Rec])
     requires building { (news : List Made) × IsBuilding table.now seat.old made.now news }
@@ -273,6 +334,7 @@ fn claim_node_on_walk<G: Gate>(
         return Some(number);
     }
     let number = claim_next_record(table, seat, gate, RecordKind::Node, hint.next, left)?;
+    hint.stretch.note_claimed(hint.next, number);
     hint.next = number + 1;
     Some(number)
 }

@@ -6,6 +6,7 @@ ghost use Rattle.rowex_writing.specs.Deeds.{CarriesOut};
 ghost use Rattle.rowex_writing.specs.declared.plan.Deed.TheVariants.{Put, PushDown};
 
 use crate::building::{Build, make_node};
+use crate::claims::leaves_free_node;
 use crate::growing::grow_node;
 use crate::plan::{Deed, Full, Span};
 use crate::publishing::make_leaf;
@@ -88,7 +89,8 @@ pub(crate) fn put_new_leaf<G: Gate>(
 }
 
 /// Makes the new leaf, and a node of it and the found leaf with a fork at `position`. Returns that node, which is to take the found leaf's
-/// place. `Full::Leaves` if no leaf record with room was free. `Full::Nodes` if no node record was free: the leaf stays in `build.made`.
+/// place. One more node record must be free then. `Full::Leaves` if no leaf record with room was free. `Full::Nodes` if no node record was
+/// free: those made by then stay in `build.made`.
 pub(crate) fn push_leaf_down<G: Gate>(
     table: &HotTable,
     seat: &mut TableSeat,
@@ -106,11 +108,15 @@ pub(crate) fn push_leaf_down<G: Gate>(
     let Some(leaf) = make_leaf(table, seat, gate, build, job.key, job.value) else {
         return Err(Full::Leaves);
     };
+    build.nodes.next = build.nodes.stretch.start();
     build.left_nodes = table.layout().nodes;
     let pair = pair_with_leaf(job.key, position, Entry::Leaf(old), leaf);
     let Some(entry) = make_node(table, seat, gate, build, &pair) else {
         return Err(Full::Nodes);
     };
+    if !leaves_free_node(table, seat, gate, build) {
+        return Err(Full::Nodes);
+    }
     Ok(Raised {
         entry: Some(entry),
         low: job.span.len,

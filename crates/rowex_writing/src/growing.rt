@@ -12,6 +12,7 @@ ghost use Rattle.rowex_writing.specs.Growths.{HasNumber, MayGrow};
 ghost use Rattle.rowex_writing.specs.Locks.{locks_of};
 
 use crate::building::Build;
+use crate::claims::leaves_free_node;
 use crate::deeds::{Job, Raised};
 use crate::plan::Full;
 use crate::publishing::make_leaf;
@@ -46,8 +47,8 @@ pub(crate) fn grow_node<G: Gate>(
     grow_with_leaf(table, seat, gate, build, job, &new)
 }
 
-/// Makes and returns what takes the place of the nodes of `job.span` when the lowest gets `new`, a leaf whose record is made. `Full::Nodes`
-/// if no node record was free: those made by then stay in `build.made`.
+/// Makes and returns what takes the place of the nodes of `job.span` when the lowest gets `new`, a leaf whose record is made. One more node
+/// record must be free then. `Full::Nodes` if no node record was free: those made by then stay in `build.made`.
 fn grow_with_leaf<G: Gate>(
     table: &HotTable,
     seat: &mut TableSeat,
@@ -64,10 +65,14 @@ fn grow_with_leaf<G: Gate>(
     ensures few { seat.new.known.steps + leaf_steps table.now.layout ≤
         seat.old.known.steps + deed_steps table.now.layout (locks_of job.now.span) result }
 {
+    build.nodes.next = build.nodes.stretch.start();
     build.left_nodes = table.layout().nodes;
     let Some((entry, stays)) = raise_with_leaf(table, seat, gate, build, job, new) else {
         return Err(Full::Nodes);
     };
+    if !leaves_free_node(table, seat, gate, build) {
+        return Err(Full::Nodes);
+    }
     let len = job.span.len;
     let low = if stays { len - 1 } else { len };
     show_number_fits(entry);

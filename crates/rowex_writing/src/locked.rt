@@ -16,8 +16,8 @@ ghost use Rattle.rowex_writing.specs.Loads.{ReadsEight};
 
 use compound_node::{Entry, Node, find_sibling};
 use record_words::{
-    FIRST_ROWS, HEAD_WORDS, MAX_ENTRIES, NODE_FIELDS, position_of, read_node, read_some_entry,
-    row_of,
+    FIELDS_OFFSET, HEAD_WORDS, MAX_ENTRIES, NODE_FIELDS, index_of_position, index_of_row,
+    position_of, read_node, read_numbers, read_some_entry, row_of,
 };
 use rowex_core::{Gate, Rec, Spot};
 use rowex_table::{HotTable, NodeAt, TableSeat};
@@ -52,12 +52,12 @@ pub(crate) fn load_locked_node_words<G: Gate>(
     for index in 0..HEAD_WORDS {
         words[index] = load_locked_word(table, seat, gate, node, index);
     }
-    let end = HEAD_WORDS + (words[0] % 256) as usize;
+    let end = read_numbers(words[0]).entries_end();
     let loads = NodeLoads { node, end };
-    load_eight_words(table, seat, gate, loads, words, 25);
-    load_eight_words(table, seat, gate, loads, words, 33);
-    load_eight_words(table, seat, gate, loads, words, 41);
-    load_eight_words(table, seat, gate, loads, words, 49);
+    load_eight_words(table, seat, gate, loads, words, HEAD_WORDS);
+    load_eight_words(table, seat, gate, loads, words, HEAD_WORDS + 8);
+    load_eight_words(table, seat, gate, loads, words, HEAD_WORDS + 16);
+    load_eight_words(table, seat, gate, loads, words, HEAD_WORDS + 24);
 }
 
 /// Loads the row of slot `at` of the locked node `node`; 4,294,967,295 for an unused slot, and past the last one.
@@ -79,7 +79,7 @@ fn load_row<G: Gate>(
     if at as usize >= MAX_ENTRIES {
         return u32::MAX;
     }
-    let index = FIRST_ROWS + at as usize / 2;
+    let index = index_of_row(at);
     row_of(load_locked_word(table, seat, gate, node, index), at)
 }
 
@@ -125,7 +125,7 @@ pub(crate) fn load_position<G: Gate>(
 {
     let start = table.start_of(Rec::Node(number));
     let node = NodeAt { number, start };
-    let index = 1 + column as usize / 4;
+    let index = index_of_position(column);
     position_of(load_locked_word(table, seat, gate, node, index), column)
 }
 
@@ -215,7 +215,7 @@ fn load_locked_word<G: Gate>(
     ensures few { seat.new.known.steps ≤ seat.old.known.steps + 1 }
 {
     if index < HEAD_WORDS {
-        let offset = index as u8 + 1;
+        let offset = index as u8 + FIELDS_OFFSET;
         table.load_fixed_at(seat, gate, Rec::Node(node.number), node.start, offset)
     } else {
         let entry = (index - HEAD_WORDS) as u8;

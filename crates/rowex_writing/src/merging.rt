@@ -33,7 +33,7 @@ use crate::valuing::is_unchanged;
 use crate::widening::{lock_for_merge, unlock_for_merge};
 use compound_node::{Entry, Half, Node};
 use insert_cases::PathNode;
-use record_words::{NODE_FIELDS, close_fork, pack_node};
+use record_words::{NODE_FIELDS, NUMBERS_OFFSET, close_fork, pack_node, read_numbers};
 use rowex_core::{Gate, Rec};
 use rowex_reading::Found;
 use rowex_records::fill_node;
@@ -138,8 +138,8 @@ fn find_merge<G: Gate>(
     else {
         return None;
     };
-    let count = table.load_fixed(seat, gate, Rec::Node(number), 1) % 256;
-    if count.saturating_add(u64::from(low.count)) > 33 {
+    let word = table.load_fixed(seat, gate, Rec::Node(number), NUMBERS_OFFSET);
+    if read_numbers(word).count.saturating_add(low.count) > 33 {
         return None;
     }
     let position = load_position(table, seat, gate, above.number, column);

@@ -6,7 +6,6 @@ ghost use Rattle.rowex_table.specs.Made.{Made};
 ghost use Rattle.publish_laws.specs.Rises.{IsSide};
 ghost use Rattle.rowex_writing.specs.Building.{IsBuilding, IsGrowing, IsLevelRisen, IsLowRisen, IsNextTo, IsRaising, IsRisenAt, MakesGrown, newcomer_of, Rises, GetsFork, GetsLeaf, FitsAbove, FitsOnWay, HasNotMade, HasRisenTo, gone_unless_whole, gone_with_way, levels_above};
 ghost use Rattle.rowex_writing.specs.Going.{HasLocked, IsLockedBy, LeadsLocked};
-ghost use Rattle.rowex_writing.specs.Locks.{locks_of};
 ghost use Rattle.rowex_writing.specs.Remaking.{AwaitsLeaf};
 ghost use Rattle.compound_node.specs.Nodes.{NodeView, height_of};
 ghost use Rattle.insert_cases.specs.Grown.{keeps_node, is_same};
@@ -227,7 +226,7 @@ fn raise_to_end<G: Gate>(
 ) -> Option<Entry>
     requires up { Rises table.now seat.old build.old.made.items way.now rise }
     requires room { length build.old.made.items + 2 * levels_above rise < MOST_MADE }
-    ensures makes { Makes (2 * levels_above rise.entry + 1) ((levels_above rise.entry + 1) * level_steps) table.now G.becomes
+    ensures makes { Makes (2 * levels_above rise.entry + 1) (levels_above rise.entry * level_steps + node_steps) table.now G.becomes
         ((seat.old, gate.old), build.old) ((seat.new, gate.new), build.new) result }
     ensures made { (b : Rises table.now seat.old build.old.made.items way.now rise.entry) → MatchOption result
         (HasNotMade table.now seat.new build.new.made.items)
@@ -255,7 +254,7 @@ fn raise_fork_above<G: Gate>(
     requires up { Rises table.now seat.old build.old.made.items way.now rise }
     requires above { rise.level ≢ rise.end }
     requires room { length build.old.made.items + 2 * levels_above rise < MOST_MADE }
-    ensures makes { Makes (2 * levels_above rise.entry + 1) ((levels_above rise.entry + 1) * level_steps) table.now G.becomes
+    ensures makes { Makes (2 * levels_above rise.entry + 1) (levels_above rise.entry * level_steps + node_steps) table.now G.becomes
         ((seat.old, gate.old), build.old) ((seat.new, gate.new), build.new) result }
     ensures made { (b : Rises table.now seat.old build.old.made.items way.now rise.entry) → MatchOption result
         (HasNotMade table.now seat.new build.new.made.items)
@@ -303,7 +302,7 @@ pub(crate) fn raise_with_leaf<G: Gate>(
     requires growing { IsGrowing table.now seat.old build.old.made.items job.now.way.now job.now.span new.now }
     requires within { job.now.span.end < job.now.span.len }
     requires room { length build.old.made.items + 2 * (job.now.span.len - 1 - job.now.span.end) + 2 < MOST_MADE }
-    ensures makes { Makes (2 * (job.now.span.len - 1 - job.now.span.end) + 3) (locks_of job.now.span * level_steps) table.now G.becomes
+    ensures makes { Makes (2 * (job.now.span.len - 1 - job.now.span.end) + 3) ((job.now.span.len - job.now.span.end) * level_steps + node_steps) table.now G.becomes
         ((seat.old, gate.old), build.old) ((seat.new, gate.new), build.new) result }
     ensures made { (b : IsGrowing table.now seat.old build.old.made.items job.now.way.now job.now.span new.now) → MatchOption result
         (HasNotMade table.now seat.new build.new.made.items)

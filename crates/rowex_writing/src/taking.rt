@@ -65,6 +65,7 @@ fn remake_without_leaf<G: Gate>(
     ensures full { IfErr result (λ full. (full ≡ Full.Nodes) × HasNoneFree table.now seat.old.known seat.new build.new.made.items job.now full) }
     ensures walk { seat.new.known.steps + 2 * build.new.left_nodes ≤ seat.old.known.steps + 2 * table.now.layout.nodes + level_steps + 1 }
 {
+    build.nodes.next = build.nodes.stretch.start();
     build.left_nodes = table.layout().nodes;
     let lowest = job.way[job.span.end];
     let Some(entry) = raise_without_leaf(table, seat, gate, build, lowest.number, lowest.at) else {

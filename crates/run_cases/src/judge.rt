@@ -5,7 +5,7 @@ ghost use Rattle.seat_calls.specs.Passes.{Owns};
 
 use crate::cases::{Case, Task, bad_line};
 use crate::guests::{Guest, do_tasks, pop_guest, scan_from_highest, scan_from_lowest};
-use hot_index::{Event, Gate, Index, Pass, Scan};
+use hot_index::{Event, Gate, Index, Pass, Scan, keep_one_node};
 use record_words::Layout;
 use rowex_replay::Replay;
 use std::alloc::{AllocError, Global};
@@ -22,7 +22,8 @@ pub struct Judge {
 impl Judge {
     /// A judge of an index that was just made with these numbers. An error if one is out of range, or memory is refused.
     pub fn new(alloc: Global, passes: u32, nodes: u32, leaves: u32) -> io::Result<Judge> {
-        let layout = Layout::of(passes, nodes, leaves).map_err(|_| bad_line())?;
+        let asked = Layout::of(passes, nodes, leaves).map_err(|_| bad_line())?;
+        let layout = keep_one_node(asked);
         Ok(Judge {
             replay: Replay::new(alloc, layout)?,
             told: Vec::new(alloc),

@@ -7,4 +7,5 @@ pub mod Collected
 pub mod Counted
 pub mod Conflicts
 pub mod Trying
+pub mod Refusing
 pub mod Resting

@@ -98,11 +98,14 @@ module _ {G : Type 0} {table : TableView} {becomes : G → Event → G → Type 
       let acts = LoadEpoch round.epoch ∷ advance_steps round.epoch round.found ++ LoadEpoch round.next ∷ round.pins ++ round.nodes ++ round.leaves in
       (step, late, (act, word, tells, one, subst (λ (z : List Failed). Contains z x) (sym failed) (run_failed table becomes acts b c round.does.steps x has)))
 
+  pub lacks_still : (own : List Rec) → LacksNodes table.layout b.0.known.pass b.0.known.failed k.steps own → LacksNodes table.layout d.0.known.pass d.0.known.failed k.steps own
+  lacks_still own l =
+      subst (λ q. LacksNodes table.layout q d.0.known.failed k.steps own) (sym same)
+      (lacks_so table.layout b.0.known.pass b.0.known.failed d.0.known.failed k.steps k.steps own l (λ q low. missed_still (IsAnothers table.layout b.0.known.pass own l.locked) (a_node q) (l.missed q low)))
+
   pub cause_still : (fault : TryFault) → is_full (Err fault) ≡ true → IsCause table.layout key k (pass_of b.0) fault → IsCause table.layout key k (pass_of d.0) fault
   cause_still Busy full cause = absurd (false≢true full)
-  cause_still FullNodes full l =
-      subst (λ q. LacksNodes table.layout q d.0.known.failed k.steps) (sym same)
-      (lacks_so table.layout b.0.known.pass b.0.known.failed d.0.known.failed k.steps k.steps l (λ q low. missed_still (IsAnothers table.layout b.0.known.pass l.own l.locked) (a_node q) (l.missed q low)))
+  cause_still FullNodes full (own, l) = (own, lacks_still own l)
   cause_still FullLeaves full all =
       subst (λ q. LacksLeaves table.layout key q d.0.known.failed k.steps) (sym same) (λ q low room. missed_still (IsAnothers table.layout b.0.known.pass [] []) (a_leaf q) (all q low room))
 

@@ -40,6 +40,7 @@ use Rattle.rowex_writing.specs.Attempts as tries
 use Rattle.rowex_writing.specs.Attempts.{HasAnswered, HasLoadedRoot, HasRefused, IsChangeOf, IsLeafless}
 use Rattle.rowex_writing.specs.Changes.{HasChanged, HasTried, LacksLeaves, LacksNodes}
 use Rattle.rowex_writing.specs.Locks.{HasMetLock, HasMetTaken}
+use Rattle.rowex_writing.specs.Walks.{nodes_among}
 use Rattle.rowex_writing.specs.declared.plan.Full.{Full}
 use Rattle.rowex_writing.specs.declared.plan.Full.TheVariants.{Nodes as OfNodes, Leaves as OfLeaves}
 use Rattle.rowex_writing.specs.declared.attempts.TryFault.{TryFault}
@@ -47,8 +48,10 @@ use Rattle.rowex_writing.specs.declared.attempts.TryFault.TheVariants.{Busy, Ful
 use Rattle.rowex_writing.proofs.Keeping.{lacks_so}
 use Rattle.epochs.specs.Rounds.{IsRound}
 use Rattle.seat_calls.specs.Answers.{IsCause, IsNoted, IsRefused, IsUnnoted, MayLack, MayRefuse, fault_of}
-use Rattle.seat_calls.specs.Asked.{HasAsked, HasReplied, last_try}
-use Rattle.seat_calls.specs.Calls.{AreTriesRefused, GetsOr, IsAwaitedWith, IsTriedWith, MakesTries}
+use Rattle.seat_calls.specs.Asked.{HasAsked, HasLacked, HasReplied, last_try}
+use Rattle.seat_calls.specs.Calls.{AreTriesRefused, GetsOr, IsAwaitedWith, IsCountedWith, IsTriedAndCounted, IsTriedWith, MakesTries}
+use Rattle.seat_calls.specs.declared.refusals.Refusal.{Refusal}
+use Rattle.seat_calls.specs.Refusals.{IsPassing, as_tried, fault_in}
 use Rattle.seat_calls.specs.Counts.{try_steps, twice_steps}
 use Rattle.seat_calls.specs.Noting.{change_notes, place_by}
 use Rattle.seat_calls.specs.Passes.{IsSettled, Owns, PassView, pass_of}
@@ -171,14 +174,18 @@ missed_on : (Whose : Rec → Option ℕ → Type 0) (kind : ℕ → Rec) (n : �
 missed_on Whose kind n tried more since later le same all q low =
     let one = all q low in (one.0, le_trans le one.1, subst (λ (z : List Failed). HasMissed Whose z (kind q) one.0) (sym same) one.2)
 
+-- what a part of a call lacks, the call lacks
+pub lacks_from_before : (layout : Layout) (p q : ℕ) (tried more : List Failed) (since later : ℕ) (own : List Rec) → since ≤ later → q ≡ p → more ≡ tried → LacksNodes layout p tried later own → LacksNodes layout q more since own
+lacks_from_before layout p q tried more since later own le number same l =
+    subst (λ z. LacksNodes layout z more since own) (sym number)
+    (lacks_so layout p tried more later since own l (missed_on (IsAnothers layout p own l.locked) a_node layout.nodes tried more since later le same l.missed))
+
 -- a cause of a part of a call, after which the pass had no further failed step, saw no further change and loaded no root, is one of
 -- the call
 pub cause_from_before : (layout : Layout) (key : Key) (k j h i : PassView) (fault : TryFault) → k.steps ≤ j.steps → i.number ≡ h.number → i.failed ≡ h.failed → i.front ≡ h.front → i.fresh ≡ h.fresh →
     IsCause layout key j h fault → IsCause layout key k i fault
 cause_from_before layout key k j h i Busy steps number failed front fresh conflict = conflict_from_before layout k j h i steps number failed front fresh conflict
-cause_from_before layout key k j h i FullNodes steps number failed front fresh l =
-    subst (λ q. LacksNodes layout q i.failed k.steps) (sym number)
-    (lacks_so layout h.number h.failed i.failed j.steps k.steps l (missed_on (IsAnothers layout h.number l.own l.locked) a_node layout.nodes h.failed i.failed k.steps j.steps steps failed l.missed))
+cause_from_before layout key k j h i FullNodes steps number failed front fresh (own, l) = (own, lacks_from_before layout h.number i.number h.failed i.failed k.steps j.steps own steps number failed l)
 cause_from_before layout key k j h i FullLeaves steps number failed front fresh all =
     subst (λ q. LacksLeaves layout key q i.failed k.steps) (sym number)
     (λ q low room. let one = all q low room in (one.0, le_trans steps one.1, subst (λ (z : List Failed). HasMissed (IsAnothers layout h.number [] []) z (a_leaf q) one.0) (sym failed) one.2))
@@ -252,6 +259,12 @@ module _ {G : Type 0} {table : TableView} {becomes : G → Event → G → Type 
         ended = ended_tidied table becomes a b c (inr small) asked.ended;
         later = le_trans later asked.later;
       }
+
+  -- what it lacked
+  pub tidied_lacks : (made : List Rec) → Tidies table becomes a b → HasLacked table made r b.0 c.0 → HasLacked table made r a.0 c.0
+  tidied_lacks made (inl none) h = subst (λ (z : SeatView). HasLacked table made r z c.0) (ap (λ (z : SeatView × G). z.0) none) h
+  tidied_lacks made (inr small) h = λ is.
+      lacks_from_before table.layout c.0.known.pass c.0.known.pass c.0.known.failed c.0.known.failed a.0.known.steps b.0.known.steps (nodes_among made) (small_later small) refl refl (h is)
 
   -- the small round is bounded, too
   pub tidied_few : Tidies table becomes a b → c.0.known.steps ≤ b.0.known.steps + twice_steps table.layout → c.0.known.steps ≤ a.0.known.steps + try_steps table.layout
@@ -355,11 +368,11 @@ module _ {G : Type 0} {table : TableView} {becomes : G → Event → G → Type 
       ((n.0, tt), n.1)
 
   -- the cause of an attempt is one by what contracts see
-  cause_seen : (key : Key) (fault : TryFault) {said : Known → List Note} → IsEvent table.layout ClearPin said c.0.known d.0.known → OthersGoOn b.0.known.pass b.0.known.front c.0.known.front → tries.IsAttemptCause table.layout key b.0.known c.0.known fault →
+  cause_seen : (key : Key) (made : List Rec) (fault : TryFault) {said : Known → List Note} → IsEvent table.layout ClearPin said c.0.known d.0.known → OthersGoOn b.0.known.pass b.0.known.front c.0.known.front → tries.IsAttemptCause table.layout key b.0.known c.0.known made fault →
       IsCause table.layout key (pass_of b.0) (pass_of c.0) fault
-  cause_seen key FullNodes event others h = h
-  cause_seen key FullLeaves event others h = h
-  cause_seen key Busy event others h = record {
+  cause_seen key made FullNodes event others h = (nodes_among made, h)
+  cause_seen key made FullLeaves event others h = h
+  cause_seen key made Busy event others h = record {
     pass = subst (λ (z : Layout). c.0.known.pass < z.passes) event.layout_is event.knows.pass;
     met = ⊎_elim
         (λ (met : HasMetLock table.layout b.0.known c.0.known). inl (subst (λ q. HasMetTaken table.layout q b.0.known.steps c.0.known.failed) (sym same) met))
@@ -377,20 +390,29 @@ module _ {G : Type 0} {table : TableView} {becomes : G → Event → G → Type 
           omega (arith, settled.loaded, s, f)
 
   -- it was refused
-  when_refused : (call : Call) (fault : TryFault) → HasRefused table.layout (key_of call) b.0.known c.0.known fault → IsEvent table.layout ClearPin (change_notes call (Err fault)) c.0.known d.0.known → Leaves call (Err fault)
-  when_refused call fault h event = ((tt, record { unnoted = scan_refused a.0 d.0 settled (quiet h.others) event; cause = cause }), scan_settled a.0 d.0 settled (quiet h.others) event)
+  when_refused : (call : Call) (made : List Rec) (fault : TryFault) → HasRefused table.layout (key_of call) b.0.known c.0.known made fault → IsEvent table.layout ClearPin (change_notes call (Err fault)) c.0.known d.0.known → Leaves call (Err fault)
+  when_refused call made fault h event = ((tt, record { unnoted = scan_refused a.0 d.0 settled (quiet h.others) event; cause = cause }), scan_settled a.0 d.0 settled (quiet h.others) event)
     where
       cause : IsCause table.layout (key_of call) (pass_of a.0) (pass_of d.0) fault
       cause =
           cause_from_before table.layout (key_of call) (pass_of a.0) (pass_of b.0) (pass_of c.0) (pass_of d.0) fault counted (ap (λ (z : Known). z.pass) event.learned_is) (ap (λ (z : Known). z.failed) event.learned_is)
-          (ap (λ (z : Known). z.front) event.learned_is) (ap (λ (z : Known). z.fresh) event.learned_is) (cause_seen (key_of call) fault event h.others h.cause)
+          (ap (λ (z : Known). z.front) event.learned_is) (ap (λ (z : Known). z.fresh) event.learned_is) (cause_seen (key_of call) made fault event h.others h.cause)
 
   -- whatever came of it
-  pub tried : (call : Call) (r : Result Reply TryFault) → IfOk r (HasAnswered b.0.known c.0.known call) → IfErr r (HasRefused table.layout (key_of call) b.0.known c.0.known) →
+  pub tried : (call : Call) (made : List Rec) (r : Result Reply TryFault) → IfOk r (HasAnswered b.0.known c.0.known call) → IfErr r (HasRefused table.layout (key_of call) b.0.known c.0.known made) →
       StepsWith table becomes ClearPin (change_notes call r) c d → Leaves call r
-  tried call (Ok reply) (inl looked) refused step = when_looked call reply looked.0 looked.1 step.event
-  tried call (Ok reply) (inr (x, was, is, changed)) refused step = when_changed call reply x was is changed step.event
-  tried call (Err fault) answered refused step = when_refused call fault refused step.event
+  tried call made (Ok reply) (inl looked) refused step = when_looked call reply looked.0 looked.1 step.event
+  tried call made (Ok reply) (inr (x, was, is, changed)) refused step = when_changed call reply x was is changed step.event
+  tried call made (Err fault) answered refused step = when_refused call made fault refused step.event
+
+  -- and what it lacked
+  pub tried_lacks : {said : Known → List Note} (key : Key) (made : List Rec) (r : Result Reply TryFault) → IfErr r (HasRefused table.layout key b.0.known c.0.known made) → StepsWith table becomes ClearPin said c d → HasLacked table made r a.0 d.0
+  tried_lacks key made (Ok reply) refused step = λ is. absurd (cc)
+  tried_lacks key made (Err Busy) refused step = λ is. absurd (cc)
+  tried_lacks key made (Err FullLeaves) refused step = λ is. absurd (cc)
+  tried_lacks key made (Err FullNodes) refused step = λ is.
+      lacks_from_before table.layout c.0.known.pass d.0.known.pass c.0.known.failed d.0.known.failed a.0.known.steps b.0.known.steps (nodes_among made) counted
+      (ap (λ (z : Known). z.pass) step.event.learned_is) (ap (λ (z : Known). z.failed) step.event.learned_is) refused.cause
 
   -- it has loaded the root
   pub tried_loaded : {said : Known → List Note} → StepsWith table becomes ClearPin said c d → a.0.known.steps ≤ d.0.known.fresh.step
@@ -494,10 +516,11 @@ stepped_told {table = table} {s = s} {t = t} {becomes = becomes} {g = g} {h = h}
     subst (λ (x : TableView × PassView). HasTold x.0 becomes (x.1, g) (pass_of t, h)) (λ e. (index_is e, pass_is e)) (has_told table becomes (s, g) (t, h) stepped loaded)
 
 -- one try more was refused
-pub refused_again : {G : Type 0} {call : Call} {index : TableView} {becomes : G → Event → G → Type 0} (a b c : PassView × G) (faults : List TryFault) (fault : TryFault) →
-    AreTriesRefused call faults index becomes a b → IsTriedWith call (Err fault) index becomes b c → AreTriesRefused call (faults ++ fault ∷ []) index becomes a c
-refused_again {G = G} {call = call} {index = index} {becomes = becomes} a b c [] fault none last = (c, subst (λ (z : PassView × G). IsTriedWith call (Err fault) index becomes z c) none last, refl)
-refused_again a b c (first ∷ faults) fault (m, one, rest) last = (m, one, refused_again m b c faults fault rest last)
+pub refused_again : {G : Type 0} {call : Call} {index : TableView} {becomes : G → Event → G → Type 0} (a b c : PassView × G) (refusals : List Refusal) (refusal : Refusal) →
+    AreTriesRefused call refusals index becomes a b → IsTriedAndCounted call (Err refusal) index becomes b c → IsPassing refusal → AreTriesRefused call (refusals ++ refusal ∷ []) index becomes a c
+refused_again {G = G} {call = call} {index = index} {becomes = becomes} a b c [] refusal none last passing =
+    (c, subst (λ (z : PassView × G). IsTriedAndCounted call (Err refusal) index becomes z c) none last, passing, refl)
+refused_again a b c (first ∷ refusals) refusal (m, one, passing, rest) last still = (m, one, passing, refused_again m b c refusals refusal rest last still)
 
 -- a change that waits, as the index and the pass see it
 pub awaited_seen : {table index : TableView} {k : PassView} {s t : SeatView} {call : Call} {G : Type 0} {becomes : G → Event → G → Type 0} {g h : G} {said : Known → List Note} {r : Result Reply Full} →
@@ -510,3 +533,21 @@ awaited_seen {t = t} {call = call} {becomes = becomes} {g = g} {h = h} {r = r} i
   tries = subst (λ (x : TableView × PassView). MakesTries call r x.0 becomes (x.1, g) (pass_of t, h)) (λ e. (index_is e, pass_is e)) made;
   told = stepped_told index_is pass_is stepped replied.loaded;
 }
+
+-- a change that was tried and counted, as the index and the pass see it
+pub counted_seen : {table index : TableView} {k : PassView} {s t : SeatView} {call : Call} {G : Type 0} {becomes : G → Event → G → Type 0} {g h : G} (r : Result Reply Refusal) →
+    table ≡ index → pass_of s ≡ k → HasReplied table call (as_tried r) s t → IsTriedAndCounted call r table becomes (pass_of s, g) (pass_of t, h) → IsCountedWith call r index becomes (k, g) (pass_of t, h)
+counted_seen {index = index} {k = k} {t = t} {call = call} {becomes = becomes} {g = g} {h = h} r index_is pass_is replied made = record {
+  own = replied_own index_is pass_is replied;
+  call = counted_call (IsNoted index.layout k (pass_of t) call) (IsRefused index.layout call k (pass_of t)) r (replied_call index_is pass_is (as_tried r) replied);
+  leafless = replied.leafless;
+  made = subst (λ (x : TableView × PassView). IsTriedAndCounted call r x.0 becomes (x.1, g) (pass_of t, h)) (λ e. (index_is e, pass_is e)) made;
+}
+  where
+    counted_call : (Noted : Reply → Type 0) (Refused : TryFault → Type 0) (r : Result Reply Refusal) → MatchResult (as_tried r) Noted Refused → MatchResult r Noted (λ refusal. Refused (fault_in refusal))
+    counted_call Noted Refused (Ok reply) it = it
+    counted_call Noted Refused (Err refusal) it = it
+
+pub may_count : (call : Call) (r : Result Reply Refusal) → ((key : Key) → call ≢ Get key) → IsLeafless FullLeaves call (as_tried r) → IfErr r (λ refusal. MayRefuse call (fault_in refusal))
+may_count call (Ok reply) change h = tt
+may_count call (Err refusal) change h = may call (fault_in refusal) change h

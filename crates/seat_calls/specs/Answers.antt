@@ -16,6 +16,7 @@ use Rattle.tries.specs.Keys.{Key}
 use Rattle.record_words.specs.declared.layout.Layout.{Layout}
 use Rattle.rowex_scanning.specs.Scanning.{limited}
 use Rattle.version_laws.specs.Directions.{ScanLaw}
+use Rattle.versions.specs.declared.Rec.{Rec}
 use Rattle.version_laws.specs.Scan.{Range}
 use Rattle.rowex_writing.specs.Changes.{LacksLeaves, LacksNodes}
 use Rattle.rowex_writing.specs.Locks.{HasMetTaken}
@@ -124,10 +125,10 @@ pub record HasConflict (layout : Layout) (k j : PassView) : Type 0 where
 
 -- Why a call was refused: another pass stood in its way; or of each node record, or of each leaf record with room for its key, a claim
 -- failed or a load found the state not free. Then no leaf record was the pass's own, and of the node records at most two for each node
--- that it had locked.
+-- that it had locked, and one.
 abbrev pub IsCause : Layout → Key → PassView → PassView → TryFault → Type 0
 IsCause layout key k j Busy = HasConflict layout k j
-IsCause layout key k j FullNodes = LacksNodes layout j.number j.failed k.steps
+IsCause layout key k j FullNodes = (own : List Rec) × LacksNodes layout j.number j.failed k.steps own
 IsCause layout key k j FullLeaves = LacksLeaves layout key j.number j.failed k.steps
 
 -- A call was refused: it has changed nothing and adds no note, and this is the cause.

@@ -7,8 +7,11 @@ use Rattle.rowex_core.specs.declared.event.Event.{Event}
 use Rattle.rowex_table.specs.Runs.{silent}
 use Rattle.rowex_table.specs.Seats.{TableView, SeatView, IsSeatOf}
 use Rattle.rowex_writing.specs.Attempts.{IsLeafless}
+use Rattle.rowex_writing.specs.Changes.{LacksNodes}
+use Rattle.rowex_writing.specs.Walks.{nodes_among}
+use Rattle.versions.specs.declared.Rec.{Rec}
 use Rattle.rowex_writing.specs.declared.attempts.TryFault.{TryFault}
-use Rattle.rowex_writing.specs.declared.attempts.TryFault.TheVariants.{FullLeaves}
+use Rattle.rowex_writing.specs.declared.attempts.TryFault.TheVariants.{FullLeaves, FullNodes}
 use Rattle.rowex_writing.specs.declared.plan.Full.{Full}
 use Rattle.seat_calls.specs.Answers.{IsNoted, IsRefused, IsUnnoted, fault_of}
 use Rattle.seat_calls.specs.Noting.{change_notes}
@@ -26,6 +29,10 @@ pub record HasReplied (table : TableView) (call : Call) (result : Result Reply T
   pub refused : IfErr result (IsRefused table.layout call (pass_of s) (pass_of t))
   pub leafless : IsLeafless FullLeaves call result
   pub loaded : s.known.steps ≤ t.known.fresh.step
+
+-- if no node record was free beside those that the pass had made, it lacks one
+abbrev pub HasLacked : TableView → List Rec → Result Reply TryFault → SeatView → SeatView → Type 0
+HasLacked table made result s t = result ≡ Err FullNodes → LacksNodes table.layout t.known.pass t.known.failed s.known.steps (nodes_among made)
 
 -- And it has made such steps. With the last one comes its note, if it was answered.
 pub record HasAsked {G : Type 0} (table : TableView) (becomes : G → Event → G → Type 0) (Are : SeatView × G → SeatView × G → List Act → Type 0)

@@ -1,5 +1,5 @@
 -- What a call of an index ensures, each of its clauses a field by the clause's name.
-use Rattle.std.specs.Prelude.{◌≡◌, ◌+◌, ◌≤◌, ℕ, Bool, List, [], ◌∷◌, Result, Err, MatchResult, IfOk, IfErr, OnErr}
+use Rattle.std.specs.Prelude.{◌≡◌, ◌+◌, ◌≤◌, ℕ, Bool, List, [], ◌∷◌, Result, Ok, Err, MatchResult, IfOk, IfErr, OnErr}
 use Rattle.finite_map.specs.declared.Call.{Call}
 use Rattle.finite_map.specs.declared.Call.TheVariants.{Get}
 use Rattle.finite_map.specs.declared.Reply.{Reply}
@@ -17,7 +17,10 @@ use Rattle.version_laws.specs.Scan.{Range}
 use Rattle.tries.specs.Keys.{Key}
 use Rattle.version_laws.specs.Directions.{ScanLaw}
 use Rattle.seat_calls.specs.Answers.{HasFoundPair, IsListedBy, IsListedInPartBy, IsNoted, IsRefused, IsScannedBy, IsUnnoted, MayRefuse, fault_of}
-use Rattle.seat_calls.specs.Asked.{last_try}
+use Rattle.seat_calls.specs.Refusals.{IsPassing, IsTold, as_tried, fault_in}
+use Rattle.seat_calls.specs.declared.census.RecordCounts.{RecordCounts}
+use Rattle.seat_calls.specs.declared.refusals.Refusal.{Refusal}
+use Rattle.seat_calls.specs.declared.refusals.Refusal.TheVariants.{Full as IsFull}
 use Rattle.seat_calls.specs.Counts.{scan_steps}
 use Rattle.seat_calls.specs.Passes.{Owns, PassView}
 use Rattle.seat_calls.specs.Traces.{HasGot, HasGotRange, HasMade, HasTold, untold}
@@ -54,20 +57,37 @@ pub record IsCallTried (asked : Call) (result : Result Reply TryFault) (index : 
   pub may : IfErr result (MayRefuse asked)
   pub made : MakesSteps asked result index k j
 
--- Tries of a change were refused for these reasons, one after the other. Each try is a whole call that doesn't wait.
-abbrev pub AreTriesRefused : {G : Type 0} → Call → List TryFault → TableView → (G → Event → G → Type 0) → PassView × G → PassView × G → Type 0
-AreTriesRefused asked [] index becomes a b = b ≡ a
-AreTriesRefused {G = G} asked (fault ∷ faults) index becomes a b =
-    (m : PassView × G) × IsTriedWith asked (Err fault) index becomes a m × AreTriesRefused asked faults index becomes m b
+-- A change was tried once, by a whole call that doesn't wait. If no record was free, all records were counted then, and the result says what
+-- the count says.
+pub record IsTriedAndCounted {G : Type 0} (asked : Call) (result : Result Reply Refusal) (index : TableView) (becomes : G → Event → G → Type 0)
+    (a b : PassView × G) : Type 0 where
+  pub mid : PassView × G
+  pub tried : IsTriedWith asked (as_tried result) index becomes a mid
+  pub told : IsTold asked result index becomes a mid b
 
--- A change that waits makes tries, one after the other, and no other step. All but the last are refused. The last one leaves what the change
--- leaves: so the cause of a refusal lies in the last try alone.
+-- Tries of a change were refused for these reasons, one after the other, and none of them is final.
+abbrev pub AreTriesRefused : {G : Type 0} → Call → List Refusal → TableView → (G → Event → G → Type 0) → PassView × G → PassView × G → Type 0
+AreTriesRefused asked [] index becomes a b = b ≡ a
+AreTriesRefused {G = G} asked (refusal ∷ refusals) index becomes a b =
+    (m : PassView × G) × IsTriedAndCounted asked (Err refusal) index becomes a m × IsPassing refusal × AreTriesRefused asked refusals index becomes m b
+
+-- what a change that waits returns, by its last try: the reply, or a refusal that is final
+abbrev pub IsOfLast : Result Reply Full → Result Reply Refusal → Type 0
+IsOfLast (Ok reply) last = last ≡ Ok reply
+IsOfLast (Err full) last = (counts : RecordCounts) × (last ≡ Err (IsFull full counts))
+
+-- A change that waits makes tries, with a count after each that found no record free, and no other step. It goes on after a try that was busy
+-- or held back, and ends with any other: so in an index of one pass it makes one try. The last one leaves what the change leaves. So the
+-- cause of a refusal lies in the last try alone.
 pub record MakesTries {G : Type 0} (asked : Call) (result : Result Reply Full) (index : TableView) (becomes : G → Event → G → Type 0)
     (a b : PassView × G) : Type 0 where
-  pub faults : List TryFault
+  pub refusals : List Refusal
   pub last : PassView × G
-  pub refused : AreTriesRefused asked faults index becomes a last
-  pub tried : IsTriedWith asked (last_try result) index becomes last b
+  pub refused : AreTriesRefused asked refusals index becomes a last
+  pub alone : index.layout.passes ≡ 1 → refusals ≡ []
+  pub outcome : Result Reply Refusal
+  pub tried : IsTriedAndCounted asked outcome index becomes last b
+  pub is_last : IsOfLast result outcome
 
 -- The steps of a call that waits and has this outcome: those of a get, or a change's tries.
 abbrev pub GetsOrTries : {G : Type 0} → Call → Result Reply Full → TableView → (G → Event → G → Type 0) → PassView × G → PassView × G → Type 0
@@ -86,6 +106,22 @@ pub record IsAwaitedWith {G : Type 0} (asked : Call) (result : Result Reply Full
 -- the same, where nobody is told of its steps
 abbrev pub IsAwaited : Call → Result Reply Full → TableView → PassView → PassView → Type 0
 IsAwaited asked result index k j = IsAwaitedWith asked result index untold (k, tt) (j, tt)
+
+-- A change was tried once and counted, and was answered or refused.
+pub record IsCountedWith {G : Type 0} (asked : Call) (result : Result Reply Refusal) (index : TableView) (becomes : G → Event → G → Type 0)
+    (a b : PassView × G) : Type 0 where
+  pub own : Owns index b.0
+  pub call : MatchResult result (IsNoted index.layout a.0 b.0 asked) (λ refusal. IsRefused index.layout asked a.0 b.0 (fault_in refusal))
+  pub leafless : IsLeafless FullLeaves asked (as_tried result)
+  pub made : IsTriedAndCounted asked result index becomes a b
+
+-- A call that doesn't wait, a get or a change, was answered, or refused where it may be. After a change that found no record free all records
+-- were counted.
+pub record IsCallCounted (asked : Call) (result : Result Reply Refusal) (index : TableView) (k j : PassView) : Type 0 where
+  pub own : Owns index j
+  pub call : MatchResult result (IsNoted index.layout k j asked) (λ refusal. IsRefused index.layout asked k j (fault_in refusal))
+  pub may : IfErr result (λ refusal. MayRefuse asked (fault_in refusal))
+  pub made : GetsOr asked (HasGot index untold (k, tt) (j, tt)) (IsTriedAndCounted asked result index untold (k, tt) (j, tt))
 
 -- A range was read, with such an answer, or memory was refused for a pair that it had found, and such a part is left; by its steps, so
 -- many at most, of which the gate was told.

@@ -1,5 +1,6 @@
 -- The definitions of the crate.
 pub mod Passes
+pub mod Refusals
 pub mod Answers
 pub mod Noting
 pub mod Traces

@@ -1,21 +1,23 @@
 //! A call that may change the index, made with a pass's seat and scratch lists: its attempts, and the note of an answer.
 
-ghost use Rattle.std.specs.Prelude.{◌≡◌, ◌⊎◌, ◌+◌, ◌<◌, ◌≤◌, ◌↔◌, List, Err, None, IfSome, IsSome, IsTrue, true, false};
+ghost use Rattle.std.specs.Prelude.{◌≡◌, ◌⊎◌, ◌+◌, ◌<◌, ◌≤◌, ◌↔◌, List, Err, None, IfSome, IsSome, IsTrue, false};
 ghost use Rattle.finite_map.specs.declared.Note.{Note};
 ghost use Rattle.rowex_core.specs.declared.event.Act.TheVariants.{ClearPin};
 ghost use Rattle.rowex_core.specs.declared.known.Known.{Known};
 ghost use Rattle.rowex_table.specs.Runs.{StepsWith};
 ghost use Rattle.rowex_table.specs.Seats.{IsPassOf};
-ghost use Rattle.rowex_writing.specs.declared.attempts.TryFault.TheVariants.{Busy};
 ghost use Rattle.rowex_writing.specs.declared.plan.Full.TheVariants.{Nodes, Leaves};
 ghost use Rattle.seat_calls.specs.Answers.{fault_of};
-ghost use Rattle.seat_calls.specs.Asked.{HasAsked, HasReplied, HasRested, IsIdle, last_try};
-ghost use Rattle.seat_calls.specs.Calls.{MakesTries};
+ghost use Rattle.seat_calls.specs.Asked.{HasAsked, HasLacked, HasReplied, HasRested, IsIdle, last_try};
+ghost use Rattle.seat_calls.specs.Calls.{IsTriedAndCounted, MakesTries};
 ghost use Rattle.seat_calls.specs.Counts.{once_steps, try_steps, twice_steps};
 ghost use Rattle.seat_calls.specs.Noting.{change_notes};
 ghost use Rattle.seat_calls.specs.Passes.{pass_of};
+ghost use Rattle.seat_calls.specs.Refusals.{as_tried};
 ghost use Rattle.seat_calls.specs.Traces.{AreAttempts, AreTries, HasStepped, IsOneAttempt, Tidies, is_full};
 
+use crate::census::count_records;
+use crate::refusals::{Refusal, count_node_records, final_refusal, judge_lack, lack_of};
 use crate::scratch::Scratch;
 use epochs::{Given, collect_round, collect_small_round, pin, unpin};
 use finite_map::{Call, Reply};
@@ -36,6 +38,7 @@ pub fn try_change<G: Gate>(
 ) -> Result<Reply, TryFault>
     requires idle { IsIdle table.now seat.old }
     ensures asked { HasAsked table.now G.becomes (AreAttempts table.now G.becomes call.now result) call.now result (seat.old, gate.old) (seat.new, gate.new) }
+    ensures lacks { HasLacked table.now scratch.new.build.made.items result seat.old seat.new }
     ensures few { seat.new.known.steps ≤ seat.old.known.steps + try_steps table.now.layout }
 {
     collect_due(table, seat, gate, scratch);
@@ -56,7 +59,7 @@ fn collect_due<G: Gate>(table: &HotTable, seat: &mut TableSeat, gate: &mut G, sc
 
 /// Tries to make the change `call`. If no record was free, it makes a full round of collection and tries once more. Returns the reply, or
 /// why the last attempt was refused. If the round gave back no record of the kind, and there is no other pass, the second attempt does
-/// nothing, and the refusal is the first one's. After a round `scratch.is_moving` says whether records may come back.
+/// nothing, and the refusal is the first one's. `scratch.build.made` lists what it had claimed, if no record was free.
 fn try_twice<G: Gate>(
     table: &HotTable,
     seat: &mut TableSeat,
@@ -66,6 +69,7 @@ fn try_twice<G: Gate>(
 ) -> Result<Reply, TryFault>
     requires idle { IsIdle table.now seat.old }
     ensures asked { HasAsked table.now G.becomes (AreTries table.now G.becomes call.now result) call.now result (seat.old, gate.old) (seat.new, gate.new) }
+    ensures lacks { HasLacked table.now scratch.new.build.made.items result seat.old seat.new }
     ensures few { seat.new.known.steps ≤ seat.old.known.steps + twice_steps table.now.layout }
 {
     let first = make_attempt(table, seat, gate, scratch, call);
@@ -75,7 +79,6 @@ fn try_twice<G: Gate>(
     let round = collect_round(table, seat, gate);
     let passes = table.layout().passes;
     let count = given_count(round.given, lacks);
-    scratch.is_moving = round.held_back || others_may_take_given(passes, count);
     scratch.reset_skips();
     if may_find_free_record(passes, count) {
         return make_attempt(table, seat, gate, scratch, call);
@@ -115,13 +118,6 @@ fn may_find_free_record(passes: u32, given: u32) -> bool
     passes > 1 || given > 0
 }
 
-/// Whether a round gave back records, `given` of a kind, that another of `passes` passes may take before the next attempt.
-fn others_may_take_given(passes: u32, given: u32) -> bool
-    ensures { IsTrue result ↔ ((1 < passes) × (0 < given)) }
-{
-    passes > 1 && given > 0
-}
-
 /// Pins the pass and clears the pin: an attempt of three steps that does nothing. It is made in place of a second try that could find no
 /// room. No note is added, and what the first try found not free stays known.
 fn pin_and_unpin<G: Gate>(table: &HotTable, seat: &mut TableSeat, gate: &mut G)
@@ -132,9 +128,38 @@ fn pin_and_unpin<G: Gate>(table: &HotTable, seat: &mut TableSeat, gate: &mut G)
     unpin(table, seat, gate);
 }
 
+/// Tries to make the change `call` as [`try_change`] does. If no record was free, it counts all records then, and the refusal says what the
+/// count says. `gate` is told each step. The pass is between two calls, before and after.
+pub fn try_and_count<G: Gate>(
+    table: &HotTable,
+    seat: &mut TableSeat,
+    gate: &mut G,
+    scratch: &mut Scratch,
+    call: &Call,
+) -> Result<Reply, Refusal>
+    requires idle { IsIdle table.now seat.old }
+    ensures replied { HasReplied table.now call.now (as_tried result) seat.old seat.new }
+    ensures stepped { HasStepped table.now G.becomes (change_notes call.now (as_tried result)) (seat.old, gate.old) (seat.new, gate.new) }
+    ensures later { seat.old.known.steps ≤ seat.new.known.steps }
+    ensures tried { IsTriedAndCounted call.now result table.now G.becomes (pass_of seat.old, gate.old) (pass_of seat.new, gate.new) }
+{
+    match try_change(table, seat, gate, scratch, call) {
+        Ok(reply) => Ok(reply),
+        Err(fault) => {
+            let Some(lacks) = lack_of(fault) else {
+                return Err(Refusal::Busy);
+            };
+            let needs = count_node_records(scratch.build.made.as_slice()).saturating_add(1);
+            let counts = count_records(table, seat, gate);
+            let (passes, size) = (table.layout().passes, call.key().as_bytes().len());
+            Err(judge_lack(passes, lacks, needs, size, counts))
+        }
+    }
+}
+
 /// Tries to make the change `call` until it is made, or refused for want of records. It tries again as long as another pass is in its
-/// way, holds back records, or may have taken those given back. `gate` is told each step; `rt` allows it to wait. Returns the reply, or
-/// the kind of records of which none was free: it has changed nothing then. The pass is between two calls, before and after.
+/// way, or by a count records may come back. `gate` is told each step; `rt` allows it to wait. Returns the reply, or the kind of records of
+/// which none was free: it has changed nothing then. The pass is between two calls, before and after.
 pub fn retry_change<R: Wait, G: Gate>(
     rt: &R,
     table: &HotTable,
@@ -149,10 +174,10 @@ pub fn retry_change<R: Wait, G: Gate>(
     ensures tries { MakesTries call.now result table.now G.becomes (pass_of seat.old, gate.old) (pass_of seat.new, gate.new) }
 {
     for _ in rt.forever() {
-        match try_change(table, seat, gate, scratch, call) {
+        match try_and_count(table, seat, gate, scratch, call) {
             Ok(reply) => return Ok(reply),
-            Err(fault) => {
-                if let Some(full) = final_refusal(fault, scratch.is_moving) {
+            Err(refusal) => {
+                if let Some(full) = final_refusal(refusal) {
                     return Err(full);
                 }
                 thread::yield_now();
@@ -160,22 +185,6 @@ pub fn retry_change<R: Wait, G: Gate>(
         }
     }
     unreachable!()
-}
-
-/// The refusal with which a call that waits ends after the fault `fault`: the kind of records of which none was free. `None` if it tries
-/// again, as another pass is in its way, or `is_moving` says that records may come back.
-fn final_refusal(fault: TryFault, is_moving: bool) -> Option<Full>
-    ensures some { IfSome result (λ full. (fault ≡ fault_of full) × (is_moving ≡ false)) }
-    ensures none { result ≡ None → (fault ≡ Busy) ⊎ (is_moving ≡ true) }
-{
-    if is_moving {
-        return None;
-    }
-    match fault {
-        TryFault::FullNodes => Some(Full::Nodes),
-        TryFault::FullLeaves => Some(Full::Leaves),
-        TryFault::Busy => None,
-    }
 }
 
 /// Makes one attempt at `call`, with the pass pinned, and notes its reply if it has one. Returns the reply, or why the attempt was
@@ -189,6 +198,7 @@ fn make_attempt<G: Gate>(
 ) -> Result<Reply, TryFault>
     requires idle { IsIdle table.now seat.old }
     ensures asked { HasAsked table.now G.becomes (IsOneAttempt table.now) call.now result (seat.old, gate.old) (seat.new, gate.new) }
+    ensures lacks { HasLacked table.now scratch.new.build.made.items result seat.old seat.new }
     ensures few { seat.new.known.steps ≤ seat.old.known.steps + once_steps table.now.layout }
 {
     pin(table, seat, gate);

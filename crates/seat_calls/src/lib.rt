@@ -5,9 +5,11 @@
 mod census;
 mod changing;
 mod many;
+mod refusals;
 mod scratch;
 
 pub use census::{RecordCounts, StateCounts, count_records};
-pub use changing::{retry_change, try_change};
+pub use changing::{retry_change, try_and_count, try_change};
 pub use many::{end_get, end_gets, look_up_each};
+pub use refusals::Refusal;
 pub use scratch::{Scratch, new_scratch};

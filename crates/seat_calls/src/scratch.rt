@@ -21,15 +21,13 @@ pub struct Scratch {
     pub build: Build,
     /// What the pass has retired and not given back yet.
     pub limbo: Limbo,
-    /// Whether records may come back after the last full round. They may if it saw a retired one that a pass may still reach. They may,
-    /// too, if it gave back some of the kind that was lacked, which other passes may have taken since.
-    pub is_moving: bool,
 }
 
 impl Scratch {
     /// Moves the records that the last attempt has unlinked, if any, to the end of the limbo list.
     pub fn move_unlinked_to_limbo(&mut self)
-        ensures { self.new.build.gone.items ≡ [] }
+        ensures gone { self.new.build.gone.items ≡ [] }
+        ensures made { self.new.build.made.items ≡ self.old.build.made.items }
     {
         while let Some(rec) = self.build.gone.pop() {
             self.limbo.push(rec);
@@ -44,7 +42,9 @@ impl Scratch {
     }
 
     /// Lets claims try each class of leaf records in its turn again, as after a full round each may have a free record.
-    pub fn reset_skips(&mut self) {
+    pub fn reset_skips(&mut self)
+        ensures made { self.new.build.made.items ≡ self.old.build.made.items }
+    {
         for place in 0..LEAF_CLASSES {
             self.build.leaves[place].skips = 0;
         }
@@ -98,7 +98,6 @@ pub fn new_scratch(alloc: Global, layout: Layout, number: u16) -> Result<Box<Scr
         way: ArrayVec::new(),
         build,
         limbo: Limbo::new(),
-        is_moving: false,
     };
     Ok(Box::new(alloc, scratch)?)
 }

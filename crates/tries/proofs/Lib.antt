@@ -1,6 +1,7 @@
 -- The lemmas of the crate.
 pub mod Tries
 pub mod Contents
+pub mod Counts
 pub mod Maps
 pub mod Ranges
 pub mod Places

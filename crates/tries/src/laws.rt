@@ -1,5 +1,6 @@
 //! The laws of bit tries, each the contract of a function that does nothing. A tree's map has the keys and values of its leaves.
 
+ghost use Rattle.tries.specs.Counts.{NodesAreFewer};
 ghost use Rattle.tries.specs.Statements.{AddingInserts, ContentRises, ExchangeReplaces, LocalIsTrie, TakingRemoves};
 
 /// In a bit trie the keys of the leaves, from left to right, rise strictly in byte order.
@@ -26,4 +27,9 @@ pub fn exchanged_leaf_replaces_value()
 /// A tree with all leaves of a bit trie but one has the trie's map without that leaf's key. In the trie's map the key has the leaf's value.
 pub fn one_leaf_less_removes_its_key()
     ensures { TakingRemoves }
+{}
+
+/// If each node of a tree has two entries or more, the tree has fewer nodes than leaves.
+pub fn nodes_are_fewer_than_leaves()
+    ensures { NodesAreFewer }
 {}

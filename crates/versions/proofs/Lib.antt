@@ -13,3 +13,4 @@ pub mod Telling
 pub mod Reading
 pub mod Stepping
 pub mod Members
+pub mod Counting

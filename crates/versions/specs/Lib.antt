@@ -7,4 +7,5 @@ pub mod Told
 pub mod Steps
 pub mod Read
 pub mod Trades
+pub mod Counts
 pub mod Statements

@@ -1,5 +1,6 @@
 //! The laws of lawful cores: of versions and of the lives of records. The functions do nothing: their contracts are the laws.
 
+ghost use Rattle.versions.specs.Counts.{NodesInTreeAreFewer};
 ghost use Rattle.versions.specs.Statements.{ContentIsMap, StateHindsight, BareOpeningIsLawful, StateParting, BareReachIsKept, ReachIsSteady, StepKeepsLawful};
 
 /// Let each record of a version since m still be in the life that it had there. If a search was led to a node of such a version, the node's
@@ -36,4 +37,9 @@ pub fn reach_is_kept()
 /// In all versions since its pin, a node of a pass's reach has the same fixed words and stems, and a leaf the same key.
 pub fn records_in_reach_stay_same()
     ensures { ReachIsSteady }
+{}
+
+/// There are fewer node records in the tree than keys in the map; none, where that has none.
+pub fn nodes_in_tree_are_fewer_than_keys()
+    ensures { NodesInTreeAreFewer }
 {}

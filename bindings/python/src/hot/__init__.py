@@ -1,6 +1,15 @@
-"""A sorted map that threads use at the same time, over libhot by ctypes."""
+"""A sorted map that threads use at the same time, over libhot by a module in C."""
 
-from ._ffi import FullError, HotError
+try:
+    from . import _hot as _hot
+except ModuleNotFoundError as error:
+    why = "the module in C is not built for this Python, which pip install does"
+    raise ImportError(f"{why}; a Python without the GIL has none") from error
+
+from . import _forks
+from ._errors import FullError, HotError
 from .sortedmap import Codec, SortedMap
 
 __all__ = ["Codec", "FullError", "HotError", "SortedMap"]
+
+_forks.watch()

@@ -4,4 +4,4 @@ use Rattle.hot_c.proofs.Found.{as_fit}
 use Rattle.hot_c.proofs.ends.hot_first.Goals as goal
 
 pub returns : goal.returns
-returns c = record { call = as_fit (λ fit. (fit, omega arith)) (λ fit. fit.0) c.find_pair.ensures }
+returns c = record { call = as_fit (λ fit. (fit, omega arith)) (λ fit. fit.0) c.find_pair.ensures.call; place = c.find_pair.ensures.place }

@@ -5,8 +5,8 @@ use Rattle.hot_c.specs.Lookups.{are_answered, key_in}
 use Rattle.hot_c.proofs.LookedUp.{first_of, looked_up}
 use Rattle.hot_c.proofs.exports.hot_get_many.Goals as goal
 
-pub returns : goal.returns
-returns c =
+pub returns-clause-call : goal.returns-clause-call
+returns-clause-call c =
     let keys : c.deref.result.now ≡ map key_in c.args.lookups.now = c.deref.ensures.value ∙ c.in-Ok.ensures in
     let many : length c.get_many.new.found ≡ length c.args.lookups.now =
     omega (arith, c.get_many.auto.found, c.deref_mut.ensures.len, c.in-Ok-from_elem.ensures.len, c.len.ensures, ap length c.in-Ok.ensures, length-map c.args.lookups.now key_in) in

@@ -10,7 +10,7 @@ returns-in-Ok-Some-clause-opened c = λ was held closed. let now = c.open_next_h
     let lent = same c.lend.result.now was (sym c.lend.ensures.value ∙ held) in
     let next : HasOpenedNext c.lend.result.now now opened = subst (λ found. MatchOption found ((c.lend.result.now.kept.items ≡ []) × KeepsAll c.lend.result.now now)
     (λ b. HasOpenedNext c.lend.result.now now b.value)) c.in-Ok-Some.field-0-is c.in-Ok-Some.ensures.opened in
-    (now, refl, inl (refl, opened, c.open.ensures, subst (λ (o : Opened). HasOpenedNext o now opened) lent next))
+    (now, refl, inl (refl, opened, c.open.ensures.opened, subst (λ (o : Opened). HasOpenedNext o now opened) lent next))
 
 pub returns-in-Ok-None-clause-opened : goal.returns-in-Ok-None-clause-opened
 returns-in-Ok-None-clause-opened c = λ was held closed. let now = c.open_next_handle.new.self in

@@ -39,5 +39,5 @@ sees s u t m old old_leader front was led same told stays keeps leader_keeps = r
     neither (inl none) = never s (sym was ∙ none)
     neither (inr none) = never t (sym led ∙ none)
 
-pub returns : goal.returns
-returns c = sees _ _ _ _ _ _ _ c.lend-2.ensures.value c.lend.ensures.value c.stamp-stamp.ensures.same c.stamp-stamp.ensures.front c.follow.ensures.call c.follow.ensures.keeps c.stamp-stamp.ensures.keeps
+pub returns-clause-call : goal.returns-clause-call
+returns-clause-call c = sees _ _ _ _ _ _ _ c.lend-2.ensures.value c.lend.ensures.value c.stamp-stamp.ensures.same c.stamp-stamp.ensures.front c.follow.ensures.call c.follow.ensures.keeps c.stamp-stamp.ensures.keeps

@@ -3,7 +3,7 @@ use Rattle.std.proofs.Common.{◌≡◌, ◌+◌, ◌<◌, ◌∙◌, None, Some
 use Rattle.std.proofs.lemmas.List.{drop-set-lt, length-set}
 use Rattle.std.specs.Vec.Iter.{into_iter_items}
 use Rattle.hot_c.specs.declared.handle.Handle.{Handle}
-use Rattle.hot_c.proofs.Places.{alike, all_after, first_after, one_less}
+use Rattle.hot_c.proofs.Places.{alike, all_after, first_after, one_less, same_image}
 use Rattle.hot_c.proofs.opening.open_handles.Goals as goal
 
 pub open-requires : goal.open-requires
@@ -28,7 +28,8 @@ loop-opened-preserved c =
       count = omega (arith, count, shorter, kept);
       left = sym (one_less at.place c.args.passes.items ∙ ap (drop 1) (sym at.invariant.left ∙ steps));
       done = alike (λ (h : Handle). h.slot.opened) (λ b. Some b.value) at.place at.handles c.args.passes.items opened c.in-Some.opened (into_iter_items c.next.new.self) inside
-          (sym at.invariant.left ∙ steps) c.open.ensures at.invariant.done;
+          (sym at.invariant.left ∙ steps) c.open.ensures.opened at.invariant.done;
       closed = subst (All (λ (h : Handle). h.slot.opened ≡ None)) (sym (drop-set-lt (at.place + 1) at.handles at.place opened (omega arith)))
           (all_after (λ (h : Handle). h.slot.opened ≡ None) at.place at.handles at.invariant.closed);
+      places = same_image (λ (h : Handle). h.place) at.place at.handles opened c.index-handles-place.result inside c.open.ensures.place ∙ at.invariant.places;
     }

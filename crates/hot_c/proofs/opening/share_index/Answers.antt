@@ -20,7 +20,7 @@ pub loop-pass-preserved : goal.loop-pass-preserved
 loop-pass-preserved c =
     let Index = c.in_ok-index.index.value in
     let Mine = λ (q : ℕ) (p : PassView). Owns Index p × IsNewPass q p in
-    let Shared = λ (q : ℕ) (b : Box Opened Global). (b.value.handle.index ≡ Index) × IsNewPass q b.value.handle.pass in
+    let Shared = λ (q : ℕ) (b : Box Opened Global). (b.value.handle.index ≡ Index) × IsNewPass q b.value.handle.pass × (b.value.kept.items ≡ []) in
     let at = c.loop-pass in
     let pass = c.in-Some.pass in
     let steps : into_iter_items at.pass-iterator ≡ pass ∷ into_iter_items c.next.new.self = c.in-Some.ensures.steps.0 in
@@ -37,6 +37,7 @@ loop-pass-preserved c =
       left = subst (λ q. AreFrom Mine q (into_iter_items c.next.new.self)) longer (rest_of Mine _ pass _ left);
       each = subst (λ (l : List (Box Opened Global)). (q : ℕ) (b : Box Opened Global) → slice_get l q ≡ Some b → Shared q b) (sym pushed)
           (each_longer Shared at.shared.items c.in_ok-new.field-0 at.invariant.each
-          (subst (λ (o : Opened). (o.handle.index ≡ Index) × IsNewPass (length at.shared.items) o.handle.pass) (sym c.in_ok-new.ensures.ok)
-          (subst (λ (h : HandleView). (h.index ≡ Index) × IsNewPass (length at.shared.items) h.pass) (sym c.new-handle.ensures) (c.in_ok-index-2.ensures, (first_of Mine _ pass _ left).1))));
+          (subst (λ (o : Opened). (o.handle.index ≡ Index) × IsNewPass (length at.shared.items) o.handle.pass × (o.kept.items ≡ [])) (sym c.in_ok-new.ensures.ok)
+          (subst (λ (h : HandleView). (h.index ≡ Index) × IsNewPass (length at.shared.items) h.pass × (c.new-kept.result.items ≡ [])) (sym c.new-handle.ensures)
+          (c.in_ok-index-2.ensures, (first_of Mine _ pass _ left).1, c.new-kept.ensures.items))));
     }

@@ -1,5 +1,5 @@
 -- The passes that have a share are those of the numbers below, and the others are left.
-use Rattle.std.specs.Prelude.{◌≡◌, ℕ, ◌+◌, Box, Some, length, slice_get}
+use Rattle.std.specs.Prelude.{◌≡◌, [], ℕ, ◌+◌, Box, Some, length, slice_get}
 use Rattle.std.specs.Global.{Global}
 use Rattle.std.specs.Vec.Iter.{into_iter_items, into_iter_len}
 use Rattle.seat_calls.specs.Passes.{PassView, Owns, IsNewPass}
@@ -12,5 +12,5 @@ invariant-loop-pass l = record {
   long : into_iter_len l.pass-iterator ≡ length (into_iter_items l.pass-iterator);
   count : length l.shared.items + length (into_iter_items l.pass-iterator) ≡ length l.fn.passes.items;
   left : AreFrom (λ q (p : PassView). Owns l.index.value p × IsNewPass q p) (length l.shared.items) (into_iter_items l.pass-iterator);
-  each : (q : ℕ) (b : Box Opened Global) → slice_get l.shared.items q ≡ Some b → (b.value.handle.index ≡ l.index.value) × IsNewPass q b.value.handle.pass;
+  each : (q : ℕ) (b : Box Opened Global) → slice_get l.shared.items q ≡ Some b → (b.value.handle.index ≡ l.index.value) × IsNewPass q b.value.handle.pass × (b.value.kept.items ≡ []);
 }

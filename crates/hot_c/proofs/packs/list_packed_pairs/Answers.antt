@@ -28,8 +28,8 @@ write_packed_pairs-requires c =
     let same = ap (λ l. length (keys_in l)) kept in
     record { bytes = omega (arith, fits, same); heads = omega (arith, few, all, many) }
 
-pub returns-after-is_more : goal.returns-after-is_more
-returns-after-is_more c =
+pub returns-after-is_more-clause-call : goal.returns-after-is_more-clause-call
+returns-after-is_more-clause-call c =
     let h = c.in-Ok.ensures.ok in
     let u = c.lend-opened.result.now in
     let is = c.lend-opened.ensures.value in

@@ -7,8 +7,8 @@ use Rattle.hot_c.proofs.scans.list_pairs_of_query.Goals as goal
 pub write_pairs_in_order-requires : goal.write_pairs_in_order-requires
 write_pairs_in_order-requires c = few_here c.in-Ok.ensures.ok c.lend-opened.result.now c.lend-opened.ensures.value
 
-pub returns-in-Ok : goal.returns-in-Ok
-returns-in-Ok c =
+pub returns-in-Ok-clause-call : goal.returns-in-Ok-clause-call
+returns-in-Ok-clause-call c =
     let h = c.in-Ok.ensures.ok in
     let u = c.lend-opened.result.now in
     let is = c.lend-opened.ensures.value in

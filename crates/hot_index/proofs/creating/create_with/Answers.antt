@@ -1,6 +1,10 @@
 -- What is told of the numbers is what was found of them.
 use Rattle.record_words.specs.declared.layout.LayoutFault.{LayoutFault}
-use Rattle.hot_index.proofs.Making.{told_as_found}
+use Rattle.std.proofs.Common.{◌≡◌, ◌∙◌}
+use Rattle.record_words.specs.Layout.{HasStock}
+use Rattle.record_words.specs.declared.layout.Layout.{Layout}
+use Rattle.hot_index.specs.Kept.{kept_stock}
+use Rattle.hot_index.proofs.Making.{kept_has, made_kept, told_as_found}
 use Rattle.hot_index.proofs.creating.create_with.Goals as goal
 
 pub returns-clause-passes : goal.returns-clause-passes
@@ -11,3 +15,7 @@ returns-clause-nodes c = told_as_found (c.make_index_with_open_passes.ensures.fa
 
 pub returns-clause-leaves : goal.returns-clause-leaves
 returns-clause-leaves c = told_as_found (c.make_index_with_open_passes.ensures.fault LayoutFault.Leaves) c.with_stock.ensures.leaves
+
+pub returns-clause-layout : goal.returns-clause-layout
+returns-clause-layout c = made_kept (λ made. made.0.layout) c.with_stock.result c.make_index_with_open_passes.result (λ (l : Layout). (l.passes ≡ c.args.passes) × HasStock l c.args.stock) (λ (l : Layout). (l.passes ≡ c.args.passes) × HasStock l (kept_stock c.args.stock))
+    c.with_stock.ensures.ok c.make_index_with_open_passes.ensures.layout (λ a b asked kept. (kept.passes ∙ asked.0, kept_has a b c.args.stock kept asked.1))

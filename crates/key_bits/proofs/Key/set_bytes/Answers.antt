@@ -1,19 +1,16 @@
 -- The bytes stand at the front of the places, and zeros behind them.
 use Rattle.std.proofs.Common.{ap, arith, length, refl, take, ◌∙◌, ◌≡◌}
 use Rattle.std.proofs.lemmas.Bool.{false≢true}
-use Rattle.key_bits.proofs.Holding.{front_of, holds, key_of, written}
+use Rattle.key_bits.proofs.Holding.{front_of, holds, key_of}
 use Rattle.key_bits.specs.Key.{HoldsKey, with_zeros}
 use Rattle.key_bits.proofs.Key.set_bytes.Goals as goal
 use Rattle.key_bits.proofs.Key.set_bytes.Goals.{After-write_key_bytes}
 
 placed : (c : After-write_key_bytes) → c.write_key_bytes.new.array ≡ with_zeros c.args.bytes.now
-placed c = c.write_key_bytes.ensures ∙ written c.args.bytes.now
+placed c = c.write_key_bytes.ensures
 
 held : (c : After-write_key_bytes) → HoldsKey c.write_key_bytes.new.array (length c.args.bytes.now)
 held c = holds c.args.bytes.now c.write_key_bytes.new.array (key_of c.args.bytes.now c.if-bytes-gt-MAX_BYTES.false (λ i. (c.type_inv.bytes i).fits)) (placed c)
-
-pub write_key_bytes-requires : goal.write_key_bytes-requires
-write_key_bytes-requires c = c.if-bytes-gt-MAX_BYTES.false
 
 pub invariant_of-self : goal.invariant_of-self
 invariant_of-self c = held c

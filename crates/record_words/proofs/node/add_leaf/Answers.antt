@@ -38,6 +38,6 @@ returns c = λ node g.
       node = after;
       has = has_words node after _ c.args.leaf few refl g.has.entries c.ranges.leaf.fits built.lawful;
       spells = words_grown node after _ c.args.leaf few refl g.takes.1 c.args.words.now c.add_fork.new.words c.insert_element.new.items _ c.if-bit.at c.pack_entry.result g.spells
-          (c.add_fork.ensures node g) (c.read_numbers.ensures.parts.0 ∙ entries_counted node c.args.words.now g.has g.spells) at c.pack_entry.ensures c.insert_element.ensures;
+          (c.add_fork.ensures node g) (c.read_numbers.ensures.parts.0 ∙ entries_counted node c.args.words.now g.has g.spells) at c.pack_entry.ensures (rw c.entries_end-end.ensures at c.insert_element.ensures);
       built = built;
     }

@@ -3,7 +3,7 @@ use Rattle.std.proofs.Common.{ℕ, ◌++◌}
 use Rattle.compound_node.specs.declared.entries.Entry.TheVariants.{Node}
 use Rattle.rowex_reading.specs.Seen.{AreHeadWords, IsLedTo}
 use Rattle.rowex_reading.proofs.Led.{led_on, reader_then, reads_trans}
-use Rattle.rowex_reading.proofs.Stepping.{back_spelled, both_read, front_height_low, front_spelled, step_read}
+use Rattle.rowex_reading.proofs.Stepping.{back_spelled, both_read, front_spelled, step_read}
 use Rattle.rowex_reading.proofs.reading.search_node.Given as given
 use Rattle.rowex_reading.proofs.reading.search_node.Goals as goal
 use Rattle.rowex_reading.proofs.reading.search_node.Goals.{After-load_head_part-2}
@@ -25,11 +25,6 @@ load_head_part-requires-2-clause-reader g c = reader_then c.requires.reader c.lo
 pub load_head_part-requires-2-clause-led : goal.load_head_part-requires-2-clause-led
 load_head_part-requires-2-clause-led g c = let (m, h, led) = c.requires.led in (m, h, led_on m (Node c.args.node.number h) c.load_head_part.ensures.reads led)
 
-pub overflow_cast-result : goal.overflow_cast-result
-overflow_cast-result g c =
-    let (m, h, led) = c.requires.led in
-    record { fits = front_height_low c.load_head_part.new.words c.load_head_part-2.new.words c.load_head_part.ensures.long (are_words g (goal.at.overflow_cast-result g c).After-load_head_part-2 m h led) }
-
 pub search_row_words-requires : goal.search_row_words-requires
 search_row_words-requires g c =
     let (m, h, led) = c.requires.led in
@@ -41,4 +36,4 @@ returns-clause-reads g c = reads_trans c.load_head_part.ensures.reads c.load_hea
 pub returns-clause-step : goal.returns-clause-step
 returns-clause-step g c = λ m h led.
     let are = are_words g (goal.at.returns-clause-step g c).After-load_head_part-2 m h led in
-    (are.head, are.seen, step_read c.load_head_part.new.words c.load_head_part-2.new.words c.load_head_part.ensures.long are c.args.key.now c.extract_dense_key-dense.result c.search_row_words.result c.extract_dense_key-dense.ensures c.search_row_words.ensures c.args.node.number)
+    (are.head, are.seen, step_read c.load_head_part.new.words c.load_head_part-2.new.words c.load_head_part.ensures.long are c.args.key.now c.extract_dense_key-dense.result c.search_row_words.result c.extract_dense_key-dense.ensures c.search_row_words.ensures c.args.node.number _ _ _ c.read_numbers-numbers.ensures.parts.0 c.read_numbers-numbers.ensures.parts.2 c.first_position_of.ensures.part)

@@ -70,7 +70,7 @@ returns-in-Ok-clause-done g c = λ ok.
 
 pub returns-in-Ok-clause-failed : goal.returns-in-Ok-clause-failed
 returns-in-Ok-clause-failed g c =
-    failed_before c.args.table.now.layout c.args.job.now c.args.seat.now.known c.carry_out_deed.new.seat.known c.publish_or_undo.new.seat.known c.publish_or_undo.result c.carry_out_deed.ensures.done.goes.stays.0 c.publish_or_undo.ensures.failed
+    failed_before c.args.table.now.layout c.args.job.now c.args.seat.now.known c.carry_out_deed.new.seat.known c.publish_or_undo.new.seat.known _ c.publish_or_undo.result c.carry_out_deed.ensures.done.goes.stays.0 c.publish_or_undo.ensures.failed
 
 pub returns-in-Ok-clause-leafless : goal.returns-in-Ok-clause-leafless
 returns-in-Ok-clause-leafless g c = λ take. busy_leafless c.publish_or_undo.result _ c.publish_or_undo.ensures.failed
@@ -94,8 +94,8 @@ returns-in-Err-clause-run g c =
 
 pub returns-in-Err-clause-failed : goal.returns-in-Err-clause-failed
 returns-in-Err-clause-failed g c =
-    rw c.refusal_of.ensures (full_failed c.args.table.now.layout c.args.job.now c.args.seat.now.known c.undo_change.new.seat.known c.in-Err.full
-    (no_room c.args.table.now g.G.Gate.becomes c.args.job.now.key.now (c.args.seat.now, c.args.gate.now) (c.carry_out_deed.new.seat, c.carry_out_deed.new.gate) (c.undo_change.new.seat, c.undo_change.new.gate) c.in-Err.full
+    rw c.refusal_of.ensures (full_failed c.args.table.now.layout c.args.job.now c.args.seat.now.known c.undo_change.new.seat.known _ c.in-Err.full
+    (no_room c.args.table.now g.G.Gate.becomes c.args.job.now.key.now (c.args.seat.now, c.args.gate.now) (c.carry_out_deed.new.seat, c.carry_out_deed.new.gate) (c.undo_change.new.seat, c.undo_change.new.gate) _ c.in-Err.full
     c.carry_out_deed.ensures.done.goes c.undo_change.ensures.works c.undo_change.ensures.rest c.in-Err.ensures.done.full.full_of))
 
 pub returns-in-Err-clause-leafless : goal.returns-in-Err-clause-leafless

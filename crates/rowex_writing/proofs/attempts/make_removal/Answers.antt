@@ -92,8 +92,8 @@ returns-in-Err-clause-run g c = λ a h.
 
 pub returns-in-Err-clause-failed : goal.returns-in-Err-clause-failed
 returns-in-Err-clause-failed g c =
-    rw c.refusal_of.ensures (full_failed c.args.table.now.layout c.args.job.now c.args.seat.now.known c.undo_change.new.seat.known c.in-Err.full
-    (no_room c.args.table.now g.G.Gate.becomes c.args.job.now.key.now (c.args.seat.now, c.args.gate.now) (c.make_without_leaf.new.seat, c.make_without_leaf.new.gate) (c.undo_change.new.seat, c.undo_change.new.gate) c.in-Err.full
+    rw c.refusal_of.ensures (full_failed c.args.table.now.layout c.args.job.now c.args.seat.now.known c.undo_change.new.seat.known _ c.in-Err.full
+    (no_room c.args.table.now g.G.Gate.becomes c.args.job.now.key.now (c.args.seat.now, c.args.gate.now) (c.make_without_leaf.new.seat, c.make_without_leaf.new.gate) (c.undo_change.new.seat, c.undo_change.new.gate) _ c.in-Err.full
     c.make_without_leaf.ensures.done.goes c.undo_change.ensures.works c.undo_change.ensures.rest c.in-Err.ensures.done.full.full_of))
 
 pub returns-in-Err-clause-leafless : goal.returns-in-Err-clause-leafless
@@ -104,7 +104,7 @@ returns-in-Err-clause-leafless g c is =
 pub returns-else-try_merge-clause-failed : goal.returns-else-try_merge-clause-failed
 returns-else-try_merge-clause-failed g c =
     let l = c.try_merge.ensures.later c.if-try_merge.false in
-    failed_before c.args.table.now.layout c.args.job.now c.args.seat.now.known c.try_merge.new.seat.known c.publish_or_undo.new.seat.known c.publish_or_undo.result (later_trans c.make_without_leaf.ensures.done.goes.stays.0 l.0) c.publish_or_undo.ensures.failed
+    failed_before c.args.table.now.layout c.args.job.now c.args.seat.now.known c.try_merge.new.seat.known c.publish_or_undo.new.seat.known _ c.publish_or_undo.result (later_trans c.make_without_leaf.ensures.done.goes.stays.0 l.0) c.publish_or_undo.ensures.failed
 
 pub returns-else-try_merge-clause-leafless : goal.returns-else-try_merge-clause-leafless
 returns-else-try_merge-clause-leafless g c = busy_leafless c.publish_or_undo.result _ c.publish_or_undo.ensures.failed

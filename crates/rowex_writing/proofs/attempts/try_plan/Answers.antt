@@ -23,7 +23,7 @@ use Rattle.rowex_writing.proofs.Making.{building_none}
 pub returns-then-not-lock_and_check_span-clause-refused : goal.returns-then-not-lock_and_check_span-clause-refused
 returns-then-not-lock_and_check_span-clause-refused g c k loaded later =
     let (m, aim, way, planned) = c.requires.planned in
-    refused_busy c.args.table.now.layout c.args.job.now.key.now k _ _ m way.since loaded later c.lock_and_check_span.ensures.later (c.lock_and_check_span.ensures.busy c.if-not-lock_and_check_span.true m way)
+    refused_busy c.args.table.now.layout c.args.job.now.key.now k _ _ m _ way.since loaded later c.lock_and_check_span.ensures.later (c.lock_and_check_span.ensures.busy c.if-not-lock_and_check_span.true m way)
 
 -- ---- what was found is loaded again
 pub load_found_again-requires-clause-own : goal.load_found_again-requires-clause-own
@@ -69,7 +69,7 @@ returns-in_default-clause-refused g c k loaded later =
     let after = works_later c.args.table.now g.G.Gate.becomes (c.load_found_again.new.seat, c.load_found_again.new.gate) (c.release_records_and_locks.new.seat, c.release_records_and_locks.new.gate) c.release_records_and_locks.ensures.works in
     let moved = c.in_default.ensures.again m taken.way_of in
     let grown = front_grown after in
-    refused_busy c.args.table.now.layout c.args.job.now.key.now k _ _ m way.since loaded later
+    refused_busy c.args.table.now.layout c.args.job.now.key.now k _ _ m _ way.since loaded later
     (later_trans c.lock_and_check_span.ensures.later (later_trans c.load_found_again.ensures.reads.goes.stays.0 after)) (inr (omega (arith, moved, grown)))
 
 -- ---- the change
@@ -145,7 +145,7 @@ returns-in-Err-clause-refused g c k loaded later =
     let there = run_loaded table g.G.Gate.becomes k (c.lock_and_check_span.new.seat, c.lock_and_check_span.new.gate) (c.load_found_again.new.seat, c.load_found_again.new.gate) locked
     (goes_run table g.G.Gate.becomes (c.lock_and_check_span.new.seat, c.lock_and_check_span.new.gate) (c.load_found_again.new.seat, c.load_found_again.new.gate) c.load_found_again.ensures.reads.goes) in
     let now : Job = record { way = c.args.job.now.way; key = c.args.job.now.key; value = c.new_value.result; found = c.in-Some.found; span = c.args.job.now.span } in
-    refused_failed table.layout now k c.load_found_again.new.seat.known _ c.in-Err.fault m taken.way_of there
+    refused_failed table.layout now k c.load_found_again.new.seat.known _ _ c.in-Err.fault m taken.way_of there
     (later_trans later (later_trans c.lock_and_check_span.ensures.later c.load_found_again.ensures.reads.goes.stays.0)) c.in-Err.ensures.failed
 
 pub returns-in-Err-clause-leafless : goal.returns-in-Err-clause-leafless
@@ -160,7 +160,7 @@ returns-in_default-clause-later g c =
 pub returns-in-Err-clause-later : goal.returns-in-Err-clause-later
 returns-in-Err-clause-later g c =
     let now : Job = record { way = c.args.job.now.way; key = c.args.job.now.key; value = c.new_value.result; found = c.in-Some.found; span = c.args.job.now.span } in
-    later_trans c.lock_and_check_span.ensures.later (later_trans c.load_found_again.ensures.reads.goes.stays.0 (failed_later c.args.table.now.layout now c.load_found_again.new.seat.known c.change_span.new.seat.known c.in-Err.fault c.in-Err.ensures.failed))
+    later_trans c.lock_and_check_span.ensures.later (later_trans c.load_found_again.ensures.reads.goes.stays.0 (failed_later c.args.table.now.layout now c.load_found_again.new.seat.known c.change_span.new.seat.known _ c.in-Err.fault c.in-Err.ensures.failed))
 
 pub returns-in-Err-clause-whole : goal.returns-in-Err-clause-whole
 returns-in-Err-clause-whole g c e = let ok = sym c.in-Err.is ∙ c.change_span.ensures.whole e in absurd cc

@@ -17,9 +17,6 @@ use Rattle.rowex_writing.proofs.building.make_node_from_words.Goals as goal
 pub fill_node-requires-clause-own : goal.fill_node-requires-clause-own
 fill_node-requires-clause-own g c = seat_of c.args.table.now g.G.Gate.becomes (c.args.seat.now, c.args.gate.now) (c.claim_node.new.seat, c.claim_node.new.gate) c.claim_node.ensures.goes c.requires.building.1.seat
 
-pub overflow_cast-result : goal.overflow_cast-result
-overflow_cast-result g c = let (node, has, spells) = c.requires.spelling in record { fits = omega (arith, (first_told node c.args.words.now has spells).1, has.lawful.bound) }
-
 pub returns-in_err-number-clause-made : goal.returns-in_err-number-clause-made
 returns-in_err-number-clause-made g c = λ news node has spells b. rw c.from_residual.ensures
     (not_made c.args.table.now g.G.Gate.becomes (c.args.seat.now, c.args.gate.now) (c.claim_node.new.seat, c.claim_node.new.gate) c.args.build.now.made.items c.claim_node.new.build.made.items news c.claim_node.ensures.goes
@@ -28,7 +25,7 @@ returns-in_err-number-clause-made g c = λ news node has spells b. rw c.from_res
 pub returns-clause-made : goal.returns-clause-made
 returns-clause-made g c = λ news node has spells b. (
   c.in_ok-number.number,
-  ap (Node c.in_ok-number.number) (first_told node c.args.words.now has spells).1,
+  ap (Node c.in_ok-number.number) (omega (arith, c.read_numbers.ensures.parts.2, (first_told node c.args.words.now has spells).1, has.lawful.bound)),
   subst (λ z. IsBuilding c.args.table.now c.fill_node.new.seat z (made_of_node c.in_ok-number.number node ∷ news)) (sym (c.push.ensures.items ∙ ap (λ z. z ++ a_node c.in_ok-number.number ∷ []) c.claim_node.ensures.made))
       (subst (λ (ws : List ℕ). IsBuilding c.args.table.now c.fill_node.new.seat (c.args.build.now.made.items ++ a_node c.in_ok-number.number ∷ []) (record { rec = a_node c.in_ok-number.number; words = ws } ∷ news)) (sym spells)
       (building_node c.args.table.now g.G.Gate.becomes c.in_ok-number.number c.args.words.now (c.args.seat.now, c.args.gate.now) (c.claim_node.new.seat, c.claim_node.new.gate) _

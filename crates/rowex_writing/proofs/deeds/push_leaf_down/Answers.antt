@@ -1,8 +1,9 @@
 -- The new node takes the found leaf's place.
-use Rattle.std.proofs.Common.{◌≡◌, ◌≤◌, ◌+◌, ◌*◌, [], ◌∷◌, Some, None, refl, sym, ap, subst, ◌∙◌, arith, length}
+use Rattle.std.proofs.Common.{◌≡◌, ◌≤◌, ◌+◌, ◌*◌, List, [], ◌∷◌, ◌++◌, Some, None, refl, sym, ap, subst, ◌∙◌, arith, length}
 use Rattle.record_words.specs.Entry.{entry_word}
 use Rattle.record_words.specs.declared.layout.Layout.{Layout}
-use Rattle.publish_laws.specs.Rises.{made_of_leaf}
+use Rattle.publish_laws.specs.Rises.{made_of_leaf, made_of_node}
+use Rattle.versions.specs.declared.Rec.{Rec}
 use Rattle.compound_node.specs.declared.entries.Entry.TheVariants.{Leaf as LeafEntry}
 use Rattle.pieces.specs.Piece.{Place}
 use Rattle.tries.specs.Affected.{subtrie_forked}
@@ -10,13 +11,15 @@ use Rattle.tries.specs.Keys.{bit}
 use Rattle.version_laws.specs.Writer.{added_change}
 use Rattle.rowex_writing.specs.Changes.{IsPutChange, MayPublishOnceReady}
 use Rattle.rowex_writing.specs.Counts.{node_steps}
+use Rattle.rowex_writing.specs.Walks.{looks_unless, nodes_among}
 use Rattle.rowex_writing.proofs.Counting.{made_one, no_nodes}
 use Rattle.rowex_writing.proofs.Raised.{just_leaf_gone, no_leaf_free, none_in_table}
 use Rattle.rowex_writing.proofs.Growths.{full_since, lacks_nodes}
 use Rattle.rowex_writing.proofs.Keeping.{step_nodes}
 use Rattle.rowex_writing.proofs.Lifting.{paired}
 use Rattle.rowex_writing.proofs.Locking.{goes_more}
-use Rattle.rowex_writing.proofs.Making.{steps_rise}
+use Rattle.rowex_writing.proofs.Making.{building_on, not_made, steps_rise}
+use Rattle.rowex_writing.proofs.Merged.{replace_later}
 use Rattle.rowex_writing.proofs.Placing.{found_is_key, leaf_at, pair_here, pair_may}
 use Rattle.version_laws.proofs.Leaves.{pair_tree}
 use Rattle.rowex_writing.proofs.Walked.{walk_begins}
@@ -48,12 +51,12 @@ returns-in_default-make_node g c = record {
         let (m, aim, t, planned) = c.requires.taken in
         let here = pair_here c.args.seat.now.known m job.key.now job.way.now aim job.found job.span c.args.position planned c.in-Leaf.old _ _ c.in-Leaf.is in
         let missed = c.in_default-make_node.ensures.makes.walk c.make_leaf.new.seat.known.steps
-        (walk_begins c.args.table.now.layout c.make_leaf.new.seat.known c.make_leaf.new.build.made.items c.make_leaf.new.build.nodes.next c.layout.result c.layout.ensures) in
+        (walk_begins c.args.table.now.layout c.make_leaf.new.seat.known c.make_leaf.new.build.made.items c.start-build.result c.layout.result c.layout.ensures) in
         let rise = steps_rise c.args.table.now g.G.Gate.becomes c.make_leaf.ensures.goes.acts (c.args.seat.now, c.args.gate.now) (c.make_leaf.new.seat, c.make_leaf.new.gate) c.make_leaf.ensures.goes.steps in
         record {
           not_made = c.in_default-make_node.ensures.made (made_of_leaf (item c.in-Some.leaf c.args.job.now.key.now c.args.job.now.value) c.in-Some.ensures.made.fresh ∷ []) c.in-Some.ensures.made.building;
           few = omega (arith, made_one c.in-Some.ensures.made.building, c.make_node.ensures.makes.more);
-          full_of = full_since c.args.table.now.layout c.args.job.now.key.now c.args.seat.now.known c.make_leaf.new.seat.known c.make_node.new.seat.known Nodes rise
+          full_of = full_since c.args.table.now.layout c.args.job.now.key.now c.args.seat.now.known c.make_leaf.new.seat.known c.make_node.new.seat.known c.make_node.new.build.made.items Nodes rise
               (lacks_nodes c.args.table.now.layout c.args.seat.now.known c.make_node.new.seat.known job.way.now job.span c.make_node.new.build.made.items c.make_leaf.new.seat.known.steps
               (step_nodes c.args.table.now.layout c.args.seat.now.known m job.key.now job.way.now job.found t.way_of) t.locked (c.make_node.ensures.makes.goes.stays.1 ∙ c.make_leaf.ensures.goes.stays.1)
               t.within.0 t.within.1 (omega (arith, here.len)) (omega (arith, no_nodes c.in-Some.ensures.made, c.in_default-make_node.ensures.makes.nodes)) missed);
@@ -64,11 +67,56 @@ returns-in_default-make_node g c = record {
   };
 }
 
+-- ---- or none beside it
+pub leaves_free_node-requires : goal.leaves_free_node-requires
+leaves_free_node-requires g c =
+    let leaf = c.in-Some.ensures.made in
+    let news = made_of_leaf (item c.in-Some.leaf c.args.job.now.key.now c.args.job.now.value) leaf.fresh ∷ [] in
+    let (number, is, has, building) = c.in-Some-make_node.ensures.made news leaf.building in record { building = (made_of_node number c.pair_with_leaf-pair.result ∷ news, building) }
+
+pub returns-then-not-leaves_free_node : goal.returns-then-not-leaves_free_node
+returns-then-not-leaves_free_node g c =
+    let table = c.args.table.now in
+    let leaf = c.in-Some.ensures.made in
+    let news = made_of_leaf (item c.in-Some.leaf c.args.job.now.key.now c.args.job.now.value) leaf.fresh ∷ [] in
+    let (number, is, has, building) = c.in-Some-make_node.ensures.made news leaf.building in
+    let made = c.leaves_free_node.ensures.made in
+    let both = goes_more table g.G.Gate.becomes (c.args.seat.now, c.args.gate.now) (c.make_leaf.new.seat, c.make_leaf.new.gate) (c.make_node.new.seat, c.make_node.new.gate) c.make_leaf.ensures.goes c.make_node.ensures.makes.goes in
+    record {
+      done = record {
+        goes = goes_more table g.G.Gate.becomes (c.args.seat.now, c.args.gate.now) (c.make_node.new.seat, c.make_node.new.gate) (c.leaves_free_node.new.seat, c.leaves_free_node.new.gate) both c.leaves_free_node.ensures.goes;
+        raised = tt;
+        full = (let job = c.args.job.now in
+            let (m, aim, t, planned) = c.requires.taken in
+            let here = pair_here c.args.seat.now.known m job.key.now job.way.now aim job.found job.span c.args.position planned c.in-Leaf.old _ _ c.in-Leaf.is in
+            let walked = c.in-Some-make_node.ensures.makes.walk c.make_leaf.new.seat.known.steps
+            (walk_begins table.layout c.make_leaf.new.seat.known c.make_leaf.new.build.made.items c.start-build.result c.layout.result c.layout.ensures) in
+            let missed = c.leaves_free_node.ensures.walk c.if-not-leaves_free_node.true c.make_leaf.new.seat.known.steps walked in
+            let rise = steps_rise table g.G.Gate.becomes c.make_leaf.ensures.goes.acts (c.args.seat.now, c.args.gate.now) (c.make_leaf.new.seat, c.make_leaf.new.gate) c.make_leaf.ensures.goes.steps in
+            record {
+              not_made = not_made table g.G.Gate.becomes (c.make_node.new.seat, c.make_node.new.gate) (c.leaves_free_node.new.seat, c.leaves_free_node.new.gate) c.make_node.new.build.made.items c.leaves_free_node.new.build.made.items
+                  (made_of_node number c.pair_with_leaf-pair.result ∷ news) c.leaves_free_node.ensures.goes c.leaves_free_node.ensures.own made building;
+              few = omega (arith, ap length made, made_one leaf.building, c.make_node.ensures.makes.more);
+              full_of = full_since table.layout c.args.job.now.key.now c.args.seat.now.known c.make_leaf.new.seat.known c.leaves_free_node.new.seat.known c.leaves_free_node.new.build.made.items Nodes rise
+                  (lacks_nodes table.layout c.args.seat.now.known c.leaves_free_node.new.seat.known job.way.now job.span c.leaves_free_node.new.build.made.items c.make_leaf.new.seat.known.steps
+                  (step_nodes table.layout c.args.seat.now.known m job.key.now job.way.now job.found t.way_of) t.locked (c.leaves_free_node.ensures.goes.stays.1 ∙ (c.make_node.ensures.makes.goes.stays.1 ∙ c.make_leaf.ensures.goes.stays.1))
+                  t.within.0 t.within.1 (omega (arith, here.len)) (omega (arith, ap (λ (z : List Rec). length (nodes_among z)) made, no_nodes leaf, c.in-Some-make_node.ensures.makes.nodes)) missed);
+            });
+        few = (let whole : c.layout.result.nodes ≡ table.layout.nodes = ap (λ (z : Layout). z.nodes) c.layout.ensures in
+            let few : c.make_node.new.seat.known.steps + 2 * c.make_node.new.build.left_nodes ≤ c.make_leaf.new.seat.known.steps + 2 * c.layout.result.nodes + node_steps + 0 = c.in-Some-make_node.ensures.makes.few in
+            let more : c.leaves_free_node.new.seat.known.steps ≤ c.make_node.new.seat.known.steps + 2 * c.make_node.new.build.left_nodes + 1 + length c.leaves_free_node.new.build.made.items =
+            subst (λ z. c.leaves_free_node.new.seat.known.steps ≤ c.make_node.new.seat.known.steps + 2 * c.make_node.new.build.left_nodes + 1 + looks_unless z c.leaves_free_node.new.build) c.if-not-leaves_free_node.true c.leaves_free_node.ensures.few in
+            omega (arith, whole, c.make_leaf.ensures.few, few, more, ap length made, made_one leaf.building, c.make_node.ensures.makes.more));
+      };
+    }
+
 -- ---- the node is made
 pub returns : goal.returns
 returns g c = record {
   done = record {
-    goes = (goes_more c.args.table.now g.G.Gate.becomes (c.args.seat.now, c.args.gate.now) (c.make_leaf.new.seat, c.make_leaf.new.gate) (c.make_node.new.seat, c.make_node.new.gate) c.make_leaf.ensures.goes c.make_node.ensures.makes.goes);
+    goes = goes_more c.args.table.now g.G.Gate.becomes (c.args.seat.now, c.args.gate.now) (c.make_node.new.seat, c.make_node.new.gate) (c.leaves_free_node.new.seat, c.leaves_free_node.new.gate)
+        (goes_more c.args.table.now g.G.Gate.becomes (c.args.seat.now, c.args.gate.now) (c.make_leaf.new.seat, c.make_leaf.new.gate) (c.make_node.new.seat, c.make_node.new.gate) c.make_leaf.ensures.goes c.make_node.ensures.makes.goes)
+        c.leaves_free_node.ensures.goes;
     raised = (let job = c.args.job.now in
         let (m, aim, t, planned) = c.requires.taken in
         let here = pair_here c.args.seat.now.known m job.key.now job.way.now aim job.found job.span c.args.position planned c.in-Leaf.old _ _ c.in-Leaf.is in
@@ -77,26 +125,31 @@ returns g c = record {
         let news = made_of_leaf (item c.in-Some.leaf job.key.now job.value) leaf.fresh ∷ [] in
         let (more, side, building) = paired c.args.table.now c.make_leaf.new.seat c.make_node.new.seat c.make_node.new.build.made.items news c.pair_with_leaf-pair.result
         (subtrie_forked (bit job.key.now c.args.position) c.args.position (LeafEntry c.in-Some.leaf) (Place (LeafEntry c.in-Leaf.old))) (Some c.in-Some-make_node.entry) c.pair_with_leaf-pair.ensures (c.in-Some-make_node.ensures.made news leaf.building) in
+        let now = building_on c.args.table.now g.G.Gate.becomes (c.make_node.new.seat, c.make_node.new.gate) (c.leaves_free_node.new.seat, c.leaves_free_node.new.gate) c.make_node.new.build.made.items (more ++ news)
+        c.leaves_free_node.ensures.goes c.leaves_free_node.ensures.own building in
         let x = added_change c.args.seat.now.known.pass (item c.in-Some.leaf job.key.now job.value) in (
           x,
           None,
           subst (λ f. IsPutChange c.args.seat.now.known.pass job.key.now job.value f x None) (sym here.is_found) (refl, refl),
-          record {
-            from = omega (arith, here.len);
-            upto = omega arith;
-            most = omega arith;
-            leaf = none_in_table c.args.table.now.layout;
-            ends = λ spot over.
-                subst (MayPublishOnceReady c.args.table.now c.make_node.new.seat c.make_node.new.build.made.items spot (entry_word (Some c.in-Some-make_node.entry)) x None) (sym (just_leaf_gone job.way.now job.span.end job.span.len None here.len))
-                (pair_may c.args.table.now c.args.seat.now m job.key.now job.way.now job.found job.span t c.make_node.new.seat c.make_node.new.build.made.items c.in-Some.leaf job.value goes.stays.0 goes.stays.1 goes.stays.2
-                c.args.position c.in-Leaf.old here c.in-Some-make_node.entry more side leaf.fresh leaf.spelled building spot over);
-            few = omega (arith, made_one c.in-Some.ensures.made.building, c.make_node.ensures.makes.more);
-            takes = λ number is. absurd cc;
-          },
+          replace_later c.args.table.now c.make_node.new.seat c.leaves_free_node.new.seat c.make_node.new.build.made.items c.leaves_free_node.new.build.made.items job _ x None now.seat now.possible
+              c.leaves_free_node.ensures.goes.stays.0 (c.leaves_free_node.ensures.goes.stays.1, c.leaves_free_node.ensures.goes.stays.2, c.leaves_free_node.ensures.own) c.leaves_free_node.ensures.made (record {
+                from = omega (arith, here.len);
+                upto = omega arith;
+                most = omega arith;
+                leaf = none_in_table c.args.table.now.layout;
+                ends = λ spot over.
+                    subst (MayPublishOnceReady c.args.table.now c.make_node.new.seat c.make_node.new.build.made.items spot (entry_word (Some c.in-Some-make_node.entry)) x None) (sym (just_leaf_gone job.way.now job.span.end job.span.len None here.len))
+                    (pair_may c.args.table.now c.args.seat.now m job.key.now job.way.now job.found job.span t c.make_node.new.seat c.make_node.new.build.made.items c.in-Some.leaf job.value goes.stays.0 goes.stays.1 goes.stays.2
+                    c.args.position c.in-Leaf.old here c.in-Some-make_node.entry more side leaf.fresh leaf.spelled building spot over);
+                few = omega (arith, made_one c.in-Some.ensures.made.building, c.make_node.ensures.makes.more);
+                takes = λ number is. absurd cc;
+              }),
         ));
     full = tt;
     few = (let whole : c.layout.result.nodes ≡ c.args.table.now.layout.nodes = ap (λ (z : Layout). z.nodes) c.layout.ensures in
         let few : c.make_node.new.seat.known.steps + 2 * c.make_node.new.build.left_nodes ≤ c.make_leaf.new.seat.known.steps + 2 * c.layout.result.nodes + node_steps + 0 = c.in-Some-make_node.ensures.makes.few in
-        omega (arith, whole, c.make_leaf.ensures.few, few, made_one c.in-Some.ensures.made.building, c.make_node.ensures.makes.more));
+        let more : c.leaves_free_node.new.seat.known.steps ≤ c.make_node.new.seat.known.steps + 2 * c.make_node.new.build.left_nodes + 1 + 0 =
+        subst (λ z. c.leaves_free_node.new.seat.known.steps ≤ c.make_node.new.seat.known.steps + 2 * c.make_node.new.build.left_nodes + 1 + looks_unless z c.leaves_free_node.new.build) c.if-not-leaves_free_node.false c.leaves_free_node.ensures.few in
+        omega (arith, whole, c.make_leaf.ensures.few, few, more, made_one c.in-Some.ensures.made.building, c.make_node.ensures.makes.more));
   };
 }

@@ -1,5 +1,5 @@
 -- A word of the head has the row, and past the last place there is none.
-use Rattle.std.proofs.Common.{◌+◌, ◌/◌, ◌∙◌, arith, sym}
+use Rattle.std.proofs.Common.{◌+◌, ◌/◌, ◌∙◌, ap, arith, get_or, sym}
 use Rattle.std.proofs.lemmas.List.{get_or_past}
 use Rattle.compound_node.proofs.Lawful.{same_count}
 use Rattle.rowex_writing.proofs.Heading.{head_word}
@@ -19,4 +19,4 @@ returns-clause-own g c = seat_of c.args.table.now g.G.Gate.becomes (c.args.seat.
 
 pub returns-clause-row : goal.returns-clause-row
 returns-clause-row g c = λ view (words, h, is).
-    c.row_of.ensures view is.has.lawful (head_word view words is (9 + c.args.at / 2) (omega (arith, c.if-at-ge-MAX_ENTRIES.false)) ∙ sym (c.load_locked_word.ensures.word words h))
+    c.row_of.ensures view is.has.lawful (head_word view words is (9 + c.args.at / 2) (omega (arith, c.if-at-ge-MAX_ENTRIES.false)) ∙ (ap (λ i. get_or words i 0) (sym c.index_of_row-index.ensures) ∙ sym (c.load_locked_word.ensures.word words h)))

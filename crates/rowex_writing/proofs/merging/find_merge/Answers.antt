@@ -47,12 +47,12 @@ pub returns-in_default-load_locked_entry-clause-reads : goal.returns-in_default-
 returns-in_default-load_locked_entry-clause-reads g c =
     reads_more c.args.table.now g.G.Gate.becomes (c.args.seat.now, c.args.gate.now) (c.load_sibling.new.seat, c.load_sibling.new.gate) (c.load_locked_entry.new.seat, c.load_locked_entry.new.gate) c.load_sibling.ensures.reads c.load_locked_entry.ensures.reads
 
-pub load_fixed-count-requires-clause-own : goal.load_fixed-count-requires-clause-own
-load_fixed-count-requires-clause-own g c =
+pub load_fixed-word-requires-clause-own : goal.load_fixed-word-requires-clause-own
+load_fixed-word-requires-clause-own g c =
     (takes_on c.args.table.now g.G.Gate.becomes (c.args.seat.now, c.args.gate.now) (c.load_locked_entry.new.seat, c.load_locked_entry.new.gate) c.args.job.now (reads_more c.args.table.now g.G.Gate.becomes (c.args.seat.now, c.args.gate.now) (c.load_sibling.new.seat, c.load_sibling.new.gate) (c.load_locked_entry.new.seat, c.load_locked_entry.new.gate) c.load_sibling.ensures.reads c.load_locked_entry.ensures.reads).goes c.requires.takes).1
 
-pub load_fixed-count-requires-clause-range : goal.load_fixed-count-requires-clause-range
-load_fixed-count-requires-clause-range g c =
+pub load_fixed-word-requires-clause-range : goal.load_fixed-word-requires-clause-range
+load_fixed-word-requires-clause-range g c =
     let (words, h) = upper_held c.args.table.now c.args.seat.now c.args.job.now c.requires.takes in
     let (view, node) = locked_node c.args.table.now.layout c.args.seat.now.known (upper c.args.job.now).number words c.requires.takes.2 h in
     let forks = c.in-Some.ensures.beside view (words, h, node) (upper_within c.args.table.now c.args.seat.now c.args.job.now c.requires.takes words h view node) in
@@ -64,14 +64,14 @@ load_fixed-count-requires-clause-range g c =
 
 pub returns-then-saturating_add-gt33-clause-reads : goal.returns-then-saturating_add-gt33-clause-reads
 returns-then-saturating_add-gt33-clause-reads g c =
-    reads_more c.args.table.now g.G.Gate.becomes (c.args.seat.now, c.args.gate.now) (c.load_locked_entry.new.seat, c.load_locked_entry.new.gate) (c.load_fixed-count.new.seat, c.load_fixed-count.new.gate) (reads_more c.args.table.now g.G.Gate.becomes (c.args.seat.now, c.args.gate.now) (c.load_sibling.new.seat, c.load_sibling.new.gate) (c.load_locked_entry.new.seat, c.load_locked_entry.new.gate) c.load_sibling.ensures.reads c.load_locked_entry.ensures.reads)
-    (reads_fixed c.args.table.now g.G.Gate.becomes c.in-Node.number 1 c.load_fixed-count.result (c.load_locked_entry.new.seat, c.load_locked_entry.new.gate) (c.load_fixed-count.new.seat, c.load_fixed-count.new.gate) c.load_fixed-count.ensures)
+    reads_more c.args.table.now g.G.Gate.becomes (c.args.seat.now, c.args.gate.now) (c.load_locked_entry.new.seat, c.load_locked_entry.new.gate) (c.load_fixed-word.new.seat, c.load_fixed-word.new.gate) (reads_more c.args.table.now g.G.Gate.becomes (c.args.seat.now, c.args.gate.now) (c.load_sibling.new.seat, c.load_sibling.new.gate) (c.load_locked_entry.new.seat, c.load_locked_entry.new.gate) c.load_sibling.ensures.reads c.load_locked_entry.ensures.reads)
+    (reads_fixed c.args.table.now g.G.Gate.becomes c.in-Node.number 1 c.load_fixed-word.result (c.load_locked_entry.new.seat, c.load_locked_entry.new.gate) (c.load_fixed-word.new.seat, c.load_fixed-word.new.gate) c.load_fixed-word.ensures)
 
 -- and after the count was loaded
 pub load_position-position-requires-clause-own : goal.load_position-position-requires-clause-own
 load_position-position-requires-clause-own g c =
-    (takes_on c.args.table.now g.G.Gate.becomes (c.args.seat.now, c.args.gate.now) (c.load_fixed-count.new.seat, c.load_fixed-count.new.gate) c.args.job.now (reads_more c.args.table.now g.G.Gate.becomes (c.args.seat.now, c.args.gate.now) (c.load_locked_entry.new.seat, c.load_locked_entry.new.gate) (c.load_fixed-count.new.seat, c.load_fixed-count.new.gate) (reads_more c.args.table.now g.G.Gate.becomes (c.args.seat.now, c.args.gate.now) (c.load_sibling.new.seat, c.load_sibling.new.gate) (c.load_locked_entry.new.seat, c.load_locked_entry.new.gate) c.load_sibling.ensures.reads c.load_locked_entry.ensures.reads)
-    (reads_fixed c.args.table.now g.G.Gate.becomes c.in-Node.number 1 c.load_fixed-count.result (c.load_locked_entry.new.seat, c.load_locked_entry.new.gate) (c.load_fixed-count.new.seat, c.load_fixed-count.new.gate) c.load_fixed-count.ensures)).goes c.requires.takes).1
+    (takes_on c.args.table.now g.G.Gate.becomes (c.args.seat.now, c.args.gate.now) (c.load_fixed-word.new.seat, c.load_fixed-word.new.gate) c.args.job.now (reads_more c.args.table.now g.G.Gate.becomes (c.args.seat.now, c.args.gate.now) (c.load_locked_entry.new.seat, c.load_locked_entry.new.gate) (c.load_fixed-word.new.seat, c.load_fixed-word.new.gate) (reads_more c.args.table.now g.G.Gate.becomes (c.args.seat.now, c.args.gate.now) (c.load_sibling.new.seat, c.load_sibling.new.gate) (c.load_locked_entry.new.seat, c.load_locked_entry.new.gate) c.load_sibling.ensures.reads c.load_locked_entry.ensures.reads)
+    (reads_fixed c.args.table.now g.G.Gate.becomes c.in-Node.number 1 c.load_fixed-word.result (c.load_locked_entry.new.seat, c.load_locked_entry.new.gate) (c.load_fixed-word.new.seat, c.load_fixed-word.new.gate) c.load_fixed-word.ensures)).goes c.requires.takes).1
 
 pub load_position-position-requires-clause-range : goal.load_position-position-requires-clause-range
 load_position-position-requires-clause-range g c =
@@ -86,8 +86,8 @@ load_position-position-requires-clause-column g c =
 
 pub returns-clause-reads : goal.returns-clause-reads
 returns-clause-reads g c =
-    reads_more c.args.table.now g.G.Gate.becomes (c.args.seat.now, c.args.gate.now) (c.load_fixed-count.new.seat, c.load_fixed-count.new.gate) (c.load_position-position.new.seat, c.load_position-position.new.gate) (reads_more c.args.table.now g.G.Gate.becomes (c.args.seat.now, c.args.gate.now) (c.load_locked_entry.new.seat, c.load_locked_entry.new.gate) (c.load_fixed-count.new.seat, c.load_fixed-count.new.gate) (reads_more c.args.table.now g.G.Gate.becomes (c.args.seat.now, c.args.gate.now) (c.load_sibling.new.seat, c.load_sibling.new.gate) (c.load_locked_entry.new.seat, c.load_locked_entry.new.gate) c.load_sibling.ensures.reads c.load_locked_entry.ensures.reads)
-    (reads_fixed c.args.table.now g.G.Gate.becomes c.in-Node.number 1 c.load_fixed-count.result (c.load_locked_entry.new.seat, c.load_locked_entry.new.gate) (c.load_fixed-count.new.seat, c.load_fixed-count.new.gate) c.load_fixed-count.ensures)) c.load_position-position.ensures.reads
+    reads_more c.args.table.now g.G.Gate.becomes (c.args.seat.now, c.args.gate.now) (c.load_fixed-word.new.seat, c.load_fixed-word.new.gate) (c.load_position-position.new.seat, c.load_position-position.new.gate) (reads_more c.args.table.now g.G.Gate.becomes (c.args.seat.now, c.args.gate.now) (c.load_locked_entry.new.seat, c.load_locked_entry.new.gate) (c.load_fixed-word.new.seat, c.load_fixed-word.new.gate) (reads_more c.args.table.now g.G.Gate.becomes (c.args.seat.now, c.args.gate.now) (c.load_sibling.new.seat, c.load_sibling.new.gate) (c.load_locked_entry.new.seat, c.load_locked_entry.new.gate) c.load_sibling.ensures.reads c.load_locked_entry.ensures.reads)
+    (reads_fixed c.args.table.now g.G.Gate.becomes c.in-Node.number 1 c.load_fixed-word.result (c.load_locked_entry.new.seat, c.load_locked_entry.new.gate) (c.load_fixed-word.new.seat, c.load_fixed-word.new.gate) c.load_fixed-word.ensures)) c.load_position-position.ensures.reads
 
 pub returns-clause-beside : goal.returns-clause-beside
 returns-clause-beside g c =
@@ -96,9 +96,9 @@ returns-clause-beside g c =
     let forks = c.in-Some.ensures.beside view (words, h, node) (upper_within c.args.table.now c.args.seat.now c.args.job.now c.requires.takes words h view node) in
     let first = c.load_sibling.ensures.reads.goes.stays.1 in
     let there = locked_on c.args.seat.now.known c.load_sibling.new.seat.known (upper c.args.job.now).number words first h in
-    let upto = (reads_more c.args.table.now g.G.Gate.becomes (c.args.seat.now, c.args.gate.now) (c.load_locked_entry.new.seat, c.load_locked_entry.new.gate) (c.load_fixed-count.new.seat, c.load_fixed-count.new.gate) (reads_more c.args.table.now g.G.Gate.becomes (c.args.seat.now, c.args.gate.now) (c.load_sibling.new.seat, c.load_sibling.new.gate) (c.load_locked_entry.new.seat, c.load_locked_entry.new.gate) c.load_sibling.ensures.reads c.load_locked_entry.ensures.reads)
-    (reads_fixed c.args.table.now g.G.Gate.becomes c.in-Node.number 1 c.load_fixed-count.result (c.load_locked_entry.new.seat, c.load_locked_entry.new.gate) (c.load_fixed-count.new.seat, c.load_fixed-count.new.gate) c.load_fixed-count.ensures)).goes.stays.1 in
-    let then = locked_on c.args.seat.now.known c.load_fixed-count.new.seat.known (upper c.args.job.now).number words upto h in (
+    let upto = (reads_more c.args.table.now g.G.Gate.becomes (c.args.seat.now, c.args.gate.now) (c.load_locked_entry.new.seat, c.load_locked_entry.new.gate) (c.load_fixed-word.new.seat, c.load_fixed-word.new.gate) (reads_more c.args.table.now g.G.Gate.becomes (c.args.seat.now, c.args.gate.now) (c.load_sibling.new.seat, c.load_sibling.new.gate) (c.load_locked_entry.new.seat, c.load_locked_entry.new.gate) c.load_sibling.ensures.reads c.load_locked_entry.ensures.reads)
+    (reads_fixed c.args.table.now g.G.Gate.becomes c.in-Node.number 1 c.load_fixed-word.result (c.load_locked_entry.new.seat, c.load_locked_entry.new.gate) (c.load_fixed-word.new.seat, c.load_fixed-word.new.gate) c.load_fixed-word.ensures)).goes.stays.1 in
+    let then = locked_on c.args.seat.now.known c.load_fixed-word.new.seat.known (upper c.args.job.now).number words upto h in (
       beside_on c.args.seat.now.known c.load_position-position.new.seat.known c.args.job.now _ (c.load_position-position.ensures.reads.goes.stays.1 ∙ upto)
           (found_beside c.args.table.now c.args.seat.now c.args.job.now c.requires.takes words h view node c.in-Some.place c.in-Some.column forks c.in-Node.number c.in-Node.height c.load_position-position.result c.args.made
           (c.load_position-position.ensures.position view (words, then, node)) (c.in-Node.ensures.entry words there)),

@@ -47,7 +47,7 @@ returns-in_default-clause-full g c =
             (step_nodes c.args.table.now.layout c.args.seat.now.known m job.key.now job.way.now _ b.taken.way_of) b.taken.locked c.raise_without_leaf.ensures.makes.goes.stays.1 b.taken.within.0 b.taken.within.1 (omega (arith, b.last))
             (omega (arith, ap (λ made. length (nodes_among made)) c.requires.made, c.in_default.ensures.makes.nodes))
             (c.in_default.ensures.makes.walk c.args.seat.now.known.steps
-            (walk_begins c.args.table.now.layout c.args.seat.now.known c.args.build.now.made.items c.args.build.now.nodes.next c.layout.result c.layout.ensures));
+            (walk_begins c.args.table.now.layout c.args.seat.now.known c.args.build.now.made.items c.start-build.result c.layout.result c.layout.ensures));
       },
     )
 

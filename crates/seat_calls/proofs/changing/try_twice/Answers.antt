@@ -1,5 +1,5 @@
 -- Where the first attempt was refused as full, a round follows; and what the second leaves is what the whole call leaves.
-use Rattle.std.proofs.Common.{◌≤◌, ◌∙◌, Result, Err, sym, ap, subst, le_trans, arith}
+use Rattle.std.proofs.Common.{◌≤◌, ◌∙◌, Result, Err, refl, sym, ap, subst, le_trans, arith}
 use Rattle.finite_map.specs.declared.Reply.{Reply}
 use Rattle.finite_map.specs.Maps.{key_of}
 use Rattle.rowex_core.specs.declared.known.Fresh.{Fresh}
@@ -7,12 +7,15 @@ use Rattle.rowex_core.specs.declared.known.Known.{Known}
 use Rattle.rowex_writing.specs.declared.attempts.TryFault.{TryFault}
 use Rattle.seat_calls.specs.Answers.{fault_of}
 use Rattle.seat_calls.specs.Asked.{HasAsked}
-use Rattle.seat_calls.specs.Traces.{AreTries, IsOneAttempt}
+use Rattle.seat_calls.specs.Traces.{AreTries, IsOneAttempt, is_full}
+use Rattle.std.proofs.lemmas.Bool.{false≢true}
+use Rattle.rowex_writing.specs.Changes.{LacksNodes}
+use Rattle.rowex_writing.specs.Walks.{nodes_among}
 use Rattle.seat_calls.specs.Passes.{pass_of}
 use Rattle.seat_calls.proofs.Collected.{does_idle, round_few}
-use Rattle.seat_calls.proofs.Resting.{cause_still, lacked_full}
+use Rattle.seat_calls.proofs.Resting.{cause_still, lacked_full, lacks_still}
 use Rattle.seat_calls.proofs.Tracing.{ended_again}
-use Rattle.seat_calls.proofs.Trying.{once_asked, outcome_then, round_later, then_collected, unnoted_then}
+use Rattle.seat_calls.proofs.Trying.{lacks_from_before, once_asked, outcome_then, round_later, then_collected, unnoted_then}
 use Rattle.seat_calls.proofs.changing.try_twice.Goals as goal
 
 pub collect_round-round-requires-clause-own : goal.collect_round-round-requires-clause-own
@@ -32,6 +35,7 @@ pin_and_unpin-requires g c =
 pub returns-in_default : goal.returns-in_default
 returns-in_default g c = record {
   asked = once_asked c.args.call.now c.make_attempt-first.result (c.full_kind.ensures.none c.in_default.is) c.make_attempt-first.ensures.asked;
+  lacks = λ is. absurd (false≢true (sym (c.full_kind.ensures.none c.in_default.is) ∙ ap is_full is));
   few = omega (arith, c.make_attempt-first.ensures.few);
 }
 
@@ -52,6 +56,8 @@ returns-then-may_find_free_record g c =
         ended = ended_again table g.G.Gate.becomes call c.make_attempt.result c.in-Some.lacks (c.args.seat.now, c.args.gate.now) (c.make_attempt-first.new.seat, c.make_attempt-first.new.gate) (c.collect_round-round.new.seat, c.collect_round-round.new.gate) _ first.ended first.replied.refused round again.ended;
         later = le_trans later again.later;
       };
+      lacks = λ is. lacks_from_before table.layout c.make_attempt.new.seat.known.pass c.make_attempt.new.seat.known.pass c.make_attempt.new.seat.known.failed c.make_attempt.new.seat.known.failed c.args.seat.now.known.steps c.collect_round-round.new.seat.known.steps
+          (nodes_among c.make_attempt.new.scratch.build.made.items) later refl refl (c.make_attempt.ensures.lacks is);
       few = (let count = round_few round in omega (arith, c.make_attempt-first.ensures.few, count, c.make_attempt.ensures.few));
     }
 
@@ -80,6 +86,9 @@ returns g c =
       later = omega (arith, later, again.steps);
     } in
     record {
+      lacks = λ is. subst (λ made. LacksNodes table.layout c.pin_and_unpin.new.seat.known.pass c.pin_and_unpin.new.seat.known.failed c.args.seat.now.known.steps (nodes_among made)) (sym c.reset_skips.ensures.made)
+          (lacks_still (key_of call) k (c.make_attempt-first.new.seat, c.make_attempt-first.new.gate) (c.collect_round-round.new.seat, c.collect_round-round.new.gate) (c.pin_and_unpin.new.seat, c.pin_and_unpin.new.gate) round again.failed again.unnoted.number _
+          (c.make_attempt-first.ensures.lacks is));
       few = (let count = round_few round in omega (arith, c.make_attempt-first.ensures.few, count, again.steps));
       asked = subst (λ (z : Result Reply TryFault). HasAsked table g.G.Gate.becomes (AreTries table g.G.Gate.becomes call z) call z (c.args.seat.now, c.args.gate.now) (c.pin_and_unpin.new.seat, c.pin_and_unpin.new.gate)) (sym c.in-Some.ensures.some) whole;
     }

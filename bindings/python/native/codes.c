@@ -1,0 +1,216 @@
+/* How keys and values become what the index has, and back again; and what its refusals become. */
+#include "module.h"
+#include <string.h>
+
+enum { INT_BYTES = 8 };
+static const uint64_t INT_ZERO = (uint64_t)1 << 63;
+
+int codec_init(codec *it, PyObject *keys) {
+    if (keys == (PyObject *)&PyUnicode_Type) {
+        it->kind = OF_STR;
+    } else if (keys == (PyObject *)&PyBytes_Type) {
+        it->kind = OF_BYTES;
+    } else if (keys == (PyObject *)&PyLong_Type) {
+        it->kind = OF_INT;
+    } else if (PyTuple_Check(keys) && PyTuple_Size(keys) == 2) {
+        it->kind = OF_CALLS;
+        it->encode = PyTuple_GetItem(keys, 0);
+        it->decode = PyTuple_GetItem(keys, 1);
+        Py_INCREF(it->encode);
+        Py_INCREF(it->decode);
+    } else {
+        PyErr_SetString(PyExc_TypeError, "keys is str, bytes, int or a Codec");
+        return -1;
+    }
+    return 0;
+}
+
+/* TypeError for an object that is of another type than is wanted. */
+static int raise_type(const char *wanted, PyObject *object) {
+    PyObject *name = PyObject_GetAttrString((PyObject *)Py_TYPE(object), "__name__");
+    if (name)
+        PyErr_Format(PyExc_TypeError, "%s, not %S", wanted, name);
+    Py_XDECREF(name);
+    return -1;
+}
+
+/* Takes the bytes of a bytes object, whose own length they have, whatever a subclass says. The reference is taken over. */
+static int code_own(code *to, PyObject *owner) {
+    char *bytes;
+    Py_ssize_t length;
+    if (!owner || PyBytes_AsStringAndSize(owner, &bytes, &length) < 0) {
+        Py_XDECREF(owner);
+        return -1;
+    }
+    to->owner = owner;
+    to->bytes = (const uint8_t *)bytes;
+    to->length = (size_t)length;
+    return 0;
+}
+
+/* Writes a code point beyond ASCII as UTF-8 does, a surrogate like any other: how many bytes that takes. */
+static size_t put_point(uint8_t *to, Py_UCS4 point) {
+    if (point < 0x800) {
+        to[0] = (uint8_t)(0xc0 | point >> 6);
+        to[1] = (uint8_t)(0x80 | (point & 0x3f));
+        return 2;
+    }
+    if (point < 0x10000) {
+        to[0] = (uint8_t)(0xe0 | point >> 12);
+        to[1] = (uint8_t)(0x80 | (point >> 6 & 0x3f));
+        to[2] = (uint8_t)(0x80 | (point & 0x3f));
+        return 3;
+    }
+    to[0] = (uint8_t)(0xf0 | point >> 18);
+    to[1] = (uint8_t)(0x80 | (point >> 12 & 0x3f));
+    to[2] = (uint8_t)(0x80 | (point >> 6 & 0x3f));
+    to[3] = (uint8_t)(0x80 | (point & 0x3f));
+    return 4;
+}
+
+/* The order of these bytes is that of the code points, as of str. */
+static int code_str(PyObject *key, code *to) {
+    enum { LONGEST_POINT = 4 };
+    Py_UCS4 points[HOT_MAX_KEY];
+    if (!PyUnicode_Check(key))
+        return raise_type("a key must be str", key);
+    Py_ssize_t count = PyUnicode_GetLength(key);
+    if (count < 0)
+        return -1;
+    if (count <= HOT_MAX_KEY) {
+        if (count && !PyUnicode_AsUCS4(key, points, HOT_MAX_KEY, 0))
+            return -1;
+        size_t length = 0;
+        Py_ssize_t at = 0;
+        for (; at < count && length + LONGEST_POINT <= HOT_MAX_KEY; at++) {
+            if (points[at] < 0x80)
+                to->room[length++] = (uint8_t)points[at];
+            else
+                length += put_point(to->room + length, points[at]);
+        }
+        if (at == count) {
+            to->bytes = to->room;
+            to->length = length;
+            return 0;
+        }
+    }
+    return code_own(to, PyUnicode_AsEncodedString(key, "utf-8", "surrogatepass"));
+}
+
+static int code_bytes(PyObject *key, code *to) {
+    if (PyBytes_Check(key)) {
+        Py_INCREF(key);
+        return code_own(to, key);
+    }
+    if (PyByteArray_Check(key) || PyMemoryView_Check(key))
+        return code_own(to, PyBytes_FromObject(key));
+    return raise_type("a key must be bytes", key);
+}
+
+static int code_int(PyObject *key, code *to) {
+    if (!PyLong_Check(key))
+        return raise_type("a key must be int", key);
+    long long number = PyLong_AsLongLong(key);
+    if (number == -1 && PyErr_Occurred())
+        return -1;
+    uint64_t word = (uint64_t)number + INT_ZERO;
+    for (int i = 0; i < INT_BYTES; i++)
+        to->room[i] = (uint8_t)(word >> (8 * (INT_BYTES - 1 - i)));
+    to->bytes = to->room;
+    to->length = INT_BYTES;
+    return 0;
+}
+
+static int code_called(PyObject *encode, PyObject *key, code *to) {
+    PyObject *made = PyObject_CallFunctionObjArgs(encode, key, NULL);
+    if (made && !PyBytes_Check(made)) {
+        raise_type("encode must return bytes", made);
+        Py_CLEAR(made);
+    }
+    return code_own(to, made);
+}
+
+int code_of(const codec *it, PyObject *key, code *to) {
+    to->owner = NULL;
+    switch (it->kind) {
+    case OF_STR: return code_str(key, to);
+    case OF_BYTES: return code_bytes(key, to);
+    case OF_INT: return code_int(key, to);
+    default: return code_called(it->encode, key, to);
+    }
+}
+
+int code_if_known(const codec *it, PyObject *key, code *to) {
+    if (code_of(it, key, to) < 0) {
+        if (!PyErr_ExceptionMatches(PyExc_TypeError) && !PyErr_ExceptionMatches(PyExc_OverflowError))
+            return -1;
+        PyErr_Clear();
+        return PyObject_Hash(key) == -1 && PyErr_Occurred() ? -1 : 0;
+    }
+    if (to->length <= HOT_MAX_KEY)
+        return 1;
+    code_end(to);
+    return 0;
+}
+
+void code_end(code *it) {
+    Py_CLEAR(it->owner);
+}
+
+static PyObject *int_of(const uint8_t *bytes, size_t length) {
+    uint64_t word = 0;
+    for (size_t i = 0; i < length; i++)
+        word = word << 8 | bytes[i];
+    word -= INT_ZERO;
+    long long number;
+    memcpy(&number, &word, sizeof number);
+    return PyLong_FromLongLong(number);
+}
+
+PyObject *key_of(const codec *it, const uint8_t *bytes, size_t length) {
+    const char *text = (const char *)bytes;
+    switch (it->kind) {
+    case OF_STR: return PyUnicode_DecodeUTF8(text, (Py_ssize_t)length, "surrogatepass");
+    case OF_BYTES: return PyBytes_FromStringAndSize(text, (Py_ssize_t)length);
+    case OF_INT: return int_of(bytes, length);
+    default: break;
+    }
+    PyObject *given = PyBytes_FromStringAndSize(text, (Py_ssize_t)length);
+    PyObject *key = given ? PyObject_CallFunctionObjArgs(it->decode, given, NULL) : NULL;
+    Py_XDECREF(given);
+    return key;
+}
+
+int value_of(PyObject *object, uint64_t *value) {
+    PyObject *number = PyNumber_Index(object);
+    if (!number)
+        return -1;
+    *value = PyLong_AsUnsignedLongLong(number);
+    Py_DECREF(number);
+    if (!PyErr_Occurred())
+        return 0;
+    if (PyErr_ExceptionMatches(PyExc_OverflowError))
+        PyErr_SetString(PyExc_OverflowError, "a value must be from 0 to 2**64 - 1");
+    return -1;
+}
+
+void raise_own(const char *name, const char *text) {
+    PyObject *from = PyImport_ImportModule("hot._errors");
+    PyObject *kind = from ? PyObject_GetAttrString(from, name) : NULL;
+    if (kind)
+        PyErr_SetString(kind, text);
+    Py_XDECREF(kind);
+    Py_XDECREF(from);
+}
+
+void raise_status(hot_status status) {
+    const char *text = hot_status_text(status);
+    switch (status) {
+    case HOT_FULL_NODES:
+    case HOT_FULL_LEAVES: raise_own("FullError", text); break;
+    case HOT_NO_MEMORY: PyErr_SetString(PyExc_MemoryError, text); break;
+    case HOT_KEY_TOO_LONG:
+    case HOT_OUT_OF_RANGE: PyErr_SetString(PyExc_ValueError, text); break;
+    default: raise_own("HotError", text); break;
+    }
+}

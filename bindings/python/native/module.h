@@ -1,0 +1,99 @@
+/* What the files of the module share: how keys become bytes, and a map. */
+#ifndef MODULE_H
+#define MODULE_H
+
+/* One binary for Python 3.9 and all later versions. */
+#define Py_LIMITED_API 0x03090000
+#define PY_SSIZE_T_CLEAN
+#include <Python.h>
+
+#ifdef Py_GIL_DISABLED
+#error "hot: this Python runs threads without a lock, which the module relies on"
+#endif
+
+#include "store.h"
+
+/* A slot or a method that is a function, as tables have it. */
+#define SLOT(function) ((void *)(uintptr_t)(function))
+#define METHOD(function) ((PyCFunction)(uintptr_t)(function))
+
+/* ---- Keys as bytes: codes.c ---- */
+
+/* Which keys a map has. A Codec has two functions. */
+typedef struct codec {
+    enum { OF_STR, OF_BYTES, OF_INT, OF_CALLS } kind;
+    PyObject *encode, *decode;
+} codec;
+
+/* A key's bytes: in `room`, or those of `owner`, which is a bytes object. */
+typedef struct code {
+    const uint8_t *bytes;
+    size_t length;
+    PyObject *owner;
+    uint8_t room[HOT_MAX_KEY];
+} code;
+
+/* -1 with TypeError unless `keys` is str, bytes, int or a pair of functions. */
+int codec_init(codec *it, PyObject *keys);
+
+/* Writes a key's bytes: -1 with an exception if it is no key. It may run any Python code. */
+int code_of(const codec *it, PyObject *key, code *to);
+void code_end(code *it);
+
+/* The same for a key that may be of any type: 1, or 0 where no key of a map is equal to it; then there is nothing to end. */
+int code_if_known(const codec *it, PyObject *key, code *to);
+
+/* A key of these bytes. It may run any Python code. */
+PyObject *key_of(const codec *it, const uint8_t *bytes, size_t length);
+
+/* The value of an object: -1 with an exception if it is none. It may run any Python code. */
+int value_of(PyObject *object, uint64_t *value);
+
+/* Raises an error of the package by its name. */
+void raise_own(const char *name, const char *text);
+
+/* Raises what a refusal becomes. */
+void raise_status(hot_status status);
+
+/* ---- Maps: map.c ---- */
+
+typedef struct map {
+    PyObject_HEAD
+    store *store; /* NULL before __init__ */
+    codec codec;
+    PyObject *pairs; /* the type of its iterators */
+    int forks;       /* how often the process had forked with threads */
+} map;
+
+extern PyType_Spec map_spec;
+
+/* The map's store: NULL with an exception if it can't be used. */
+store *usable(map *it);
+
+/* After a fork, in the child of a process with threads: the maps that there are can't be used. */
+void map_forked(void);
+
+/* Its methods: one_key.c, many_keys.c. */
+PyObject *map_subscript(PyObject *self, PyObject *key);
+int map_contains(PyObject *self, PyObject *key);
+int map_ass_subscript(PyObject *self, PyObject *key, PyObject *value);
+PyObject *map_get(PyObject *self, PyObject *words, PyObject *named);
+PyObject *map_setdefault(PyObject *self, PyObject *words, PyObject *named);
+PyObject *map_pop(PyObject *self, PyObject *words);
+PyObject *map_exchange(PyObject *self, PyObject *words, PyObject *named);
+PyObject *map_remove_if(PyObject *self, PyObject *words, PyObject *named);
+PyObject *map_add(PyObject *self, PyObject *words, PyObject *named);
+PyObject *map_fetch_add(PyObject *self, PyObject *words, PyObject *named);
+PyObject *map_get_many(PyObject *self, PyObject *keys);
+
+/* ---- Iterators: pairs.c ---- */
+
+extern PyType_Spec pairs_spec;
+
+/* What an iterator lists. */
+enum { KEYS, VALUES, ITEMS };
+
+/* The iterator of a map from one key's bytes to another's. */
+PyObject *pairs_new(map *of, const code *from, const code *upto, int falls, int what);
+
+#endif

@@ -1,0 +1,257 @@
+/* Calls of a map for one key. No Python code runs between taking a handle and giving it back, so nothing can come in between. */
+#include "module.h"
+
+typedef struct key_call {
+    enum { GET, INSERT, UPSERT, REMOVE, EXCHANGE, REMOVE_IF } kind;
+    code key;
+    uint64_t value, expected, had;
+} key_call;
+
+static hot_status attempt(hot_handle *handle, void *what) {
+    key_call *it = what;
+    const uint8_t *key = it->key.bytes;
+    size_t length = it->key.length;
+    switch (it->kind) {
+    case GET: return hot_get(handle, key, length, &it->had);
+    case INSERT: return hot_try_insert(handle, key, length, it->value, &it->had);
+    case UPSERT: return hot_try_upsert(handle, key, length, it->value, &it->had);
+    case REMOVE: return hot_try_remove(handle, key, length, &it->had);
+    case EXCHANGE: return hot_try_exchange(handle, key, length, it->expected, it->value, &it->had);
+    default: return hot_try_remove_if(handle, key, length, it->expected, &it->had);
+    }
+}
+
+/* Makes a call: its status, or -1 with an exception. */
+static int call(map *it, key_call *what) {
+    store *in = usable(it);
+    if (!in)
+        return -1;
+    hot_status status = what->kind == GET ? store_read(in, attempt, what) : store_change(in, attempt, what, what->key.length);
+    if (status < HOT_BUSY || status == HOT_EXCHANGED || status == HOT_DIFFERS)
+        return (int)status;
+    raise_status(status);
+    return -1;
+}
+
+/* Makes a call for a key that may be of any type: HOT_ABSENT where no key of the map is equal to it. */
+static int call_if_known(map *it, PyObject *key, key_call *what) {
+    int is_known = code_if_known(&it->codec, key, &what->key);
+    int status = is_known > 0 ? call(it, what) : is_known < 0 ? -1 : HOT_ABSENT;
+    if (is_known > 0)
+        code_end(&what->key);
+    return status;
+}
+
+static int call_for(map *it, PyObject *key, key_call *what) {
+    if (code_of(&it->codec, key, &what->key) < 0)
+        return -1;
+    int status = call(it, what);
+    code_end(&what->key);
+    return status;
+}
+
+/* Sets a key. The value is looked at behind the key. */
+static int set(map *it, PyObject *key, PyObject *value, key_call *what) {
+    if (code_of(&it->codec, key, &what->key) < 0)
+        return -1;
+    int status = value_of(value, &what->value) < 0 ? -1 : call(it, what);
+    code_end(&what->key);
+    return status;
+}
+
+static PyObject *raise_absent(PyObject *key) {
+    /* A key that is a tuple is one argument. */
+    PyObject *words = PyTuple_Pack(1, key);
+    if (words)
+        PyErr_SetObject(PyExc_KeyError, words);
+    Py_XDECREF(words);
+    return NULL;
+}
+
+static PyObject *value_or(int status, const key_call *what, PyObject *other) {
+    if (status < 0)
+        return NULL;
+    if (status != HOT_ABSENT)
+        return PyLong_FromUnsignedLongLong(what->had);
+    Py_INCREF(other);
+    return other;
+}
+
+/* ---- Methods for one key ---- */
+
+/* The words of a call, of which the second may be left out. Few calls name them, and the others needn't look for names. */
+static int key_and(PyObject *words, PyObject *named, const char *second, const char *call, PyObject **key, PyObject **other) {
+    char *names[] = {"key", (char *)(uintptr_t)second, NULL};
+    return named ? PyArg_ParseTupleAndKeywords(words, named, "O|O", names, key, other)
+                 : PyArg_UnpackTuple(words, call, 1, 2, key, other);
+}
+
+PyObject *map_subscript(PyObject *self, PyObject *key) {
+    key_call what;
+    what.kind = GET;
+    int status = call_if_known((map *)self, key, &what);
+    return status == HOT_ABSENT ? raise_absent(key) : value_or(status, &what, NULL);
+}
+
+int map_contains(PyObject *self, PyObject *key) {
+    key_call what;
+    what.kind = GET;
+    int status = call_if_known((map *)self, key, &what);
+    return status < 0 ? -1 : status == HOT_FOUND;
+}
+
+int map_ass_subscript(PyObject *self, PyObject *key, PyObject *value) {
+    key_call what;
+    what.kind = value ? UPSERT : REMOVE;
+    if (value)
+        return set((map *)self, key, value, &what) < 0 ? -1 : 0;
+    int status = call_if_known((map *)self, key, &what);
+    if (status == HOT_ABSENT)
+        raise_absent(key);
+    return status == HOT_REMOVED ? 0 : -1;
+}
+
+PyObject *map_get(PyObject *self, PyObject *words, PyObject *named) {
+    PyObject *key, *other = Py_None;
+    key_call what;
+    what.kind = GET;
+    if (!key_and(words, named, "default", "get", &key, &other))
+        return NULL;
+    return value_or(call_if_known((map *)self, key, &what), &what, other);
+}
+
+PyObject *map_setdefault(PyObject *self, PyObject *words, PyObject *named) {
+    PyObject *key, *other = Py_None;
+    key_call what;
+    what.kind = GET;
+    if (!key_and(words, named, "default", "setdefault", &key, &other))
+        return NULL;
+    int status = call_if_known((map *)self, key, &what);
+    if (status == HOT_ABSENT) {
+        what.kind = INSERT;
+        status = set((map *)self, key, other, &what);
+        if (status == HOT_INSERTED)
+            status = HOT_ABSENT;
+    }
+    return value_or(status, &what, other);
+}
+
+PyObject *map_pop(PyObject *self, PyObject *words) {
+    PyObject *key, *other = NULL;
+    key_call what;
+    what.kind = REMOVE;
+    if (!PyArg_UnpackTuple(words, "pop", 1, 2, &key, &other))
+        return NULL;
+    int status = call_if_known((map *)self, key, &what);
+    return status == HOT_ABSENT && !other ? raise_absent(key) : value_or(status, &what, other);
+}
+
+PyObject *map_exchange(PyObject *self, PyObject *words, PyObject *named) {
+    static char *names[] = {"key", "expected", "value", NULL};
+    PyObject *key, *expected, *value;
+    key_call what;
+    what.kind = EXCHANGE;
+    if (!PyArg_ParseTupleAndKeywords(words, named, "OOO:exchange", names, &key, &expected, &value) ||
+        value_of(expected, &what.expected) < 0)
+        return NULL;
+    int status = set((map *)self, key, value, &what);
+    return status < 0 ? NULL : PyBool_FromLong(status == HOT_EXCHANGED);
+}
+
+PyObject *map_remove_if(PyObject *self, PyObject *words, PyObject *named) {
+    static char *names[] = {"key", "expected", NULL};
+    PyObject *key, *expected;
+    key_call what;
+    what.kind = REMOVE_IF;
+    if (!PyArg_ParseTupleAndKeywords(words, named, "OO:remove_if", names, &key, &expected) ||
+        value_of(expected, &what.expected) < 0)
+        return NULL;
+    int status = call_for((map *)self, key, &what);
+    return status < 0 ? NULL : PyBool_FromLong(status == HOT_REMOVED);
+}
+
+/* ---- Additions ---- */
+
+/* A number that is added: its distance from 0, which may be beyond all values, and on which side it lies. */
+typedef struct change {
+    uint64_t distance;
+    int is_down, is_beyond;
+} change;
+
+/* The magnitude of an int, if it is that of a value: 0, or -1 without an exception. */
+static int magnitude_of(PyObject *number, uint64_t *distance) {
+    *distance = PyLong_AsUnsignedLongLong(number);
+    if (!PyErr_Occurred())
+        return 0;
+    PyErr_Clear();
+    return -1;
+}
+
+static int change_of(PyObject *object, change *to) {
+    PyObject *number = PyNumber_Index(object), *negative = NULL;
+    if (!number)
+        return -1;
+    to->is_down = to->is_beyond = 0;
+    if (magnitude_of(number, &to->distance) < 0) {
+        to->is_down = 1;
+        negative = PyNumber_Negative(number);
+        to->is_beyond = negative && magnitude_of(negative, &to->distance) < 0;
+    }
+    Py_DECREF(number);
+    int status = to->is_down && !negative ? -1 : 0;
+    Py_XDECREF(negative);
+    return status;
+}
+
+/* The sum, if it is a value: else -1 with an exception. */
+static int sum(uint64_t had, const change *by, uint64_t *to) {
+    *to = by->is_down ? had - by->distance : had + by->distance;
+    if (!by->is_beyond && (by->is_down ? by->distance <= had : *to >= had))
+        return 0;
+    PyErr_SetString(PyExc_OverflowError, "a value must be from 0 to 2**64 - 1");
+    return -1;
+}
+
+/* Adds to a key's value, which is then `had`; an absent key gets the number if `puts`. HOT_ABSENT if it stays absent, HOT_INSERTED
+ * if it was; else HOT_EXCHANGED. */
+static int add(map *it, key_call *what, const change *by, int puts) {
+    what->kind = GET;
+    int status = call(it, what);
+    for (;;) {
+        if (status == HOT_ABSENT && !puts)
+            return status;
+        if (status < 0)
+            return -1;
+        what->expected = status == HOT_ABSENT ? 0 : what->had;
+        if (sum(what->expected, by, &what->value) < 0)
+            return -1;
+        what->kind = status == HOT_ABSENT ? INSERT : EXCHANGE;
+        status = call(it, what);
+        if (status == HOT_EXCHANGED || status == HOT_INSERTED)
+            return status;
+    }
+}
+
+static PyObject *added(PyObject *self, PyObject *words, PyObject *named, const char *name, int puts) {
+    PyObject *key, *number = NULL;
+    map *it = (map *)self;
+    change by = {.distance = 1};
+    key_call what;
+    if (!key_and(words, named, "number", name, &key, &number) || code_of(&it->codec, key, &what.key) < 0)
+        return NULL;
+    int status = -1;
+    if (!number || change_of(number, &by) == 0)
+        status = !puts && what.key.length > HOT_MAX_KEY ? HOT_ABSENT : add(it, &what, &by, puts);
+    code_end(&what.key);
+    if (status == HOT_ABSENT)
+        return raise_absent(key);
+    return status < 0 ? NULL : PyLong_FromUnsignedLongLong(status == HOT_INSERTED ? 0 : what.had);
+}
+
+PyObject *map_add(PyObject *self, PyObject *words, PyObject *named) {
+    return added(self, words, named, "add", 0);
+}
+
+PyObject *map_fetch_add(PyObject *self, PyObject *words, PyObject *named) {
+    return added(self, words, named, "fetch_add", 1);
+}

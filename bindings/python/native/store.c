@@ -1,0 +1,301 @@
+/* The handles of an index that threads share, and its growth. */
+#include "store.h"
+#include <sched.h>
+#include <stdlib.h>
+
+enum {
+    LONG_TRIES = 100, /* of a change that others are in the way of */
+    HELD_TRIES = 3,   /* of a change in a store that is held: the first one may have to collect what was retired */
+    CLASSES = 5,
+    LEAST_LEAVES = 256
+};
+
+/* ---- An index with its handles ---- */
+
+static void room_close(room *it) {
+    if (!it)
+        return;
+    for (size_t i = 0; i < it->opened; i++)
+        hot_close(&it->leases[i].handle);
+    hot_close(&it->quick);
+    if (it->index)
+        hot_close_index(it->index);
+    free(it);
+}
+
+static hot_status room_open(const hot_stock *stock, size_t threads, room **made) {
+    room *it = calloc(1, sizeof *it + threads * sizeof *it->leases);
+    if (!it)
+        return HOT_NO_MEMORY;
+    it->stock = *stock;
+    hot_status status = hot_open_index(stock, threads + 1, &it->index);
+    if (status == HOT_DONE)
+        status = hot_open(it->index, &it->quick);
+    if (status == HOT_DONE)
+        *made = it;
+    else
+        room_close(it);
+    return status;
+}
+
+/* ---- Room to grow ---- */
+
+static hot_stock small_stock(void) {
+    hot_stock stock = {0};
+    stock.nodes = 64;
+    stock.short_leaves = stock.medium_leaves = 128;
+    return stock;
+}
+
+/* Whether a change was refused that a larger index makes. One without leaves for keys of this length says that the key is too long.
+ * In a store that is held nobody holds records back: what is held back there is full. */
+static int is_full(hot_status status, size_t length) {
+    return status == HOT_FULL_NODES || status == HOT_FULL_LEAVES || status == HOT_HELD_BACK ||
+           (status == HOT_KEY_TOO_LONG && length <= HOT_MAX_KEY);
+}
+
+static uint32_t doubled(uint32_t count) {
+    return count > UINT32_MAX / 2 ? UINT32_MAX : count < LEAST_LEAVES / 2 ? LEAST_LEAVES : 2 * count;
+}
+
+/* Doubles the records that were refused: nodes, or the leaves of keys of this length, or if it is not known all leaves that there
+ * are. */
+static void enlarge(hot_stock *stock, hot_status why, const size_t *length) {
+    static const size_t longest[CLASSES] = {8, 24, 56, 88, HOT_MAX_KEY};
+    uint32_t *counts[CLASSES] = {&stock->short_leaves, &stock->medium_leaves, &stock->large_leaves, &stock->wide_leaves,
+                                 &stock->long_leaves};
+    uint64_t leaves = 0;
+    int begins = 1; /* whether no smaller leaf has room for the key */
+    for (int i = 0; i < CLASSES; i++) {
+        int is_meant = length ? begins && *length <= longest[i] : *counts[i] > 0;
+        begins = begins && !(length && *length <= longest[i]);
+        if (is_meant && why != HOT_FULL_NODES)
+            *counts[i] = doubled(*counts[i]);
+        leaves += *counts[i];
+    }
+    if (why == HOT_FULL_NODES || why == HOT_HELD_BACK)
+        stock->nodes = doubled(stock->nodes);
+    if (stock->nodes < leaves / 6)
+        stock->nodes = leaves / 6 > UINT32_MAX ? UINT32_MAX : (uint32_t)(leaves / 6);
+}
+
+/* Moves all pairs to an index with this stock. */
+static hot_status move_to(store *it, const hot_stock *stock) {
+    room *old = it->room, *new = NULL;
+    hot_status status = room_open(stock, it->threads, &new);
+    if (status != HOT_DONE)
+        return status;
+    status = hot_copy(&old->quick, &new->quick);
+    if (status == HOT_DONE)
+        it->room = new;
+    room_close(status == HOT_DONE ? old : new);
+    return status;
+}
+
+static hot_status grow(store *it, hot_status why, size_t length) {
+    hot_stock stock = it->room->stock;
+    enlarge(&stock, why, &length);
+    for (;;) {
+        why = move_to(it, &stock);
+        if (!is_full(why, 0))
+            return why;
+        enlarge(&stock, why, NULL);
+    }
+}
+
+/* ---- Leases ---- */
+
+/* A lease that is free, or has a handle opened for it; NULL if there is none, and why. Under the mutex. */
+static lease *free_lease(store *it, hot_status *why) {
+    room *in = it->room;
+    lease *found = in->free;
+    *why = HOT_NO_HANDLE;
+    if (found) {
+        in->free = found->next;
+    } else if (in->opened < it->threads && (*why = hot_open(in->index, &in->leases[in->opened].handle)) == HOT_DONE) {
+        found = &in->leases[in->opened++];
+    }
+    return found;
+}
+
+/* Waits for a lease. It may lack memory for a first one alone: others come back. */
+static hot_status take(store *it, lease **taken) {
+    hot_status why = HOT_DONE;
+    *taken = NULL;
+    pthread_mutex_lock(&it->mutex);
+    for (;;) {
+        if (!atomic_load(&it->is_held)) {
+            *taken = free_lease(it, &why);
+            if (*taken || it->out == 0)
+                break;
+        }
+        pthread_cond_wait(&it->changed, &it->mutex);
+    }
+    it->out += *taken != NULL;
+    pthread_mutex_unlock(&it->mutex);
+    return why;
+}
+
+static void give_back(store *it, lease *taken) {
+    pthread_mutex_lock(&it->mutex);
+    taken->next = it->room->free;
+    it->room->free = taken;
+    it->out--;
+    pthread_cond_broadcast(&it->changed);
+    pthread_mutex_unlock(&it->mutex);
+}
+
+/* ---- A store that is held ---- */
+
+/* Within a turn: whether the store is held for the caller from now on. It isn't if somebody holds it. */
+static int hold(store *it) {
+    pthread_mutex_lock(&it->mutex);
+    int is_mine = !atomic_load(&it->is_held);
+    atomic_store(&it->is_held, 1);
+    pthread_mutex_unlock(&it->mutex);
+    return is_mine;
+}
+
+static void wait_for_leases(store *it) {
+    pthread_mutex_lock(&it->mutex);
+    while (it->out)
+        pthread_cond_wait(&it->changed, &it->mutex);
+    pthread_mutex_unlock(&it->mutex);
+}
+
+static void wait_for_holder(store *it) {
+    pthread_mutex_lock(&it->mutex);
+    while (atomic_load(&it->is_held))
+        pthread_cond_wait(&it->changed, &it->mutex);
+    pthread_mutex_unlock(&it->mutex);
+}
+
+static void let_go(store *it) {
+    pthread_mutex_lock(&it->mutex);
+    atomic_store_explicit(&it->is_held, 0, memory_order_release);
+    pthread_cond_broadcast(&it->changed);
+    pthread_mutex_unlock(&it->mutex);
+}
+
+/* ---- Calls ---- */
+
+static int is_in_the_way(hot_status status) {
+    return status == HOT_BUSY || status == HOT_HELD_BACK;
+}
+
+/* Within a turn: makes a call at once, or returns HOT_BUSY if somebody holds the store. */
+static hot_status quick(store *it, store_call *call, void *what) {
+    return atomic_load_explicit(&it->is_held, memory_order_acquire) ? HOT_BUSY : call(&it->room->quick, what);
+}
+
+hot_status store_long(store *it, store_call *call, void *what) {
+    lease *taken;
+    hot_status status = take(it, &taken);
+    if (!taken)
+        return status;
+    status = call(&taken->handle, what);
+    for (int tries = 1; tries < LONG_TRIES && is_in_the_way(status); tries++) {
+        sched_yield();
+        status = call(&taken->handle, what);
+    }
+    give_back(it, taken);
+    return status;
+}
+
+hot_status store_read(store *it, store_call *call, void *what) {
+    hot_status status = quick(it, call, what);
+    if (status == HOT_BUSY) {
+        void *ended = it->turns.end();
+        status = store_long(it, call, what);
+        it->turns.begin(ended);
+    }
+    return status;
+}
+
+/* Makes a change in a store that is held. */
+static hot_status held_call(store *it, store_call *call, void *what, size_t length) {
+    hot_status status = HOT_BUSY;
+    for (int tries = 0; tries < HELD_TRIES && (status == HOT_BUSY || is_full(status, length)); tries++)
+        status = call(&it->room->quick, what);
+    return status;
+}
+
+/* Makes a change once all other calls have returned, in a store that is held. */
+static hot_status change_alone(store *it, store_call *call, void *what, size_t length) {
+    wait_for_leases(it);
+    hot_status status = held_call(it, call, what, length);
+    while (it->grows && is_full(status, length)) {
+        status = grow(it, status, length);
+        if (status == HOT_DONE)
+            status = held_call(it, call, what, length);
+    }
+    let_go(it);
+    return status == HOT_HELD_BACK ? HOT_FULL_NODES : status;
+}
+
+hot_status store_change(store *it, store_call *call, void *what, size_t length) {
+    hot_status status = quick(it, call, what);
+    while (is_in_the_way(status) || is_full(status, length)) {
+        int is_mine = !is_in_the_way(status) && hold(it);
+        void *ended = it->turns.end();
+        if (is_mine)
+            status = change_alone(it, call, what, length);
+        else
+            status = store_long(it, call, what);
+        it->turns.begin(ended);
+        if (is_mine)
+            return status;
+        if (is_in_the_way(status))
+            status = HOT_FULL_NODES; /* so the store is held next */
+    }
+    return status;
+}
+
+hot_status store_clear(store *it) {
+    room *new = NULL;
+    int is_mine = hold(it);
+    void *ended = it->turns.end();
+    while (!is_mine) {
+        wait_for_holder(it);
+        it->turns.begin(ended);
+        is_mine = hold(it);
+        ended = it->turns.end();
+    }
+    wait_for_leases(it);
+    hot_status status = room_open(&it->room->stock, it->threads, &new);
+    if (status == HOT_DONE) {
+        room_close(it->room);
+        it->room = new;
+    }
+    let_go(it);
+    it->turns.begin(ended);
+    return status;
+}
+
+/* ---- A store ---- */
+
+hot_status store_open(const wanted_store *wanted, const turns *turns, store **made) {
+    hot_stock stock = wanted->stock.nodes ? wanted->stock : small_stock();
+    store *it = wanted->threads < 1 || wanted->threads > MOST_THREADS ? NULL : calloc(1, sizeof *it);
+    if (!it)
+        return wanted->threads < 1 || wanted->threads > MOST_THREADS ? HOT_OUT_OF_RANGE : HOT_NO_MEMORY;
+    it->turns = *turns;
+    it->threads = wanted->threads;
+    it->grows = wanted->grows;
+    hot_status status = room_open(&stock, it->threads, &it->room);
+    if (status == HOT_DONE) {
+        pthread_mutex_init(&it->mutex, NULL);
+        pthread_cond_init(&it->changed, NULL);
+        *made = it;
+    } else {
+        free(it);
+    }
+    return status;
+}
+
+void store_close(store *it) {
+    room_close(it->room);
+    pthread_mutex_destroy(&it->mutex);
+    pthread_cond_destroy(&it->changed);
+    free(it);
+}

@@ -1,0 +1,76 @@
+/* An index that threads share and that grows, for a program whose threads take turns by a lock, such as Python's: quick calls are
+ * made within a turn, and what may wait or take long without one. Nothing here knows Python. */
+#ifndef STORE_H
+#define STORE_H
+
+#include <hot.h>
+#include <pthread.h>
+#include <stdatomic.h>
+
+/* The most threads whose long calls run at once. The quick calls have one handle more. */
+enum { MOST_THREADS = 1023 };
+
+typedef struct lease {
+    hot_handle handle;
+    struct lease *next;
+} lease;
+
+/* An index with its handles. They stay where they are. */
+typedef struct room {
+    hot_index *index;
+    hot_stock stock;
+    hot_handle quick;
+    lease *free;
+    size_t opened; /* how many of the leases have a handle */
+    lease leases[];
+} room;
+
+/* How a thread ends its turn, and begins the next one with what that returned. */
+typedef struct turns {
+    void *(*end)(void);
+    void (*begin)(void *ended);
+} turns;
+
+typedef struct store {
+    turns turns;
+    size_t threads;
+    int grows;
+    atomic_int is_held; /* set within a turn and under the mutex, cleared under the mutex */
+    pthread_mutex_t mutex;
+    pthread_cond_t changed;
+    /* Under the mutex; and who holds the store has it alone: */
+    room *room;
+    size_t out; /* how many leases calls have */
+} store;
+
+/* What is done with a handle. It waits for nobody. */
+typedef hot_status store_call(hot_handle *handle, void *what);
+
+/* What a store is made as: with this stock of records, or a small one if it has none, for long calls of at most this many threads
+ * at once, 1 to MOST_THREADS. */
+typedef struct wanted_store {
+    hot_stock stock;
+    size_t threads;
+    int grows;
+} wanted_store;
+
+/* HOT_DONE; or HOT_OUT_OF_RANGE, HOT_NO_MEMORY, HOT_OLD_PROCESSOR. */
+hot_status store_open(const wanted_store *wanted, const turns *turns, store **made);
+void store_close(store *it);
+
+/* These are made within a turn, which ends meanwhile only if they must wait. */
+
+/* Makes a call that changes nothing. */
+hot_status store_read(store *it, store_call *call, void *what);
+
+/* Makes a change of a key of this length: beside other calls, and once they have all returned if they are in the way or the index
+ * is full. A store that grows then makes it in a larger index. So it is never HOT_BUSY or HOT_HELD_BACK. */
+hot_status store_change(store *it, store_call *call, void *what, size_t length);
+
+/* Removes all keys at once. HOT_DONE or HOT_NO_MEMORY. */
+hot_status store_clear(store *it);
+
+/* Without a turn: makes a call with a handle that no other thread has, and waits for one if it must. */
+hot_status store_long(store *it, store_call *call, void *what);
+
+#endif

@@ -1,0 +1,33 @@
+"""Builds the module in C over the library below HOT_DIR, or in the package that this
+lies in, or where the compiler finds it. An archive becomes part of the module."""
+
+import os
+from pathlib import Path
+
+from setuptools import Extension, setup
+
+HERE = Path(__file__).resolve().parent
+
+
+def library() -> dict[str, list[str]]:
+    """What the compiler is told of hot.h and libhot."""
+    # PACKAGE/share/hot/bindings/python
+    at = Path(os.environ.get("HOT_DIR") or HERE.parents[3])
+    archive = at / "lib" / "libhot.a"
+    if archive.exists():
+        return {"include_dirs": [str(at / "include")], "extra_objects": [str(archive)]}
+    if os.environ.get("HOT_DIR"):
+        raise SystemExit(f"hot: there is no {archive}, which HOT_DIR names")
+    return {"libraries": ["hot"]}
+
+
+module = Extension(
+    "hot._hot",
+    sorted(str(file.relative_to(HERE)) for file in HERE.glob("native/*.c")),
+    depends=sorted(str(file.relative_to(HERE)) for file in HERE.glob("native/*.h")),
+    extra_compile_args=["-std=c11", "-fvisibility=hidden"],
+    extra_link_args=["-Wl,--exclude-libs,ALL", "-pthread"],
+    py_limited_api=True,
+    **library(),
+)
+setup(ext_modules=[module], options={"bdist_wheel": {"py_limited_api": "cp39"}})

@@ -1,0 +1,496 @@
+/* The connections: which indexes each has, and what a transaction that creates or drops tables does to them.
+ *
+ * SQLite tells a table nothing more once it is dropped, and one that is created doesn't hear when a savepoint from before is taken
+ * back. So a connection that creates or drops a table makes one more, in temp: it takes part in the transaction, and hears of all.
+ */
+#include "connection.h"
+#include <string.h>
+SQLITE_EXTENSION_INIT3
+
+/* No savepoint: of what was done outside all, and of what the open transaction hasn't done. */
+enum { OUTSIDE = -1, NOT_NOW = -2 };
+
+/* A table's definition that the connection knows. */
+typedef struct definition {
+    struct definition *next;
+    held *has;
+    int is_named;            /* whether it says the name of its index */
+    int made_in, dropped_in; /* in which savepoint the open transaction did so */
+    char *words;             /* the schema's name, of so many bytes, and the table's */
+    size_t schema_length;
+} definition;
+
+struct connection {
+    connection *next;
+    sqlite3 *db;
+    int uses;  /* by modules and tables */
+    int hears; /* whether it hears of the transaction that is open */
+    int point; /* the last savepoint that is open */
+    held *all;
+    definition *definitions;
+};
+
+static connection *connections; /* under SQLite's mutex for applications */
+
+/* ---- What a connection has ---- */
+
+static void let_go(connection *of, held *it) {
+    held **place = &of->all;
+    if (it->tables || it->definitions)
+        return;
+    while (*place != it)
+        place = &(*place)->next;
+    *place = it->next;
+    part_leave(&it->part);
+    shared_end_use(it->part.of);
+    sqlite3_free(it);
+}
+
+static void end_definition(connection *of, definition **place) {
+    definition *it = *place;
+    *place = it->next;
+    it->has->definitions--;
+    let_go(of, it->has);
+    sqlite3_free(it->words);
+    sqlite3_free(it);
+}
+
+/* The definition is no more, and a name that only it gave its index is free. */
+static void end_for_good(connection *of, definition **place) {
+    if (!(*place)->is_named)
+        shared_unname((*place)->has->part.of);
+    end_definition(of, place);
+}
+
+/* Has the part of an index, of which this is one use: NULL if it is refused. */
+static held *hold(connection *of, shared_index *index, int *code, char **error) {
+    held *it = of->all;
+    hot_status status;
+    while (it && it->part.of != index)
+        it = it->next;
+    *code = SQLITE_NOMEM;
+    if (it || !(it = sqlite3_malloc(sizeof *it))) {
+        shared_end_use(index);
+        return it;
+    }
+    memset(it, 0, sizeof *it);
+    if ((status = part_take(index, of->point, &it->part)) != HOT_DONE) {
+        if (status == HOT_NO_HANDLE) {
+            *code = SQLITE_BUSY;
+            *error = sqlite3_mprintf("hot: %d connections have the index: make it with more connections=",
+                                     (int)shared_made_as(index)->handles);
+        }
+        shared_end_use(index);
+        sqlite3_free(it);
+        return NULL;
+    }
+    it->next = of->all;
+    of->all = it;
+    return it;
+}
+
+connection *connection_use(sqlite3 *db) {
+    sqlite3_mutex *mutex = sqlite3_mutex_alloc(SQLITE_MUTEX_STATIC_APP1);
+    connection *of;
+    sqlite3_mutex_enter(mutex);
+    for (of = connections; of && of->db != db; of = of->next) {
+    }
+    if (!of && (of = sqlite3_malloc(sizeof *of)) != NULL) {
+        memset(of, 0, sizeof *of);
+        of->db = db;
+        of->point = OUTSIDE;
+        of->next = connections;
+        connections = of;
+    }
+    if (of)
+        of->uses++;
+    sqlite3_mutex_leave(mutex);
+    return of;
+}
+
+void connection_end_use(void *used) {
+    connection *of = used, **place = &connections;
+    sqlite3_mutex *mutex = sqlite3_mutex_alloc(SQLITE_MUTEX_STATIC_APP1);
+    if (--of->uses > 0)
+        return;
+    sqlite3_mutex_enter(mutex);
+    while (*place != of)
+        place = &(*place)->next;
+    *place = of->next;
+    sqlite3_mutex_leave(mutex);
+    while (of->definitions)
+        end_definition(of, &of->definitions);
+    sqlite3_free(of);
+}
+
+/* ---- Transactions ---- */
+
+/* Ends what the transaction has made since the savepoint, and has again what it has dropped since. */
+static void take_back(connection *of, int point) {
+    definition **place = &of->definitions;
+    held *it;
+    for (it = of->all; it; it = it->next)
+        part_roll_back(&it->part, point);
+    while (*place) {
+        if ((*place)->dropped_in >= point)
+            (*place)->dropped_in = NOT_NOW;
+        if ((*place)->made_in >= point)
+            end_for_good(of, place);
+        else
+            place = &(*place)->next;
+    }
+}
+
+/* Has what the transaction has made, and ends what it has dropped. */
+static void keep_all(connection *of) {
+    definition **place = &of->definitions;
+    held *it;
+    for (it = of->all; it; it = it->next)
+        part_forget(&it->part);
+    while (*place) {
+        definition *at = *place;
+        if (at->dropped_in != NOT_NOW) {
+            end_for_good(of, place);
+            continue;
+        }
+        if (at->made_in != NOT_NOW && !at->is_named)
+            shared_name(at->has->part.of);
+        at->made_in = NOT_NOW;
+        place = &at->next;
+    }
+}
+
+/* A table in temp: it has no rows. */
+typedef struct listener {
+    sqlite3_vtab base;
+    connection *of;
+} listener;
+
+static connection *heard_by(sqlite3_vtab *vtab) {
+    return ((listener *)vtab)->of;
+}
+
+static int connect_listener(sqlite3 *db, void *of, int count, const char *const *words, sqlite3_vtab **made, char **error) {
+    listener *it = sqlite3_malloc(sizeof *it);
+    int code;
+    (void)count;
+    (void)words;
+    (void)error;
+    if (!it)
+        return SQLITE_NOMEM;
+    memset(it, 0, sizeof *it);
+    code = sqlite3_declare_vtab(db, "CREATE TABLE x(ignored)");
+    if (code != SQLITE_OK || (code = sqlite3_vtab_config(db, SQLITE_VTAB_CONSTRAINT_SUPPORT, 1)) != SQLITE_OK) {
+        sqlite3_free(it);
+        return code;
+    }
+    it->of = of;
+    it->of->uses++;
+    *made = &it->base;
+    return SQLITE_OK;
+}
+
+static int begin(sqlite3_vtab *vtab) {
+    heard_by(vtab)->hears = 1;
+    heard_by(vtab)->point = OUTSIDE;
+    return SQLITE_OK;
+}
+
+/* SQLite has a table that is created take part in the transaction without a word. */
+static int create_listener(sqlite3 *db, void *of, int count, const char *const *words, sqlite3_vtab **made, char **error) {
+    int code = connect_listener(db, of, count, words, made, error);
+    return code == SQLITE_OK ? begin(*made) : code;
+}
+
+static int disconnect_listener(sqlite3_vtab *vtab) {
+    connection *of = heard_by(vtab);
+    sqlite3_free(vtab);
+    connection_end_use(of);
+    return SQLITE_OK;
+}
+
+static int refuse_drop(sqlite3_vtab *vtab) {
+    (void)vtab;
+    return SQLITE_ERROR;
+}
+
+static int refuse_query(sqlite3_vtab *vtab, sqlite3_index_info *plan) {
+    (void)vtab;
+    (void)plan;
+    return SQLITE_CONSTRAINT;
+}
+
+/* A row that is ignored is no change that SQLite counts. */
+static int ignore_row(sqlite3_vtab *vtab, int count, sqlite3_value **values, sqlite3_int64 *number) {
+    (void)vtab;
+    (void)count;
+    (void)values;
+    (void)number;
+    return SQLITE_CONSTRAINT;
+}
+
+static int end_transaction(connection *of) {
+    of->hears = 0;
+    of->point = OUTSIDE;
+    return SQLITE_OK;
+}
+
+static int commit(sqlite3_vtab *vtab) {
+    keep_all(heard_by(vtab));
+    return end_transaction(heard_by(vtab));
+}
+
+static int roll_back(sqlite3_vtab *vtab) {
+    take_back(heard_by(vtab), OUTSIDE);
+    return end_transaction(heard_by(vtab));
+}
+
+static int savepoint(sqlite3_vtab *vtab, int point) {
+    connection *of = heard_by(vtab);
+    held *it;
+    of->point = point;
+    for (it = of->all; it; it = it->next)
+        part_begin_point(&it->part, point);
+    return SQLITE_OK;
+}
+
+static int release(sqlite3_vtab *vtab, int point) {
+    connection *of = heard_by(vtab);
+    definition *at;
+    held *it;
+    of->point = point - 1;
+    for (it = of->all; it; it = it->next)
+        part_release(&it->part, point);
+    for (at = of->definitions; at; at = at->next) {
+        at->made_in = at->made_in < point ? at->made_in : of->point;
+        at->dropped_in = at->dropped_in < point ? at->dropped_in : of->point;
+    }
+    return SQLITE_OK;
+}
+
+static int roll_back_to(sqlite3_vtab *vtab, int point) {
+    heard_by(vtab)->point = point;
+    take_back(heard_by(vtab), point);
+    return SQLITE_OK;
+}
+
+static const sqlite3_module listeners = {
+    .iVersion = 2,
+    .xCreate = create_listener,
+    .xConnect = connect_listener,
+    .xBestIndex = refuse_query,
+    .xDisconnect = disconnect_listener,
+    .xDestroy = refuse_drop,
+    .xUpdate = ignore_row,
+    .xBegin = begin,
+    .xCommit = commit,
+    .xRollback = roll_back,
+    .xSavepoint = savepoint,
+    .xRelease = release,
+    .xRollbackTo = roll_back_to,
+};
+
+/* Each connection has a module of its own name, so that no other copy of this library has it. */
+static char *with_name(const char *form, const connection *of) {
+    return sqlite3_mprintf(form, (const void *)of, (const void *)of, (const void *)of);
+}
+
+int connection_listen(connection *of, sqlite3 *db) {
+    char *name = with_name("hot_transaction_%p", of);
+    int code = SQLITE_NOMEM;
+    of->uses++;
+    if (name)
+        code = sqlite3_create_module_v2(db, name, &listeners, of, connection_end_use);
+    else
+        connection_end_use(of);
+    sqlite3_free(name);
+    return code;
+}
+
+/* Hears from now on what becomes of the transaction. Two rows make it a statement that may be taken back, so that SQLite has told
+ * the table of a savepoint when it ends. */
+static int hear(connection *of, sqlite3 *db) {
+    char *sql = with_name("CREATE VIRTUAL TABLE IF NOT EXISTS temp.hot_transaction_%p USING hot_transaction_%p;"
+                          "INSERT OR IGNORE INTO temp.hot_transaction_%p VALUES (NULL), (NULL)",
+                          of);
+    int code = sql ? sqlite3_exec(db, sql, NULL, NULL, NULL) : SQLITE_NOMEM;
+    sqlite3_free(sql);
+    return code == SQLITE_OK && !of->hears ? SQLITE_ERROR : code;
+}
+
+/* ---- Tables ---- */
+
+/* The name of an index whose table says none: that of the table in its file, or in this connection's memory. */
+static char *own_name(sqlite3 *db, const table_words *words) {
+    const char *file = sqlite3_db_filename(db, words->schema);
+    if (words->name)
+        return sqlite3_mprintf("name\n%s", words->name);
+    if (file && *file)
+        return sqlite3_mprintf("file\n%d %s\n%s", (int)strlen(file), file, words->table);
+    return sqlite3_mprintf("memory\n%p\n%d %s\n%s", (void *)db, (int)strlen(words->schema), words->schema, words->table);
+}
+
+static int is_of(const definition *it, const table_words *words) {
+    size_t length = it->schema_length;
+    return strlen(words->schema) == length && memcmp(it->words, words->schema, length) == 0 &&
+           strcmp(it->words + length, words->table) == 0;
+}
+
+/* Ends definitions that the open transaction has nothing to do with: of this table, by which it had another index; and of tables
+ * that another connection has dropped. */
+static void sweep(connection *of, const table_words *words, const held *has) {
+    definition **place = &of->definitions;
+    while (*place) {
+        definition *it = *place;
+        int is_old = is_of(it, words) ? it->has != has : !it->is_named && !it->has->tables && !shared_is_named(it->has->part.of);
+        if (is_old && it->made_in == NOT_NOW && it->dropped_in == NOT_NOW)
+            end_definition(of, place);
+        else
+            place = &it->next;
+    }
+}
+
+/* The table's definition that the open transaction has made, or that has the index. */
+static definition *definition_of(connection *of, const table_words *words, const held *has) {
+    definition *it = of->definitions;
+    while (it && !(is_of(it, words) && it->dropped_in == NOT_NOW && (has ? it->has == has : it->made_in != NOT_NOW)))
+        it = it->next;
+    return it;
+}
+
+/* NULL if there is no memory. */
+static definition *define(connection *of, const table_words *words, held *has) {
+    definition *it = definition_of(of, words, has);
+    if (it || !(it = sqlite3_malloc(sizeof *it)))
+        return it;
+    memset(it, 0, sizeof *it);
+    if (!(it->words = sqlite3_mprintf("%s%s", words->schema, words->table))) {
+        sqlite3_free(it);
+        return NULL;
+    }
+    it->schema_length = strlen(words->schema);
+    it->made_in = it->dropped_in = NOT_NOW;
+    it->is_named = words->name != NULL;
+    it->has = has;
+    has->definitions++;
+    it->next = of->definitions;
+    of->definitions = it;
+    return it;
+}
+
+/* Why the table can't have the index, or NULL. */
+static char *mismatch(const table_words *words, const wanted_index *made_as) {
+    if (made_as->is_text != words->wanted.is_text)
+        return sqlite3_mprintf("hot: the index has keys of another type");
+    if ((words->has_keys && made_as->keys != words->wanted.keys) ||
+        (words->has_longest && made_as->longest != words->wanted.longest))
+        return sqlite3_mprintf("hot: the index was made with keys=%lld, longest=%lld", made_as->keys, made_as->longest);
+    return NULL;
+}
+
+/* Uses the index that the table is to have: NULL if it is refused. */
+static shared_index *index_of(sqlite3 *db, const table_words *words, int is_new, int *code, char **error) {
+    char *name = own_name(db, words);
+    shared_index *index = NULL;
+    *code = SQLITE_NOMEM;
+    if (name)
+        index = shared_use(name, words->name ? ANY_INDEX : is_new ? NEW_INDEX : SAME_INDEX, &words->wanted, code, error);
+    sqlite3_free(name);
+    if (index && (*error = mismatch(words, shared_made_as(index))) != NULL) {
+        shared_end_use(index);
+        *code = SQLITE_ERROR;
+        return NULL;
+    }
+    return index;
+}
+
+static held *join(connection *of, sqlite3 *db, const table_words *words, int is_new, int *code, char **error) {
+    shared_index *index = index_of(db, words, is_new, code, error);
+    held *has = index ? hold(of, index, code, error) : NULL;
+    definition *it;
+    if (!has)
+        return NULL;
+    if (!(it = define(of, words, has))) {
+        let_go(of, has);
+        *code = SQLITE_NOMEM;
+        return NULL;
+    }
+    if (is_new)
+        it->made_in = of->point;
+    has->tables++;
+    return has;
+}
+
+held *connection_create(connection *of, sqlite3 *db, const table_words *words, int *code, char **error) {
+    if ((*code = hear(of, db)) != SQLITE_OK)
+        return NULL;
+    sweep(of, words, NULL);
+    return join(of, db, words, 1, code, error);
+}
+
+held *connection_join(connection *of, sqlite3 *db, const table_words *words, int *code, char **error) {
+    definition *it = definition_of(of, words, NULL);
+    held *has = it ? it->has : join(of, db, words, 0, code, error);
+    if (it)
+        has->tables++;
+    if (has)
+        sweep(of, words, has);
+    return has;
+}
+
+void connection_leave(connection *of, held *has) {
+    has->tables--;
+    let_go(of, has);
+}
+
+int connection_renew(connection *of, sqlite3 *db, const table_words *words, int changes, held **has, char **error) {
+    const definition *it = definition_of(of, words, *has);
+    shared_index *index;
+    char *name;
+    held *other;
+    int code = SQLITE_OK;
+    if (words->name || (*has)->part.log.last || (it && it->made_in != NOT_NOW))
+        return SQLITE_OK;
+    if (!(name = own_name(db, words)))
+        return SQLITE_NOMEM;
+    index = shared_use(name, OLD_INDEX, &words->wanted, &code, error);
+    sqlite3_free(name);
+    if (!index && changes)
+        shared_name((*has)->part.of);
+    if (!index)
+        return SQLITE_OK;
+    if (!(other = hold(of, index, &code, error)))
+        return code;
+    if (!define(of, words, other)) {
+        let_go(of, other);
+        return SQLITE_NOMEM;
+    }
+    other->tables++;
+    connection_leave(of, *has);
+    *has = other;
+    sweep(of, words, other);
+    return SQLITE_OK;
+}
+
+int connection_drop(connection *of, sqlite3 *db, const table_words *words, held *has) {
+    int code = hear(of, db);
+    definition *it = definition_of(of, words, has);
+    if (code == SQLITE_OK && it)
+        it->dropped_in = of->point;
+    return code;
+}
+
+int connection_rename(connection *of, sqlite3 *db, const table_words *words, held *has, const char *table) {
+    table_words renamed = *words;
+    definition *it, *old = definition_of(of, words, has);
+    int code = hear(of, db);
+    renamed.table = table;
+    if (code != SQLITE_OK)
+        return code;
+    if (!(it = define(of, &renamed, has)))
+        return SQLITE_NOMEM;
+    it->made_in = of->point;
+    if (old)
+        old->dropped_in = of->point;
+    return SQLITE_OK;
+}

@@ -1,0 +1,14 @@
+/* What hot.c tells heap.c of what this thread makes. */
+#ifndef HEAP_H
+#define HEAP_H
+
+#include <stddef.h>
+
+/* Between these two calls the proved calls make handles, and a table of so many bytes, if that is not 0: what is 0 in them is to take no
+ * memory. */
+void heap_begin(size_t table);
+
+/* Returns whether the table may be used. If not, memory was refused. */
+int heap_end(void);
+
+#endif

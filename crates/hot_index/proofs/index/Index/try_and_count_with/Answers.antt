@@ -1,0 +1,12 @@
+-- What the call leaves on the seat, as the pass sees it.
+use Rattle.seat_calls.proofs.Trying.{counted_seen}
+use Rattle.hot_index.proofs.Counted.{counted_on}
+use Rattle.hot_index.proofs.index.Index.try_and_count_with.Goals as goal
+
+pub invariant_of-pass : goal.invariant_of-pass
+invariant_of-pass g c =
+    counted_on c.self.inside.table c.args.call.now c.pass.inside.seat c.try_and_count-answer.new.seat c.pass.inside.count c.note_answer.new.self c.try_and_count-answer.result
+    c.try_and_count-answer.ensures.replied c.note_answer.ensures c.pass.invariant
+
+pub returns : goal.returns
+returns g c = counted_seen c.try_and_count-answer.result c.self.view_is c.pass.view_is c.try_and_count-answer.ensures.replied c.try_and_count-answer.ensures.tried

@@ -1,0 +1,11 @@
+-- A change is counted, and a get is never refused.
+use Rattle.seat_calls.proofs.Trying.{may_count, unless_get}
+use Rattle.hot_index.proofs.index.Index.try_counted.Goals as goal
+
+pub returns-in_default : goal.returns-in_default
+returns-in_default c = record {
+  own = c.try_and_count_with.ensures.own;
+  call = c.try_and_count_with.ensures.call;
+  may = may_count c.args.call.now c.try_and_count_with.result c.in_default.not-Get c.try_and_count_with.ensures.leafless;
+  made = unless_get c.args.call.now _ _ c.in_default.not-Get c.try_and_count_with.ensures.made;
+}

@@ -1,0 +1,21 @@
+-- The node record that an index has more than it is asked for. Insertions leave one free, so that a removal finds one.
+use Rattle.std.specs.Prelude.{◌≡◌, ℕ, ◌+◌, min}
+use Rattle.record_words.specs.declared.layout.Layout.{Layout}
+use Rattle.record_words.specs.declared.layout.Stock.{Stock}
+
+-- one more, but no more than there are numbers
+abbrev pub with_one_kept : ℕ → ℕ
+with_one_kept nodes = min (nodes + 1) 4294967295
+
+abbrev pub kept_stock : Stock → Stock
+kept_stock stock = record stock { nodes = with_one_kept stock.nodes }
+
+-- the layout is as asked, but for the node record that is kept
+pub record HasOneKept (asked layout : Layout) : Type 0 where
+  pub passes : layout.passes ≡ asked.passes
+  pub nodes : layout.nodes ≡ with_one_kept asked.nodes
+  pub leaves : layout.leaves ≡ asked.leaves
+  pub medium : layout.medium_from ≡ asked.medium_from
+  pub large : layout.large_from ≡ asked.large_from
+  pub wide : layout.wide_from ≡ asked.wide_from
+  pub long : layout.long_from ≡ asked.long_from

@@ -1,0 +1,13 @@
+-- How many node records the tree takes for its keys.
+use Rattle.std.specs.Prelude.{◌≡◌, ℕ, ◌-◌, ◌≤◌, List, length, All}
+use Rattle.finite_map.specs.Fronts.{map_of}
+use Rattle.versions.specs.Core.{InTree, BareCore}
+use Rattle.versions.specs.Steps.{IsLawfulCore}
+use Rattle.versions.specs.Trades.{AreApart}
+use Rattle.versions.specs.declared.Rec.TheVariants.{Node as a_node}
+
+-- The node records in the tree, each listed once, are fewer than the keys of the map; where that has none there is none.
+abbrev pub NodesInTreeAreFewer : Type 0
+NodesInTreeAreFewer =
+    (c : BareCore) → IsLawfulCore c → (numbers : List ℕ) → AreApart numbers → All (λ n. (since : ℕ) × (c.fate (a_node n) ≡ InTree since)) numbers →
+    length numbers ≤ length (map_of c.changes) - 1
