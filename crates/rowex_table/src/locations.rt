@@ -4,7 +4,7 @@ ghost use Rattle.std.specs.Prelude.{◌≡◌};
 ghost use Rattle.rowex_core.specs.Events.{spot_word, target_word};
 ghost use Rattle.rowex_table.specs.Rule.{HasEntrySlot};
 
-use record_words::{FIRST_ENTRY, Location, STATE_OFFSET};
+use record_words::{FIRST_ENTRY, Location, STATE_OFFSET, VALUE_OFFSET};
 use rowex_core::{Spot, Target};
 
 /// The location of `spot`: the root, the word of slot 0 to 31 of a node record, or the value of a leaf record.
@@ -18,7 +18,10 @@ pub(crate) fn spot_location(spot: Spot) -> Location
             node,
             offset: FIRST_ENTRY as u8 + entry,
         },
-        Spot::Value { leaf } => Location::LeafWord { leaf, offset: 1 },
+        Spot::Value { leaf } => Location::LeafWord {
+            leaf,
+            offset: VALUE_OFFSET,
+        },
     }
 }
 

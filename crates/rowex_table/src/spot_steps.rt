@@ -14,7 +14,7 @@ ghost use Rattle.rowex_table.specs.Seats.{IsSeatOf};
 use crate::locations::{lock_location, spot_location};
 use crate::steps::Exchange;
 use crate::table::{HotTable, TableSeat};
-use record_words::{FIRST_ENTRY, Tag, pack_state};
+use record_words::{FIRST_ENTRY, Tag, VALUE_OFFSET, pack_state};
 use rowex_core::{Act, Gate, Spot, Target};
 use std::marker::Brand;
 
@@ -64,7 +64,8 @@ impl HotTable {
         ensures { Steps self.now G.becomes (LoadRef (Value leaf) result) (seat.old, gate.old) (seat.new, gate.new) }
     {
         let spot = Spot::Value { leaf };
-        self.load_word_at::<Brand, G>(seat, gate, Act::LoadRef { spot, word: 0 }, start + 1)
+        let address = start + VALUE_OFFSET as usize;
+        self.load_word_at::<Brand, G>(seat, gate, Act::LoadRef { spot, word: 0 }, address)
     }
 
     /// Locks `target`, the anchor or a node, if it is live; else its state stays. Returns the state word that it found: that of `Tag::Live`
