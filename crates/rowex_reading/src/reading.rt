@@ -20,9 +20,9 @@ use insert_cases::PathNode;
 use key_bits::{Key, MAX_BYTES};
 use record_words::{
     CACHE_LINE_WORDS, FIELDS_OFFSET, FIRST_KEY_WORD, FIRST_POSITIONS, FIRST_ROWS, HEAD_WORDS,
-    KEY_OFFSET, LENGTH_OFFSET, NODE_WORDS, ROW_WORDS, VALUE_OFFSET, count_key_words,
-    extract_dense_key, first_position_of, key_word_at, read_entry, read_numbers, read_some_entry,
-    search_row_words, write_key_word,
+    KEY_OFFSET, LENGTH_OFFSET, NODE_WORDS, ROW_WORDS, count_key_words, extract_dense_key,
+    first_position_of, key_word_at, read_entry, read_numbers, read_some_entry, search_row_words,
+    write_key_word,
 };
 use rowex_core::{Gate, Rec, Spot};
 use rowex_table::{HotTable, LeafAt, NodeAt, TableSeat};
