@@ -167,7 +167,7 @@ static uint64_t all_of(hot_states states) {
 static void read_counts(hot_handle *handle, const hot_stock *stock) {
     hot_counts counts;
     CHECK(hot_census(handle, &counts) == HOT_DONE);
-    CHECK(all_of(counts.nodes) == stock->nodes && all_of(counts.short_leaves) == stock->short_leaves);
+    CHECK(all_of(counts.nodes) == stock->nodes + 1 && all_of(counts.short_leaves) == stock->short_leaves);
     CHECK(all_of(counts.medium_leaves) == stock->medium_leaves && all_of(counts.large_leaves) == stock->large_leaves);
     CHECK(all_of(counts.wide_leaves) == stock->wide_leaves && all_of(counts.long_leaves) == stock->long_leaves);
 }

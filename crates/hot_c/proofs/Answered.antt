@@ -67,7 +67,7 @@ module _ (size : ℕ) (call : Call) (outcome : Result Reply Refusal) (status bef
   told_as new h told left = (outcome, record { index = h.index; pass = ((h.pass.call, h.pass.made), told) }, left, h.pass.may)
 
 pub told_reply : (size : ℕ) (call : Call) (outcome : Result Reply Refusal) (status before after : ℕ) (old new : HandleView) (reply : Reply) → outcome ≡ Ok reply → Stays (IsCallCounted call outcome) old new → status ≡ reply_status reply →
-    after ≡ value_after {E = Refusal} before (Ok reply) → Told size call status old new before after
+    after ≡ value_after before (Ok reply) → Told size call status old new before after
 told_reply size call outcome status before after old new reply is h told left =
     told_as size call (Ok reply) status before after old new (subst (λ (o : Result Reply Refusal). Stays (IsCallCounted call o) old new) is h) told left
 

@@ -2,6 +2,7 @@
 use Rattle.std.specs.Prelude.{ℕ, Result, Ok}
 use Rattle.finite_map.specs.declared.Reply.{Reply}
 use Rattle.finite_map.specs.declared.Reply.TheVariants.{Inserted, Exists, New, Was, Exchanged, Differs, Value, Absent, Removed}
+use Rattle.seat_calls.specs.declared.refusals.Refusal.{Refusal}
 use Rattle.hot_c.specs.declared.status.TheConstants.{FOUND, ABSENT, INSERTED, EXISTS, NEW, WAS, EXCHANGED, DIFFERS, REMOVED}
 
 abbrev pub reply_status : Reply → ℕ
@@ -16,7 +17,7 @@ reply_status (Differs value) = DIFFERS
 reply_status (Removed value) = REMOVED
 
 -- C's value after the call: that of the outcome, if it has one, and else the one before it
-abbrev pub value_after : {E : Type 0} → ℕ → Result Reply E → ℕ
+abbrev pub value_after : ℕ → Result Reply Refusal → ℕ
 value_after before (Ok (Value value)) = value
 value_after before (Ok (Exists value)) = value
 value_after before (Ok (Was value)) = value

@@ -13,6 +13,7 @@ use Rattle.rowex_table.specs.Seats.{TableView}
 use Rattle.seat_calls.specs.Answers.{IsRefused, IsScanned, MayLack, fault_of, range_from}
 use Rattle.seat_calls.specs.Passes.{PassView, AreByPasses, IsNewPass, Owns}
 use Rattle.seat_calls.specs.Traces.{HasTold}
+use Rattle.hot_index.specs.Kept.{with_one_kept}
 use Rattle.hot_scripts.specs.declared.command.Command.{Command}
 use Rattle.hot_scripts.specs.Grammar.{called_key}
 use Rattle.script_runs.specs.Answers.{Answered, called, refused, listed}
@@ -45,10 +46,10 @@ AreTold {G = G} index becomes a (answer ∷ answers) b =
 abbrev pub IsToldOf : {G : Type 0} → (G → Event → G → Type 0) → ℕ → G × G → Type 0
 IsToldOf becomes q gate = (events : List Event) × All (λ e. e.pass ≡ q) events × IsTold becomes events gate.0 gate.1
 
--- an index of so many passes, and of so many node and leaf records, each of which has room for each key
+-- an index of so many passes, of so many node records and the one that is kept, and of so many leaf records, each of which has room for each key
 pub record IsOfSize (passes nodes leaves : ℕ) (index : TableView) : Type 0 where
   pub passes_are : index.layout.passes ≡ passes
-  pub nodes_are : index.layout.nodes ≡ nodes
+  pub nodes_are : index.layout.nodes ≡ with_one_kept nodes
   pub leaves_are : index.layout.leaves ≡ leaves
   pub all_long : index.layout.long_from ≡ 0
 
@@ -56,10 +57,11 @@ pub record IsOfSize (passes nodes leaves : ℕ) (index : TableView) : Type 0 whe
 abbrev pub HasRoomFor : Layout → Command → Type 0
 HasRoomFor layout command = (leaf : ℕ) → leaf < layout.leaves → words_for (length (called_key command)) ≤ leaf_size layout leaf
 
--- an index of so many passes, and of so many node and leaf records, each of which has room for the key of each of these calls
+-- an index of so many passes, of so many node records and the one that is kept, and of so many leaf records, each of which has room for the key
+-- of each of these calls
 pub record IsSizedFor (commands : List Command) (passes nodes leaves : ℕ) (index : TableView) : Type 0 where
   pub passes_are : index.layout.passes ≡ passes
-  pub nodes_are : index.layout.nodes ≡ nodes
+  pub nodes_are : index.layout.nodes ≡ with_one_kept nodes
   pub leaves_are : index.layout.leaves ≡ leaves
   pub room : All (HasRoomFor index.layout) commands
 

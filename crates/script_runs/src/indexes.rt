@@ -6,6 +6,7 @@ ghost use Rattle.record_words.specs.declared.layout.Layout.{Layout};
 ghost use Rattle.record_words.specs.Layout.{HasStock, leaf_size, leaves_of};
 ghost use Rattle.record_words.specs.Leaf.{words_for};
 ghost use Rattle.record_words.specs.Limits.{IsLeafCount, IsNodeCount};
+ghost use Rattle.hot_index.specs.Kept.{kept_stock};
 ghost use Rattle.hot_scripts.specs.declared.script.TheConstants.{MAX_FILES};
 ghost use Rattle.hot_scripts.specs.Parses.{script_commands};
 ghost use Rattle.script_runs.specs.Progress.{IsNewPassOf};
@@ -54,7 +55,7 @@ pub fn create_index_for_script(
 fn choose_stock(records: Records, longest: usize) -> Stock
     ensures nodes { result.nodes ≡ records.nodes }
     ensures leaves { leaves_of result ≡ records.leaves }
-    ensures room { (layout : Layout) (leaf bytes : ℕ) → HasStock layout result → leaf < layout.leaves →
+    ensures room { (layout : Layout) (leaf bytes : ℕ) → HasStock layout (kept_stock result) → leaf < layout.leaves →
         bytes ≤ longest → bytes ≤ MAX_BYTES → words_for bytes ≤ leaf_size layout leaf }
 {
     Stock::of_class(records.nodes, LeafClass::for_key(longest), records.leaves)
