@@ -8,8 +8,6 @@ mod claims;
 #[cfg(test)]
 mod closed;
 #[cfg(test)]
-mod full;
-#[cfg(test)]
 mod refused;
 #[cfg(test)]
 mod shared;
