@@ -1,10 +1,10 @@
-/* Measures the index beside a B-tree under a lock: the time of each kind of work, with keys of three kinds. What was measured goes to
+/* Measures the index beside other maps (bench/maps.c): the time of each kind of work, with keys of three kinds. What was measured goes to
  * standard output, in lines of which bench/table.py makes tables, and how far the run is to standard error. Each repetition is a
- * process of its own, of one map and then of the other. bench/run builds and runs it: with TREE defined there is the tree of
- * bench/tree.rs, else the index is alone; and where LONG is 1 the index is as hot_create makes it. */
+ * process of its own, of one map and then of the next. bench/run builds and runs it; where LONG is 1 the index is as hot_create makes
+ * it. */
 #include "keys.h"
+#include "map.h"
 #include <pthread.h>
-#include <sched.h>
 #include <stdatomic.h>
 #include <sys/wait.h>
 #include <unistd.h>
@@ -12,7 +12,10 @@
 #ifndef LONG
 #define LONG 0
 #endif
-enum { THREADS = 4, HANDLES = LONG ? 64 : THREADS + 1, MEASURED = 3, MAPS = 2 };
+#ifndef REPETITIONS
+#define REPETITIONS 20
+#endif
+enum { THREADS = 4, HANDLES = LONG ? 64 : THREADS + 1, MEASURED = 3 };
 
 /* How many keys a thread makes at a time, while its time doesn't count; several threads make all that they use before they begin. */
 enum { BATCH = 1024, MOST_OWN = 1 << 16 };
@@ -21,9 +24,8 @@ enum { BATCH = 1024, MOST_OWN = 1 << 16 };
  * calls there is one. */
 enum { FEWEST_KEYS = 100, MOST_KEYS = 20000000, MOST_CALLS = 1000000, PAGE = 100, STRIDE = 20 };
 
-/* How long several threads work at a time, in milliseconds; how many keys of its own a thread has taken out where they come and go;
- * and how often a call is made again that found the index full. */
-enum { SLOT = 100, WINDOW = 1000, MOST_TRIES = 1000000 };
+/* How long several threads work at a time, in milliseconds, and how many keys of its own a thread has taken out where they come and go. */
+enum { SLOT = 100, WINDOW = 1000 };
 
 /* The works, in their order: inserts of the first tenth of the keys, of those between, and of the last tenth; look-ups of stored keys
  * and of others; upserts; scans; several threads that look up, with so many upserts of a hundred calls; removals; and several threads
@@ -31,12 +33,6 @@ enum { SLOT = 100, WINDOW = 1000, MOST_TRIES = 1000000 };
 enum { FIRST, INSERTS, LAST, HITS, MISSES, UPSERTS, SCANS, SHARE_0, SHARE_5, SHARE_50, REMOVALS, CHURN, WORKS };
 static const char *const work_names[WORKS] = { "first", "inserts", "last", "hits", "misses", "upserts", "scans", "0%", "5%", "50%",
     "removals", "churn" };
-
-/* A key; its value is its number. */
-typedef struct key {
-    const uint8_t *bytes;
-    uint32_t length, number;
-} key;
 
 /* Some keys, and the memory of their bytes. */
 typedef struct keys {
@@ -62,19 +58,6 @@ typedef struct report {
     uint32_t nodes;
 } report;
 
-/* A map to the measurements. A hand is what one thread uses it by: each call answers whether the key had a value, and writes it. */
-typedef struct map {
-    const char *name;
-    void (*make)(const hot_stock *stock, void **hands);
-    void (*end)(void **hands);
-    uint32_t (*nodes)(void *hand);
-    int (*look_up)(void *hand, const key *key, uint64_t *had);
-    int (*insert)(void *hand, const key *key, uint64_t *had);
-    int (*upsert)(void *hand, const key *key, uint64_t *had);
-    int (*take_out)(void *hand, const key *key, uint64_t *had);
-    size_t (*list)(void *hand, const key *from, uint8_t *bytes, hot_head *heads);
-} map;
-
 static void fail(const char *what)
 {
     fprintf(stderr, "index: %s\n", what);
@@ -89,161 +72,6 @@ static void *room_for(size_t count, size_t size)
     }
     return room;
 }
-
-/* The index as a map: a hand is a handle. */
-
-static void index_make(const hot_stock *stock, void **hands)
-{
-    static hot_handle handles[HANDLES];
-    int place;
-    must(hot_create_with(stock, handles, HANDLES), HOT_DONE);
-    for (place = 0; place < HANDLES; place++) {
-        hands[place] = &handles[place];
-    }
-}
-
-static void index_end(void **hands)
-{
-    int place;
-    for (place = 0; place < HANDLES; place++) {
-        must(hot_destroy(hands[place]), HOT_DONE);
-    }
-}
-
-static uint32_t index_nodes(void *hand)
-{
-    hot_counts counts;
-    must(hot_census(hand, &counts), HOT_DONE);
-    return counts.nodes.live;
-}
-
-static int index_look_up(void *hand, const key *key, uint64_t *had)
-{
-    return hot_get(hand, key->bytes, key->length, had) == HOT_FOUND;
-}
-
-/* Whether a call is to be made again: other threads' calls hold back the records that it lacks. */
-static int is_full(hot_status status, int *tries)
-{
-    if (status != HOT_FULL_NODES && status != HOT_FULL_LEAVES) {
-        return 0;
-    }
-    if (++*tries > MOST_TRIES) {
-        fail("the index stays full");
-    }
-    sched_yield();
-    return 1;
-}
-
-static int index_insert(void *hand, const key *key, uint64_t *had)
-{
-    hot_status status;
-    int tries = 0;
-    do {
-        status = hot_insert(hand, key->bytes, key->length, key->number, had);
-    } while (is_full(status, &tries));
-    return status == HOT_EXISTS;
-}
-
-static int index_upsert(void *hand, const key *key, uint64_t *had)
-{
-    hot_status status;
-    int tries = 0;
-    do {
-        status = hot_upsert(hand, key->bytes, key->length, key->number, had);
-    } while (is_full(status, &tries));
-    return status == HOT_WAS;
-}
-
-static int index_take_out(void *hand, const key *key, uint64_t *had)
-{
-    hot_status status;
-    int tries = 0;
-    do {
-        status = hot_remove(hand, key->bytes, key->length, had);
-    } while (is_full(status, &tries));
-    return status == HOT_REMOVED;
-}
-
-static size_t index_list(void *hand, const key *from, uint8_t *bytes, hot_head *heads)
-{
-    static const uint8_t last[9] = { 255, 255, 255, 255, 255, 255, 255, 255, 255 };
-    size_t count;
-    uint32_t more;
-    must(hot_scan_packed(hand, from->bytes, from->length, last, sizeof last, bytes, PAGE * LONGEST, heads, PAGE, &count, &more),
-         HOT_DONE);
-    return count;
-}
-
-static const map index_map = { "index", index_make, index_end, index_nodes, index_look_up, index_insert, index_upsert, index_take_out,
-    index_list };
-
-#ifdef TREE
-
-/* The tree as a map: each hand is the tree. */
-
-void *tree_create(void);
-void tree_destroy(void *tree);
-int tree_get(void *tree, const uint8_t *key, size_t length, uint64_t *had);
-int tree_insert(void *tree, const uint8_t *key, size_t length, uint64_t value, uint64_t *had);
-int tree_upsert(void *tree, const uint8_t *key, size_t length, uint64_t value, uint64_t *had);
-int tree_remove(void *tree, const uint8_t *key, size_t length, uint64_t *had);
-size_t tree_scan(void *tree, const uint8_t *from, size_t length, uint8_t *bytes, hot_head *heads, size_t limit);
-
-static void tree_make(const hot_stock *stock, void **hands)
-{
-    int place;
-    (void)stock;
-    hands[0] = tree_create();
-    for (place = 1; place < HANDLES; place++) {
-        hands[place] = hands[0];
-    }
-}
-
-static void tree_end(void **hands)
-{
-    tree_destroy(hands[0]);
-}
-
-static uint32_t tree_nodes(void *hand)
-{
-    (void)hand;
-    return 0;
-}
-
-static int tree_look_up(void *hand, const key *key, uint64_t *had)
-{
-    return tree_get(hand, key->bytes, key->length, had);
-}
-
-static int tree_put_in(void *hand, const key *key, uint64_t *had)
-{
-    return tree_insert(hand, key->bytes, key->length, key->number, had);
-}
-
-static int tree_put(void *hand, const key *key, uint64_t *had)
-{
-    return tree_upsert(hand, key->bytes, key->length, key->number, had);
-}
-
-static int tree_take_out(void *hand, const key *key, uint64_t *had)
-{
-    return tree_remove(hand, key->bytes, key->length, had);
-}
-
-static size_t tree_list(void *hand, const key *from, uint8_t *bytes, hot_head *heads)
-{
-    return tree_scan(hand, from->bytes, from->length, bytes, heads, PAGE);
-}
-
-static const map tree_map = { "tree", tree_make, tree_end, tree_nodes, tree_look_up, tree_put_in, tree_put, tree_take_out, tree_list };
-static const map *const maps[MAPS] = { &index_map, &tree_map };
-
-#else
-
-static const map *const maps[MAPS] = { &index_map, NULL };
-
-#endif
 
 /* The number of the key of a turn: stored ones are inserted from 0 on, and those behind them are not stored. Turns go round and round. */
 static uint32_t number_of(const load *load, int work, uint32_t turn)
@@ -296,7 +124,7 @@ static void list_page(const map *map, void *hand, const key *from, uint64_t *che
 {
     static uint8_t bytes[PAGE * LONGEST];
     static hot_head heads[PAGE];
-    size_t count = map->list(hand, from, bytes, heads), place;
+    size_t count = map->list(hand, from, bytes, heads, PAGE), place;
     for (place = 0; place < count; place++) {
         add_answer(checksum, 1, heads[place].value);
     }
@@ -442,14 +270,15 @@ static void work_together(const map *map, void **hands, const load *load, int wo
     pthread_barrier_destroy(&gate);
 }
 
-/* Does each work once: all but the last with a map of this stock. The last is done with one that has room for keys that come and go. */
+/* Does each work once that the map does: all but the last with a map of this stock. The last is done with one that has room for keys that
+ * come and go. */
 static void measure(const map *map, const load *load, const hot_stock *stock, const hot_stock *roomy, report *told)
 {
     uint32_t count = load->count, calls = count < MOST_CALLS ? count : MOST_CALLS, tenth = count / 10;
     void *hands[HANDLES];
     rate *rates = told->rates, filling = { 0, 0, 0, 0 };
     int work;
-    map->make(stock, hands);
+    map->make(stock, hands, HANDLES);
     work_alone(map, hands[THREADS], load, FIRST, 0, tenth, &rates[FIRST]);
     work_alone(map, hands[THREADS], load, INSERTS, tenth, count - tenth, &rates[INSERTS]);
     work_alone(map, hands[THREADS], load, LAST, count - tenth, count, &rates[LAST]);
@@ -459,10 +288,13 @@ static void measure(const map *map, const load *load, const hot_stock *stock, co
     for (work = SHARE_0; work <= SHARE_50; work++) {
         work_together(map, hands, load, work, &rates[work]);
     }
-    told->nodes = map->nodes(hands[THREADS]);
+    told->nodes = map->nodes ? map->nodes(hands[THREADS]) : 0;
+    if (!map->take_out) {
+        return;
+    }
     work_alone(map, hands[THREADS], load, REMOVALS, 0, calls, &rates[REMOVALS]);
-    map->end(hands);
-    map->make(roomy, hands);
+    map->end(hands, HANDLES);
+    map->make(roomy, hands, HANDLES);
     work_alone(map, hands[THREADS], load, INSERTS, 0, count, &filling);
     work_together(map, hands, load, CHURN, &rates[CHURN]);
 }
@@ -542,7 +374,32 @@ static uint32_t *order_of(uint32_t count)
     return order;
 }
 
-/* Measures both maps with so many keys of a kind, in turn, and prints a line for each rate. Answers a checksum of all answers. */
+/* Measures a map once, and prints a line for each rate. Returns a checksum of its answers, which are to be those of the index: of the
+ * works that it does, and of single threads. */
+static uint64_t measure_map(const map *map, const load *load, const hot_stock *stock, const hot_stock *roomy, report *index)
+{
+    report told;
+    uint64_t checksum = 0;
+    int work;
+    measure_apart(map, load, stock, roomy, &told);
+    if (map == maps[0]) {
+        *index = told;
+    }
+    for (work = 0; work < WORKS; work++) {
+        const rate *it = &told.rates[work];
+        if (it->calls == 0) {
+            continue;
+        }
+        printf("rate %s %s %llu %.0f %.0f\n", map->name, work_names[work], (unsigned long long)it->calls, 1e9 * it->used, 1e9 * it->passed);
+        if (it->checksum != index->rates[work].checksum) {
+            fail("two maps gave different answers");
+        }
+        checksum = checksum * 31 + it->checksum;
+    }
+    return checksum;
+}
+
+/* Measures all maps with so many keys of a kind, in turn, REPETITIONS times at most. Returns a checksum of all answers. */
 static uint64_t measure_load(int kind, uint32_t count)
 {
     load load = { kind, count, order_of(count) };
@@ -550,8 +407,9 @@ static uint64_t measure_load(int kind, uint32_t count)
     size_t longest = fit(&load, &stock), fitting, safe;
     uint32_t repetition, repetitions = count > 1000000 ? 1 : count > 100000 ? 2000000 / count : 20;
     uint64_t checksum = 0;
-    report told[MAPS];
-    int place, work;
+    report index;
+    int place;
+    memset(&index, 0, sizeof index);
     hot_stock_for_keys(count, longest, &roomy);
     lengthen(&stock);
     lengthen(&roomy);
@@ -559,21 +417,12 @@ static uint64_t measure_load(int kind, uint32_t count)
     must(hot_stock_bytes(&roomy, HANDLES, &safe), HOT_DONE);
     printf("column %u %zu %zu\nstock %u %u %u %u %u %u\n", count, fitting, safe, stock.nodes, stock.short_leaves, stock.medium_leaves,
            stock.large_leaves, stock.wide_leaves, stock.long_leaves);
-    for (repetition = 0; repetition < repetitions; repetition++) {
-        for (place = 0; place < MAPS && maps[place]; place++) {
-            measure_apart(maps[place], &load, &stock, &roomy, &told[place]);
-            for (work = 0; work < WORKS; work++) {
-                const rate *it = &told[place].rates[work];
-                printf("rate %s %s %llu %.0f %.0f\n", maps[place]->name, work_names[work], (unsigned long long)it->calls,
-                       1e9 * it->used, 1e9 * it->passed);
-                if (it->checksum != told[0].rates[work].checksum) {
-                    fail("the index and the B-tree gave different answers");
-                }
-                checksum = checksum * 31 + it->checksum;
-            }
+    for (repetition = 0; repetition < repetitions && repetition < REPETITIONS; repetition++) {
+        for (place = 0; maps[place]; place++) {
+            checksum = checksum * 31 + measure_map(maps[place], &load, &stock, &roomy, &index);
         }
     }
-    printf("nodes %u\n", told[0].nodes);
+    printf("nodes %u\n", index.nodes);
     free(load.order);
     return checksum;
 }
@@ -600,7 +449,6 @@ int main(int words, char **word)
             checksum = checksum * 31 + measure_load(kind, (uint32_t)strtoull(word[place], NULL, 10));
         }
     }
-    printf("the %s, checksum %016llx\n", maps[1] ? "index and the B-tree gave the same answers" : "index gave its answers",
-           (unsigned long long)checksum);
+    printf("the %s, checksum %016llx\n", maps[1] ? "maps gave the same answers" : "index gave its answers", (unsigned long long)checksum);
     return 0;
 }
