@@ -1,0 +1,71 @@
+"""Draws how the times of calls are to those of other maps: bars on a logarithmic scale, with a line at 1. bench/pages uses it."""
+from math import log
+
+# The height of a bar, where the bars begin and end, where their figures begin, and how wide all is.
+BAR, LEFT, RIGHT, FIGURES, WIDE = 14, 160, 570, 582, 720
+COLOURS = ["#4a8fe7", "#e08e2b", "#3f9d6b"]
+GREY = "#767676"
+
+# Where the scale may begin and end, and has lines.
+TICKS = [0.01, 0.02, 0.05, 0.1, 0.2, 0.5, 1, 2, 5, 10, 20, 50, 100]
+
+
+class Scale:
+    """The scale on which all these figures lie."""
+
+    def __init__(self, figures: list):
+        least = max(it for it in TICKS if it < min(figures))
+        most = min(it for it in TICKS if it > max(figures))
+        self.ticks = [it for it in TICKS if least <= it <= most]
+
+    def at(self, figure: float) -> float:
+        """How far to the right a figure stands."""
+        low, high = log(self.ticks[0]), log(self.ticks[-1])
+        return LEFT + (log(figure) - low) / (high - low) * (RIGHT - LEFT)
+
+
+def text_at(x: float, y: float, words: str, anchor: str = "start") -> str:
+    return f'<text x="{x:.0f}" y="{y:.0f}" text-anchor="{anchor}">{words}</text>'
+
+
+def bar_at(x: float, y: float, width: float, height: float, colour: str) -> str:
+    return f'<rect x="{x:.1f}" y="{y:.1f}" width="{width:.1f}" height="{height:g}" fill="{colour}"/>'
+
+
+def line_at(x: float, top: int, bottom: int, rest: str) -> str:
+    return f'<path d="M{x:.1f} {top}V{bottom}" stroke="{GREY}" {rest}/>'
+
+
+def legend(series: list, y: int) -> list:
+    """What the colours tell, and the thin line."""
+    parts, x = [], LEFT
+    for colour, name in zip(COLOURS, series):
+        parts += [bar_at(x, y - 10, 10, 10, colour), text_at(x + 15, y, name)]
+        x += 34 + 7 * len(name)
+    return parts
+
+
+def chart(lines: list, series: list, rows: list) -> str:
+    """Bars with a thin line to a worst figure. `lines` is what stands above them; `series` names the bars of a group; a row has a name, and
+    for each bar its figure with the worst one, or None."""
+    scale = Scale([it for _, pairs in rows for pair in pairs if pair for it in pair])
+    top = 18 * len(lines) + 36
+    step = BAR * len(series) + 10
+    bottom = top + step * len(rows)
+    parts = [text_at(8, 18 * place + 16, words) for place, words in enumerate(lines)] + legend(series, top - 14)
+    parts += [line_at(scale.at(it), top - 6, bottom, 'stroke-opacity="0.25"') for it in scale.ticks]
+    for place, (name, pairs) in enumerate(rows):
+        begin = top + step * place
+        parts.append(text_at(LEFT - 8, begin + (BAR * len(series) + 7) / 2, name, "end"))
+        for y, colour, pair in zip(range(begin, bottom, BAR), COLOURS, pairs):
+            if pair:
+                figure, worst = scale.at(pair[0]), scale.at(pair[1])
+                parts.append(bar_at(LEFT, y, figure - LEFT, BAR - 1, colour))
+                parts.append(bar_at(figure, y + BAR / 2 - 1, worst - figure, 1.5, colour))
+                parts.append(text_at(FIGURES, y + BAR - 3, f"{pair[0]:.2f}, worst {pair[1]:.2f}"))
+    parts.append(line_at(scale.at(1), top - 6, bottom, 'stroke-width="1.5" stroke-dasharray="4 3"'))
+    parts += [text_at(scale.at(it), bottom + 14, f"{it:g}", "middle") for it in scale.ticks]
+    style = f"text{{font:12px sans-serif;fill:{GREY}}}@media(prefers-color-scheme:dark){{text{{fill:#b8b8b8}}}}"
+    size = f'width="{WIDE}" height="{bottom + 22}" viewBox="0 0 {WIDE} {bottom + 22}"'
+    head = f'<svg xmlns="http://www.w3.org/2000/svg" {size} role="img">'
+    return "\n".join([head, f"<title>{' '.join(lines)}</title>", f"<style>{style}</style>", *parts, "</svg>", ""])
