@@ -1,10 +1,9 @@
 #!/usr/bin/env python3
 """Makes a table of the lines that bench/churn.c writes, as they come on standard input: the keys for each node, fresh and over the turns,
 how look-ups are then beside a fresh index, and how often a call was refused. Behind these: the keys for each node when one in a hundred
-is left, and the most nodes after times up and down between a tenth and all, beside a fresh index's.
-
-usage: churn.py FILE     FILE is to be a CSV of the same figures: bench/pages reads such
+is left, and the most nodes after times up and down between a tenth and all, beside a fresh index's. Of the same figures it makes a CSV.
 """
+import argparse
 import csv
 import sys
 
@@ -22,10 +21,10 @@ def show(row: list) -> None:
 
 
 def main() -> None:
-    if len(sys.argv) != 2:
-        sys.exit(__doc__)
+    words = argparse.ArgumentParser(description=__doc__)
+    words.add_argument("file", metavar="FILE", help="the CSV, which bench/pages reads")
     begins, row = origin(), []
-    with open(sys.argv[1], "w", newline="") as file:
+    with open(words.parse_args().file, "w", newline="") as file:
         rows = csv.writer(file, lineterminator="\n")
         rows.writerow(FIELDS)
 

@@ -1,11 +1,10 @@
 #!/usr/bin/env python3
 """Makes tables of the lines that bench/index.c writes, as they come on standard input: for each kind of keys the nanoseconds of a call of
 the index and of the B-tree in the repetition that was disturbed least, how the first is to the second, and how their medians are, for
-each number of keys.
-
-usage: table.py [FILE RECORDS]     FILE is to be a CSV of the medians, with RECORDS (fit or long) in each row; room.csv beside it is to be
-                                   one of what the index takes, if RECORDS is fit. bench/pages reads such
+each number of keys. Of the medians it makes a CSV, which bench/pages reads, and of what the index takes another, room.csv beside it, if the
+records fit.
 """
+import argparse
 import csv
 import os
 import statistics
@@ -142,13 +141,17 @@ def show(title: str, columns: list) -> None:
 
 
 def main() -> None:
+    words = argparse.ArgumentParser(description=__doc__)
+    words.add_argument("file", type=Path, nargs="?", metavar="FILE", help="the CSV of the medians; without it there is none")
+    words.add_argument("records", choices=["fit", "long"], nargs="?", default="fit", metavar="RECORDS", help="fit or long: stands in each row (fit)")
+    given = words.parse_args()
     title, columns = "", []
-    file, room, begins = None, None, []
-    if len(sys.argv) == 3:
-        file, begins = open(sys.argv[1], "w", newline=""), [*origin(), sys.argv[2]]
+    file, room, begins = None, None, [*origin(), given.records]
+    if given.file:
+        file = open(given.file, "w", newline="")
         csv.writer(file, lineterminator="\n").writerow(FIELDS)
-    if begins[-1:] == ["fit"]:
-        room = open(Path(sys.argv[1]).with_name("room.csv"), "w", newline="")
+    if file and given.records == "fit":
+        room = open(given.file.with_name("room.csv"), "w", newline="")
         csv.writer(room, lineterminator="\n").writerow(ROOM)
     for line in sys.stdin:
         word, *words = line.split()
