@@ -1,7 +1,7 @@
 #include "hot.hpp"
 #include <iostream>
 int main() {
-    hot::index index(100000, 24); // so many keys of up to 24 bytes
+    hot::index index(100000, 24); // room for 100,000 keys of up to 24 bytes
     hot::handle h = index.open(); // each thread has a handle of its own
     if (h.upsert("pear", 3).is_refused()) return 1;
     if (const auto value = h.get("pear")) std::cout << *value << '\n';
