@@ -1,11 +1,10 @@
-// ART with optimistic lock coupling: Leis, Scheibner, Kemper, Neumann, "The ART of Practical Synchronization" (DaMoN 2016), over
-// Leis, Kemper, Neumann, "The Adaptive Radix Tree" (ICDE 2013).
+// An adaptive radix tree with optimistic lock coupling: Leis, Scheibner, Kemper, Neumann, "The ART of Practical Synchronization" (DaMoN
+// 2016), over Leis, Kemper, Neumann, "The Adaptive Radix Tree" (ICDE 2013).
 //
-// Nodes of 4, 16, 48 and 256 children; path compression: up to STORED bytes of a prefix are in the node, longer ones are completed from
-// a leaf below by writers and scans and skipped by look-ups, which compare the whole key at the leaf. Keys are any bytes: a node has
-// besides its children a slot for the key that ends there (the terminator, so that no key is a prefix of another). Values are 64-bit
-// words in leaf objects {value, length, key}, changed in place by one atomic store. Removals shrink nodes and merge paths. Memory is
-// reclaimed by three epochs, a slot for each thread.
+// A node has 4, 16, 48 or 256 children. Paths are compressed: up to STORED bytes of a node's prefix stand in it. Writers and scans take
+// the rest of a longer one from a leaf below; look-ups skip it, and compare the whole key at the leaf. Keys are any bytes: besides its
+// children a node has a place for the key that ends there. Values are words in leaves {value, length, key}, changed by one atomic store.
+// Removals shrink nodes, and join a node with its only child. Memory comes back by three epochs, with a seat for each thread.
 #ifndef BENCH_ART_HPP
 #define BENCH_ART_HPP
 
@@ -23,747 +22,759 @@
 #include <utility>
 
 namespace art {
-struct leaf {
-    std::atomic<uint64_t> v;
-    uint32_t len;
-    uint8_t key[];
-    bool is(const uint8_t *k, size_t n) const { return len == n && !memcmp(key, k, n); }
-};
-typedef uintptr_t ref;  // 0, a node, or a leaf | 1
-inline bool is_leaf(ref r) { return r & 1; }
-inline leaf *as_leaf(ref r) { return (leaf *)(r & ~(ref)1); }
-inline ref to(leaf *l) { return (ref)l | 1; }
 
-enum kind : uint8_t { N4, N16, N48, N256 };
+constexpr auto relaxed = std::memory_order_relaxed;
+constexpr auto acquire = std::memory_order_acquire;
+
+struct leaf {
+    std::atomic<uint64_t> value;
+    uint32_t length;
+    uint8_t key[];
+
+    bool has(const uint8_t *bytes, size_t count) const { return length == count && !std::memcmp(key, bytes, count); }
+};
+
+struct node;
+
+// What a node names: nothing (0), a node, or a leaf with its lowest bit set.
+using link = uintptr_t;
+inline bool is_leaf(link it) { return it & 1; }
+inline leaf *leaf_of(link it) { return reinterpret_cast<leaf *>(it & ~link{1}); }
+inline node *node_of(link it) { return reinterpret_cast<node *>(it); }
+inline link link_to(leaf *it) { return reinterpret_cast<link>(it) | 1; }
+inline link link_to(node *it) { return reinterpret_cast<link>(it); }
+
+using slot = std::atomic<link>;
+inline link load(const slot &it) { return it.load(relaxed); }
+inline void store(slot &it, link to) { it.store(to, relaxed); }
+
+enum kind : uint8_t { OF_4, OF_16, OF_48, OF_256 };
+constexpr int ROOM[] = {4, 16, 48, 257};
 enum { STORED = 11, SPINS = 64 };
 enum : uint64_t { OBSOLETE = 1, LOCKED = 2 };
 
-inline void relax(unsigned &spins) {
-    if (++spins < SPINS)
-        _mm_pause();
-    else {
-        spins = 0;
-        sched_yield();
-    }
-}
-
+// What all nodes begin with. A function that changes a node is called under its lock; what one reads without it counts only if the version
+// is still the one that was seen before.
 struct node {
     std::atomic<uint64_t> version{4};
-    std::atomic<leaf *> term{nullptr};  // the key that ends here
-    uint16_t plen = 0;                  // length of the prefix
-    uint16_t count = 0;                 // children without term
+    std::atomic<leaf *> ending{nullptr};
+    uint16_t prefix_length = 0, count = 0;
     kind type;
     uint8_t prefix[STORED];
-    node(kind t) : type(t) {}
 
-    // An even version whose node is neither locked nor obsolete; false if it is obsolete.
-    bool read(uint64_t &v) {
+    explicit node(kind type) : type(type) {}
+
+    // Waits until the node isn't locked, and tells its version; false if it is obsolete.
+    bool read(uint64_t &seen) {
         unsigned spins = 0;
-        while ((v = version.load(std::memory_order_acquire)) & LOCKED) relax(spins);
-        return !(v & OBSOLETE);
+        while ((seen = version.load(acquire)) & LOCKED) {
+            if (++spins % SPINS == 0)
+                sched_yield();
+            else
+                _mm_pause();
+        }
+        return !(seen & OBSOLETE);
     }
-    bool still(uint64_t v) {
-        std::atomic_thread_fence(std::memory_order_acquire);
-        return version.load(std::memory_order_relaxed) == v;
+    bool is_still(uint64_t seen) {
+        std::atomic_thread_fence(acquire);
+        return version.load(relaxed) == seen;
     }
-    bool lock(uint64_t v) { return version.compare_exchange_strong(v, v + LOCKED); }
+    bool lock(uint64_t seen) { return version.compare_exchange_strong(seen, seen + LOCKED); }
     void unlock() { version.fetch_add(LOCKED); }
-    void unlock_obsolete() { version.fetch_add(LOCKED | OBSOLETE); }
+    void unlock_as_obsolete() { version.fetch_add(LOCKED | OBSOLETE); }
 
-    inline ref child(uint8_t b) const;
-    inline bool full() const;
-    inline void add(uint8_t b, ref r);     // locked, not full, b absent
-    inline void change(uint8_t b, ref r);  // locked, b present
-    inline void drop(uint8_t b);           // locked, b present
-    // Up to `room` children with bytes from `from` on, in order; their bytes too.
-    inline int some(unsigned from, int room, ref *r, uint8_t *b) const;
+    bool is_full() const { return count == ROOM[type]; }
+    inline link child(uint8_t byte) const;
+    // Adds a child whose byte is absent; there is room. Exchanges, removes one whose byte is there.
+    inline void add(uint8_t byte, link to);
+    inline void exchange(uint8_t byte, link to);
+    inline void remove(uint8_t byte);
+    // The first children with bytes from `from` on, `most` of them: how many there are.
+    inline int children(unsigned from, int most, link *links, uint8_t *bytes) const;
 };
-typedef std::atomic<ref> slot;
-inline ref get(const slot &s) { return s.load(std::memory_order_relaxed); }
-inline void set(slot &s, ref r) { s.store(r, std::memory_order_relaxed); }
 
-struct node4 : node {
-    uint8_t keys[4];
-    slot at[4];
-    node4() : node(N4) {
-        for (auto &s : at) set(s, 0);
-        memset(keys, 0, sizeof keys);
+// The bytes of children, rising, and their links.
+template <int N, kind K> struct sorted_node : node {
+    uint8_t bytes[N] = {};
+    slot links[N] = {};
+
+    sorted_node() : node(K) {}
+
+    unsigned number() const { return std::min<unsigned>(count, N); }
+    // The place of a byte, or N if it has none.
+    unsigned place(uint8_t byte) const {
+        if constexpr (N == 16) {
+            const __m128i all = _mm_loadu_si128(reinterpret_cast<const __m128i *>(bytes));
+            const unsigned found = _mm_movemask_epi8(_mm_cmpeq_epi8(_mm_set1_epi8(static_cast<char>(byte)), all)) & ((1u << number()) - 1);
+            return found ? __builtin_ctz(found) : N;
+        }
+        for (unsigned at = 0; at < number(); at++) {
+            if (bytes[at] == byte) return at;
+        }
+        return N;
+    }
+    link child_of(uint8_t byte) const {
+        const unsigned at = place(byte);
+        return at < N ? load(links[at]) : 0;
+    }
+    void add_child(uint8_t byte, link to) {
+        int at = count;
+        for (; at > 0 && bytes[at - 1] > byte; at--) {
+            bytes[at] = bytes[at - 1];
+            store(links[at], load(links[at - 1]));
+        }
+        bytes[at] = byte;
+        store(links[at], to);
+        count++;
+    }
+    void remove_child(uint8_t byte) {
+        unsigned at = place(byte);
+        for (count--; at < count; at++) {
+            bytes[at] = bytes[at + 1];
+            store(links[at], load(links[at + 1]));
+        }
+    }
+    int children_from(unsigned from, int most, link *to, uint8_t *to_bytes) const {
+        int found = 0;
+        for (unsigned at = 0; at < number() && found < most; at++) {
+            if (bytes[at] < from) continue;
+            to_bytes[found] = bytes[at];
+            to[found++] = load(links[at]);
+        }
+        return found;
     }
 };
-struct node16 : node {
-    uint8_t keys[16];
-    slot at[16];
-    node16() : node(N16) {
-        for (auto &s : at) set(s, 0);
-        memset(keys, 0, sizeof keys);
+using node4 = sorted_node<4, OF_4>;
+using node16 = sorted_node<16, OF_16>;
+
+// The children of a node that finds each by its byte.
+template <class N> inline int children_by_byte(const N *it, unsigned from, int most, link *to, uint8_t *to_bytes) {
+    int found = 0;
+    for (unsigned byte = from; byte < 256 && found < most; byte++) {
+        if (const link child = it->child_of(static_cast<uint8_t>(byte))) {
+            to_bytes[found] = static_cast<uint8_t>(byte);
+            to[found++] = child;
+        }
     }
-};
+    return found;
+}
+
+// For each byte the place of its link, or NOWHERE.
 struct node48 : node {
-    uint8_t place[256];
-    slot at[48];
-    node48() : node(N48) {
-        for (auto &s : at) set(s, 0);
-        memset(place, 0xff, sizeof place);
+    enum : uint8_t { NOWHERE = 255 };
+    uint8_t places[256];
+    slot links[48] = {};
+
+    node48() : node(OF_48) { std::memset(places, NOWHERE, sizeof places); }
+
+    link child_of(uint8_t byte) const { return places[byte] < 48 ? load(links[places[byte]]) : 0; }
+    void add_child(uint8_t byte, link to) {
+        unsigned at = count;
+        if (load(links[at])) {
+            for (at = 0; load(links[at]);) at++;
+        }
+        store(links[at], to);
+        places[byte] = static_cast<uint8_t>(at);
+        count++;
+    }
+    void remove_child(uint8_t byte) {
+        store(links[places[byte]], 0);
+        places[byte] = NOWHERE;
+        count--;
+    }
+    int children_from(unsigned from, int most, link *to, uint8_t *to_bytes) const {
+        return children_by_byte(this, from, most, to, to_bytes);
     }
 };
+
 struct node256 : node {
-    slot at[256];
-    node256() : node(N256) {
-        for (auto &s : at) set(s, 0);
+    slot links[256] = {};
+
+    node256() : node(OF_256) {}
+
+    link child_of(uint8_t byte) const { return load(links[byte]); }
+    void add_child(uint8_t byte, link to) {
+        store(links[byte], to);
+        count++;
+    }
+    void remove_child(uint8_t byte) {
+        store(links[byte], 0);
+        count--;
+    }
+    int children_from(unsigned from, int most, link *to, uint8_t *to_bytes) const {
+        return children_by_byte(this, from, most, to, to_bytes);
     }
 };
 
-inline unsigned found16(const node16 *n, uint8_t b) {  // a bit for each place with this byte
-    unsigned m = _mm_movemask_epi8(_mm_cmpeq_epi8(_mm_set1_epi8((char)b), _mm_loadu_si128((const __m128i *)n->keys)));
-    return m & ((1u << std::min<unsigned>(n->count, 16)) - 1);
-}
-inline ref node::child(uint8_t b) const {
-    switch (type) {
-    case N4: {
-        auto n = (const node4 *)this;
-        unsigned c = std::min<unsigned>(count, 4);
-        for (unsigned i = 0; i < c; i++)
-            if (n->keys[i] == b) return get(n->at[i]);
-        return 0;
+// Calls a function on a node as what it is.
+template <class F> inline auto as_its_kind(const node *it, F f) {
+    switch (it->type) {
+    case OF_4: return f(static_cast<node4 *>(const_cast<node *>(it)));
+    case OF_16: return f(static_cast<node16 *>(const_cast<node *>(it)));
+    case OF_48: return f(static_cast<node48 *>(const_cast<node *>(it)));
+    default: return f(static_cast<node256 *>(const_cast<node *>(it)));
     }
-    case N16: {
-        auto n = (const node16 *)this;
-        unsigned m = found16(n, b);
-        return m ? get(n->at[__builtin_ctz(m)]) : 0;
-    }
-    case N48: {
-        auto n = (const node48 *)this;
-        uint8_t i = n->place[b];
-        return i < 48 ? get(n->at[i]) : 0;
-    }
-    default:
-        return get(((const node256 *)this)->at[b]);
-    }
-}
-inline bool node::full() const { return count == (type == N4 ? 4 : type == N16 ? 16 : type == N48 ? 48 : 257); }
-template <class N> inline void add_sorted(N *n, uint8_t b, ref r) {
-    int i = n->count;
-    while (i > 0 && n->keys[i - 1] > b) {
-        n->keys[i] = n->keys[i - 1];
-        set(n->at[i], get(n->at[i - 1]));
-        i--;
-    }
-    n->keys[i] = b;
-    set(n->at[i], r);
-    n->count++;
-}
-inline void node::add(uint8_t b, ref r) {
-    switch (type) {
-    case N4:
-        add_sorted((node4 *)this, b, r);
-        break;
-    case N16:
-        add_sorted((node16 *)this, b, r);
-        break;
-    case N48: {
-        auto n = (node48 *)this;
-        unsigned i = count;
-        if (get(n->at[i]))
-            for (i = 0; get(n->at[i]); i++) {}
-        set(n->at[i], r);
-        n->place[b] = i;
-        count++;
-        break;
-    }
-    default:
-        set(((node256 *)this)->at[b], r);
-        count++;
-    }
-}
-inline void node::change(uint8_t b, ref r) {
-    switch (type) {
-    case N4: {
-        auto n = (node4 *)this;
-        unsigned i = 0;
-        while (n->keys[i] != b) i++;
-        set(n->at[i], r);
-        break;
-    }
-    case N16: {
-        auto n = (node16 *)this;
-        set(n->at[__builtin_ctz(found16(n, b))], r);
-        break;
-    }
-    case N48: {
-        auto n = (node48 *)this;
-        set(n->at[n->place[b]], r);
-        break;
-    }
-    default:
-        set(((node256 *)this)->at[b], r);
-    }
-}
-template <class N> inline void drop_sorted(N *n, uint8_t b) {
-    unsigned i = 0;
-    while (n->keys[i] != b) i++;
-    for (n->count--; i < n->count; i++) {
-        n->keys[i] = n->keys[i + 1];
-        set(n->at[i], get(n->at[i + 1]));
-    }
-}
-inline void node::drop(uint8_t b) {
-    switch (type) {
-    case N4:
-        drop_sorted((node4 *)this, b);
-        break;
-    case N16:
-        drop_sorted((node16 *)this, b);
-        break;
-    case N48: {
-        auto n = (node48 *)this;
-        set(n->at[n->place[b]], 0);
-        n->place[b] = 0xff;
-        count--;
-        break;
-    }
-    default:
-        set(((node256 *)this)->at[b], 0);
-        count--;
-    }
-}
-inline int node::some(unsigned from, int room, ref *r, uint8_t *b) const {
-    int c = 0;
-    auto sorted = [&](auto *n, unsigned most) {
-        unsigned have = std::min<unsigned>(count, most);
-        for (unsigned i = 0; i < have && c < room; i++)
-            if (n->keys[i] >= from) {
-                b[c] = n->keys[i];
-                r[c++] = get(n->at[i]);
-            }
-    };
-    switch (type) {
-    case N4:
-        sorted((const node4 *)this, 4);
-        break;
-    case N16:
-        sorted((const node16 *)this, 16);
-        break;
-    case N48: {
-        auto n = (const node48 *)this;
-        for (unsigned i = from; i < 256 && c < room; i++)
-            if (n->place[i] < 48) {
-                b[c] = i;
-                r[c++] = get(n->at[n->place[i]]);
-            }
-        break;
-    }
-    default: {
-        auto n = (const node256 *)this;
-        for (unsigned i = from; i < 256 && c < room; i++)
-            if (ref x = get(n->at[i])) {
-                b[c] = i;
-                r[c++] = x;
-            }
-    }
-    }
-    return c;
 }
 
-// Memory.
-template <class N> inline N *make() {
-    void *m = malloc(sizeof(N));
-    if (!m) abort();
-    return new (m) N();
+inline link node::child(uint8_t byte) const {
+    return as_its_kind(this, [=](auto *it) { return it->child_of(byte); });
 }
-inline leaf *make_leaf(const uint8_t *k, size_t n, uint64_t v) {
-    leaf *l = (leaf *)malloc(offsetof(leaf, key) + n);
-    if (!l) abort();
-    l->v.store(v, std::memory_order_relaxed);
-    l->len = n;
-    memcpy(l->key, k, n);
-    return l;
+inline void node::add(uint8_t byte, link to) {
+    as_its_kind(this, [=](auto *it) { it->add_child(byte, to); });
 }
-inline void copy_all(const node *from, node *to) {
-    ref r[256];
-    uint8_t b[256];
-    int c = from->some(0, 256, r, b);
-    for (int i = 0; i < c; i++) to->add(b[i], r[i]);
-    to->term.store(from->term.load(std::memory_order_relaxed), std::memory_order_relaxed);
-    to->plen = from->plen;
-    memcpy(to->prefix, from->prefix, STORED);
+inline void node::remove(uint8_t byte) {
+    as_its_kind(this, [=](auto *it) { it->remove_child(byte); });
 }
-inline node *grown(const node *n) {
-    node *m = n->type == N4 ? (node *)make<node16>() : n->type == N16 ? (node *)make<node48>() : make<node256>();
-    copy_all(n, m);
-    return m;
+inline void node::exchange(uint8_t byte, link to) {
+    switch (type) {
+    case OF_4: return store(static_cast<node4 *>(this)->links[static_cast<node4 *>(this)->place(byte)], to);
+    case OF_16: return store(static_cast<node16 *>(this)->links[static_cast<node16 *>(this)->place(byte)], to);
+    case OF_48: return store(static_cast<node48 *>(this)->links[static_cast<node48 *>(this)->places[byte]], to);
+    default: return store(static_cast<node256 *>(this)->links[byte], to);
+    }
 }
-inline node *shrunk(const node *n, uint8_t without) {
-    node *m = n->type == N16 ? (node *)make<node4>() : n->type == N48 ? (node *)make<node16>() : make<node48>();
-    ref r[256];
-    uint8_t b[256];
-    int c = n->some(0, 256, r, b);
-    for (int i = 0; i < c; i++)
-        if (b[i] != without) m->add(b[i], r[i]);
-    m->term.store(n->term.load(std::memory_order_relaxed), std::memory_order_relaxed);
-    m->plen = n->plen;
-    memcpy(m->prefix, n->prefix, STORED);
-    return m;
+inline int node::children(unsigned from, int most, link *links, uint8_t *bytes) const {
+    return as_its_kind(this, [=](auto *it) { return it->children_from(from, most, links, bytes); });
 }
 
-// Three epochs: what is retired in one is freed when the global epoch is two further. A thread inside a call holds the epoch in which
-// it entered, or the next.
-struct epochs;
+template <class N> inline N *made() {
+    void *room = std::malloc(sizeof(N));
+    if (!room) std::abort();
+    return new (room) N();
+}
+inline leaf *made_leaf(const uint8_t *key, size_t length, uint64_t value) {
+    leaf *it = static_cast<leaf *>(std::malloc(offsetof(leaf, key) + length));
+    if (!it) std::abort();
+    it->value.store(value, relaxed);
+    it->length = static_cast<uint32_t>(length);
+    std::memcpy(it->key, key, length);
+    return it;
+}
+
+// All of a node but its child at `without`, if there is one, in a node of another size.
+inline node *moved(const node *from, node *to, int without = -1) {
+    link links[256];
+    uint8_t bytes[256];
+    const int count = from->children(0, 256, links, bytes);
+    for (int at = 0; at < count; at++) {
+        if (bytes[at] != without) to->add(bytes[at], links[at]);
+    }
+    to->ending.store(from->ending.load(relaxed), relaxed);
+    to->prefix_length = from->prefix_length;
+    std::memcpy(to->prefix, from->prefix, STORED);
+    return to;
+}
+inline node *grown(const node *it) {
+    return moved(it, it->type == OF_4    ? static_cast<node *>(made<node16>())
+                     : it->type == OF_16 ? static_cast<node *>(made<node48>())
+                                         : made<node256>());
+}
+inline node *shrunk(const node *it, uint8_t without) {
+    return moved(it,
+                 it->type == OF_16   ? static_cast<node *>(made<node4>())
+                 : it->type == OF_48 ? static_cast<node *>(made<node16>())
+                                     : made<node48>(),
+                 without);
+}
+
+// Three epochs: what is retired in one is freed when the epoch is two further. A thread inside a call holds the epoch in which it entered,
+// or the next.
 struct alignas(128) seat {
-    std::atomic<uint64_t> in{0};  // 0: outside
-    bool taken = false;
-    unsigned since = 0;
+    std::atomic<uint64_t> epoch{0};  // 0: outside of calls
+    bool is_taken = false;
+    unsigned retired = 0;
     std::deque<std::pair<uint64_t, void *>> limbo;
 };
 struct epochs {
     enum { SEATS = 72, OFTEN = 64 };
     alignas(128) std::atomic<uint64_t> now{1};
     seat seats[SEATS];
-    std::mutex m;
+    std::mutex mutex;
+
     seat *take() {
-        std::lock_guard<std::mutex> g(m);
-        for (auto &s : seats)
-            if (!s.taken) {
-                s.taken = true;
-                return &s;
+        const std::lock_guard guard(mutex);
+        for (auto &it : seats) {
+            if (!it.is_taken) {
+                it.is_taken = true;
+                return &it;
             }
+        }
         return nullptr;
     }
-    void give(seat *s) {
-        std::lock_guard<std::mutex> g(m);
-        s->taken = false;
+    void give(seat *it) {
+        const std::lock_guard guard(mutex);
+        it->is_taken = false;
     }
-    void retire(seat *s, void *p) {  // after it was unlinked, by a sequentially consistent step
-        s->limbo.emplace_back(now.load(), p);
-        if (++s->since >= OFTEN) {
-            s->since = 0;
-            collect(s);
-        }
+    // What was unlinked by a sequentially consistent step.
+    void retire(seat *own, void *it) {
+        own->limbo.emplace_back(now.load(), it);
+        if (++own->retired % OFTEN == 0) collect(own);
     }
-    void collect(seat *s) {
-        uint64_t e = now.load();
-        bool all = true;
-        for (auto &t : seats) {
-            uint64_t x = t.in.load();
-            if (x && x != e) {
-                all = false;
-                break;
-            }
-        }
-        if (all) now.compare_exchange_strong(e, e + 1);
-        e = now.load();
-        while (!s->limbo.empty() && s->limbo.front().first + 2 <= e) {
-            free(s->limbo.front().second);
-            s->limbo.pop_front();
-        }
+    void collect(seat *own) {
+        uint64_t epoch = now.load();
+        const auto holds_earlier = [&](const seat &it) {
+            const uint64_t held = it.epoch.load();
+            return held && held != epoch;
+        };
+        if (std::none_of(std::begin(seats), std::end(seats), holds_earlier)) now.compare_exchange_strong(epoch, epoch + 1);
+        epoch = now.load();
+        for (; !own->limbo.empty() && own->limbo.front().first + 2 <= epoch; own->limbo.pop_front()) std::free(own->limbo.front().second);
     }
 };
+// A call of a thread, from the first step to the last.
 struct inside {
-    seat *s;
-    inside(epochs &e, seat *s) : s(s) { s->in.store(e.now.load(std::memory_order_relaxed), std::memory_order_seq_cst); }
-    ~inside() { s->in.store(0, std::memory_order_release); }
+    seat *own;
+
+    inside(epochs &all, seat *own) : own(own) { own->epoch.store(all.now.load(relaxed), std::memory_order_seq_cst); }
+    inside(const inside &) = delete;
+    ~inside() { own->epoch.store(0, std::memory_order_release); }
 };
+
+// Where a descent is: a node, the version that was seen, how many bytes of the key lie above it, and the node above with the byte that
+// leads from there.
+struct place {
+    node *at, *above = nullptr;
+    uint64_t seen = 0, seen_above = 0;
+    size_t level = 0;
+    uint8_t byte_above = 0;
+
+    explicit place(node *root) : at(root) {}
+
+    bool is_still() { return at->is_still(seen); }
+    // Goes to a child, whose byte is the key's next one; false if the descent has to begin again.
+    bool go_down(node *child, uint8_t byte) {
+        uint64_t seen_below;
+        if (!child->read(seen_below) || !is_still()) return false;
+        above = at;
+        seen_above = seen;
+        byte_above = byte;
+        at = child;
+        seen = seen_below;
+        level++;
+        return true;
+    }
+    // Locks the node above and the node, or none.
+    bool lock_both() {
+        if (!above->lock(seen_above)) return false;
+        if (at->lock(seen)) return true;
+        above->unlock();
+        return false;
+    }
+    // Puts another child in the node's place, which both locks cover.
+    void replace_by(link to) {
+        above->exchange(byte_above, to);
+        above->unlock();
+        at->unlock_as_obsolete();
+    }
+};
+
+// How a try ends.
+enum outcome { DONE, FOUND, AGAIN, DEEPER };
 
 struct tree {
-    epochs e;
-    node *root = make<node256>();
+    epochs memory;
+    node *root = made<node256>();
+
+    tree() = default;
+    tree(const tree &) = delete;
+    ~tree() {
+        free_below(root);
+        for (auto &seat : memory.seats) {
+            for (auto &it : seat.limbo) std::free(it.second);
+        }
+    }
 
     // The leaf of a key, or null.
-    leaf *find(const uint8_t *k, size_t n) {
-    again:
-        node *p = root;
-        uint64_t v, w;
-        size_t level = 0;
-        if (!p->read(v)) goto again;
-        for (;;) {
-            size_t pl = p->plen;
-            if (pl) {
-                size_t c = std::min<size_t>(pl, STORED);
-                bool differs = level + pl > n;
-                for (size_t i = 0; !differs && i < c; i++) differs = p->prefix[i] != k[level + i];
-                if (differs) {
-                    if (!p->still(v)) goto again;
-                    return nullptr;
-                }
-                level += pl;
-            }
-            if (level == n) {
-                leaf *l = p->term.load(std::memory_order_relaxed);
-                if (!p->still(v)) goto again;
-                return l && l->is(k, n) ? l : nullptr;
-            }
-            ref r = p->child(k[level]);
-            if (!p->still(v)) goto again;
-            if (!r) return nullptr;
-            if (is_leaf(r)) {
-                leaf *l = as_leaf(r);
-                return l->is(k, n) ? l : nullptr;
-            }
-            node *q = (node *)r;
-            if (!q->read(w) || !p->still(v)) goto again;
-            p = q;
-            v = w;
-            level++;
+    leaf *find(const uint8_t *key, size_t length) {
+        leaf *found;
+        while (search(key, length, found) == AGAIN) {
         }
+        return found;
     }
 
-    // Any leaf below a node; null if it has to start again.
-    static leaf *any_below(node *p) {
-        uint64_t v;
-        for (;;) {
-            if (!p->read(v)) return nullptr;
-            leaf *l = p->term.load(std::memory_order_relaxed);
-            ref r = 0;
-            uint8_t b;
-            if (!l) p->some(0, 1, &r, &b);
-            if (!p->still(v) || (!l && !r)) return nullptr;
-            if (l) return l;
-            if (is_leaf(r)) return as_leaf(r);
-            p = (node *)r;
+    // Whether the key was there, and what it had; it has the value now if it was not, or if `replaces`.
+    bool put(seat *own, const uint8_t *key, size_t length, uint64_t value, bool replaces, uint64_t &had) {
+        insertion it{*this, own, key, length, value, nullptr};
+        leaf *held = nullptr;
+        outcome how;
+        while ((how = it.try_once(held)) == AGAIN) {
         }
-    }
-
-    // Whether the key was there, and what it had; it has the value now if it was not, or if `replace`.
-    bool put(seat *s, const uint8_t *k, size_t n, uint64_t value, bool replace, uint64_t &had) {
-        leaf *mine = nullptr;
-        auto fresh = [&] {
-            if (!mine) mine = make_leaf(k, n, value);
-            return mine;
-        };
-        auto held = [&](leaf *l) {
-            had = replace ? l->v.exchange(value, std::memory_order_acq_rel) : l->v.load(std::memory_order_acquire);
-            free(mine);
-            return true;
-        };
-    again:
-        node *parent = nullptr, *p = root;
-        uint64_t pv = 0, v, w;
-        uint8_t pb = 0;
-        size_t level = 0;
-        if (!p->read(v)) goto again;
-        for (;;) {
-            size_t pl = p->plen;
-            if (pl) {
-                uint8_t own[STORED];
-                memcpy(own, p->prefix, STORED);
-                if (!p->still(v)) goto again;
-                const uint8_t *whole = own;
-                size_t i = 0, c = std::min<size_t>(pl, STORED);
-                while (i < c && level + i < n && own[i] == k[level + i]) i++;
-                if (pl > STORED) {  // the rest is in any leaf below
-                    leaf *l = any_below(p);
-                    if (!l || !p->still(v) || l->len < level + pl) goto again;
-                    whole = l->key + level;
-                    while (i < pl && level + i < n && whole[i] == k[level + i]) i++;
-                }
-                if (i < pl) {  // a new node above, for the common part
-                    if (!parent->lock(pv)) goto again;
-                    if (!p->lock(v)) {
-                        parent->unlock();
-                        goto again;
-                    }
-                    node4 *up = make<node4>();
-                    up->plen = i;
-                    memcpy(up->prefix, whole, std::min<size_t>(i, STORED));
-                    up->add(whole[i], (ref)p);
-                    if (level + i == n)
-                        up->term.store(fresh(), std::memory_order_relaxed);
-                    else
-                        up->add(k[level + i], to(fresh()));
-                    parent->change(pb, (ref)up);
-                    size_t rest = pl - i - 1;
-                    memmove(p->prefix, whole + i + 1, std::min<size_t>(rest, STORED));
-                    p->plen = rest;
-                    p->unlock();
-                    parent->unlock();
-                    return false;
-                }
-                level += pl;
-            }
-            if (level == n) {
-                leaf *l = p->term.load(std::memory_order_relaxed);
-                if (!p->still(v)) goto again;
-                if (l) return held(l);
-                fresh();
-                if (!p->lock(v)) goto again;
-                p->term.store(mine, std::memory_order_relaxed);
-                p->unlock();
-                return false;
-            }
-            uint8_t b = k[level];
-            ref r = p->child(b);
-            if (!p->still(v)) goto again;
-            if (!r) {
-                fresh();
-                bool full = p->full();
-                if (!p->still(v)) goto again;
-                if (!full) {
-                    if (!p->lock(v)) goto again;
-                    p->add(b, to(mine));
-                    p->unlock();
-                    return false;
-                }
-                if (!parent->lock(pv)) goto again;
-                if (!p->lock(v)) {
-                    parent->unlock();
-                    goto again;
-                }
-                node *m = grown(p);
-                m->add(b, to(mine));
-                parent->change(pb, (ref)m);
-                parent->unlock();
-                p->unlock_obsolete();
-                e.retire(s, p);
-                return false;
-            }
-            if (is_leaf(r)) {
-                leaf *l = as_leaf(r);
-                if (l->is(k, n)) return held(l);
-                fresh();
-                if (!p->lock(v)) goto again;
-                // Both keys agree up to level + 1 at least.
-                size_t at = level + 1, i = at;
-                while (i < n && i < l->len && k[i] == l->key[i]) i++;
-                node4 *low = make<node4>();
-                low->plen = i - at;
-                memcpy(low->prefix, k + at, std::min<size_t>(i - at, STORED));
-                if (i == n)
-                    low->term.store(mine, std::memory_order_relaxed);
-                else
-                    low->add(k[i], to(mine));
-                if (i == l->len)
-                    low->term.store(l, std::memory_order_relaxed);
-                else
-                    low->add(l->key[i], r);
-                p->change(b, (ref)low);
-                p->unlock();
-                return false;
-            }
-            node *q = (node *)r;
-            if (!q->read(w) || !p->still(v)) goto again;
-            parent = p;
-            pv = v;
-            pb = b;
-            p = q;
-            v = w;
-            level++;
-        }
+        if (how == DONE) return false;
+        had = replaces ? held->value.exchange(value, std::memory_order_acq_rel) : held->value.load(acquire);
+        std::free(it.mine);
+        return true;
     }
 
     // Whether the key was there, and what it had.
-    bool remove(seat *s, const uint8_t *k, size_t n, uint64_t &had) {
-    again:
-        node *parent = nullptr, *p = root;
-        uint64_t pv = 0, v, w;
-        uint8_t pb = 0;
-        size_t level = 0;
-        if (!p->read(v)) goto again;
+    bool remove(seat *own, const uint8_t *key, size_t length, uint64_t &had) {
+        leaf *gone = nullptr;
+        outcome how;
+        while ((how = try_to_remove(own, key, length, gone)) == AGAIN) {
+        }
+        if (!gone) return false;
+        had = gone->value.load(acquire);
+        memory.retire(own, gone);
+        return true;
+    }
+
+    // Shows the leaves from a key on, in order, until `show` wants no other.
+    template <class F> void scan(const uint8_t *key, size_t length, F show) {
+        walk<F> it{key, length, false, show, nullptr};
         for (;;) {
-            size_t pl = p->plen;
-            if (pl) {
-                size_t c = std::min<size_t>(pl, STORED);
-                bool differs = level + pl > n;
-                for (size_t i = 0; !differs && i < c; i++) differs = p->prefix[i] != k[level + i];
-                if (differs) {
-                    if (!p->still(v)) goto again;
-                    return false;
-                }
-                level += pl;
+            uint64_t seen;
+            if (!root->read(seen)) continue;
+            if (it.list(root, seen, 0, true) != AGAIN) return;
+            if (it.last) {
+                it.key = it.last->key;
+                it.length = it.last->length;
+                it.is_above = true;
             }
-            bool ends = level == n;
-            uint8_t b = ends ? 0 : k[level];
-            leaf *t = p->term.load(std::memory_order_relaxed);
-            ref r = ends ? (t ? to(t) : 0) : p->child(b);
-            unsigned count = p->count, all = count + (t != nullptr);
-            if (!p->still(v)) goto again;
-            if (!r) return false;
-            if (is_leaf(r)) {
-                leaf *l = as_leaf(r);
-                if (!l->is(k, n)) return false;
-                if (p != root && all == 2) {  // what is left takes the node's place
-                    if (!parent->lock(pv)) goto again;
-                    if (!p->lock(v)) {
-                        parent->unlock();
-                        goto again;
-                    }
-                    ref other = 0, rs[2];
-                    uint8_t ob = 0, bs[2];
-                    if (t && !ends)
-                        other = to(t);
-                    else {
-                        int c = p->some(0, 2, rs, bs);
-                        for (int i = 0; i < c; i++)
-                            if (ends || bs[i] != b) {
-                                other = rs[i];
-                                ob = bs[i];
-                            }
-                    }
-                    if (!is_leaf(other)) {
-                        node *q = (node *)other;
-                        uint64_t qv = q->version.load();
-                        if ((qv & (LOCKED | OBSOLETE)) || !q->lock(qv)) {
-                            p->unlock();
-                            parent->unlock();
-                            goto again;
-                        }
-                        uint8_t joined[2 * STORED + 1];
-                        size_t a = std::min<size_t>(p->plen, STORED);
-                        memcpy(joined, p->prefix, a);
-                        if (a == p->plen) {
-                            joined[a] = ob;
-                            memcpy(joined + a + 1, q->prefix, STORED);
-                        }
-                        q->plen += p->plen + 1;
-                        memcpy(q->prefix, joined, STORED);
-                        parent->change(pb, other);
-                        q->unlock();
-                    } else
-                        parent->change(pb, other);
-                    parent->unlock();
-                    p->unlock_obsolete();
-                    e.retire(s, p);
-                } else if (p != root && !ends &&
-                           ((p->type == N16 && count <= 4) || (p->type == N48 && count <= 13) || (p->type == N256 && count <= 38))) {
-                    if (!parent->lock(pv)) goto again;
-                    if (!p->lock(v)) {
-                        parent->unlock();
-                        goto again;
-                    }
-                    parent->change(pb, (ref)shrunk(p, b));
-                    parent->unlock();
-                    p->unlock_obsolete();
-                    e.retire(s, p);
-                } else {
-                    if (!p->lock(v)) goto again;
-                    if (ends)
-                        p->term.store(nullptr, std::memory_order_relaxed);
-                    else
-                        p->drop(b);
-                    p->unlock();
-                }
-                had = l->v.load(std::memory_order_acquire);
-                e.retire(s, l);
-                return true;
-            }
-            node *q = (node *)r;
-            if (!q->read(w) || !p->still(v)) goto again;
-            parent = p;
-            pv = v;
-            pb = b;
-            p = q;
-            v = w;
-            level++;
         }
     }
 
-    // A scan from k on, or only above k; `show` takes a leaf, and returns whether it wants another.
-    template <class F> struct scanning {
-        const uint8_t *k;
-        size_t n;
-        bool above;
-        F show;
-        leaf *last;
-        bool shows(leaf *l) {
-            last = l;
-            return show(l);
+    // Counts the leaves, while nobody changes the tree.
+    static size_t count_leaves(const node *it) {
+        link links[256];
+        uint8_t bytes[256];
+        size_t count = it->ending.load() != nullptr;
+        const int children = it->children(0, 256, links, bytes);
+        for (int at = 0; at < children; at++) count += is_leaf(links[at]) ? 1 : count_leaves(node_of(links[at]));
+        return count;
+    }
+
+private:
+    static void free_below(node *it) {
+        link links[256];
+        uint8_t bytes[256];
+        const int children = it->children(0, 256, links, bytes);
+        std::free(it->ending.load());
+        for (int at = 0; at < children; at++) {
+            if (is_leaf(links[at]))
+                std::free(leaf_of(links[at]));
+            else
+                free_below(node_of(links[at]));
+        }
+        std::free(it);
+    }
+
+    // What a node names for a key of which so many bytes lie above it: nothing if the key differs in the prefix, as far as that stands
+    // there.
+    __attribute__((always_inline)) static link next(const node *it, size_t &level, const uint8_t *key, size_t length) {
+        if (const size_t whole = it->prefix_length) {
+            const size_t stored = std::min<size_t>(whole, STORED);
+            if (level + whole > length) return 0;
+            for (size_t at = 0; at < stored; at++) {
+                if (it->prefix[at] != key[level + at]) return 0;
+            }
+            level += whole;
+        }
+        if (level < length) return it->child(key[level]);
+        leaf *ending = it->ending.load(relaxed);
+        return ending ? link_to(ending) : 0;
+    }
+
+    // Searches for a key's leaf once.
+    outcome search(const uint8_t *key, size_t length, leaf *&found) {
+        node *it = root;
+        uint64_t seen, seen_below;
+        size_t level = 0;
+        if (!it->read(seen)) return AGAIN;
+        for (;; level++) {
+            const link to = next(it, level, key, length);
+            if (!it->is_still(seen)) return AGAIN;
+            if (!to || is_leaf(to)) {
+                found = to && leaf_of(to)->has(key, length) ? leaf_of(to) : nullptr;
+                return DONE;
+            }
+            if (!node_of(to)->read(seen_below) || !it->is_still(seen)) return AGAIN;
+            it = node_of(to);
+            seen = seen_below;
+        }
+    }
+
+    // Any leaf below a node; null if that has to be tried again.
+    static leaf *any_below(node *it) {
+        uint64_t seen;
+        for (;;) {
+            if (!it->read(seen)) return nullptr;
+            leaf *ending = it->ending.load(relaxed);
+            link to = 0;
+            uint8_t byte;
+            if (!ending) it->children(0, 1, &to, &byte);
+            if (!it->is_still(seen) || (!ending && !to)) return nullptr;
+            if (ending) return ending;
+            if (is_leaf(to)) return leaf_of(to);
+            it = node_of(to);
+        }
+    }
+
+    // The bytes of a node's prefix, copied to `own` or in a leaf below; null if that has to be tried again.
+    static const uint8_t *whole_prefix(node *it, uint64_t seen, size_t level, uint8_t *own) {
+        std::memcpy(own, it->prefix, STORED);
+        const size_t whole = it->prefix_length;
+        if (!it->is_still(seen)) return nullptr;
+        if (whole <= STORED) return own;
+        const leaf *below = any_below(it);
+        return below && it->is_still(seen) && below->length >= level + whole ? below->key + level : nullptr;
+    }
+
+    // A key that is put in. `mine` is its leaf, once that is wanted.
+    struct insertion {
+        tree &all;
+        seat *own;
+        const uint8_t *key;
+        size_t length;
+        uint64_t value;
+        leaf *mine;
+
+        leaf *fresh() { return mine = mine ? mine : made_leaf(key, length, value); }
+
+        // Puts a leaf below a node, at this level of its key.
+        static void hang(node *below, leaf *it, size_t level) {
+            if (it->length == level)
+                below->ending.store(it, relaxed);
+            else
+                below->add(it->key[level], link_to(it));
+        }
+        outcome try_once(leaf *&held) {
+            place it(all.root);
+            outcome how = AGAIN;
+            if (!all.root->read(it.seen)) return AGAIN;
+            while ((how = step(it, held)) == DEEPER) {
+            }
+            return how;
+        }
+        outcome step(place &it, leaf *&held) {
+            const size_t whole = it.at->prefix_length;
+            if (whole) {
+                uint8_t stored[STORED];
+                size_t same = 0;
+                const uint8_t *prefix = whole_prefix(it.at, it.seen, it.level, stored);
+                if (!prefix) return AGAIN;
+                while (same < whole && it.level + same < length && prefix[same] == key[it.level + same]) same++;
+                if (same < whole) return split_prefix(it, prefix, same);
+                it.level += whole;
+            }
+            if (it.level == length) return end_here(it, held);
+            const uint8_t byte = key[it.level];
+            const link to = it.at->child(byte);
+            if (!it.is_still()) return AGAIN;
+            if (!to) return add_child(it, byte);
+            if (!is_leaf(to)) return it.go_down(node_of(to), byte) ? DEEPER : AGAIN;
+            held = leaf_of(to);
+            return held->has(key, length) ? FOUND : split_leaf(it, byte, held);
+        }
+        // A new node above, for the bytes that both have.
+        outcome split_prefix(place &it, const uint8_t *prefix, size_t same) {
+            fresh();
+            if (!it.lock_both()) return AGAIN;
+            const size_t rest = it.at->prefix_length - same - 1;
+            node *up = made<node4>();
+            up->prefix_length = static_cast<uint16_t>(same);
+            std::memcpy(up->prefix, prefix, std::min<size_t>(same, STORED));
+            up->add(prefix[same], link_to(it.at));
+            hang(up, mine, it.level + same);
+            it.above->exchange(it.byte_above, link_to(up));
+            std::memmove(it.at->prefix, prefix + same + 1, std::min<size_t>(rest, STORED));
+            it.at->prefix_length = static_cast<uint16_t>(rest);
+            it.at->unlock();
+            it.above->unlock();
+            return DONE;
+        }
+        // The key ends in a node.
+        outcome end_here(place &it, leaf *&held) {
+            held = it.at->ending.load(relaxed);
+            if (!it.is_still()) return AGAIN;
+            if (held) return FOUND;
+            fresh();
+            if (!it.at->lock(it.seen)) return AGAIN;
+            it.at->ending.store(mine, relaxed);
+            it.at->unlock();
+            return DONE;
+        }
+        // A node has no child for the byte: it gets one, or a larger node takes its place.
+        outcome add_child(place &it, uint8_t byte) {
+            const bool is_full = it.at->is_full();
+            fresh();
+            if (!it.is_still()) return AGAIN;
+            if (is_full) {
+                if (!it.lock_both()) return AGAIN;
+                node *larger = grown(it.at);
+                larger->add(byte, link_to(mine));
+                it.replace_by(link_to(larger));
+                all.memory.retire(own, it.at);
+                return DONE;
+            }
+            if (!it.at->lock(it.seen)) return AGAIN;
+            it.at->add(byte, link_to(mine));
+            it.at->unlock();
+            return DONE;
+        }
+        // A leaf of another key stands there: a node takes its place, for the bytes that both have.
+        outcome split_leaf(place &it, uint8_t byte, leaf *other) {
+            fresh();
+            if (!it.at->lock(it.seen)) return AGAIN;
+            const size_t from = it.level + 1;
+            size_t at = from;
+            while (at < length && at < other->length && key[at] == other->key[at]) at++;
+            node *low = made<node4>();
+            low->prefix_length = static_cast<uint16_t>(at - from);
+            std::memcpy(low->prefix, key + from, std::min<size_t>(at - from, STORED));
+            hang(low, mine, at);
+            hang(low, other, at);
+            it.at->exchange(byte, link_to(low));
+            it.at->unlock();
+            return DONE;
         }
     };
-    enum outcome { ON, ENOUGH, AGAIN };
-    // All of a subtree, or, if tight, what is from the bound on: the path to p agrees with the bound.
-    template <class F> static outcome walk(scanning<F> &s, node *p, uint64_t v, size_t level, bool tight) {
-        size_t pl = p->plen;
-        if (tight && pl) {
-            uint8_t own[STORED];
-            memcpy(own, p->prefix, STORED);
-            if (!p->still(v)) return AGAIN;
-            const uint8_t *whole = own;
-            if (pl > STORED) {
-                leaf *l = any_below(p);
-                if (!l || !p->still(v) || l->len < level + pl) return AGAIN;
-                whole = l->key + level;
-            }
-            for (size_t i = 0; tight && i < pl; i++) {
-                if (level + i >= s.n || whole[i] > s.k[level + i])
-                    tight = false;
-                else if (whole[i] < s.k[level + i])
-                    return ON;
-            }
-        }
-        level += pl;
-        unsigned from = 0, edge = 256;
-        leaf *t = p->term.load(std::memory_order_relaxed);
-        bool with_term = t != nullptr;
-        if (tight) {
-            if (level >= s.n)
-                with_term = with_term && !s.above, tight = false;  // the bound ends here
-            else
-                with_term = false, from = edge = s.k[level];
-        }
-        if (!p->still(v)) return AGAIN;
-        if (with_term && !s.shows(t)) return ENOUGH;
+
+    // Tries to remove a key: `gone` is its leaf then.
+    outcome try_to_remove(seat *own, const uint8_t *key, size_t length, leaf *&gone) {
+        place it(root);
+        if (!root->read(it.seen)) return AGAIN;
         for (;;) {
-            ref r[16];
-            uint8_t b[16];
-            int c = p->some(from, 16, r, b);
-            if (!p->still(v)) return AGAIN;
-            for (int i = 0; i < c; i++) __builtin_prefetch((void *)(r[i] & ~(ref)1));
-            for (int i = 0; i < c; i++) {
-                bool at_edge = b[i] == edge;
-                if (is_leaf(r[i])) {
-                    leaf *l = as_leaf(r[i]);
-                    if (at_edge) {
-                        int o = memcmp(l->key, s.k, std::min<size_t>(l->len, s.n));
-                        if (!o) o = l->len < s.n ? -1 : l->len > s.n;
-                        if (o < 0 || (!o && s.above)) continue;
-                    }
-                    if (!s.shows(l)) return ENOUGH;
-                } else {
-                    node *q = (node *)r[i];
-                    uint64_t w;
-                    if (!q->read(w) || (at_edge && !p->still(v))) return AGAIN;
-                    outcome o = walk(s, q, w, level + 1, at_edge);
-                    if (o != ON) return o;
+            const link to = next(it.at, it.level, key, length);
+            const bool ends = it.level == length;
+            const uint8_t byte = ends ? 0 : key[it.level];
+            if (!it.is_still()) return AGAIN;
+            if (!to || (is_leaf(to) && !leaf_of(to)->has(key, length))) return DONE;
+            if (is_leaf(to)) {
+                if (!take_out(own, it, ends, byte)) return AGAIN;
+                gone = leaf_of(to);
+                return DONE;
+            }
+            if (!it.go_down(node_of(to), byte)) return AGAIN;
+        }
+    }
+
+    // Takes a leaf out of a node: what ends there, or the child at a byte. A node with one thing left goes, and one with few shrinks.
+    bool take_out(seat *own, place &it, bool ends, uint8_t byte) {
+        const unsigned count = it.at->count, all = count + (it.at->ending.load(relaxed) != nullptr);
+        static constexpr unsigned few[] = {0, 4, 13, 38};
+        if (!it.is_still()) return false;
+        if (it.at != root && all == 2) return join(own, it, ends, byte);
+        if (it.at != root && !ends && it.at->type != OF_4 && count <= few[it.at->type]) {
+            if (!it.lock_both()) return false;
+            it.replace_by(link_to(shrunk(it.at, byte)));
+            memory.retire(own, it.at);
+            return true;
+        }
+        if (!it.at->lock(it.seen)) return false;
+        if (ends)
+            it.at->ending.store(nullptr, relaxed);
+        else
+            it.at->remove(byte);
+        it.at->unlock();
+        return true;
+    }
+
+    // Puts what is left of a node in its place; a node that is left takes its prefix over.
+    bool join(seat *own, place &it, bool ends, uint8_t byte) {
+        if (!it.lock_both()) return false;
+        link left = 0, links[2];
+        uint8_t byte_of_left = 0, bytes[2];
+        const int children = it.at->children(0, 2, links, bytes);
+        leaf *ending = it.at->ending.load(relaxed);
+        if (ending && !ends) left = link_to(ending);
+        for (int at = 0; at < children && !left; at++) {
+            if (!ends && bytes[at] == byte) continue;
+            left = links[at];
+            byte_of_left = bytes[at];
+        }
+        if (!is_leaf(left) && !prepend(node_of(left), it.at, byte_of_left)) {
+            it.at->unlock();
+            it.above->unlock();
+            return false;
+        }
+        it.replace_by(left);
+        memory.retire(own, it.at);
+        return true;
+    }
+
+    // Puts the prefix of a node and a byte before that of its child; false if the child is locked.
+    static bool prepend(node *child, const node *above, uint8_t byte) {
+        const uint64_t seen = child->version.load();
+        if (seen & (LOCKED | OBSOLETE) || !child->lock(seen)) return false;
+        uint8_t joined[2 * STORED + 1];
+        const size_t stored = std::min<size_t>(above->prefix_length, STORED);
+        std::memcpy(joined, above->prefix, stored);
+        if (stored == above->prefix_length) {
+            joined[stored] = byte;
+            std::memcpy(joined + stored + 1, child->prefix, STORED);
+        }
+        child->prefix_length = static_cast<uint16_t>(child->prefix_length + above->prefix_length + 1);
+        std::memcpy(child->prefix, joined, STORED);
+        child->unlock();
+        return true;
+    }
+
+    // A scan from a key on, or of what is above it.
+    template <class F> struct walk {
+        const uint8_t *key;
+        size_t length;
+        bool is_above;
+        F show;
+        leaf *last;
+
+        bool shows(leaf *it) {
+            last = it;
+            return show(it);
+        }
+        // Whether a leaf on the path of the key is before the first that is wanted.
+        bool is_before(const leaf *it) const {
+            int order = std::memcmp(it->key, key, std::min<size_t>(it->length, length));
+            if (!order) order = it->length < length ? -1 : it->length > length;
+            return order < 0 || (!order && is_above);
+        }
+        // Lists all below a node, or, where its path is the key's, what is wanted: DONE if more may follow, FOUND at the end.
+        outcome list(node *it, uint64_t seen, size_t level, bool is_on_path) {
+            const size_t whole = it->prefix_length;
+            if (is_on_path && whole) {
+                uint8_t stored[STORED];
+                const uint8_t *prefix = whole_prefix(it, seen, level, stored);
+                if (!prefix) return AGAIN;
+                for (size_t at = 0; is_on_path && at < whole; at++) {
+                    if (level + at >= length || prefix[at] > key[level + at])
+                        is_on_path = false;
+                    else if (prefix[at] < key[level + at])
+                        return DONE;
                 }
             }
-            if (c < 16 || b[15] == 255) return ON;
-            from = b[15] + 1u;
+            level += whole;
+            leaf *ending = it->ending.load(relaxed);
+            unsigned from = 0, edge = 256;
+            if (is_on_path && level >= length) {  // The key ends here.
+                if (is_above) ending = nullptr;
+            } else if (is_on_path) {
+                ending = nullptr;
+                from = edge = key[level];
+            }
+            if (!it->is_still(seen)) return AGAIN;
+            if (ending && !shows(ending)) return FOUND;
+            return list_children(it, seen, level, from, edge);
         }
-    }
-    template <class F> void scan(const uint8_t *k, size_t n, F show) {
-        scanning<F> s = {k, n, false, show, nullptr};
-        for (;;) {
-            uint64_t v;
-            if (!root->read(v)) continue;
-            if (walk(s, root, v, 0, true) != AGAIN) return;
-            if (s.last) s.k = s.last->key, s.n = s.last->len, s.above = true;
+        outcome list_children(node *it, uint64_t seen, size_t level, unsigned from, unsigned edge) {
+            for (;;) {
+                link links[16];
+                uint8_t bytes[16];
+                const int count = it->children(from, 16, links, bytes);
+                if (!it->is_still(seen)) return AGAIN;
+                for (int at = 0; at < count; at++) __builtin_prefetch(reinterpret_cast<void *>(links[at] & ~link{1}));
+                for (int at = 0; at < count; at++) {
+                    const outcome how = list_child(it, seen, level, links[at], bytes[at] == edge);
+                    if (how != DONE) return how;
+                }
+                if (count < 16 || bytes[15] == 255) return DONE;
+                from = bytes[15] + 1u;
+            }
         }
-    }
-    // Gives back a node with all below it, and what waits. Nobody uses the tree any more.
-    static void free_below(node *p) {
-        ref r[256];
-        uint8_t b[256];
-        int c = p->some(0, 256, r, b);
-        free(p->term.load());
-        for (int i = 0; i < c; i++) is_leaf(r[i]) ? free(as_leaf(r[i])) : free_below((node *)r[i]);
-        free(p);
-    }
-    ~tree() {
-        free_below(root);
-        for (auto &s : e.seats)
-            for (auto &it : s.limbo) free(it.second);
-    }
-    // Counts nodes by kind, and leaves, while nobody changes the tree.
-    void census(node *p, size_t c[5], size_t depth, double &depths) {
-        c[p->type]++;
-        if (p->term.load()) c[4]++, depths += depth;
-        ref r[256];
-        uint8_t b[256];
-        int k = p->some(0, 256, r, b);
-        for (int i = 0; i < k; i++)
-            if (is_leaf(r[i]))
-                c[4]++, depths += depth;
-            else
-                census((node *)r[i], c, depth + 1, depths);
-    }
+        __attribute__((always_inline)) outcome list_child(node *it, uint64_t seen, size_t level, link to, bool is_on_path) {
+            if (is_leaf(to)) return (is_on_path && is_before(leaf_of(to))) || shows(leaf_of(to)) ? DONE : FOUND;
+            uint64_t seen_below;
+            if (!node_of(to)->read(seen_below) || (is_on_path && !it->is_still(seen))) return AGAIN;
+            return list(node_of(to), seen_below, level + 1, is_on_path);
+        }
+    };
 };
 
 }  // namespace art

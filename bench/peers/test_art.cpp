@@ -26,36 +26,36 @@ typedef std::vector<std::pair<std::string, uint64_t>> pairs;
 static tree *T;
 struct user {
     seat *s;
-    user() : s(T->e.take()) {
+    user() : s(T->memory.take()) {
         if (!s) abort();
     }
-    ~user() { T->e.give(s); }
+    ~user() { T->memory.give(s); }
     static const uint8_t *u(const std::string &k) { return (const uint8_t *)k.data(); }
     int get(const std::string &k, uint64_t &v) {
-        inside g(T->e, s);
+        inside g(T->memory, s);
         leaf *l = T->find(u(k), k.size());
-        if (l) v = l->v.load();
+        if (l) v = l->value.load();
         return !!l;
     }
     bool put(const std::string &k, uint64_t v, bool r, uint64_t &had) {
-        inside g(T->e, s);
+        inside g(T->memory, s);
         return T->put(s, u(k), k.size(), v, r, had);
     }
     bool remove(const std::string &k, uint64_t &had) {
-        inside g(T->e, s);
+        inside g(T->memory, s);
         return T->remove(s, u(k), k.size(), had);
     }
     int rmw(const std::string &k) {
-        inside g(T->e, s);
+        inside g(T->memory, s);
         leaf *l = T->find(u(k), k.size());
-        if (l) l->v.fetch_add(1);
+        if (l) l->value.fetch_add(1);
         return !!l;
     }
     size_t scan(const std::string &k, size_t n, pairs &got) {
         if (!n) return 0;
-        inside g(T->e, s);
+        inside g(T->memory, s);
         T->scan(u(k), k.size(), [&](leaf *l) {
-            got.push_back({std::string((char *)l->key, l->len), l->v.load()});
+            got.push_back({std::string((char *)l->key, l->length), l->value.load()});
             return got.size() < n;
         });
         return got.size();
@@ -153,10 +153,7 @@ static void one(uint64_t seed, size_t ops, int style) {
     must(got.size() == m.size() &&
              std::equal(got.begin(), got.end(), m.begin(), [](auto &x, auto &y) { return x.first == y.first && x.second == y.second; }),
          "last scan");
-    size_t c[5] = {0, 0, 0, 0, 0};
-    double d = 0;
-    T->census(T->root, c, 0, d);
-    must(c[4] == m.size(), "census");
+    must(tree::count_leaves(T->root) == m.size(), "count");
 }
 // Threads: key i belongs to thread i % 4, which alone inserts and removes it and so knows the answers; every tenth key stays for ever and
 // must be in every scan; all look up all; counters are raised by all.
