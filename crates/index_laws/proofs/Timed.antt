@@ -12,7 +12,7 @@ use Rattle.record_words.specs.declared.layout.Layout.{Layout}
 use Rattle.rowex_core.specs.declared.known.Fresh.{Fresh}
 use Rattle.rowex_core.specs.declared.known.Known.{Known}
 use Rattle.rowex_core.specs.Cores.{Core}
-use Rattle.rowex_core.specs.Knowing.{IsFact, IsUntouched, Knows}
+use Rattle.rowex_core.specs.Knowing.{IsFact, IsUntouched, Knows, IsStillLoaded}
 use Rattle.rowex_core.specs.Opening.{opening}
 use Rattle.rowex_core.proofs.Promises.{opening_is_lawful}
 use Rattle.rowex_table.specs.Rule.{opening_of}
@@ -31,6 +31,7 @@ new_knows c m low h = record {
   counted = record { loaded = omega arith; failed = All-from_recursion (λ f. f.step < 1) [] tt };
   seen = record { front = (c.changes, refl, h.changes); fresh = ([], refl); facts = All-from_recursion (IsFact c.past) [] tt };
   own = h.own;
+  values = All-from_recursion (IsStillLoaded m c) [] tt;
 }
 
 pub opening_is_new : OpeningIsNew

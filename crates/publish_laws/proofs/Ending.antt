@@ -14,7 +14,7 @@ use Rattle.rowex_core.proofs.Kept.{kept_are_not_gone, filter_apart}
 use Rattle.rowex_core.proofs.Having.{owns_none, locks_none}
 use Rattle.rowex_table.proofs.ActsAfter.{marks_own, unlocks_node, unlock_round, epoch_owns, epoch_leaves, mark_gives, mark_leaves, unlock_gives, unlock_leaves, unlock_anchor_gives}
 use Rattle.rowex_table.specs.Runs.{silent}
-use Rattle.publish_laws.specs.Ending.{KeptAreNotGone, EndInAnyOrder, EndBegins, EndMarks, EndRests, EndUnlocks, EndUnlocksAnchor, MarksEach, Settles, UnlocksEach}
+use Rattle.publish_laws.specs.Ending.{KeptAreNotGone, EndInAnyOrder, EndBegins, EndMarks, EndRests, EndUnlocks, EndUnlocksAnchor, EndsAtOnce, MarksEach, Settles, UnlocksEach}
 
 -- all marks
 pub marked_all : (layout : Layout) (P : Owned → Type 0) (epoch : ℕ) (rs : List Rec) (k j : Known) → MarksEach layout epoch rs k j → OwnsJust k.own P rs → AreApart rs →
@@ -43,6 +43,15 @@ end_begins layout k j i x was gone kept epoch done unlike load =
       record { own = due.0; locks = subst (λ z. LocksJust z kept) (sym still.0) done.locks; recs_apart = done.apart; nodes_apart = unlike; epoch_is = due.1 },
       (still.2, still.1),
     )
+
+pub ends_at_once : EndsAtOnce
+ends_at_once k j x was kept done unlike = record {
+  own = record { only = λ o i. absurd ((done.own.only o i).0); each = λ r i. absurd i };
+  locks = done.locks;
+  recs_apart = done.apart;
+  nodes_apart = unlike;
+  epoch_is = refl;
+}
 
 pub end_marks : EndMarks
 end_marks layout k epoch r rs ns e = (

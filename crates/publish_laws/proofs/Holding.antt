@@ -14,7 +14,7 @@ use Rattle.rowex_core.specs.declared.known.Known.{Known}
 use Rattle.rowex_core.specs.declared.known.Locked.{Locked}
 use Rattle.rowex_core.specs.Reading.{entry_of}
 use Rattle.rowex_core.specs.Cores.{Core, bare, heap_of}
-use Rattle.rowex_core.specs.Events.{IsLockedAt, IsPackedAt, stored_words, stored_root}
+use Rattle.rowex_core.specs.Events.{IsLockedAt, IsOfEntry, IsPackedAt, stored_words, stored_root}
 use Rattle.rowex_core.specs.Knowing.{Knows}
 use Rattle.rowex_core.proofs.Owning.{knows_all}
 use Rattle.rowex_core.proofs.Reading.{entry_of_word}
@@ -38,8 +38,15 @@ module _ (layout : Layout) (k : Known) (held : List Locked) (news : List Made) (
   below_is (Leaf j) r is = sym is
   below_is (Node n h) r (words, has, is) = ap (λ (z : NodeWords). z.subtrie) (locked_node layout k held news c stage n words has).1 ∙ sym is
 
+  -- The spot is held in the core.
+  pub spot_in : (key : Key) (d : Entry) (at : Spot) → HoldsAt k held key d at → HoldsSpot (bare c) k.pass key d
+  spot_in key d at (at_root root) = let (lock, is) = (knows_all c k known).anchor (Some d) root in by_anchor lock is
+  spot_in key d at (in_node o slot words has names place) =
+      let (on, same) = locked_node layout k held news c stage o words has in by_node o on (ap (λ (z : NodeWords). seek key z.subtrie) same ∙ names)
+
   -- The store of the entry `e`, by its word, at the spot.
   pub record StoresAt (key : Key) (d : Entry) (at : Spot) (holds : HoldsAt k held key d at) (e : Entry) (w : ℕ) : Type 0 where
+    pub of_entry : IsOfEntry at
     pub spot : HoldsSpot (bare c) k.pass key d
     pub alone : (p : ℕ) → AffectsSpotAlone holds p → AffectsSpotAloneInCore spot p
     pub low : IsLowAt spot e
@@ -50,11 +57,12 @@ module _ (layout : Layout) (k : Known) (held : List Locked) (news : List Made) (
   pub stores_at : (key : Key) (d : Entry) (at : Spot) (holds : HoldsAt k held key d at) (e : Entry) (w : ℕ) → FitsAt holds e → IsWord e w → StoresAt key d at holds e w
   stores_at key d at (at_root root) e w fits word =
       let (lock, is) = (knows_all c k known).anchor (Some d) root in
-      record { spot = by_anchor lock is; alone = λ p one. tt; low = tt; stored = (refl, ap entry_of (sym word.1) ∙ entry_of_word (Some e) word.0); locked = lock; packed = tt }
+      record { of_entry = tt; spot = by_anchor lock is; alone = λ p one. tt; low = tt; stored = (refl, ap entry_of (sym word.1) ∙ entry_of_word (Some e) word.0); locked = lock; packed = tt }
   stores_at key d at (in_node o slot words has names place) e w fits word =
       let (on, same) = locked_node layout k held news c stage o words has in
       let (packed, store, low, locked) = slot_store layout k held news c stage o slot w words key e has place word.0 word.1 fits in
       record {
+        of_entry = tt;
         spot = by_node o on (ap (λ (z : NodeWords). seek key z.subtrie) same ∙ names);
         alone = λ p (r, below, one). elim one [
           | inl h ↦ inl (subst (FirstForkIsBefore p) (sym (below_is d r below)) h)

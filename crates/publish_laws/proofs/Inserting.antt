@@ -3,7 +3,6 @@ use Rattle.std.proofs.Common.{◌≡◌, ◌≢◌, inl, inr, List, [], ◌∷�
 use Rattle.compound_node.specs.declared.entries.Entry.TheVariants.{Leaf, Node}
 use Rattle.tries.specs.Keys.{bit, AgreeBelow}
 use Rattle.versions.specs.declared.Rec.TheVariants.{Node as a_node, Leaf as a_leaf}
-use Rattle.versions.specs.Heap.{LeafWords}
 use Rattle.version_laws.specs.Writer.{added_change}
 use Rattle.version_laws.specs.Rise.{IsNewSubtrie, linked_by_rise}
 use Rattle.version_laws.specs.Statements.{IsPublished}
@@ -39,12 +38,12 @@ insertion layout k held news gone has x n w e at risen has_leaf place word = pub
         let heap = heap_of (stored_words c at w) in
         let root = stored_root c at w in
         let published = insert_at_spot (bare c) k.pass law.core.state x new n place.height e i s.spot (s.alone x.mismatch place.alone) s.low heap root s.stored in
-        publish_words c (added_change k.pass x.item) law known.pass at w (Some e) s.locked word.0 word.1 s.packed None (recs_of news) gone
+        publish_words c (added_change k.pass x.item) law known.pass at w (Some e) s.of_entry s.locked word.0 word.1 s.packed None (recs_of news) gone
         (subst (λ z. IsPublished (bare c) heap root (added_change k.pass x.item) z gone) news_are (subst (λ z. IsPublished (bare c) heap root (added_change k.pass x.item) (linked_by_rise i) z) gone_is published))
         (λ f. f)
 
 pub pair : MayPair
-pair layout k held x fresh p j m w value l view at has spelled holds alone fits there agree differ anew shows word = publishes_made layout k at w (added_change k.pass x) None news [] has.own may
+pair layout k held x fresh p j m w l view at has spelled holds alone fits there agree differ anew shows word = publishes_made layout k at w (added_change k.pass x) None news [] has.own may
   where
     news : List Made
     news = made_of_node m view ∷ made_of_leaf x fresh ∷ []
@@ -54,14 +53,14 @@ pair layout k held x fresh p j m w value l view at has spelled holds alone fits 
         let stage = stage_of layout k held news has c law layout_is known in
         let s = stores_at layout k held news c stage known x.key (Leaf j) at holds (Node m view.height) w fits word in
         let new = made_leaf layout k held news c stage x (fresh, inr (inl refl), spelled) in
-        let key : (leaf_of (c.words (a_leaf j))).key ≡ l = ap (λ (z : LeafWords). z.key) (there c stage) in
+        let key : (leaf_of (c.words (a_leaf j))).key ≡ l = there c stage in
         let agreed = subst (λ z. AgreeBelow p x.key z) (sym key) agree in
         let differs = subst (λ z. bit x.key p ≢ bit z p) (sym key) differ in
         let (t, now) = newest_tree_if_spot_held (bare c) k.pass law.core.state s.spot in
         let is_key = trie_within (leaf_at (bare c) k.pass law.core.state t now x.key j s.spot).place (trie_now (bare c) law.core.state t now) in
-        let (both, pg, trie, built) = pair_tree x p j value (leaf_of (c.words (a_leaf j))).key new.key is_key agreed differs in
+        let (both, pg, trie, built) = pair_tree x p j 0 (leaf_of (c.words (a_leaf j))).key new.key is_key agreed differs in
         let subtrie_made = subst (IsNewSubtrie (bare c) k.pass m (node_fixed view)) shows (made_node layout k held news c stage m view (inl refl) anew.0 (bound_of view both anew (shows ∙ sym pg) trie built)) in
-        publish_words c (added_change k.pass x) law known.pass at w (Some (Node m view.height)) s.locked word.0 word.1 s.packed None (a_node m ∷ a_leaf x.number ∷ []) []
+        publish_words c (added_change k.pass x) law known.pass at w (Some (Node m view.height)) s.of_entry s.locked word.0 word.1 s.packed None (a_node m ∷ a_leaf x.number ∷ []) []
         (pair_at_spot (bare c) k.pass law.core.state x p new j m (node_fixed view) s.spot (s.alone p alone) agreed differs subtrie_made s.low (heap_of (stored_words c at w)) (stored_root c at w) s.stored) (λ f. f)
 
 pub first_made : MayAddFirstKey

@@ -7,6 +7,7 @@ pub mod Sure
 pub mod Rising
 pub mod Inserting
 pub mod Insertions
+pub mod Valuing
 pub mod Replacing
 pub mod Merging
 pub mod Acting

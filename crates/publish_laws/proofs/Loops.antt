@@ -4,7 +4,8 @@ use Rattle.std.proofs.lemmas.List.{append-nil, map-append}
 use Rattle.rowex_table.specs.Rule.{MayStep}
 use Rattle.rowex_core.specs.Events.{IsOffset}
 use Rattle.record_words.specs.declared.layout.Layout.{Layout}
-use Rattle.rowex_core.specs.declared.event.Act.TheVariants.{Fill, Ready, Release}
+use Rattle.rowex_core.specs.declared.event.Act.TheVariants.{Fill, LoadRef, Ready, Release}
+use Rattle.rowex_core.specs.declared.event.Spot.TheVariants.{Value}
 use Rattle.rowex_core.specs.declared.known.Holding.TheVariants.{Held, Ready as IsReady}
 use Rattle.rowex_core.specs.declared.known.Known.{Known}
 use Rattle.rowex_core.specs.Cores.{Core, FitsIn, HasWord}
@@ -18,10 +19,11 @@ use Rattle.rowex_core.proofs.Owning.{knows_all}
 use Rattle.rowex_core.proofs.Having.{owned_used}
 use Rattle.versions.specs.Trades.{IsOneOf, AreApart}
 use Rattle.versions.proofs.Members.{of_right, all_of}
-use Rattle.rowex_table.proofs.ActsBefore.{ready_gives_next, recalls_on, later_trans, same_later}
+use Rattle.rowex_table.proofs.ActsBefore.{ready_gives_next, recalls_on, later_trans, same_later, value_loaded}
 use Rattle.rowex_table.specs.Runs.{silent}
 use Rattle.rowex_table.specs.Made.{HasReadied, IsLater, Made, held_as, recs_of, HoldsMade}
-use Rattle.publish_laws.specs.Loops.{ReadiesEach, StaysLocked}
+use Rattle.publish_laws.specs.Loops.{KeepsLoaded, KeepsValues, ReadiesEach, StaysLocked}
+use Rattle.publish_laws.specs.Stages.{HasLoaded}
 
 -- What is recalled on and on
 
@@ -43,15 +45,23 @@ middle (z ∷ xs) ys x a =
     let m = middle xs ys x a.1 in
     (λ h. elim h [ inl e ↦ a.0 (of_right z xs (x ∷ ys) (inl (sym e))) | inr i ↦ m.0 i ], m.1)
 
--- a step that leaves the locks and the anchor
-pub still_locked : (layout : Layout) (k i : Known) (act : Act) → KeepsRecall act → LeavesLocks act → LeavesAnchor act → IsEvent layout act silent k i → StaysLocked k i
-still_locked layout k i act recalls locks anchor e = let n = act_leaves layout k i act e in (recalls_on layout silent k i act recalls e, n.locks locks, n.anchor anchor)
+-- a step that leaves what was loaded
+pub still_loaded : (layout : Layout) (k i : Known) (act : Act) → KeepsValues act → IsEvent layout act silent k i → KeepsLoaded k i
+still_loaded layout k i (LoadRef (Value l) w) values e leaf value h =
+    subst (IsOneOf (record { leaf = leaf; value = value })) (sym (value_loaded layout silent k i l w e)) (inr h)
+still_loaded layout k i act values e leaf value h = subst (IsOneOf (record { leaf = leaf; value = value })) (sym ((act_leaves layout k i act e).values values)) h
 
-locked_on : (k i j : Known) → StaysLocked k i → StaysLocked i j → StaysLocked k j
-locked_on k i j a b = (later_transitive k i j a.0 b.0, b.1 ∙ a.1, b.2 ∙ a.2)
+-- a step that leaves the locks and the anchor, and what was loaded
+pub still_locked : (layout : Layout) (k i : Known) (act : Act) → KeepsRecall act → LeavesLocks act → LeavesAnchor act → KeepsValues act → IsEvent layout act silent k i → StaysLocked k i
+still_locked layout k i act recalls locks anchor values e =
+    let n = act_leaves layout k i act e in (recalls_on layout silent k i act recalls e, n.locks locks, n.anchor anchor, still_loaded layout k i act values e)
 
-locked_same : (k j : Known) → j ≡ k → StaysLocked k j
-locked_same k j e = (later_if_same k j e, ap (λ (z : Known). z.locks) e, ap (λ (z : Known). z.anchor) e)
+pub locked_on : (k i j : Known) → StaysLocked k i → StaysLocked i j → StaysLocked k j
+locked_on k i j a b = (later_transitive k i j a.0 b.0, b.1 ∙ a.1, b.2 ∙ a.2, λ leaf value h. b.3 leaf value (a.3 leaf value h))
+
+pub locked_same : (k j : Known) → j ≡ k → StaysLocked k j
+locked_same k j e =
+    (later_if_same k j e, ap (λ (z : Known). z.locks) e, ap (λ (z : Known). z.anchor) e, λ leaf value h. subst (λ (z : Known). HasLoaded z leaf value) (sym e) h)
 
 -- one of them is ready
 pub ready_next : (layout : Layout) (done : List Made) (m : Made) (todo : List Made) (k i : Known) → HasReadied k done (m ∷ todo) → IsEvent layout (Ready m.rec) silent k i → HasReadied i (done ++ m ∷ []) todo
@@ -65,7 +75,7 @@ ready_each layout done [] k j has e =
 ready_each layout done (m ∷ todo) k j has (i, e, rest) =
     let moved : (done ++ m ∷ []) ++ todo ≡ done ++ m ∷ todo = append_assoc done (m ∷ []) todo in
     let next = ready_each layout (done ++ m ∷ []) todo i j (ready_next layout done m todo k i has e) rest in
-    (next.0 ∙ ap (map (held_as IsReady)) moved, locked_on k i j (still_locked layout k i (Ready m.rec) tt tt tt e) next.1)
+    (next.0 ∙ ap (map (held_as IsReady)) moved, locked_on k i j (still_locked layout k i (Ready m.rec) tt tt tt tt e) next.1)
 
 -- All that a pass holds it may make ready: then all of it is.
 pub readies_all : (layout : Layout) (k j : Known) (news : List Made) → HoldsMade k news → ReadiesEach layout news k j → (j.own ≡ map (held_as IsReady) news) × StaysLocked k j

@@ -50,6 +50,7 @@ use Rattle.publish_laws.proofs.Holding.{stores_at}
 use Rattle.publish_laws.proofs.Loops.{recs_append}
 use Rattle.publish_laws.proofs.Publishing.{publish_words}
 use Rattle.publish_laws.proofs.Rising.{side_in}
+use Rattle.publish_laws.proofs.Valuing.{loaded_leaf, named_below}
 use Rattle.publish_laws.proofs.Stages.{locked_node, made_node, node_fixed, stage_of}
 
 -- What the words tell of a core: the leaf of the lower node, the two that stand beside each other, and the tree that both become.
@@ -75,19 +76,19 @@ module _ (layout : Layout) (k : Known) (held : List Locked) (news : List Made) (
       ap₂ (λ (x y : NodeWords). fork_of (bit key b.position) b.position (subtrie_without key x.subtrie) y.subtrie) lower across
 
   -- the leaf that goes
-  leaf_in : (value : ℕ) → IsLeafThere layout k held news j key value → IsLeafOf (bare c) k.pass key n j
-  leaf_in value there =
+  leaf_in : IsLeafThere layout k held news j key → IsLeafOf (bare c) k.pass key n j
+  leaf_in there =
       let (lower, down) = locked_node layout k held news c stage n b.lower b.has_lower in
-      record { lock = lower.lock; entry = ap (λ (y : NodeWords). seek key y.subtrie) down ∙ b.leaf; key = ap (λ (y : LeafWords). y.key) (there c stage) }
+      record { lock = lower.lock; entry = ap (λ (y : NodeWords). seek key y.subtrie) down ∙ b.leaf; key = there c stage }
 
-  module _ (value : ℕ) (there : IsLeafThere layout k held news j key value) (z : ℕ) (view : NodeView) (has : IsOneOf (made_of_node z view) news) (may : IsBuiltAnew view) (shows : piece view ≡ merged b) where
+  module _ (there : IsLeafThere layout k held news j key) (z : ℕ) (view : NodeView) (has : IsOneOf (made_of_node z view) news) (may : IsBuiltAnew view) (shows : piece view ≡ merged b) where
     -- the new node
     pub joined_in : IsNewSubtrie (bare c) k.pass z (node_fixed view) (subtrie_merged (bare c) k.pass key o n m beside_in)
     joined_in =
         let (upper, up) = locked_node layout k held news c stage o b.upper b.has_upper in
         let (t, now) = newest_tree_if_node (bare c) stage.lawful.core.state o upper.linked upper.fate in
         let (d, v, pg) = stands_now (bare c) stage.lawful.core.state t now o upper.linked upper.fate in
-        let (s, is, trie, built) = merged_tree (bare c) k.pass stage.lawful.core.state key n j (leaf_in value there) o m beside_in t now ((bare c).heap.nodes o).fixed d v in
+        let (s, is, trie, built) = merged_tree (bare c) k.pass stage.lawful.core.state key n j (leaf_in there) o m beside_in t now ((bare c).heap.nodes o).fixed d v in
         let same : piece view ≡ subtrie_merged (bare c) k.pass key o n m beside_in = shows ∙ sym merged_is in
         subst (IsNewSubtrie (bare c) k.pass z (node_fixed view)) same (made_node layout k held news c stage z view has may.0 (bound_of view s may (same ∙ sym is) trie built))
 
@@ -98,7 +99,7 @@ module _ (layout : Layout) (k : Known) (held : List Locked) (news : List Made) (
         let (upper, up) = locked_node layout k held news c stage o b.upper b.has_upper in
         let (t, now) = newest_tree_if_node (bare c) stage.lawful.core.state o upper.linked upper.fate in
         let (d, v, pg) = stands_now (bare c) stage.lawful.core.state t now o upper.linked upper.fate in
-        let (s, is, trie, built) = collapsed_tree (bare c) k.pass stage.lawful.core.state key n j (leaf_in value there) o m beside_in t now ((bare c).heap.nodes o).fixed d v z (node_fixed view) joined_in in
+        let (s, is, trie, built) = collapsed_tree (bare c) k.pass stage.lawful.core.state key n j (leaf_in there) o m beside_in t now ((bare c).heap.nodes o).fixed d v z (node_fixed view) joined_in in
         let words : subtrie_collapsed key (Node z view.height) ((bare c).heap.nodes o).subtrie ≡ subtrie_collapsed key (Node z view.height) (node_words_of b.upper).subtrie =
         ap (λ (y : NodeWords). subtrie_collapsed key (Node z view.height) y.subtrie) up in
         let (i, linked) = side_in layout k held news c stage (subtrie_collapsed key (Node z view.height) (node_words_of b.upper).subtrie) e us side made s (is ∙ words) trie built in
@@ -106,7 +107,7 @@ module _ (layout : Layout) (k : Known) (held : List Locked) (news : List Made) (
         (f, still ∙ linked)
 
 pub merge : MayMerge
-merge layout k held us key o n m j z height w value view e at has b may shows side holds fits there word =
+merge layout k held us key o n m j z height w value view e at has b may shows side holds fits there loaded word =
     publishes_made layout k at w change (Some value) news gone has.own allowed
   where
     news : List Made
@@ -122,14 +123,16 @@ merge layout k held us key o n m j z height w value view e at has b may shows si
     allowed c law layout_is known =
         let stage = stage_of layout k held news has c law layout_is known in
         let s = stores_at layout k held news c stage known key (Node o height) at holds e w fits word in
-        let is_leaf = there c stage in
-        let seen = leaf_in layout k held news c stage key o n m j b value there in
-        let joined = joined_in layout k held news c stage key o n m j b value there z view (of_right (made_of_node z view) us (made_of_node z view ∷ []) (inl refl)) may shows in
-        let (i, linked) = closed_in layout k held news c stage key o n m j b value there z view (of_right (made_of_node z view) us (made_of_node z view ∷ []) (inl refl)) may shows e us side (λ u h. of_left u us (made_of_node z view ∷ []) h) in
+        let (below, down) = locked_node layout k held news c stage n b.lower b.has_lower in
+        let named = named_below c k.pass key j n below (ap (λ (y : NodeWords). seek key y.subtrie) down ∙ b.leaf) in
+        let is_leaf = loaded_leaf c k law known j key value named (there c stage) loaded in
+        let seen = leaf_in layout k held news c stage key o n m j b there in
+        let joined = joined_in layout k held news c stage key o n m j b there z view (of_right (made_of_node z view) us (made_of_node z view ∷ []) (inl refl)) may shows in
+        let (i, linked) = closed_in layout k held news c stage key o n m j b there z view (of_right (made_of_node z view) us (made_of_node z view ∷ []) (inl refl)) may shows e us side (λ u h. of_left u us (made_of_node z view ∷ []) h) in
         let heap = heap_of (stored_words c at w) in
         let root = stored_root c at w in
         let published = merge_at_spot (bare c) k.pass law.core.state key n j seen o m (beside_in layout k held news c stage key o n m j b) z (node_fixed view) joined height e i s.spot s.low heap root s.stored in
-        publish_words c change law known.pass at w (Some e) s.locked word.0 word.1 s.packed (Some value) (recs_of news) gone
+        publish_words c change law known.pass at w (Some e) s.of_entry s.locked word.0 word.1 s.packed (Some value) (recs_of news) gone
         (subst (λ xs. IsPublished (bare c) heap root change xs gone) (ap (λ xs. xs ++ a_node z ∷ []) linked ∙ sym (recs_append us (made_of_node z view ∷ [])))
         (subst (λ (y : LeafWords). IsPublished (bare c) heap root (removed_change k.pass (item j key y.value)) (linked_for_entry i ++ a_node z ∷ []) gone) is_leaf published)) (λ f. f)
 

@@ -15,23 +15,30 @@ use Rattle.versions.specs.Trades.{HasTraded}
 use Rattle.version_laws.specs.Statements.{IsPublished}
 use Rattle.version_laws.proofs.Now.{trie_now}
 use Rattle.rowex_core.specs.declared.event.Spot.{Spot}
-use Rattle.rowex_core.specs.declared.event.Spot.TheVariants.{Root}
+use Rattle.rowex_core.specs.declared.event.Spot.TheVariants.{Root, Slot, Value}
 use Rattle.rowex_core.specs.Reading.{entry_of}
 use Rattle.rowex_core.specs.Cores.{Core, IsLawful, bare, heap_of}
-use Rattle.rowex_core.specs.Events.{IsLockedAt, IsPackedAt, stored_words, stored_root}
+use Rattle.rowex_core.specs.Events.{IsLockedAt, IsOfEntry, IsPackedAt, IsWordFor, stored_words, stored_root}
 use Rattle.rowex_core.proofs.Reading.{entry_of_word}
 use Rattle.rowex_core.proofs.Promises.{publish_is_a_step}
 use Rattle.rowex_core.proofs.Bridging.{publish_is_legal}
+use Rattle.rowex_core.proofs.Valuing.{legal_store}
 use Rattle.rowex_table.proofs.ActsAfter.{IsPublishOf}
 use Rattle.version_laws.proofs.Search.{holds_within}
 
-pub publish_words : (c : Core) (x : Change) → IsLawful c → x.pass < c.layout.passes → (spot : Spot) (w : ℕ) (e : Option Entry) → IsLockedAt c x.pass spot → HasEntryWord e → entry_word e ≡ w → IsPackedAt c spot w →
+-- what is stored at the spot of an entry is an entry's word
+is_entry : (spot : Spot) (w : ℕ) → IsOfEntry spot → HasEntryWord (entry_of w) × (entry_word (entry_of w) ≡ w) → IsWordFor spot w
+is_entry Root w of word = word
+is_entry (Slot n j) w of word = word
+is_entry (Value l) w of word = absurd of
+
+pub publish_words : (c : Core) (x : Change) → IsLawful c → x.pass < c.layout.passes → (spot : Spot) (w : ℕ) (e : Option Entry) → IsOfEntry spot → IsLockedAt c x.pass spot → HasEntryWord e → entry_word e ≡ w → IsPackedAt c spot w →
     (was : Option ℕ) (new gone : List Rec) → IsPublished (bare c) (heap_of (stored_words c spot w)) (stored_root c spot w) x new gone →
     (Fits (map_of c.changes) x → value_at (map_of c.changes) x.key ≡ was) → IsPublishOf c x.pass spot w x was new gone
-publish_words c x law low spot w e locked fits is packed was new gone p held =
+publish_words c x law low spot w e of locked fits is packed was new gone p held =
     let entry : entry_of w ≡ e = ap entry_of (sym is) ∙ entry_of_word e fits in
-    let (legal, next, change) = publish_is_legal c x.pass spot w law locked (subst HasEntryWord (sym entry) fits, ap entry_word entry ∙ is) packed p.tree x p.legal p.differs in
-    let (told, by, fit, after) = publish_is_a_step c x.pass spot w law (low, legal) in
+    let (legal, next, change) = publish_is_legal c x.pass spot w of law locked (is_entry spot w of (subst HasEntryWord (sym entry) fits, ap entry_word entry ∙ is)) packed p.tree x p.legal p.differs in
+    let (told, by, fit, after) = publish_is_a_step c x.pass spot w law (low, legal_store c x.pass spot w legal) in
     record {
       legal = legal;
       change = change;
@@ -44,7 +51,7 @@ pub publish_root : (c : Core) (x : Change) → IsLawful c → x.pass < c.layout.
     (was : Option ℕ) (new gone : List Rec) → IsPublished (bare c) (heap_of c.words) e x new gone →
     (Fits (map_of c.changes) x → value_at (map_of c.changes) x.key ≡ was) → IsPublishOf c x.pass Root w x was new gone
 publish_root c x law low w e lock fits is was new gone p held =
-    publish_words c x law low Root w e lock fits is tt was new gone
+    publish_words c x law low Root w e tt lock fits is tt was new gone
     (subst (λ z. IsPublished (bare c) (heap_of c.words) z x new gone) (sym (ap entry_of (sym is) ∙ entry_of_word e fits)) p) held
 
 -- What a leaf of the present tree holds

@@ -1,4 +1,4 @@
--- Upserts and removals may be published; and leaves that a pass has read stay.
+-- Values may be stored, and removals published; and leaves that a pass has read keep their keys.
 use Rattle.std.proofs.Common.{ℕ, inl, List, [], ◌∷◌, Some, None, refl, sym, ap, subst, ◌∙◌}
 use Rattle.rowex_core.specs.declared.known.Locked.{Locked}
 use Rattle.rowex_core.specs.Knowing.{IsPinnedSince}
@@ -18,53 +18,59 @@ use Rattle.version_laws.specs.Writer.{replaced_change, removed_change}
 use Rattle.version_laws.specs.Rise.{IsLeafOf, linked_for_entry}
 use Rattle.version_laws.specs.Statements.{IsPublished}
 use Rattle.version_laws.proofs.Holding.{newest_tree_if_spot_held, leaf_at}
-use Rattle.rowex_core.specs.declared.event.Spot.TheVariants.{Root}
+use Rattle.rowex_core.specs.declared.event.Spot.TheVariants.{Root, Value}
 use Rattle.rowex_core.specs.Reading.{node_words_of}
 use Rattle.rowex_core.specs.Cores.{bare, heap_of}
 use Rattle.rowex_core.specs.Events.{stored_words, stored_root}
 use Rattle.rowex_core.proofs.Owning.{knows_all}
 use Rattle.rowex_table.specs.Made.{Made, recs_of}
 use Rattle.rowex_table.proofs.ActsAfter.{publishes_made, MayPublish}
-use Rattle.publish_laws.specs.Rises.{made_of_leaf}
-use Rattle.publish_laws.proofs.Stages.{locked_node, made_leaf, stage_of}
-use Rattle.publish_laws.proofs.Holding.{stores_at}
+use Rattle.publish_laws.proofs.Stages.{locked_node, stage_of}
+use Rattle.publish_laws.proofs.Holding.{spot_in, stores_at}
+use Rattle.publish_laws.proofs.Valuing.{loaded_leaf, locked_value, named_at, named_below}
+use Rattle.rowex_core.proofs.Bridging.{value_is_legal}
+use Rattle.finite_map.specs.declared.Kind.TheVariants.{Replaced}
+use Rattle.versions.specs.Steps.{in_root}
 use Rattle.publish_laws.proofs.Sure.{reach_since}
 use Rattle.publish_laws.proofs.Publishing.{publish_words, publish_root, leaf_held}
 use Rattle.publish_laws.proofs.Rising.{side_in}
-use Rattle.version_laws.proofs.Leaves.{upsert_at_spot}
 use Rattle.version_laws.proofs.Taking.{left_tree, same_entry, remove_at_spot, remove_only}
 use Rattle.version_laws.proofs.Search.{leaf_now}
-use Rattle.publish_laws.specs.Cases.{MayUpsert, MayRemove, MayRemoveLast}
+use Rattle.publish_laws.specs.Cases.{MayStoreValue, MayRemove, MayRemoveLast}
 use Rattle.rowex_core.proofs.Loading.{view as state_of}
 use Rattle.tries.specs.Content.{item}
 
--- A leaf that a pinned pass has read keeps its key and value.
+-- A leaf that a pinned pass has read keeps its key.
 pub leaf_stays : (layout : Layout) (k : Known) (held : List Locked) (news : List Made) (since j : ℕ) (key : Key) (value : ℕ) → IsPinnedSince k since →
-    IsSure k (λ s. IsRead s since j key value) → IsLeafThere layout k held news j key value
+    IsSure k (λ s. IsRead s since j key value) → IsLeafThere layout k held news j key
 leaf_stays layout k held news since j key value pinned sure c stage =
     let (n, lo, hi, st) = sure c stage.lawful stage.recalls in
-    leaf_now (state_of c) stage.lawful.core.state since (reach_since k since pinned c stage.lawful stage.recalls) n j j key value lo hi st
+    (leaf_now (state_of c) stage.lawful.core.state since (reach_since k since pinned c stage.lawful stage.recalls) n j j key value lo hi st).key
 
-pub upsert : MayUpsert
-upsert layout k held x fresh j w value at has spelled holds fits there word = publishes_made layout k at w (replaced_change k.pass x) (Some value) news (a_leaf j ∷ []) has.own may
+pub store_value : MayStoreValue
+store_value layout k held key j w value at has holds there loaded small = publishes_made layout k (Value j) w change (Some value) [] [] has.own may
   where
-    news : List Made
-    news = made_of_leaf x fresh ∷ []
+    change : Change
+    change = replaced_change k.pass (item j key w)
 
-    may : MayPublish layout k at w (replaced_change k.pass x) (Some value) (a_leaf x.number ∷ []) (a_leaf j ∷ [])
+    may : MayPublish layout k (Value j) w change (Some value) [] []
     may c law layout_is known =
-        let stage = stage_of layout k held news has c law layout_is known in
-        let s = stores_at layout k held news c stage known x.key (Leaf j) at holds (Leaf x.number) w fits word in
-        let new = made_leaf layout k held news c stage x (fresh, inl refl, spelled) in
-        let is_leaf = there c stage in
-        let (t, now) = newest_tree_if_spot_held (bare c) k.pass law.core.state s.spot in
-        let stands : Within (leaf j x.key value) t = subst (λ (z : LeafWords). Within (leaf j z.key z.value) t) is_leaf (leaf_at (bare c) k.pass law.core.state t now x.key j s.spot).place in
-        publish_words c (replaced_change k.pass x) law known.pass at w (Some (Leaf x.number)) s.locked word.0 word.1 s.packed (Some value) (a_leaf x.number ∷ []) (a_leaf j ∷ [])
-        (upsert_at_spot (bare c) k.pass law.core.state x new j s.spot (ap (λ (z : LeafWords). z.key) is_leaf) (heap_of (stored_words c at w)) (stored_root c at w) s.stored)
-        (λ f. leaf_held c law t now j x.key value stands)
+        let stage = stage_of layout k held [] has c law layout_is known in
+        let spot = spot_in layout k held [] c stage known key (Leaf j) at holds in
+        let named = named_at c k.pass key j spot in
+        let is_leaf = loaded_leaf c k law known j key value named (there c stage) loaded in
+        let (legal, trade) = value_is_legal c k.pass j w law (locked_value c k.pass law j named) small in
+        let (t, now) = newest_tree_if_spot_held (bare c) k.pass law.core.state spot in
+        let stands : Within (leaf j key value) t = subst (λ (z : LeafWords). Within (leaf j z.key z.value) t) is_leaf (leaf_at (bare c) k.pass law.core.state t now key j spot).place in
+        record {
+          legal = legal;
+          change = ap (λ z. let x : Change = record { pass = k.pass; key = z; value = w; kind = Replaced } in x) (there c stage);
+          was_held = leaf_held c law t now j key value stands;
+          trade = trade;
+        }
 
 pub remove : MayRemove
-remove layout k held news key n j height w value e words at has side below names holds fits there word =
+remove layout k held news key n j height w value e words at has side below names holds fits there loaded word =
     publishes_made layout k at w change (Some value) news (a_node n ∷ a_leaf j ∷ []) has.own may
   where
     change : Change
@@ -75,8 +81,9 @@ remove layout k held news key n j height w value e words at has side below names
         let stage = stage_of layout k held news has c law layout_is known in
         let s = stores_at layout k held news c stage known key (Node n height) at holds e w fits word in
         let (locked, same) = locked_node layout k held news c stage n words below in
-        let is_leaf = there c stage in
-        let seen : IsLeafOf (bare c) k.pass key n j = record { lock = locked.lock; entry = ap (λ (y : NodeWords). seek key y.subtrie) same ∙ names; key = ap (λ (y : LeafWords). y.key) is_leaf } in
+        let entry = ap (λ (y : NodeWords). seek key y.subtrie) same ∙ names in
+        let is_leaf = loaded_leaf c k law known j key value (named_below c k.pass key j n locked entry) (there c stage) loaded in
+        let seen : IsLeafOf (bare c) k.pass key n j = record { lock = locked.lock; entry = entry; key = there c stage } in
         let (t, now) = newest_tree_if_spot_held (bare c) k.pass law.core.state s.spot in
         let (b, pg, trie, built) = left_tree (bare c) k.pass law.core.state key n j seen t now locked.linked locked.fate in
         let (i, made) = side_in layout k held news c stage (subtrie_without key (node_words_of words).subtrie) e news side (λ m h. h) b (pg ∙ ap (λ (y : NodeWords). subtrie_without key y.subtrie) same) trie built in
@@ -84,12 +91,12 @@ remove layout k held news key n j height w value e words at has side below names
         let heap = heap_of (stored_words c at w) in
         let root = stored_root c at w in
         let published = remove_at_spot (bare c) k.pass law.core.state key n j seen height e z s.spot s.low heap root s.stored in
-        publish_words c change law known.pass at w (Some e) s.locked word.0 word.1 s.packed (Some value) (recs_of news) (a_node n ∷ a_leaf j ∷ [])
+        publish_words c change law known.pass at w (Some e) s.of_entry s.locked word.0 word.1 s.packed (Some value) (recs_of news) (a_node n ∷ a_leaf j ∷ [])
         (subst (λ us. IsPublished (bare c) heap root change us (a_node n ∷ a_leaf j ∷ [])) (still ∙ made)
         (subst (λ (y : LeafWords). IsPublished (bare c) heap root (removed_change k.pass (item j key y.value)) (linked_for_entry z) (a_node n ∷ a_leaf j ∷ [])) is_leaf published)) (λ f. f)
 
 pub remove_the_last : MayRemoveLast
-remove_the_last layout k held j value key has anchor there = publishes_made layout k Root 0 change (Some value) [] (a_leaf j ∷ []) has.own may
+remove_the_last layout k held j value key has anchor there loaded = publishes_made layout k Root 0 change (Some value) [] (a_leaf j ∷ []) has.own may
   where
     change : Change
     change = removed_change k.pass (item j key value)
@@ -99,5 +106,5 @@ remove_the_last layout k held j value key has anchor there = publishes_made layo
         let stage = stage_of layout k held [] has c law layout_is known in
         let (lock, root) = (knows_all c k known).anchor (Some (Leaf j)) anchor in
         publish_root c change law known.pass 0 None lock tt refl (Some value) [] (a_leaf j ∷ [])
-        (subst (λ (y : LeafWords). IsPublished (bare c) (heap_of c.words) None (removed_change k.pass (item j y.key y.value)) [] (a_leaf j ∷ [])) (there c stage)
+        (subst (λ (y : LeafWords). IsPublished (bare c) (heap_of c.words) None (removed_change k.pass (item j y.key y.value)) [] (a_leaf j ∷ [])) (loaded_leaf c k law known j key value (in_root lock root) (there c stage) loaded)
         (remove_only (bare c) k.pass law.core.state j lock root)) (λ f. f)

@@ -1,5 +1,5 @@
--- Each case of an insertion, an upsert and a removal: from what a pass knows to its publish, and to what it knows then.
-use Rattle.std.specs.Prelude.{◌≡◌, ◌≢◌, ◌++◌, ℕ, List, [], ◌∷◌, Some, None}
+-- Each case of an insertion, a store of a value and a removal: from what a pass knows to its publish, and to what it knows then.
+use Rattle.std.specs.Prelude.{◌≡◌, ◌≢◌, ◌++◌, ℕ, ◌<◌, ◌^◌, List, [], ◌∷◌, Some, None}
 use Rattle.compound_node.specs.Nodes.{NodeView, piece}
 use Rattle.compound_node.specs.declared.entries.Entry.{Entry}
 use Rattle.compound_node.specs.declared.entries.Entry.TheVariants.{Leaf, Node}
@@ -15,13 +15,13 @@ use Rattle.versions.specs.declared.Rec.TheVariants.{Node as a_node, Leaf as a_le
 use Rattle.versions.specs.Trades.{IsOneOf}
 use Rattle.version_laws.specs.Writer.{added_change, replaced_change, removed_change}
 use Rattle.rowex_core.specs.declared.event.Spot.{Spot}
-use Rattle.rowex_core.specs.declared.event.Spot.TheVariants.{Root}
+use Rattle.rowex_core.specs.declared.event.Spot.TheVariants.{Root, Value}
 use Rattle.rowex_core.specs.declared.known.Known.{Known}
 use Rattle.rowex_core.specs.declared.known.Locked.{Locked}
 use Rattle.rowex_core.specs.Reading.{node_words_of}
 use Rattle.rowex_table.specs.Made.{Made}
 use Rattle.rowex_table.specs.Publishes.{Publishes}
-use Rattle.publish_laws.specs.Stages.{AreBeside, HasReady, IsLeafThere, SpellsLeaf, merged}
+use Rattle.publish_laws.specs.Stages.{AreBeside, HasLoaded, HasReady, IsLeafThere, SpellsLeaf, merged}
 use Rattle.publish_laws.specs.Spots.{HoldsAt, FitsAt, AffectsSpotAlone}
 use Rattle.publish_laws.specs.Rises.{made_of_node, made_of_leaf, IsBuiltAnew, IsSide}
 
@@ -38,27 +38,27 @@ MayAddFirstKey =
 -- A pair: a new node of a leaf, which alone is affected, and the new one. In a node this is a leaf pushdown, at the root the second key.
 abbrev pub MayPair : Type 0
 MayPair =
-    (layout : Layout) (k : Known) (held : List Locked) (x : Item) (fresh : List ℕ) (p j m w value : ℕ) (l : Key) (view : NodeView) (at : Spot) →
+    (layout : Layout) (k : Known) (held : List Locked) (x : Item) (fresh : List ℕ) (p j m w : ℕ) (l : Key) (view : NodeView) (at : Spot) →
     HasReady k held (made_of_node m view ∷ made_of_leaf x fresh ∷ []) → SpellsLeaf x fresh →
     (s : HoldsAt k held x.key (Leaf j) at) → AffectsSpotAlone s p → FitsAt s (Node m view.height) →
-    IsLeafThere layout k held (made_of_node m view ∷ made_of_leaf x fresh ∷ []) j l value → AgreeBelow p x.key l → bit x.key p ≢ bit l p →
+    IsLeafThere layout k held (made_of_node m view ∷ made_of_leaf x fresh ∷ []) j l → AgreeBelow p x.key l → bit x.key p ≢ bit l p →
     IsBuiltAnew view → piece view ≡ subtrie_forked (bit x.key p) p (Leaf x.number) (Place (Leaf j)) → IsWord (Node m view.height) w →
     Publishes layout k at w (added_change k.pass x) None []
 
--- Upsert of a held key: a new leaf in the place of the old one. The old value is that of the old leaf.
-abbrev pub MayUpsert : Type 0
-MayUpsert =
-    (layout : Layout) (k : Known) (held : List Locked) (x : Item) (fresh : List ℕ) (j w value : ℕ) (at : Spot) →
-    HasReady k held (made_of_leaf x fresh ∷ []) → SpellsLeaf x fresh →
-    (s : HoldsAt k held x.key (Leaf j) at) → FitsAt s (Leaf x.number) → IsLeafThere layout k held (made_of_leaf x fresh ∷ []) j x.key value → IsWord (Leaf x.number) w →
-    Publishes layout k at w (replaced_change k.pass x) (Some value) (a_leaf j ∷ [])
+-- A new value of a held key: it is stored to the key's leaf, under the lock of what names that. The old value is the one that was loaded
+-- under this lock. No record comes or goes.
+abbrev pub MayStoreValue : Type 0
+MayStoreValue =
+    (layout : Layout) (k : Known) (held : List Locked) (key : Key) (j w value : ℕ) (at : Spot) → HasReady k held [] → HoldsAt k held key (Leaf j) at →
+    IsLeafThere layout k held [] j key → HasLoaded k j value → w < 2 ^ 64 → Publishes layout k (Value j) w (replaced_change k.pass (item j key w)) (Some value) []
 
--- Removal: what is left of the node that names the leaf, one entry or a new node, takes its place.
+-- Removal: what is left of the node that names the leaf, one entry or a new node, takes its place. The value is the one that was loaded
+-- under the lock of that node, and so below.
 abbrev pub MayRemove : Type 0
 MayRemove =
     (layout : Layout) (k : Known) (held : List Locked) (news : List Made) (key : Key) (n j height w value : ℕ) (e : Entry) (words : List ℕ) (at : Spot) →
     HasReady k held news → IsSide (subtrie_without key (node_words_of words).subtrie) e news → IsOneOf (record { node = n; words = words }) held →
-    seek key (node_words_of words).subtrie ≡ Leaf j → (s : HoldsAt k held key (Node n height) at) → FitsAt s e → IsLeafThere layout k held news j key value → IsWord e w →
+    seek key (node_words_of words).subtrie ≡ Leaf j → (s : HoldsAt k held key (Node n height) at) → FitsAt s e → IsLeafThere layout k held news j key → HasLoaded k j value → IsWord e w →
     Publishes layout k at w (removed_change k.pass (item j key value)) (Some value) (a_node n ∷ a_leaf j ∷ [])
 
 -- And one that merges: what is left of the node and the node beside it become one new node z, whose entry closes the fork between them in
@@ -68,11 +68,11 @@ MayMerge =
     (layout : Layout) (k : Known) (held : List Locked) (us : List Made) (key : Key) (o n m j z height w value : ℕ) (view : NodeView) (e : Entry) (at : Spot) →
     HasReady k held (us ++ made_of_node z view ∷ []) → (b : AreBeside held key o n m j) → IsBuiltAnew view → piece view ≡ merged b →
     IsSide (subtrie_collapsed key (Node z view.height) (node_words_of b.upper).subtrie) e us →
-    (s : HoldsAt k held key (Node o height) at) → FitsAt s e → IsLeafThere layout k held (us ++ made_of_node z view ∷ []) j key value → IsWord e w →
+    (s : HoldsAt k held key (Node o height) at) → FitsAt s e → IsLeafThere layout k held (us ++ made_of_node z view ∷ []) j key → HasLoaded k j value → IsWord e w →
     Publishes layout k at w (removed_change k.pass (item j key value)) (Some value) (a_node o ∷ a_node n ∷ a_node m ∷ a_leaf j ∷ [])
 
 -- And of the last key.
 abbrev pub MayRemoveLast : Type 0
 MayRemoveLast =
     (layout : Layout) (k : Known) (held : List Locked) (j value : ℕ) (key : Key) → HasReady k held [] → k.anchor ≡ Some (Some (Leaf j)) →
-    IsLeafThere layout k held [] j key value → Publishes layout k Root 0 (removed_change k.pass (item j key value)) (Some value) (a_leaf j ∷ [])
+    IsLeafThere layout k held [] j key → HasLoaded k j value → Publishes layout k Root 0 (removed_change k.pass (item j key value)) (Some value) (a_leaf j ∷ [])

@@ -46,6 +46,11 @@ EndBegins =
     (layout : Layout) (k j i : Known) (x : Change) (was : Option ℕ) (gone : List Rec) (kept : List ℕ) (epoch : ℕ) → HasPublished k j x was gone kept →
     AreApart kept → IsEvent layout (LoadEpoch epoch) silent j i → IsEnding i epoch gone kept × SeesTheSame j i
 
+-- and if nothing was unlinked, it has begun;
+abbrev pub EndsAtOnce : Type 0
+EndsAtOnce =
+    (k j : Known) (x : Change) (was : Option ℕ) (kept : List ℕ) → HasPublished k j x was [] kept → AreApart kept → IsEnding j j.round.epoch [] kept
+
 -- then the first record may be marked, and the rest is left,
 abbrev pub EndMarks : Type 0
 EndMarks =

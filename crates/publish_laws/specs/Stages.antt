@@ -88,6 +88,10 @@ pub record AreBeside (held : List Locked) (key : Key) (o n m j : ℕ) : Type 0 w
 abbrev pub merged : {held : List Locked} {key : Key} {o n m j : ℕ} → AreBeside held key o n m j → Subtrie
 merged {key = key} b = fork_of (bit key b.position) b.position (subtrie_without key (node_words_of b.lower).subtrie) (node_words_of b.other).subtrie
 
--- In each stage leaf j has this key, and this value.
-abbrev pub IsLeafThere : Layout → Known → List Locked → List Made → ℕ → Key → ℕ → Type 0
-IsLeafThere layout k held news j key value = (c : Core) → IsStage layout k held news c → leaf_of (c.words (a_leaf j)) ≡ record { key = key; value = value }
+-- In each stage leaf j has this key.
+abbrev pub IsLeafThere : Layout → Known → List Locked → List Made → ℕ → Key → Type 0
+IsLeafThere layout k held news j key = (c : Core) → IsStage layout k held news c → (leaf_of (c.words (a_leaf j))).key ≡ key
+
+-- The pass has loaded this value of leaf j, and has neither locked nor unlocked, published or marked since.
+abbrev pub HasLoaded : Known → ℕ → ℕ → Type 0
+HasLoaded k j value = IsOneOf (record { leaf = j; value = value }) k.values

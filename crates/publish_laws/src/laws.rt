@@ -1,8 +1,8 @@
 //! The laws of a writer's publish from what it knows. The functions do nothing: their contracts are the laws.
 
 ghost use Rattle.publish_laws.specs.Acts.{ActGoesOn, BesideMayLock, LedMayLock, LoadsOfLocked};
-ghost use Rattle.publish_laws.specs.Cases.{MayAddFirstKey, MayMerge, MayPair, MayRemove, MayRemoveLast, MayUpsert};
-ghost use Rattle.publish_laws.specs.Ending.{EndBegins, EndInAnyOrder, EndMarks, EndRests, EndUnlocks, EndUnlocksAnchor, KeptAreNotGone, Settles};
+ghost use Rattle.publish_laws.specs.Cases.{MayAddFirstKey, MayMerge, MayPair, MayRemove, MayRemoveLast, MayStoreValue};
+ghost use Rattle.publish_laws.specs.Ending.{EndBegins, EndInAnyOrder, EndMarks, EndRests, EndUnlocks, EndUnlocksAnchor, EndsAtOnce, KeptAreNotGone, Settles};
 ghost use Rattle.publish_laws.specs.Insertions.{Insertion, NormalInsert, Overflow, PullUp, PullUpOverflow, StaysWhole};
 ghost use Rattle.publish_laws.specs.Rises.{AboveGoesOn};
 ghost use Rattle.publish_laws.specs.Sure.{DescentFinds};
@@ -91,27 +91,29 @@ pub fn pair_of_leaves_may_be_published()
     ensures { MayPair }
 {}
 
-// Upsert and removal
+// Values and removal
 
-/// A pass may publish an upsert of a held key: the new leaf takes the old one's place and unlinks it. The value that was held is known.
-pub fn upsert_may_be_published()
-    ensures { MayUpsert }
+/// A pass that has locked what names a key's leaf, and has loaded its value since, may store another value there. No record comes or goes,
+/// and the value that was held is known.
+pub fn value_may_be_stored()
+    ensures { MayStoreValue }
 {}
 
 /// A pass may publish a removal: what is left of the locked node that names the leaf, one entry or a new node, takes that node's place, at
-/// a locked spot. The publish unlinks node and leaf, and the value that the key had is known.
+/// a locked spot. The publish unlinks node and leaf. The value that the key had is the one that the pass has loaded under its locks.
 pub fn removal_may_be_published()
     ensures { MayRemove }
 {}
 
 /// A pass that has locked a leaf's node, its sibling and the node above may publish a merge. One new node has what is left beside the leaf,
 /// and the sibling's entries. What is left of the node above, with that node as one entry for two, takes its place, at a locked spot. The
-/// publish unlinks the leaf and the three old nodes, and the value that the key had is known.
+/// publish unlinks the leaf and the three old nodes. The value that the key had is the one that the pass has loaded under its locks.
 pub fn merge_may_be_published()
     ensures { MayMerge }
 {}
 
-/// A pass that has locked the anchor may publish the removal of the only leaf, which empties the root. The value of its key is known.
+/// A pass that has locked the anchor may publish the removal of the only leaf, which empties the root. The value that its key had is the one
+/// that the pass has loaded under its lock.
 pub fn last_removal_may_be_published()
     ensures { MayRemoveLast }
 {}
@@ -126,6 +128,11 @@ pub fn kept_locks_are_not_unlinked()
 /// A load of the epoch straight after a publish begins its end: the pass has just what was unlinked, to be marked with that epoch.
 pub fn epoch_load_begins_end()
     ensures { EndBegins }
+{}
+
+/// A publish that unlinks no record has no epoch to load: its end has begun.
+pub fn end_begins_at_once_if_nothing_is_unlinked()
+    ensures { EndsAtOnce }
 {}
 
 /// At the end of a publish the first unlinked record may be marked with the epoch loaded. The end goes on without it, the rest as before.

@@ -49,7 +49,7 @@ others_after q a b c h g m =
 -- What passes know
 
 knows_noted : (c : Core) (k : Known) (notes : List Note) → Knows c k → Knows c (record k { notes = notes })
-knows_noted c k notes h = record { pass = h.pass; counted = h.counted; seen = h.seen; own = h.own }
+knows_noted c k notes h = record { pass = h.pass; counted = h.counted; seen = h.seen; own = h.own; values = h.values }
 
 knows_shown : (c : Core) (k : Known) (front : List Change) → Knows c k → BeginsWith front k.front → BeginsWith c.changes front → Knows c (record k { front = front })
 knows_shown c k front h g m = record {
@@ -57,6 +57,7 @@ knows_shown c k front h g m = record {
   counted = h.counted;
   seen = record { front = others_after k.pass k.front front c.changes h.seen.front g m; fresh = begins_on k.fresh.front k.front front h.seen.fresh g; facts = h.seen.facts };
   own = h.own;
+  values = h.values;
 }
 
 -- A step

@@ -5,7 +5,7 @@ use Rattle.versions.specs.Core.{Fate, Free, Held, Ready as ReadyBy, InTree, Unli
 use Rattle.rowex_core.specs.declared.event.Act.{Act}
 use Rattle.rowex_core.specs.declared.event.Act.TheVariants.{Claim, Fill, Ready, Release, LoadRef, LoadFixed, Lock, Unlock, Publish, Mark, LoadEpoch, Advance, SetPin, ClearPin, LoadPin, LoadState, GiveBack}
 use Rattle.rowex_core.specs.declared.event.Target.TheVariants.{Anchor, Node as NodeTarget}
-use Rattle.rowex_core.specs.declared.event.Spot.TheVariants.{Root, Slot}
+use Rattle.rowex_core.specs.declared.event.Spot.TheVariants.{Root, Slot, Value}
 use Rattle.rowex_core.specs.declared.known.Known.{Known}
 use Rattle.rowex_core.specs.Cores.{Core}
 use Rattle.rowex_core.specs.Knowing.{learned, claim_learned, anchor_learned}
@@ -41,6 +41,7 @@ teaches c (Ready r) k = (refl, inl refl)
 teaches c (Release r) k = (refl, inl refl)
 teaches c (LoadRef Root w) k = (refl, inr refl)
 teaches c (LoadRef (Slot n j) w) k = (refl, inl refl)
+teaches c (LoadRef (Value l) w) k = (refl, inl refl)
 teaches c (LoadFixed r offset w) k = (refl, inl refl)
 teaches c (Lock Anchor found) k = let h = anchor_leaves c found k c.anchor in (h.0, inl h.1)
 teaches c (Lock (NodeTarget n) found) k = let h = either_leaves (nat_eq found 2) _ _ k (refl, refl) (refl, refl) in (h.0, inl h.1)

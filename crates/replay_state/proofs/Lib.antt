@@ -2,6 +2,7 @@
 pub mod Tables
 pub mod Packing
 pub mod Reading
+pub mod Searches
 pub mod Sound
 pub mod RecordSteps
 pub mod LoadSteps
@@ -12,3 +13,4 @@ pub mod Opening
 pub mod Linking
 pub mod Published
 pub mod Stores
+pub mod Valued

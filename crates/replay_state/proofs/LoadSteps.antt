@@ -6,7 +6,7 @@ use Rattle.versions.specs.declared.Rec.TheVariants.{Node as a_node, Leaf as a_le
 use Rattle.record_words.specs.Entry.{HasEntryWord, entry_word}
 use Rattle.rowex_core.specs.declared.event.Act.{Act}
 use Rattle.rowex_core.specs.declared.event.Act.TheVariants.{LoadFixed, LoadRef, LoadState}
-use Rattle.rowex_core.specs.declared.event.Spot.TheVariants.{Root, Slot}
+use Rattle.rowex_core.specs.declared.event.Spot.TheVariants.{Root, Slot, Value}
 use Rattle.record_words.specs.declared.layout.Layout.{Layout}
 use Rattle.rowex_core.specs.Cores.{Core, IsLawful, HasRecord, HasWord as HasPlace, word_count_of}
 use Rattle.rowex_core.specs.Words.{record_word}
@@ -23,7 +23,7 @@ pub decided : (b : Bool) (s : StateView) (q : ℕ) (act : Act) → ((c : Core) �
 decided true s q act same holds fails = λ c lawful h. (holds refl c lawful h, same c h)
 decided false s q act same holds fails = (refl, fails refl)
 
-record_word_at : (c : Core) (r : Rec) (i offset : ℕ) → offset ≡ suc i → record_word c r offset ≡ get_or (c.words r) i 0
+pub record_word_at : (c : Core) (r : Rec) (i offset : ℕ) → offset ≡ suc i → record_word c r offset ≡ get_or (c.words r) i 0
 record_word_at c r i offset e = rw e refl
 
 -- a word of a record
@@ -51,6 +51,11 @@ pub slot_loaded : (b : Bool) (s : StateView) (q n j w : ℕ) → ((b ≡ true) �
 slot_loaded b s q n j w test = decided b s q (LoadRef (Slot n j) w) (λ c h. h)
     (λ t c lawful h. let y = test.0 t in let x = word_is s c h (a_node n) (25 + j) (26 + j) w (omega arith) y.1 in (x.0, y.0, x.1))
     (λ f c lawful h (there, few, is). let x = test.1 (few, word_from s c lawful h (a_node n) (25 + j) (26 + j) w (omega arith) (omega (arith, few)) there is) in cc)
+
+pub value_loaded : (b : Bool) (s : StateView) (q l w : ℕ) → ((b ≡ true) ↔ HasWordStored s.records (a_leaf l) 0 w) → IsStepped b s s q (LoadRef (Value l) w)
+value_loaded b s q l w test = decided b s q (LoadRef (Value l) w) (λ c h. h)
+    (λ t c lawful h. word_is s c h (a_leaf l) 0 1 w refl (test.0 t))
+    (λ f c lawful h (there, is). let x = test.1 (word_from s c lawful h (a_leaf l) 0 1 w refl (omega arith) there is) in cc)
 
 fixed_suc : (r : Rec) (offset : ℕ) → IsFixedOffset r offset → (offset ≡ suc (offset - 1)) × (offset - 1 < word_count_of r)
 fixed_suc (a_node n) offset h = (omega (arith, h), omega (arith, h))

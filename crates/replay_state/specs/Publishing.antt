@@ -1,5 +1,8 @@
 -- A publish, once its word is stored.
-use Rattle.std.specs.Prelude.{◌≡◌, ℕ, List, Bool, true, false, Option}
+use Rattle.std.specs.Prelude.{◌≡◌, ℕ, List, length, slice_get, Bool, true, false, if◌then◌else◌, nat_eq, Option, Some}
+use Rattle.replay_trees.specs.declared.trees.Item.{Item as ReadItem}
+use Rattle.replay_trees.specs.Versions.{read_item}
+use Rattle.tries.specs.Content.{Item, item}
 use Rattle.compound_node.specs.declared.entries.Entry.{Entry}
 use Rattle.finite_map.specs.declared.Change.{Change}
 use Rattle.versions.specs.declared.Rec.{Rec}
@@ -37,3 +40,12 @@ published c q words root = record { layout = c.layout; words = words; shared = p
 abbrev pub IsPublishJudged : Bool → StateView → StateView → ℕ → Option Entry → Type 0
 IsPublishJudged true s t q root = (c : Core) (words : Rec → List ℕ) → IsWordStored s c words → MayMakeVersion c q words root × IsStateOf t (published c q words root)
 IsPublishJudged false s t q root = (t ≡ s) × ((c : Core) (words : Rec → List ℕ) → IsWordStored s c words → AreWordsPacked c words → ¬ (MayMakeVersion c q words root))
+
+-- the leaf with this value, where it has this number
+abbrev pub with_value : ℕ → ℕ → Item → Item
+with_value l w x = item x.number x.key (if nat_eq x.number l then w else x.value)
+
+-- each leaf of the list is so
+pub record AreRevalued (l w : ℕ) (old new : List ReadItem) : Type 0 where
+  pub count : length new ≡ length old
+  pub each : (i : ℕ) (x : ReadItem) → slice_get new i ≡ Some x → (y : ReadItem) × (slice_get old i ≡ Some y) × (read_item x ≡ with_value l w (read_item y))

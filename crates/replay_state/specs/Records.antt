@@ -1,5 +1,6 @@
 -- The records of a table as data, and the functions that they stand for.
-use Rattle.std.specs.Prelude.{◌≡◌, ℕ, List, length, set, slice_get, Bool, Option, Some, None, option_and_then, option_map}
+use Rattle.std.specs.Prelude.{◌≡◌, ℕ, ◌+◌, ◌<◌, List, length, set, slice_get, Bool, Option, Some, None, option_and_then, option_map}
+use Rattle.record_words.specs.declared.TheConstants.{HEAD_WORDS, MAX_ENTRIES}
 use Rattle.record_words.specs.declared.layout.Layout.{Layout}
 use Rattle.record_words.specs.declared.state.Tag.{Tag}
 use Rattle.record_words.specs.State.{HasStateWord, state_word}
@@ -7,9 +8,10 @@ use Rattle.versions.specs.declared.Rec.{Rec}
 use Rattle.versions.specs.declared.Rec.TheVariants.{Node as a_node, Leaf as a_leaf}
 use Rattle.versions.specs.Core.{Fate}
 use Rattle.rowex_core.specs.Cores.{FitsIn}
-use Rattle.rowex_core.specs.Reading.{IsPacked}
+use Rattle.rowex_core.specs.Reading.{IsPacked, leaf_of}
 use Rattle.rowex_core.specs.Words.{tag_of}
 use Rattle.replay_state.specs.declared.fate.Fate.{Fate as Stored}
+use Rattle.replay_state.specs.declared.fate.Fate.TheVariants.{InTree}
 use Rattle.replay_state.specs.Fates.{stored_fate}
 use Rattle.replay_state.specs.Links.{AllMayBeLinked, AllMayBeUnlinked, AreNextFates}
 
@@ -47,6 +49,26 @@ HasState s r w = (t : Tag) × (tag_in s r ≡ Some t) × HasStateWord t × (stat
 -- this word stands at this place among its words
 abbrev pub HasWordStored : RecordsView → Rec → ℕ → ℕ → Type 0
 HasWordStored s r i w = (words : List ℕ) × (words_in s r ≡ Some words) × (slice_get words i ≡ Some w)
+
+-- one of the node's entries has this word
+abbrev pub HasEntryStored : RecordsView → ℕ → ℕ → Type 0
+HasEntryStored s n w = (j : ℕ) × (j < MAX_ENTRIES) × HasWordStored s (a_node n) (HEAD_WORDS + j) w
+
+-- and pass q has locked the node, which is in the tree
+abbrev pub IsEntryLocked : RecordsView → ℕ → ℕ → ℕ → Type 0
+IsEntryLocked s q w n = (lock_in s (a_node n) ≡ Some (Some q)) × ((since : ℕ) × (fate_in s (a_node n) ≡ Some (InTree since))) × HasEntryStored s n w
+
+-- so it is with a node of the table
+abbrev pub HasLockedEntry : RecordsView → ℕ → ℕ → Type 0
+HasLockedEntry s q w = (n : ℕ) × (n < s.layout.nodes) × IsEntryLocked s q w n
+
+-- its words spell a value
+abbrev pub IsSpelledIn : RecordsView → Rec → Type 0
+IsSpelledIn s r = (words : List ℕ) × (words_in s r ≡ Some words) × IsPacked r words
+
+-- the leaf's words spell one with this key
+abbrev pub HasKeyIn : RecordsView → ℕ → List ℕ → Type 0
+HasKeyIn s n key = (words : List ℕ) × (words_in s (a_leaf n) ≡ Some words) × ((leaf_of words).key ≡ key)
 
 -- its words spell a value, which has room in it
 abbrev pub IsPackedIn : RecordsView → Rec → Type 0

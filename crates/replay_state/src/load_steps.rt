@@ -14,7 +14,7 @@ use replay_trees::unpack_entry;
 use rowex_core::{Rec, Spot};
 
 impl State {
-    /// Whether it is legal that `pass` loads the entry word at `spot` and finds `word`: the table has the spot, and `word` stands there.
+    /// Whether it is legal that `pass` loads the word at `spot` and finds `word`: the table has the spot, and `word` stands there.
     pub(crate) fn load_ref(&self, pass: u16, spot: Spot, word: u64) -> bool
         ensures { IsStepped result self.now self.now pass (LoadRef spot word) }
     {
@@ -27,6 +27,7 @@ impl State {
                 self.records
                     .has_word(Rec::Node(node), HEAD_WORDS + entry as usize, word)
             }
+            Spot::Value { leaf } => self.records.has_word(Rec::Leaf(leaf), 0, word),
         }
     }
 

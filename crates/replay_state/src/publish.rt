@@ -1,37 +1,76 @@
 //! The publish: the one step that changes the map.
 
-ghost use Rattle.std.specs.Prelude.{◌≡◌, ◌<◌, IfOk, OnErr};
+ghost use Rattle.std.specs.Prelude.{◌≡◌, ◌↔◌, ◌<◌, IfOk, IsTrue, OnErr, Some};
 ghost use Rattle.record_words.specs.Entry.{HasEntryWord, entry_word};
 ghost use Rattle.rowex_core.specs.declared.event.Act.TheVariants.{Publish};
-ghost use Rattle.rowex_core.specs.declared.event.Spot.TheVariants.{Root, Slot};
+ghost use Rattle.rowex_core.specs.declared.event.Spot.TheVariants.{Root, Slot, Value};
 ghost use Rattle.rowex_core.specs.Reading.{entry_of};
-ghost use Rattle.replay_state.specs.Publishing.{IsPublishJudged};
-ghost use Rattle.replay_state.specs.States.{HasLock, IsStepped};
+ghost use Rattle.replay_state.specs.Publishing.{AreRevalued, IsPublishJudged};
+ghost use Rattle.replay_state.specs.States.{HasLock, HasNamerLocked, IsStepped};
 
 use crate::records::{are_node_words, with_word};
 use crate::state::State;
 use compound_node::Entry;
-use record_words::{HEAD_WORDS, MAX_ENTRIES};
-use replay_trees::{Linked, change_between, read_tree, unpack_entry};
-use rowex_core::Spot;
+use finite_map::{Change, Kind};
+use record_words::{HEAD_WORDS, MAX_ENTRIES, pack_entry};
+use replay_trees::{Item, Linked, change_between, read_tree, unpack_entry};
+use rowex_core::{Rec, Spot};
 use std::alloc::AllocError;
 
 impl State {
-    /// Stores `word` at `spot`, the root or a slot. Returns whether that is legal: `pass` has locked the word there, `word` spells an entry
-    /// or none, and what the words show then is a lawful next version. If not, nothing changes. An error, which changes nothing either, if
+    /// Stores `word` at `spot`. Returns whether that is legal. At the root or a slot `pass` has locked the word there, `word` spells an
+    /// entry or none, and what the words show then is a lawful next version. Of a value it has locked what names the leaf. If not, nothing
+    /// changes. An error, which changes nothing either, if
     /// memory is refused. That can only be where `pass` has the lock.
     pub(crate) fn publish(&mut self, pass: u16, spot: Spot, word: u64) -> Result<bool, AllocError>
         ensures ok { IfOk result (λ made. IsStepped made self.old self.new pass (Publish spot word)) }
         ensures err { OnErr result (self.new ≡ self.old) }
         ensures locked { OnErr result (HasLock self.old pass spot) }
     {
-        let Ok(entry) = unpack_entry(word) else {
+        match (spot, unpack_entry(word)) {
+            (Spot::Value { leaf }, _) => self.publish_value(pass, leaf, word),
+            (Spot::Root, Ok(entry)) => self.publish_root(pass, entry, word),
+            (Spot::Slot { node, entry }, Ok(_)) => self.publish_entry(pass, node, entry, word),
+            (_, Err(_)) => Ok(false),
+        }
+    }
+
+    /// As `publish`, of the value of leaf `leaf`, which is `word` then.
+    fn publish_value(&mut self, pass: u16, leaf: u32, word: u64) -> Result<bool, AllocError>
+        ensures ok { IfOk result (λ made. IsStepped made self.old self.new pass (Publish (Value leaf) word)) }
+        ensures err { OnErr result (self.new ≡ self.old) }
+        ensures locked { OnErr result (HasLock self.old pass (Value leaf)) }
+    {
+        if !self.has_locked_namer(pass, leaf) {
+            return Ok(false);
+        }
+        let Some(key) = self.records.key_of(leaf) else {
             return Ok(false);
         };
-        match spot {
-            Spot::Root => self.publish_root(pass, entry, word),
-            Spot::Slot { node, entry } => self.publish_entry(pass, node, entry, word),
-        }
+        self.changes.push(Change {
+            pass,
+            key,
+            value: word,
+            kind: Kind::Replaced,
+        })?;
+        self.records.set_word(Rec::Leaf(leaf), 0, word);
+        set_value(&mut self.items, leaf, word);
+        Ok(true)
+    }
+
+    /// Whether `pass` has locked what names leaf `leaf`: the anchor, where it is the root, or a node of the tree that has it as an entry.
+    fn has_locked_namer(&self, pass: u16, leaf: u32) -> bool
+        ensures { IsTrue result ↔ HasNamerLocked self.now pass leaf }
+    {
+        let entry = Some(Entry::Leaf(leaf));
+        self.has_locked_root(pass, entry) || self.records.has_locked_entry(pass, pack_entry(entry))
+    }
+
+    /// Whether `pass` has locked the anchor, and `root` is the root.
+    fn has_locked_root(&self, pass: u16, root: Option<Entry>) -> bool
+        ensures { IsTrue result ↔ ((self.now.anchor ≡ Some pass) × (self.now.root ≡ root)) }
+    {
+        self.has_locked_anchor(pass) && self.root == root
     }
 
     /// As `publish`, of the root: `root` is its new entry, whose word is `word`.
@@ -124,5 +163,16 @@ impl State {
         self.root = root;
         self.items = linked.items;
         Ok(true)
+    }
+}
+
+/// Gives the leaf of number `leaf` the value `value`.
+fn set_value(items: &mut Vec<Item>, leaf: u32, value: u64)
+    ensures { AreRevalued leaf value items.old.items items.new.items }
+{
+    for i in 0..items.len() {
+        if items[i].number == leaf {
+            items[i].value = value;
+        }
     }
 }

@@ -111,12 +111,12 @@ fn is_offset(layout: Layout, rec: Rec, offset: u8) -> bool
     }
 }
 
-/// Whether `rec` has a word at `offset`, neither its state nor an entry, in a table of `layout`, which needn't have the record.
+/// Whether `rec` has a word at `offset` that is neither its state nor an entry nor a value, in a table of `layout`, which needn't have the record.
 pub(crate) fn is_offset_of_fixed_word(layout: Layout, rec: Rec, offset: u8) -> bool
     ensures { IsTrue result ↔ (IsFixedOffset rec offset × HasWord layout rec offset) }
 {
     match rec {
         Rec::Node(_) => 1 <= offset && offset < FIRST_ENTRY as u8,
-        Rec::Leaf(number) => 1 <= offset && (offset as usize) < layout.leaf_size(number),
+        Rec::Leaf(number) => 1 < offset && (offset as usize) < layout.leaf_size(number),
     }
 }

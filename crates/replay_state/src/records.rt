@@ -8,7 +8,8 @@ ghost use Rattle.versions.specs.declared.Rec.TheVariants.{Node as a_node, Leaf a
 
 use crate::fate::Fate;
 use crate::links::{may_link, may_unlink, update_each_fate};
-use record_words::{LEAF_FIELDS, Layout, NODE_FIELDS, Tag, unpack_state};
+use key_bits::Key;
+use record_words::{HEAD_WORDS, LEAF_FIELDS, Layout, MAX_ENTRIES, NODE_FIELDS, Tag, unpack_state};
 use replay_trees::{unpack_leaf, unpack_node};
 use rowex_core::Rec;
 use std::alloc::{AllocError, Global};
@@ -42,7 +43,7 @@ impl Model for Records {
 
 impl Records {
     ghost use Rattle.rowex_core.specs.Opening.{opening};
-    ghost use Rattle.replay_state.specs.Records.{AreRecordsOf, HasState, AreNextRecords, MayPublishTree, HasWordStored, IsPackedIn, fate_in, lock_in, with_fate_unlocked_in, tag_in, words_in, with_fate_in, with_lock_in, with_words_in};
+    ghost use Rattle.replay_state.specs.Records.{AreRecordsOf, HasEntryStored, HasLockedEntry, HasKeyIn, HasState, AreNextRecords, IsEntryLocked, IsSpelledIn, MayPublishTree, HasWordStored, IsPackedIn, fate_in, lock_in, with_fate_unlocked_in, tag_in, words_in, with_fate_in, with_lock_in, with_words_in};
 
     /// Free records of a table of `layout`: all words are 0, and nothing is locked. An error if memory is refused.
     pub(crate) fn new(alloc: Global, layout: Layout) -> Result<Records, AllocError>
@@ -168,6 +169,37 @@ impl Records {
         }
     }
 
+    /// Whether `pass` has locked a node of the tree one of whose entries has the word `word`.
+    pub(crate) fn has_locked_entry(&self, pass: u16, word: u64) -> bool
+        ensures { IsTrue result ↔ HasLockedEntry self.now pass word }
+    {
+        for node in 0..self.layout.nodes {
+            if self.is_entry_locked(node, pass, word) {
+                return true;
+            }
+        }
+        false
+    }
+
+    /// Whether node `node` is in the tree, `pass` has locked it, and one of its entries has the word `word`.
+    fn is_entry_locked(&self, node: u32, pass: u16, word: u64) -> bool
+        ensures { IsTrue result ↔ IsEntryLocked self.now pass word node }
+    {
+        self.is_locked_by(node, pass) && self.is_node_in_tree(node) && self.has_entry(node, word)
+    }
+
+    /// Whether one of the entries of node `node` has the word `word`.
+    fn has_entry(&self, node: u32, word: u64) -> bool
+        ensures { IsTrue result ↔ HasEntryStored self.now node word }
+    {
+        for slot in 0..MAX_ENTRIES {
+            if self.has_word(Rec::Node(node), HEAD_WORDS + slot, word) {
+                return true;
+            }
+        }
+        false
+    }
+
     /// Whether the words of `rec` spell a node, or a leaf for whose key the record has room. `false` if the table hasn't the record.
     pub(crate) fn has_valid_words(&self, rec: Rec) -> bool
         ensures { IsTrue result ↔ IsPackedIn self.now rec }
@@ -255,10 +287,23 @@ impl Records {
     }
 
     /// The words of leaf record `number` but its state; `None` if the table hasn't the record.
-    fn leaf(&self, number: u32) -> Option<[u64; LEAF_FIELDS]>
+    pub(crate) fn leaf(&self, number: u32) -> Option<[u64; LEAF_FIELDS]>
         ensures { result ≡ words_in self.now (a_leaf number) }
     {
         self.leaves.get(number as usize).copied()
+    }
+
+    /// The key of leaf record `number`; `None` if the table hasn't the record, or its words spell no leaf.
+    pub(crate) fn key_of(&self, number: u32) -> Option<Key>
+        ensures { MatchOption result (¬ (IsSpelledIn self.now (a_leaf number))) (λ key. HasKeyIn self.now number key) }
+    {
+        let Some(words) = self.leaf(number) else {
+            return None;
+        };
+        match unpack_leaf(&words) {
+            Ok((key, _)) => Some(key),
+            Err(_) => None,
+        }
     }
 
     /// Gives node record `number` the words `words`, all but its state. If the table hasn't the record, nothing changes.

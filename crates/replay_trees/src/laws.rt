@@ -2,7 +2,7 @@
 
 ghost use Rattle.replay_trees.specs.Statements.{LeavesAreOne};
 
-/// In a lawful core, let the words show a tree once any word is stored at a spot. If a leaf of it and one of the newest version have the
+/// In a lawful core, let the words show a tree once any word is stored at the root or a slot. If a leaf of it and one of the newest version have the
 /// same number, they have the same key and value. `change_between` asks that of its lists.
 pub fn leaves_of_one_number_are_one()
     ensures { LeavesAreOne }

@@ -1,26 +1,16 @@
 -- A publish that is legal for versions is legal for words.
-use Rattle.std.proofs.Common.{◌≡◌, Option, Some, None, refl, sym, ap, ◌∙◌, subst}
-use Rattle.compound_node.specs.declared.entries.Entry.{Entry}
-use Rattle.tries.specs.Tree.{Tree, IsTrie, IsBuilt}
-use Rattle.versions.specs.Heap.{Heap}
-use Rattle.versions.specs.State.{IsTop}
+use Rattle.std.proofs.Common.{◌≡◌, sym, ap, ◌∙◌, subst}
 use Rattle.versions.specs.Told.{items_of}
 use Rattle.versions.specs.Steps.{IsNextVersion}
-use Rattle.versions.proofs.Reading.{read_exact}
 use Rattle.rowex_core.specs.Cores.{heap_of}
-use Rattle.rowex_core.specs.Events.{IsLegalPublish, tree_of, stored_words, stored_root, next_tree, next_change}
+use Rattle.rowex_core.specs.declared.event.Spot.TheVariants.{Value}
+use Rattle.rowex_core.specs.Events.{IsLegalPublish, stored_words, stored_root, next_tree, next_change}
 use Rattle.rowex_core.proofs.Finding.{finds_change}
-use Rattle.rowex_core.specs.Writers.{PublishIsLegal}
-
--- the tree that the words show is read
-tree_read : (m : Heap) (e : Option Entry) (t : Option Tree) → IsTop m e t → ((u : Tree) → t ≡ Some u → IsTrie u × IsBuilt u) → tree_of m e ≡ t
-tree_read m None None top trees = refl
-tree_read m None (Some t) top trees = absurd top
-tree_read m (Some e) None top trees = absurd top
-tree_read m (Some e) (Some t) top trees = read_exact m e t (trees t refl).1 top.1 top.0
+use Rattle.rowex_core.proofs.Valuing.{tree_read, legal_publish, value_trades}
+use Rattle.rowex_core.specs.Writers.{PublishIsLegal, ValueIsLegal}
 
 pub publish_is_legal : PublishIsLegal
-publish_is_legal c q spot w law locked entry packed t x l ne = (legal, next, change)
+publish_is_legal c q spot w of_entry law locked entry packed t x l ne = (legal, next, change)
   where
     next : next_tree c spot w ≡ t
     next = tree_read (heap_of (stored_words c spot w)) (stored_root c spot w) t l.top l.tree
@@ -30,7 +20,7 @@ publish_is_legal c q spot w law locked entry packed t x l ne = (legal, next, cha
     version = subst (λ z. IsNextVersion c.shared q (heap_of (stored_words c spot w)) (stored_root c spot w) z x) (sym next) l.next
 
     change : next_change c q spot w ≡ x
-    change = finds_change c q spot w law version.top version.tree x version.change (λ e. ne (e ∙ ap items_of next)) l.own
+    change = finds_change c q spot w of_entry law version.top version.tree x version.change (λ e. ne (e ∙ ap items_of next)) l.own
 
     legal : IsLegalPublish c q spot w
     legal = record {
@@ -39,3 +29,8 @@ publish_is_legal c q spot w law locked entry packed t x l ne = (legal, next, cha
       packed = packed;
       next = subst (IsNextVersion c.shared q (heap_of (stored_words c spot w)) (stored_root c spot w) (next_tree c spot w)) (sym change) version;
     }
+
+-- So is the store of a value.
+pub value_is_legal : ValueIsLegal
+value_is_legal c q l w law named small =
+    (legal_publish c q (Value l) w law (named, small), value_trades c q l w law named)

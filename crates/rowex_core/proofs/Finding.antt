@@ -13,10 +13,11 @@ use Rattle.tries.proofs.Maps.{AreKeys, are_keys, before_less, before_greater, sa
 use Rattle.versions.specs.Heap.{Heap, LeafWords, IsShown}
 use Rattle.versions.specs.State.{IsTop}
 use Rattle.versions.specs.Told.{items_of, item_of, IsChanged, added_change, replaced_change, removed_change}
-use Rattle.rowex_core.specs.Cores.{heap_of}
-use Rattle.rowex_core.specs.Events.{AreSame, change_between, stored_words, stored_root, next_tree}
+use Rattle.rowex_core.specs.declared.event.Spot.{Spot}
+use Rattle.rowex_core.specs.declared.event.Spot.TheVariants.{Root, Slot, Value}
+use Rattle.rowex_core.specs.Cores.{Core, heap_of}
+use Rattle.rowex_core.specs.Events.{AreSame, IsOfEntry, change_between, stored_words, stored_root, next_tree, next_change}
 use Rattle.rowex_core.specs.Statements.{FindsChange}
-use Rattle.rowex_core.proofs.Storing.{near_store}
 
 -- ---- The number determines the leaf
 
@@ -100,10 +101,23 @@ rises : (t : Option Tree) → ((u : Tree) → t ≡ Some u → IsTrie u × IsBui
 rises None h = (tt, tt)
 rises (Some t) h = (content_rises t (h t refl).0, are_keys t (h t refl).0)
 
+-- the store of an entry leaves the words of leaves, and its change is found between the leaves
+pub same_leaves : (c : Core) (spot : Spot) (w : ℕ) → IsOfEntry spot → (n : ℕ) → (heap_of c.words).leaves n ≡ (heap_of (stored_words c spot w)).leaves n
+same_leaves c Root w o n = refl
+same_leaves c (Slot m j) w o n = refl
+same_leaves c (Value l) w o n = absurd o
+
+entry_change : (c : Core) (q : ℕ) (spot : Spot) (w : ℕ) → IsOfEntry spot →
+    next_change c q spot w ≡ change_between q (items_of (c.past.version c.past.now)) (items_of (next_tree c spot w))
+entry_change c q Root w o = refl
+entry_change c q (Slot n j) w o = refl
+entry_change c q (Value l) w o = absurd o
+
 pub finds_change : FindsChange
-finds_change c q spot w law top trees x (n, m) ne p =
+finds_change c q spot w of_entry law top trees x (n, m) ne p =
+    entry_change c q spot w of_entry ∙
     finds q x n (items_of (c.past.version c.past.now)) (items_of (next_tree c spot w)) m p ne old.0 old.1 new.0 new.1
-    (by_number (heap_of c.words) (heap_of (stored_words c spot w)) _ _ (near_store c spot w).0
+    (by_number (heap_of c.words) (heap_of (stored_words c spot w)) _ _ (same_leaves c spot w of_entry)
     (top_items (heap_of c.words) c.root (c.past.version c.past.now) law.core.state.top)
     (top_items (heap_of (stored_words c spot w)) (stored_root c spot w) (next_tree c spot w) top))
   where

@@ -1,28 +1,29 @@
 -- What a pass knows stays true while other passes make their steps.
-use Rattle.std.proofs.Common.{◌≡◌, ◌≢◌, inl, inr, ℕ, suc, ◌<◌, ◌≤◌, List, refl, sym, ap, ◌∙◌, subst, le_trans, arith}
+use Rattle.std.proofs.Common.{◌≡◌, ◌≢◌, inl, inr, ℕ, suc, ◌<◌, ◌≤◌, List, refl, sym, ap, ◌∙◌, subst, le_trans, arith, Some}
 use Rattle.std.proofs.lemmas.List.Elements.{All-append, All-weaker}
 use Rattle.tries.specs.Tree.{Tree}
 use Rattle.versions.specs.declared.Rec.{Rec}
-use Rattle.versions.specs.declared.Rec.TheVariants.{Node as a_node}
+use Rattle.versions.specs.declared.Rec.TheVariants.{Node as a_node, Leaf as a_leaf}
 use Rattle.versions.specs.State.{Past, Stands}
 use Rattle.versions.specs.Frames.{IsGrown}
 use Rattle.versions.proofs.Growth.{stands_grown}
 use Rattle.rowex_core.specs.declared.event.Act.{Act}
 use Rattle.rowex_core.specs.declared.known.Fact.{Fact}
-use Rattle.rowex_core.specs.declared.known.Fact.TheVariants.{Rooted, Placed, Fixed}
+use Rattle.rowex_core.specs.declared.known.Fact.TheVariants.{Rooted, Placed, Fixed, Valued}
 use Rattle.rowex_core.specs.declared.known.Known.{Known}
 use Rattle.rowex_core.specs.declared.known.View.{View}
 use Rattle.rowex_core.specs.declared.known.View.TheVariants.{Spent, Dealer, Pass, Pair, Witness, Follower}
 use Rattle.finite_map.specs.declared.Change.{Change}
 use Rattle.finite_map.specs.Fronts.{BeginsWith}
 use Rattle.record_words.specs.declared.layout.Layout.{Layout}
-use Rattle.rowex_core.specs.Reading.{entry_in, HasWordAt}
+use Rattle.rowex_core.specs.Reading.{entry_in, head_value, HasWordAt}
 use Rattle.rowex_core.specs.Cores.{Core, IsLawful}
 use Rattle.rowex_core.specs.Events.{Legal, after}
 use Rattle.rowex_core.specs.Frames.{IsFrame}
 use Rattle.rowex_core.specs.Knowing.{StoodBetween, StoodAs, HoldsIfStood, IsFact, Knows, NoChangeBy, IsUntouched, Knowing, IsViewOf}
 use Rattle.rowex_core.specs.Statements.{SeesAll}
 use Rattle.rowex_core.proofs.Frames.{frame}
+use Rattle.rowex_core.proofs.Valuing.{namer_shared, loaded_kept}
 use Rattle.finite_map.proofs.Growth.{begins_on, others_begin, others_on}
 
 -- Facts of the past
@@ -44,6 +45,7 @@ pub fact_grown : (a b : Past) → IsGrown a b → (f : Fact) → IsFact a f → 
 fact_grown a b g (Rooted since at e) (lo, hi, h) = (lo, le_trans hi g.longer, ap Rattle.rowex_core.specs.Reading.root_of (g.kept at hi) ∙ h)
 fact_grown a b g (Placed since at n j e) (hi, h) = (le_trans hi g.longer, found_grown a b g since at (a_node n) (λ u. entry_in u j ≡ e) hi h)
 fact_grown a b g (Fixed since at r offset w) (hi, h) = (le_trans hi g.longer, found_grown a b g since at r (λ u. HasWordAt u offset w) hi h)
+fact_grown a b g (Valued since at l v) (hi, h) = (le_trans hi g.longer, found_grown a b g since at (a_leaf l) (λ u. head_value u ≡ Some v) hi h)
 
 -- The whole
 
@@ -57,6 +59,7 @@ knows_kept c d k f h = record {
     facts = All-weaker (IsFact c.past) (IsFact d.past) (fact_grown c.past d.past f.past) k.facts h.seen.facts;
   };
   own = f.own ∙ h.own;
+  values = loaded_kept c d k.pass (namer_shared c d k.pass (sym f.layout) f.own) f.values k.values h.values;
 }
 
 untouched_kept : (c d : Core) (q : ℕ) → IsFrame q c d → IsUntouched c q → IsUntouched d q

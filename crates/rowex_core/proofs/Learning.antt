@@ -1,7 +1,7 @@
 -- What a pass knows after a step of its own is true.
-use Rattle.std.proofs.Common.{◌≡◌, ◌≢◌, ◌⊎◌, inl, inr, ℕ, suc, ◌+◌, ◌-◌, ◌<◌, ◌&&◌, ◌≤◌, List, [], ◌∷◌, Bool, true, false, if◌then◌else◌, nat_eq, eqb, set, Option, Some, None, refl, sym, ap, ◌∙◌, subst, arith, le_refl, append-nil, append_assoc, ◌++◌}
+use Rattle.std.proofs.Common.{◌≡◌, ◌≢◌, ◌⊎◌, inl, inr, ℕ, suc, ◌+◌, ◌-◌, ◌<◌, ◌&&◌, ◌≤◌, List, [], ◌∷◌, Bool, true, false, if◌then◌else◌, nat_eq, eqb, set, get_or, Option, Some, None, refl, sym, ap, ◌∙◌, subst, arith, le_refl, append-nil, append_assoc, ◌++◌}
 use Rattle.std.specs.Prelude.{All, filter, map, not}
-use Rattle.std.proofs.lemmas.Bool.{eqb-true, cases_Bool}
+use Rattle.std.proofs.lemmas.Bool.{eqb-true, cases_Bool, false≢true}
 use Rattle.std.proofs.lemmas.List.Elements.{All-cons, All-weaker, All-from_recursion, filter-append}
 use Rattle.finite_map.specs.declared.Change.{Change}
 use Rattle.finite_map.specs.Fronts.{BeginsWith, OthersGoOn}
@@ -9,20 +9,20 @@ use Rattle.compound_node.specs.declared.entries.Entry.{Entry}
 use Rattle.pieces.specs.Piece.{Place}
 use Rattle.tries.specs.Tree.{Tree, leaf, node, fork, subtrie}
 use Rattle.versions.specs.declared.Rec.{Rec}
-use Rattle.versions.specs.declared.Rec.TheVariants.{Node as a_node}
+use Rattle.versions.specs.declared.Rec.TheVariants.{Node as a_node, Leaf as a_leaf}
 use Rattle.versions.specs.declared.Pin.{Pin}
 use Rattle.versions.specs.declared.Round.{Round}
 use Rattle.versions.specs.Heap.{Heap}
 use Rattle.versions.specs.State.{Past, IsTop, IsReach}
 use Rattle.versions.specs.Core.{Fate, Free, Held as HeldBy, Ready as ReadyBy, InTree, Unlinked as UnlinkedBy, Marked, pin_version}
 use Rattle.versions.specs.Steps.{same_rec, is_linked, next_fate, IsLockable, lowered, with_fate, with_lock, with_pin, with_round, unlocked, with_anchor}
-use Rattle.versions.proofs.Legal.{same_rec_refl}
+use Rattle.versions.proofs.Legal.{same_rec_refl, same_rec_true}
 use Rattle.rowex_core.specs.declared.event.Act.{Act}
 use Rattle.rowex_core.specs.declared.event.Act.TheVariants.{Claim, Fill, Ready, Release, LoadRef, LoadFixed, Lock, Unlock, Publish, Mark, LoadEpoch, Advance, SetPin, ClearPin, LoadPin, LoadState, GiveBack}
 use Rattle.rowex_core.specs.declared.event.Target.TheVariants.{Anchor, Node as NodeTarget}
-use Rattle.rowex_core.specs.declared.event.Spot.TheVariants.{Root, Slot}
+use Rattle.rowex_core.specs.declared.event.Spot.TheVariants.{Root, Slot, Value}
 use Rattle.rowex_core.specs.declared.known.Fact.{Fact}
-use Rattle.rowex_core.specs.declared.known.Fact.TheVariants.{Rooted, Placed, Fixed}
+use Rattle.rowex_core.specs.declared.known.Fact.TheVariants.{Rooted, Placed, Fixed, Valued}
 use Rattle.rowex_core.specs.declared.known.Holding.{Holding}
 use Rattle.rowex_core.specs.declared.known.Holding.TheVariants.{Held, Ready as IsReady}
 use Rattle.rowex_core.specs.declared.known.Owned.{Owned}
@@ -36,11 +36,12 @@ use Rattle.rowex_core.specs.Words.{record_word}
 use Rattle.versions.proofs.Publish.{version_old}
 use Rattle.rowex_core.specs.declared.event.Spot.{Spot}
 use Rattle.rowex_core.specs.Events.{IsLegalPublish, IsLockedAt, stored_words, stored_root, next_tree, next_change, Legal, after, with_word, claimed, marked, anchored, word_of, target_word, IsInTree}
-use Rattle.rowex_core.specs.Knowing.{IsFact, HasSeen, facts_with, AreCounted, Knows, learned_by, learned, entry_learned, with_holding, with_filled_word, without_record, failed_with, claim_learned, anchor_learned, node_learned, blocking_pass_of, without_lock, records_in, owned_unlinked, own_after, locked_with_words, locks_after, anchor_after, publish_learned}
+use Rattle.rowex_core.specs.Knowing.{IsFact, IsStillLoaded, HasSeen, facts_with, AreCounted, Knows, learned_by, learned, entry_learned, with_holding, with_filled_word, without_record, failed_with, claim_learned, anchor_learned, node_learned, blocking_pass_of, without_lock, records_in, owned_unlinked, own_after, locked_with_words, locks_after, anchor_after, publish_learned}
 use Rattle.record_words.specs.declared.layout.Location.{Location}
 use Rattle.rowex_core.proofs.Frames.{advance_frame, give_back_frame, unlocked_node}
 use Rattle.rowex_core.proofs.Keeping.{fact_grown, knows_kept}
-use Rattle.rowex_core.proofs.Loading.{slot_fact, fixed_fact, view}
+use Rattle.rowex_core.proofs.Loading.{slot_fact, fixed_fact, value_fact, view}
+use Rattle.rowex_core.proofs.Valuing.{legal_publish, value_left, namer_back, loaded_kept}
 use Rattle.rowex_core.proofs.Publishing.{once, Linking, stays, comes, out, linking, listed_once}
 use Rattle.rowex_core.proofs.Lists.{filter_mapped, filter_swapped}
 use Rattle.rowex_core.specs.Sharing.{Share, share, known_share, holding_of, is_by, is_in_tree, owned, locked, anchored_at, of_record, of_node}
@@ -51,13 +52,18 @@ record IsTrue (c : Core) (k : Known) : Type 0 where
   pass : k.pass < c.layout.passes
   seen : HasSeen k.pass c.past c.changes k.front k.fresh.front k.facts
   own : share k.pass c ≡ known_share k
+  values : All (IsStillLoaded k.pass c) k.values
 
 is_true : {c : Core} {k : Known} → Knows c k → IsTrue c k
-is_true h = record { pass = h.pass; seen = h.seen; own = h.own }
+is_true h = record { pass = h.pass; seen = h.seen; own = h.own; values = h.values }
+
+-- nothing is remembered of values
+no_values : (c : Core) (q : ℕ) → All (IsStillLoaded q c) []
+no_values c q = All-from_recursion (IsStillLoaded q c) [] tt
 
 -- what failed is a fact of no core
 with_failed : (c : Core) (k : Known) (act : FailedAct) (location : Location) (w : ℕ) → Knows c k → IsTrue c (failed_with k act location w)
-with_failed c k act location w h = record { pass = h.pass; seen = h.seen; own = h.own }
+with_failed c k act location w h = record { pass = h.pass; seen = h.seen; own = h.own; values = h.values }
 
 -- Facts of loads
 
@@ -101,6 +107,7 @@ fact_learned c k f law h true_ = record {
     facts = more_facts c.past k.pin f k.facts (λ p e. let x = pinned c k law h p e in true_ p.version x.0 x.1) h.seen.facts;
   };
   own = h.own;
+  values = h.values;
 }
 
 root_learned : (c : Core) (k : Known) → IsLawful c → Knows c k → IsTrue c (entry_learned c Root k)
@@ -112,6 +119,16 @@ root_learned c k law h = record {
     facts = (fact_learned c k (λ since. Rooted since c.past.now c.root) law h (λ since r lo. (lo, le_refl c.past.now, root_is (heap_of c.words) c.root (c.past.version c.past.now) law.core.state.top))).seen.facts;
   };
   own = h.own;
+  values = h.values;
+}
+
+-- and of the value of a leaf also what it is
+value_learned : (c : Core) (k : Known) (l : ℕ) → IsLawful c → Knows c k → IsTrue c (entry_learned c (Value l) k)
+value_learned c k l law h = record {
+  pass = h.pass;
+  seen = (fact_learned c k (λ since. Valued since c.past.now l (record_word c (a_leaf l) 1)) law h (λ since r lo. value_fact c law since r l)).seen;
+  own = h.own;
+  values = All-cons (IsStillLoaded k.pass c) (record { leaf = l; value = record_word c (a_leaf l) 1 }) k.values (λ g. refl) h.values;
 }
 
 -- Records of the pass's own
@@ -173,7 +190,15 @@ module _ (c : Core) (k : Known) (h : Knows c k) where
       own = λ s. at_record (λ s x. owned s (c.words s) (holding_of k.pass x) ≡ of_record s own) r f c.fate here there s i;
       locks = λ n. (fate_locks c k.pass r f before after n ∙ ap (λ (z : Share). z.locks n) h.own) i;
     };
+    values = loaded_kept c d k.pass (namer_back c d k.pass refl (λ a. (a, refl)) (λ n s a b. (a, (s, still n s (cases_Bool (same_rec (a_node n) r)) b), refl))) (λ l g. refl) k.values h.values;
   }
+    where
+      d : Core
+      d = record c { shared = with_fate c.shared r f }
+
+      still : (n s : ℕ) → ((same_rec (a_node n) r ≡ true) ⊎ (same_rec (a_node n) r ≡ false)) → (if same_rec (a_node n) r then f else c.fate (a_node n)) ≡ InTree s → c.fate (a_node n) ≡ InTree s
+      still n s (inl e) b = absurd (false≢true (sym after ∙ ap is_in_tree (let x : f ≡ InTree s = rw e at b in x)))
+      still n s (inr e) b = rw e at b
 
   changes : (r : Rec) (g f : Fate) (change : List Owned → List Owned) → IsAt r change → c.fate r ≡ g → is_in_tree g ≡ false → is_in_tree f ≡ false →
       change (owned r (c.words r) (holding_of k.pass g)) ≡ owned r (c.words r) (holding_of k.pass f) → IsTrue (record c { shared = with_fate c.shared r f }) (record k { own = change k.own })
@@ -187,8 +212,8 @@ module _ (c : Core) (k : Known) (h : Knows c k) where
       (λ i o. rw o (had i))
   claim_learns r found f e = with_failed c k (a_claim (holder_of f)) (word_of r 0) found h
 
-  fill_learns : (r : Rec) (offset w : ℕ) → c.fate r ≡ HeldBy k.pass → IsTrue (record c { words = with_word c.words r offset w }) (record k { own = map (with_filled_word r offset w) k.own })
-  fill_learns r offset w e = record {
+  fill_learns : (r : Rec) (offset w : ℕ) → IsLawful c → c.fate r ≡ HeldBy k.pass → IsTrue (record c { words = with_word c.words r offset w }) (record k { own = map (with_filled_word r offset w) k.own })
+  fill_learns r offset w law e = record {
     pass = h.pass;
     seen = h.seen;
     own = λ i. record (h.own i) {
@@ -197,30 +222,40 @@ module _ (c : Core) (k : Known) (h : Knows c k) where
           (λ i o. sym ((fill_at r offset w).others i (c.words i) (holding_of k.pass (c.fate i)) o) ∙ has_then r (map (with_filled_word r offset w)) (fill_at r offset w) i) s i;
       locks = λ n. (word_locks c k.pass r offset w (ap is_in_tree e) n ∙ ap (λ (z : Share). z.locks n) h.own) i;
     };
+    values = loaded_kept c d k.pass (namer_back c d k.pass refl (λ a. (a, refl)) (λ n s a b. (a, (s, b), words n s b (cases_Bool (same_rec (a_node n) r)))))
+        (value_left c k.pass r offset w law (ap is_in_tree e)) k.values h.values;
   }
     where
+      d : Core
+      d = record c { words = with_word c.words r offset w }
+
+      words : (n s : ℕ) → c.fate (a_node n) ≡ InTree s → ((same_rec (a_node n) r ≡ true) ⊎ (same_rec (a_node n) r ≡ false)) → c.words (a_node n) ≡ with_word c.words r offset w (a_node n)
+      words n s b (inr x) = rw x refl
+      words n s b (inl x) = absurd (let z : InTree s ≡ HeldBy k.pass = sym b ∙ (ap c.fate (same_rec_true (a_node n) r x) ∙ e) in cc)
+
       filled : map (with_filled_word r offset w) (owned r (c.words r) (holding_of k.pass (c.fate r))) ≡ owned r (set (c.words r) (offset - 1) w) (holding_of k.pass (c.fate r))
       filled = rw (e, by_itself k.pass, same_rec_refl r) refl
 
   -- The lock of a node
 
   locks_learn : (n : ℕ) (o : Option ℕ) (locks : List Locked) → locked n (c.words (a_node n)) (is_in_tree (c.fate (a_node n)) && is_by k.pass o) ≡ of_node n locks →
-      ((i : ℕ) → nat_eq i n ≡ false → (share k.pass c).locks i ≡ of_node i locks) → IsTrue (record c { shared = with_lock c.shared n o }) (record k { locks = locks })
+      ((i : ℕ) → nat_eq i n ≡ false → (share k.pass c).locks i ≡ of_node i locks) → IsTrue (record c { shared = with_lock c.shared n o }) (record k { locks = locks; values = [] })
   locks_learn n o locks here there = record {
     pass = h.pass;
     seen = h.seen;
     own = λ i. record (h.own i) { locks = λ m. at_number (λ m x. locked m (c.words (a_node m)) (is_in_tree (c.fate (a_node m)) && is_by k.pass x) ≡ of_node m locks) n o c.lock here there m i };
+    values = no_values (record c { shared = with_lock c.shared n o }) k.pass;
   }
 
   had_lock : (n : ℕ) → (share k.pass c).locks n ≡ of_node n k.locks
   had_lock n = ap (λ (z : Share). z.locks n) h.own
 
-  lock_taken : (n : ℕ) → IsInTree c n → c.lock n ≡ None → IsTrue (record c { shared = with_lock c.shared n (Some k.pass) }) (record k { locks = record { node = n; words = c.words (a_node n) } ∷ k.locks })
+  lock_taken : (n : ℕ) → IsInTree c n → c.lock n ≡ None → IsTrue (record c { shared = with_lock c.shared n (Some k.pass) }) (record k { locks = record { node = n; words = c.words (a_node n) } ∷ k.locks; values = [] })
   lock_taken n t none = locks_learn n (Some k.pass) _
       (rw (t.1, by_itself k.pass, by_itself n) (ap (λ (z : List Locked). record { node = n; words = c.words (a_node n) } ∷ z) (rw (t.1, none) refl ∙ had_lock n)))
       (λ i o. rw o (had_lock i))
 
-  lock_given : (n : ℕ) → IsTrue (record c { shared = with_lock c.shared n None }) (record k { locks = without_lock n k.locks })
+  lock_given : (n : ℕ) → IsTrue (record c { shared = with_lock c.shared n None }) (record k { locks = without_lock n k.locks; values = [] })
   lock_given n = locks_learn n None _
       (ap (locked n (c.words (a_node n))) (and_false (is_in_tree (c.fate (a_node n)))) ∙ (sym (gone (is_in_tree (c.fate (a_node n)) && is_by k.pass (c.lock n))) ∙ through n))
       (λ i o. sym (left i o (is_in_tree (c.fate (a_node i)) && is_by k.pass (c.lock i))) ∙ through i)
@@ -239,23 +274,36 @@ module _ (c : Core) (k : Known) (h : Knows c k) where
   -- The anchor, the pin, the round
 
   anchor_learns : (found : ℕ) (o : Option ℕ) → c.anchor ≡ o → IsTrue (record c { shared = anchored c.shared k.pass o }) (anchor_learned c found o k)
-  anchor_learns found None e = record { pass = h.pass; seen = h.seen; own = λ i. record (h.own i) { anchor = ap (anchored_at c.root) (by_itself k.pass) i } }
+  anchor_learns found None e = record { pass = h.pass; seen = h.seen; own = λ i. record (h.own i) { anchor = ap (anchored_at c.root) (by_itself k.pass) i }; values = no_values (record c { shared = with_anchor c.shared (Some k.pass) }) k.pass }
   anchor_learns found (Some p) e = with_failed c k (a_lock (Some p)) (target_word Anchor) found h
 
-  anchor_given : IsTrue (record c { shared = with_anchor c.shared None }) (record k { anchor = None })
-  anchor_given = record { pass = h.pass; seen = h.seen; own = λ i. record (h.own i) { anchor = None } }
+  anchor_given : IsTrue (record c { shared = with_anchor c.shared None }) (record k { anchor = None; values = [] })
+  anchor_given = record { pass = h.pass; seen = h.seen; own = λ i. record (h.own i) { anchor = None }; values = no_values (record c { shared = with_anchor c.shared None }) k.pass }
+
+  -- all else leaves what names leaves
+  same_values : (d : Core) → d.layout ≡ c.layout → d.words ≡ c.words → d.fate ≡ c.fate → d.lock ≡ c.lock → d.anchor ≡ c.anchor → d.root ≡ c.root → All (IsStillLoaded k.pass d) k.values
+  same_values d layout words fate lock anchor root = loaded_kept c d k.pass
+      (namer_back c d k.pass (sym layout) (λ a. (sym anchor ∙ a, sym root))
+      (λ n s a b. (ap (λ z. z n) (sym lock) ∙ a, (s, ap (λ z. z (a_node n)) (sym fate) ∙ b), ap (λ z. z (a_node n)) (sym words))))
+      (λ l g. ap (λ z. get_or (z (a_leaf l)) 0 0) words) k.values h.values
 
   pin_learns : (o : Option Pin) → IsTrue (record c { shared = with_pin c.shared k.pass o }) (record k { pin = o })
-  pin_learns o = record { pass = h.pass; seen = h.seen; own = λ i. record (h.own i) { pin = ap (λ b. if b then o else c.pins k.pass) (by_itself k.pass) i } }
+  pin_learns o = record { pass = h.pass; seen = h.seen; own = λ i. record (h.own i) { pin = ap (λ b. if b then o else c.pins k.pass) (by_itself k.pass) i }; values = same_values (record c { shared = with_pin c.shared k.pass o }) refl refl refl refl refl refl }
 
   round_learns : (p o : Round) → p ≡ o → IsTrue (record c { shared = with_round c.shared k.pass p }) (record k { round = o })
-  round_learns p o e = record { pass = h.pass; seen = h.seen; own = λ i. record (h.own i) { round = (ap (λ b. if b then p else c.rounds k.pass) (by_itself k.pass) ∙ e) i } }
+  round_learns p o e = record { pass = h.pass; seen = h.seen; own = λ i. record (h.own i) { round = (ap (λ b. if b then p else c.rounds k.pass) (by_itself k.pass) ∙ e) i }; values = same_values (record c { shared = with_round c.shared k.pass p }) refl refl refl refl refl refl }
 
 -- Mark: the record is not the pass's any more, and a node is unlocked
 mark_learns : (c : Core) (k : Known) (r : Rec) (epoch since last : ℕ) → Knows c k → c.fate r ≡ UnlinkedBy since last k.pass →
-    IsTrue (record c { shared = marked c.shared r epoch (c.fate r) }) (record k { own = without_record r k.own })
-mark_learns c k r epoch since last h e = subst (λ f. IsTrue (record c { shared = marked c.shared r epoch f }) (record k { own = without_record r k.own })) (sym e)
-    (changes (record c { shared = unlocked c.shared r }) k (record { pass = h.pass; counted = h.counted; seen = h.seen; own = same_unlocked c k.pass r (ap is_in_tree e) ∙ h.own })
+    IsTrue (record c { shared = marked c.shared r epoch (c.fate r) }) (record k { own = without_record r k.own; values = [] })
+mark_learns c k r epoch since last h e = subst (λ f. IsTrue (record c { shared = marked c.shared r epoch f }) (record k { own = without_record r k.own; values = [] })) (sym e)
+    (changes (record c { shared = unlocked c.shared r }) (record k { values = [] }) (record {
+      pass = h.pass;
+      counted = h.counted;
+      seen = h.seen;
+      own = same_unlocked c k.pass r (ap is_in_tree e) ∙ h.own;
+      values = no_values (record c { shared = unlocked c.shared r }) k.pass;
+    })
     r (UnlinkedBy since last k.pass) (Marked since last epoch) (without_record r) (drop_at r) e refl refl (dropped r (c.words r) (holding_of k.pass (UnlinkedBy since last k.pass))))
 
 -- Publish
@@ -340,6 +388,7 @@ module _ (c : Core) (k : Known) (spot : Spot) (w : ℕ) (law : IsLawful c) (h : 
   anchor_then : (s : Spot) → IsLockedAt c k.pass s → anchored_at (stored_root c s w) (is_by k.pass c.anchor) ≡ anchor_after s (stored_root c s w) k.anchor
   anchor_then Root a = rw (a, by_itself k.pass) refl
   anchor_then (Slot n j) a = ap (λ (z : Share). z.anchor) h.own
+  anchor_then (Value m) a = ap (λ (z : Share). z.anchor) h.own
 
   publish_learns : IsTrue (after c k.pass (Publish spot w)) (publish_learned c spot w k)
   publish_learns = record {
@@ -350,6 +399,7 @@ module _ (c : Core) (k : Known) (spot : Spot) (w : ℕ) (law : IsLawful c) (h : 
       facts = All-weaker (IsFact c.past) (IsFact _) (fact_grown c.past _ (record { longer = omega arith; kept = λ i b. version_old c.past.version (suc c.past.now) (next_tree c spot w) i (omega arith) })) k.facts h.seen.facts;
     };
     own = λ i. record (h.own i) { own = λ r. (own_then r ∙ sym (listed r)) i; locks = λ n. locks_then n i; anchor = anchor_then spot l.locked i };
+    values = no_values (after c k.pass (Publish spot w)) k.pass;
   }
     where
       x : List Change
@@ -365,11 +415,12 @@ module _ (c : Core) (k : Known) (spot : Spot) (w : ℕ) (law : IsLawful c) (h : 
 -- What the pass knows after a step, before the step is counted.
 learns_by : (c : Core) (k : Known) (act : Act) → IsLawful c → Knows c k → Legal c k.pass act → IsTrue (after c k.pass act) (learned_by c act k)
 learns_by c k (Claim r found) law h (a, b) = claim_learns c k h r found (c.fate r) refl
-learns_by c k (Fill r offset w) law h (a, b) = fill_learns c k h r offset w b.1
+learns_by c k (Fill r offset w) law h (a, b) = fill_learns c k h r offset w law b.1
 learns_by c k (Ready r) law h (a, b) = changes c k h r (HeldBy k.pass) (ReadyBy k.pass) (map (with_holding r IsReady)) (hold_at r IsReady) b.1 refl refl (rw (by_itself k.pass, same_rec_refl r) refl)
 learns_by c k (Release r) law h (a, b) = changes c k h r (HeldBy k.pass) Free (without_record r) (drop_at r) b.1 refl refl (dropped r (c.words r) (holding_of k.pass (HeldBy k.pass)))
 learns_by c k (LoadRef Root w) law h l = root_learned c k law h
 learns_by c k (LoadRef (Slot n j) w) law h (a, b) = fact_learned c k (λ since. Placed since c.past.now n j (entry_of (record_word c (a_node n) (26 + j)))) law h (λ since r lo. slot_fact c law since r n j b.1)
+learns_by c k (LoadRef (Value l) w) law h (a, b) = value_learned c k l law h
 learns_by c k (LoadFixed r offset w) law h (a, b) = fact_learned c k (λ since. Fixed since c.past.now r offset w) law h (λ since x lo. subst (λ z. IsFact c.past (Fixed since c.past.now r offset z)) (sym b.2) (fixed_fact c law since x r offset b.1))
 learns_by c k (Lock Anchor found) law h l = anchor_learns c k h found c.anchor refl
 learns_by c k (Lock (NodeTarget n) found) law h (a, b) = go (cases_Bool (eqb found 2))
@@ -379,7 +430,7 @@ learns_by c k (Lock (NodeTarget n) found) law h (a, b) = go (cases_Bool (eqb fou
     go (inr e) = rw e (with_failed c k (a_lock (blocking_pass_of c n (c.fate (a_node n)))) (target_word (NodeTarget n)) found h)
 learns_by c k (Unlock Anchor) law h l = anchor_given c k h
 learns_by c k (Unlock (NodeTarget n)) law h l = lock_given c k h n
-learns_by c k (Publish spot w) law h (a, b) = publish_learns c k spot w law h b
+learns_by c k (Publish spot w) law h (a, b) = publish_learns c k spot w law h (legal_publish c k.pass spot w law b)
 learns_by c k (Mark r epoch) law h (a, b) = mark_learns c k r epoch b.2.0 b.2.1 h b.2.2
 learns_by c k (LoadEpoch w) law h l = round_learns c k h _ _ refl
 learns_by c k (Advance expected found) law h l = is_true (knows_kept c _ k (advance_frame c k.pass expected) h)
@@ -423,10 +474,11 @@ module _ (c : Core) (k : Known) (h : AreCounted k.steps k.fresh.step k.failed) w
   next_by (LoadState r w) = either_next (nat_eq w 0) _ _ same_next (failed_next (a_load (holder_of (c.fate r))) (word_of r 0) w)
   next_by (LoadRef Root w) = before k.steps (omega arith)
   next_by (LoadRef (Slot n j) w) = same_next
+  next_by (LoadRef (Value l) w) = same_next
   next_by (Unlock Anchor) = same_next
   next_by (Unlock (NodeTarget n)) = same_next
   next_by _ = same_next
 
 -- What a pass knows after its own step is true.
 pub learns : (c : Core) (k : Known) (act : Act) → IsLawful c → Knows c k → Legal c k.pass act → Knows (after c k.pass act) (learned c act k)
-learns c k act law h l = let t = learns_by c k act law h l in record { pass = t.pass; counted = next_by c k h.counted act; seen = t.seen; own = t.own }
+learns c k act law h l = let t = learns_by c k act law h l in record { pass = t.pass; counted = next_by c k h.counted act; seen = t.seen; own = t.own; values = t.values }

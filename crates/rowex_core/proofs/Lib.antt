@@ -4,6 +4,7 @@ pub mod States
 pub mod Reading
 pub mod Leafing
 pub mod Sharing
+pub mod Valuing
 pub mod Publishing
 pub mod Frames
 pub mod Keeping

@@ -13,8 +13,8 @@ use Rattle.versions.specs.Heap.{NodeWords, LeafWords, IsCopied}
 use Rattle.versions.specs.State.{Stands, IsReach, last_of, Spans, IsRecord, State}
 use Rattle.versions.specs.Core.{Fate, Free, Held as HeldBy, Ready as ReadyBy, InTree, Unlinked as UnlinkedBy, Marked, life_of, view as versions_of}
 use Rattle.versions.proofs.States.{spans_last, spans_ended, reach_later}
-use Rattle.rowex_core.specs.declared.known.Fact.TheVariants.{Placed, Fixed as FixedWord}
-use Rattle.rowex_core.specs.Reading.{entry_of, node_words_of, leaf_of, IsPacked, entry_in, HasWordAt}
+use Rattle.rowex_core.specs.declared.known.Fact.TheVariants.{Placed, Fixed as FixedWord, Valued}
+use Rattle.rowex_core.specs.Reading.{entry_of, node_words_of, leaf_of, IsPacked, entry_in, head_value, HasWordAt}
 use Rattle.rowex_core.specs.Cores.{Core, IsLawful, IsWhole, heap_of, bare}
 use Rattle.rowex_core.specs.Words.{record_word}
 use Rattle.rowex_core.specs.Events.{IsFixedOffset}
@@ -95,6 +95,19 @@ slot_fact c law since reach n j small = (
   λ m lo s. let l = last c law m (reach_later (view c) since m lo reach) (a_node n) s in (l.at, l.tree, l.low, l.high, l.stands, entry_of_last c law m n j small l),
 )
 
+-- So is the value of a leaf.
+pub value_fact : (c : Core) → IsLawful c → (since : ℕ) → IsReach (view c) since → (l : ℕ) → IsFact c.past (Valued since c.past.now l (record_word c (a_leaf l) 1))
+unfolding leaf_of
+value_fact c law since reach l = (
+  le_refl c.past.now,
+  λ m lo s. let x = last c law m (reach_later (view c) since m lo reach) (a_leaf l) s in (x.at, x.tree, x.low, x.high, x.stands, go x.tree x.stands.is_record x.copied),
+)
+  where
+    go : (u : Tree) → IsRecord (a_leaf l) u → IsCopied (heap_of c.words) u → head_value u ≡ Some (get_or (c.words (a_leaf l)) 0 0)
+    go (node m x b) r i = absurd cc
+    go (fork q a b) r i = absurd r
+    go (leaf m k v) r i = ap Some (sym (ap (λ z. ((heap_of c.words).leaves z).value) (leaf_number r) ∙ ap (λ (z : LeafWords). z.value) i))
+
 -- Another word of a record in reach.
 pub fixed_fact : (c : Core) → IsLawful c → (since : ℕ) → IsReach (view c) since → (r : Rec) (offset : ℕ) → IsFixedOffset r offset → IsFact c.past (FixedWord since c.past.now r offset (record_word c r offset))
 unfolding IsPacked
@@ -119,4 +132,4 @@ fixed_fact c law since reach r offset fits = (
         let key : length k ≡ get_or words 1 0 = ap (λ (z : LeafWords). length z.key) e ∙ sym (leaf_size_is p words same) in
         ap (λ (z : LeafWords). get_or (leaf_words (z.key, z.value)) (offset - 1) 0) e ∙
         (ap (λ z. get_or z (offset - 1) 0) same ∙
-        (up_to_key_before words (offset - 1) (omega (arith, before, key, f.0)) (omega (arith, f.0, f.1)) ∙ sym (later_word c (a_leaf n) offset f.0)))
+        (up_to_key_before words (offset - 1) (omega (arith, before, key, f.0)) (omega (arith, f.0, f.1)) ∙ sym (later_word c (a_leaf n) offset (let low = f.0 in omega arith))))

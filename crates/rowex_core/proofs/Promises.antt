@@ -1,5 +1,5 @@
 -- The laws that follow: the opening core, records in reach, a publish as a step of the map, locks of two passes.
-use Rattle.std.proofs.Common.{◌≡◌, ◌≢◌, inl, ⊎_elim, ℕ, zero, suc, ◌-◌, ◌^◌, ◌<◌, ◌≤◌, List, [], ◌∷◌, ◌++◌, length, get_or, set, replicate, fold, Option, Some, None, IsSome, refl, sym, ap, ap₂, subst, ◌∙◌, arith, le_refl, le_trans, lit<}
+use Rattle.std.proofs.Common.{◌≡◌, ◌≢◌, inl, ⊎_elim, ℕ, zero, suc, ◌+◌, ◌-◌, ◌^◌, ◌<◌, ◌≤◌, List, [], ◌∷◌, ◌++◌, length, get_or, set, replicate, fold, Option, Some, None, IsSome, refl, sym, ap, subst, ◌∙◌, arith, le_refl, le_trans, lit<}
 use Rattle.std.proofs.lemmas.Bool.{eq-eqb, ne_eqb, false≢true, cases_lt}
 use Rattle.std.proofs.lemmas.List.{length-replicate, length-set, get_or-replicate, get_or-set_same, get_or-set_other, get_or_past, take_all}
 use Rattle.std.proofs.lemmas.List.Elements.{All-replicate, All-from_recursion}
@@ -16,13 +16,14 @@ use Rattle.record_words.specs.declared.layout.Location.{Location}
 use Rattle.record_words.specs.declared.layout.Location.TheVariants.{Epoch, Root as RootWord, Anchor as AnchorWord, Pin as PinOf, NodeWord, LeafWord}
 use Rattle.record_words.specs.Packed.{fixed_words}
 use Rattle.record_words.specs.Leaf.{leaf_words, words_for}
+use Rattle.record_words.proofs.Leaves.{leaf_words_parts}
 use Rattle.tries.specs.Keys.{Key}
 use Rattle.tries.specs.Tree.{Fixed, Tree, leaf, node, fork}
 use Rattle.versions.specs.declared.Rec.{Rec}
 use Rattle.versions.specs.declared.Rec.TheVariants.{Node as a_node, Leaf as a_leaf}
-use Rattle.versions.specs.State.{IsSameRecord}
+use Rattle.versions.specs.State.{IsRecord, IsSameRecord}
 use Rattle.versions.specs.Core.{Free, Unlinked, Marked, pin_version}
-use Rattle.versions.specs.Told.{content, items_of}
+use Rattle.versions.specs.Told.{content}
 use Rattle.versions.proofs.States.{hindsight as state_hindsight, state_parting, reach_later}
 use Rattle.versions.proofs.Stepping.{opening_core, core_reach, core_steady}
 use Rattle.rowex_core.specs.declared.event.Act.TheVariants.{Lock, Publish}
@@ -30,10 +31,10 @@ use Rattle.rowex_core.specs.declared.event.Target.TheVariants.{Node as NodeTarge
 use Rattle.rowex_core.specs.Reading.{HasWordAt}
 use Rattle.rowex_core.specs.Cores.{IsLawful, bare, heap_of, word_count_of}
 use Rattle.rowex_core.specs.Words.{record_word, word_at, Shows}
-use Rattle.rowex_core.specs.Events.{IsFixedOffset, after, next_change, next_tree}
+use Rattle.rowex_core.specs.Events.{IsFixedOffset, after, next_change}
 use Rattle.rowex_core.specs.Opening.{opening, opening_words}
 use Rattle.rowex_core.specs.Statements.{OpeningIsLawful, Hindsight, Parting, InReach, EntriesInReach, PublishIsAStep, LocksApart, call_of_kind, call_of_change}
-use Rattle.rowex_core.proofs.Frames.{change_pass}
+use Rattle.rowex_core.proofs.Frames.{next_change_pass}
 use Rattle.rowex_core.proofs.Loading.{LastOf, last, entry_of_last, fixed_fact, view}
 use Rattle.rowex_core.proofs.Staying.{stays_lawful}
 use Rattle.finite_map.proofs.Growth.{map_of-push}
@@ -100,14 +101,28 @@ hindsight c law q p e m low k n h = state_hindsight (view c) law.core.state m (r
 pub parting : Parting
 parting c law = state_parting (view c) law.core.state
 
-same_word : (offset w : ℕ) (u v : Tree) → IsSameRecord u v → HasWordAt u offset w → HasWordAt v offset w
-same_word offset w (leaf n k v) (leaf m l z) (e, f) has = λ before. sym (ap₂ (λ x y. get_or (leaf_words (x, y)) (offset - 1) 0) e f) ∙ has (subst (λ x. offset < words_for (length x)) (sym e) before)
-same_word offset w (leaf n k v) (node m x b) h has = absurd h
-same_word offset w (leaf n k v) (fork p a b) h has = absurd h
-same_word offset w (node n x b) (node m y d) h has = sym (ap (λ (z : Fixed). get_or (fixed_words (length z.rows) z.height z.columns z.rows) (offset - 1) 0) h.0) ∙ has
-same_word offset w (node n x b) (leaf m l z) h has = absurd h
-same_word offset w (node n x b) (fork p a d) h has = absurd h
-same_word offset w (fork p a b) v h has = absurd h
+-- behind the value the words of a leaf are its key's
+behind_value : (k : List ℕ) (v z offset : ℕ) → 2 ≤ offset → offset < 33 → get_or (leaf_words (k, v)) (offset - 1) 0 ≡ get_or (leaf_words (k, z)) (offset - 1) 0
+behind_value k v z offset low high =
+    let one = leaf_words_parts (k, v) (leaf_words (k, v)) refl in
+    let other = leaf_words_parts (k, z) (leaf_words (k, z)) refl in
+    ⊎_elim
+    (λ (size : offset < 3). ap (λ i. get_or (leaf_words (k, v)) i 0) (let e : offset - 1 ≡ 1 = omega arith in e) ∙ (one.size ∙ (sym other.size ∙ ap (λ i. get_or (leaf_words (k, z)) i 0) (let e : 1 ≡ offset - 1 = omega arith in e))))
+    (λ (bytes : 3 ≤ offset).
+    ap (λ i. get_or (leaf_words (k, v)) i 0) (let e : offset - 1 ≡ 2 + (offset - 3) = omega arith in e) ∙
+    (one.bytes (offset - 3) (omega arith) ∙ (sym (other.bytes (offset - 3) (omega arith)) ∙ ap (λ i. get_or (leaf_words (k, z)) i 0) (let e : 2 + (offset - 3) ≡ offset - 1 = omega arith in e))))
+    (cases_lt offset 3)
+
+same_word : (r : Rec) (offset w : ℕ) (u v : Tree) → IsRecord r u → IsFixedOffset r offset → IsSameRecord u v → HasWordAt u offset w → HasWordAt v offset w
+same_word (a_node o) offset w (leaf n k v) t is fits h has = absurd cc
+same_word (a_leaf o) offset w (leaf n k v) (leaf m l z) is fits e has = λ before.
+    sym (behind_value k v z offset fits.0 fits.1 ∙ ap (λ x. get_or (leaf_words (x, z)) (offset - 1) 0) e) ∙ has (subst (λ x. offset < words_for (length x)) (sym e) before)
+same_word (a_leaf o) offset w (leaf n k v) (node m x b) is fits h has = absurd h
+same_word (a_leaf o) offset w (leaf n k v) (fork p a b) is fits h has = absurd h
+same_word r offset w (node n x b) (node m y d) is fits h has = sym (ap (λ (z : Fixed). get_or (fixed_words (length z.rows) z.height z.columns z.rows) (offset - 1) 0) h.0) ∙ has
+same_word r offset w (node n x b) (leaf m l z) is fits h has = absurd h
+same_word r offset w (node n x b) (fork p a d) is fits h has = absurd h
+same_word r offset w (fork p a b) v is fits h has = absurd h
 
 pub in_reach : InReach
 in_reach c law q p e n r u lo hi st =
@@ -116,7 +131,7 @@ in_reach c law q p e n r u lo hi st =
     word : (offset : ℕ) → IsFixedOffset r offset → HasWordAt u offset (record_word c r offset)
     word offset fits =
         let f = (fixed_fact c law p.version (law.core.state.reach q p.version (ap pin_version e)) r offset fits).1 p.version (le_refl p.version) (n, u, lo, hi, st) in
-        same_word offset (record_word c r offset) f.1 u (core_steady (bare c) law.core q p e r f.0 n f.1 u f.2 f.3 lo hi f.4 st) f.5
+        same_word r offset (record_word c r offset) f.1 u f.4.is_record fits (core_steady (bare c) law.core q p e r f.0 n f.1 u f.2 f.3 lo hi f.4 st) f.5
 
 pub entries_in_reach : EntriesInReach
 entries_in_reach c law q p e m n u lo hi st = (
@@ -147,7 +162,7 @@ one_call Replaced m key value h = go (value_at m key) refl h
     go (Some v) e h = ap (λ (z : Option ℕ). (step_where z m (Upsert key value)).0) e
 
 pub publish_is_a_step : PublishIsAStep
-publish_is_a_step c q spot w law l = (refl, change_pass q (items_of (c.past.version c.past.now)) (items_of (next_tree c spot w)), fits, sym (held ∙ sym told_then))
+publish_is_a_step c q spot w law l = (refl, next_change_pass c q spot w, fits, sym (held ∙ sym told_then))
   where
     then_lawful : IsLawful (after c q (Publish spot w))
     then_lawful = stays_lawful c q (Publish spot w) law l

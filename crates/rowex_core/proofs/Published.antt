@@ -9,21 +9,22 @@ use Rattle.record_words.specs.Entry.{HasEntryWord, entry_word}
 use Rattle.versions.specs.declared.Rec.{Rec}
 use Rattle.versions.specs.declared.Rec.TheVariants.{Node as a_node, Leaf as a_leaf}
 use Rattle.versions.specs.State.{IsLinked}
-use Rattle.versions.specs.Told.{items_of}
 use Rattle.versions.specs.Core.{Fate, Free, Held, Ready as ReadyBy, InTree, Unlinked, Marked}
-use Rattle.versions.specs.Steps.{same_rec, is_linked, next_fate, publishes, IsStore, at_root, at_slot, IsVersionPublish as IsVersionsPublish}
+use Rattle.versions.specs.Steps.{same_rec, is_linked, next_fate, publishes, IsStore, at_root, at_slot, at_value, IsVersionPublish as IsVersionsPublish}
 use Rattle.versions.proofs.Legal.{same_rec_true, linked_cases}
 use Rattle.versions.proofs.Stepping.{step_lawful}
 use Rattle.rowex_core.specs.declared.event.Act.TheVariants.{Publish}
 use Rattle.rowex_core.specs.declared.event.Spot.{Spot}
-use Rattle.rowex_core.specs.declared.event.Spot.TheVariants.{Root, Slot}
+use Rattle.rowex_core.specs.declared.event.Spot.TheVariants.{Root, Slot, Value}
 use Rattle.rowex_core.specs.Reading.{node_words_of, leaf_of, entry_of, IsPacked}
 use Rattle.rowex_core.specs.Cores.{Core, IsLawful, bare, heap_of, HasRecord, IsSized, FitsIn, IsWhole, holder_of}
-use Rattle.rowex_core.specs.Events.{after, stored_words, stored_root, next_tree, next_change, IsLegalPublish, IsPackedAt, IsLockedAt}
-use Rattle.rowex_core.proofs.Frames.{change_pass}
-use Rattle.rowex_core.proofs.Records.{sized_after}
+use Rattle.rowex_core.specs.Events.{after, stored_words, stored_root, next_tree, next_change, IsLegalPublish, IsWordFor, IsPackedAt, IsLockedAt}
+use Rattle.rowex_core.proofs.Frames.{next_change_pass}
+use Rattle.std.proofs.lemmas.List.{get_or-set_other}
+use Rattle.rowex_core.proofs.Records.{sized_after, word_at_record}
 use Rattle.rowex_core.proofs.Publishing.{other_words, unlinked_words, true_linked}
 use Rattle.rowex_core.proofs.Storing.{near_store}
+use Rattle.rowex_core.proofs.Valuing.{value_stored, packed_then}
 use Rattle.versions.proofs.Pace.{next_marked}
 use Rattle.versions.proofs.Heaps.{node_number}
 
@@ -71,36 +72,52 @@ module _ (c : Core) (q : ℕ) (spot : Spot) (w : ℕ) (law : IsLawful c) (l : Is
   store (Slot n j) e = at_slot n e.2
       (λ m ne. ap node_words_of (other_words c n j w (a_node m) (λ x. ne (node_number x))))
       (λ m. ap leaf_of (other_words c n j w (a_leaf m) (λ x. absurd cc))) refl
+  store (Value m) e = let s = value_stored c m w (law.records.sized (a_leaf m)).0 in at_value m e.1 s.nodes s.leaves refl
 
   kept : (s : Spot) → IsLegalPublish c q s w → (n : ℕ) → IsLinked (next_tree c s w) (a_node n) ⊎ ((heap_of c.words).nodes n ≡ (heap_of (stored_words c s w)).nodes n)
   kept s k n = elim (linked_cases (next_tree c s w) (a_node n)) [ inl x ↦ inl x.0 | inr x ↦ inr (ap node_words_of (sym (unlinked_words c q law s w k (a_node n) x.0))) ]
+
+  kept_leaves : (s : Spot) → IsLegalPublish c q s w → (n : ℕ) → IsLinked (next_tree c s w) (a_leaf n) ⊎ ((heap_of c.words).leaves n ≡ (heap_of (stored_words c s w)).leaves n)
+  kept_leaves s k n = elim (linked_cases (next_tree c s w) (a_leaf n)) [ inl x ↦ inl x.0 | inr x ↦ inr (ap leaf_of (sym (unlinked_words c q law s w k (a_leaf n) x.0))) ]
 
   pub versions_publish : IsVersionsPublish (bare c) q (heap_of (stored_words c spot w)) (stored_root c spot w) (next_tree c spot w) (next_change c q spot w)
   versions_publish = record {
     store = store spot l.locked;
     near = near_store c spot w;
     kept = kept spot l;
-    own = change_pass q (items_of (c.past.version c.past.now)) (items_of (next_tree c spot w));
+    kept_leaves = kept_leaves spot l;
+    own = next_change_pass c q spot w;
     next = l.next;
   }
 
-  published_words : (s : Spot) → IsPackedAt c s w → (r : Rec) → IsWhole (c.fate r) → IsPacked r (stored_words c s w r)
-  published_words Root p r h = law.records.packed r h
-  published_words (Slot n j) p r h = elim (cases_Bool (same_rec r (a_node n))) [ inl e ↦ subst (λ z. IsPacked z (stored_words c (Slot n j) w z)) (sym (same_rec_true r (a_node n) e)) p | inr e ↦ rw e (law.records.packed r h) ]
+  published_words : (s : Spot) → IsWordFor s w → IsPackedAt c s w → (r : Rec) → IsWhole (c.fate r) → IsPacked r (stored_words c s w r)
+  published_words Root e p r h = law.records.packed r h
+  published_words (Value m) e p r h = word_at_record c.words (a_leaf m) 1 w (λ i words. IsWhole (c.fate i) → IsPacked i words)
+      (λ x. packed_then (c.words (a_leaf m)) w (law.records.sized (a_leaf m)).0 m e (law.records.packed (a_leaf m) x)) (λ i ne. law.records.packed i) r h
+  published_words (Slot n j) y p r h = elim (cases_Bool (same_rec r (a_node n))) [ inl e ↦ subst (λ z. IsPacked z (stored_words c (Slot n j) w z)) (sym (same_rec_true r (a_node n) e)) p | inr e ↦ rw e (law.records.packed r h) ]
 
-  published_sizes : (s : Spot) (r : Rec) → IsSized r (stored_words c s w r)
-  published_sizes Root r = law.records.sized r
-  published_sizes (Slot n j) r = sized_after c.words (a_node n) (26 + j) w (subst (λ z. z < 2 ^ 64) l.entry.1 (entry_small (entry_of w) l.entry.0)) law.records.sized r
+  small : (s : Spot) → IsWordFor s w → w < 2 ^ 64
+  small Root e = subst (λ z. z < 2 ^ 64) e.1 (entry_small (entry_of w) e.0)
+  small (Slot n j) e = subst (λ z. z < 2 ^ 64) e.1 (entry_small (entry_of w) e.0)
+  small (Value m) e = e
 
-  -- a leaf's words stay
+  published_sizes : (s : Spot) → IsWordFor s w → (r : Rec) → IsSized r (stored_words c s w r)
+  published_sizes Root e r = law.records.sized r
+  published_sizes (Slot n j) e r = sized_after c.words (a_node n) (26 + j) w (small (Slot n j) e) law.records.sized r
+  published_sizes (Value m) e r = sized_after c.words (a_leaf m) 1 w e law.records.sized r
+
+  -- a leaf's words behind its value stay
   published_fits : (s : Spot) (r : Rec) → IsWhole (c.fate r) → FitsIn c.layout r (stored_words c s w r)
   published_fits Root r h = law.records.fits r h
   published_fits (Slot n j) (a_node m) h = tt
   published_fits (Slot n j) (a_leaf m) h = law.records.fits (a_leaf m) h
+  published_fits (Value m) r h = word_at_record c.words (a_leaf m) 1 w (λ i words. IsWhole (c.fate i) → FitsIn c.layout i words)
+      (λ x. rw (get_or-set_other (c.words (a_leaf m)) 0 1 w 0 (λ z. omega arith)) (law.records.fits (a_leaf m) x)) (λ i ne. law.records.fits i) r h
 
-  published_root : (s : Spot) → HasEntryWord (stored_root c s w)
-  published_root Root = l.entry.0
-  published_root (Slot n j) = law.root
+  published_root : (s : Spot) → IsWordFor s w → HasEntryWord (stored_root c s w)
+  published_root Root e = e.0
+  published_root (Slot n j) e = law.root
+  published_root (Value m) e = law.root
 
   published_used : (r : Rec) → (next_fate c.past.now q (is_linked (next_tree c spot w) r) (c.fate r) ≡ Free) ⊎ HasRecord c.layout r
   published_used r = elim (law.records.used r) [ inr h ↦ inr h | inl e ↦ inl (rw e refl) ]
@@ -116,8 +133,8 @@ module _ (c : Core) (q : ℕ) (spot : Spot) (w : ℕ) (law : IsLawful c) (l : Is
   publish_stays low = record {
     core = step_lawful (bare c) q _ law.core (publishes (heap_of (stored_words c spot w)) (stored_root c spot w) (next_tree c spot w) (next_change c q spot w) versions_publish);
     records = record {
-      sized = published_sizes spot;
-      packed = λ r h. published_words spot l.packed r (whole_before c.past.now q (is_linked (next_tree c spot w) r) (c.fate r) h);
+      sized = published_sizes spot l.entry;
+      packed = λ r h. published_words spot l.entry l.packed r (whole_before c.past.now q (is_linked (next_tree c spot w) r) (c.fate r) h);
       fits = λ r h. published_fits spot r (whole_before c.past.now q (is_linked (next_tree c spot w) r) (c.fate r) h);
       retired = published_locks;
       used = published_used;
@@ -129,8 +146,8 @@ module _ (c : Core) (q : ℕ) (spot : Spot) (w : ℕ) (law : IsLawful c) (l : Is
       pinned = law.epochs.pinned;
       marked = λ r since last epoch e. law.epochs.marked r since last epoch (next_marked c.past.now q (is_linked (next_tree c spot w) r) (c.fate r) since last epoch e);
     };
-    root = published_root spot;
+    root = published_root spot l.entry;
     lockers = law.lockers;
     makers = All-push (λ (x : Change). x.pass < c.layout.passes) c.changes (next_change c q spot w) law.makers
-        (subst (λ z. z < c.layout.passes) (sym (change_pass q (items_of (c.past.version c.past.now)) (items_of (next_tree c spot w)))) low);
+        (subst (λ z. z < c.layout.passes) (sym (next_change_pass c q spot w)) low);
   }

@@ -24,12 +24,13 @@ use Rattle.versions.proofs.Quiet.{slot_linked}
 use Rattle.versions.proofs.Legal.{same_rec_true, links_true, linked_cases}
 use Rattle.rowex_core.specs.declared.event.Act.TheVariants.{Publish}
 use Rattle.rowex_core.specs.declared.event.Spot.{Spot}
-use Rattle.rowex_core.specs.declared.event.Spot.TheVariants.{Root, Slot}
+use Rattle.rowex_core.specs.declared.event.Spot.TheVariants.{Root, Slot, Value}
 use Rattle.rowex_core.specs.Reading.{node_words_of, leaf_of}
 use Rattle.rowex_core.specs.Cores.{Core, IsLawful, heap_of}
 use Rattle.rowex_core.specs.Events.{after, stored_words, stored_root, next_tree, change_between, IsLegalPublish, IsLockedAt}
 use Rattle.rowex_core.specs.Sharing.{share, holding_of, is_by, is_in_tree, owned, locked, anchored_at}
 use Rattle.rowex_core.specs.Knowing.{records_of, records_in}
+use Rattle.rowex_core.proofs.Valuing.{valued_linked}
 use Rattle.rowex_core.proofs.Sharing.{same_share, by_another, is_by_true, and_false}
 use Rattle.versions.proofs.Stepping.{some_pass_injective}
 
@@ -81,6 +82,11 @@ module _ (c : Core) (q : ℕ) (law : IsLawful c) where
   -- A record that is not linked then keeps its words.
   pub unlinked_words : (spot : Spot) (w : ℕ) → IsLegalPublish c q spot w → (r : Rec) → ¬ (IsLinked (next_tree c spot w) r) → stored_words c spot w r ≡ c.words r
   unlinked_words Root w l r o = refl
+  unlinked_words (Value m) w l r o =
+      elim (cases_Bool (same_rec r (a_leaf m))) [
+        | inl e ↦ absurd (o (subst (IsLinked (next_tree c (Value m) w)) (sym (same_rec_true r (a_leaf m) e)) (valued_linked c q m w law l.locked)))
+        | inr e ↦ rw e refl
+      ]
   unlinked_words (Slot n j) w l r o = other_words c n j w r (λ e. o (subst (IsLinked (next_tree c (Slot n j) w)) (sym e) (stored_linked n j w l)))
 
 is_false : (b : Bool) → ¬ (b ≡ true) → b ≡ false
@@ -223,6 +229,7 @@ module _ (c : Core) (p : ℕ) (spot : Spot) (w : ℕ) (law : IsLawful c) (l : Is
 
     stored : (s : Spot) → IsLockedAt c p s → (n : ℕ) → c.lock n ≡ Some q → stored_words c s w (a_node n) ≡ c.words (a_node n)
     stored Root h n e = refl
+    stored (Value m) h n e = refl
     stored (Slot m j) h n e = other_words c m j w (a_node n) (λ x. ne (some_pass_injective (sym h.2 ∙ (ap c.lock (sym (node_number x)) ∙ e))))
 
     lock_then : (n : ℕ) → c.lock n ≡ Some q → (f : Fate) → c.fate (a_node n) ≡ f → IsLockable q f → Linking (a_node n) → is_in_tree (next_fate c.past.now p (is_linked (next_tree c spot w) (a_node n)) f) ≡ is_in_tree f
@@ -245,6 +252,7 @@ module _ (c : Core) (p : ℕ) (spot : Spot) (w : ℕ) (law : IsLawful c) (l : Is
     anchor_then : (s : Spot) → IsLockedAt c p s → anchored_at (stored_root c s w) (is_by q c.anchor) ≡ anchored_at c.root (is_by q c.anchor)
     anchor_then Root h = rw (h, by_another ne) refl
     anchor_then (Slot n j) h = refl
+    anchor_then (Value m) h = refl
 
     -- of another pass's: nothing
     pub publish_share : share q (after c p (Publish spot w)) ≡ share q c

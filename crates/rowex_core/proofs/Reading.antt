@@ -167,6 +167,12 @@ module _ (view : NodeView) (words : List ℕ) (small : All (λ w. w < 2 ^ 64) wo
   pub entry_at_is : (j : ℕ) → j < 32 → entry_of (get_or words (25 + j) 0) ≡ (if nat_lt j (size (piece view)) then Some (entry_at (piece view) j) else None)
   entry_at_is j h = ap entry_of (sym (get_or-drop 25 words j 0)) ∙ (entry_word_at j h ∙ (ap (λ z. slice_get z j) has.lawful.shows.entries_are ∙ sym (place_is (piece view) j)))
 
+  pub entry_word_is : (j : ℕ) → j < 32 → get_or words (25 + j) 0 ≡ entry_word (if nat_lt j (size (piece view)) then Some (entry_at (piece view) j) else None)
+  entry_word_is j h = sym (get_or-drop 25 words j 0) ∙ (entry_words_at view.entries (drop 25 words) tail_is j h ∙ ap entry_word (ap (λ z. slice_get z j) has.lawful.shows.entries_are ∙ sym (place_is (piece view) j)))
+
+  pub few_entries : size (piece view) ≤ 32
+  few_entries = omega (arith, length-places (piece view), ap length has.lawful.shows.entries_are, has.lawful.room)
+
   -- and each fixed word is that of its columns, rows and height
   pub fixed_word_is : (i : ℕ) → i < 25 → get_or words i 0 ≡ get_or (fixed_words (length view.rows) view.height view.columns view.rows) i 0
   fixed_word_is i h = sym (get_or-take 25 words i 0 h) ∙ ap (λ z. get_or z i 0) (sym head_is)

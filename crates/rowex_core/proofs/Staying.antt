@@ -20,6 +20,7 @@ use Rattle.rowex_core.specs.Words.{tag_of}
 use Rattle.rowex_core.specs.Events.{Legal, IsOffset, after, with_word, claimed, marked, given_back, anchored, locked_where, advanced}
 use Rattle.rowex_core.proofs.Records.{word_at_record, sized_after}
 use Rattle.rowex_core.proofs.Published.{publish_stays}
+use Rattle.rowex_core.proofs.Valuing.{legal_publish}
 
 -- One record's fate
 
@@ -261,7 +262,7 @@ stays_lawful c q (Lock (NodeTarget n) found) law (a, b) = go (cases_Bool (eqb fo
         rw e (lock_stays c n t.0 (Some q) (λ p is. subst (λ z. z < c.layout.passes) (let x : q ≡ p = cc in x) a) law t.1 (step_lawful (bare c) q _ law.core (locks n t.0 (live_unlocked (c.lock n) (c.fate (a_node n)) t.0 t.1 (sym live ∙ b.1)) t.1)))
 stays_lawful c q (Unlock Anchor) law (a, b) = record { core = step_lawful (bare c) q _ law.core (unlocks_anchor b); records = law.records; epochs = law.epochs; root = law.root; lockers = record { root = λ p is. absurd (let x : None ≡ Some p = is in cc); nodes = law.lockers.nodes }; makers = law.makers }
 stays_lawful c q (Unlock (NodeTarget n)) law (a, b) = lock_stays c n b.2.0 None (λ p is. absurd (let x : None ≡ Some p = is in cc)) law b.2.1 (step_lawful (bare c) q _ law.core (unlocks n b.2.0 b.1 b.2.1))
-stays_lawful c q (Publish spot w) law (a, b) = publish_stays c q spot w law b a
+stays_lawful c q (Publish spot w) law (a, b) = publish_stays c q spot w law (legal_publish c q spot w law b) a
 stays_lawful c q (Mark r epoch) law (a, b) = subst (λ f. IsLawful (record c { shared = marked c.shared r epoch f })) (sym b.2.2) (mark_stays c q r epoch b.2.0 b.2.1 law b.0 b.1 b.2.2 b.2.3)
 stays_lawful c q (LoadEpoch w) law l = round_stays c q _ law (step_lawful (bare c) q _ law.core loads_epoch) (inr law.epochs.now.0)
 stays_lawful c q (Advance expected found) law (a, b) = advance_stays c q expected law b.1

@@ -16,10 +16,11 @@ use Rattle.versions.specs.Steps.{same_rec}
 use Rattle.versions.proofs.Heaps.{near_refl}
 use Rattle.versions.proofs.Legal.{same_rec_true}
 use Rattle.rowex_core.specs.declared.event.Spot.{Spot}
-use Rattle.rowex_core.specs.declared.event.Spot.TheVariants.{Root, Slot}
+use Rattle.rowex_core.specs.declared.event.Spot.TheVariants.{Root, Slot, Value}
 use Rattle.rowex_core.specs.Reading.{node_words_of, fixed_of, entries_of, entry_of}
 use Rattle.rowex_core.specs.Cores.{Core, heap_of}
 use Rattle.rowex_core.specs.Events.{stored_words}
+use Rattle.rowex_core.proofs.Valuing.{key_stays}
 
 -- What rows show of two lists of entries that differ at one place.
 shown_near : (x : Entry) (w : ℕ) (cs rows : List ℕ) (es : List Entry) (j : ℕ) (e : Entry) → (shown x w cs rows es ≡ shown x w cs rows (set es j e)) ⊎ Swap (shown x w cs rows es) (shown x w cs rows (set es j e))
@@ -66,6 +67,7 @@ subtrie_stays words j w =
 
 pub near_store : (c : Core) (spot : Spot) (w : ℕ) → IsNear (heap_of c.words) (heap_of (stored_words c spot w))
 near_store c Root w = near_refl (heap_of c.words)
+near_store c (Value l) w = (key_stays c l w, λ i. refl, λ i. inl refl)
 near_store c (Slot n j) w = (λ i. refl, λ i. fixed i (cases_Bool (same_rec (a_node i) (a_node n))), λ i. subtries i (cases_Bool (same_rec (a_node i) (a_node n))))
   where
     fixed : (i : ℕ) → ((same_rec (a_node i) (a_node n) ≡ true) ⊎ (same_rec (a_node i) (a_node n) ≡ false)) → (node_words_of (c.words (a_node i))).fixed ≡ (node_words_of (stored_words c (Slot n j) w (a_node i))).fixed

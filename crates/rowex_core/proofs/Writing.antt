@@ -21,10 +21,11 @@ use Rattle.rowex_core.specs.declared.event.Act.{Act}
 use Rattle.rowex_core.specs.declared.event.Act.TheVariants.{Claim, Fill, Ready, Release, LoadRef, LoadFixed, Lock, Unlock, Publish, Mark, LoadEpoch, Advance, SetPin, ClearPin, LoadPin, LoadState, GiveBack}
 use Rattle.rowex_core.specs.declared.event.Target.TheVariants.{Anchor, Node as NodeTarget}
 use Rattle.rowex_core.specs.declared.event.Spot.{Spot}
-use Rattle.rowex_core.specs.declared.event.Spot.TheVariants.{Root, Slot}
+use Rattle.rowex_core.specs.declared.event.Spot.TheVariants.{Root, Slot, Value}
 use Rattle.rowex_core.specs.Cores.{Core, IsLawful, HasRecord}
 use Rattle.rowex_core.specs.Words.{lock_tag, tag_of, lock_of, state_at, pin_word, record_word, word_at, Shows}
-use Rattle.rowex_core.specs.Events.{Legal, after, with_word, claimed, marked, given_back, anchored, stored_words, next_tree, IsInTree, IsOffset, IsLegalPublish, word_of, spot_word, location_of, exchanged, writes, locked_where, advanced}
+use Rattle.rowex_core.specs.Events.{Legal, after, with_word, claimed, marked, given_back, anchored, stored_words, stored_root, next_tree, IsInTree, IsOffset, IsLegalPublish, word_of, spot_word, location_of, exchanged, writes, locked_where, advanced}
+use Rattle.rowex_core.proofs.Valuing.{legal_publish}
 
 -- From core c to core d the word at this location becomes w, and every other one stays.
 pub record IsWrite (c d : Core) (location : Location) (w : ℕ) : Type 0 where
@@ -245,6 +246,35 @@ next_state o now q b (Marked s l p) = refl
 next_state o now q false (ReadyBy p) = refl
 next_state o now q false (InTree s) = refl
 
+-- words of different records, or at different offsets
+words_apart : (i r : Rec) (o p : ℕ) → (same_rec i r ≡ false) ⊎ (o ≢ p) → word_of i o ≢ word_of r p
+words_apart (a_node i) (a_node r) o p (inl e) = λ x. false≢true (sym e ∙ eq-eqb i r (let y : i ≡ r = cc in y))
+words_apart (a_leaf i) (a_leaf r) o p (inl e) = λ x. false≢true (sym e ∙ eq-eqb i r (let y : i ≡ r = cc in y))
+words_apart (a_node i) (a_node r) o p (inr e) = λ x. e (let y : o ≡ p = cc in y)
+words_apart (a_leaf i) (a_leaf r) o p (inr e) = λ x. e (let y : o ≡ p = cc in y)
+words_apart (a_node i) (a_leaf r) o p e = λ x. cc
+words_apart (a_leaf i) (a_node r) o p e = λ x. cc
+
+-- a word of a record, that is not the state
+stored_write : (c : Core) (q : ℕ) (spot : Spot) (w : ℕ) (r : Rec) (offset : ℕ) → 1 ≤ offset → offset - 1 < length (c.words r) → stored_root c spot w ≡ c.root →
+    ((i : Rec) → stored_words c spot w i ≡ with_word c.words r offset w i) → IsWrite c (after c q (Publish spot w)) (word_of r offset) w
+stored_write c q spot w r offset low long root words = record_write c (after c q (Publish spot w)) r offset w refl refl root refl (λ p. refl) (here r offset low filled.here words) other
+  where
+    filled : IsWrite c (record c { words = with_word c.words r offset w }) (word_of r offset) w
+    filled = fill_write c r offset w low long
+
+    here : (i : Rec) (o : ℕ) → 1 ≤ o → word_at (record c { words = with_word c.words r offset w }) (word_of i o) ≡ w →
+        ((i : Rec) → stored_words c spot w i ≡ with_word c.words r offset w i) → record_word (after c q (Publish spot w)) i o ≡ w
+    here i zero h e same = absurd (omega arith)
+    here (a_node i) (suc o) h e same = ap (λ z. get_or z o 0) (same (a_node i)) ∙ e
+    here (a_leaf i) (suc o) h e same = ap (λ z. get_or z o 0) (same (a_leaf i)) ∙ e
+
+    other : (i : Rec) (o : ℕ) → (same_rec i r ≡ false) ⊎ (o ≢ offset) → record_word (after c q (Publish spot w)) i o ≡ record_word c i o
+    other (a_node i) zero e = next_state (c.lock i) c.past.now q (is_linked (next_tree c spot w) (a_node i)) (c.fate (a_node i))
+    other (a_leaf i) zero e = next_state None c.past.now q (is_linked (next_tree c spot w) (a_leaf i)) (c.fate (a_leaf i))
+    other (a_node i) (suc o) e = ap (λ z. get_or z o 0) (words (a_node i)) ∙ filled.others (NodeWord i (suc o)) (words_apart (a_node i) r (suc o) offset e)
+    other (a_leaf i) (suc o) e = ap (λ z. get_or z o 0) (words (a_leaf i)) ∙ filled.others (LeafWord i (suc o)) (words_apart (a_leaf i) r (suc o) offset e)
+
 publish_write : (c : Core) (q : ℕ) (spot : Spot) (w : ℕ) → IsLawful c → IsLegalPublish c q spot w → IsWrite c (after c q (Publish spot w)) (spot_word spot) w
 publish_write c q Root w law l = record { layout = refl; here = l.entry.1; others = others }
   where
@@ -257,33 +287,10 @@ publish_write c q Root w law l = record { layout = refl; here = l.entry.1; other
     others (NodeWord n (suc o)) ne = refl
     others (LeafWord n zero) ne = next_state None c.past.now q (is_linked (next_tree c Root w) (a_leaf n)) (c.fate (a_leaf n))
     others (LeafWord n (suc o)) ne = refl
-publish_write c q (Slot n j) w law l = record_write c (after c q (Publish (Slot n j) w)) (a_node n) (26 + j) w refl refl refl refl (λ p. refl) here other
-  where
-    filled : IsWrite c (record c { words = with_word c.words (a_node n) (26 + j) w }) (NodeWord n (26 + j)) w
-    filled = fill_write c (a_node n) (26 + j) w (omega arith) (let x = (law.records.sized (a_node n)).0 in let y = l.locked.1 in omega arith)
-
-    words : (d : Core) → ((i : Rec) → d.words i ≡ stored_words c (Slot n j) w i) → (i : Rec) (o : ℕ) → record_word d i (suc o) ≡ get_or (stored_words c (Slot n j) w i) o 0
-    words d e i o = ap (λ z. get_or z o 0) (e i)
-
-    here : record_word (after c q (Publish (Slot n j) w)) (a_node n) (26 + j) ≡ w
-    here = at (26 + j) (omega arith) filled.here
-      where
-        at : (o : ℕ) → 1 ≤ o → record_word (record c { words = with_word c.words (a_node n) (26 + j) w }) (a_node n) o ≡ w → record_word (after c q (Publish (Slot n j) w)) (a_node n) o ≡ w
-        at zero h e = absurd (omega arith)
-        at (suc o) h e = e
-
-    other : (i : Rec) (o : ℕ) → (same_rec i (a_node n) ≡ false) ⊎ (o ≢ 26 + j) → record_word (after c q (Publish (Slot n j) w)) i o ≡ record_word c i o
-    other (a_node i) zero e = next_state (c.lock i) c.past.now q (is_linked (next_tree c (Slot n j) w) (a_node i)) (c.fate (a_node i))
-    other (a_leaf i) zero e = next_state None c.past.now q (is_linked (next_tree c (Slot n j) w) (a_leaf i)) (c.fate (a_leaf i))
-    other (a_leaf i) (suc o) e = filled.others (LeafWord i (suc o)) (λ x. cc)
-    other (a_node i) (suc o) (inl e) = filled.others (NodeWord i (suc o)) (λ x. false≢true (sym e ∙ eq-eqb i n (number x)))
-      where
-        number : {a b c d : ℕ} → NodeWord a b ≡ NodeWord c d → a ≡ c
-        number x = cc
-    other (a_node i) (suc o) (inr e) = filled.others (NodeWord i (suc o)) (λ x. e (offset x))
-      where
-        offset : {a b c d : ℕ} → NodeWord a b ≡ NodeWord c d → b ≡ d
-        offset x = cc
+publish_write c q (Slot n j) w law l =
+    stored_write c q (Slot n j) w (a_node n) (26 + j) (omega arith) (let x = (law.records.sized (a_node n)).0 in let y = l.locked.1 in omega arith) refl (λ i. refl)
+publish_write c q (Value m) w law l =
+    stored_write c q (Value m) w (a_leaf m) 1 (omega arith) (let x = (law.records.sized (a_leaf m)).0 in omega arith) refl (λ i. refl)
 
 -- A legal step changes its own word alone, as `writes` says.
 pub step_writes : (c : Core) (q : ℕ) (act : Act) → IsLawful c → Legal c q act → IsWrite c (after c q act) (location_of q act) (writes act (word_at c (location_of q act)))
@@ -309,7 +316,7 @@ step_writes c q (Lock Anchor found) law l = anchored_write c q c.anchor refl
 step_writes c q (Lock (NodeTarget n) found) law (a, b) = lock_exchange c q n found b.1 b.2
 step_writes c q (Unlock Anchor) law l = anchor_write c None 2 refl
 step_writes c q (Unlock (NodeTarget n)) law (a, b) = lock_write c n None 2 (ap (λ z. state_word (tag_of None z)) b.2.1)
-step_writes c q (Publish spot w) law (a, b) = publish_write c q spot w law b
+step_writes c q (Publish spot w) law (a, b) = publish_write c q spot w law (legal_publish c q spot w law b)
 step_writes c q (Mark r epoch) law (a, b) = subst (λ f. IsWrite c (record c { shared = marked c.shared r epoch f }) (word_of r 0) (8 * epoch + 4)) (sym b.2.2) (mark_write c r b.2.0 b.2.1 epoch)
 step_writes c q (LoadEpoch w) law l = round_write c q _ Epoch _ refl
 step_writes c q (Advance expected found) law l = advance_write c expected
@@ -333,6 +340,7 @@ in_table c q (Ready r) (a, b) = any_state c.layout r b.0
 in_table c q (Release r) (a, b) = any_state c.layout r b.0
 in_table c q (LoadRef Root w) l = tt
 in_table c q (LoadRef (Slot n j) w) (a, b) = (b.0, let x = b.1 in omega arith)
+in_table c q (LoadRef (Value l) w) (a, b) = (b.0, omega (arith, size_fits c.layout l))
 in_table c q (LoadFixed (a_node n) offset w) (a, b) = (b.0, let x = b.1.1 in omega arith)
 in_table c q (LoadFixed (a_leaf n) offset w) (a, b) = (b.0, b.3)
 in_table c q (Lock Anchor found) l = tt
@@ -341,6 +349,7 @@ in_table c q (Unlock Anchor) l = tt
 in_table c q (Unlock (NodeTarget n)) (a, b) = (b.0, omega arith)
 in_table c q (Publish Root w) l = tt
 in_table c q (Publish (Slot n j) w) (a, b) = (b.locked.0, let x = b.locked.1 in omega arith)
+in_table c q (Publish (Value l) w) (a, b) = (b.0.0, omega (arith, size_fits c.layout l))
 in_table c q (Mark r epoch) (a, b) = any_state c.layout r b.0
 in_table c q (LoadEpoch w) l = tt
 in_table c q (Advance expected found) l = tt

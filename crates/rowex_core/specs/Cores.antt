@@ -47,6 +47,10 @@ abbrev pub FitsIn : Layout → Rec → List ℕ → Type 0
 FitsIn layout (a_node n) words = Unit {0}
 FitsIn layout (a_leaf n) words = words_for (get_or words 1 0) ≤ leaf_size layout n
 
+-- the offset of a leaf's value
+abbrev pub value_offset : ℕ
+value_offset = 1
+
 -- a record has this many words, each of 64 bits, and a leaf has as many whatever its class
 abbrev pub word_count_of : Rec → ℕ
 word_count_of (a_node n) = NODE_FIELDS

@@ -4,7 +4,7 @@ use Rattle.std.specs.declared.cmp.Ordering.{Ordering}
 use Rattle.std.specs.declared.cmp.Ordering.TheVariants.{Less, Equal, Greater}
 use Rattle.compound_node.specs.declared.entries.Entry.{Entry}
 use Rattle.finite_map.specs.declared.Change.{Change}
-use Rattle.finite_map.specs.declared.Kind.TheVariants.{Removed}
+use Rattle.finite_map.specs.declared.Kind.TheVariants.{Replaced, Removed}
 use Rattle.finite_map.specs.Maps.{key_order}
 use Rattle.record_words.specs.declared.TheConstants.{EPOCHS, FIRST_ENTRY, MAX_ENTRIES, NODE_WORDS, LEAF_WORDS}
 use Rattle.record_words.specs.Entry.{HasEntryWord, entry_word}
@@ -21,15 +21,15 @@ use Rattle.versions.specs.Heap.{Heap}
 use Rattle.versions.specs.Read.{read}
 use Rattle.compound_node.specs.Nodes.{height_of}
 use Rattle.versions.specs.Core.{Shared, Fate, Free, Held, Ready as ReadyBy, InTree, Unlinked, Marked, has_seen}
-use Rattle.versions.specs.Steps.{same_rec, IsNextVersion, with_fate, with_anchor, with_lock, after_mark, with_epoch, with_pin, after_set_pin, after_load_epoch, after_load_pin, published_by}
+use Rattle.versions.specs.Steps.{same_rec, HasLockedNamer, IsNextVersion, with_fate, with_anchor, with_lock, after_mark, with_epoch, with_pin, after_set_pin, after_load_epoch, after_load_pin, published_by}
 use Rattle.rowex_core.specs.declared.event.Act.{Act}
 use Rattle.rowex_core.specs.declared.event.Act.TheVariants.{Claim, Fill, Ready, Release, LoadRef, LoadFixed, Lock, Unlock, Publish, Mark, LoadEpoch, Advance, SetPin, ClearPin, LoadPin, LoadState, GiveBack}
 use Rattle.rowex_core.specs.declared.event.Target.{Target}
 use Rattle.rowex_core.specs.declared.event.Target.TheVariants.{Anchor, Node as NodeTarget}
 use Rattle.rowex_core.specs.declared.event.Spot.{Spot}
-use Rattle.rowex_core.specs.declared.event.Spot.TheVariants.{Root, Slot}
-use Rattle.rowex_core.specs.Reading.{entry_of, IsPacked}
-use Rattle.rowex_core.specs.Cores.{Core, heap_of, HasRecord, HasWord, FitsIn}
+use Rattle.rowex_core.specs.declared.event.Spot.TheVariants.{Root, Slot, Value}
+use Rattle.rowex_core.specs.Reading.{entry_of, leaf_of, IsPacked}
+use Rattle.rowex_core.specs.Cores.{Core, bare, heap_of, HasRecord, HasWord, FitsIn, value_offset}
 use Rattle.rowex_core.specs.Words.{lock_tag, state_at, pin_word, record_word}
 
 -- What a step changes
@@ -38,15 +38,17 @@ use Rattle.rowex_core.specs.Words.{lock_tag, state_at, pin_word, record_word}
 abbrev pub with_word : (Rec → List ℕ) → Rec → ℕ → ℕ → Rec → List ℕ
 with_word words r offset w i = if same_rec i r then set (words r) (offset - 1) w else words i
 
--- Publishing: what an entry word stored at a spot makes
+-- Publishing: what a word stored at a spot makes
 
 abbrev pub stored_words : Core → Spot → ℕ → Rec → List ℕ
 stored_words c Root w = c.words
 stored_words c (Slot n j) w = with_word c.words (a_node n) (FIRST_ENTRY + j) w
+stored_words c (Value l) w = with_word c.words (a_leaf l) value_offset w
 
 abbrev pub stored_root : Core → Spot → ℕ → Option Entry
 stored_root c Root w = entry_of w
 stored_root c (Slot n j) w = c.root
+stored_root c (Value l) w = c.root
 
 -- the tree that the words show from this root, if they show one
 abbrev pub tree_of : Heap → Option Entry → Option Tree
@@ -66,6 +68,11 @@ change_between q [] (y ∷ ys) = added_change q y
 change_between q (x ∷ xs) [] = removed_change q x
 change_between q (x ∷ xs) (y ∷ ys) = if nat_eq x.number y.number then change_between q xs ys else change_at q (key_order x.key y.key) x y
 
+-- the spot of an entry
+abbrev pub IsOfEntry : Spot → Type 0
+IsOfEntry (Value l) = ⊥
+IsOfEntry spot = Unit {0}
+
 -- leaves of one number are one leaf
 abbrev pub AreSame : List Item → List Item → Type 0
 AreSame xs ys = (x y : Item) → IsIn x xs → IsIn y ys → x.number ≡ y.number → x ≡ y
@@ -74,7 +81,12 @@ AreSame xs ys = (x y : Item) → IsIn x xs → IsIn y ys → x.number ≡ y.numb
 abbrev pub next_tree : Core → Spot → ℕ → Option Tree
 next_tree c spot w = tree_of (heap_of (stored_words c spot w)) (stored_root c spot w)
 
+-- the change of a leaf's value by pass q
+abbrev pub value_change : Core → ℕ → ℕ → ℕ → Change
+value_change c q l w = record { pass = q; key = (leaf_of (c.words (a_leaf l))).key; value = w; kind = Replaced }
+
 abbrev pub next_change : Core → ℕ → Spot → ℕ → Change
+next_change c q (Value l) w = value_change c q l w
 next_change c q spot w = change_between q (items_of (c.past.version c.past.now)) (items_of (next_tree c spot w))
 
 -- Legality
@@ -84,32 +96,44 @@ abbrev pub IsOffset : Rec → ℕ → Type 0
 IsOffset (a_node n) offset = (1 ≤ offset) × (offset < NODE_WORDS)
 IsOffset (a_leaf n) offset = (1 ≤ offset) × (offset < LEAF_WORDS)
 
--- and but the entries
+-- and but the entries, and the value
 abbrev pub IsFixedOffset : Rec → ℕ → Type 0
 IsFixedOffset (a_node n) offset = (1 ≤ offset) × (offset < FIRST_ENTRY)
-IsFixedOffset (a_leaf n) offset = (1 ≤ offset) × (offset < LEAF_WORDS)
+IsFixedOffset (a_leaf n) offset = (value_offset < offset) × (offset < LEAF_WORDS)
 
 abbrev pub IsInTree : Core → ℕ → Type 0
 IsInTree c n = (since : ℕ) × (c.fate (a_node n) ≡ InTree since)
 
--- pass q has locked the word of the spot
+-- pass q has locked the word of the spot; of a value, what names its leaf
 abbrev pub IsLockedAt : Core → ℕ → Spot → Type 0
 IsLockedAt c q Root = c.anchor ≡ Some q
 IsLockedAt c q (Slot n j) = (n < c.layout.nodes) × (j < MAX_ENTRIES) × (c.lock n ≡ Some q)
+IsLockedAt c q (Value l) = (l < c.layout.leaves) × HasLockedNamer (bare c) q l
+
+-- the word spells an entry, or is a value
+abbrev pub IsWordFor : Spot → ℕ → Type 0
+IsWordFor (Value l) w = w < 2 ^ 64
+IsWordFor spot w = HasEntryWord (entry_of w) × (entry_word (entry_of w) ≡ w)
 
 -- the node that is stored to has words that spell a value then too
 abbrev pub IsPackedAt : Core → Spot → ℕ → Type 0
 IsPackedAt c Root w = Unit {0}
+IsPackedAt c (Value l) w = Unit {0}
 IsPackedAt c (Slot n j) w = IsPacked (a_node n) (stored_words c (Slot n j) w (a_node n))
 
--- The publish is legal: the pass has the lock, the word spells an entry, the node that is stored to has words that spell a value
--- then too, and the words show the next version.
+-- The publish is legal: the pass has the lock, the word spells an entry or is a value, the node that is stored to has words that spell a
+-- value then too, and the words show the next version.
 pub record IsLegalPublish (c : Core) (q : ℕ) (spot : Spot) (w : ℕ) : Type 0 where
   pub locked : IsLockedAt c q spot
-  pub entry : HasEntryWord (entry_of w) × (entry_word (entry_of w) ≡ w)
+  pub entry : IsWordFor spot w
   pub packed : IsPackedAt c spot w
   pub next : IsNextVersion c.shared q (heap_of (stored_words c spot w)) (stored_root c spot w) (next_tree c spot w) (next_change c q spot w)
   pub open next use *
+
+-- Pass q may store the word: of an entry, where that is a legal publish; of a value, where it has locked what names the leaf.
+abbrev pub MayStoreAt : Core → ℕ → Spot → ℕ → Type 0
+MayStoreAt c q (Value l) w = IsLockedAt c q (Value l) × (w < 2 ^ 64)
+MayStoreAt c q spot w = IsLegalPublish c q spot w
 
 abbrev pub LegalAct : Core → ℕ → Act → Type 0
 LegalAct c q (Claim r found) = HasRecord c.layout r × (found ≡ state_at c r)
@@ -118,12 +142,13 @@ LegalAct c q (Ready r) = HasRecord c.layout r × (c.fate r ≡ Held q) × IsPack
 LegalAct c q (Release r) = HasRecord c.layout r × (c.fate r ≡ Held q)
 LegalAct c q (LoadRef Root w) = w ≡ entry_word c.root
 LegalAct c q (LoadRef (Slot n j) w) = (n < c.layout.nodes) × (j < MAX_ENTRIES) × (w ≡ record_word c (a_node n) (FIRST_ENTRY + j))
+LegalAct c q (LoadRef (Value l) w) = (l < c.layout.leaves) × (w ≡ record_word c (a_leaf l) value_offset)
 LegalAct c q (LoadFixed r offset w) = HasRecord c.layout r × IsFixedOffset r offset × (w ≡ record_word c r offset) × HasWord c.layout r offset
 LegalAct c q (Lock Anchor found) = found ≡ state_word (lock_tag c.anchor)
 LegalAct c q (Lock (NodeTarget n) found) = (n < c.layout.nodes) × (found ≡ state_at c (a_node n)) × (found ≡ state_word Live → IsInTree c n)
 LegalAct c q (Unlock Anchor) = c.anchor ≡ Some q
 LegalAct c q (Unlock (NodeTarget n)) = (n < c.layout.nodes) × (c.lock n ≡ Some q) × IsInTree c n
-LegalAct c q (Publish spot w) = IsLegalPublish c q spot w
+LegalAct c q (Publish spot w) = MayStoreAt c q spot w
 LegalAct c q (Mark r epoch) =
     HasRecord c.layout r × (epoch ≡ (c.rounds q).epoch) × ((since : ℕ) × (last : ℕ) × (c.fate r ≡ Unlinked since last q) × (last < (c.rounds q).version))
 LegalAct c q (LoadEpoch w) = w ≡ c.epoch
@@ -214,6 +239,7 @@ state_of r = word_of r 0
 abbrev pub spot_word : Spot → Location
 spot_word Root = RootWord
 spot_word (Slot n j) = NodeWord n (FIRST_ENTRY + j)
+spot_word (Value l) = LeafWord l value_offset
 
 abbrev pub target_word : Target → Location
 target_word Anchor = AnchorWord

@@ -2,7 +2,11 @@
 use Rattle.std.specs.Prelude.{◌≡◌, ℕ}
 use Rattle.finite_map.specs.Fronts.{OthersGoOn}
 use Rattle.versions.specs.Frames.{IsGrown}
-use Rattle.rowex_core.specs.Cores.{Core}
+use Rattle.rowex_core.specs.Cores.{Core, value_offset}
+use Rattle.versions.specs.declared.Rec.TheVariants.{Leaf as a_leaf}
+use Rattle.rowex_core.specs.declared.event.Spot.TheVariants.{Value}
+use Rattle.rowex_core.specs.Words.{record_word}
+use Rattle.rowex_core.specs.Events.{IsLockedAt}
 use Rattle.rowex_core.specs.Sharing.{share}
 
 -- The versions and the changes have grown, by changes of others alone, and what pass q has is as it was.
@@ -11,3 +15,5 @@ pub record IsFrame (q : ℕ) (c d : Core) : Type 0 where
   pub past : IsGrown c.past d.past
   pub changes : OthersGoOn q c.changes d.changes
   pub own : share q d ≡ share q c
+  -- and so are the values of leaves of which it has locked what names them
+  pub values : (l : ℕ) → IsLockedAt c q (Value l) → record_word d (a_leaf l) value_offset ≡ record_word c (a_leaf l) value_offset

@@ -21,12 +21,13 @@ use Rattle.rowex_core.specs.declared.event.Act.TheVariants.{Claim, Fill, Ready, 
 use Rattle.rowex_core.specs.declared.event.Target.{Target}
 use Rattle.rowex_core.specs.declared.event.Target.TheVariants.{Anchor, Node as NodeTarget}
 use Rattle.rowex_core.specs.declared.event.Spot.{Spot}
-use Rattle.rowex_core.specs.declared.event.Spot.TheVariants.{Root, Slot}
+use Rattle.rowex_core.specs.declared.event.Spot.TheVariants.{Root, Slot, Value}
 use Rattle.rowex_core.specs.declared.known.Fact.{Fact}
-use Rattle.rowex_core.specs.declared.known.Fact.TheVariants.{Rooted, Placed, Fixed}
+use Rattle.rowex_core.specs.declared.known.Fact.TheVariants.{Rooted, Placed, Fixed, Valued}
 use Rattle.rowex_core.specs.declared.known.Holding.{Holding}
 use Rattle.rowex_core.specs.declared.known.Holding.TheVariants.{Held, Ready as IsReady, Unlinked}
 use Rattle.rowex_core.specs.declared.known.Owned.{Owned}
+use Rattle.rowex_core.specs.declared.known.Loaded.{Loaded}
 use Rattle.rowex_core.specs.declared.known.Locked.{Locked}
 use Rattle.rowex_core.specs.declared.known.Failed.{Failed}
 use Rattle.rowex_core.specs.declared.known.FailedAct.{FailedAct}
@@ -34,11 +35,11 @@ use Rattle.rowex_core.specs.declared.known.FailedAct.TheVariants.{Claim as a_cla
 use Rattle.rowex_core.specs.declared.known.Known.{Known}
 use Rattle.rowex_core.specs.declared.known.View.{View}
 use Rattle.rowex_core.specs.declared.known.View.TheVariants.{Spent, Dealer, Pass, Pair, Witness, Follower}
-use Rattle.rowex_core.specs.Cores.{Core, IsLawful, holder_of}
-use Rattle.rowex_core.specs.Reading.{entry_of, root_of, entry_in, HasWordAt}
+use Rattle.rowex_core.specs.Cores.{Core, IsLawful, holder_of, value_offset}
+use Rattle.rowex_core.specs.Reading.{entry_of, root_of, entry_in, head_value, HasWordAt}
 use Rattle.rowex_core.specs.Sharing.{share, known_share, nothing}
 use Rattle.rowex_core.specs.Words.{record_word}
-use Rattle.rowex_core.specs.Events.{Legal, stored_words, stored_root, next_change, next_tree, state_of, target_word}
+use Rattle.rowex_core.specs.Events.{Legal, IsLockedAt, stored_words, stored_root, next_change, next_tree, state_of, target_word}
 
 -- Facts of past versions
 
@@ -58,6 +59,11 @@ abbrev pub IsFact : Past → Fact → Type 0
 IsFact s (Rooted since at e) = (since ≤ at) × (at ≤ s.now) × (root_of (s.version at) ≡ e)
 IsFact s (Placed since at n j e) = (at ≤ s.now) × HoldsIfStood s since at (a_node n) (λ u. entry_in u j ≡ e)
 IsFact s (Fixed since at r offset w) = (at ≤ s.now) × HoldsIfStood s since at r (λ u. HasWordAt u offset w)
+IsFact s (Valued since at l v) = (at ≤ s.now) × HoldsIfStood s since at (a_leaf l) (λ u. head_value u ≡ Some v)
+
+-- The leaf still has the value that the pass loaded, if it has locked what names the leaf.
+abbrev pub IsStillLoaded : ℕ → Core → Loaded → Type 0
+IsStillLoaded q c v = IsLockedAt c q (Value v.leaf) → record_word c (a_leaf v.leaf) value_offset ≡ v.value
 
 -- What it has seen is true: others alone have changed the map since; its last load of the root saw a front of that; and
 -- its facts are facts of the past.
@@ -77,6 +83,7 @@ pub record Knows (c : Core) (k : Known) : Type 0 where
   pub counted : AreCounted k.steps k.fresh.step k.failed
   pub seen : HasSeen k.pass c.past c.changes k.front k.fresh.front k.facts
   pub own : share k.pass c ≡ known_share k
+  pub values : All (IsStillLoaded k.pass c) k.values
 
 -- Of what the pass knows, what only its own publish, pin or unpin makes untrue: the changes that it has seen, its facts of the past,
 -- its pin.
@@ -156,12 +163,12 @@ blocking_pass_at c Anchor = c.anchor
 blocking_pass_at c (NodeTarget n) = blocking_pass_of c n (c.fate (a_node n))
 
 abbrev pub anchor_learned : Core → ℕ → Option ℕ → Known → Known
-anchor_learned c found None k = record k { anchor = Some c.root }
+anchor_learned c found None k = record k { anchor = Some c.root; values = [] }
 anchor_learned c found (Some q) k = failed_with k (a_lock (Some q)) (target_word Anchor) found
 
 abbrev pub node_learned : Core → ℕ → ℕ → Known → Known
 node_learned c n found k =
-    if nat_eq found (state_word Live) then record k { locks = record { node = n; words = c.words (a_node n) } ∷ k.locks }
+    if nat_eq found (state_word Live) then record k { locks = record { node = n; words = c.words (a_node n) } ∷ k.locks; values = [] }
     else failed_with k (a_lock (blocking_pass_of c n (c.fate (a_node n)))) (target_word (NodeTarget n)) found
 
 -- a load finds the record not free
@@ -182,6 +189,11 @@ entry_learned c Root k = record k {
 entry_learned c (Slot n j) k = record k {
   front = c.changes;
   facts = facts_with k.pin (λ since. Placed since c.past.now n j (entry_of (record_word c (a_node n) (FIRST_ENTRY + j)))) k.facts;
+}
+entry_learned c (Value l) k = record k {
+  front = c.changes;
+  facts = facts_with k.pin (λ since. Valued since c.past.now l (record_word c (a_leaf l) value_offset)) k.facts;
+  values = record { leaf = l; value = record_word c (a_leaf l) value_offset } ∷ k.values;
 }
 
 -- the records of a tree
@@ -215,6 +227,7 @@ locks_after words t locks = map (λ l. locked_with_words words l) (filter (λ l.
 abbrev pub anchor_after : Spot → Option Entry → Option (Option Entry) → Option (Option Entry)
 anchor_after Root root anchor = Some root
 anchor_after (Slot n j) root anchor = anchor
+anchor_after (Value l) root anchor = anchor
 
 abbrev pub publish_learned : Core → Spot → ℕ → Known → Known
 publish_learned c spot w k = record k {
@@ -222,6 +235,7 @@ publish_learned c spot w k = record k {
   own = own_after c (next_tree c spot w) k.own;
   locks = locks_after (stored_words c spot w) (next_tree c spot w) k.locks;
   anchor = anchor_after spot (stored_root c spot w) k.anchor;
+  values = [];
 }
 
 abbrev pub learned_by : Core → Act → Known → Known
@@ -233,10 +247,10 @@ learned_by c (LoadRef spot w) k = entry_learned c spot k
 learned_by c (LoadFixed r offset w) k = record k { front = c.changes; facts = facts_with k.pin (λ since. Fixed since c.past.now r offset w) k.facts }
 learned_by c (Lock Anchor found) k = anchor_learned c found c.anchor k
 learned_by c (Lock (NodeTarget n) found) k = node_learned c n found k
-learned_by c (Unlock Anchor) k = record k { anchor = None }
-learned_by c (Unlock (NodeTarget n)) k = record k { locks = without_lock n k.locks }
+learned_by c (Unlock Anchor) k = record k { anchor = None; values = [] }
+learned_by c (Unlock (NodeTarget n)) k = record k { locks = without_lock n k.locks; values = [] }
 learned_by c (Publish spot w) k = publish_learned c spot w k
-learned_by c (Mark r epoch) k = record k { own = without_record r k.own }
+learned_by c (Mark r epoch) k = record k { own = without_record r k.own; values = [] }
 learned_by c (LoadEpoch w) k = record k { round = begun_round c.epoch c.past.now }
 learned_by c (Advance expected found) k = k
 learned_by c (SetPin w) k = record k { pin = Some (record { word = w; version = c.past.now; floor = c.epoch }) }

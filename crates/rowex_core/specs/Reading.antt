@@ -83,6 +83,12 @@ entry_in (leaf n k v) j = None
 entry_in (node n x b) j = if nat_lt j (size (subtrie b)) then Some (entry_at (subtrie b) j) else None
 entry_in (fork p a b) j = None
 
+-- the value of the leaf at the tree's head
+abbrev pub head_value : Tree → Option ℕ
+head_value (leaf n k v) = Some v
+head_value (node n x b) = None
+head_value (fork p a b) = None
+
 -- The record at the tree's head has this word at an offset that is neither its state's nor an entry's. Of a leaf, words behind its key
 -- may be any.
 abbrev pub HasWordAt : Tree → ℕ → ℕ → Type 0

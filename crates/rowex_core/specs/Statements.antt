@@ -33,7 +33,7 @@ use Rattle.rowex_core.specs.declared.known.View.TheVariants.{Dealer}
 use Rattle.rowex_core.specs.Reading.{entry_of, node_words_of, entry_in, HasWordAt}
 use Rattle.rowex_core.specs.Cores.{Core, IsLawful, heap_of}
 use Rattle.rowex_core.specs.Words.{record_word, word_at, Shows}
-use Rattle.rowex_core.specs.Events.{IsFixedOffset, Legal, after, location_of, writes, stored_words, stored_root, next_tree, next_change}
+use Rattle.rowex_core.specs.Events.{IsFixedOffset, IsOfEntry, Legal, after, location_of, writes, stored_words, stored_root, next_tree, next_change}
 use Rattle.rowex_core.specs.Sharing.{HasAll}
 use Rattle.rowex_core.specs.Frames.{IsFrame}
 use Rattle.rowex_core.specs.Knowing.{Knows, Knowing, IsViewOf, learned}
@@ -149,11 +149,11 @@ PublishIsAStep =
     Fits (map_of c.changes) (next_change c q spot w) ×
     (content ((after c q (Publish spot w)).past.version (after c q (Publish spot w)).past.now) ≡ map_after (map_of c.changes) (call_of_change (next_change c q spot w)))
 
--- where the words then show a bit trie whose leaves differ by one change of the pass from those before, the change that the
--- publish makes is that one
+-- where an entry is stored, and the words then show a bit trie whose leaves differ by one change of the pass from those before, the
+-- change that the publish makes is that one
 abbrev pub FindsChange : Type 0
 FindsChange =
-    (c : Core) (q : ℕ) (spot : Spot) (w : ℕ) → IsLawful c → IsTop (heap_of (stored_words c spot w)) (stored_root c spot w) (next_tree c spot w) →
+    (c : Core) (q : ℕ) (spot : Spot) (w : ℕ) → IsOfEntry spot → IsLawful c → IsTop (heap_of (stored_words c spot w)) (stored_root c spot w) (next_tree c spot w) →
     ((t : Tree) → next_tree c spot w ≡ Some t → IsTrie t × IsBuilt t) → (x : Change) → IsChange (c.past.version c.past.now) x (next_tree c spot w) →
     items_of (c.past.version c.past.now) ≢ items_of (next_tree c spot w) → x.pass ≡ q → next_change c q spot w ≡ x
 

@@ -1,5 +1,5 @@
 -- The laws of a writer's publish, in words.
-use Rattle.std.specs.Prelude.{◌≡◌, ◌≢◌, ℕ, ◌+◌, ◌<◌, ◌≤◌, ◌^◌, List, All, length, set, Option, Some}
+use Rattle.std.specs.Prelude.{◌≡◌, ◌≢◌, ℕ, ◌+◌, ◌<◌, ◌≤◌, ◌^◌, List, [], All, length, set, Option, Some}
 use Rattle.compound_node.specs.declared.entries.Entry.{Entry}
 use Rattle.compound_node.specs.Nodes.{NodeView, StandsBelow}
 use Rattle.finite_map.specs.declared.Change.{Change}
@@ -16,22 +16,29 @@ use Rattle.versions.specs.Told.{items_of}
 use Rattle.versions.specs.Trades.{HasTraded}
 use Rattle.versions.specs.Steps.{IsVersionPublish as IsVersionsPublish}
 use Rattle.rowex_core.specs.declared.event.Spot.{Spot}
+use Rattle.rowex_core.specs.declared.event.Spot.TheVariants.{Value}
 use Rattle.rowex_core.specs.declared.known.Known.{Known}
-use Rattle.rowex_core.specs.Reading.{entry_of, node_words_of}
+use Rattle.rowex_core.specs.Reading.{node_words_of}
 use Rattle.rowex_core.specs.Cores.{Core, IsLawful, bare, heap_of}
 use Rattle.rowex_core.specs.Words.{state_at}
-use Rattle.rowex_core.specs.Events.{IsLegalPublish, IsLockedAt, IsPackedAt, IsInTree, stored_words, stored_root, next_tree, next_change}
+use Rattle.rowex_core.specs.Events.{IsLegalPublish, IsLockedAt, IsWordFor, IsOfEntry, IsPackedAt, IsInTree, stored_words, stored_root, next_tree, next_change}
 use Rattle.rowex_core.specs.Having.{OwnsJust, LocksJust, AreKept, InAnyWay, IsUnlinked}
 use Rattle.rowex_core.specs.Knowing.{Knows, publish_learned}
 
--- A store that versions allow as a publish of this tree, by which the leaves become others, is a legal publish of the word; the tree
--- that the words show then is this one, and the change that is found between the leaves is the one that versions tell.
+-- A store of an entry that versions allow as a publish of this tree, by which the leaves become others, is a legal publish of the word;
+-- the tree that the words show then is this one, and the change that is found between the leaves is the one that versions tell.
 abbrev pub PublishIsLegal : Type 0
 PublishIsLegal =
-    (c : Core) (q : ℕ) (spot : Spot) (w : ℕ) → IsLawful c → IsLockedAt c q spot → HasEntryWord (entry_of w) × (entry_word (entry_of w) ≡ w) → IsPackedAt c spot w →
+    (c : Core) (q : ℕ) (spot : Spot) (w : ℕ) → IsOfEntry spot → IsLawful c → IsLockedAt c q spot → IsWordFor spot w → IsPackedAt c spot w →
     (t : Option Tree) (x : Change) → IsVersionsPublish (bare c) q (heap_of (stored_words c spot w)) (stored_root c spot w) t x →
     items_of (c.past.version c.past.now) ≢ items_of t →
     IsLegalPublish c q spot w × (next_tree c spot w ≡ t) × (next_change c q spot w ≡ x)
+
+-- The store of a value of 64 bits, under the lock of what names the leaf, is a legal publish. It links no record anew and unlinks none.
+abbrev pub ValueIsLegal : Type 0
+ValueIsLegal =
+    (c : Core) (q l w : ℕ) → IsLawful c → IsLockedAt c q (Value l) → w < 2 ^ 64 →
+    IsLegalPublish c q (Value l) w × HasTraded (c.past.version c.past.now) (next_tree c (Value l) w) [] []
 
 -- Where the words of a node record spell a node, and an entry that may stand in it is stored as entry j: the words spell the node
 -- with that entry then, and what is read from them is the node's fixed part with its subtrie so changed.

@@ -12,13 +12,15 @@ pub enum Target {
     Node(u32),
 }
 
-/// Where an entry word stands.
+/// A word of the map: where an entry word or a value stands.
 #[derive(Clone, Copy)]
 pub enum Spot {
     /// The word of the root.
     Root,
     /// Slot `entry`, 0 to 31, of node record `node`.
     Slot { node: u32, entry: u8 },
+    /// The value of leaf record `leaf`.
+    Value { leaf: u32 },
 }
 
 /// One load, store or compare-exchange on one word. `word` is what a load found, or what a store puts there. `found` is the word that
@@ -33,15 +35,15 @@ pub enum Act {
     Ready { rec: Rec },
     /// Makes a held record free.
     Release { rec: Rec },
-    /// Loads the root or an entry word.
+    /// Loads the root, an entry word or a leaf's value.
     LoadRef { spot: Spot, word: u64 },
-    /// Loads a word of a record that is neither its state nor an entry.
+    /// Loads a word of a record that is neither its state nor an entry nor a value.
     LoadFixed { rec: Rec, offset: u8, word: u64 },
     /// Exchanges the state of the anchor or of a node from live to locked.
     Lock { target: Target, found: u64 },
     /// Makes what the pass has locked live.
     Unlock { target: Target },
-    /// Stores the root or an entry word under its lock: the one step that changes the map.
+    /// Stores the root, an entry word or a leaf's value, under its lock or that of what names the leaf: the one step that changes the map.
     Publish { spot: Spot, word: u64 },
     /// Makes a record that the pass has unlinked obsolete in this epoch.
     Mark { rec: Rec, epoch: u64 },

@@ -30,6 +30,13 @@ pub enum Fact {
         offset: u8,
         word: u64,
     },
+    /// The same holds of the leaf, and of this value.
+    Valued {
+        since: u64,
+        at: u64,
+        leaf: u32,
+        value: u64,
+    },
 }
 
 /// How a pass holds a record of its own.
@@ -53,6 +60,13 @@ pub struct Owned {
 pub struct Locked {
     pub node: u32,
     pub words: Listed<u64>,
+}
+
+/// A value that the pass has loaded of a leaf since it last locked, unlocked, published or marked. The leaf has it still, if what names the
+/// leaf is locked by the pass.
+pub struct Loaded {
+    pub leaf: u32,
+    pub value: u64,
 }
 
 /// What kind of step failed, and which pass was in its way; `None` if none was.
@@ -97,6 +111,7 @@ pub struct Known {
     pub locks: Listed<Locked>,
     /// The root's entry, where it has locked the anchor.
     pub anchor: Option<Option<Entry>>,
+    pub values: Listed<Loaded>,
     pub pin: Option<Pin>,
     pub round: Round,
 }

@@ -85,7 +85,7 @@ pub fn publish_is_map_step()
     ensures { PublishIsAStep }
 {}
 
-/// Let the store of a word show a bit trie with other leaves than the newest version has. If one change of its pass leads from the one to
+/// Let the store of an entry word show a bit trie with other leaves than the newest version has. If one change of its pass leads from the one to
 /// the other, the publish of that word makes this change.
 pub fn legality_finds_change()
     ensures { FindsChange }

@@ -8,5 +8,5 @@ pub mod laws;
 pub mod writer_laws;
 
 pub use event::{Act, Event, Gate, NoGate, Spot, Target};
-pub use known::{Fact, Failed, FailedAct, Fresh, Holding, Known, Locked, Owned, View};
+pub use known::{Fact, Failed, FailedAct, Fresh, Holding, Known, Loaded, Locked, Owned, View};
 pub use versions::{Pin, Rec, Round};

@@ -1,11 +1,16 @@
 //! The laws of a writer's publish, in words. The functions do nothing: their contracts are the laws.
 
-ghost use Rattle.rowex_core.specs.Writers.{LedIsInTree, PublishIsLegal, OwnedAfterPublish, SlotIsStored};
+ghost use Rattle.rowex_core.specs.Writers.{LedIsInTree, PublishIsLegal, OwnedAfterPublish, SlotIsStored, ValueIsLegal};
 
 /// Let a pass that has a spot's lock store an entry word there, after which a node's words still spell one. If the versions allow this as
 /// the publish of a tree with other leaves, it is a legal publish. It makes that tree, and the change that the versions tell.
 pub fn allowed_store_is_legal_publish()
     ensures { PublishIsLegal }
+{}
+
+/// Let a pass have locked what names a leaf. Its store of a value to that leaf is a legal publish, by which no record comes or goes.
+pub fn guarded_store_of_value_is_legal_publish()
+    ensures { ValueIsLegal }
 {}
 
 /// Let words spell a node, and a lower entry be stored in one of its slots. Then they spell the node with that entry there.

@@ -15,9 +15,10 @@ use Rattle.tries.specs.Tree.{Subtrie}
 use Rattle.rowex_core.specs.declared.event.Act.{Act}
 use Rattle.rowex_core.specs.declared.event.Act.TheVariants.{LoadRef, LoadFixed}
 use Rattle.rowex_core.specs.declared.event.Event.{Event}
-use Rattle.rowex_core.specs.declared.event.Spot.TheVariants.{Root, Slot}
+use Rattle.rowex_core.specs.declared.event.Spot.TheVariants.{Root, Slot, Value}
 use Rattle.rowex_core.specs.declared.known.Fact.{Fact}
 use Rattle.rowex_core.specs.declared.known.Fresh.{Fresh}
+use Rattle.rowex_core.specs.declared.known.Loaded.{Loaded}
 use Rattle.rowex_core.specs.declared.known.Known.{Known}
 use Rattle.rowex_core.specs.Knowing.{IsEvent, IsPinnedSince, version_of}
 use Rattle.rowex_table.specs.Runs.{Runs, Steps, silent}
@@ -40,35 +41,39 @@ HasShape k m n h x = IsLedTo k m (Node n h) × Sure k (λ s. IsShaped s m n x)
 
 -- One load
 
--- a load changes of what the pass knows the front, its last load of the root and its facts alone
+-- a load changes of what the pass knows the front, its last load of the root, its facts and the values that it has loaded alone
 abbrev pub OnlySees : ℕ → Known → Known → Type 0
-OnlySees n k j = j ≡ record k { front = j.front; fresh = j.fresh; facts = j.facts; steps = k.steps + n }
+OnlySees n k j = j ≡ record k { front = j.front; fresh = j.fresh; facts = j.facts; values = j.values; steps = k.steps + n }
 
-sees : (k j : Known) (front : List Change) (fresh : Fresh) (facts : List Fact) → j ≡ record k { front = front; fresh = fresh; facts = facts; steps = k.steps + 1; notes = k.notes ++ [] } → OnlySees 1 k j
-sees k j front fresh facts is =
-    is ∙ (ap (λ (notes : List Note). let z : Known = record k { front = front; fresh = fresh; facts = facts; steps = k.steps + 1; notes = notes } in z) (append-nil k.notes) ∙
-    ap (λ (z : Known). let y : Known = record k { front = z.front; fresh = z.fresh; facts = z.facts; steps = k.steps + 1 } in y) (sym is))
+sees : (k j : Known) (front : List Change) (fresh : Fresh) (facts : List Fact) (values : List Loaded) →
+    j ≡ record k { front = front; fresh = fresh; facts = facts; values = values; steps = k.steps + 1; notes = k.notes ++ [] } → OnlySees 1 k j
+sees k j front fresh facts values is =
+    is ∙ (ap (λ (notes : List Note). let z : Known = record k { front = front; fresh = fresh; facts = facts; values = values; steps = k.steps + 1; notes = notes } in z) (append-nil k.notes) ∙
+    ap (λ (z : Known). let y : Known = record k { front = z.front; fresh = z.fresh; facts = z.facts; values = z.values; steps = k.steps + 1 } in y) (sym is))
 
 pub root_sees : (layout : Layout) (k j : Known) (w : ℕ) → IsEvent layout (LoadRef Root w) silent k j → OnlySees 1 k j
-root_sees layout k j w e = sees k j _ _ _ e.learned_is
+root_sees layout k j w e = sees k j _ _ _ _ e.learned_is
 
 -- of loads below the root
 module _ {layout : Layout} {k j : Known} where
   pub below_sees : (act : Act) → IsBelowRoot act → IsEvent layout act silent k j → OnlySees 1 k j
   below_sees (LoadRef Root w) below e = absurd below
-  below_sees (LoadRef (Slot n i) w) below e = sees k j _ _ _ e.learned_is
-  below_sees (LoadFixed r offset w) below e = sees k j _ _ _ e.learned_is
+  below_sees (LoadRef (Slot n i) w) below e = sees k j _ _ _ _ e.learned_is
+  below_sees (LoadRef (Value l) w) below e = sees k j _ _ _ _ e.learned_is
+  below_sees (LoadFixed r offset w) below e = sees k j _ _ _ _ e.learned_is
   below_sees _ below e = absurd below
 
   pub below_fresh : (act : Act) → IsBelowRoot act → IsEvent layout act silent k j → j.fresh ≡ k.fresh
   below_fresh (LoadRef Root w) below e = absurd below
   below_fresh (LoadRef (Slot n i) w) below e = ap (λ (z : Known). z.fresh) e.learned_is
+  below_fresh (LoadRef (Value l) w) below e = ap (λ (z : Known). z.fresh) e.learned_is
   below_fresh (LoadFixed r offset w) below e = ap (λ (z : Known). z.fresh) e.learned_is
   below_fresh _ below e = absurd below
 
   pub below_later : (act : Act) → IsBelowRoot act → IsEvent layout act silent k j → IsLater k j
   below_later (LoadRef Root w) below e = absurd below
   below_later (LoadRef (Slot n i) w) below e = event_later e tt
+  below_later (LoadRef (Value l) w) below e = event_later e tt
   below_later (LoadFixed r offset w) below e = event_later e tt
   below_later _ below e = absurd below
 
@@ -78,8 +83,8 @@ sees_none : (k : Known) → OnlySees 0 k k
 sees_none k = ap (λ (s : ℕ). let z : Known = record k { steps = s } in z) (let e : k.steps ≡ k.steps + 0 = omega arith in e)
 
 pub sees_more : (n m : ℕ) (k i j : Known) → OnlySees n k i → OnlySees m i j → OnlySees (n + m) k j
-sees_more n m k i j x y = y ∙ (ap (λ (z : Known). let w : Known = record z { front = j.front; fresh = j.fresh; facts = j.facts; steps = z.steps + m } in w) x ∙
-    ap (λ (s : ℕ). let w : Known = record k { front = j.front; fresh = j.fresh; facts = j.facts; steps = s } in w) (let e : k.steps + n + m ≡ k.steps + (n + m) = omega arith in e))
+sees_more n m k i j x y = y ∙ (ap (λ (z : Known). let w : Known = record z { front = j.front; fresh = j.fresh; facts = j.facts; values = j.values; steps = z.steps + m } in w) x ∙
+    ap (λ (s : ℕ). let w : Known = record k { front = j.front; fresh = j.fresh; facts = j.facts; values = j.values; steps = s } in w) (let e : k.steps + n + m ≡ k.steps + (n + m) = omega arith in e))
 
 -- what loads below the root leave to a pass
 record Leaves (layout : Layout) (n : ℕ) (k j : Known) : Type 0 where
@@ -90,7 +95,7 @@ record Leaves (layout : Layout) (n : ℕ) (k j : Known) : Type 0 where
 
 -- What a look leaves to the pass: the root, and so many loads below it.
 pub record HasLookedAt (n : ℕ) (k j : Known) : Type 0 where
-  pub sees : j ≡ record k { front = j.front; fresh = j.fresh; facts = j.facts; steps = k.steps + (1 + n) }
+  pub sees : j ≡ record k { front = j.front; fresh = j.fresh; facts = j.facts; values = j.values; steps = k.steps + (1 + n) }
   pub later : IsLater k j
   pub fresh : BeginsWith j.fresh.front k.front
   pub now : k.steps ≤ j.fresh.step

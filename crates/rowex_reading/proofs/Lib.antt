@@ -5,6 +5,7 @@ pub mod Loading
 pub mod Rooting
 pub mod Standing
 pub mod Placing
+pub mod Valuing
 pub mod Wording
 pub mod Heading
 pub mod Leafing

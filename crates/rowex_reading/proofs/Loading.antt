@@ -1,19 +1,20 @@
 -- What one load teaches a pinned pass.
-use Rattle.std.proofs.Common.{◌≡◌, ℕ, ◌+◌, ◌≤◌, [], ◌∷◌, ◌++◌, length, Option, Some, None, IsSome, refl, ap, sym, ◌∙◌, subst, le_trans}
+use Rattle.std.proofs.Common.{◌≡◌, ℕ, List, ◌+◌, ◌≤◌, [], ◌∷◌, ◌++◌, length, Option, Some, None, IsSome, refl, ap, sym, ◌∙◌, subst, le_trans}
 use Rattle.std.specs.Prelude.{All}
 use Rattle.std.proofs.lemmas.List.Elements.{All-head}
 use Rattle.record_words.specs.declared.layout.Layout.{Layout}
 use Rattle.tries.specs.Tree.{Tree}
 use Rattle.versions.specs.declared.Pin.{Pin}
 use Rattle.versions.specs.declared.Rec.{Rec}
-use Rattle.versions.specs.declared.Rec.TheVariants.{Node as a_node}
+use Rattle.versions.specs.declared.Rec.TheVariants.{Node as a_node, Leaf as a_leaf}
 use Rattle.rowex_core.specs.declared.event.Act.TheVariants.{LoadRef, LoadFixed}
-use Rattle.rowex_core.specs.declared.event.Spot.TheVariants.{Root, Slot}
+use Rattle.rowex_core.specs.declared.event.Spot.TheVariants.{Root, Slot, Value}
 use Rattle.rowex_core.specs.declared.known.Fact.{Fact}
-use Rattle.rowex_core.specs.declared.known.Fact.TheVariants.{Rooted, Placed, Fixed}
+use Rattle.rowex_core.specs.declared.known.Fact.TheVariants.{Rooted, Placed, Fixed, Valued}
 use Rattle.rowex_core.specs.declared.known.Fresh.{Fresh}
+use Rattle.rowex_core.specs.declared.known.Loaded.{Loaded}
 use Rattle.rowex_core.specs.declared.known.Known.{Known}
-use Rattle.rowex_core.specs.Cores.{Core, IsLawful}
+use Rattle.rowex_core.specs.Cores.{Core, IsLawful, value_offset}
 use Rattle.rowex_core.specs.Knowing.{IsFact, HoldsIfStood, StoodAs, StoodBetween, Recalls, IsEvent, facts_with, version_of}
 use Rattle.rowex_core.specs.Reading.{entry_of}
 use Rattle.rowex_core.specs.Words.{record_word}
@@ -29,9 +30,9 @@ pub record IsTaught (core : Core) (found : Fact) (k j : Known) : Type 0 where
   pub front : j.front ≡ core.changes
   pub fact : (c : Core) → Recalls c j → IsFact c.past found
 
-taught : (core : Core) (k j : Known) (p : Pin) (f : ℕ → Fact) (fresh : Fresh) → k.pin ≡ Some p → IsLater k j →
-    j ≡ record k { front = core.changes; fresh = fresh; facts = facts_with k.pin f k.facts; steps = k.steps + 1; notes = k.notes ++ [] } → IsTaught core (f p.version) k j
-taught core k j p f fresh pinned later is = record {
+taught : (core : Core) (k j : Known) (p : Pin) (f : ℕ → Fact) (fresh : Fresh) (values : List Loaded) → k.pin ≡ Some p → IsLater k j →
+    j ≡ record k { front = core.changes; fresh = fresh; facts = facts_with k.pin f k.facts; values = values; steps = k.steps + 1; notes = k.notes ++ [] } → IsTaught core (f p.version) k j
+taught core k j p f fresh values pinned later is = record {
   later = later;
   front = ap (λ (z : Known). z.front) is;
   fact = λ c h. All-head (IsFact c.past) (f p.version) k.facts (subst (All (IsFact c.past)) facts_are h.facts);
@@ -43,16 +44,21 @@ taught core k j p f fresh pinned later is = record {
 module _ (layout : Layout) (k j : Known) (p : Pin) (pinned : k.pin ≡ Some p) where
   pub root_taught : (w : ℕ) (e : IsEvent layout (LoadRef Root w) silent k j) → IsTaught e.core (Rooted p.version e.core.past.now e.core.root) k j
   root_taught w e =
-      taught e.core k j p (λ since. Rooted since e.core.past.now e.core.root) (record { front = e.core.changes; step = k.steps; pinned = version_of k.pin }) pinned (event_later e tt) e.learned_is
+      taught e.core k j p (λ since. Rooted since e.core.past.now e.core.root) (record { front = e.core.changes; step = k.steps; pinned = version_of k.pin }) k.values pinned (event_later e tt) e.learned_is
 
   pub slot_taught : (n i w : ℕ) (e : IsEvent layout (LoadRef (Slot n i) w) silent k j) →
       IsTaught e.core (Placed p.version e.core.past.now n i (entry_of (record_word e.core (a_node n) (26 + i)))) k j
   slot_taught n i w e =
-      taught e.core k j p (λ since. Placed since e.core.past.now n i (entry_of (record_word e.core (a_node n) (26 + i)))) k.fresh pinned (event_later e tt) e.learned_is
+      taught e.core k j p (λ since. Placed since e.core.past.now n i (entry_of (record_word e.core (a_node n) (26 + i)))) k.fresh k.values pinned (event_later e tt) e.learned_is
+
+  pub value_taught : (l w : ℕ) (e : IsEvent layout (LoadRef (Value l) w) silent k j) → IsTaught e.core (Valued p.version e.core.past.now l w) k j
+  value_taught l w e = subst (λ z. IsTaught e.core (Valued p.version e.core.past.now l z) k j) (sym e.legal.1.1)
+      (taught e.core k j p (λ since. Valued since e.core.past.now l (record_word e.core (a_leaf l) value_offset)) k.fresh
+      (record { leaf = l; value = record_word e.core (a_leaf l) value_offset } ∷ k.values) pinned (event_later e tt) e.learned_is)
 
   pub fixed_taught : (r : Rec) (offset w : ℕ) (e : IsEvent layout (LoadFixed r offset w) silent k j) → IsTaught e.core (Fixed p.version e.core.past.now r offset w) k j
   fixed_taught r offset w e =
-      taught e.core k j p (λ since. Fixed since e.core.past.now r offset w) k.fresh pinned (event_later e tt) e.learned_is
+      taught e.core k j p (λ since. Fixed since e.core.past.now r offset w) k.fresh k.values pinned (event_later e tt) e.learned_is
 
 -- the load was at the newest version that the pass has seen then
 pub taught_now : {core : Core} {fact : Fact} {k j : Known} → IsLawful core → IsTaught core fact k j → length j.front ≡ core.past.now

@@ -50,7 +50,7 @@ rooted_led s m steady k e (n, t, lo, hi, is, pg) =
 leaf_missed : (s : Past) (m : ℕ) → IsSteady s m → (k : Key) (n : ℕ) (l : Key) (v : ℕ) → IsLed s m k (Leaf n) → IsRead s m n l v → k ≢ l → WasAbsentSince s m k
 leaf_missed s m steady k n l v (o, u, lo, hi, st, pg, inr missed) r ne = missed
 leaf_missed s m steady k n l v (o, leaf a y w, lo, hi, st, pg, inl follows) (p, la, ha, sa) ne =
-    absurd (ne (follows ∙ (steady.same (a_leaf n) o p (leaf a y w) (leaf n l v) lo hi la ha st sa).0))
+    absurd (ne (follows ∙ steady.same (a_leaf n) o p (leaf a y w) (leaf n l v) lo hi la ha st sa))
 leaf_missed s m steady k n l v (o, node a x b, lo, hi, st, pg, inl follows) r ne = absurd cc
 leaf_missed s m steady k n l v (o, fork p x y, lo, hi, st, pg, inl follows) r ne = absurd cc
 

@@ -103,6 +103,22 @@ pub next_loaded : (layout : Layout) (k j i : Known) (r : Rec) (before n w : ℕ)
 next_loaded layout k j i r before n w words so_far room event =
     one_loaded layout k j i r before (λ o. o < n) (λ o. o < n + 1) n w words so_far room (λ o low. ⊎_elim (λ (before : o < n). inl (before, (λ e. omega (arith, e, before)))) (λ (after : n ≤ o). inr (omega (arith, low, after))) (cases_lt o n)) event
 
+-- the words of a leaf's key, from its length up to some
+abbrev pub IsKeyWord : ℕ → ℕ → Type 0
+IsKeyWord i o = (1 ≤ o) × (o < i)
+
+-- of none of which the pass need know anything,
+pub no_key_word : (k j : Known) (n : ℕ) (words : List ℕ) → IsLater k j → AreLoaded k j (a_leaf n) 0 (IsKeyWord 1) words
+no_key_word k j n words later = record { later = later; each = λ m stood o both. absurd (let low = both.0 in let high = both.1 in omega (arith, low, high)) }
+
+-- and one more
+pub next_key_word : (layout : Layout) (k j i : Known) (n p w : ℕ) (words : List ℕ) → AreLoaded k j (a_leaf n) 0 (IsKeyWord p) words → p < length words →
+    IsEvent layout (LoadFixed (a_leaf n) (p + 1) w) silent j i → (m : ℕ) → IsStood k m (a_leaf n) → AreLoaded k i (a_leaf n) 0 (IsKeyWord (p + 1)) (set words p w)
+next_key_word layout k j i n p w words so_far room event =
+    one_loaded layout k j i (a_leaf n) 0 (IsKeyWord p) (IsKeyWord (p + 1)) p w words so_far room
+    (λ o both. ⊎_elim (λ (older : o < p). inl ((both.0, older), (λ e. omega (arith, e, older)))) (λ (newest : p ≤ o). inr (let b = both.1 in omega (arith, newest, b))) (cases_lt o p))
+    (from_first p event)
+
 -- of a leaf with these words, the offset is one up to the end of its key
 abbrev pub IsBeforeEnd : Rec → List ℕ → ℕ → Type 0
 IsBeforeEnd (a_node n) words offset = Unit {0}

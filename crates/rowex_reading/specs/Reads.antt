@@ -5,7 +5,7 @@ use Rattle.tries.specs.Keys.{Key}
 use Rattle.rowex_core.specs.declared.event.Act.{Act}
 use Rattle.rowex_core.specs.declared.event.Act.TheVariants.{LoadRef, LoadFixed}
 use Rattle.rowex_core.specs.declared.event.Event.{Event}
-use Rattle.rowex_core.specs.declared.event.Spot.TheVariants.{Root, Slot}
+use Rattle.rowex_core.specs.declared.event.Spot.TheVariants.{Root, Slot, Value}
 use Rattle.rowex_table.specs.Runs.{Runs, Steps}
 use Rattle.rowex_table.specs.Seats.{TableView, SeatView, IsSeatOf}
 use Rattle.rowex_reading.specs.Possible.{IsPossible}
@@ -14,9 +14,10 @@ use Rattle.rowex_reading.specs.Possible.{IsPossible}
 abbrev pub IsReader : TableView → SeatView → Type 0
 IsReader table a = IsSeatOf table a × IsPossible table.layout a.known
 
--- a load of an entry of a node, or of a word of a record that is neither its state nor an entry
+-- a load of an entry of a node, of the value of a leaf, or of a word of a record that is neither of these nor its state
 abbrev pub IsBelowRoot : Act → Type 0
 IsBelowRoot (LoadRef (Slot n i) word) = Unit {0}
+IsBelowRoot (LoadRef (Value l) word) = Unit {0}
 IsBelowRoot (LoadFixed r offset word) = Unit {0}
 IsBelowRoot act = ⊥
 

@@ -20,9 +20,9 @@ use insert_cases::PathNode;
 use key_bits::{Key, MAX_BYTES};
 use record_words::{
     CACHE_LINE_WORDS, FIELDS_OFFSET, FIRST_KEY_WORD, FIRST_POSITIONS, FIRST_ROWS, HEAD_WORDS,
-    KEY_OFFSET, LENGTH_OFFSET, NODE_WORDS, ROW_WORDS, VALUE_OFFSET, count_key_words,
-    extract_dense_key, first_position_of, key_word_at, read_entry, read_numbers, read_some_entry,
-    search_row_words, write_key_word,
+    KEY_OFFSET, LENGTH_OFFSET, NODE_WORDS, ROW_WORDS, count_key_words, extract_dense_key,
+    first_position_of, key_word_at, read_entry, read_numbers, read_some_entry, search_row_words,
+    write_key_word,
 };
 use rowex_core::{Gate, Rec, Spot};
 use rowex_table::{HotTable, LeafAt, NodeAt, TableSeat};
@@ -201,7 +201,7 @@ pub fn load_leaf<G: Gate>(
 {
     let rec = Rec::Leaf(leaf.number);
     let start = leaf.start;
-    let value = table.load_fixed_at(seat, gate, rec, start, VALUE_OFFSET);
+    let value = table.load_value_at(seat, gate, leaf.number, start);
     let length = table.load_fixed_at(seat, gate, rec, start, LENGTH_OFFSET);
     if length == 8 {
         let word = table.load_fixed_at(seat, gate, rec, start, KEY_OFFSET);
@@ -270,5 +270,5 @@ fn compare_leaf<G: Gate>(
             return None;
         }
     }
-    Some(table.load_fixed_at(seat, gate, rec, leaf.start, VALUE_OFFSET))
+    Some(table.load_value_at(seat, gate, leaf.number, leaf.start))
 }

@@ -22,7 +22,7 @@ use Rattle.rowex_core.specs.declared.known.Known.{Known}
 use Rattle.record_words.specs.Leaf.{HasLeafWords, key_word, leaf_words, words_for}
 use Rattle.record_words.proofs.Leaves.{leaf_words_parts}
 use Rattle.rowex_core.specs.Cores.{Core, word_count_of}
-use Rattle.rowex_core.specs.Events.{IsFixedOffset}
+use Rattle.rowex_core.specs.Events.{IsOffset, IsFixedOffset}
 use Rattle.rowex_core.specs.Words.{record_word}
 use Rattle.rowex_core.specs.Reading.{IsPacked}
 use Rattle.rowex_core.specs.Sharing.{IsOwned}
@@ -37,7 +37,7 @@ use Rattle.rowex_table.proofs.ActsBefore.{later_trans, recalls_on, same_later}
 use Rattle.rowex_table.proofs.Rights.{mapped}
 use Rattle.rowex_table.proofs.Running as running
 use Rattle.rowex_table.proofs.Running.{in_turn_more}
-use Rattle.rowex_records.specs.Records.{owning, filling, fill_with, load_of_word, fill_unless_found, stored, stored_in, IsFilledLeaf, IsLookedAt, Sets, SetsAll, SetsMore, SetsSome, SetsWord}
+use Rattle.rowex_records.specs.Records.{owning, filling, fill_with, load_of_word, fill_unless_found, stored, stored_in, IsBehindValue, IsFilledLeaf, IsLookedAt, Sets, SetsAll, SetsMore, SetsSome, SetsWord}
 use Rattle.rowex_records.proofs.Filled.{AreSized, each_mapped, filled_with, leaf_stored, own_sized, stored_more, stored_nothing, twice}
 use Rattle.rowex_records.proofs.Making.{owns_one}
 
@@ -76,6 +76,15 @@ looks P w fixed slot (a_node n) offset = go (nat_lt offset FIRST_ENTRY) refl
         let past : FIRST_ENTRY ≤ offset = ltb-false offset FIRST_ENTRY e in
         let at : FIRST_ENTRY + (offset - FIRST_ENTRY) ≡ offset = omega (arith, past) in
         rw e (subst (λ o. P (a_node n) o (LoadRef (Slot n (offset - FIRST_ENTRY)) w)) at (slot n (offset - FIRST_ENTRY)))
+
+-- what is neither an entry nor a value is fixed
+pub is_fixed : (r : Rec) (offset : ℕ) → IsOffset r offset → IsBehindValue r offset → ((n : ℕ) → r ≡ a_node n → offset < FIRST_ENTRY) → IsFixedOffset r offset
+is_fixed (a_node n) offset at behind low = (at.0, low n refl)
+is_fixed (a_leaf n) offset at behind low = (behind, at.1)
+
+pub looked_behind : (r : Rec) (offset word : ℕ) → IsLookedAt r offset word → IsBehindValue r offset
+looked_behind (a_node n) offset word at = tt
+looked_behind (a_leaf n) offset word at = omega arith
 
 pub fixed_is_load : (r : Rec) (offset w : ℕ) → IsFixedOffset r offset → load_of_word r offset w ≡ LoadFixed r offset w
 fixed_is_load (a_leaf n) offset w fixed = refl

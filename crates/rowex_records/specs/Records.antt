@@ -54,6 +54,11 @@ abbrev pub IsLookedAt : Rec → ℕ → ℕ → Type 0
 IsLookedAt (a_node n) offset word = word ≡ unused_word offset
 IsLookedAt (a_leaf n) offset word = offset ≡ 2
 
+-- of a leaf, the offset of a word behind the value
+abbrev pub IsBehindValue : Rec → ℕ → Type 0
+IsBehindValue (a_node n) offset = Unit {0}
+IsBehindValue (a_leaf n) offset = 1 < offset
+
 -- a load of the word there
 abbrev pub load_of_word : Rec → ℕ → ℕ → Act
 load_of_word (a_node n) offset w = if nat_lt offset FIRST_ENTRY then LoadFixed (a_node n) offset w else LoadRef (Slot n (offset - FIRST_ENTRY)) w

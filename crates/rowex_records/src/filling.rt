@@ -13,7 +13,7 @@ ghost use Rattle.rowex_table.specs.Rights.{IsClaimed};
 ghost use Rattle.rowex_table.specs.Rule.{IsStartOf};
 ghost use Rattle.rowex_table.specs.Runs.{Steps};
 ghost use Rattle.rowex_table.specs.Seats.{IsSeatOf};
-ghost use Rattle.rowex_records.specs.Records.{HaveBelow, IsFilled, IsFilledLeaf, IsLookedAt, Readies, Sets, SetsAll, SetsMore, SetsSome, load_of_word, unused_word};
+ghost use Rattle.rowex_records.specs.Records.{HaveBelow, IsBehindValue, IsFilled, IsFilledLeaf, IsLookedAt, Readies, Sets, SetsAll, SetsMore, SetsSome, load_of_word, unused_word};
 
 use key_bits::Key;
 use record_words::{
@@ -187,7 +187,7 @@ fn store_word_if_changed<G: Gate>(
     }
 }
 
-/// Loads the word at `offset` of the record `at`, which is not its state, and returns it.
+/// Loads the word at `offset` of the record `at`, which is neither its state nor a leaf's value, and returns it.
 #[inline(always)]
 fn load_word<G: Gate>(
     table: &HotTable,
@@ -199,6 +199,7 @@ fn load_word<G: Gate>(
     requires own { IsSeatOf table.now seat.old }
     requires start { IsStartOf table.now.layout at.rec at.start }
     requires range { IsOffset at.rec offset × HasWord table.now.layout at.rec offset }
+    requires behind { IsBehindValue at.rec offset }
     ensures { Steps table.now G.becomes (load_of_word at.rec offset result) (seat.old, gate.old) (seat.new, gate.new) }
 {
     match at.rec {

@@ -8,7 +8,7 @@ use Rattle.versions.specs.Told.{content}
 use Rattle.rowex_core.specs.declared.event.Act.{Act}
 use Rattle.rowex_core.specs.declared.event.Event.{Event}
 use Rattle.rowex_core.specs.declared.event.Spot.{Spot}
-use Rattle.rowex_core.specs.declared.event.Spot.TheVariants.{Root, Slot}
+use Rattle.rowex_core.specs.declared.event.Spot.TheVariants.{Root, Slot, Value}
 use Rattle.rowex_core.specs.Cores.{Core, IsLawful}
 use Rattle.rowex_core.specs.Events.{IsLockedAt, Legal, after}
 use Rattle.rowex_core.specs.Opening.{opening}
@@ -17,7 +17,9 @@ use Rattle.rowex_core.proofs.Runs.{runs_stay_lawful}
 use Rattle.rowex_replay.specs.Runs.{Run, HasLegalEvents, core_after, core_of, with_event}
 use Rattle.replay_state.specs.States.{StateView, IsStateOf, HasLock, IsLockedPublish}
 use Rattle.rowex_replay.specs.Replays.{IsAfter, MayWantMemory}
-use Rattle.replay_state.proofs.Tables.{within}
+use Rattle.versions.specs.declared.Rec.TheVariants.{Leaf as a_leaf}
+use Rattle.replay_state.proofs.Tables.{within, has_words}
+use Rattle.replay_state.proofs.Valued.{namer_at}
 
 -- ---- runs
 
@@ -44,12 +46,15 @@ told run h = ∥∥₁_elim (lawful run h) (Prim.hlevel props) (λ l.
 -- ---- states
 
 -- a lock of the state is one of its core
-locked_at : (s : StateView) (c : Core) (q : ℕ) (spot : Spot) → IsStateOf s c → HasLock s q spot → IsLockedAt c q spot
-locked_at s c q Root at own = at.anchor ∙ own
-locked_at s c q (Slot n j) at (few, own) = (within s.records.locks c.layout.nodes n (Some q) at.records.node_count.2 own, few, at.records.locks_are n (Some q) own)
+locked_at : (s : StateView) (c : Core) (q : ℕ) (spot : Spot) → ∥ IsLawful c ∥₁ → IsStateOf s c → HasLock s q spot → IsLockedAt c q spot
+locked_at s c q Root lawful at own = at.anchor ∙ own
+locked_at s c q (Value l) lawful at ((words, there), own) =
+    let low = has_words s.records c.layout c.words c.fate c.lock at.records (a_leaf l) words there in
+    (low, namer_at s c q l lawful at (omega (arith, low, c.layout.leaves_in_range)) own)
+locked_at s c q (Slot n j) lawful at (few, own) = (within s.records.locks c.layout.nodes n (Some q) at.records.node_count.2 own, few, at.records.locks_are n (Some q) own)
 
 pub wants_memory : (s : StateView) (run : Run) (q : ℕ) (act : Act) → IsAfter s run → IsLockedPublish s q act → MayWantMemory (core_of run) q act
-wants_memory s run q act h (spot, w, is, own) = (spot, w, is, locked_at s (core_of run) q spot h.at own)
+wants_memory s run q act h (spot, w, is, own) = (spot, w, is, locked_at s (core_of run) q spot (lawful run h.legal) h.at own)
 
 -- An event that the state takes is legal in the run's core, and the run goes on with it.
 

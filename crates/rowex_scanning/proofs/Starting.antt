@@ -522,7 +522,7 @@ leaf_rooted layout k key way number value differ none w = (w.since, subst (λ z.
 
 -- Two reads of one leaf find one key.
 pub read_same : (s : Past) (m : ℕ) → IsSteady s m → (n : ℕ) (a b : Key) (v u : ℕ) → IsRead s m n a v → IsRead s m n b u → a ≡ b
-read_same s m steady n a b v u (o, lo, hi, st) (p, lo2, hi2, su) = (steady.same (a_leaf n) o p (leaf n a v) (leaf n b u) lo hi lo2 hi2 st su).0
+read_same s m steady n a b v u (o, lo, hi, st) (p, lo2, hi2, su) = steady.same (a_leaf n) o p (leaf n a v) (leaf n b u) lo hi lo2 hi2 st su
 
 -- The leaf that was found does not come before the first key.
 first_reached : {d : Direction} (layout : Layout) {k : Known} (m : ℕ) (key : Key) (number : ℕ) {top : PathNode} {frames : List PathNode} → IsFirst d k m key number top frames → IsPinnedSince k m → IsReached d layout k m key number

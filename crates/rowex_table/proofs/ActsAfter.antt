@@ -12,7 +12,7 @@ use Rattle.versions.specs.State.{IsLived}
 use Rattle.versions.specs.Core.{InTree, life_of}
 use Rattle.rowex_core.specs.declared.event.Act.TheVariants.{Unlock, Publish, Mark, LoadEpoch}
 use Rattle.rowex_core.specs.declared.event.Spot.{Spot}
-use Rattle.rowex_core.specs.declared.event.Spot.TheVariants.{Root, Slot}
+use Rattle.rowex_core.specs.declared.event.Spot.TheVariants.{Root, Slot, Value}
 use Rattle.rowex_core.specs.declared.event.Target.TheVariants.{Anchor, Node as NodeTarget}
 use Rattle.rowex_core.specs.declared.known.Known.{Known}
 use Rattle.rowex_core.specs.declared.known.Locked.{Locked}
@@ -30,6 +30,7 @@ use Rattle.rowex_table.specs.Runs.{silent}
 use Rattle.rowex_table.specs.Made.{Made, held_as, recs_of, nodes_of}
 use Rattle.rowex_core.specs.declared.known.Holding.TheVariants.{Ready}
 use Rattle.versions.proofs.Members.{all_of, of_map, map_of as has_mapped}
+use Rattle.rowex_core.proofs.Valuing.{legal_store}
 use Rattle.rowex_core.proofs.Having.{owned_used, node_used, owned_after_publish, mark_owns, unlock_locks}
 use Rattle.finite_map.specs.Maps.{value_at}
 use Rattle.rowex_core.specs.Events.{IsLegalPublish, next_tree, next_change}
@@ -57,7 +58,7 @@ module _ (layout : Layout) (k : Known) where
   -- Rights
 
   pub publishes_step : (spot : Spot) (w : ℕ) (x : Change) (was : Option ℕ) (new gone : List Rec) → MayPublish layout k spot w x was new gone → MayStep layout (λ found. Publish spot w) k
-  publishes_step spot w x was new gone may c law at known = (known.pass, (may c law at known).legal)
+  publishes_step spot w x was new gone may c law at known = (known.pass, legal_store c k.pass spot w (may c law at known).legal)
 
   pub marks_own : (gone : List Rec) (r : Rec) (epoch : ℕ) → OwnsJust k.own (IsUnlinkedBefore k.round.version) gone → IsOneOf r gone → epoch ≡ k.round.epoch → MayStep layout (λ found. Mark r epoch) k
   marks_own gone r epoch has h is c law at known =
@@ -86,6 +87,7 @@ module _ (layout : Layout) (said : Known → List Note) (k j : Known) where
 
   anchor_kept : (spot : Spot) (w : ℕ) → IsEvent layout (Publish spot w) said k j → (k.anchor ≡ None → j.anchor ≡ None) × (IsSome k.anchor → IsSome j.anchor)
   anchor_kept (Slot n m) w e = let same : j.anchor ≡ k.anchor = ap (λ (z : Known). z.anchor) e.learned_is in ((λ h. same ∙ h), (λ h. subst IsSome (sym same) h))
+  anchor_kept (Value l) w e = let same : j.anchor ≡ k.anchor = ap (λ (z : Known). z.anchor) e.learned_is in ((λ h. same ∙ h), (λ h. subst IsSome (sym same) h))
   anchor_kept Root w e = (
     (λ h. absurd (none_some (sym h ∙ (knows_all e.core k e.knows).all_anchor e.legal.1.locked))),
     λ h. subst IsSome (sym (ap (λ (z : Known). z.anchor) e.learned_is)) refl,

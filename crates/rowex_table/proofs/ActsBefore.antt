@@ -17,7 +17,7 @@ use Rattle.versions.specs.Core.{Fate, InTree}
 use Rattle.versions.proofs.Legal.{same_rec_refl}
 use Rattle.rowex_core.specs.declared.event.Act.{Act}
 use Rattle.rowex_core.specs.declared.event.Act.TheVariants.{Claim, Fill, Ready, Release, LoadRef, LoadFixed, Lock, Unlock, Publish, Mark, LoadEpoch, Advance, SetPin, ClearPin, LoadPin, LoadState, GiveBack}
-use Rattle.rowex_core.specs.declared.event.Spot.TheVariants.{Root, Slot}
+use Rattle.rowex_core.specs.declared.event.Spot.TheVariants.{Root, Slot, Value}
 use Rattle.rowex_core.specs.declared.event.Target.TheVariants.{Anchor, Node as NodeTarget}
 use Rattle.rowex_core.specs.declared.known.Fact.{Fact}
 use Rattle.rowex_core.specs.declared.known.Holding.{Holding}
@@ -25,6 +25,7 @@ use Rattle.rowex_core.specs.declared.known.Holding.TheVariants.{Held, Ready as I
 use Rattle.rowex_core.specs.declared.known.FailedAct.{FailedAct}
 use Rattle.rowex_core.specs.declared.known.FailedAct.TheVariants.{Lock as a_lock}
 use Rattle.rowex_core.specs.declared.known.Known.{Known}
+use Rattle.rowex_core.specs.declared.known.Loaded.{Loaded}
 use Rattle.rowex_core.specs.declared.known.Locked.{Locked}
 use Rattle.rowex_core.specs.declared.known.Owned.{Owned}
 use Rattle.rowex_core.specs.Cores.{Core}
@@ -139,6 +140,11 @@ module _ (layout : Layout) (said : Known → List Note) (k j : Known) where
       let (lock, tree, same) = all_of (IsLocked k.pass c) (record { node = n; words = words }) k.locks (knows_all c k e.knows).locks h in
       (e.legal.1.2 ∙ ap (λ ws. get_or ws offset 0) same, ap (λ (z : Known). z.locks) e.learned_is)
 
+  -- what it loads of a leaf's value it remembers, and it is so still while what names the leaf is locked
+  pub value_loaded : (l w : ℕ) → IsEvent layout (LoadRef (Value l) w) said k j → j.values ≡ record { leaf = l; value = w } ∷ k.values
+  value_loaded l w e =
+      ap (λ (z : Known). z.values) e.learned_is ∙ ap (λ z. let x : Loaded = record { leaf = l; value = z } in x ∷ k.values) (sym e.legal.1.1)
+
   -- New records
 
   pub claim_leaves : (r : Rec) (found : ℕ) → IsEvent layout (Claim r found) said k j → (j.locks ≡ k.locks) × (j.anchor ≡ k.anchor)
@@ -174,6 +180,7 @@ module _ (layout : Layout) (said : Known → List Note) (k j : Known) where
   act_seen : (c : Core) (act : Act) → OthersGoOn k.pass k.front c.changes → KeepsRecall act → AreSeen c (learned_by c act k)
   act_seen c (LoadRef Root w) o t = (refl, refl, o, facts_kept k.pin _)
   act_seen c (LoadRef (Slot n i) w) o t = (refl, refl, o, facts_kept k.pin _)
+  act_seen c (LoadRef (Value l) w) o t = (refl, refl, o, facts_kept k.pin _)
   act_seen c (LoadFixed r offset w) o t = (refl, refl, o, facts_kept k.pin _)
   act_seen c (Claim r found) o t = still c (Claim r found) tt tt
   act_seen c (Fill r offset w) o t = still c (Fill r offset w) tt tt

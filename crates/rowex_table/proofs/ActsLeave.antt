@@ -8,7 +8,7 @@ use Rattle.versions.specs.declared.Rec.{Rec}
 use Rattle.versions.specs.Core.{Fate, Free, Held as HeldBy, Ready as ReadyBy, InTree, Unlinked as UnlinkedBy, Marked}
 use Rattle.rowex_core.specs.declared.event.Act.{Act}
 use Rattle.rowex_core.specs.declared.event.Act.TheVariants.{Claim, Fill, Ready, Release, LoadRef, LoadFixed, Lock, Unlock, Publish, Mark, LoadEpoch, Advance, SetPin, ClearPin, LoadPin, LoadState, GiveBack}
-use Rattle.rowex_core.specs.declared.event.Spot.TheVariants.{Root, Slot}
+use Rattle.rowex_core.specs.declared.event.Spot.TheVariants.{Root, Slot, Value}
 use Rattle.rowex_core.specs.declared.event.Target.TheVariants.{Anchor, Node as NodeTarget}
 use Rattle.rowex_core.specs.declared.known.Known.{Known}
 use Rattle.rowex_core.specs.Cores.{Core}
@@ -18,16 +18,16 @@ use Rattle.rowex_table.specs.Stays.{LeavesFresh, IsNext}
 
 module _ (k : Known) where
   claimed : (c : Core) (r : Rec) (found : ℕ) (f : Fate) → IsNext (Claim r found) k (record (claim_learned c r found f k) { steps = k.steps + 1 })
-  claimed c r found Free = record { pass = refl; steps = refl; notes = refl; front = λ t. refl; fresh = λ t. refl; failed = λ t. absurd t; own = λ t. absurd t; locks = λ t. refl; anchor = λ t. refl; pin = λ t. refl; round = λ t. refl; facts = λ t. refl }
-  claimed c r found (HeldBy q) = record { pass = refl; steps = refl; notes = refl; front = λ t. refl; fresh = λ t. refl; failed = λ t. absurd t; own = λ t. absurd t; locks = λ t. refl; anchor = λ t. refl; pin = λ t. refl; round = λ t. refl; facts = λ t. refl }
-  claimed c r found (ReadyBy q) = record { pass = refl; steps = refl; notes = refl; front = λ t. refl; fresh = λ t. refl; failed = λ t. absurd t; own = λ t. absurd t; locks = λ t. refl; anchor = λ t. refl; pin = λ t. refl; round = λ t. refl; facts = λ t. refl }
-  claimed c r found (InTree s) = record { pass = refl; steps = refl; notes = refl; front = λ t. refl; fresh = λ t. refl; failed = λ t. absurd t; own = λ t. absurd t; locks = λ t. refl; anchor = λ t. refl; pin = λ t. refl; round = λ t. refl; facts = λ t. refl }
-  claimed c r found (UnlinkedBy s l q) = record { pass = refl; steps = refl; notes = refl; front = λ t. refl; fresh = λ t. refl; failed = λ t. absurd t; own = λ t. absurd t; locks = λ t. refl; anchor = λ t. refl; pin = λ t. refl; round = λ t. refl; facts = λ t. refl }
-  claimed c r found (Marked s l epoch) = record { pass = refl; steps = refl; notes = refl; front = λ t. refl; fresh = λ t. refl; failed = λ t. absurd t; own = λ t. absurd t; locks = λ t. refl; anchor = λ t. refl; pin = λ t. refl; round = λ t. refl; facts = λ t. refl }
+  claimed c r found Free = record { pass = refl; steps = refl; notes = refl; front = λ t. refl; fresh = λ t. refl; failed = λ t. absurd t; own = λ t. absurd t; locks = λ t. refl; anchor = λ t. refl; values = λ t. refl; pin = λ t. refl; round = λ t. refl; facts = λ t. refl }
+  claimed c r found (HeldBy q) = record { pass = refl; steps = refl; notes = refl; front = λ t. refl; fresh = λ t. refl; failed = λ t. absurd t; own = λ t. absurd t; locks = λ t. refl; anchor = λ t. refl; values = λ t. refl; pin = λ t. refl; round = λ t. refl; facts = λ t. refl }
+  claimed c r found (ReadyBy q) = record { pass = refl; steps = refl; notes = refl; front = λ t. refl; fresh = λ t. refl; failed = λ t. absurd t; own = λ t. absurd t; locks = λ t. refl; anchor = λ t. refl; values = λ t. refl; pin = λ t. refl; round = λ t. refl; facts = λ t. refl }
+  claimed c r found (InTree s) = record { pass = refl; steps = refl; notes = refl; front = λ t. refl; fresh = λ t. refl; failed = λ t. absurd t; own = λ t. absurd t; locks = λ t. refl; anchor = λ t. refl; values = λ t. refl; pin = λ t. refl; round = λ t. refl; facts = λ t. refl }
+  claimed c r found (UnlinkedBy s l q) = record { pass = refl; steps = refl; notes = refl; front = λ t. refl; fresh = λ t. refl; failed = λ t. absurd t; own = λ t. absurd t; locks = λ t. refl; anchor = λ t. refl; values = λ t. refl; pin = λ t. refl; round = λ t. refl; facts = λ t. refl }
+  claimed c r found (Marked s l epoch) = record { pass = refl; steps = refl; notes = refl; front = λ t. refl; fresh = λ t. refl; failed = λ t. absurd t; own = λ t. absurd t; locks = λ t. refl; anchor = λ t. refl; values = λ t. refl; pin = λ t. refl; round = λ t. refl; facts = λ t. refl }
 
   anchored : (c : Core) (found : ℕ) (o : Option ℕ) → IsNext (Lock Anchor found) k (record (anchor_learned c found o k) { steps = k.steps + 1 })
-  anchored c found None = record { pass = refl; steps = refl; notes = refl; front = λ t. refl; fresh = λ t. refl; failed = λ t. absurd t; own = λ t. refl; locks = λ t. refl; anchor = λ t. absurd t; pin = λ t. refl; round = λ t. refl; facts = λ t. refl }
-  anchored c found (Some q) = record { pass = refl; steps = refl; notes = refl; front = λ t. refl; fresh = λ t. refl; failed = λ t. absurd t; own = λ t. refl; locks = λ t. refl; anchor = λ t. absurd t; pin = λ t. refl; round = λ t. refl; facts = λ t. refl }
+  anchored c found None = record { pass = refl; steps = refl; notes = refl; front = λ t. refl; fresh = λ t. refl; failed = λ t. absurd t; own = λ t. refl; locks = λ t. refl; anchor = λ t. absurd t; values = λ t. absurd t; pin = λ t. refl; round = λ t. refl; facts = λ t. refl }
+  anchored c found (Some q) = record { pass = refl; steps = refl; notes = refl; front = λ t. refl; fresh = λ t. refl; failed = λ t. absurd t; own = λ t. refl; locks = λ t. refl; anchor = λ t. absurd t; values = λ t. absurd t; pin = λ t. refl; round = λ t. refl; facts = λ t. refl }
 
   one_of : (act : Act) (b : Bool) (x y : Known) → IsNext act k (record x { steps = k.steps + 1 }) → IsNext act k (record y { steps = k.steps + 1 }) →
       IsNext act k (let z : Known = if b then x else y in record z { steps = k.steps + 1 })
@@ -38,28 +38,30 @@ module _ (k : Known) where
   as_before c (Claim r found) = claimed c r found (c.fate r)
   as_before c (Lock Anchor found) = anchored c found c.anchor
   as_before c (Lock (NodeTarget n) found) = one_of (Lock (NodeTarget n) found) (nat_eq found 2) _ _
-      (record { pass = refl; steps = refl; notes = refl; front = λ t. refl; fresh = λ t. refl; failed = λ t. absurd t; own = λ t. refl; locks = λ t. absurd t; anchor = λ t. refl; pin = λ t. refl; round = λ t. refl; facts = λ t. refl })
-      (record { pass = refl; steps = refl; notes = refl; front = λ t. refl; fresh = λ t. refl; failed = λ t. absurd t; own = λ t. refl; locks = λ t. absurd t; anchor = λ t. refl; pin = λ t. refl; round = λ t. refl; facts = λ t. refl })
-  as_before c (LoadRef Root w) = record { pass = refl; steps = refl; notes = refl; front = λ t. absurd t; fresh = λ t. absurd t; failed = λ t. refl; own = λ t. refl; locks = λ t. refl; anchor = λ t. refl; pin = λ t. refl; round = λ t. refl; facts = λ t. absurd t }
-  as_before c (LoadRef (Slot n i) w) = record { pass = refl; steps = refl; notes = refl; front = λ t. absurd t; fresh = λ t. refl; failed = λ t. refl; own = λ t. refl; locks = λ t. refl; anchor = λ t. refl; pin = λ t. refl; round = λ t. refl; facts = λ t. absurd t }
-  as_before c (LoadFixed r offset w) = record { pass = refl; steps = refl; notes = refl; front = λ t. absurd t; fresh = λ t. refl; failed = λ t. refl; own = λ t. refl; locks = λ t. refl; anchor = λ t. refl; pin = λ t. refl; round = λ t. refl; facts = λ t. absurd t }
-  as_before c (Fill r offset w) = record { pass = refl; steps = refl; notes = refl; front = λ t. refl; fresh = λ t. refl; failed = λ t. refl; own = λ t. absurd t; locks = λ t. refl; anchor = λ t. refl; pin = λ t. refl; round = λ t. refl; facts = λ t. refl }
-  as_before c (Ready r) = record { pass = refl; steps = refl; notes = refl; front = λ t. refl; fresh = λ t. refl; failed = λ t. refl; own = λ t. absurd t; locks = λ t. refl; anchor = λ t. refl; pin = λ t. refl; round = λ t. refl; facts = λ t. refl }
-  as_before c (Release r) = record { pass = refl; steps = refl; notes = refl; front = λ t. refl; fresh = λ t. refl; failed = λ t. refl; own = λ t. absurd t; locks = λ t. refl; anchor = λ t. refl; pin = λ t. refl; round = λ t. refl; facts = λ t. refl }
-  as_before c (Publish Root w) = record { pass = refl; steps = refl; notes = refl; front = λ t. absurd t; fresh = λ t. refl; failed = λ t. refl; own = λ t. absurd t; locks = λ t. absurd t; anchor = λ t. absurd t; pin = λ t. refl; round = λ t. refl; facts = λ t. absurd t }
-  as_before c (Publish (Slot n i) w) = record { pass = refl; steps = refl; notes = refl; front = λ t. absurd t; fresh = λ t. refl; failed = λ t. refl; own = λ t. absurd t; locks = λ t. absurd t; anchor = λ t. refl; pin = λ t. refl; round = λ t. refl; facts = λ t. absurd t }
-  as_before c (Unlock Anchor) = record { pass = refl; steps = refl; notes = refl; front = λ t. refl; fresh = λ t. refl; failed = λ t. refl; own = λ t. refl; locks = λ t. refl; anchor = λ t. absurd t; pin = λ t. refl; round = λ t. refl; facts = λ t. refl }
-  as_before c (Unlock (NodeTarget n)) = record { pass = refl; steps = refl; notes = refl; front = λ t. refl; fresh = λ t. refl; failed = λ t. refl; own = λ t. refl; locks = λ t. absurd t; anchor = λ t. refl; pin = λ t. refl; round = λ t. refl; facts = λ t. refl }
-  as_before c (Mark r epoch) = record { pass = refl; steps = refl; notes = refl; front = λ t. refl; fresh = λ t. refl; failed = λ t. refl; own = λ t. absurd t; locks = λ t. refl; anchor = λ t. refl; pin = λ t. refl; round = λ t. refl; facts = λ t. refl }
-  as_before c (LoadEpoch w) = record { pass = refl; steps = refl; notes = refl; front = λ t. refl; fresh = λ t. refl; failed = λ t. refl; own = λ t. refl; locks = λ t. refl; anchor = λ t. refl; pin = λ t. refl; round = λ t. absurd t; facts = λ t. refl }
-  as_before c (Advance expected found) = record { pass = refl; steps = refl; notes = refl; front = λ t. refl; fresh = λ t. refl; failed = λ t. refl; own = λ t. refl; locks = λ t. refl; anchor = λ t. refl; pin = λ t. refl; round = λ t. refl; facts = λ t. refl }
-  as_before c (SetPin w) = record { pass = refl; steps = refl; notes = refl; front = λ t. refl; fresh = λ t. refl; failed = λ t. refl; own = λ t. refl; locks = λ t. refl; anchor = λ t. refl; pin = λ t. absurd t; round = λ t. refl; facts = λ t. refl }
-  as_before c ClearPin = record { pass = refl; steps = refl; notes = refl; front = λ t. refl; fresh = λ t. refl; failed = λ t. refl; own = λ t. refl; locks = λ t. refl; anchor = λ t. refl; pin = λ t. absurd t; round = λ t. refl; facts = λ t. refl }
-  as_before c (LoadPin o w) = record { pass = refl; steps = refl; notes = refl; front = λ t. refl; fresh = λ t. refl; failed = λ t. refl; own = λ t. refl; locks = λ t. refl; anchor = λ t. refl; pin = λ t. refl; round = λ t. absurd t; facts = λ t. refl }
+      (record { pass = refl; steps = refl; notes = refl; front = λ t. refl; fresh = λ t. refl; failed = λ t. absurd t; own = λ t. refl; locks = λ t. absurd t; anchor = λ t. refl; values = λ t. absurd t; pin = λ t. refl; round = λ t. refl; facts = λ t. refl })
+      (record { pass = refl; steps = refl; notes = refl; front = λ t. refl; fresh = λ t. refl; failed = λ t. absurd t; own = λ t. refl; locks = λ t. absurd t; anchor = λ t. refl; values = λ t. absurd t; pin = λ t. refl; round = λ t. refl; facts = λ t. refl })
+  as_before c (LoadRef Root w) = record { pass = refl; steps = refl; notes = refl; front = λ t. absurd t; fresh = λ t. absurd t; failed = λ t. refl; own = λ t. refl; locks = λ t. refl; anchor = λ t. refl; values = λ t. refl; pin = λ t. refl; round = λ t. refl; facts = λ t. absurd t }
+  as_before c (LoadRef (Slot n i) w) = record { pass = refl; steps = refl; notes = refl; front = λ t. absurd t; fresh = λ t. refl; failed = λ t. refl; own = λ t. refl; locks = λ t. refl; anchor = λ t. refl; values = λ t. refl; pin = λ t. refl; round = λ t. refl; facts = λ t. absurd t }
+  as_before c (LoadRef (Value l) w) = record { pass = refl; steps = refl; notes = refl; front = λ t. absurd t; fresh = λ t. refl; failed = λ t. refl; own = λ t. refl; locks = λ t. refl; anchor = λ t. refl; values = λ t. absurd t; pin = λ t. refl; round = λ t. refl; facts = λ t. absurd t }
+  as_before c (LoadFixed r offset w) = record { pass = refl; steps = refl; notes = refl; front = λ t. absurd t; fresh = λ t. refl; failed = λ t. refl; own = λ t. refl; locks = λ t. refl; anchor = λ t. refl; values = λ t. refl; pin = λ t. refl; round = λ t. refl; facts = λ t. absurd t }
+  as_before c (Fill r offset w) = record { pass = refl; steps = refl; notes = refl; front = λ t. refl; fresh = λ t. refl; failed = λ t. refl; own = λ t. absurd t; locks = λ t. refl; anchor = λ t. refl; values = λ t. refl; pin = λ t. refl; round = λ t. refl; facts = λ t. refl }
+  as_before c (Ready r) = record { pass = refl; steps = refl; notes = refl; front = λ t. refl; fresh = λ t. refl; failed = λ t. refl; own = λ t. absurd t; locks = λ t. refl; anchor = λ t. refl; values = λ t. refl; pin = λ t. refl; round = λ t. refl; facts = λ t. refl }
+  as_before c (Release r) = record { pass = refl; steps = refl; notes = refl; front = λ t. refl; fresh = λ t. refl; failed = λ t. refl; own = λ t. absurd t; locks = λ t. refl; anchor = λ t. refl; values = λ t. refl; pin = λ t. refl; round = λ t. refl; facts = λ t. refl }
+  as_before c (Publish Root w) = record { pass = refl; steps = refl; notes = refl; front = λ t. absurd t; fresh = λ t. refl; failed = λ t. refl; own = λ t. absurd t; locks = λ t. absurd t; anchor = λ t. absurd t; values = λ t. absurd t; pin = λ t. refl; round = λ t. refl; facts = λ t. absurd t }
+  as_before c (Publish (Slot n i) w) = record { pass = refl; steps = refl; notes = refl; front = λ t. absurd t; fresh = λ t. refl; failed = λ t. refl; own = λ t. absurd t; locks = λ t. absurd t; anchor = λ t. refl; values = λ t. absurd t; pin = λ t. refl; round = λ t. refl; facts = λ t. absurd t }
+  as_before c (Publish (Value l) w) = record { pass = refl; steps = refl; notes = refl; front = λ t. absurd t; fresh = λ t. refl; failed = λ t. refl; own = λ t. absurd t; locks = λ t. absurd t; anchor = λ t. refl; values = λ t. absurd t; pin = λ t. refl; round = λ t. refl; facts = λ t. absurd t }
+  as_before c (Unlock Anchor) = record { pass = refl; steps = refl; notes = refl; front = λ t. refl; fresh = λ t. refl; failed = λ t. refl; own = λ t. refl; locks = λ t. refl; anchor = λ t. absurd t; values = λ t. absurd t; pin = λ t. refl; round = λ t. refl; facts = λ t. refl }
+  as_before c (Unlock (NodeTarget n)) = record { pass = refl; steps = refl; notes = refl; front = λ t. refl; fresh = λ t. refl; failed = λ t. refl; own = λ t. refl; locks = λ t. absurd t; anchor = λ t. refl; values = λ t. absurd t; pin = λ t. refl; round = λ t. refl; facts = λ t. refl }
+  as_before c (Mark r epoch) = record { pass = refl; steps = refl; notes = refl; front = λ t. refl; fresh = λ t. refl; failed = λ t. refl; own = λ t. absurd t; locks = λ t. refl; anchor = λ t. refl; values = λ t. absurd t; pin = λ t. refl; round = λ t. refl; facts = λ t. refl }
+  as_before c (LoadEpoch w) = record { pass = refl; steps = refl; notes = refl; front = λ t. refl; fresh = λ t. refl; failed = λ t. refl; own = λ t. refl; locks = λ t. refl; anchor = λ t. refl; values = λ t. refl; pin = λ t. refl; round = λ t. absurd t; facts = λ t. refl }
+  as_before c (Advance expected found) = record { pass = refl; steps = refl; notes = refl; front = λ t. refl; fresh = λ t. refl; failed = λ t. refl; own = λ t. refl; locks = λ t. refl; anchor = λ t. refl; values = λ t. refl; pin = λ t. refl; round = λ t. refl; facts = λ t. refl }
+  as_before c (SetPin w) = record { pass = refl; steps = refl; notes = refl; front = λ t. refl; fresh = λ t. refl; failed = λ t. refl; own = λ t. refl; locks = λ t. refl; anchor = λ t. refl; values = λ t. refl; pin = λ t. absurd t; round = λ t. refl; facts = λ t. refl }
+  as_before c ClearPin = record { pass = refl; steps = refl; notes = refl; front = λ t. refl; fresh = λ t. refl; failed = λ t. refl; own = λ t. refl; locks = λ t. refl; anchor = λ t. refl; values = λ t. refl; pin = λ t. absurd t; round = λ t. refl; facts = λ t. refl }
+  as_before c (LoadPin o w) = record { pass = refl; steps = refl; notes = refl; front = λ t. refl; fresh = λ t. refl; failed = λ t. refl; own = λ t. refl; locks = λ t. refl; anchor = λ t. refl; values = λ t. refl; pin = λ t. refl; round = λ t. absurd t; facts = λ t. refl }
   as_before c (LoadState r w) = one_of (LoadState r w) (nat_eq w 0) _ _
-      (record { pass = refl; steps = refl; notes = refl; front = λ t. refl; fresh = λ t. refl; failed = λ t. absurd t; own = λ t. refl; locks = λ t. refl; anchor = λ t. refl; pin = λ t. refl; round = λ t. refl; facts = λ t. refl })
-      (record { pass = refl; steps = refl; notes = refl; front = λ t. refl; fresh = λ t. refl; failed = λ t. absurd t; own = λ t. refl; locks = λ t. refl; anchor = λ t. refl; pin = λ t. refl; round = λ t. refl; facts = λ t. refl })
-  as_before c (GiveBack r epoch found) = record { pass = refl; steps = refl; notes = refl; front = λ t. refl; fresh = λ t. refl; failed = λ t. refl; own = λ t. refl; locks = λ t. refl; anchor = λ t. refl; pin = λ t. refl; round = λ t. refl; facts = λ t. refl }
+      (record { pass = refl; steps = refl; notes = refl; front = λ t. refl; fresh = λ t. refl; failed = λ t. absurd t; own = λ t. refl; locks = λ t. refl; anchor = λ t. refl; values = λ t. refl; pin = λ t. refl; round = λ t. refl; facts = λ t. refl })
+      (record { pass = refl; steps = refl; notes = refl; front = λ t. refl; fresh = λ t. refl; failed = λ t. absurd t; own = λ t. refl; locks = λ t. refl; anchor = λ t. refl; values = λ t. refl; pin = λ t. refl; round = λ t. refl; facts = λ t. refl })
+  as_before c (GiveBack r epoch found) = record { pass = refl; steps = refl; notes = refl; front = λ t. refl; fresh = λ t. refl; failed = λ t. refl; own = λ t. refl; locks = λ t. refl; anchor = λ t. refl; values = λ t. refl; pin = λ t. refl; round = λ t. refl; facts = λ t. refl }
 
 module _ (layout : Layout) (k j : Known) where
   pub act_leaves : (act : Act) → IsEvent layout act silent k j → IsNext act k j

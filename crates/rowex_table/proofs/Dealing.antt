@@ -17,7 +17,7 @@ use Rattle.rowex_core.specs.declared.event.Event.{Event}
 use Rattle.rowex_core.specs.declared.known.Known.{Known}
 use Rattle.rowex_core.specs.Cores.{Core}
 use Rattle.rowex_core.specs.Words.{Shows}
-use Rattle.rowex_core.specs.Knowing.{IsFact, IsUntouched, Knows, IsViewOf}
+use Rattle.rowex_core.specs.Knowing.{IsFact, IsStillLoaded, IsUntouched, Knows, IsViewOf}
 use Rattle.rowex_core.specs.Opening.{opening, opening_words}
 use Rattle.rowex_core.proofs.Promises.{opening_is_lawful}
 use Rattle.rowex_table.specs.declared.traces.Trace.{Trace}
@@ -151,6 +151,7 @@ new_knows c m low h = record {
   counted = record { loaded = omega arith; failed = All-from_recursion (λ f. f.step < 1) [] tt };
   seen = record { front = (c.changes, refl, h.changes); fresh = ([], refl); facts = All-from_recursion (IsFact c.past) [] tt };
   own = h.own;
+  values = All-from_recursion (IsStillLoaded m c) [] tt;
 }
 
 -- the run of a table some of whose passes are still to be dealt: the next of them has made no step
@@ -236,6 +237,7 @@ met_knows c k h = record {
     facts = h.seen.facts;
   };
   own = h.own;
+  values = h.values;
 }
 
 -- a trace that is shown the whole run

@@ -41,7 +41,7 @@ learned_pass c act k = (as_before k c act).pass
 
 -- notes are outside the rule
 pub renoted : (c : Core) (k : Known) (notes : List Note) → Knows c k → Knows c (record k { notes = notes })
-renoted c k notes h = record { pass = h.pass; counted = h.counted; seen = h.seen; own = h.own }
+renoted c k notes h = record { pass = h.pass; counted = h.counted; seen = h.seen; own = h.own; values = h.values }
 
 -- The word that an act finds changes neither its place nor what it writes
 

@@ -14,7 +14,7 @@ use Rattle.versions.specs.declared.Rec.{Rec}
 use Rattle.rowex_core.specs.declared.event.Act.{Act}
 use Rattle.rowex_core.specs.declared.event.Act.TheVariants.{Claim, LoadRef, LoadFixed, Lock, LoadEpoch, Advance, LoadPin, LoadState, GiveBack}
 use Rattle.rowex_core.specs.declared.event.Spot.{Spot}
-use Rattle.rowex_core.specs.declared.event.Spot.TheVariants.{Root, Slot}
+use Rattle.rowex_core.specs.declared.event.Spot.TheVariants.{Root, Slot, Value}
 use Rattle.rowex_core.specs.declared.event.Event.{Event}
 use Rattle.rowex_core.specs.declared.known.Known.{Known}
 use Rattle.rowex_core.specs.Cores.{Core, HasRecord, IsLawful}
@@ -62,6 +62,7 @@ opening_of q = record {
   own = [];
   locks = [];
   anchor = None;
+  values = [];
   pin = None;
   round = record { epoch = 0; version = 0; bound = 0; seen = [] };
 }
@@ -79,14 +80,16 @@ trace_of _ = untraced
 abbrev pub IsOfPass : {S : Type 0} → Me S TracedView → ℕ → Type 0
 IsOfPass me q = (me ≡ (Pass (known_of me.0) (trace_of me.0), [])) × ((known_of me.0).pass ≡ q)
 
--- the root, or one of the slots that a node may have
+-- the root, one of the slots that a node may have, or a value
 abbrev pub HasEntrySlot : Spot → Type 0
 HasEntrySlot Root = Unit {0}
+HasEntrySlot (Value l) = Unit {0}
 HasEntrySlot (Slot n j) = j < MAX_ENTRIES
 
--- the root, or such a slot of a node of the table
+-- the root, such a slot of a node of the table, or the value of a leaf of the table
 abbrev pub HasSpot : Layout → Spot → Type 0
 HasSpot layout Root = Unit {0}
+HasSpot layout (Value l) = l < layout.leaves
 HasSpot layout (Slot n j) = (n < layout.nodes) × (j < MAX_ENTRIES)
 
 -- the location is one of the table's, and stands at this word

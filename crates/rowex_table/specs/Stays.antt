@@ -2,7 +2,7 @@
 use Rattle.std.specs.Prelude.{◌≡◌, ◌+◌}
 use Rattle.rowex_core.specs.declared.event.Act.{Act}
 use Rattle.rowex_core.specs.declared.event.Act.TheVariants.{Claim, Fill, Ready, Release, LoadRef, LoadFixed, Lock, Unlock, Publish, Mark, LoadEpoch, SetPin, ClearPin, LoadPin, LoadState}
-use Rattle.rowex_core.specs.declared.event.Spot.TheVariants.{Root}
+use Rattle.rowex_core.specs.declared.event.Spot.TheVariants.{Root, Value}
 use Rattle.rowex_core.specs.declared.event.Target.TheVariants.{Anchor, Node as NodeTarget}
 use Rattle.rowex_core.specs.declared.known.Known.{Known}
 
@@ -49,6 +49,15 @@ LeavesAnchor (Unlock Anchor) = ⊥
 LeavesAnchor (Publish Root w) = ⊥
 LeavesAnchor act = Unit {0}
 
+-- what it has loaded of values,
+abbrev pub LeavesValues : Act → Type 0
+LeavesValues (LoadRef (Value l) w) = ⊥
+LeavesValues (Lock target found) = ⊥
+LeavesValues (Unlock target) = ⊥
+LeavesValues (Publish spot w) = ⊥
+LeavesValues (Mark r epoch) = ⊥
+LeavesValues act = Unit {0}
+
 -- its pin,
 abbrev pub LeavesPin : Act → Type 0
 LeavesPin (SetPin w) = ⊥
@@ -80,6 +89,7 @@ pub record IsNext (act : Act) (k j : Known) : Type 0 where
   pub own : LeavesOwn act → j.own ≡ k.own
   pub locks : LeavesLocks act → j.locks ≡ k.locks
   pub anchor : LeavesAnchor act → j.anchor ≡ k.anchor
+  pub values : LeavesValues act → j.values ≡ k.values
   pub pin : LeavesPin act → j.pin ≡ k.pin
   pub round : LeavesRound act → j.round ≡ k.round
   pub facts : LeavesFront act → j.facts ≡ k.facts

@@ -1,13 +1,13 @@
-//! Where the words of entries and of locks stand.
+//! Where the words of entries, values and locks stand.
 
 ghost use Rattle.std.specs.Prelude.{◌≡◌};
 ghost use Rattle.rowex_core.specs.Events.{spot_word, target_word};
 ghost use Rattle.rowex_table.specs.Rule.{HasEntrySlot};
 
-use record_words::{FIRST_ENTRY, Location, STATE_OFFSET};
+use record_words::{FIRST_ENTRY, Location, STATE_OFFSET, VALUE_OFFSET};
 use rowex_core::{Spot, Target};
 
-/// The location of the entry at `spot`: the root, or the word of slot 0 to 31 of a node record.
+/// The location of `spot`: the root, the word of slot 0 to 31 of a node record, or the value of a leaf record.
 pub(crate) fn spot_location(spot: Spot) -> Location
     requires { HasEntrySlot spot }
     ensures { result ≡ spot_word spot }
@@ -17,6 +17,10 @@ pub(crate) fn spot_location(spot: Spot) -> Location
         Spot::Slot { node, entry } => Location::NodeWord {
             node,
             offset: FIRST_ENTRY as u8 + entry,
+        },
+        Spot::Value { leaf } => Location::LeafWord {
+            leaf,
+            offset: VALUE_OFFSET,
         },
     }
 }

@@ -1,10 +1,10 @@
-//! Steps on the entries of the tree, and on the locks that guard them. The pass of `seat` makes each, and `gate` is told of it.
+//! Steps on the entries of the tree and the values of leaves, and on the locks that guard them. The pass of `seat` makes each, and `gate` is told of it.
 
 ghost use Rattle.std.specs.Prelude.{◌≡◌, ◌<◌, ◌+◌, ◌*◌, ◌^◌, ℕ, List};
 ghost use Rattle.record_words.specs.Layout.{IsInTable};
 ghost use Rattle.rowex_core.specs.declared.event.Act.TheVariants.{LoadRef, Lock, Unlock, Publish};
-ghost use Rattle.versions.specs.declared.Rec.TheVariants.{Node as a_node};
-ghost use Rattle.rowex_core.specs.declared.event.Spot.TheVariants.{Slot};
+ghost use Rattle.versions.specs.declared.Rec.TheVariants.{Node as a_node, Leaf as a_leaf};
+ghost use Rattle.rowex_core.specs.declared.event.Spot.TheVariants.{Slot, Value};
 ghost use Rattle.rowex_core.specs.Events.{target_word};
 ghost use Rattle.rowex_table.specs.Rule.{HasSpot, IsStartOf, MayStep};
 ghost use Rattle.rowex_table.specs.Rights.{MayLock};
@@ -14,12 +14,12 @@ ghost use Rattle.rowex_table.specs.Seats.{IsSeatOf};
 use crate::locations::{lock_location, spot_location};
 use crate::steps::Exchange;
 use crate::table::{HotTable, TableSeat};
-use record_words::{FIRST_ENTRY, Tag, pack_state};
+use record_words::{FIRST_ENTRY, Tag, VALUE_OFFSET, pack_state};
 use rowex_core::{Act, Gate, Spot, Target};
 use std::marker::Brand;
 
 impl HotTable {
-    /// Loads the word of the entry at `spot`, which is the root or a slot of a node, and returns it.
+    /// Loads the word at `spot`, which is the root, a slot of a node or the value of a leaf, and returns it.
     pub fn load_ref<G: Gate>(&self, seat: &mut TableSeat, gate: &mut G, spot: Spot) -> u64
         requires own { IsSeatOf self.now seat.old }
         requires range { HasSpot self.now.layout spot }
@@ -49,6 +49,25 @@ impl HotTable {
         self.load_word_at::<Brand, G>(seat, gate, Act::LoadRef { spot, word: 0 }, address)
     }
 
+    /// Loads the value of leaf `leaf`, whose record begins at word `start`, and returns it.
+    #[inline(always)]
+    pub fn load_value_at<G: Gate>(
+        &self,
+        seat: &mut TableSeat,
+        gate: &mut G,
+        leaf: u32,
+        start: usize,
+    ) -> u64
+        requires own { IsSeatOf self.now seat.old }
+        requires range { HasSpot self.now.layout (Value leaf) }
+        requires start { IsStartOf self.now.layout (a_leaf leaf) start }
+        ensures { Steps self.now G.becomes (LoadRef (Value leaf) result) (seat.old, gate.old) (seat.new, gate.new) }
+    {
+        let spot = Spot::Value { leaf };
+        let address = start + VALUE_OFFSET as usize;
+        self.load_word_at::<Brand, G>(seat, gate, Act::LoadRef { spot, word: 0 }, address)
+    }
+
     /// Locks `target`, the anchor or a node, if it is live; else its state stays. Returns the state word that it found: that of `Tag::Live`
     /// exactly if this step locked `target`. A node has to be one of which the pass knows that it is in the tree if it is live.
     pub fn lock<G: Gate>(&self, seat: &mut TableSeat, gate: &mut G, target: Target) -> u64
@@ -75,8 +94,9 @@ impl HotTable {
         self.store_word_at::<Brand, G>(seat, gate, act, state, live);
     }
 
-    /// Stores the entry word `word` at `spot`, the root or a slot of a node, whose lock the pass has. No other step changes the map. The
-    /// words then have to show one leaf more, exchanged or less. The pass has made ready what comes, and has locked each node that goes.
+    /// Stores `word` at `spot`: an entry word at the root or in a slot of a node, whose lock the pass has; or the value of a leaf of which the
+    /// pass has locked what names it. No other step changes the map. The words then have to show one leaf more, exchanged or less. The pass
+    /// has made ready what comes, and has locked each node that goes.
     pub fn publish<G: Gate>(&self, seat: &mut TableSeat, gate: &mut G, spot: Spot, word: u64)
         requires own { IsSeatOf self.now seat.old }
         requires range { HasSpot self.now.layout spot }

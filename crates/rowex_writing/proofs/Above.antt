@@ -16,7 +16,7 @@ use Rattle.versions.specs.Trades.{IsOneOf}
 use Rattle.versions.proofs.Members.{map_of}
 use Rattle.version_laws.specs.Spots.{AffectsOne}
 use Rattle.rowex_core.specs.declared.event.Spot.{Spot}
-use Rattle.rowex_core.specs.declared.event.Spot.TheVariants.{Root, Slot}
+use Rattle.rowex_core.specs.declared.event.Spot.TheVariants.{Root, Slot, Value}
 use Rattle.rowex_core.specs.declared.known.Known.{Known}
 use Rattle.rowex_core.specs.declared.known.Locked.{Locked}
 use Rattle.rowex_core.specs.Reading.{node_words_of}
@@ -92,6 +92,7 @@ module _ (layout : Layout) (k : Known) (m : ℕ) (key : Key) (way : List PathNod
     fits = λ e lower. tt;
     alone = λ p one. tt;
   }
+  holds_above j held locks anchor (Value l) over = absurd over
   holds_above j held locks anchor (Slot o i) (s, low, at, number_is, place) =
       let above = above_at s low at in
       let has : IsOneOf (record { node = o; words = above.words }) held = subst (λ n. IsOneOf (record { node = n; words = above.words }) held) (sym number_is) (subst (IsOneOf (record { node = s.number; words = above.words })) (sym locks) above.has) in

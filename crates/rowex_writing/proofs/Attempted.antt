@@ -6,7 +6,7 @@ use Rattle.record_words.specs.declared.layout.Layout.{Layout}
 use Rattle.rowex_core.specs.declared.event.Act.{Act}
 use Rattle.rowex_core.specs.declared.event.Act.TheVariants.{LoadFixed, LoadRef, Lock}
 use Rattle.rowex_core.specs.declared.event.Event.{Event}
-use Rattle.rowex_core.specs.declared.event.Spot.TheVariants.{Root, Slot}
+use Rattle.rowex_core.specs.declared.event.Spot.TheVariants.{Root, Slot, Value}
 use Rattle.rowex_table.specs.Runs.{Runs}
 use Rattle.rowex_table.specs.Seats.{TableView, SeatView}
 use Rattle.rowex_table.specs.Stays.{LeavesPin}
@@ -29,6 +29,7 @@ use Rattle.rowex_writing.proofs.Tried.{once_after, targets_append}
 below_search : (act : Act) → IsBelowRoot act → IsOfSearch act
 below_search (LoadRef Root w) t = tt
 below_search (LoadRef (Slot n i) w) t = t
+below_search (LoadRef (Value l) w) t = t
 below_search _ t = t
 
 search_pin : (act : Act) → IsOfSearch act → LeavesPin act
@@ -116,9 +117,9 @@ changed_run table becomes a m b taken all (locks, tried, some, upto, each, few) 
 pub ended_run : {G : Type 0} (table : TableView) (becomes : G → Event → G → Type 0) (job : Job) (a m b : SeatView × G) (taken : Bool) → ((locks : ℕ) × HasTriedOnce table becomes locks a m ×
     (0 < locks) × (locks ≤ locks_of job.span) × (taken ≡ true → locks ≡ locks_of job.span) × (m.0.known.steps ≤ a.0.known.steps + 3 * locks + 1)) →
     (0 < job.span.end → TriesNodesBy LeavesPin table becomes (span_numbers job.way.now job.span) a m × (m.0.known.steps ≤ a.0.known.steps + 3 * locks_of job.span + 1)) → taken ≡ true →
-    (job.span.end ≤ job.span.len) × (job.span.len ≤ length job.way.now) → length job.way.now ≤ most_nodes → EndsChange table becomes job m b →
+    (job.span.end ≤ job.span.len) × (job.span.len ≤ length job.way.now) → length job.way.now ≤ most_nodes → EndsChange table becomes job 0 m b →
     (locks : ℕ) × HasTriedOnce table becomes locks a b × (0 < locks) × (locks ≤ most_locks) × (b.0.known.steps + HEAD_WORDS ≤ a.0.known.steps + span_steps locks + change_steps table.layout locks)
-ended_run table becomes job a m b taken took nodes is within depth (inl (run, few)) = changed_run table becomes a m b taken (locks_of job.span) took is (omega (arith, within.1, depth)) run few
+ended_run table becomes job a m b taken took nodes is within depth (inl (run, few)) = changed_run table becomes a m b taken (locks_of job.span) took is (omega (arith, within.1, depth)) run (omega (arith, few))
 ended_run table becomes job a m b taken took nodes is within depth (inr (some, last, ends)) =
     let (tried, spent) = nodes some in
     let (locks, all, least, upto, few) = ends a tried in

@@ -1,7 +1,7 @@
 -- How the parts of an attempt make its answer, or its refusal.
-use Rattle.std.specs.Prelude.{if◌then◌else◌, nat_eq}
+use Rattle.std.specs.Prelude.{if◌then◌else◌, nat_eq, IsSome}
 use Rattle.std.specs.Option.{option_map}
-use Rattle.std.proofs.Common.{◌≡◌, ◌≢◌, ◌⊎◌, inl, inr, ℕ, ◌≤◌, ◌<◌, List, [], ◌∷◌, length, refl, sym, ap, subst, ◌∙◌, arith, Option, Some, None, Bool, true, false, Ok, Err}
+use Rattle.std.proofs.Common.{◌≡◌, ◌≢◌, ◌⊎◌, inl, inr, ℕ, ◌≤◌, ◌<◌, List, [], ◌∷◌, length, refl, sym, ap, subst, ◌∙◌, arith, Option, Some, None, Bool, true, false, Ok, Err, ◌*◌}
 use Rattle.finite_map.specs.declared.Call.{Call}
 use Rattle.finite_map.specs.declared.Call.TheVariants.{Insert, Upsert, Exchange, Add, Get, Remove, RemoveIf}
 use Rattle.finite_map.specs.declared.Change.{Change}
@@ -35,9 +35,9 @@ use Rattle.rowex_table.specs.Made.{IsLater}
 use Rattle.rowex_reading.specs.Lookups.{HasFound, HasSearched}
 use Rattle.rowex_core.specs.Knowing.{IsPinnedSince}
 use Rattle.rowex_reading.specs.Seen.{Sure, since}
-use Rattle.rowex_reading.proofs.Seeing.{later_trans, held_stable, missed_stable, shaped_stable, sure_later}
+use Rattle.rowex_reading.proofs.Seeing.{later_trans, held_stable, missed_stable, shaped_stable, sure_later, since_later}
 use Rattle.rowex_writing.specs.Asking.{aim_of, aim_where, reply_to, value_in}
-use Rattle.rowex_writing.specs.Attempts.{HasAnswered, HasDone, HasLoadedRoot, HasLooked, HasRefused, IsAttemptCause, IsChangeOf, IsLeafless, refusal_of}
+use Rattle.rowex_writing.specs.Attempts.{HasAnswered, HasDone, HasLoadedRoot, HasLooked, HasRefused, IsAttemptCause, IsChangeOf, IsLeafless, refusal_of, revalued, HasFailed, GivesValue, HasMissed, IsFullFault, IsFullOfNew}
 use Rattle.rowex_writing.specs.Changes.{AreAffected, HasChanged, HasNoRoom, HasRun, IsFull, IsPlanned}
 use Rattle.rowex_writing.specs.Locks.{HasMetLock}
 use Rattle.rowex_writing.specs.Walks.{nodes_among}
@@ -46,9 +46,9 @@ use Rattle.rowex_reading.specs.Ways.{IsWayOf, value_of}
 use Rattle.rowex_writing.specs.declared.plan.Aim.{Aim}
 use Rattle.rowex_writing.specs.declared.plan.Aim.TheVariants.{Insert as ToInsert, Upsert as ToUpsert, Remove as ToRemove}
 use Rattle.rowex_writing.specs.declared.plan.Deed.{Deed}
-use Rattle.rowex_writing.specs.declared.plan.Deed.TheVariants.{Put, PushDown, Grow, Take}
+use Rattle.rowex_writing.specs.declared.plan.Deed.TheVariants.{Put, PushDown, Grow, Take, Value as ValueDeed}
 use Rattle.rowex_writing.specs.declared.attempts.TryFault.{TryFault}
-use Rattle.rowex_writing.specs.declared.attempts.TryFault.TheVariants.{Busy, FullLeaves}
+use Rattle.rowex_writing.specs.declared.attempts.TryFault.TheVariants.{Busy, FullLeaves, FullNodes}
 use Rattle.rowex_reading.specs.declared.descent.Found.{Found}
 use Rattle.rowex_writing.specs.declared.plan.Full.{Full}
 use Rattle.rowex_writing.specs.declared.plan.Full.TheVariants.{Nodes, Leaves}
@@ -60,6 +60,9 @@ use Rattle.rowex_writing.proofs.Keeping.{lacks_so}
 use Rattle.rowex_writing.proofs.Onward.{looks_run, reads_run}
 use Rattle.rowex_writing.proofs.Runs.{run_loaded, runs_trans}
 use Rattle.rowex_writing.proofs.Spans.{met_since}
+use Rattle.rowex_writing.specs.Counts.{held_loads, spare_steps}
+use Rattle.rowex_writing.specs.Jobs.{IsJobFrom}
+use Rattle.rowex_writing.specs.declared.deeds.Job.{Job}
 
 -- ---- what was found and planned stays so
 pub found_later : (k j : Known) (key : Key) (value : Option ℕ) → IsLater k j → since j ≡ since k → HasFound k key value → HasFound j key value
@@ -115,6 +118,20 @@ Answers aim held reply = ⊥
 abbrev reply_in : Plan → Reply
 reply_in (Answer reply) = reply
 reply_in (a_change span deed) = Absent
+
+-- the span of a plan that changes the map
+abbrev span_in : Plan → Span
+span_in (Answer reply) = record { len = 0; end = 0 }
+span_in (a_change span deed) = span
+
+no_value : (way : List PathNode) (p first last : ℕ) (span : Span) → IsNewLeafPlan way p first last (a_change span ValueDeed) → ⊥
+no_value [] p first last span e = cc
+no_value (s ∷ way) p first last span (level, at, (chosen, choice, case)) = go chosen.case case
+  where
+    go : (case : Case) → IsCase (s ∷ way) p chosen case (a_change span ValueDeed) → ⊥
+    go LeafPushdown e = cc
+    go NormalInsert e = cc
+    go Overflow (end, upto, e) = cc
 
 plan_answers : (k : Known) (m : ℕ) (key : Key) (way : List PathNode) (aim : Aim) (found : Found) (reply : Reply) → IsPlanned k m key way aim found (Answer reply) → Answers aim (value_of found) reply
 plan_answers k m key way ToInsert Nothing reply (first, last, is, affected) = no_answer reply _ _ is
@@ -223,7 +240,7 @@ plan_does i j k m key value way ToUpsert Nothing span deed (first, last, is, aff
 plan_does i j k m key value way ToInsert (Leaf n v (Some p)) span deed (first, last, is, affected) done = new_done i j key value (Leaf n v (Some p)) way p first last span deed is done
 plan_does i j k m key value way ToUpsert (Leaf n v (Some p)) span deed (first, last, is, affected) done = new_done i j key value (Leaf n v (Some p)) way p first last span deed is done
 plan_does i j k m key value way ToInsert (Leaf n v None) span deed (first, last, is, affected) done = no_answer _ span deed (sym is)
-plan_does i j k m key value way ToUpsert (Leaf n v None) span deed (first, last, is, affected) done = done_by i j key value (Leaf n v None) span deed Put _ _ is done
+plan_does i j k m key value way ToUpsert (Leaf n v None) span deed (first, last, is, affected) done = done_by i j key value (Leaf n v None) span deed ValueDeed _ _ is done
 plan_does i j k m key value way ToRemove Nothing span deed (first, last, is, affected) done = no_answer _ span deed (sym is)
 plan_does i j k m key value way ToRemove (Leaf n v (Some p)) span deed (first, last, is, affected) done = no_answer _ span deed (sym is)
 plan_does i j k m key value way ToRemove (Leaf n v None) span deed (first, last, is, affected) done = done_by i j key value (Leaf n v None) span deed Take _ _ is done
@@ -352,6 +369,71 @@ module _ {G : Type 0} (table : TableView) (becomes : G → Event → G → Type 
     seat = (reads_same r).0 ∙ b.seat;
   }
 
+-- ---- found again
+-- the plan is that of what was found again, too
+pub planned_again : (k : Known) (m : ℕ) (key : Key) (way : List PathNode) (aim : Aim) (found : Found) (value : ℕ) (span : Span) (deed : Deed) → IsPlanned k m key way aim found (a_change span deed) →
+    IsPlanned k m key way aim (revalued found value) (a_change span deed)
+planned_again k m key way aim Nothing value span deed planned = planned
+planned_again k m key way aim (Leaf n v (Some p)) value span deed planned = planned
+planned_again k m key way ToInsert (Leaf n v None) value span deed (first, last, is, affected) = no_answer _ span deed (sym is)
+planned_again k m key way ToUpsert (Leaf n v None) value span deed planned = planned
+planned_again k m key way ToRemove (Leaf n v None) value span deed planned = planned
+
+-- a call keeps its aim where it has one
+aim_here : (expected : ℕ) (a b : ℕ) (own aim : Aim) → aim_where expected (Some a) own ≡ Some aim → IsSome (aim_where expected (Some b) own) → aim_where expected (Some b) own ≡ Some aim
+aim_here expected a b own aim e some = go (nat_eq a expected) (nat_eq b expected) e some
+  where
+    go : (x y : Bool) → (if x then Some own else None) ≡ Some aim → IsSome (if y then Some own else None) → (if y then Some own else None) ≡ Some aim
+    go true true e s = e
+    go true false e s = absurd (let z : ⊥ = cc in z)
+    go false y e s = absurd (cc)
+
+pub aims_again : (call : Call) (a b : ℕ) (aim : Aim) → aim_of call (Some a) ≡ Some aim → IsSome (aim_of call (Some b)) → aim_of call (Some b) ≡ Some aim
+aims_again (Insert key value) a b aim e some = e
+aims_again (Upsert key value) a b aim e some = e
+aims_again (Exchange key expected value) a b aim e some = aim_here expected a b ToUpsert aim e some
+aims_again (Add key delta) a b aim e some = e
+aims_again (Get key) a b aim e some = absurd (cc)
+aims_again (Remove key) a b aim e some = e
+aims_again (RemoveIf key expected) a b aim e some = aim_here expected a b ToRemove aim e some
+
+no_aim : {A : Type 0} (o : Option Aim) → IsSome o → o ≡ None → A
+no_aim None some none = absurd (let z : ⊥ = cc in z)
+no_aim (Some aim) some none = absurd (cc)
+
+-- a call that has no aim at one value, and one at another
+pub aims_differ : (call : Call) (a b : ℕ) → IsSome (aim_of call (Some a)) → aim_of call (Some b) ≡ None → a ≢ b
+aims_differ call a b some none same =
+    let gone : aim_of call (Some a) ≡ None = ap (λ n. aim_of call (Some n)) same ∙ none in
+    no_aim (aim_of call (Some a)) some gone
+
+-- where the leaf has the key
+pub found_for_key : (found : Found) (n v o w : ℕ) (mismatch : Option ℕ) → found ≡ Leaf o w None → found ≡ Leaf n v mismatch → found ≡ Leaf n v None
+found_for_key found n v o w mismatch a b =
+    let both : Leaf n v mismatch ≡ Leaf o w None = sym b ∙ a in let none : mismatch ≡ None = cc in b ∙ ap (λ z. Leaf n v z) none
+
+-- a deed that makes a leaf's record loads no value, and one that takes a leaf away spares its steps
+pub loads_spared : (k : Known) (m : ℕ) (key : Key) (way : List PathNode) (aim : Aim) (found : Found) (span : Span) (deed : Deed) → IsPlanned k m key way aim found (a_change span deed) →
+    3 * held_loads found ≤ spare_steps deed
+loads_spared k m key way aim Nothing span deed planned = omega arith
+loads_spared k m key way aim (Leaf n v (Some p)) span deed planned = omega arith
+loads_spared k m key way ToInsert (Leaf n v None) span deed (first, last, is, affected) = no_answer _ span deed (sym is)
+loads_spared k m key way ToUpsert (Leaf n v None) span deed (first, last, is, affected) = subst (λ d. 3 ≤ spare_steps d) (sym (ap deed_in is)) (omega arith)
+loads_spared k m key way ToRemove (Leaf n v None) span deed (first, last, is, affected) = subst (λ d. 3 ≤ spare_steps d) (sym (ap deed_in is)) (omega arith)
+
+-- the value deed is done to a leaf that was found for the key
+pub value_found : (k : Known) (m : ℕ) (key : Key) (way : List PathNode) (aim : Aim) (found : Found) (span : Span) → IsPlanned k m key way aim found (a_change span ValueDeed) →
+    (number : ℕ) × (value : ℕ) × (found ≡ Leaf number value None) × (span.len ≡ length way) × (span.end ≡ length way)
+value_found k m key way ToInsert Nothing span (first, last, is, affected) = absurd (cc)
+value_found k m key way ToUpsert Nothing span (first, last, is, affected) = absurd (cc)
+value_found k m key way ToRemove Nothing span (first, last, is, affected) = no_answer _ span ValueDeed (sym is)
+value_found k m key way ToInsert (Leaf n v (Some p)) span (first, last, is, affected) = absurd (no_value way p first last span is)
+value_found k m key way ToUpsert (Leaf n v (Some p)) span (first, last, is, affected) = absurd (no_value way p first last span is)
+value_found k m key way ToRemove (Leaf n v (Some p)) span (first, last, is, affected) = no_answer _ span ValueDeed (sym is)
+value_found k m key way ToInsert (Leaf n v None) span (first, last, is, affected) = no_answer _ span ValueDeed (sym is)
+value_found k m key way ToUpsert (Leaf n v None) span (first, last, is, affected) = (n, v, refl, ap (λ (s : Span). s.len) (ap span_in is), ap (λ (s : Span). s.end) (ap span_in is))
+value_found k m key way ToRemove (Leaf n v None) span (first, last, is, affected) = absurd (cc)
+
 -- since the start no fewer steps have been made
 loaded_steps : (k j : Known) → HasLoadedRoot k j → k.steps ≤ j.steps
 loaded_steps k j l = let x = l.from in let y = l.upto in omega (arith, x, y)
@@ -367,18 +449,51 @@ full_before : (layout : Layout) (key : Key) (k i j : Known) (made : List Rec) (f
 full_before layout key k i j made Nodes low l = lacks_so layout j.pass j.failed j.failed i.steps k.steps (nodes_among made) l (all_earlier (IsAnothers layout j.pass (nodes_among made) l.locked) a_node layout.nodes j.failed k.steps i.steps low l.missed)
 full_before layout key k i j made Leaves low f = λ q within room. let (step, from, at) = f q within room in (step, (omega (arith, low, from)), at)
 
-others_since : (k i j : Known) → IsLater k i → OthersGoOn i.pass i.front j.front → OthersGoOn k.pass k.front j.front
-others_since k i j later others = others_on k.pass k.front i.front j.front later.front (subst (λ q. OthersGoOn q i.front j.front) later.pass others)
-
 full_cause : (layout : Layout) (key : Key) (k j : Known) (made : List Rec) (full : Full) → IsFull layout key k j made full → IsAttemptCause layout key k j made (refusal_of full)
 full_cause layout key k j made Nodes f = f
 full_cause layout key k j made Leaves f = f
 
 pub refused_full : (layout : Layout) (key : Key) (k i j : Known) (made : List Rec) (full : Full) → HasLoadedRoot k i → IsLater k i → HasNoRoom layout key i j made full → HasRefused layout key k j made (refusal_of full)
 refused_full layout key k i j made full loaded later none = record {
-  others = others_since k i j later none.others;
+  others = (later_trans later none.later).front;
   cause = full_cause layout key k j made full (full_before layout key k i j made full (loaded_steps k i loaded) none.full_of);
 }
+
+-- a change that failed
+pub refused_failed : (layout : Layout) (job : Job) (k i j : Known) (made : List Rec) (fault : TryFault) (m : ℕ) → IsJobFrom layout i m job → HasLoadedRoot k i → IsLater k i → HasFailed layout job i j made fault → HasRefused layout job.key.now k j made fault
+refused_failed layout job k i j made Busy m from loaded first (rest, later, moved) = refused_busy layout job.key.now k i j m made from.since loaded first later (inr (moved m from))
+refused_failed layout job k i j made FullNodes m from loaded first none = refused_full layout job.key.now k i j made Nodes loaded first none
+refused_failed layout job k i j made FullLeaves m from loaded first none = refused_full layout job.key.now k i j made Leaves loaded first none
+
+pub failed_later : (layout : Layout) (job : Job) (i j : Known) (made : List Rec) (fault : TryFault) → HasFailed layout job i j made fault → IsLater i j
+failed_later layout job i j made Busy failed = failed.1
+failed_later layout job i j made FullNodes none = none.later
+failed_later layout job i j made FullLeaves none = none.later
+
+-- a call that gives its key a value takes none away
+no_removal : (call : Call) (held : Option ℕ) → aim_of call held ≡ Some ToRemove → GivesValue call → ⊥
+no_removal (Insert key value) held e gives = cc
+no_removal (Upsert key value) held e gives = cc
+no_removal (Exchange key expected value) held e gives = let other : ToUpsert ≡ ToRemove = aim_met (λ a. a ≡ ToRemove) expected held ToUpsert ToRemove e refl in cc
+no_removal (Add key delta) None e gives = cc
+no_removal (Add key delta) (Some had) e gives = cc
+no_removal (Get key) held e gives = cc
+no_removal (Remove key) held e gives = gives
+no_removal (RemoveIf key expected) held e gives = gives
+
+-- so where no record was free for it, its search has not found the key
+missed : (k j : Known) (key other : Key) → key ≡ other → IsPinnedSince k (since k) → Sure k (λ s. WasAbsentSince s (since k) key) → IsLater k j → HasMissed j other
+missed k j key other same pinned sure later =
+    (since k, since_later later pinned, subst (λ z. Sure j (λ s. WasAbsentSince s (since k) z)) same (sure_later {P = λ s. WasAbsentSince s (since k) key} (missed_stable (since k) key) later sure))
+
+pub full_of_new : (k p j : Known) (m : ℕ) (key : Key) (way : List PathNode) (aim : Aim) (found : Found) (span : Span) (deed : Deed) (fault : TryFault) (call : Call) → key ≡ key_of call →
+    IsPlanned p m key way aim found (a_change span deed) → IsPinnedSince k (since k) → HasFound k key (value_of found) → IsLater k j → aim_of call (value_of found) ≡ Some aim → (deed ≡ ValueDeed → fault ≡ Busy) →
+    IsFullOfNew j call fault
+full_of_new k p j m key way aim Nothing span deed fault call same planned pinned sure later e whole full gives = missed k j key (key_of call) same pinned sure later
+full_of_new k p j m key way aim (Leaf n v (Some q)) span deed fault call same planned pinned sure later e whole full gives = missed k j key (key_of call) same pinned sure later
+full_of_new k p j m key way ToInsert (Leaf n v None) span deed fault call same (first, last, is, affected) pinned sure later e whole full gives = no_answer _ span deed (sym is)
+full_of_new k p j m key way ToUpsert (Leaf n v None) span deed fault call same (first, last, is, affected) pinned sure later e whole full gives = absurd (subst IsFullFault (whole (ap deed_in is)) full)
+full_of_new k p j m key way ToRemove (Leaf n v None) span deed fault call same planned pinned sure later e whole full gives = absurd (no_removal call (Some v) e gives)
 
 -- a refusal for want of a leaf record is for want of one
 pub leaves_refused : (full : Full) → refusal_of full ≡ FullLeaves → full ≡ Leaves

@@ -43,6 +43,7 @@ use Rattle.rowex_writing.proofs.Above.{locked_at}
 use Rattle.rowex_writing.proofs.Locking.{locked_on, seat_of}
 use Rattle.rowex_writing.proofs.Making.{goes_possible}
 use Rattle.rowex_writing.proofs.Shapes.{shape_size, way_node_locked}
+use Rattle.publish_laws.proofs.Loops.{locked_on as stays_on}
 
 -- the words of a locked node are those of one
 pub locked_node : (layout : Layout) (k : Known) (n : ℕ) (words : List ℕ) → IsPossible layout k → HasLocked k n words → (view : NodeView) × IsNodeOf words view
@@ -60,7 +61,7 @@ takes_on table becomes a b job goes (t, seat, possible, stays) = (
   t,
   seat_of table becomes a b goes seat,
   goes_possible table becomes a b goes possible,
-  (later_trans stays.0 goes.stays.0, goes.stays.1 ∙ stays.1, goes.stays.2 ∙ stays.2),
+  stays_on t.before.known a.0.known b.0.known stays goes.stays,
 )
 
 module _ (table : TableView) (job : Job) (t : IsTaking table job) where

@@ -57,7 +57,7 @@ use Rattle.rowex_reading.specs.Ways.{IsWayNode, IsWayOf, end_of, named}
 use Rattle.rowex_reading.proofs.Ways.{named_at, named_end}
 use Rattle.rowex_writing.specs.declared.plan.Aim.{Aim}
 use Rattle.rowex_writing.specs.declared.plan.Aim.TheVariants.{Insert, Upsert, Remove}
-use Rattle.rowex_writing.specs.declared.plan.Deed.TheVariants.{Grow, PushDown, Put, Take}
+use Rattle.rowex_writing.specs.declared.plan.Deed.TheVariants.{Grow, PushDown, Put, Take, Value}
 use Rattle.rowex_reading.specs.declared.descent.Found.{Found}
 use Rattle.rowex_reading.specs.declared.descent.Found.TheVariants.{Nothing, Leaf}
 use Rattle.rowex_writing.specs.declared.plan.Plan.{Plan}
@@ -146,6 +146,7 @@ abbrev IsGrowOf : (position : ℕ) → Plan → Type 0
 IsGrowOf position (Answer reply) = ⊥
 IsGrowOf position (Change span (Grow p)) = p ≡ position
 IsGrowOf position (Change span (Put)) = ⊥
+IsGrowOf position (Change span (Value)) = ⊥
 IsGrowOf position (Change span (PushDown p)) = ⊥
 IsGrowOf position (Change span (Take)) = ⊥
 

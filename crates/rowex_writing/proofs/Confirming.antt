@@ -115,7 +115,7 @@ module _ {G : Type 0} (table : TableView) (becomes : G → Event → G → Type 
       acts = LoadRef Root w ∷ [];
       plain = All-cons TriesNoLock (LoadRef Root w) [] tt (All-nil TriesNoLock);
       steps = runs_one table becomes (LoadRef Root w) a b s;
-      stays = still_locked table.layout a.0.known b.0.known (LoadRef Root w) tt tt tt s.event;
+      stays = still_locked table.layout a.0.known b.0.known (LoadRef Root w) tt tt tt tt s.event;
     };
     own = ap (λ (z : Known). z.own) s.event.learned_is;
   }
@@ -248,8 +248,8 @@ span_locked k j way span same locked i s low high at =
     let (l, there, is) = locked.nodes.0.each s.number (map_of (λ (z : PathNode). z.number) s (slice_range way (span.end - 1) span.len) inside) in
     (l.words, subst (λ locks. IsOneOf (record { node = s.number; words = l.words }) locks) (sym same) (subst (λ n. IsOneOf (record { node = n; words = l.words }) k.locks) is there))
 
-pub span_later : (k j : Known) (way : List PathNode) (span : Span) → StaysLocked k j → HasLockedSpan k way span → HasLockedSpan j way span
-span_later k j way span (later, locks, anchor) locked = record {
+pub span_later : (k j : Known) (way : List PathNode) (span : Span) → j.locks ≡ k.locks → j.anchor ≡ k.anchor → HasLockedSpan k way span → HasLockedSpan j way span
+span_later k j way span locks anchor locked = record {
   nodes = locked_same k j (span_numbers way span) locks locked.nodes;
   top = λ z. subst (λ a. IsSome a) (sym anchor) (locked.top z);
   below = λ z. anchor ∙ locked.below z;

@@ -18,7 +18,6 @@ use Rattle.rowex_reading.specs.declared.descent.Found.TheVariants.{Nothing, Leaf
 use Rattle.rowex_writing.specs.Building.{HasLeafMade, IsBuilding}
 use Rattle.rowex_writing.specs.Counts.{deed_steps, leaf_steps, levels_steps}
 use Rattle.rowex_writing.specs.Locks.{numbers_of}
-use Rattle.rowex_writing.specs.Putting.{leaf_found}
 use Rattle.rowex_writing.specs.Walks.{nodes_among}
 
 -- ---- parts of a list
@@ -36,13 +35,9 @@ slice_just xs i j low high = length-take-le (j - i) (drop i xs) (omega (arith, l
 pub numbers_few : (way : List PathNode) (i j : ℕ) → i ≤ j → j ≤ length way → length (numbers_of (slice_range way i j)) ≡ j - i
 numbers_few way i j low high = length-map (slice_range way i j) (λ (s : PathNode). s.number) ∙ slice_just way i j low high
 
--- one record is made, and at most one leaf was found
+-- one record is made
 pub made_one : {table : TableView} {a : SeatView} {made : List Rec} {m : Made} → IsBuilding table a made (m ∷ []) → length made ≡ 1
 made_one b = ap length b.listed
-
-pub found_few : (found : Found) → length (leaf_found found) ≤ 1
-found_few Nothing = omega arith
-found_few (Leaf number value mismatch) = omega arith
 
 module _ {G : Type 0} (table : TableView) (becomes : G → Event → G → Type 0) where
   pub none_count : (kind : ℕ → Rec) (n from m : ℕ) (a b : SeatView × G) → FindsNone table becomes kind n from m a b → b.0.known.steps ≤ a.0.known.steps + 2 * m

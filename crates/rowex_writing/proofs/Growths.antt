@@ -23,7 +23,7 @@ use Rattle.tries.proofs.Fitting.{children_are}
 use Rattle.rowex_core.specs.Cores.{HasRecord}
 use Rattle.rowex_core.specs.Having.{AreKept, LocksJust}
 use Rattle.rowex_core.specs.declared.event.Spot.{Spot}
-use Rattle.rowex_core.specs.declared.event.Spot.TheVariants.{Root, Slot}
+use Rattle.rowex_core.specs.declared.event.Spot.TheVariants.{Root, Slot, Value}
 use Rattle.rowex_core.specs.declared.known.Known.{Known}
 use Rattle.rowex_core.specs.declared.known.Locked.{Locked}
 use Rattle.publish_laws.specs.Spots.{IsSpotOf}
@@ -219,7 +219,7 @@ pub no_room : {G : Type 0} (table : TableView) (becomes : G → Event → G → 
     IsFull table.layout key a.0.known b.0.known made full → HasNoRoom table.layout key a.0.known c.0.known made full
 no_room table becomes key a b c made full goes works rest missed = record {
   rest = rest;
-  others = (later_transitive a.0.known b.0.known c.0.known goes.stays.0 (works_later table becomes b c works)).front;
+  later = later_transitive a.0.known b.0.known c.0.known goes.stays.0 (works_later table becomes b c works);
   full_of = full_on table becomes key a.0.known b c made full (works_later table becomes b c works).pass (works_run table becomes b c works) missed;
 }
 
@@ -310,6 +310,7 @@ may_grow table a b made m job aim new t planned is_took stays made_leaf = record
 
     in_table : (spot : Spot) → IsSpotAbove job.way.now job.span.end spot → HasSpot table.layout spot
     in_table Root none = tt
+    in_table (Value l) none = absurd none
     in_table (Slot n i) (above, low, at_above, n_is, i_is) =
         let node = (w.nodes (job.span.end - 1) above at_above).2 in
         let small = spot_below new.key.now node.forks in
@@ -351,7 +352,7 @@ module _ (table : TableView) (a b : SeatView) (made after : List Rec) (job : Job
   grown_ends spot gone at gone_is = record {
     news = risen.2.news;
     building = risen.2.building;
-    publishes = λ j on ready same.
+    publishes = λ j on ready same told.
         let b_risen = risen.2 in
         let x = may.growing.lowest.item in
         let key_is : x.key ≡ new.key.now = ap (λ (z : Item). z.key) may.item_is in

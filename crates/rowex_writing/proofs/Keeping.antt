@@ -62,7 +62,7 @@ module _ (c : Core) (k : Known) (x : Failed) (h : Contains k.failed x) where
   node_failed : (n found : ℕ) → Contains (node_learned c n found k).failed x
   node_failed n found = go (nat_eq found 2)
     where
-      go : (b : Bool) → Contains (if b then record k { locks = record { node = n; words = c.words (a_node n) } ∷ k.locks } else failed_with k (a_lock (blocking_pass_at c (NodeTarget n))) (target_word (NodeTarget n)) found).failed x
+      go : (b : Bool) → Contains (if b then record k { locks = record { node = n; words = c.words (a_node n) } ∷ k.locks; values = [] } else failed_with k (a_lock (blocking_pass_at c (NodeTarget n))) (target_word (NodeTarget n)) found).failed x
       go true = h
       go false = one_more k.failed _ x h
 

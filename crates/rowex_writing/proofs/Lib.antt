@@ -18,6 +18,7 @@ pub mod Shapes
 pub mod Above
 pub mod Ways
 pub mod Onward
+pub mod Valued
 pub mod Attempting
 pub mod Attempted
 pub mod Affecting

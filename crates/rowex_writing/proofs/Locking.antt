@@ -25,7 +25,7 @@ use Rattle.rowex_table.specs.Seats.{TableView, SeatView, IsSeatOf}
 use Rattle.rowex_table.proofs.Running.{runs_one, runs_append, runs_same}
 use Rattle.versions.specs.Trades.{IsOneOf}
 use Rattle.rowex_table.proofs.ActsBefore.{entry_of_locked, fixed_of_locked}
-use Rattle.publish_laws.proofs.Loops.{later_if_same, later_transitive, still_locked}
+use Rattle.publish_laws.proofs.Loops.{later_if_same, later_transitive, still_locked, locked_on as stays_on, locked_same}
 use Rattle.versions.proofs.Members.{all_of}
 use Rattle.rowex_writing.specs.Going.{WorksOn, ReadsOn, HasLocked, IsNodeOf, TriesNoLock}
 use Rattle.rowex_writing.specs.Loads.{AreRead, AreThose}
@@ -33,14 +33,14 @@ use Rattle.rowex_writing.specs.Loads.{AreRead, AreThose}
 -- ---- one after the other
 module _ {G : Type 0} (table : TableView) (becomes : G → Event → G → Type 0) where
   pub goes_none : (a : SeatView × G) → WorksOn table becomes a a
-  goes_none a = record { acts = []; plain = λ i d low. absurd (omega arith); steps = refl; stays = (later_if_same a.0.known a.0.known refl, refl, refl) }
+  goes_none a = record { acts = []; plain = λ i d low. absurd (omega arith); steps = refl; stays = locked_same a.0.known a.0.known refl }
 
   pub goes_more : (a m b : SeatView × G) → WorksOn table becomes a m → WorksOn table becomes m b → WorksOn table becomes a b
   goes_more a m b first second = record {
     acts = first.acts ++ second.acts;
     plain = All-append TriesNoLock first.acts second.acts first.plain second.plain;
     steps = runs_append table becomes first.acts second.acts a m b first.steps second.steps;
-    stays = (later_transitive a.0.known m.0.known b.0.known first.stays.0 second.stays.0, second.stays.1 ∙ first.stays.1, second.stays.2 ∙ first.stays.2);
+    stays = stays_on a.0.known m.0.known b.0.known first.stays second.stays;
   }
 
   -- the seat is one of the table still
@@ -60,7 +60,7 @@ module _ {G : Type 0} (table : TableView) (becomes : G → Event → G → Type 
       acts = LoadFixed (a_node n) offset w ∷ [];
       plain = All-cons TriesNoLock (LoadFixed (a_node n) offset w) [] tt (λ i d low. absurd (omega arith));
       steps = runs_one table becomes (LoadFixed (a_node n) offset w) a b s;
-      stays = still_locked table.layout a.0.known b.0.known (LoadFixed (a_node n) offset w) tt tt tt s.event;
+      stays = still_locked table.layout a.0.known b.0.known (LoadFixed (a_node n) offset w) tt tt tt tt s.event;
     };
     own = ap (λ (z : Known). z.own) s.event.learned_is;
   }
@@ -71,7 +71,7 @@ module _ {G : Type 0} (table : TableView) (becomes : G → Event → G → Type 
       acts = LoadRef (Slot n i) w ∷ [];
       plain = All-cons TriesNoLock (LoadRef (Slot n i) w) [] tt (λ i d low. absurd (omega arith));
       steps = runs_one table becomes (LoadRef (Slot n i) w) a b s;
-      stays = still_locked table.layout a.0.known b.0.known (LoadRef (Slot n i) w) tt tt tt s.event;
+      stays = still_locked table.layout a.0.known b.0.known (LoadRef (Slot n i) w) tt tt tt tt s.event;
     };
     own = ap (λ (z : Known). z.own) s.event.learned_is;
   }

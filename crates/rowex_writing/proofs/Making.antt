@@ -50,6 +50,7 @@ use Rattle.rowex_writing.specs.Building.{IsBuilding, IsHalfMade, HasLeafMade, Ha
 use Rattle.rowex_writing.specs.Going.{WorksOn, TriesNoLock}
 use Rattle.rowex_writing.proofs.Locking.{goes_none, goes_more}
 use Rattle.rowex_table.proofs.ActsBefore.{same_later}
+use Rattle.publish_laws.specs.Stages.{HasLoaded}
 
 -- ---- steps that change what the pass owns
 -- steps in turn, each part of which is plain
@@ -103,10 +104,10 @@ module _ {G : Type 0} (table : TableView) (becomes : G → Event → G → Type 
   stays_on acts a b plain steps is stays = record { acts = acts; plain = plain; steps = steps; stays = subst (StaysLocked a.0.known) (sym is) stays }
 
   pub claims_on : (acts : List Act) (a b : SeatView × G) → All TriesNoLock acts → Does table becomes claiming acts a b → WorksOn table becomes a b
-  claims_on acts a b plain does = stays_on acts a b plain does.steps does.rest (same_later a.0.known _ refl refl refl refl, refl, refl)
+  claims_on acts a b plain does = stays_on acts a b plain does.steps does.rest (same_later a.0.known _ refl refl refl refl, refl, refl, λ leaf value h. h)
 
   pub owns_on : (acts : List Act) (a b : SeatView × G) → All TriesNoLock acts → Does table becomes owning acts a b → WorksOn table becomes a b
-  owns_on acts a b plain does = stays_on acts a b plain does.steps does.rest (same_later a.0.known _ refl refl refl refl, refl, refl)
+  owns_on acts a b plain does = stays_on acts a b plain does.steps does.rest (same_later a.0.known _ refl refl refl refl, refl, refl, λ leaf value h. h)
 
   -- what a pass knows stays possible
   runs_possible : (acts : List Act) (a b : SeatView × G) → Runs table becomes acts a b → IsPossible table.layout a.0.known → IsPossible table.layout b.0.known
@@ -160,7 +161,7 @@ module _ {G : Type 0} (table : TableView) (becomes : G → Event → G → Type 
     acts = acts;
     plain = sets_plain r words n acts in_turn;
     steps = does.steps;
-    stays = (later, ap (λ (z : Known). z.locks) does.rest, ap (λ (z : Known). z.anchor) does.rest);
+    stays = (later, ap (λ (z : Known). z.locks) does.rest, ap (λ (z : Known). z.anchor) does.rest, λ leaf value h. subst (λ (z : Known). HasLoaded z leaf value) (sym does.rest) h);
   }
 
   pub set_all_on : (r : Rec) (words : List ℕ) (a b : SeatView × G) → SetsAll table becomes r words a b → WorksOn table becomes a b

@@ -43,7 +43,7 @@ use Rattle.rowex_core.specs.Reading.{IsPacked, node_words_of}
 use Rattle.rowex_core.specs.Sharing.{IsLocked}
 use Rattle.rowex_core.specs.declared.event.Event.{Event}
 use Rattle.rowex_core.specs.declared.event.Spot.{Spot}
-use Rattle.rowex_core.specs.declared.event.Spot.TheVariants.{Root, Slot}
+use Rattle.rowex_core.specs.declared.event.Spot.TheVariants.{Root, Slot, Value}
 use Rattle.rowex_core.specs.declared.known.Known.{Known}
 use Rattle.rowex_core.specs.declared.known.Locked.{Locked}
 use Rattle.rowex_core.proofs.Owning.{knows_all}
@@ -87,7 +87,7 @@ use Rattle.rowex_writing.specs.Deeds.{MayReplace}
 use Rattle.rowex_writing.specs.declared.deeds.Raised.{Raised}
 use Rattle.rowex_writing.specs.declared.plan.Deed.{Deed}
 use Rattle.rowex_writing.specs.declared.plan.Deed.TheVariants.{Take}
-use Rattle.rowex_writing.proofs.Removing.{has_read, leaf_gone_record, leaf_there, low_names, taken_below}
+use Rattle.rowex_writing.proofs.Removing.{has_read, leaf_gone_record, leaf_there, low_names, taken_below, told_value}
 use Rattle.rowex_writing.proofs.Shapes.{way_node_locked}
 use Rattle.rowex_writing.proofs.Spans.{slice_more, slice_none}
 
@@ -308,7 +308,9 @@ module _ (table : TableView) (b : SeatView) (job : Job) (number : ℕ) (w : IsWi
         holds = at_root (anchored ∙ (anchor ∙ ap Some (ap (named job.way.now job.found) (sym top) ∙ names_upper)));
         fits = λ e low. tt;
       }
+      go (by_anchor top locks anchor) (Value l) over = absurd over
       go (by_anchor top locks anchor) (Slot o i) (s, low, at, number_is, place) = absurd (omega (arith, top, low))
+      go (by_node s low at last free names) (Value l) over = absurd over
       go (by_node s low at last free names) Root over = absurd (omega (arith, low, over))
       go (by_node s low at ((words, is), new) free names) (Slot o i) (z, some, there, number_is, place) =
           let same : s ≡ z = some_injective (sym at ∙ there) in
@@ -401,7 +403,7 @@ module _ (table : TableView) (b : SeatView) (job : Job) (number : ℕ) (w : IsWi
       ends_at at over = record {
         news = us ++ made_of_node z view ∷ [];
         building = building;
-        publishes = λ j later ready anchor.
+        publishes = λ j later ready anchor told.
             let holds = holds_over table b job number w j anchor at over in
             let high = side_low _ e us above.fixed.height closed (collapsed_low job.key.now (Node z view.height) above.subtrie above.fixed.height upper_under (joined_low view built)) in
             subst (λ q. Publishes table.layout j at (entry_word (Some e)) (removed_change q (item its.number job.key.now its.value)) (Some its.value) (merged_gone job number its.number)) later.pass
@@ -410,7 +412,7 @@ module _ (table : TableView) (b : SeatView) (job : Job) (number : ℕ) (w : IsWi
             holds.holds (holds.fits e (omega (arith, high, upper_high)))
             (leaf_there table.layout its.before.known j b.known.locks (us ++ made_of_node z view ∷ []) its.number job.key.now its.value (later_transitive its.before.known b.known j w.later later)
             (has_read table its.before its.since job its.number its.value its.below (lower job) (lower_at table job its)))
-            (word, refl));
+            (told_value j (merged_gone job number its.number) its.number its.value told (inr (inr (inr (inl refl))))) (word, refl));
       }
 
   -- what a node built of both shows
@@ -642,7 +644,7 @@ holds_later table b c job (t, own, was, stays) (later, seat, possible) (locks, a
       possible = possible;
       within = t.below.taken.within;
       from = (t.since, subst (λ f. IsWayOf table.layout c.known t.since job.key.now job.way.now f) (sym t.found) (way_later table.layout t.before.known c.known t.since job.key.now job.way.now _ since t.below.taken.way_of));
-      locked = span_later t.before.known c.known job.way.now job.span (since, locks ∙ stays.1, anchor ∙ stays.2) t.below.taken.locked;
+      locked = span_later t.before.known c.known job.way.now job.span (locks ∙ stays.1) (anchor ∙ stays.2) t.below.taken.locked;
     }
 
 -- a change goes on under the locks of its span
@@ -652,7 +654,7 @@ holds_on table becomes a b job deed goes (m, aim, t, planned) = record {
   possible = goes_possible table becomes a b goes t.possible;
   within = t.within;
   from = (m, way_later table.layout a.0.known b.0.known m job.key.now job.way.now job.found goes.stays.0 t.way_of);
-  locked = span_later a.0.known b.0.known job.way.now job.span goes.stays t.locked;
+  locked = span_later a.0.known b.0.known job.way.now job.span goes.stays.1 goes.stays.2 t.locked;
 }
 
 pub building_now : (table : TableView) (b : SeatView) (made : List Rec) (job : Job) (t : IsTaking table job) (raised : Raised) (x : Change) (was : Option ℕ) → MayReplace table b made job raised x was → (news : List Made) × IsBuilding table b made news
@@ -668,11 +670,12 @@ replace_later table a b made after job raised x was seat possible later (locks, 
   leaf = may.leaf;
   ends = λ spot over. ends_there (may.ends spot over);
   few = may.few;
+  takes = may.takes;
 })
   where
     ends_there : {spot : Spot} {w : ℕ} {gone : List Rec} → MayPublishOnceReady table a made spot w x was gone → MayPublishOnceReady table b made spot w x was gone
     ends_there m = record {
       news = m.news;
       building = building_same table a b made m.news seat possible own m.building;
-      publishes = λ j after ready kept. m.publishes j (later_transitive a.known b.known j later after) (subst (λ z. HasReady j z m.news) locks ready) (kept ∙ anchor);
+      publishes = λ j after ready kept told. m.publishes j (later_transitive a.known b.known j later after) (subst (λ z. HasReady j z m.news) locks ready) (kept ∙ anchor) told;
     }

@@ -6,7 +6,7 @@ use Rattle.std.proofs.lemmas.List.Elements.{All-cons, All-weaker}
 use Rattle.rowex_core.specs.declared.event.Act.{Act}
 use Rattle.rowex_core.specs.declared.event.Act.TheVariants.{LoadRef, LoadFixed}
 use Rattle.rowex_core.specs.declared.event.Event.{Event}
-use Rattle.rowex_core.specs.declared.event.Spot.TheVariants.{Root, Slot}
+use Rattle.rowex_core.specs.declared.event.Spot.TheVariants.{Root, Slot, Value}
 use Rattle.rowex_core.specs.declared.event.Target.{Target}
 use Rattle.rowex_core.specs.declared.known.Known.{Known}
 use Rattle.rowex_reading.specs.Possible.{IsPossible}
@@ -29,6 +29,7 @@ use Rattle.rowex_table.specs.Made.{IsLater}
 below_pin : (act : Act) → IsBelowRoot act → LeavesPin act
 below_pin (LoadRef Root w) below = absurd below
 below_pin (LoadRef (Slot n i) w) below = tt
+below_pin (LoadRef (Value l) w) below = tt
 below_pin (LoadFixed r offset w) below = tt
 below_pin _ below = absurd below
 
@@ -36,6 +37,7 @@ below_pin _ below = absurd below
 below_tries_no_lock : (act : Act) → IsBelowRoot act → TriesNoLock act
 below_tries_no_lock (LoadRef Root w) below = absurd below
 below_tries_no_lock (LoadRef (Slot n i) w) below = tt
+below_tries_no_lock (LoadRef (Value l) w) below = tt
 below_tries_no_lock (LoadFixed r offset w) below = tt
 below_tries_no_lock _ below = absurd below
 

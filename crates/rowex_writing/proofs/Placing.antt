@@ -1,5 +1,5 @@
 -- A new leaf in the place of what stands there, or in a node with it: what the plan says, and that the store may be made.
-use Rattle.std.proofs.Common.{◌≡◌, inl, inr, ⊎_elim, ℕ, ◌+◌, ◌-◌, ◌*◌, ◌<◌, ◌≤◌, List, [], ◌∷◌, ◌++◌, length, get_or, Bool, true, false, nat_lt, Option, Some, None, refl, sym, ap, subst, ◌∙◌, arith, le_trans}
+use Rattle.std.proofs.Common.{◌≡◌, inl, inr, ⊎_elim, ℕ, ◌+◌, ◌-◌, ◌*◌, ◌<◌, ◌≤◌, List, [], ◌∷◌, ◌++◌, length, get_or, Bool, true, false, nat_lt, Option, Some, None, refl, sym, ap, subst, ◌∙◌, arith, le_trans, ◌^◌, ◌⊎◌}
 use Rattle.std.specs.Prelude.{if◌then◌else◌, slice_get}
 use Rattle.std.proofs.lemmas.Bool.{cases_lt, ltb-true}
 use Rattle.std.proofs.lemmas.List.Elements.{All-cons}
@@ -32,7 +32,7 @@ use Rattle.versions.specs.Trades.{IsOneOf}
 use Rattle.version_laws.specs.Scan.{IsRead}
 use Rattle.version_laws.specs.Writer.{added_change, replaced_change}
 use Rattle.rowex_core.specs.declared.event.Spot.{Spot}
-use Rattle.rowex_core.specs.declared.event.Spot.TheVariants.{Root, Slot}
+use Rattle.rowex_core.specs.declared.event.Spot.TheVariants.{Root, Slot, Value}
 use Rattle.rowex_core.specs.declared.known.Known.{Known}
 use Rattle.rowex_core.specs.declared.known.Locked.{Locked}
 use Rattle.rowex_core.specs.Cores.{HasRecord}
@@ -46,16 +46,16 @@ use Rattle.rowex_reading.proofs.Seeing.{read_stable, seen_within, since_later, s
 use Rattle.rowex_reading.proofs.Standing.{led_in_table}
 use Rattle.publish_laws.specs.Cases.{IsWord}
 use Rattle.publish_laws.specs.Rises.{made_of_leaf, made_of_node, IsBuiltAnew, IsSide, one, anew}
-use Rattle.publish_laws.specs.Stages.{IsLeafThere, IsSure, SpellsLeaf}
+use Rattle.publish_laws.specs.Stages.{IsLeafThere, IsSure, SpellsLeaf, HasLoaded}
 use Rattle.publish_laws.proofs.Inserting.{first_made, pair}
-use Rattle.publish_laws.proofs.Loops.{later_transitive}
-use Rattle.publish_laws.proofs.Replacing.{leaf_stays, upsert}
+use Rattle.publish_laws.proofs.Loops.{later_transitive, later_if_same}
+use Rattle.publish_laws.proofs.Replacing.{leaf_stays, store_value}
 use Rattle.publish_laws.proofs.Sure.{seen_is_sure, sure_stays}
 use Rattle.rowex_writing.specs.Building.{HasLeafMade, IsBuilding}
 use Rattle.rowex_writing.specs.Changes.{AreAffected, HasTakenSpan, IsPlanned, IsPutChange, MayPublishOnceReady}
 use Rattle.rowex_writing.specs.Going.{HasLocked}
 use Rattle.rowex_writing.specs.Plans.{change, IsCase, IsNewLeafPlan, IsPlan}
-use Rattle.rowex_writing.specs.Putting.{IsSpotAbove, leaf_found}
+use Rattle.rowex_writing.specs.Putting.{IsSpotAbove}
 use Rattle.rowex_writing.specs.Retiring.{AreInTable}
 use Rattle.rowex_reading.specs.Ways.{IsFoundAt, IsMismatch, IsWayNode, IsWayOf, end_of, named}
 use Rattle.rowex_reading.proofs.Ways.{named_end}
@@ -71,6 +71,8 @@ use Rattle.rowex_writing.specs.declared.plan.Span.{Span}
 use Rattle.rowex_writing.proofs.Above.{holds_above}
 use Rattle.rowex_writing.proofs.Shapes.{locked_shape}
 use Rattle.rowex_writing.proofs.Keeping.{made_record}
+use Rattle.rowex_writing.specs.Merging.{no_step}
+use Rattle.rowex_writing.proofs.Valued.{some_spot}
 
 -- ---- plans
 abbrev span_of : Plan → Span
@@ -91,8 +93,7 @@ same_span len end l e d f is = (ap (λ (z : Plan). (span_of z).len) is, ap (λ (
 -- ---- where a leaf is put
 abbrev pub IsPutAt : List PathNode → Found → (len end : ℕ) → Type 0
 IsPutAt way Nothing len end = (len ≡ 0) × (end ≡ 0)
-IsPutAt way (Leaf number value None) len end = (len ≡ length way) × (end ≡ length way)
-IsPutAt way (Leaf number value (Some p)) len end = ⊥
+IsPutAt way (Leaf number value mismatch) len end = ⊥
 
 no_put_case : (way : List PathNode) (p : ℕ) (chosen : Choice) (case : Case) (len end : ℕ) → IsCase way p chosen case (change len end Put) → ⊥
 no_put_case way p chosen LeafPushdown len end e = cc
@@ -111,29 +112,18 @@ put_at way first last Insert (Leaf number value (Some p)) len end e = no_put way
 put_at way first last Upsert (Leaf number value (Some p)) len end e = no_put way p first last len end e
 put_at way first last Remove (Leaf number value (Some p)) len end e = cc
 put_at way first last Insert (Leaf number value None) len end e = absurd cc
-put_at way first last Upsert (Leaf number value None) len end e = same_span len end (length way) (length way) Put Put e
+put_at way first last Upsert (Leaf number value None) len end e = cc
 put_at way first last Remove (Leaf number value None) len end e = absurd cc
 
--- the change, and what the key's value was
-abbrev pub put_change : ℕ → Item → Found → Change
-put_change q x (Leaf number held None) = replaced_change q x
-put_change q x found = added_change q x
-
-abbrev pub put_was : Found → Option ℕ
-put_was (Leaf number held None) = Some held
-put_was found = None
-
 pub put_stored : (q number : ℕ) (key : Key) (value : ℕ) (way : List PathNode) (found : Found) (len end : ℕ) → IsPutAt way found len end →
-    IsPutChange q key value found (put_change q (item number key value) found) (put_was found)
+    IsPutChange q key value found (added_change q (item number key value)) None
 put_stored q number key value way Nothing len end at = (refl, refl)
-put_stored q number key value way (Leaf n held None) len end at = (refl, refl)
-put_stored q number key value way (Leaf n held (Some p)) len end at = absurd at
+put_stored q number key value way (Leaf n held mismatch) len end at = absurd at
 
 -- the node above is the last one of the way, if there is one
 pub put_spans : (way : List PathNode) (found : Found) (len end : ℕ) → IsPutAt way found len end → (len ≡ end) × (end ≤ length way)
 put_spans way Nothing len end (a, b) = (a ∙ sym b, omega arith)
-put_spans way (Leaf number value None) len end (a, b) = (a ∙ sym b, omega arith)
-put_spans way (Leaf number value (Some p)) len end h = absurd h
+put_spans way (Leaf number value mismatch) len end h = absurd h
 
 -- ---- where a pair is put
 -- the last node of the way is the one of the level; the position affects one entry there, and it is higher than 1
@@ -330,7 +320,7 @@ module _ (table : TableView) (a : SeatView) (m : ℕ) (key : Key) (way : List Pa
     found_sure = seen_is_sure a.known (λ past. IsRead past m n leaf_at.0 v) (read_stable m n leaf_at.0 v) leaf_at.1
 
     -- it is there still
-    pub there_still : (j : Known) (held : List Locked) (news : List Made) → IsLater a.known j → IsLeafThere table.layout j held news n leaf_at.0 v
+    pub there_still : (j : Known) (held : List Locked) (news : List Made) → IsLater a.known j → IsLeafThere table.layout j held news n leaf_at.0
     there_still j held news later =
         leaf_stays table.layout j held news m n leaf_at.0 v (since_later later t.way_of.since) (sure_stays a.known j (λ past. IsRead past m n leaf_at.0 v) later found_sure)
 
@@ -347,23 +337,26 @@ module _ (table : TableView) (a : SeatView) (m : ℕ) (key : Key) (way : List Pa
         let stands = stands_in c a.known st in
         trie_within stands.within (t.possible.lawful.core.state.trees i stands.tree (le_trans hi (seen_within t.possible.lawful recall)) stands.is_version).0
 
-  -- what goes is the table's
-  pub found_records : AreInTable table.layout (leaf_found found)
-  found_records = go found refl
-    where
-      go : (f : Found) → found ≡ f → AreInTable table.layout (leaf_found f)
-      go Nothing is = λ i d low. absurd (omega arith)
-      go (Leaf n v mismatch) is = All-cons (HasRecord table.layout) (a_leaf n) [] (found_there n v mismatch is) (λ i d low. absurd (omega arith))
-
   -- the leaf is named above
   pub end_named : (n v : ℕ) (mismatch : Option ℕ) → found ≡ Leaf n v mismatch → span.end ≡ length way → named way found span.end ≡ Some (LeafEntry n)
   end_named n v mismatch is last = named_end way found span.end (omega (arith, last)) ∙ ap end_of is
+
+  -- ---- another value of the leaf
+  -- it may be stored where the leaf has the key, and the pass has loaded the value that it has
+  pub value_may : (n v : ℕ) → found ≡ Leaf n v None → span.end ≡ length way → (value : ℕ) → value < 2 ^ 64 → HasLoaded a.known n v →
+      Publishes table.layout a.known (Value n) value (replaced_change a.known.pass (item n key value)) (Some v) []
+  value_may n v is last value small loaded =
+      let (spot, over) = some_spot way span.end (omega (arith, last)) in
+      let h = holds_above table.layout a.known m key way found span t.possible t.way_of t.locked t.checked t.within.0 (LeafEntry n) (end_named n v None is last) a.known a.known.locks refl refl spot over in
+      let there : IsLeafThere table.layout a.known a.known.locks [] n key =
+      subst (λ z. IsLeafThere table.layout a.known a.known.locks [] n z) (sym (leaf_at n v None is).2) (there_still n v None is a.known a.known.locks [] (later_if_same a.known a.known refl)) in
+      store_value table.layout a.known a.known.locks key n value v spot (record { locks = refl; own = t.own }) h.holds there loaded small
 
   -- ---- the store, once the records are made
   module _ (b : SeatView) (made : List Rec) (number value : ℕ) (later : IsLater a.known b.known) (locks : b.known.locks ≡ a.known.locks) (anchor : b.known.anchor ≡ a.known.anchor) where
     -- a new leaf alone
     pub put_may : HasLeafMade table b made (item number key value) → IsPutAt way found span.len span.end → (spot : Spot) → IsSpotAbove way span.end spot →
-        MayPublishOnceReady table b made spot (4 * number + 1) (put_change a.known.pass (item number key value) found) (put_was found) (leaf_found found)
+        MayPublishOnceReady table b made spot (4 * number + 1) (added_change a.known.pass (item number key value)) None []
     put_may new at spot over = go found refl at spot over
       where
         news : List Made
@@ -373,28 +366,19 @@ module _ (table : TableView) (a : SeatView) (m : ℕ) (key : Key) (way : List Pa
         word = leaf_word table b made (made_of_leaf (item number key value) new.fresh ∷ []) new.building (item number key value) new.fresh (inl refl)
 
         go : (f : Found) → found ≡ f → IsPutAt way f span.len span.end → (spot : Spot) → IsSpotAbove way span.end spot →
-            MayPublishOnceReady table b made spot (4 * number + 1) (put_change a.known.pass (item number key value) f) (put_was f) (leaf_found f)
+            MayPublishOnceReady table b made spot (4 * number + 1) (added_change a.known.pass (item number key value)) None []
         go Nothing is (l, e) Root over = record {
           news = news;
           building = new.building;
-          publishes = λ j on ready same_anchor.
+          publishes = λ j on ready same_anchor told.
               subst (λ q. Publishes table.layout j Root (4 * number + 1) (added_change q (item number key value)) None []) (on.pass ∙ later.pass)
               (first_made table.layout j b.known.locks (item number key value) new.fresh (4 * number + 1) ready new.spelled word
               (same_anchor ∙ (anchor ∙ (t.checked.root e ∙ ap (λ (o : Option Entry). Some o) (ap (λ (f : Found). named way f 0) is ∙
               none_named way (λ i s d. IsWayNode table.layout a.known m key s d) (subst (λ f. IsWayOf table.layout a.known m key way f) is t.way_of).nodes)))));
         }
+        go Nothing is (l, e) (Value l2) over = absurd over
         go Nothing is (l, e) (Slot n i) (s, low, at_s, number_is, place) = absurd (omega arith)
-        go (Leaf n v None) is (l, e) spot over = record {
-          news = news;
-          building = new.building;
-          publishes = λ j on ready same_anchor.
-              let h = holds_above table.layout a.known m key way found span t.possible t.way_of t.locked t.checked t.within.0 (LeafEntry n) (end_named n v None is e) j b.known.locks locks (same_anchor ∙ anchor) spot over in
-              subst (λ q. Publishes table.layout j spot (4 * number + 1) (replaced_change q (item number key value)) (Some v) (a_leaf n ∷ [])) (on.pass ∙ later.pass)
-              (upsert table.layout j b.known.locks (item number key value) new.fresh n (4 * number + 1) v spot ready new.spelled h.holds (h.fits (LeafEntry number) (λ s above. above.node.below))
-              (subst (λ z. IsLeafThere table.layout j b.known.locks news n z v) (sym (leaf_at n v None is).2)
-              (there_still n v None is j b.known.locks news (later_transitive a.known b.known j later on))) word);
-        }
-        go (Leaf n v (Some p)) is at spot over = absurd at
+        go (Leaf n v mismatch) is at spot over = absurd at
 
     -- a new node of the found leaf and the new one
     pub pair_may : (p n : ℕ) (here : IsPairHere a.known m key way found span n p) (e : Entry) (more : List Made) → IsSide (subtrie_forked (bit key p) p (LeafEntry number) (Place (LeafEntry n))) e more →
@@ -403,11 +387,11 @@ module _ (table : TableView) (a : SeatView) (m : ℕ) (key : Key) (way : List Pa
     pair_may p n here e more (anew o view built shows) fresh spelled building spot over = record {
       news = news;
       building = building;
-      publishes = λ j on ready same_anchor.
+      publishes = λ j on ready same_anchor told.
           let h = holds_above table.layout a.known m key way found span t.possible t.way_of t.locked t.checked t.within.0 (LeafEntry n) (end_named n here.value (Some p) here.is_found here.upto) j b.known.locks locks
           (same_anchor ∙ anchor) spot over in
           subst (λ q. Publishes table.layout j spot (entry_word (Some e)) (added_change q (item number key value)) None []) (on.pass ∙ later.pass)
-          (pair table.layout j b.known.locks (item number key value) fresh p n o (entry_word (Some e)) here.value leaf.0 view spot ready spelled h.holds
+          (pair table.layout j b.known.locks (item number key value) fresh p n o (entry_word (Some e)) leaf.0 view spot ready spelled h.holds
           (h.alone p (λ s above. (Place (LeafEntry n), refl, inr (alone_at s above.words above.low above.at above.has))))
           (h.fits e (λ s above. let high = (lowest above.low).high s (level_at s above.low above.at) in omega (arith, one_high, high)))
           (there_still n here.value (Some p) here.is_found j b.known.locks news (later_transitive a.known b.known j later on)) leaf.2.0 leaf.2.1 built shows word);

@@ -16,7 +16,7 @@ use Rattle.rowex_core.specs.Cores.{HasRecord}
 use Rattle.rowex_core.specs.Having.{AreKept}
 use Rattle.rowex_core.specs.declared.event.Event.{Event}
 use Rattle.rowex_core.specs.declared.event.Spot.{Spot}
-use Rattle.rowex_core.specs.declared.event.Spot.TheVariants.{Root, Slot}
+use Rattle.rowex_core.specs.declared.event.Spot.TheVariants.{Root, Slot, Value}
 use Rattle.rowex_core.specs.declared.known.Known.{Known}
 use Rattle.rowex_table.specs.Made.{nodes_of}
 use Rattle.rowex_table.specs.Rule.{HasSpot}
@@ -30,7 +30,7 @@ use Rattle.tries.specs.Content.{item}
 use Rattle.rowex_writing.specs.Building.{IsBuilding}
 use Rattle.rowex_writing.specs.Changes.{IsFull, IsPutChange, IsTakeChange}
 use Rattle.rowex_writing.specs.Deeds.{CarriesOut, HasNoneFree, HasRaised, MayReplace, gone_of_span, kept_of_span, leaf_gone}
-use Rattle.rowex_writing.specs.Counts.{leaf_steps}
+use Rattle.rowex_writing.specs.Counts.{leaf_steps, spare_steps}
 use Rattle.rowex_writing.specs.Going.{WorksOn}
 use Rattle.rowex_writing.specs.declared.building.Build.{Build}
 use Rattle.rowex_writing.specs.declared.deeds.Job.{Job}
@@ -102,6 +102,7 @@ span_anchor k way span locked = go (nat_eq span.end 0) refl
 
 pub spot_there : (layout : Layout) (k : Known) (m : ℕ) (key : Key) (way : List PathNode) (found : Found) → IsWayOf layout k m key way found → (end : ℕ) (spot : Spot) → IsSpotAbove way end spot → HasSpot layout spot
 spot_there layout k m key way found w end Root is = tt
+spot_there layout k m key way found w end (Value l) is = absurd is
 spot_there layout k m key way found w end (Slot n i) (s, low, at, number, place) =
     let node = (w.nodes (end - 1) s at).2 in
     let within = spot_below key node.forks in
@@ -146,10 +147,10 @@ nodes_alone (Err Leaves) P h = absurd (let z = h.0 in cc)
 
 -- no leaf record was free, the first that a deed wants
 pub no_leaf_free : {G : Type 0} {table : TableView} {becomes : G → Event → G → Type 0} {a b : (SeatView × G) × Build} {job : Job} {deed : Deed} → WorksOn table becomes a.0 b.0 →
-    IsBuilding table b.0.0 b.1.made.items [] × IsFull table.layout job.key.now a.0.0.known b.0.0.known b.1.made.items Leaves → b.0.0.known.steps ≤ a.0.0.known.steps + leaf_steps table.layout → CarriesOut table becomes a b job deed (Err Leaves)
-no_leaf_free goes (building, missed) few = record {
+    IsBuilding table b.0.0 b.1.made.items [] × IsFull table.layout job.key.now a.0.0.known b.0.0.known b.1.made.items Leaves → b.0.0.known.steps ≤ a.0.0.known.steps + leaf_steps table.layout → spare_steps deed ≡ 0 → CarriesOut table becomes a b job deed (Err Leaves)
+no_leaf_free goes (building, missed) few none = record {
   goes = goes;
   raised = tt;
   full = record { not_made = record { news = []; building = building }; few = omega (arith, ap length building.listed); full_of = missed };
-  few = omega (arith, few);
+  few = omega (arith, few, none);
 }

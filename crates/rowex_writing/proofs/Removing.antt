@@ -22,7 +22,7 @@ use Rattle.versions.specs.declared.Rec.TheVariants.{Node as a_node, Leaf as a_le
 use Rattle.versions.specs.Trades.{IsOneOf}
 use Rattle.versions.proofs.Members.{all_of, none_of, of_append, of_left, of_right}
 use Rattle.rowex_core.specs.declared.event.Spot.{Spot}
-use Rattle.rowex_core.specs.declared.event.Spot.TheVariants.{Root, Slot}
+use Rattle.rowex_core.specs.declared.event.Spot.TheVariants.{Root, Slot, Value}
 use Rattle.rowex_core.specs.declared.known.Known.{Known}
 use Rattle.rowex_core.specs.declared.known.Locked.{Locked}
 use Rattle.rowex_core.specs.Cores.{HasRecord}
@@ -38,16 +38,16 @@ use Rattle.rowex_reading.proofs.Seeing.{read_stable, since_later}
 use Rattle.rowex_reading.proofs.Standing.{led_in_table}
 use Rattle.publish_laws.specs.Loops.{StaysLocked}
 use Rattle.publish_laws.specs.Rises.{IsSide, one, anew}
-use Rattle.publish_laws.specs.Stages.{HasReady, IsLeafThere}
+use Rattle.publish_laws.specs.Stages.{HasLoaded, HasReady, IsLeafThere}
 use Rattle.publish_laws.proofs.Loops.{later_transitive}
 use Rattle.publish_laws.proofs.Replacing.{leaf_stays, remove, remove_the_last}
 use Rattle.publish_laws.proofs.Sure.{seen_is_sure, sure_stays}
 use Rattle.rowex_writing.specs.Building.{IsBuilding}
-use Rattle.rowex_writing.specs.Changes.{HasTakenSpan, IsPlanned, MayPublishOnceReady}
+use Rattle.rowex_writing.specs.Changes.{HasTakenSpan, IsPlanned, MayPublishOnceReady, KnowsWas}
 use Rattle.rowex_writing.specs.Plans.{change, IsCase, IsNewLeafPlan, IsPlan}
 use Rattle.rowex_writing.specs.declared.plan.Aim.{Aim}
 use Rattle.rowex_writing.specs.declared.plan.Aim.TheVariants.{Insert, Upsert, Remove}
-use Rattle.rowex_writing.specs.declared.plan.Deed.TheVariants.{Grow, PushDown, Put, Take}
+use Rattle.rowex_writing.specs.declared.plan.Deed.TheVariants.{Grow, PushDown, Put, Take, Value as ValueDeed}
 use Rattle.rowex_writing.specs.declared.plan.Plan.{Plan}
 use Rattle.rowex_writing.specs.declared.plan.Plan.TheVariants.{Answer, Change}
 use Rattle.insert_cases.specs.declared.choice.Case.{Case}
@@ -71,11 +71,16 @@ use Rattle.rowex_writing.proofs.Spans.{slice_more, slice_none}
 use Rattle.tries.specs.Content.{item}
 
 -- ---- the leaf
--- in each stage it has the key and the value
-pub leaf_there : (layout : Layout) (k j : Known) (held : List Locked) (news : List Made) (number : ℕ) (key : Key) (value : ℕ) → IsLater k j → HasReadLeaf k number key value → IsLeafThere layout j held news number key value
+-- in each stage it has the key
+pub leaf_there : (layout : Layout) (k j : Known) (held : List Locked) (news : List Made) (number : ℕ) (key : Key) (value : ℕ) → IsLater k j → HasReadLeaf k number key value → IsLeafThere layout j held news number key
 leaf_there layout k j held news number key value later (m, pinned, read) =
     leaf_stays layout j held news m number key value (since_later later pinned)
     (sure_stays k j (λ s. IsRead s m number key value) later (seen_is_sure k (λ s. IsRead s m number key value) (read_stable m number key value) read))
+
+-- and the value that was loaded of what goes
+pub told_value : (j : Known) (gone : List Rec) (n value : ℕ) → KnowsWas j gone (Some value) → IsOneOf (a_leaf n) gone → HasLoaded j n value
+told_value j gone n value told i =
+    let (v, is, loaded) = told n i in let same : value ≡ v = cc in subst (HasLoaded j n) (sym same) loaded
 
 -- it is one of the table's
 pub leaf_record : (layout : Layout) (k : Known) (number : ℕ) (key : Key) (value : ℕ) → IsPossible layout k → HasReadLeaf k number key value → number < layout.leaves
@@ -86,11 +91,12 @@ leaf_record layout k number key value possible (m, pinned, read) =
 module _ (table : TableView) (a : SeatView) (number : ℕ) (key : Key) (value : ℕ) (o : HasOnlyLeaf table a number key value) where
   pub may_empty : (way : List PathNode) (end : ℕ) → end ≡ 0 → (spot : Spot) → IsSpotAbove way end spot → MayPublishOnceReady table a [] spot 0 (removed_change a.known.pass (item number key value)) (Some value) (a_leaf number ∷ [])
   may_empty way end top (Slot n i) (s, low, there, number_is, place) = absurd (omega (arith, top, low))
+  may_empty way end top (Value l) over = absurd over
   may_empty way end top Root over = record {
     news = [];
     building = record { seat = o.seat; possible = o.possible; holds = (o.own, tt); packed = tt; listed = refl };
-    publishes = λ j later ready anchor. subst (λ q. Publishes table.layout j Root 0 (removed_change q (item number key value)) (Some value) (a_leaf number ∷ [])) later.pass
-        (remove_the_last table.layout j a.known.locks number value key ready (anchor ∙ o.anchor) (leaf_there table.layout a.known j a.known.locks [] number key value later o.read));
+    publishes = λ j later ready anchor told. subst (λ q. Publishes table.layout j Root 0 (removed_change q (item number key value)) (Some value) (a_leaf number ∷ [])) later.pass
+        (remove_the_last table.layout j a.known.locks number value key ready (anchor ∙ o.anchor) (leaf_there table.layout a.known j a.known.locks [] number key value later o.read) (told_value j (a_leaf number ∷ []) number value told (inl refl)));
   }
 
   pub only_records : AreInTable table.layout (a_leaf number ∷ [])
@@ -110,6 +116,7 @@ low_step table a m job number value b = slice_get-get_or job.way.now job.span.en
 abbrev IsTakePlan : Plan → Type 0
 IsTakePlan (Answer reply) = ⊥
 IsTakePlan (Change span (Put)) = ⊥
+IsTakePlan (Change span (ValueDeed)) = ⊥
 IsTakePlan (Change span (PushDown p)) = ⊥
 IsTakePlan (Change span (Grow p)) = ⊥
 IsTakePlan (Change span (Take)) = Unit {0}
@@ -161,7 +168,7 @@ module _ (table : TableView) (a : SeatView) (m : ℕ) (job : Job) (aim : Aim) (t
 
   -- a way with a node
   pub take_below : 0 < job.span.len → HasLeafBelow table a m job number value
-  take_below some = record { taken = found_span; len = the_plan.len_is; last = (let e = the_plan.end_is in let n = the_plan.len_is in omega (arith, e, n, some)) }
+  take_below some = record { taken = found_span; is_found = found_key; len = the_plan.len_is; last = (let e = the_plan.end_is in let n = the_plan.len_is in omega (arith, e, n, some)) }
 
   no_locks : (n : ℕ) → job.span.len ≡ 0 → IsOneOf n (numbers_of (slice_range job.way.now (job.span.end - 1) job.span.len)) → ⊥
   no_locks n low i =
@@ -280,19 +287,19 @@ module _ (table : TableView) (a : SeatView) (m : ℕ) (job : Job) (number value 
     abbrev gone_change : ℕ → MapChange
     gone_change q = removed_change q (item number job.key.now value)
 
-    publishes : (spot : Spot) → IsSpotAbove job.way.now job.span.end spot → (j : Known) → IsLater c.known j → HasReady j c.known.locks news → j.anchor ≡ c.known.anchor → Publishes table.layout j spot (entry_word (Some e)) (gone_change j.pass) (Some value) gone
-    publishes spot is j later ready anchor =
+    publishes : (spot : Spot) → IsSpotAbove job.way.now job.span.end spot → (j : Known) → IsLater c.known j → HasReady j c.known.locks news → j.anchor ≡ c.known.anchor → KnowsWas j gone (Some value) → Publishes table.layout j spot (entry_word (Some e)) (gone_change j.pass) (Some value) gone
+    publishes spot is j later ready anchor told =
         let t = b.taken in
         let above = holds_above table.layout a.known m job.key.now job.way.now found job.span t.possible w t.locked t.checked t.within.0 (Node s.number s.height) (named_at job.way.now found job.span.end s at) j c.known.locks stays.1 (anchor ∙ stays.2) spot is in
         let (f, f_is, own) = w.nodes job.span.end s at in
         let node = way_node_locked table.layout a.known m job.key.now s f words t.possible w.since own h in
         remove table.layout j c.known.locks news job.key.now s.number number s.height (entry_word (Some e)) value e words spot ready side (subst (IsOneOf (record { node = s.number; words = words })) (sym stays.1) h) (low_names words h)
         above.holds (above.fits e (λ u on. let falls = on.node.below in omega (arith, low, falls, node.height)))
-        (leaf_there table.layout a.known j c.known.locks news number job.key.now value (later_transitive a.known c.known j stays.0 later) has_read) (word, refl)
+        (leaf_there table.layout a.known j c.known.locks news number job.key.now value (later_transitive a.known c.known j stays.0 later) has_read) (told_value j gone number value told (inr (inl refl))) (word, refl)
 
     pub may_remake : (spot : Spot) → IsSpotAbove job.way.now job.span.end spot → MayPublishOnceReady table c made spot (entry_word (Some e)) (gone_change c.known.pass) (Some value) gone
     may_remake spot is = record {
       news = news;
       building = building;
-      publishes = λ j later ready anchor. subst (λ q. Publishes table.layout j spot (entry_word (Some e)) (gone_change q) (Some value) gone) later.pass (publishes spot is j later ready anchor);
+      publishes = λ j later ready anchor told. subst (λ q. Publishes table.layout j spot (entry_word (Some e)) (gone_change q) (Some value) gone) later.pass (publishes spot is j later ready anchor told);
     }

@@ -9,7 +9,7 @@ use Rattle.versions.specs.Trades.{AreApart}
 use Rattle.rowex_core.specs.declared.event.Act.{Act}
 use Rattle.rowex_core.specs.declared.event.Act.TheVariants.{Claim, Fill, Ready, Release, LoadRef, LoadFixed, Lock, Unlock, Publish, Mark, LoadEpoch, Advance, SetPin, ClearPin, LoadPin, LoadState, GiveBack}
 use Rattle.rowex_core.specs.declared.event.Event.{Event}
-use Rattle.rowex_core.specs.declared.event.Spot.TheVariants.{Root, Slot}
+use Rattle.rowex_core.specs.declared.event.Spot.TheVariants.{Root, Slot, Value}
 use Rattle.rowex_core.specs.declared.event.Target.{Target}
 use Rattle.rowex_core.specs.declared.known.Fresh.{Fresh}
 use Rattle.rowex_core.specs.declared.known.Known.{Known}
@@ -58,6 +58,7 @@ module _ (layout : Layout) (k j : Known) where
       grown : (act : Act) → (LeavesFront act → j.front ≡ k.front) → IsEvent layout act silent k j → BeginsWith j.front k.front
       grown (LoadRef Root w) is e = seen (LoadRef Root w) e (ap (λ (z : Known). z.front) e.learned_is)
       grown (LoadRef (Slot n i) w) is e = seen (LoadRef (Slot n i) w) e (ap (λ (z : Known). z.front) e.learned_is)
+      grown (LoadRef (Value l) w) is e = seen (LoadRef (Value l) w) e (ap (λ (z : Known). z.front) e.learned_is)
       grown (LoadFixed r offset w) is e = seen (LoadFixed r offset w) e (ap (λ (z : Known). z.front) e.learned_is)
       grown (Publish spot w) is e =
           let f = e.knows.seen.front in let x = next_change e.core k.pass spot w in
@@ -105,6 +106,7 @@ module _ (layout : Layout) (k j : Known) where
               new = subst (λ (z : Fresh). BeginsWith j.front z.front) (sym now) (subst (λ z. BeginsWith z e.core.changes) (sym seen) (begins_itself e.core.changes));
             }
         loaded (LoadRef (Slot n i) w) is e = same (LoadRef (Slot n i) w) e (is tt)
+        loaded (LoadRef (Value l) w) is e = same (LoadRef (Value l) w) e (is tt)
         loaded (LoadFixed r offset w) is e = same (LoadFixed r offset w) e (is tt)
         loaded (Publish spot w) is e = same (Publish spot w) e (is tt)
         loaded (Claim r found) is e = same (Claim r found) e (is tt)

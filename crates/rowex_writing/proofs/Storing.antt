@@ -27,10 +27,12 @@ use Rattle.rowex_table.proofs.ActsLeave.{act_leaves}
 use Rattle.publish_laws.specs.Ending.{IsAtRest}
 use Rattle.publish_laws.specs.Stages.{HasReady}
 use Rattle.rowex_reading.specs.Possible.{IsPossible}
-use Rattle.rowex_writing.specs.Changes.{HasChanged, MayPublishOnceReady}
+use Rattle.rowex_writing.specs.Changes.{HasChanged, KnowsWas, MayPublishOnceReady}
 use Rattle.rowex_writing.specs.Going.{WorksOn}
 use Rattle.rowex_writing.specs.Retiring.{HasJustPublished, IsAnchored}
 use Rattle.rowex_writing.proofs.Making.{goes_possible}
+use Rattle.rowex_core.specs.declared.event.Spot.TheVariants.{Root, Slot, Value}
+use Rattle.rowex_core.specs.Events.{IsOfEntry}
 
 -- ---- the word
 -- a word that spells a node has a height in it
@@ -44,8 +46,10 @@ high n height low small h =
     subst (λ z. 1 ≤ z) is spelled.1
 
 -- a word that may be published is that of an entry
-pub word_spells : (layout : Layout) (k : Known) (spot : Spot) (w : ℕ) → IsPossible layout k → MayStep layout (λ found. Publish spot w) k → HasEntryWord (entry_of w)
-word_spells layout k spot w possible may = (may possible.core possible.lawful possible.layout_is possible.knows).1.entry.0
+pub word_spells : (layout : Layout) (k : Known) (spot : Spot) (w : ℕ) → IsOfEntry spot → IsPossible layout k → MayStep layout (λ found. Publish spot w) k → HasEntryWord (entry_of w)
+word_spells layout k Root w of possible may = (may possible.core possible.lawful possible.layout_is possible.knows).1.entry.0
+word_spells layout k (Slot n i) w of possible may = (may possible.core possible.lawful possible.layout_is possible.knows).1.entry.0
+word_spells layout k (Value l) w of possible may = absurd of
 
 -- ---- the store
 pub word_published : (layout : Layout) (spot : Spot) (v w : ℕ) (k j : Known) → v ≡ w → IsEvent layout (Publish spot v) silent k j → IsEvent layout (Publish spot w) silent k j
@@ -53,12 +57,12 @@ word_published layout spot v w k j same e = subst (λ z. IsEvent layout (Publish
 
 module _ {G : Type 0} (table : TableView) (becomes : G → Event → G → Type 0) (a b : SeatView × G) (made : List Rec) (spot : Spot) (w : ℕ) (gone : List Rec) (goes : WorksOn table becomes a b) where
   -- all that it has made is ready
-  module _ (x : Change) (was : Option ℕ) (m : MayPublishOnceReady table a.0 made spot w x was gone) (ready : HasReady b.0.known a.0.known.locks m.news) where
+  module _ (x : Change) (was : Option ℕ) (m : MayPublishOnceReady table a.0 made spot w x was gone) (ready : HasReady b.0.known a.0.known.locks m.news) (told : KnowsWas a.0.known gone was) where
     pub now_publishes : Publishes table.layout b.0.known spot w x was gone
-    now_publishes = m.publishes b.0.known goes.stays.0 ready goes.stays.2
+    now_publishes = m.publishes b.0.known goes.stays.0 ready goes.stays.2 (λ leaf i. let (value, is, loaded) = told leaf i in (value, is, goes.stays.3 leaf value loaded))
 
-    pub now_spells : HasEntryWord (entry_of w)
-    now_spells = word_spells table.layout b.0.known spot w (goes_possible table becomes a b goes m.building.possible) now_publishes.may
+    pub now_spells : IsOfEntry spot → HasEntryWord (entry_of w)
+    now_spells of = word_spells table.layout b.0.known spot w of (goes_possible table becomes a b goes m.building.possible) now_publishes.may
 
     module _ (kept : List ℕ) (keeps : AreKept (nodes_of a.0.known.locks) gone kept) (j : Known) (e : IsEvent table.layout (Publish spot w) silent b.0.known j) where
       pub published : HasPublished b.0.known j x was gone kept

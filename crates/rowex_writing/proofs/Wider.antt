@@ -152,8 +152,8 @@ module _ {G : Type 0} (table : TableView) (becomes : G → Event → G → Type 
       let (locks, tried, least, most, spent) = tries a h in (locks, once_then table becomes a c d tried rest, least, most, omega (arith, few, spent))
 
   -- so for a removal, once what is left of the lower node is made
-  pub removal_changes : (job : Job) (t : IsTaking table job) (left more : ℕ) (b m c : SeatView × G) → more ≤ 80 → HasTried table becomes [] b m → m.0.known.steps + 2 * left ≤ b.0.known.steps + 2 * table.layout.nodes + level_steps + 1 →
-      TriesFew table becomes (span_numbers job.way.now job.span) left more m c → ChangesOn table becomes (span_numbers job.way.now job.span) b c
+  pub removal_changes : (job : Job) (t : IsTaking table job) (left more : ℕ) (b m c : SeatView × G) → more ≤ 81 → HasTried table becomes [] b m → m.0.known.steps + 2 * left ≤ b.0.known.steps + 2 * table.layout.nodes + level_steps + 1 →
+      TriesFew table becomes (span_numbers job.way.now job.span) left more m c → ChangesOn table becomes (span_numbers job.way.now job.span) 1 b c
   removal_changes job t left more b m c upto run walk tries a h =
       let (locks, tried, least, most, few) = tries a (nodes_then table becomes (span_numbers job.way.now job.span) a b m h run) in
       let low = t.below.taken.within.0 in

@@ -21,8 +21,16 @@ use Rattle.rowex_reading.specs.Reads.{IsBelowRoot, entries_in}
 use Rattle.rowex_table.specs.Runs.{Runs}
 use Rattle.rowex_table.specs.Seats.{TableView, SeatView}
 use Rattle.rowex_table.specs.Stays.{LeavesPin}
-use Rattle.rowex_writing.specs.Asking.{reply_to}
-use Rattle.rowex_writing.specs.Changes.{HasChanged, IsDeedChange, IsFull}
+use Rattle.rowex_writing.specs.Asking.{aim_of, reply_to}
+use Rattle.rowex_writing.specs.Changes.{HasChanged, HasNoRoom, IsDeedChange, IsFull}
+use Rattle.rowex_writing.specs.Jobs.{IsJobFrom}
+use Rattle.rowex_writing.specs.declared.deeds.Job.{Job}
+use Rattle.rowex_writing.specs.declared.plan.Aim.{Aim}
+use Rattle.rowex_reading.specs.Ways.{value_of}
+use Rattle.rowex_reading.specs.declared.descent.Found.TheVariants.{Leaf}
+use Rattle.rowex_table.specs.Made.{IsLater}
+use Rattle.publish_laws.specs.Ending.{IsAtRest}
+use Rattle.publish_laws.specs.Stages.{HasLoaded}
 use Rattle.rowex_writing.specs.Counts.{attempt_steps, most_locks, most_nodes}
 use Rattle.rowex_writing.specs.Locks.{HasMetLock, TriesLocksOnce, targets_of}
 use Rattle.rowex_writing.specs.declared.plan.Deed.{Deed}
@@ -31,6 +39,8 @@ use Rattle.rowex_writing.specs.declared.plan.Full.{Full}
 use Rattle.rowex_writing.specs.declared.plan.Full.TheVariants.{Nodes, Leaves}
 use Rattle.rowex_writing.specs.declared.attempts.TryFault.{TryFault}
 use Rattle.rowex_writing.specs.declared.attempts.TryFault.TheVariants.{Busy, FullNodes, FullLeaves}
+use Rattle.rowex_reading.specs.Seen.{Sure}
+use Rattle.versions.specs.State.{WasAbsentSince}
 
 -- a load of a search: of the root, or of a word below it
 abbrev pub IsOfSearch : Act → Type 0
@@ -70,6 +80,32 @@ HasLooked j call reply = (held : Option ℕ) × HasFound j (key_of call) held ×
 abbrev pub IsChangeOf : ℕ → Call → Reply → Change → Option ℕ → Type 0
 IsChangeOf q call reply x was = (reply ≡ reply_to call was) × (change_of q (record { place = 0; call = call; reply = reply }) ≡ Some x)
 
+-- the same end of a search, where a leaf with the key has this value
+abbrev pub revalued : Found → ℕ → Found
+revalued (Leaf number value None) now = Leaf number now None
+revalued found now = found
+
+-- The pass has found this again under its locks: what its search found, with the value that the leaf has then; and the call has the same
+-- aim there.
+pub record IsFoundAgain (call : Call) (found now : Found) : Type 0 where
+  pub value : ℕ
+  pub is : now ≡ revalued found value
+  pub aims : (aim : Aim) → aim_of call (value_of found) ≡ Some aim → aim_of call (value_of now) ≡ Some aim
+
+-- it has loaded the value of the leaf that was found for the key, if one was, since it last locked
+abbrev pub HasLoadedFound : Known → Found → Type 0
+HasLoadedFound k found = (number value : ℕ) → found ≡ Leaf number value None → HasLoaded k number value
+
+-- another pass has made a change since the search of the job
+abbrev pub HasMoved : Layout → Job → Known → Known → Type 0
+HasMoved layout job k j = (m : ℕ) → IsJobFrom layout k m job → m < length j.front
+
+-- why a planned change was not made: another pass has made one since the search, or no record was free beside those that it had made
+abbrev pub HasFailed : Layout → Job → Known → Known → List Rec → TryFault → Type 0
+HasFailed layout job k j made Busy = IsAtRest j × IsLater k j × HasMoved layout job k j
+HasFailed layout job k j made FullNodes = HasNoRoom layout job.key.now k j made Nodes
+HasFailed layout job k j made FullLeaves = HasNoRoom layout job.key.now k j made Leaves
+
 -- the refusal of a call for whose change no record of the kind was free
 abbrev pub refusal_of : Full → TryFault
 refusal_of Nodes = FullNodes
@@ -96,6 +132,25 @@ abbrev pub IsAttemptCause : Layout → Key → Known → Known → List Rec → 
 IsAttemptCause layout key k j made Busy = HasMetLock layout k j ⊎ ((m : ℕ) × IsPinnedSince k m × (m < length j.front))
 IsAttemptCause layout key k j made FullNodes = IsFull layout key k j made Nodes
 IsAttemptCause layout key k j made FullLeaves = IsFull layout key k j made Leaves
+
+-- the fault is that no record was free
+abbrev pub IsFullFault : TryFault → Type 0
+IsFullFault Busy = ⊥
+IsFullFault fault = Unit {0}
+
+-- the call gives its key a value
+abbrev pub GivesValue : Call → Type 0
+GivesValue (Remove key) = ⊥
+GivesValue (RemoveIf key expected) = ⊥
+GivesValue call = Unit {0}
+
+-- the key was absent in a version since some version, to which the pass's pin goes back
+abbrev pub HasMissed : Known → Key → Type 0
+HasMissed j key = (m : ℕ) × IsPinnedSince j m × Sure j (λ s. WasAbsentSince s m key)
+
+-- a call that gives its key a value is refused for want of a record only if its search has not found the key
+abbrev pub IsFullOfNew : Known → Call → TryFault → Type 0
+IsFullOfNew j call fault = IsFullFault fault → GivesValue call → HasMissed j (key_of call)
 
 -- It was refused: no change of its own was made.
 pub record HasRefused (layout : Layout) (key : Key) (k j : Known) (made : List Rec) (fault : TryFault) : Type 0 where

@@ -10,10 +10,10 @@ use Rattle.record_words.specs.declared.layout.Layout.{Layout}
 use Rattle.tries.specs.Keys.{Key}
 use Rattle.tries.specs.Search.{seek}
 use Rattle.tries.specs.Tree.{Subtrie}
-use Rattle.versions.specs.Trades.{AreApart}
+use Rattle.versions.specs.Trades.{AreApart, IsOneOf}
 use Rattle.versions.specs.declared.Rec.{Rec}
 use Rattle.record_words.specs.Leaf.{words_for}
-use Rattle.versions.specs.declared.Rec.TheVariants.{Node as a_node}
+use Rattle.versions.specs.declared.Rec.TheVariants.{Node as a_node, Leaf as a_leaf}
 use Rattle.rowex_core.specs.declared.event.Event.{Event}
 use Rattle.rowex_core.specs.declared.event.Spot.{Spot}
 use Rattle.rowex_core.specs.declared.event.Target.{Target}
@@ -29,7 +29,7 @@ use Rattle.rowex_reading.specs.Possible.{IsPossible}
 use Rattle.rowex_reading.specs.Seen.{Sure}
 use Rattle.rowex_records.specs.Claims.{AllMissed, AllMissedFrom, IsAnothers}
 use Rattle.publish_laws.specs.Ending.{IsAtRest}
-use Rattle.publish_laws.specs.Stages.{HasReady}
+use Rattle.publish_laws.specs.Stages.{HasLoaded, HasReady}
 use Rattle.rowex_writing.specs.Building.{IsBuilding}
 use Rattle.rowex_writing.specs.Counts.{most_nodes}
 use Rattle.rowex_writing.specs.Going.{HasLocked}
@@ -103,11 +103,17 @@ HasTakenPlan table a job deed =
     IsPlanned a.known m job.key.now job.way.now aim job.found (change job.span.len job.span.end deed)
 
 -- ---- the store
--- Once the records that it has made are ready, the pass may publish the change by a store of the word at the spot.
+-- of each leaf among the records the pass has loaded this value
+abbrev pub KnowsWas : Known → List Rec → Option ℕ → Type 0
+KnowsWas k gone was = (leaf : ℕ) → IsOneOf (a_leaf leaf) gone → (value : ℕ) × (was ≡ Some value) × HasLoaded k leaf value
+
+-- Once the records that it has made are ready, the pass may publish the change by a store of the word at the spot, if it has loaded the
+-- value of the leaf that goes.
 pub record MayPublishOnceReady (table : TableView) (a : SeatView) (made : List Rec) (spot : Spot) (w : ℕ) (x : Change) (was : Option ℕ) (gone : List Rec) : Type 0 where
   pub news : List Made
   pub building : IsBuilding table a made news
-  pub publishes : (j : Known) → IsLater a.known j → HasReady j a.known.locks news → j.anchor ≡ a.known.anchor → Publishes table.layout j spot w x was gone
+  pub publishes : (j : Known) → IsLater a.known j → HasReady j a.known.locks news → j.anchor ≡ a.known.anchor → KnowsWas j gone was →
+      Publishes table.layout j spot w x was gone
 
 -- ---- what is left
 -- The pass has made the change x, where the key's value was this: it is the last that the pass has seen, and before it are only
@@ -146,7 +152,7 @@ IsFull layout key k j made Leaves = LacksLeaves layout key j.pass j.failed k.ste
 -- The pass has made no change, for want of a record beside those that it had made; it has nothing of its own and no lock.
 pub record HasNoRoom (layout : Layout) (key : Key) (k j : Known) (made : List Rec) (full : Full) : Type 0 where
   pub rest : IsAtRest j
-  pub others : OthersGoOn k.pass k.front j.front
+  pub later : IsLater k j
   pub full_of : IsFull layout key k j made full
 
 -- the change that gives the key this value, by what was found of it

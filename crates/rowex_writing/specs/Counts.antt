@@ -1,8 +1,12 @@
 -- How many atomic steps the parts of an attempt make at most, by the nodes on its way, its locks and the records of the table.
-use Rattle.std.specs.Prelude.{ℕ, zero, suc, ◌+◌, ◌*◌, Result, Ok, Err}
+use Rattle.std.specs.Prelude.{ℕ, zero, suc, ◌+◌, ◌*◌, Result, Ok, Err, None}
 use Rattle.key_bits.specs.declared.TheConstants.{MAX_BYTES}
 use Rattle.record_words.specs.declared.TheConstants.{HEAD_WORDS, LEAF_FIELDS, NODE_FIELDS}
 use Rattle.record_words.specs.declared.layout.Layout.{Layout}
+use Rattle.rowex_reading.specs.declared.descent.Found.{Found}
+use Rattle.rowex_reading.specs.declared.descent.Found.TheVariants.{Leaf}
+use Rattle.rowex_writing.specs.declared.plan.Deed.{Deed}
+use Rattle.rowex_writing.specs.declared.plan.Deed.TheVariants.{Take, Value}
 
 -- the nodes of the longest way
 abbrev pub most_nodes : ℕ
@@ -47,6 +51,17 @@ undo_steps locks = 5 * locks + 1
 abbrev pub deed_steps : {X E : Type 0} → Layout → ℕ → Result X E → ℕ
 deed_steps layout locks (Ok made) = leaf_steps layout + levels_steps layout locks
 deed_steps layout locks (Err full) = leaf_steps layout + levels_steps layout locks + 2 * locks
+
+-- what it leaves of these: one that takes a leaf away, or gives it another value, makes no leaf's record
+abbrev pub spare_steps : Deed → ℕ
+spare_steps Take = 3
+spare_steps Value = 3
+spare_steps deed = 0
+
+-- one load, where a leaf with the key was found: of its value
+abbrev pub held_loads : Found → ℕ
+held_loads (Leaf number value None) = 1
+held_loads found = 0
 
 -- a change, once its nodes are locked and checked: a leaf's record, nodes made anew, and their undoing
 abbrev pub change_steps : Layout → ℕ → ℕ

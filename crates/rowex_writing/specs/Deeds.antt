@@ -1,5 +1,5 @@
 -- What a deed has made, before any of it is linked, and what may come of it.
-use Rattle.std.specs.Prelude.{ℕ, ◌+◌, ◌-◌, ◌*◌, ◌≤◌, List, [], ◌∷◌, ◌++◌, map, length, slice_range, Option, Some, None, Result, IfOk, IfErr}
+use Rattle.std.specs.Prelude.{◌≡◌, ℕ, ◌+◌, ◌-◌, ◌*◌, ◌≤◌, List, [], ◌∷◌, ◌++◌, map, length, slice_range, Option, Some, None, Result, IfOk, IfErr}
 use Rattle.finite_map.specs.declared.Change.{Change}
 use Rattle.insert_cases.specs.declared.choice.PathNode.{PathNode}
 use Rattle.versions.specs.declared.Rec.{Rec}
@@ -9,9 +9,10 @@ use Rattle.rowex_core.specs.declared.event.Event.{Event}
 use Rattle.rowex_core.specs.declared.event.Spot.{Spot}
 use Rattle.rowex_core.specs.declared.known.Known.{Known}
 use Rattle.rowex_table.specs.Seats.{TableView, SeatView}
+use Rattle.rowex_reading.specs.declared.descent.Found.TheVariants.{Leaf as FoundLeaf}
 use Rattle.rowex_writing.specs.Building.{HasNotMade}
 use Rattle.rowex_writing.specs.Changes.{IsDeedChange, IsFull, MayPublishOnceReady}
-use Rattle.rowex_writing.specs.Counts.{deed_steps}
+use Rattle.rowex_writing.specs.Counts.{deed_steps, spare_steps}
 use Rattle.rowex_writing.specs.Going.{WorksOn}
 use Rattle.rowex_writing.specs.Locks.{locks_of}
 use Rattle.rowex_writing.specs.Putting.{IsSpotAbove}
@@ -46,6 +47,8 @@ pub record MayReplace (table : TableView) (a : SeatView) (made : List Rec) (job 
   pub ends : (spot : Spot) → IsSpotAbove job.way.now job.span.end spot →
       MayPublishOnceReady table a made spot (entry_word raised.entry) x was (gone_of_span job.way.now job.span raised)
   pub few : length made + length (leaf_gone raised.leaf) ≤ 2 * locks_of job.span
+  -- the leaf that goes is the found one, and the key had its value
+  pub takes : (number : ℕ) → raised.leaf ≡ Some number → (value : ℕ) × (job.found ≡ FoundLeaf number value None) × (was ≡ Some value)
 
 -- the pass has made what the deed asks for, since it knew k
 abbrev pub HasRaised : TableView → Known → SeatView → List Rec → Job → Deed → Raised → Type 0
@@ -65,4 +68,4 @@ pub record CarriesOut {G : Type 0} (table : TableView) (becomes : G → Event �
   pub goes : WorksOn table becomes a.0 b.0
   pub raised : IfOk answer (HasRaised table a.0.0.known b.0.0 b.1.made.items job deed)
   pub full : IfErr answer (HasNoneFree table a.0.0.known b.0.0 b.1.made.items job)
-  pub few : b.0.0.known.steps ≤ a.0.0.known.steps + deed_steps table.layout (locks_of job.span) answer
+  pub few : b.0.0.known.steps + spare_steps deed ≤ a.0.0.known.steps + deed_steps table.layout (locks_of job.span) answer

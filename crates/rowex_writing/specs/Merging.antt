@@ -128,17 +128,17 @@ TriesFew {G} table becomes nodes left more b c = (a : SeatView × G) → TriesNo
     (locks : ℕ) × HasTriedOnce table becomes locks a c × (length nodes ≤ locks) × (locks ≤ length nodes + 2) ×
     (c.0.known.steps ≤ b.0.known.steps + 2 * left + (locks - length nodes) * level_steps + more)
 
--- and a change under all these locks
-abbrev pub ChangesOn : {G : Type 0} → TableView → (G → Event → G → Type 0) → List ℕ → SeatView × G → SeatView × G → Type 0
-ChangesOn {G} table becomes nodes b c = (a : SeatView × G) → TriesNodesBy LeavesPin table becomes nodes a b →
+-- and a change under all these locks, with room for so many steps before it
+abbrev pub ChangesOn : {G : Type 0} → TableView → (G → Event → G → Type 0) → List ℕ → ℕ → SeatView × G → SeatView × G → Type 0
+ChangesOn {G} table becomes nodes room b c = (a : SeatView × G) → TriesNodesBy LeavesPin table becomes nodes a b →
     (locks : ℕ) × HasTriedOnce table becomes locks a c × (length nodes ≤ locks) × (locks ≤ length nodes + 2) ×
-    (c.0.known.steps ≤ b.0.known.steps + change_steps table.layout locks)
+    (c.0.known.steps + room ≤ b.0.known.steps + change_steps table.layout locks)
 
 -- a change that tries no lock, or one that tries more beside those of its span
-abbrev pub EndsChange : {G : Type 0} → TableView → (G → Event → G → Type 0) → Job → SeatView × G → SeatView × G → Type 0
-EndsChange {G} table becomes job b c =
-    (HasRun table becomes b c × (c.0.known.steps ≤ b.0.known.steps + change_steps table.layout (locks_of job.span))) ⊎
-    ((0 < job.span.end) × (job.span.end + 1 ≡ job.span.len) × ChangesOn table becomes (span_numbers job.way.now job.span) b c)
+abbrev pub EndsChange : {G : Type 0} → TableView → (G → Event → G → Type 0) → Job → ℕ → SeatView × G → SeatView × G → Type 0
+EndsChange {G} table becomes job room b c =
+    (HasRun table becomes b c × (c.0.known.steps + room ≤ b.0.known.steps + change_steps table.layout (locks_of job.span))) ⊎
+    ((0 < job.span.end) × (job.span.end + 1 ≡ job.span.len) × ChangesOn table becomes (span_numbers job.way.now job.span) room b c)
 
 -- ---- the store
 -- the records that go: both nodes of the span, the one beside, and the leaf

@@ -9,7 +9,7 @@ use Rattle.insert_cases.specs.Levels.{IsLevel, IsChosen, IsChainEnd}
 use Rattle.rowex_writing.specs.declared.plan.Aim.{Aim}
 use Rattle.rowex_writing.specs.declared.plan.Aim.TheVariants.{Insert, Upsert, Remove}
 use Rattle.rowex_writing.specs.declared.plan.Deed.{Deed}
-use Rattle.rowex_writing.specs.declared.plan.Deed.TheVariants.{Put, PushDown, Grow, Take}
+use Rattle.rowex_writing.specs.declared.plan.Deed.TheVariants.{Put, PushDown, Grow, Take, Value}
 use Rattle.rowex_reading.specs.declared.descent.Found.{Found}
 use Rattle.rowex_reading.specs.declared.descent.Found.TheVariants.{Nothing, Leaf}
 use Rattle.rowex_writing.specs.declared.plan.Outline.{Outline}
@@ -48,7 +48,7 @@ IsPlan way first last Insert (Leaf number value (Some position)) plan = IsNewLea
 IsPlan way first last Upsert (Leaf number value (Some position)) plan = IsNewLeafPlan way position first last plan
 -- a key that has a value
 IsPlan way first last Insert (Leaf number value None) plan = plan ≡ Answer (Exists value)
-IsPlan way first last Upsert (Leaf number value None) plan = plan ≡ change (length way) (length way) Put
+IsPlan way first last Upsert (Leaf number value None) plan = plan ≡ change (length way) (length way) Value
 -- a removal
 IsPlan way first last Remove Nothing plan = plan ≡ Answer Absent
 IsPlan way first last Remove (Leaf number value (Some position)) plan = plan ≡ Answer Absent

@@ -4,16 +4,12 @@ use Rattle.insert_cases.specs.declared.choice.PathNode.{PathNode}
 use Rattle.versions.specs.declared.Rec.{Rec}
 use Rattle.versions.specs.declared.Rec.TheVariants.{Leaf as a_leaf}
 use Rattle.rowex_core.specs.declared.event.Spot.{Spot}
-use Rattle.rowex_core.specs.declared.event.Spot.TheVariants.{Root, Slot}
+use Rattle.rowex_core.specs.declared.event.Spot.TheVariants.{Root, Slot, Value}
 use Rattle.rowex_reading.specs.declared.descent.Found.{Found}
 use Rattle.rowex_reading.specs.declared.descent.Found.TheVariants.{Nothing, Leaf}
 
 -- the spot that names what stands below the first `end` nodes of the way: the place that the search took in the last of them
 abbrev pub IsSpotAbove : List PathNode → ℕ → Spot → Type 0
 IsSpotAbove way end Root = end ≡ 0
+IsSpotAbove way end (Value l) = ⊥
 IsSpotAbove way end (Slot n i) = (s : PathNode) × (0 < end) × (slice_get way (end - 1) ≡ Some s) × (n ≡ s.number) × (i ≡ s.at)
-
--- the leaf that was found, if any
-abbrev pub leaf_found : Found → List Rec
-leaf_found Nothing = []
-leaf_found (Leaf number value mismatch) = a_leaf number ∷ []

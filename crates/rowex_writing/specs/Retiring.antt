@@ -7,7 +7,7 @@ use Rattle.versions.specs.Trades.{AreApart}
 use Rattle.insert_cases.specs.declared.choice.PathNode.{PathNode}
 use Rattle.record_words.specs.Entry.{entry_word}
 use Rattle.rowex_core.specs.declared.event.Spot.{Spot}
-use Rattle.rowex_core.specs.declared.event.Spot.TheVariants.{Root, Slot}
+use Rattle.rowex_core.specs.declared.event.Spot.TheVariants.{Root, Slot, Value}
 use Rattle.rowex_core.specs.declared.known.Known.{Known}
 use Rattle.rowex_core.specs.Cores.{HasRecord}
 use Rattle.rowex_core.specs.Having.{AreKept, OwnsJust, IsUnlinkedBefore}
@@ -15,10 +15,11 @@ use Rattle.rowex_table.specs.Made.{nodes_of}
 use Rattle.rowex_table.specs.Publishes.{HasPublished}
 use Rattle.rowex_table.specs.Rule.{HasSpot}
 use Rattle.rowex_table.specs.Seats.{TableView, SeatView}
-use Rattle.rowex_writing.specs.Changes.{MayPublishOnceReady}
+use Rattle.rowex_writing.specs.Changes.{KnowsWas, MayPublishOnceReady}
 use Rattle.rowex_writing.specs.Locks.{AreNodes, numbers_of}
 use Rattle.rowex_writing.specs.declared.building.Build.{Build}
 use Rattle.rowex_writing.specs.declared.publishing.Store.{Store}
+use Rattle.rowex_core.specs.Events.{IsOfEntry}
 
 -- the records are the table's
 abbrev pub AreInTable : Layout → List Rec → Type 0
@@ -47,11 +48,14 @@ KeepsLocks k j = (j.locks ≡ k.locks) × (j.anchor ≡ k.anchor) × (j.front �
 abbrev pub is_root : Spot → Bool
 is_root Root = true
 is_root (Slot n i) = false
+is_root (Value l) = false
 
 -- Once its records are ready, the pass may publish the change x by this store. The records that are listed for it go. Of the nodes that
 -- the pass has locked just these are kept, each listed once, and the anchor is locked just where the root is stored.
 pub record MayStore (table : TableView) (a : SeatView) (build : Build) (kept : List PathNode) (store : Store) (x : Change) (was : Option ℕ) : Type 0 where
   pub ready : MayPublishOnceReady table a build.made.items store.spot (entry_word store.entry) x was build.gone.items
+  pub of_entry : IsOfEntry store.spot
+  pub told : KnowsWas a.known build.gone.items was
   pub there : HasSpot table.layout store.spot
   pub records : AreInTable table.layout build.gone.items
   pub nodes : AreNodes table.layout kept

@@ -28,5 +28,6 @@ pub record HasOnlyLeaf (table : TableView) (a : SeatView) (number : ℕ) (key : 
 -- The pass has locked the last node of the job's way, which names the leaf, and what names that node.
 pub record HasLeafBelow (table : TableView) (a : SeatView) (m : ℕ) (job : Job) (number value : ℕ) : Type 0 where
   pub taken : HasTakenSpan table a m job.key.now job.way.now (Leaf number value None) job.span
+  pub is_found : job.found ≡ Leaf number value None
   pub len : job.span.len ≡ length job.way.now
   pub last : job.span.end + 1 ≡ job.span.len

@@ -1,38 +1,43 @@
 //! One attempt of a call that may change the index, from a pinned pass that has nothing to one that has nothing.
 
-ghost use Rattle.std.specs.Prelude.{◌≡◌, ◌≢◌, ◌⊎◌, ◌<◌, ◌≤◌, ℕ, length, true, false, IfErr, IfOk, IsSome, Err, Ok, ◌+◌, ◌*◌};
+ghost use Rattle.std.specs.Prelude.{◌≡◌, ◌≢◌, ◌⊎◌, ◌<◌, ◌≤◌, ℕ, Option, length, true, false, IfErr, IfOk, IsSome, Err, Ok, ◌+◌, ◌*◌};
+ghost use Rattle.finite_map.specs.declared.Change.{Change};
 ghost use Rattle.finite_map.specs.Maps.{key_of as the_key};
 ghost use Rattle.rowex_core.specs.declared.known.Known.{Known};
 ghost use Rattle.rowex_reading.specs.Possible.{IsPossible};
 ghost use Rattle.publish_laws.specs.Ending.{IsAtRest};
 ghost use Rattle.rowex_table.specs.Made.{IsLater};
 ghost use Rattle.rowex_table.specs.Seats.{IsSeatOf};
-ghost use Rattle.rowex_writing.specs.Attempts.{HasAnswered, HasAttempted, HasDone, HasLoadedRoot, HasRefused, IsLeafless, refusal_of as the_refusal};
+ghost use Rattle.rowex_writing.specs.Attempts.{HasAnswered, HasAttempted, HasDone, HasFailed, HasLoadedFound, HasLoadedRoot, HasRefused, IsFoundAgain, IsFullOfNew, IsLeafless, refusal_of as the_refusal};
+ghost use Rattle.rowex_reading.specs.Ways.{value_of as the_value};
+ghost use Rattle.rowex_writing.specs.Asking.{aim_of as the_aim, value_in as the_value_in};
+ghost use Rattle.rowex_writing.specs.Deeds.{MayReplace, leaf_gone};
 ghost use Rattle.rowex_table.specs.Stays.{LeavesPin};
 ghost use Rattle.rowex_writing.specs.Building.{HasNotMade};
-ghost use Rattle.rowex_writing.specs.Changes.{HasNoRoom, HasPlanned, HasTakenPlan, HasTakenSpan, HasTriedOnce};
+ghost use Rattle.rowex_writing.specs.Changes.{HasChanged, HasPlanned, HasRun, HasTakenPlan, HasTakenSpan, HasTriedOnce};
 ghost use Rattle.rowex_writing.specs.Merging.{ChangesOn, EndsChange};
 ghost use Rattle.rowex_writing.specs.declared.plan.Deed.TheVariants.{Take};
 ghost use Rattle.rowex_writing.specs.Jobs.{HoldsSpan, IsJobFrom, IsWithinWay};
 ghost use Rattle.rowex_writing.specs.Locks.{HasMadeNoChange, HasMetLock, TriesNodesBy, Works, locks_of, span_numbers};
-ghost use Rattle.rowex_writing.specs.Counts.{change_steps, most_locks, most_steps, span_steps};
+ghost use Rattle.rowex_writing.specs.Counts.{change_steps, held_loads, most_locks, most_steps, span_steps};
 ghost use Rattle.record_words.specs.declared.TheConstants.{HEAD_WORDS};
 
 use crate::asking::{aim_of, found_value, new_value};
 use crate::building::Build;
 use crate::checking::check_span;
-use crate::deeds::{Job, carry_out_deed};
+use crate::deeds::{Job, Raised, carry_out_deed};
 use crate::ending::release_records_and_locks;
 use crate::locks::lock_span;
 use crate::merging::try_merge;
 use crate::plan::{Deed, Full, Plan, find_plan};
 use crate::publishing::publish_change;
 use crate::taking::make_without_leaf;
+use crate::valuing::{is_unchanged, load_found_again, store_value};
 use arrayvec::ArrayVec;
 use finite_map::{Call, Reply};
 use insert_cases::PathNode;
 use rowex_core::Gate;
-use rowex_reading::{MOST_NODES, search_way};
+use rowex_reading::{Found, MOST_NODES, search_way};
 use rowex_table::{HotTable, TableSeat};
 use thiserror::Error;
 
@@ -56,7 +61,8 @@ pub enum TryFault {
 ///
 /// The pass is pinned, has no record and no lock, and has made no change since its pin. `way` is filled with the nodes that the search
 /// went through. After a change `build.gone` lists what it unlinked; else it stays. If no record was free, `build.made` lists those that
-/// it had claimed, and has given up. A removal is never refused as `FullLeaves`.
+/// it had claimed, and has given up. A removal is never refused as `FullLeaves`. A call that gives its key a value is never refused as full
+/// if the search found the key.
 ///
 /// If it tries no lock, it makes at most 58 atomic steps, and 26 for each node on the key's way. Else it makes at most 124, and 26 for
 /// each such node. To these come 297 for each lock that it tries, four for each leaf record and two for each node record.
@@ -78,6 +84,7 @@ pub fn attempt<G: Gate>(
     ensures answered { IfOk result (HasAnswered seat.old.known seat.new.known call.now) }
     ensures refused { IfErr result (HasRefused table.now.layout (the_key call.now) seat.old.known seat.new.known build.new.made.items) }
     ensures leafless { IsLeafless TryFault.FullLeaves call.now result }
+    ensures full { IfErr result (IsFullOfNew seat.new.known call.now) }
     ensures few { seat.new.known.steps ≤ seat.old.known.steps + most_steps table.now.layout }
 {
     let key = call.key();
@@ -97,49 +104,66 @@ pub fn attempt<G: Gate>(
                 found,
                 span,
             };
-            match try_plan(table, seat, gate, build, &job, deed) {
-                Ok(()) => Ok(call.reply(held)),
+            match try_plan(table, seat, gate, build, &job, call, deed) {
+                Ok(now) => Ok(call.reply(found_value(now))),
                 Err(fault) => Err(fault),
             }
         }
     }
 }
 
-/// Makes the change `deed` that is planned for the span of `job`. If another pass is at work there, or no record is free, nothing is
-/// changed, and the fault tells which. Before and after the pass has no record and no lock.
+/// Makes the change `deed` that is planned for the span of `job`, and returns what the search found, with the value that the key had at the
+/// change. If another pass is at work there, or no record is free, nothing is changed, and the fault tells which. Before and after the
+/// pass has no record and no lock.
 fn try_plan<G: Gate>(
     table: &HotTable,
     seat: &mut TableSeat,
     gate: &mut G,
     build: &mut Build,
     job: &Job<'_>,
+    call: &Call,
     deed: Deed,
-) -> Result<(), TryFault>
+) -> Result<Found, TryFault>
     requires own { IsSeatOf table.now seat.old }
     requires possible { IsPossible table.now.layout seat.old.known }
     requires within { IsWithinWay job.now }
     requires planned { HasPlanned table.now.layout seat.old.known job.now deed }
+    requires aims { IsSome (the_aim call.now (the_value job.now.found)) }
     requires rest { IsAtRest seat.old.known }
     requires quiet { HasMadeNoChange seat.old.known }
     ensures run { (locks : ℕ) × HasTriedOnce table.now G.becomes locks (seat.old, gate.old) (seat.new, gate.new) ×
         (0 < locks) × (locks ≤ most_locks) × (seat.new.known.steps + HEAD_WORDS ≤ seat.old.known.steps + span_steps locks + change_steps table.now.layout locks) }
     ensures rest { IsAtRest seat.new.known }
-    ensures done { result ≡ Ok tt → HasDone seat.old.known seat.new.known deed job.now.key.now job.now.value job.now.found }
+    ensures done { IfOk result (λ now. IsFoundAgain call.now job.now.found now ×
+        HasDone seat.old.known seat.new.known deed job.now.key.now (the_value_in call.now (the_value now)) now) }
     ensures refused { IfErr result (λ fault. (k : Known) → HasLoadedRoot k seat.old.known → IsLater k seat.old.known →
         HasRefused table.now.layout job.now.key.now k seat.new.known build.new.made.items fault) }
+    ensures later { IfErr result (λ fault. IsLater seat.old.known seat.new.known) }
+    ensures whole { deed ≡ Deed.Value → IfErr result (λ fault. fault ≡ TryFault.Busy) }
     ensures leafless { deed ≡ Deed.Take → result ≢ Err TryFault.FullLeaves }
 {
     if !lock_and_check_span(table, seat, gate, job) {
         return Err(TryFault::Busy);
     }
-    match change_span(table, seat, gate, build, job, deed) {
-        Ok(()) => Ok(()),
-        Err(full) => Err(refusal_of(full)),
+    let Some(found) = load_found_again(table, seat, gate, job, call) else {
+        release_records_and_locks(table, seat, gate, &[], job);
+        return Err(TryFault::Busy);
+    };
+    let job = Job {
+        way: job.way,
+        key: job.key,
+        value: new_value(call, found_value(found)),
+        found,
+        span: job.span,
+    };
+    match change_span(table, seat, gate, build, &job, deed) {
+        Ok(()) => Ok(found),
+        Err(fault) => Err(fault),
     }
 }
 
 /// Makes the change `deed` of a plan whose nodes are locked and checked. If it takes a leaf out of a node that has one above it on the way,
-/// [`make_removal`] makes it. If no record was free, the change is undone, and the kind of record is returned. All is unlocked then.
+/// [`make_removal`] makes it. If it can't be made, it is undone, and the fault tells why. All is unlocked then.
 fn change_span<G: Gate>(
     table: &HotTable,
     seat: &mut TableSeat,
@@ -147,57 +171,86 @@ fn change_span<G: Gate>(
     build: &mut Build,
     job: &Job<'_>,
     deed: Deed,
-) -> Result<(), Full>
+) -> Result<(), TryFault>
     requires taken { HasTakenPlan table.now seat.old job.now deed }
-    ensures run { EndsChange table.now G.becomes job.now (seat.old, gate.old) (seat.new, gate.new) }
+    requires loaded { HasLoadedFound seat.old.known job.now.found }
+    ensures run { EndsChange table.now G.becomes job.now (held_loads job.now.found) (seat.old, gate.old) (seat.new, gate.new) }
     ensures done { result ≡ Ok tt → HasDone seat.old.known seat.new.known deed job.now.key.now job.now.value job.now.found }
-    ensures full { IfErr result (λ full. HasNoRoom table.now.layout job.now.key.now seat.old.known seat.new.known build.new.made.items full) }
-    ensures leafless { deed ≡ Deed.Take → result ≢ Err Full.Leaves }
+    ensures failed { IfErr result (HasFailed table.now.layout job.now seat.old.known seat.new.known build.new.made.items) }
+    ensures whole { deed ≡ Deed.Value → result ≡ Ok tt }
+    ensures leafless { deed ≡ Deed.Take → result ≢ Err TryFault.FullLeaves }
 {
     match deed {
+        Deed::Value => {
+            store_value(table, seat, gate, job);
+            Ok(())
+        }
         Deed::Take if job.span.end > 0 => make_removal(table, seat, gate, build, job),
         _ => match carry_out_deed(table, seat, gate, build, job, deed) {
-            Ok(raised) => {
-                publish_change(table, seat, gate, build, job, raised);
-                Ok(())
-            }
+            Ok(raised) => publish_or_undo(table, seat, gate, build, job, raised),
             Err(full) => {
                 undo_change(table, seat, gate, build, job);
-                Err(full)
+                Err(refusal_of(full))
             }
         },
     }
 }
 
 /// Makes a removal from a node that has one above it on the way. What is left of the node becomes one node with its sibling, or, if that
-/// can't be made, takes the node's place alone. If no node record was free, the removal is undone, and `Full::Nodes` is returned.
+/// can't be made, takes the node's place alone. If the removal can't be made, it is undone, and the fault tells why.
 fn make_removal<G: Gate>(
     table: &HotTable,
     seat: &mut TableSeat,
     gate: &mut G,
     build: &mut Build,
     job: &Job<'_>,
-) -> Result<(), Full>
+) -> Result<(), TryFault>
     requires taken { HasTakenPlan table.now seat.old job.now Take }
     requires some { 0 < job.now.span.end }
-    ensures run { ChangesOn table.now G.becomes (span_numbers job.now.way.now job.now.span) (seat.old, gate.old) (seat.new, gate.new) }
+    ensures run { ChangesOn table.now G.becomes (span_numbers job.now.way.now job.now.span) 1 (seat.old, gate.old) (seat.new, gate.new) }
     ensures done { result ≡ Ok tt → HasDone seat.old.known seat.new.known Take job.now.key.now job.now.value job.now.found }
-    ensures full { IfErr result (λ full. HasNoRoom table.now.layout job.now.key.now seat.old.known seat.new.known build.new.made.items full) }
-    ensures leafless { result ≢ Err Full.Leaves }
+    ensures failed { IfErr result (HasFailed table.now.layout job.now seat.old.known seat.new.known build.new.made.items) }
+    ensures leafless { result ≢ Err TryFault.FullLeaves }
 {
     match make_without_leaf(table, seat, gate, build, job) {
         Ok(raised) => {
             if try_merge(table, seat, gate, build, job) {
                 return Ok(());
             }
-            publish_change(table, seat, gate, build, job, raised);
-            Ok(())
+            publish_or_undo(table, seat, gate, build, job, raised)
         }
         Err(full) => {
             undo_change(table, seat, gate, build, job);
-            Err(full)
+            Err(refusal_of(full))
         }
     }
+}
+
+/// Publishes the change of `job`, for which all records are made. If it takes a leaf away, the value is loaded once more before, since other
+/// locks may have come and gone: if it is another, the change is undone, and the result is `TryFault::Busy`.
+fn publish_or_undo<G: Gate>(
+    table: &HotTable,
+    seat: &mut TableSeat,
+    gate: &mut G,
+    build: &mut Build,
+    job: &Job<'_>,
+    raised: Raised,
+) -> Result<(), TryFault>
+    requires held { HoldsSpan table.now seat.old job.now }
+    requires may { (x : Change) × (was : Option ℕ) × MayReplace table.now seat.old build.old.made.items job.now raised x was }
+    ensures run { HasRun table.now G.becomes (seat.old, gate.old) (seat.new, gate.new) }
+    ensures changed { result ≡ Ok tt → (x : Change) (was : Option ℕ) → MayReplace table.now seat.old build.old.made.items job.now raised x was →
+        HasChanged seat.old.known seat.new.known x was }
+    ensures failed { IfErr result (λ fault. (fault ≡ TryFault.Busy) × HasFailed table.now.layout job.now seat.old.known seat.new.known build.new.made.items fault) }
+    ensures few { seat.new.known.steps ≤
+        seat.old.known.steps + held_loads job.now.found + length build.old.made.items + length (leaf_gone raised.leaf) + locks_of job.now.span + 3 }
+{
+    if !is_unchanged(table, seat, gate, job) {
+        undo_change(table, seat, gate, build, job);
+        return Err(TryFault::Busy);
+    }
+    publish_change(table, seat, gate, build, job, raised);
+    Ok(())
 }
 
 /// Locks what `job` is to change, checks that it stands as the search found it, and returns whether it does. If a lock is refused, or

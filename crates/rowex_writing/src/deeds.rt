@@ -2,8 +2,7 @@
 
 ghost use Rattle.std.specs.Prelude.{◌≡◌, ◌≢◌, Err};
 ghost use Rattle.rowex_writing.specs.Changes.{HasTakenPlan};
-ghost use Rattle.rowex_writing.specs.Deeds.{CarriesOut, leaf_gone};
-ghost use Rattle.rowex_writing.specs.Putting.{leaf_found};
+ghost use Rattle.rowex_writing.specs.Deeds.{CarriesOut};
 ghost use Rattle.rowex_writing.specs.declared.plan.Deed.TheVariants.{Put, PushDown};
 
 use crate::building::{Build, make_node};
@@ -53,19 +52,21 @@ pub(crate) fn carry_out_deed<G: Gate>(
     deed: Deed,
 ) -> Result<Raised, Full>
     requires taken { HasTakenPlan table.now seat.old job.now deed }
+    requires makes { deed ≢ Deed.Value }
     ensures done { CarriesOut table.now G.becomes ((seat.old, gate.old), build.old) ((seat.new, gate.new), build.new) job.now deed result }
     ensures leafless { deed ≡ Deed.Take → result ≢ Err Full.Leaves }
+    ensures kind { deed ≢ Deed.Value }
 {
     match deed {
         Deed::Put => put_new_leaf(table, seat, gate, build, job),
         Deed::PushDown { position } => push_leaf_down(table, seat, gate, build, job, position),
         Deed::Grow { position } => grow_node(table, seat, gate, build, job, position),
         Deed::Take => make_without_leaf(table, seat, gate, build, job),
+        Deed::Value => unreachable!(),
     }
 }
 
-/// Makes and returns the new leaf, which is to take the place of what the search found: nothing, or the leaf that has the key.
-/// `Full::Leaves` if no leaf record with room was free.
+/// Makes and returns the new leaf, which is to be all of the tree. `Full::Leaves` if no leaf record with room was free.
 pub(crate) fn put_new_leaf<G: Gate>(
     table: &HotTable,
     seat: &mut TableSeat,
@@ -83,18 +84,8 @@ pub(crate) fn put_new_leaf<G: Gate>(
     Ok(Raised {
         entry: Some(Entry::Leaf(number)),
         low: job.span.len,
-        leaf: found_leaf(job.found),
+        leaf: None,
     })
-}
-
-/// The number of the leaf record in `found`, which a search found; `None` if it found nothing.
-fn found_leaf(found: Found) -> Option<u32>
-    ensures { leaf_gone result ≡ leaf_found found }
-{
-    match found {
-        Found::Nothing => None,
-        Found::Leaf { number, .. } => Some(number),
-    }
 }
 
 /// Makes the new leaf, and a node of it and the found leaf with a fork at `position`. Returns that node, which is to take the found leaf's

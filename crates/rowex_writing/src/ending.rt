@@ -6,7 +6,7 @@ ghost use Rattle.rowex_records.specs.Records.{HoldsJust};
 ghost use Rattle.publish_laws.specs.Ending.{IsAtRest};
 ghost use Rattle.rowex_table.specs.Seats.{IsSeatOf};
 ghost use Rattle.rowex_writing.specs.Jobs.{HoldsSpan};
-ghost use Rattle.rowex_writing.specs.Locks.{AreNodes, Works, locks_of, numbers_of};
+ghost use Rattle.rowex_writing.specs.Locks.{AreNodes, HasJustLocked, Works, locks_of, numbers_of};
 ghost use Rattle.rowex_writing.specs.Retiring.{AreInTable, HasJustPublished, HasToMark, IsAnchored, KeepsLocks};
 
 use crate::deeds::Job;
@@ -38,6 +38,30 @@ pub(crate) fn retire_records<G: Gate>(
 {
     let epoch = table.load_epoch(seat, gate);
     mark_records(table, seat, gate, gone, epoch);
+    unlock_nodes(table, seat, gate, kept);
+    if anchor {
+        table.unlock(seat, gate, Target::Anchor);
+    }
+}
+
+/// Unlocks the nodes `kept`, the first one first, and the anchor, if `anchor` says that it is locked. These are all that the pass has.
+pub(crate) fn unlock_kept<G: Gate>(
+    table: &HotTable,
+    seat: &mut TableSeat,
+    gate: &mut G,
+    kept: &[PathNode],
+    anchor: bool,
+)
+    requires own { IsSeatOf table.now seat.old }
+    requires none { seat.old.known.own ≡ [] }
+    requires nodes { AreNodes table.now.layout kept.now }
+    requires locked { HasJustLocked seat.old.known (numbers_of kept.now) }
+    requires anchored { IsAnchored anchor seat.old.known }
+    ensures works { Works table.now G.becomes (seat.old, gate.old) (seat.new, gate.new) }
+    ensures rest { IsAtRest seat.new.known }
+    ensures front { seat.new.known.front ≡ seat.old.known.front }
+    ensures few { seat.new.known.steps ≤ seat.old.known.steps + length kept.now + 1 }
+{
     unlock_nodes(table, seat, gate, kept);
     if anchor {
         table.unlock(seat, gate, Target::Anchor);

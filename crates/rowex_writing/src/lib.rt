@@ -7,12 +7,13 @@
 //! 1. *Search* (`rowex_reading`): the path of the key, and the leaf at its end with the key's first mismatch. A call whose answer
 //!    needs no change ends here.
 //! 2. *Plan* (`plan`): which nodes of the path are remade, the span, and what is done at its lower end, the deed. A
-//!    deed puts a leaf in an entry's place, pushes a leaf down into a node of two, grows a node by a leaf, or takes a leaf out.
+//!    deed puts the first leaf, gives a leaf another value, pushes a leaf down into a node of two, grows a node by a leaf, or takes a leaf out.
 //!    The cases of an insertion are those of HOT: normal insert, leaf pushdown, parent pull up, intermediate node, new root.
 //! 3. *Locks* (`locks`): the nodes of the span and the one above it are locked, from the lowest up; the anchor stands for the
 //!    root. Each is tried once. A node that is locked or obsolete makes the attempt busy, after all locks are given back.
 //! 4. *Check* (`checking`): one entry of each locked node is loaded and compared with what the search found. If all are the same,
-//!    the path still stands, since nobody else changes a locked node.
+//!    the path still stands, since nobody else changes a locked node. The value of a key that is held is loaded then: it stays while what
+//!    names its leaf is locked. A new value is stored at once (`valuing`), and that is the change; stages 5 to 8 are those of other deeds.
 //! 5. *Build* (`deeds`, `growing`, `taking`, `rising`, `building`, `remaking`, `claims`): records are claimed and filled with what takes
 //!    the place of the span. Nobody else can reach them yet. If no record is free, all is given up and undone.
 //! 6. *Merge* (`merging`, `locked`, `widening`): a removal whose node has another above it looks at the last fork on the path there. If its
@@ -54,6 +55,7 @@ mod remaking;
 mod rising;
 mod stretch;
 mod taking;
+mod valuing;
 mod widening;
 
 pub use attempts::{TryFault, attempt};

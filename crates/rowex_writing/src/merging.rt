@@ -14,7 +14,7 @@ ghost use Rattle.publish_laws.specs.Rises.{IsSide};
 ghost use Rattle.publish_laws.specs.Stages.{AreBeside, merged};
 ghost use Rattle.rowex_table.specs.Made.{IsLater, Made};
 ghost use Rattle.rowex_table.specs.Seats.{IsSeatOf};
-ghost use Rattle.rowex_writing.specs.Attempts.{HasDone};
+ghost use Rattle.rowex_writing.specs.Attempts.{HasDone, HasLoadedFound};
 ghost use Rattle.rowex_writing.specs.Building.{IsBuilding};
 ghost use Rattle.rowex_writing.specs.Changes.{HasRun};
 ghost use Rattle.rowex_writing.specs.Going.{HasLocked, HasLockedNode, IsLockedBy, ReadsOn, WorksOn};
@@ -29,6 +29,7 @@ use crate::locked::{
     load_locked_entry, load_locked_node_words, load_position, load_sibling, read_locked_node,
 };
 use crate::publishing::{Store, publish_entry, spot_above};
+use crate::valuing::is_unchanged;
 use crate::widening::{lock_for_merge, unlock_for_merge};
 use compound_node::{Entry, Half, Node};
 use insert_cases::PathNode;
@@ -66,7 +67,7 @@ struct ClosedFork {
 /// one node.
 ///
 /// It does only if both are nodes of at most 32 entries together, and no other pass is at work there. Another record must be free, if one
-/// is wanted. Else the pass has the records and locks that it had.
+/// is wanted. Else the pass has the records and locks that it had. The value is loaded once more, after the last lock.
 pub(crate) fn try_merge<G: Gate>(
     table: &HotTable,
     seat: &mut TableSeat,
@@ -88,6 +89,10 @@ pub(crate) fn try_merge<G: Gate>(
         return false;
     };
     if !lock_for_merge(table, seat, gate, job, merge.number) {
+        return false;
+    }
+    if !is_unchanged(table, seat, gate, job) {
+        unlock_for_merge(table, seat, gate, job, merge.number);
         return false;
     }
     merge_under_locks(table, seat, gate, build, job, &merge)
@@ -160,6 +165,7 @@ fn merge_under_locks<G: Gate>(
     requires beside { IsNeighbour seat.old.known job.now merge.now }
     requires made { build.old.made.items ≡ a_node merge.now.made ∷ [] }
     requires building { (news : List Made) × IsBuilding table.now seat.old build.old.made.items news }
+    requires loaded { HasLoadedFound seat.old.known job.now.found }
     ensures run { HasRun table.now G.becomes (seat.old, gate.old) (seat.new, gate.new) }
     ensures done { result ≡ true → HasDone seat.old.known seat.new.known Take job.now.key.now job.now.value job.now.found }
     ensures later { result ≡ false → IsLater seat.old.known seat.new.known }
@@ -298,6 +304,7 @@ fn publish_merge<G: Gate>(
 )
     requires may { (number : ℕ) × IsWide table.now seat.old job.now number × MayMergeInto table.now seat.old build.old.made.items job.now number entry ×
         HasListed build.old.gone.items job.now number }
+    requires loaded { HasLoadedFound seat.old.known job.now.found }
     ensures run { HasRun table.now G.becomes (seat.old, gate.old) (seat.new, gate.new) }
     ensures done { HasDone seat.old.known seat.new.known Take job.now.key.now job.now.value job.now.found }
     ensures few { seat.new.known.steps ≤ seat.old.known.steps + 20 }

@@ -49,8 +49,10 @@ impl Span {
 /// What is done at the lower end of a span.
 #[derive(Clone, Copy)]
 pub(crate) enum Deed {
-    /// The new leaf takes the place of what stands there.
+    /// The new leaf is all of the tree: the root was empty.
     Put,
+    /// The leaf that has the key gets another value.
+    Value,
     /// A node of the leaf that stands there and the new one, with a fork at `position`, takes its place.
     PushDown { position: u16 },
     /// The lowest node gets the new leaf, beside the entries that `position` affects.
@@ -112,7 +114,7 @@ pub(crate) fn plan_call(way: &[PathNode], aim: Aim, found: Found) -> Outline
             ..
         } => match aim {
             Aim::Insert => Outline::Known(Plan::Answer(Reply::Exists(value))),
-            Aim::Upsert => Outline::Known(change_plan(way.len(), way.len(), Deed::Put)),
+            Aim::Upsert => Outline::Known(change_plan(way.len(), way.len(), Deed::Value)),
             Aim::Remove => {
                 let end = way.len().saturating_sub(1);
                 Outline::Known(change_plan(way.len(), end, Deed::Take))

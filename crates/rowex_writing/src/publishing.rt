@@ -12,6 +12,7 @@ ghost use Rattle.rowex_table.specs.Seats.{IsSeatOf};
 ghost use Rattle.rowex_reading.specs.Possible.{IsPossible};
 ghost use Rattle.publish_laws.specs.Stages.{HasReady};
 ghost use Rattle.tries.specs.Content.{item};
+ghost use Rattle.rowex_writing.specs.Attempts.{HasLoadedFound};
 ghost use Rattle.rowex_writing.specs.Building.{HasLeafMade, IsBuilding};
 ghost use Rattle.rowex_writing.specs.Changes.{HasChanged, HasRun, LacksLeaves};
 ghost use Rattle.rowex_writing.specs.Retiring.{MayStore, is_root as is_the_root};
@@ -104,6 +105,7 @@ pub(crate) fn publish_change<G: Gate>(
 )
     requires held { HoldsSpan table.now seat.old job.now }
     requires may { (x : Change) × (was : Option ℕ) × MayReplace table.now seat.old build.old.made.items job.now raised x was }
+    requires loaded { HasLoadedFound seat.old.known job.now.found }
     ensures run { HasRun table.now G.becomes (seat.old, gate.old) (seat.new, gate.new) }
     ensures changed { (x : Change) (was : Option ℕ) → MayReplace table.now seat.old build.old.made.items job.now raised x was →
         HasChanged seat.old.known seat.new.known x was }
@@ -163,7 +165,7 @@ fn is_root(spot: Spot) -> bool
 {
     match spot {
         Spot::Root => true,
-        Spot::Slot { .. } => false,
+        Spot::Slot { .. } | Spot::Value { .. } => false,
     }
 }
 

@@ -11,7 +11,7 @@ use Rattle.versions.specs.declared.Pin.{Pin}
 use Rattle.rowex_core.specs.declared.event.Act.{Act}
 use Rattle.rowex_core.specs.declared.event.Act.TheVariants.{LoadRef}
 use Rattle.rowex_core.specs.declared.event.Event.{Event}
-use Rattle.rowex_core.specs.declared.event.Spot.TheVariants.{Root, Slot}
+use Rattle.rowex_core.specs.declared.event.Spot.TheVariants.{Root, Slot, Value}
 use Rattle.rowex_core.specs.declared.event.Target.{Target}
 use Rattle.rowex_core.specs.declared.known.Failed.{Failed}
 use Rattle.rowex_core.specs.declared.known.Fresh.{Fresh}
@@ -47,6 +47,7 @@ no_change_since_pins {b = b} pins p is i d late low =
 event_pinned : (layout : Layout) (act : Act) (k j : Known) → IsEvent layout act silent k j → (j.fresh ≡ k.fresh) ⊎ (j.fresh.pinned ≡ version_of k.pin)
 event_pinned layout (LoadRef Root w) k j e = inr (ap (λ (z : Known). z.fresh.pinned) e.learned_is)
 event_pinned layout (LoadRef (Slot n i) w) k j e = inl (act_fresh layout k j (LoadRef (Slot n i) w) silent e tt)
+event_pinned layout (LoadRef (Value l) w) k j e = inl (act_fresh layout k j (LoadRef (Value l) w) silent e tt)
 event_pinned layout act k j e = inl (act_fresh layout k j act silent e tt)
 
 module _ {G : Type 0} (table : TableView) (becomes : G → Event → G → Type 0) where

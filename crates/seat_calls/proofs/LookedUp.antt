@@ -16,7 +16,7 @@ use Rattle.rowex_core.proofs.Owning.{recalls}
 use Rattle.rowex_core.specs.declared.event.Act.{Act}
 use Rattle.rowex_core.specs.declared.event.Act.TheVariants.{LoadRef, LoadFixed}
 use Rattle.rowex_core.specs.declared.event.Event.{Event}
-use Rattle.rowex_core.specs.declared.event.Spot.TheVariants.{Root, Slot}
+use Rattle.rowex_core.specs.declared.event.Spot.TheVariants.{Root, Slot, Value}
 use Rattle.rowex_core.specs.declared.known.Fresh.{Fresh}
 use Rattle.rowex_core.specs.declared.known.Known.{Known}
 use Rattle.rowex_core.specs.Knowing.{IsEvent, version_of}
@@ -45,6 +45,7 @@ begins_more a b c (more, is) (some, was) = (some ++ more, is ∙ (ap (λ z. z ++
 look_below : (act : Act) → IsBelowRoot act → IsLook act
 look_below (LoadRef Root w) below = tt
 look_below (LoadRef (Slot n i) w) below = tt
+look_below (LoadRef (Value l) w) below = tt
 look_below (LoadFixed r offset w) below = tt
 look_below _ below = absurd below
 
@@ -73,6 +74,7 @@ module _ {layout : Layout} (n : ℕ) (k i j : Known) (at : HasLookedAt n k i) wh
         now = subst (λ (z : Fresh). k.steps ≤ z.step) (sym fresh) (omega (arith, steps));
       }
   look_more (LoadRef (Slot m o) w) look e = below_more (LoadRef (Slot m o) w) tt e
+  look_more (LoadRef (Value l) w) look e = below_more (LoadRef (Value l) w) tt e
   look_more (LoadFixed r offset w) look e = below_more (LoadFixed r offset w) tt e
   look_more _ look e = absurd look
 

@@ -41,7 +41,7 @@ pub record AreNoted (layout : Layout) (k j : PassView) (calls : List (Call × Re
   pub legal : LegalCalls j.front j.number j.notes
   pub makers : AreByPasses layout j.front
 
--- a load of the root or an entry, or of a word of a record that is neither its state nor an entry
+-- a load of the root, an entry or a value, or of a word of a record that is none of these nor its state
 abbrev pub IsLook : Act → Type 0
 IsLook (LoadRef spot word) = Unit {0}
 IsLook (LoadFixed r offset word) = Unit {0}

@@ -45,7 +45,7 @@ module _ (c : BareCore) (law : IsLawfulState (view c)) (since : ℕ) (reach : Is
       key_now : StoodWithKeys c.past since (λ y. y ≡ l) (Leaf j) → (c.heap.leaves j).key ≡ l
       key_now (o, node z q w, lo, hi, so, e, f) = absurd cc
       key_now (o, fork z q w, lo, hi, so, e, f) = absurd cc
-      key_now (o, leaf z q w, lo, hi, so, e, f) = ap (λ (y : LeafWords). y.key) (leaf_now (view c) law since reach o j z q w lo hi so) ∙ f q refl
+      key_now (o, leaf z q w, lo, hi, so, e, f) = (leaf_now (view c) law since reach o j z q w lo hi so).key ∙ f q refl
 
   node_follows : (u : Tree) → Within u t → (a h r : ℕ) (l like : Key) → subtrie u ≡ Place (Node a h) → BeganAt c.past since r like a → AgreeBelow r like l → Follows l u
   node_follows (leaf n x b) w a h r l like e f g = absurd cc

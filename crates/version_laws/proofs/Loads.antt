@@ -5,12 +5,12 @@ use Rattle.tries.specs.Tree.{Fixed, Tree, leaf, node, fork, subtrie, IsLower, Is
 use Rattle.compound_node.specs.declared.entries.Entry.{Entry}
 use Rattle.compound_node.specs.declared.entries.Entry.TheVariants.{Node}
 use Rattle.pieces.specs.Piece.{Place, size}
-use Rattle.versions.specs.Heap.{NodeWords, LeafWords, IsCopied}
+use Rattle.versions.specs.Heap.{NodeWords, IsCopied}
 use Rattle.versions.specs.State.{Past, State, Stands, IsSameRecord, IsTop, IsReach, IsLawfulState, last_of}
 use Rattle.versions.specs.declared.Rec.TheVariants.{Node as a_node, Leaf as a_leaf}
 use Rattle.tries.specs.Place.{entry_at, shape}
 use Rattle.compound_node.specs.Nodes.{height_of}
-use Rattle.version_laws.specs.Scan.{at_place, Stood, IsRooted, IsPlaced, IsRead, EntryStoodSince}
+use Rattle.version_laws.specs.Scan.{at_place, Stood, IsRooted, IsPlaced, EntryStoodSince}
 use Rattle.version_laws.specs.Statements.{LoadsRoot, LoadsPlace, LoadsShape, LoadsLeaf}
 use Rattle.tries.proofs.Tries.{built_within}
 use Rattle.versions.proofs.States.{record_of_subtrie, spans_ended}
@@ -93,8 +93,7 @@ pub loads_leaf : LoadsLeaf
 loads_leaf s law m reach n (o, u, lo, hi, st, pg) =
     let w = leaf_of n u pg in
     let sn : Stands s.past o (a_leaf n) (leaf n w.0 w.1) = subst (λ z. Stands s.past o (a_leaf n) z) w.2 st in
-    let e = leaf_now s law m reach o n n w.0 w.1 lo hi sn in
-    subst (λ (z : LeafWords). IsRead s.past m n z.key z.value) (sym e) (o, lo, hi, sn)
+    let e = leaf_now s law m reach o n n w.0 w.1 lo hi sn in (e.at, e.since, e.until, e.stands)
 
 -- What was placed was seen.
 pub placed_seen : (s : Past) (m r j : ℕ) (e : Entry) → IsPlaced s m r j e → EntryStoodSince s m e

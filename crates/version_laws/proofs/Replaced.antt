@@ -5,7 +5,7 @@ use Rattle.std.proofs.lemmas.Bool.{cases_eq}
 use Rattle.tries.specs.Tree.{Fixed, Tree, leaf, node, fork, subtrie, IsTrie, IsTip, IsFork, IsLower, IsBuilt, Within, here, inside, zero_side, one_side}
 use Rattle.compound_node.specs.declared.entries.Entry.{Entry}
 use Rattle.pieces.specs.Piece.{Place}
-use Rattle.versions.specs.Heap.{NodeWords, Heap, IsShown}
+use Rattle.versions.specs.Heap.{NodeWords, LeafWords, Heap, IsShown}
 use Rattle.tries.specs.Place.{Swap, swap, in_zero, in_one}
 use Rattle.versions.specs.State.{IsRecord, Links, Spans, IsLived, IsTop, IsLawfulState}
 use Rattle.versions.specs.declared.Rec.{Rec}
@@ -122,7 +122,7 @@ not_higher m n x r b i l e h = go (links_within r (a_node n) h)
 -- A store of the root entry under the anchor's lock is a legal publish, where it makes the next version.
 pub root_publish : (c : BareCore) (q : ℕ) → c.anchor ≡ Some q → (root : Option Entry) (t : Option Tree) (x : Change) → x.pass ≡ q → IsNextVersion c.shared q c.heap root t x →
     IsVersionPublish c q c.heap root t x
-root_publish c q lock root t x own next = record { store = at_root lock refl; near = near_refl c.heap; kept = λ i. inr refl; own = own; next = next }
+root_publish c q lock root t x own next = record { store = at_root lock refl; near = near_refl c.heap; kept = λ i. inr refl; kept_leaves = λ i. inr refl; own = own; next = next }
 
 -- A store of one entry of a locked node, under which stood `s` and then stands `r`, is a legal publish of the tree
 -- with `r` in the place of `s`, where that is a bit trie.
@@ -149,8 +149,9 @@ module _ (c : BareCore) (q : ℕ) (law : IsLawfulState (view c)) (t : Tree) (now
       IsVersionPublish c q heap c.root (Some (put v (node n x (put w r)))) ch
   slot_legal {n} {x} {b} {s} v w flat ts r is_tip lock hand low trie heap st ch e one = record {
     store = at_slot n lock (λ m h. sym (st.others m h)) (λ m. sym (st.leaves m)) refl;
-    near = (st.leaves, λ i. same_fixed i (cases_eq i n), λ i. subtries i (cases_eq i n));
+    near = (λ i. ap (λ (z : LeafWords). z.key) (st.leaves i), λ i. same_fixed i (cases_eq i n), λ i. subtries i (cases_eq i n));
     kept = λ i. kept i (cases_eq i n);
+    kept_leaves = λ i. inr (st.leaves i);
     own = e;
     next = record {
       top = top_new c.root (c.past.version c.past.now) law.top now;

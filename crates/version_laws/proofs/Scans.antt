@@ -241,7 +241,7 @@ pub leaf_may_stand : (s : Past) (m : ℕ) → IsSteady s m → (r j n : ℕ) (k 
 leaf_may_stand s m law r j n k v (b, st, lt, pg) (o, lo, hi, sn) =
     let w = leaf_of n (at_place b j) pg in
     let sd : Stands s st.at (a_leaf n) (leaf n w.0 w.1) = subst (λ u. Stands s st.at (a_leaf n) u) w.2 (placed_stands s m r j b st (Leaf n) pg) in
-    let e : k ≡ w.0 = (law.same (a_leaf n) o st.at (leaf n k v) (leaf n w.0 w.1) lo hi st.since st.until sn sd).0 in
+    let e : k ≡ w.0 = (law.same (a_leaf n) o st.at (leaf n k v) (leaf n w.0 w.1) lo hi st.since st.until sn sd) in
     (b, k, st, under_at b j k lt (subst (λ u. Has u k) (sym w.2) e), alike_refl (subtrie b) j k)
 
 -- What is known of a key that was held all the time.
@@ -299,7 +299,7 @@ root_had_key s m k kept e (n, t, lo, hi, g, pg) =
 pub leaf_had_key : (s : Past) (m : ℕ) → IsSteady s m → (n : ℕ) (k l : Key) (v : ℕ) → HadKeyBelow s m k (a_leaf n) → IsRead s m n l v → k ≡ l
 leaf_had_key s m law n k l v (o, u, lo, hi, st, h) (a, la, ha, sa) =
     let w = record_leaf n u st.is_record in
-    let e : l ≡ w.0 = (law.same (a_leaf n) a o (leaf n l v) (leaf n w.0 w.1) la ha lo hi sa (subst (λ z. Stands s o (a_leaf n) z) w.2 st)).0 in
+    let e : l ≡ w.0 = (law.same (a_leaf n) a o (leaf n l v) (leaf n w.0 w.1) la ha lo hi sa (subst (λ z. Stands s o (a_leaf n) z) w.2 st)) in
     (let g : k ≡ w.0 = subst (λ z. Has z k) w.2 h in g ∙ sym e)
 
 pub read_held : (s : Past) (m n : ℕ) (k : Key) (v : ℕ) → IsRead s m n k v → IsHeldSince s m k v

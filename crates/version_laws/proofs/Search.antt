@@ -1,16 +1,16 @@
 -- The search of a key, from the root to a leaf.
-use Rattle.std.proofs.Common.{◌≡◌, ◌≢◌, ◌⊎◌, inl, inr, ℕ, ◌≤◌, refl, ap, ap₂, sym, ◌∙◌, subst, Option, Some, None, le_refl}
+use Rattle.std.proofs.Common.{◌≡◌, ◌≢◌, ◌⊎◌, inl, inr, ℕ, ◌≤◌, refl, ap, sym, ◌∙◌, subst, Option, Some, None, le_refl, le_trans}
 use Rattle.tries.specs.Keys.{Key}
 use Rattle.tries.specs.Tree.{Tree, leaf, node, fork, Has, Holds, Within, here, inside, zero_side, one_side}
 use Rattle.compound_node.specs.declared.entries.Entry.{Entry}
 use Rattle.compound_node.specs.declared.entries.Entry.TheVariants.{Leaf}
 use Rattle.tries.specs.Search.{Follows}
 use Rattle.versions.specs.Heap.{LeafWords, IsCopied}
-use Rattle.versions.specs.State.{IsRecord, Spans, last_of, State, Stands, IsSameRecord, IsTop, IsReach, IsLawfulState, WasAbsentSince, IsLed, IsHeldSince}
+use Rattle.versions.specs.State.{Spans, last_of, State, Stands, IsSameRecord, IsTop, IsReach, IsLawfulState, WasAbsentSince, IsLed, IsHeldSince}
 use Rattle.versions.specs.declared.Rec.{Rec}
 use Rattle.versions.specs.declared.Rec.TheVariants.{Leaf as a_leaf}
 use Rattle.tries.proofs.Tries.{same_key}
-use Rattle.versions.proofs.States.{spans_last}
+use Rattle.versions.proofs.States.{spans_last, spans_ended}
 use Rattle.versions.proofs.Heaps.{leaf_number}
 
 -- What a record that stood in a version of its life says of the words as they are now.
@@ -21,17 +21,41 @@ same_record_now s law r n u h st =
     let v = law.alive r (last_of s.now (s.life r)) g in
     (v.0, v.1, law.same r n u v.0 h st v.1, law.frozen r v.0 g v.1)
 
--- And so are a leaf's.
+-- A leaf that stood in a version since `m` has that key now; and when it stood last, in a version since, it had the key and the value
+-- that it has now.
+pub record LeafNow (s : State) (m o : ℕ) (k : Key) : Type 0 where
+  pub key : (s.heap.leaves o).key ≡ k
+  pub at : ℕ
+  pub since : m ≤ at
+  pub until : at ≤ s.now
+  pub stands : Stands s.past at (a_leaf o) (leaf o (s.heap.leaves o).key (s.heap.leaves o).value)
+
 pub leaf_now : (s : State) → IsLawfulState s → (m : ℕ) → IsReach s m → (n o a : ℕ) (k : Key) (w : ℕ) → m ≤ n → n ≤ s.now →
-    Stands s.past n (a_leaf o) (leaf a k w) → s.heap.leaves o ≡ record { key = k; value = w }
-leaf_now s law m reach n o a k w lo hi st =
-    let v = same_record_now s law (a_leaf o) n (leaf a k w) (reach n lo hi (a_leaf o) (leaf a k w) st) st in
-    go v.0 v.1.is_record v.2 v.3
+    Stands s.past n (a_leaf o) (leaf a k w) → LeafNow s m o k
+leaf_now s law m reach n o a k w lo hi st = go v.0 v.1 v.2 v.3
   where
-    go : (v : Tree) → IsRecord (a_leaf o) v → IsSameRecord (leaf a k w) v → IsCopied s.heap v → s.heap.leaves o ≡ record { key = k; value = w }
+    spans : Spans s.now (s.life (a_leaf o)) n
+    spans = reach n lo hi (a_leaf o) (leaf a k w) st
+
+    v : (v : Tree) × Stands s.past (last_of s.now (s.life (a_leaf o))) (a_leaf o) v × IsSameRecord (leaf a k w) v × IsCopied s.heap v
+    v = same_record_now s law (a_leaf o) n (leaf a k w) spans st
+
+    go : (v : Tree) → Stands s.past (last_of s.now (s.life (a_leaf o))) (a_leaf o) v → IsSameRecord (leaf a k w) v → IsCopied s.heap v → LeafNow s m o k
     go (node c y d) i e f = elim e [ ]
     go (fork c y d) i e f = elim e [ ]
-    go (leaf c l y) i e f = ap s.heap.leaves (leaf_number i) ∙ (f ∙ sym (ap₂ (λ a b. let z : LeafWords = record { key = a; value = b } in z) e.0 e.1))
+    go (leaf c l y) i e f =
+        let number : o ≡ c = leaf_number i.is_record in
+        let words : s.heap.leaves o ≡ record { key = l; value = y } = ap s.heap.leaves number ∙ f in
+        let ends = spans_ended s.now (s.life (a_leaf o)) n (law.lived (a_leaf o)) spans in
+        let same : leaf c l y ≡ leaf o (s.heap.leaves o).key (s.heap.leaves o).value =
+        ap (λ z. leaf z l y) (sym number) ∙ ap (λ (z : LeafWords). leaf o z.key z.value) (sym words) in
+        record {
+          key = ap (λ (z : LeafWords). z.key) words ∙ sym e;
+          at = last_of s.now (s.life (a_leaf o));
+          since = le_trans lo ends.0;
+          until = ends.1;
+          stands = subst (Stands s.past (last_of s.now (s.life (a_leaf o))) (a_leaf o)) same i;
+        }
 
 pub begin_empty : (s : State) → IsLawfulState s → (m : ℕ) → m ≤ s.now → (k : Key) → s.root ≡ None → WasAbsentSince s.past m k
 begin_empty s law m lo k h = (s.now, lo, le_refl s.now, go s.root (s.version s.now) h law.top)
@@ -53,11 +77,16 @@ pub end : (s : State) → IsLawfulState s → (m : ℕ) → IsReach s m → (k :
     ((k ≡ (s.heap.leaves n).key) × IsHeldSince s.past m k (s.heap.leaves n).value) ⊎ ((k ≢ (s.heap.leaves n).key) × WasAbsentSince s.past m k)
 end s law m reach k n (o, node a x b, lo, hi, st, e, f) = absurd cc
 end s law m reach k n (o, fork a x b, lo, hi, st, e, f) = absurd cc
-end s law m reach k n (o, leaf a l w, lo, hi, st, e, f) =
-    subst (λ (z : LeafWords). ((k ≡ z.key) × IsHeldSince s.past m k z.value) ⊎ ((k ≢ z.key) × WasAbsentSince s.past m k))
-    (sym (leaf_now s law m reach o n a l w lo hi st)) (go (same_key k l) f)
+end s law m reach k n (o, leaf a l w, lo, hi, st, e, f) = go (same_key k l) f
   where
-    go : Dec (k ≡ l) → (Follows k (leaf a l w) ⊎ WasAbsentSince s.past m k) → ((k ≡ l) × IsHeldSince s.past m k w) ⊎ ((k ≢ l) × WasAbsentSince s.past m k)
-    go (yes y) f = inl (y, (o, st.tree, lo, hi, st.is_version, holds_within st.within k w (y, refl)))
+    now : LeafNow s m n l
+    now = leaf_now s law m reach o n a l w lo hi st
+
+    held : k ≡ (s.heap.leaves n).key → IsHeldSince s.past m k (s.heap.leaves n).value
+    held y = (now.at, now.stands.tree, now.since, now.until, now.stands.is_version, holds_within now.stands.within k (s.heap.leaves n).value (y, refl))
+
+    go : Dec (k ≡ l) → (Follows k (leaf a l w) ⊎ WasAbsentSince s.past m k) →
+        ((k ≡ (s.heap.leaves n).key) × IsHeldSince s.past m k (s.heap.leaves n).value) ⊎ ((k ≢ (s.heap.leaves n).key) × WasAbsentSince s.past m k)
+    go (yes y) f = let z : k ≡ (s.heap.leaves n).key = y ∙ sym now.key in inl (z, held z)
     go (no y) (inl z) = absurd (y z)
-    go (no y) (inr z) = inr (y, z)
+    go (no y) (inr z) = inr (λ x. y (x ∙ now.key), z)

@@ -88,7 +88,7 @@ pub way_ends : WayEnds
 way_ends s m steady r a h j l v (like, begun, (n, u, lo, hi, st, pg, f)) (o, lo2, hi2, read) =
     let (k, w, is) = leaf_of j u pg in
     let su : Stands s n (a_leaf j) (leaf j k w) = subst (λ z. Stands s n (a_leaf j) z) is st in
-    let same : k ≡ l = (steady.same (a_leaf j) n o (leaf j k w) (leaf j l v) lo hi lo2 hi2 su read).0 in
+    let same : k ≡ l = (steady.same (a_leaf j) n o (leaf j k w) (leaf j l v) lo hi lo2 hi2 su read) in
     from_node a h r like begun (subst (λ z. AgreeBelow r like z) same (f k (subst (λ z. Has z k) (sym is) refl)))
 
 pub way_of_leaf : WayOfLeaf

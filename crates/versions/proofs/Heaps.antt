@@ -98,7 +98,7 @@ near_subtrie m o near {n} {q} {x} {y} e i j =
 -- Where each subtrie changes at one place at most, what one entry shows before and after has a key in common.
 pub common : (m o : Heap) → IsNear m o → (s t : Tree) → IsBuilt s → IsShown m s → IsShown o t → subtrie s ≡ subtrie t → IsCommon s t
 common m o near (leaf n k v) (leaf q l w) b i j e =
-    (k, refl, ap (λ (z : LeafWords). z.key) (sym i ∙ (near.0 n ∙ (ap o.leaves (leaf_parts e) ∙ j))))
+    (k, refl, ap (λ (z : LeafWords). z.key) (sym i) ∙ (near.0 n ∙ ap (λ (z : LeafWords). z.key) (ap o.leaves (leaf_parts e) ∙ j)))
 common m o near (leaf n k v) (node q l w) b i j e = absurd cc
 common m o near (leaf n k v) (fork q l w) b i j e = absurd cc
 common m o near (node n h (leaf q k v)) t b i j e = elim b.0 [ ]

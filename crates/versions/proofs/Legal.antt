@@ -63,7 +63,7 @@ pub legal_publish_lawful : (c : BareCore) (q : ℕ) (heap : Heap) (root : Option
     IsLawfulState (view c) → IsVersionPublish c q heap root t x → IsLawfulState (view (after_publish c q heap root t x))
 legal_publish_lawful c q heap root t x law p =
     publish_lawful (view c) law heap root (λ r. life_of (next_fate c.past.now q (is_linked t r) (c.fate r))) t
-    (record { top = p.top; tree = p.tree; near = p.near; kept = p.kept; lives = lives c q heap root t x p })
+    (record { top = p.top; tree = p.tree; near = p.near; kept = p.kept; kept_leaves = p.kept_leaves; lives = lives c q heap root t x p })
 
 -- A step at one record that leaves its life keeps the core lawful: Claim, Ready, Release, Mark.
 pub fate_lawful : (c : BareCore) (r : Rec) (f : Fate) → IsLawfulState (view c) → life_of f ≡ life_of (c.fate r) → IsLawfulState (view (record c { shared = with_fate c.shared r f }))

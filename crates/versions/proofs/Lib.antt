@@ -7,6 +7,8 @@ pub mod Growth
 pub mod Legal
 pub mod Pace
 pub mod Stored
+pub mod Revalued
+pub mod Values
 pub mod Telling
 pub mod Reading
 pub mod Stepping

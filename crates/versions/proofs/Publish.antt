@@ -6,7 +6,7 @@ use Rattle.tries.specs.Tree.{Tree, leaf, node, fork, IsTrie, IsBuilt, Within, he
 use Rattle.versions.specs.Heap.{NodeWords, LeafWords, Heap, IsCopied, IsShown, IsNear}
 use Rattle.versions.specs.State.{IsRecord, Links, Life, Out, Linked, Retired, Spans, last_of, State, Stands, IsSameRecord, IsTop, IsReach, IsLawfulState, IsLived, with_version, IsLinked}
 use Rattle.versions.specs.declared.Rec.{Rec}
-use Rattle.versions.specs.declared.Rec.TheVariants.{Node as a_node}
+use Rattle.versions.specs.declared.Rec.TheVariants.{Node as a_node, Leaf as a_leaf}
 use Rattle.tries.proofs.Tries.{trie_within, built_within}
 use Rattle.versions.proofs.States.{same_trans, spans_last, spans_ended}
 use Rattle.versions.proofs.Heaps.{shown_within, copied_if_shown, kin_step, near_subtrie, near_refl, node_number, leaf_number}
@@ -30,12 +30,13 @@ published s heap root life t = record {
   pin = s.pin;
 }
 
--- A publish stores one entry, after which the words show `t`, and no retired record is linked again.
+-- A publish stores one word, after which the words show `t`, and no retired record is linked again.
 pub record IsPublish (s : State) (heap : Heap) (root : Option Entry) (life : Rec → Life) (t : Option Tree) : Type 0 where
   pub top : IsTop heap root t
   pub tree : (u : Tree) → t ≡ Some u → IsTrie u × IsBuilt u
   pub near : IsNear s.heap heap
   pub kept : (n : ℕ) → IsLinked t (a_node n) ⊎ (s.heap.nodes n ≡ heap.nodes n)
+  pub kept_leaves : (n : ℕ) → IsLinked t (a_leaf n) ⊎ (s.heap.leaves n ≡ heap.leaves n)
   pub lives : (r : Rec) → IsNext s.now (IsLinked t r) (s.life r) (life r)
 
 pub version_old : (f : ℕ → Option Tree) (n : ℕ) (t : Option Tree) (i : ℕ) → i < n → with_version f n t i ≡ f i
@@ -100,7 +101,7 @@ next_last now L l m (stays x) h = inl (x, refl)
 next_last now L l m (goes x) h = inr (x, refl)
 next_last now L l m (gone x) h = inr (x, refl)
 
--- One record in two heaps, the second of which differs by one entry a subtrie.
+-- One record in two heaps, the second of which differs by one entry a subtrie, and by values of leaves.
 same_step : (m o : Heap) → IsNear m o → (r : Rec) (u v : Tree) → IsRecord r u → IsRecord r v → IsBuilt u → IsTrie u → IsTrie v →
     IsShown m u → IsShown o v → IsSameRecord u v
 same_step m o near r (fork p a b) v x y c l k i j = elim x [ ]
@@ -110,8 +111,7 @@ same_step m o near r (leaf n a b) (node q e f) x y c l k i j = absurd cc
 same_step m o near r (node n a b) (leaf q e f) x y c l k i j = absurd cc
 same_step m o near r (leaf n a b) (leaf q e f) x y c l k i j =
     let z : n ≡ q = leaf_number (sym x ∙ y) in
-    let w = sym i ∙ (near.0 n ∙ (ap o.leaves z ∙ j)) in
-    (ap (λ (z : LeafWords). z.key) w, ap (λ (z : LeafWords). z.value) w)
+    ap (λ (z : LeafWords). z.key) (sym i) ∙ (near.0 n ∙ ap (λ (z : LeafWords). z.key) (ap o.leaves z ∙ j))
 same_step m o near r (node n a b) (node q e f) x y c l k i j =
     let z : n ≡ q = node_number (sym x ∙ y) in (
       ap (λ (z : NodeWords). z.fixed) (sym i.0) ∙ (near.1 n ∙ ap (λ (z : NodeWords). z.fixed) (ap o.nodes z ∙ j.0)),
@@ -203,7 +203,7 @@ module _ (s : State) (law : IsLawfulState s) (heap : Heap) (root : Option Entry)
           (next_new s.now (IsLinked t r) (s.life r) (life r) (law.lived r) (p.lives r) (links_new r u (subst (λ i. Stands o.past i r u) z st)))
 
   unlinked_copied : (r : Rec) (u : Tree) → ¬ (IsLinked t r) → IsRecord r u → IsCopied s.heap u → IsCopied heap u
-  unlinked_copied r (leaf n k v) l i c = sym (p.near.0 n) ∙ c
+  unlinked_copied r (leaf n k v) l i c = elim (p.kept_leaves n) [ inl x ↦ absurd (l (subst (IsLinked t) (sym i) x)) | inr x ↦ sym x ∙ c ]
   unlinked_copied r (fork q a b) l i c = tt
   unlinked_copied r (node n h b) l i c = elim (p.kept n) [ inl x ↦ absurd (l (subst (IsLinked t) (sym i) x)) | inr x ↦ sym x ∙ c ]
 

@@ -113,7 +113,7 @@ state_parting s law r n o x y g h b c bn bo sn so tn tp i j lt k l u v =
         (trie_within (within_trans (inside here) tp.within) (is_trie s law o r (node y h c) bo tp)) i j lt k l u v
 
 pub same_trans : (a b c : Tree) → IsSameRecord a b → IsSameRecord b c → IsSameRecord a c
-same_trans (leaf n k v) (leaf m l w) (leaf o x y) e f = (e.0 ∙ f.0, e.1 ∙ f.1)
+same_trans (leaf n k v) (leaf m l w) (leaf o x y) e f = e ∙ f
 same_trans (node n h b) (node m i c) (node o j d) e f = (e.0 ∙ f.0, kin_trans e.1 f.1)
 same_trans (leaf n k v) (leaf m l w) (node o x y) e f = elim f [ ]
 same_trans (leaf n k v) (leaf m l w) (fork o x y) e f = elim f [ ]
@@ -126,7 +126,7 @@ same_trans (node n k v) (fork m l w) c e f = elim e [ ]
 same_trans (fork n k v) b c e f = elim e [ ]
 
 same_sym : (u v : Tree) → IsSameRecord u v → IsSameRecord v u
-same_sym (leaf n k v) (leaf m l w) f = (sym f.0, sym f.1)
+same_sym (leaf n k v) (leaf m l w) f = sym f
 same_sym (node n h b) (node m i c) f = (sym f.0, kin_sym f.1)
 same_sym (leaf n k v) (node m i c) f = elim f [ ]
 same_sym (leaf n k v) (fork p a b) f = elim f [ ]

@@ -28,8 +28,8 @@ IsShown m (leaf n k v) = m.leaves n ≡ record { key = k; value = v }
 IsShown m (node n x b) = (m.nodes n ≡ record { fixed = x; subtrie = subtrie b }) × IsShown m b
 IsShown m (fork p a b) = IsShown m a × IsShown m b
 
--- From one heap to the next, each node keeps its fixed words and each subtrie all its entries but one at most.
+-- From one heap to the next, each leaf keeps its key, each node its fixed words, and each subtrie all its entries but one at most.
 abbrev pub IsNear : Heap → Heap → Type 0
 IsNear m o =
-    ((n : ℕ) → m.leaves n ≡ o.leaves n) × ((n : ℕ) → ((m.nodes n).fixed ≡ (o.nodes n).fixed)) ×
+    ((n : ℕ) → (m.leaves n).key ≡ (o.leaves n).key) × ((n : ℕ) → ((m.nodes n).fixed ≡ (o.nodes n).fixed)) ×
     ((n : ℕ) → ((m.nodes n).subtrie ≡ (o.nodes n).subtrie) ⊎ Swap (m.nodes n).subtrie (o.nodes n).subtrie)

@@ -70,9 +70,9 @@ pub record Stands (s : Past) (n : ℕ) (r : Rec) (u : Tree) : Type 0 where
   pub within : Within u tree
   pub is_record : IsRecord r u
 
--- Two trees of one record: the same fixed words and kin bodies, or the same key and value.
+-- Two trees of one record: the same fixed words and kin bodies, or the same key.
 abbrev pub IsSameRecord : Tree → Tree → Type 0
-IsSameRecord (leaf n k v) (leaf m l w) = (k ≡ l) × (v ≡ w)
+IsSameRecord (leaf n k v) (leaf m l w) = k ≡ l
 IsSameRecord (node n h b) (node m i c) = (h ≡ i) × Kin b c
 IsSameRecord s t = ⊥
 

@@ -45,8 +45,7 @@ BareReachIsKept =
     (c : BareCore) → IsLawfulCore c → (q : ℕ) (p : Pin) → c.pins q ≡ Some p → (n : ℕ) → p.version ≤ n → n ≤ c.past.now →
     (r : Rec) (u : Tree) → Stands c.past n r u → (c.fate r ≢ Free) × ((o : ℕ) → c.fate r ≢ Held o)
 
--- The fixed words and the stems of a node of a pass's reach are the same in all its versions since the pin, and a leaf's
--- key and value are.
+-- The fixed words and the stems of a node of a pass's reach are the same in all its versions since the pin, and so is a leaf's key.
 abbrev pub ReachIsSteady : Type 0
 ReachIsSteady =
     (c : BareCore) → IsLawfulCore c → (q : ℕ) (p : Pin) → c.pins q ≡ Some p → (r : Rec) (n o : ℕ) (u v : Tree) →

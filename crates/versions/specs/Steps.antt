@@ -1,6 +1,9 @@
 -- The steps that change the core, as functions, and when the publish is legal.
 use Rattle.std.specs.Prelude.{◌<◌, ◌≡◌, ◌⊎◌, ◌≢◌, ◌||◌, ℕ, suc, [], ◌∷◌, ◌++◌, Option, Some, None, Bool, true, false, if◌then◌else◌, nat_eq, min}
 use Rattle.compound_node.specs.declared.entries.Entry.{Entry}
+use Rattle.compound_node.specs.declared.entries.Entry.TheVariants.{Leaf}
+use Rattle.pieces.specs.Piece.{size}
+use Rattle.tries.specs.Place.{entry_at}
 use Rattle.tries.specs.Tree.{Tree, leaf, node, fork, IsTrie, IsBuilt}
 use Rattle.versions.specs.Heap.{Heap, IsNear}
 use Rattle.versions.specs.State.{IsLinked, IsTop, with_version, IsLawfulState}
@@ -38,11 +41,20 @@ next_fate now q false (InTree f) = Unlinked f now q
 next_fate now q linked (Unlinked f l p) = Unlinked f l p
 next_fate now q linked (Marked f l s) = Marked f l s
 
--- What the publish stores: the root entry, under the anchor's lock; or an entry of a node under its lock.
+-- The pass has locked what names leaf `l`: the anchor, where the leaf is the root; or a node in the tree that has the leaf at a place.
+pub data HasLockedNamer (c : BareCore) (q l : ℕ) : Type 0 where
+  in_root : c.anchor ≡ Some q → c.root ≡ Some (Leaf l) → HasLockedNamer c q l
+  in_node : (n since place : ℕ) → c.lock n ≡ Some q → c.fate (a_node n) ≡ InTree since → place < size (c.heap.nodes n).subtrie →
+      entry_at (c.heap.nodes n).subtrie place ≡ Leaf l → HasLockedNamer c q l
+
+-- What the publish stores: the root entry, under the anchor's lock; an entry of a node, under its lock; or the value of a leaf, under
+-- the lock of what names it.
 pub data IsStore (c : BareCore) (q : ℕ) (heap : Heap) (root : Option Entry) : Type 0 where
   at_root : c.anchor ≡ Some q → heap ≡ c.heap → IsStore c q heap root
   at_slot : (n : ℕ) → c.lock n ≡ Some q → ((m : ℕ) → m ≢ n → heap.nodes m ≡ c.heap.nodes m) →
       ((m : ℕ) → heap.leaves m ≡ c.heap.leaves m) → root ≡ c.root → IsStore c q heap root
+  at_value : (l : ℕ) → HasLockedNamer c q l → ((m : ℕ) → heap.nodes m ≡ c.heap.nodes m) →
+      ((m : ℕ) → m ≢ l → heap.leaves m ≡ c.heap.leaves m) → root ≡ c.root → IsStore c q heap root
 
 -- The publish makes the next version: the words show it then, it is lawful, what it links anew pass `q` has made ready, and `q` has
 -- locked the nodes that it unlinks; the leaves change by `x`.
@@ -53,11 +65,12 @@ pub record IsNextVersion (s : Shared) (q : ℕ) (heap : Heap) (root : Option Ent
   pub goes : (n f : ℕ) → s.fate (a_node n) ≡ InTree f → ¬ (IsLinked t (a_node n)) → s.lock n ≡ Some q
   pub change : IsChange (s.past.version s.past.now) x t
 
--- The publish is legal: it stores one entry, under its lock, in a node that is linked then; and it makes the next version.
+-- The publish is legal: it stores one word, under its lock, in a record that is linked then; and it makes the next version.
 pub record IsVersionPublish (c : BareCore) (q : ℕ) (heap : Heap) (root : Option Entry) (t : Option Tree) (x : Change) : Type 0 where
   pub store : IsStore c q heap root
   pub near : IsNear c.heap heap
   pub kept : (n : ℕ) → IsLinked t (a_node n) ⊎ (c.heap.nodes n ≡ heap.nodes n)
+  pub kept_leaves : (n : ℕ) → IsLinked t (a_leaf n) ⊎ (c.heap.leaves n ≡ heap.leaves n)
   pub own : x.pass ≡ q
   pub next : IsNextVersion c.shared q heap root t x
   pub open next use *

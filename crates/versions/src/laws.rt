@@ -34,7 +34,7 @@ pub fn reach_is_kept()
     ensures { BareReachIsKept }
 {}
 
-/// In all versions since its pin, a node of a pass's reach has the same fixed words and stems, and a leaf the same key and value.
+/// In all versions since its pin, a node of a pass's reach has the same fixed words and stems, and a leaf the same key.
 pub fn records_in_reach_stay_same()
     ensures { ReachIsSteady }
 {}

@@ -1,16 +1,18 @@
 -- The length, one word more, a word that is another key's, and the value.
-use Rattle.std.proofs.Common.{inl, inr, refl, ◌+◌, ◌-◌, ◌<◌, ◌≤◌, ◌∙◌, sym, subst, arith, lit<, lit≤, rules}
+use Rattle.std.proofs.Common.{inl, inr, refl, ◌+◌, ◌-◌, ◌<◌, ◌≤◌, ◌∙◌, sym, subst, arith, lit<, lit≤}
 use Rattle.versions.specs.declared.Rec.TheVariants.{Leaf as a_leaf}
 use Rattle.record_words.specs.declared.TheConstants.{LEAF_FIELDS}
-use Rattle.rowex_core.specs.declared.event.Act.TheVariants.{LoadFixed}
+use Rattle.rowex_core.specs.declared.event.Act.TheVariants.{LoadRef, LoadFixed}
+use Rattle.rowex_core.specs.declared.event.Spot.TheVariants.{Value}
 use Rattle.rowex_reading.specs.Reads.{Reads}
 use Rattle.record_words.specs.Layout.{leaf_size}
 use Rattle.record_words.specs.Leaf.{words_for}
 use Rattle.record_words.proofs.Locations.{size_fits}
 use Rattle.rowex_reading.proofs.Leafing.{room_of}
-use Rattle.rowex_reading.proofs.Comparing.{IsKeyWord, words_with, byte_word, first_same, length_word, next_same, other_key, same_key}
+use Rattle.rowex_reading.proofs.Comparing.{first_same, next_same, other_key, same_key}
 use Rattle.rowex_reading.proofs.Led.{reader_then, reads_one, reads_trans}
-use Rattle.rowex_reading.proofs.Wording.{none_loaded}
+use Rattle.rowex_reading.proofs.Valuing.{byte_word, length_word, words_with}
+use Rattle.rowex_reading.proofs.Wording.{IsKeyWord, none_loaded}
 use Rattle.rowex_reading.proofs.reading.compare_leaf.Goals as goal
 
 pub load_fixed_at-requires : goal.load_fixed_at-requires
@@ -84,22 +86,21 @@ loop-index-preserved g c =
           (c.if-word-key_word_at.false ∙ (c.key_word_at.ensures ∙ sym (byte_word c.args.key.now c.loop-index.index c.loop-index.auto.index low)));
     }
 
-pub load_fixed_at-requires-2 : goal.load_fixed_at-requires-2
-load_fixed_at-requires-2 g c = record {
+pub load_value_at-requires : goal.load_value_at-requires
+load_value_at-requires g c = record {
   own = c.loop-index.invariant.reader.0;
-  range = (c.requires.start.0, (lit≤ tt, lit≤ tt), omega (arith, size_fits c.args.table.now.layout c.args.leaf.number));
+  range = c.requires.start.0;
   start = c.requires.start;
 }
 
 pub returns-clause-reads : goal.returns-clause-reads
 returns-clause-reads g c =
     let i = c.loop-index.invariant in
-    let one = reads_one (LoadFixed (a_leaf c.args.leaf.number) 1 c.load_fixed_at-2.result) tt c.load_fixed_at-2.ensures in
+    let one = reads_one (LoadRef (Value c.args.leaf.number) c.load_value_at.result) tt c.load_value_at.ensures in
     (c.loop-index.index - 1 + 1, omega (arith, i.fits, c.loop-index-test.false, c.loop-index.auto.index, c.loop-index.auto.index-end), reads_trans i.reads one)
 
 pub returns-clause-leaf : goal.returns-clause-leaf
 returns-clause-leaf g c = λ m led.
     let i = c.loop-index.invariant in
-    let one = reads_one (LoadFixed (a_leaf c.args.leaf.number) 1 c.load_fixed_at-2.result) tt c.load_fixed_at-2.ensures in
-    same_key _ _ c.args.leaf.number c.args.key.now m led _ _ c.loop-index.index c.load_fixed_at-2.result (reader_then i.reader one).1 i.loaded
-    (omega (arith, i.end_is, c.loop-index-test.false, c.loop-index.auto.index-end)) c.load_fixed_at-2.ensures.event (record { key = c.requires.key.0; value = search rules })
+    same_key _ _ c.args.leaf.number c.args.key.now m led _ _ c.loop-index.index c.load_value_at.result c.requires.key.0 i.reader.1 i.loaded
+    (omega (arith, i.end_is, c.loop-index-test.false, c.loop-index.auto.index-end)) c.load_value_at.ensures.event

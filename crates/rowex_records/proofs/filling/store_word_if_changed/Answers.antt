@@ -3,8 +3,11 @@ use Rattle.std.proofs.Common.{rules, subst}
 use Rattle.rowex_records.specs.Records.{load_of_word}
 use Rattle.rowex_table.specs.Runs.{Steps}
 use Rattle.rowex_table.proofs.Rights.{fills}
-use Rattle.rowex_records.proofs.SetAll.{load_claimed, sets_found, sets_mended}
+use Rattle.rowex_records.proofs.SetAll.{load_claimed, looked_behind, sets_found, sets_mended}
 use Rattle.rowex_records.proofs.filling.store_word_if_changed.Goals as goal
+
+pub load_word-requires-clause-behind : goal.load_word-requires-clause-behind
+load_word-requires-clause-behind g c = looked_behind c.args.at.rec c.args.offset c.args.word c.requires.looked
 
 pub fill_at-requires-clause-may : goal.fill_at-requires-clause-may
 fill_at-requires-clause-may g c =

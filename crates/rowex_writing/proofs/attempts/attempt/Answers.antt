@@ -1,17 +1,21 @@
 -- The search, its plan, and what follows from it.
-use Rattle.std.proofs.Common.{[], Err, ◌∙◌, ap, subst, sym, arith}
+use Rattle.std.proofs.Common.{[], Err, ◌∙◌, ap, subst, sym, arith, refl, IsSome, ◌≡◌}
 use Rattle.rowex_reading.specs.Seen.{since}
-use Rattle.rowex_reading.specs.Ways.{IsWayOf}
+use Rattle.rowex_reading.specs.Ways.{IsWayOf, value_of}
 use Rattle.rowex_reading.proofs.Led.{reads_later, same_since}
 use Rattle.rowex_reading.proofs.Ways.{way_later}
 use Rattle.rowex_writing.specs.Changes.{IsPlanned}
 use Rattle.rowex_writing.specs.Plans.{LiesOnWay}
-use Rattle.rowex_writing.proofs.Attempting.{aimless_looked, answered_change, answered_leafless, answered_look, begun_on, found_later, leafless, looked, plan_made, removal_takes, searched}
+use Rattle.rowex_writing.proofs.Attempting.{aimless_looked, answered_change, answered_leafless, answered_look, begun_on, found_later, leafless, looked, plan_made, removal_takes, searched, planned_again, full_of_new}
 use Rattle.rowex_writing.proofs.Attempted.{attempted, attempted_few, tried_after}
 use Rattle.rowex_writing.proofs.Onward.{reads_run}
 use Rattle.rowex_writing.proofs.Runs.{none_once, run_loaded, run_none}
 use Rattle.rowex_writing.proofs.Works.{no_change_made_later}
 use Rattle.rowex_writing.proofs.attempts.attempt.Goals as goal
+use Rattle.rowex_writing.specs.Asking.{aim_of, value_in}
+use Rattle.rowex_writing.specs.declared.plan.Plan.TheVariants.{Change}
+use Rattle.rowex_reading.proofs.Seeing.{later_trans}
+use Rattle.rowex_writing.specs.declared.plan.Deed.TheVariants.{Value as ValueDeed}
 
 pub find_plan-requires-clause-own : goal.find_plan-requires-clause-own
 find_plan-requires-clause-own g c = (searched c.args.table.now g.G.Gate.becomes (c.args.seat.now, c.args.gate.now) (c.search_way-found.new.seat, c.search_way-found.new.gate) c.search_way-found.ensures.searched c.search_way-found.ensures.possible c.requires.own c.requires.rest).seat
@@ -118,8 +122,18 @@ returns-in-Ok-clause-answered g c =
     let b = begun_on c.args.table.now g.G.Gate.becomes c.find_plan.ensures.reads.0 c.find_plan.ensures.reads.1 (c.args.seat.now, c.args.gate.now) (c.search_way-found.new.seat, c.search_way-found.new.gate) (c.find_plan.new.seat, c.find_plan.new.gate) c.search_way-found.ensures.searched c.search_way-found.ensures.possible c.requires.own c.requires.rest c.find_plan.ensures.reads.2 in
     let m = since c.search_way-found.new.seat.known in
     let planned = plan_made c.args.table.now.layout _ _ m c.key-key.result.now _ _ _ _ _ c.as_slice-way.ensures.value c.search_way-found.ensures.way c.find_plan.ensures.planned in
-    rw (c.reply-in-Ok.ensures []) (answered_change c.args.seat.now.known _ _ _ _ _ _ _ c.args.call.now _ _ _ _ _ b.later c.key-key.ensures c.new_value.ensures c.found_value-held.ensures (sym c.aim_of.ensures ∙ c.in-Some.is)
-    (subst (IsPlanned _ _ _ _ _ _) c.in-Change.is planned) (c.try_plan.ensures.done c.in-Ok.is))
+    let (again, done) = c.in-Ok.ensures.done in
+    let plan : IsPlanned c.find_plan.new.seat.known m c.key-key.result.now c.as_slice-way.result.now c.in-Some.aim c.search_way-found.result (Change c.in-Change.span c.in-Change.deed) = subst (IsPlanned _ _ _ _ _ _) c.in-Change.is planned in
+    let now = subst (λ f. IsPlanned c.find_plan.new.seat.known m c.key-key.result.now c.as_slice-way.result.now c.in-Some.aim f (Change c.in-Change.span c.in-Change.deed)) (sym again.is)
+    (planned_again c.find_plan.new.seat.known m c.key-key.result.now c.as_slice-way.result.now c.in-Some.aim c.search_way-found.result again.value c.in-Change.span c.in-Change.deed plan) in
+    let aims = again.aims c.in-Some.aim (ap (aim_of c.args.call.now) (sym c.found_value-held.ensures) ∙ (sym c.aim_of.ensures ∙ c.in-Some.is)) in
+    rw (c.reply-in-Ok.ensures []) (rw (c.found_value.ensures)
+    (answered_change c.args.seat.now.known c.find_plan.new.seat.known c.find_plan.new.seat.known c.try_plan.new.seat.known m c.key-key.result.now (value_in c.args.call.now (value_of c.in-Ok.now)) c.as_slice-way.result.now c.args.call.now
+    (value_of c.in-Ok.now) c.in-Some.aim c.in-Ok.now c.in-Change.span c.in-Change.deed b.later c.key-key.ensures refl refl aims now done))
+
+pub try_plan-requires-clause-aims : goal.try_plan-requires-clause-aims
+try_plan-requires-clause-aims g c =
+    subst (λ h. IsSome (aim_of c.args.call.now h)) c.found_value-held.ensures (subst IsSome (sym (sym c.aim_of.ensures ∙ c.in-Some.is)) refl)
 
 pub returns-in-Ok-clause-few : goal.returns-in-Ok-clause-few
 returns-in-Ok-clause-few g c =
@@ -150,3 +164,13 @@ pub returns-in_default-clause-few : goal.returns-in_default-clause-few
 returns-in_default-clause-few g c =
     let none = none_once c.args.table.now g.G.Gate.becomes (c.search_way-found.new.seat, c.search_way-found.new.gate) (c.search_way-found.new.seat, c.search_way-found.new.gate) (run_none c.args.table.now g.G.Gate.becomes (c.search_way-found.new.seat, c.search_way-found.new.gate)) in
     attempted_few c.args.table.now g.G.Gate.becomes (c.args.seat.now, c.args.gate.now) (c.search_way-found.new.seat, c.search_way-found.new.gate) (c.search_way-found.new.seat, c.search_way-found.new.gate) c.search_way-found.ensures.searched none (omega arith) (omega arith)
+
+pub returns-in-Err-clause-full : goal.returns-in-Err-clause-full
+returns-in-Err-clause-full g c =
+    let m = since c.search_way-found.new.seat.known in
+    let planned = plan_made c.args.table.now.layout _ _ m c.key-key.result.now _ _ _ _ _ c.as_slice-way.ensures.value c.search_way-found.ensures.way c.find_plan.ensures.planned in
+    let plan : IsPlanned c.find_plan.new.seat.known m c.key-key.result.now c.as_slice-way.result.now c.in-Some.aim c.search_way-found.result (Change c.in-Change.span c.in-Change.deed) = subst (IsPlanned _ _ _ _ _ _) c.in-Change.is planned in
+    let whole = λ (is : c.in-Change.deed ≡ ValueDeed). c.in-Err.ensures.whole is in
+    full_of_new c.search_way-found.new.seat.known c.find_plan.new.seat.known c.try_plan.new.seat.known m c.key-key.result.now c.as_slice-way.result.now c.in-Some.aim c.search_way-found.result c.in-Change.span c.in-Change.deed c.in-Err.fault
+    c.args.call.now c.key-key.ensures plan c.search_way-found.ensures.way.since c.search_way-found.ensures.found (later_trans (reads_later c.find_plan.ensures.reads.2) c.in-Err.ensures.later)
+    (ap (aim_of c.args.call.now) (sym c.found_value-held.ensures) ∙ (sym c.aim_of.ensures ∙ c.in-Some.is)) whole

@@ -1,12 +1,29 @@
--- A removal; or what the deed has made is published, or all is given back.
-use Rattle.std.proofs.Common.{◌<◌, inl, inr, sym, subst, arith}
-use Rattle.rowex_writing.specs.Attempts.{HasDone}
+-- A new value, a removal, or what the deed has made is published; or all is given back.
+use Rattle.std.proofs.Common.{◌<◌, inl, inr, refl, sym, ap, subst, arith, ◌≡◌, ◌∙◌, Err}
+use Rattle.rowex_writing.specs.Attempts.{HasDone, HasFailed}
 use Rattle.rowex_writing.specs.Changes.{HasTakenPlan}
+use Rattle.rowex_writing.specs.Counts.{held_loads}
+use Rattle.rowex_writing.specs.Locks.{span_numbers}
+use Rattle.rowex_writing.specs.Merging.{ChangesOn}
+use Rattle.rowex_writing.proofs.Attempting.{loads_spared, leaves_refused}
 use Rattle.rowex_writing.proofs.Growths.{no_room}
 use Rattle.rowex_writing.proofs.Keeping.{changed_since}
 use Rattle.rowex_writing.proofs.Merged.{holds_on, is_taking}
 use Rattle.rowex_writing.proofs.Runs.{goes_run, runs_trans, works_run}
+use Rattle.rowex_writing.proofs.Valued.{busy_leafless, failed_before, full_failed, held_few}
 use Rattle.rowex_writing.proofs.attempts.change_span.Goals as goal
+use Rattle.rowex_writing.specs.declared.attempts.TryFault.TheVariants.{FullLeaves}
+use Rattle.rowex_writing.specs.declared.plan.Deed.TheVariants.{Take, Value}
+
+pub store_value-requires-clause-taken : goal.store_value-requires-clause-taken
+store_value-requires-clause-taken g c = subst (HasTakenPlan c.args.table.now c.args.seat.now c.args.job.now) c.in-Value.is c.requires.taken
+
+pub returns-in-Value-clause-run : goal.returns-in-Value-clause-run
+returns-in-Value-clause-run g c = inl (c.store_value.ensures.run, omega (arith, c.store_value.ensures.few, held_few c.args.job.now.found))
+
+pub returns-in-Value-clause-done : goal.returns-in-Value-clause-done
+returns-in-Value-clause-done g c = λ ok.
+    subst (λ d. HasDone c.args.seat.now.known c.store_value.new.seat.known d c.args.job.now.key.now c.args.job.now.value c.args.job.now.found) (sym c.in-Value.is) c.store_value.ensures.done
 
 pub make_removal-requires-clause-taken : goal.make_removal-requires-clause-taken
 make_removal-requires-clause-taken g c = subst (HasTakenPlan c.args.table.now c.args.seat.now c.args.job.now) c.in-Take.is c.requires.taken
@@ -16,14 +33,19 @@ returns-in-Take-clause-run g c =
     let taken = subst (HasTakenPlan c.args.table.now c.args.seat.now c.args.job.now) c.in-Take.is c.requires.taken in
     let some : 0 < c.args.job.now.span.end = omega arith in
     let (t, same) = is_taking c.args.table.now c.args.seat.now c.args.job.now taken some in
-    inr (some, t.below.last, c.make_removal.ensures.run)
+    inr (
+      some,
+      t.below.last,
+      subst (λ room. ChangesOn c.args.table.now g.G.Gate.becomes (span_numbers c.args.job.now.way.now c.args.job.now.span) room (c.args.seat.now, c.args.gate.now) (c.make_removal.new.seat, c.make_removal.new.gate)) (sym (ap held_loads t.found))
+          c.make_removal.ensures.run,
+    )
 
 pub returns-in-Take-clause-done : goal.returns-in-Take-clause-done
 returns-in-Take-clause-done g c = λ ok.
     subst (λ d. HasDone c.args.seat.now.known c.make_removal.new.seat.known d c.args.job.now.key.now c.args.job.now.value c.args.job.now.found) (sym c.in-Take.is) (c.make_removal.ensures.done ok)
 
-pub publish_change-requires : goal.publish_change-requires
-publish_change-requires g c =
+pub publish_or_undo-requires : goal.publish_or_undo-requires
+publish_or_undo-requires g c =
     let (x, was, is, may) = c.in-Ok.ensures.done.raised in
     record {
       held = holds_on c.args.table.now g.G.Gate.becomes (c.args.seat.now, c.args.gate.now) (c.carry_out_deed.new.seat, c.carry_out_deed.new.gate) c.args.job.now c.args.deed c.carry_out_deed.ensures.done.goes c.requires.taken;
@@ -33,16 +55,25 @@ publish_change-requires g c =
 pub returns-in-Ok-clause-run : goal.returns-in-Ok-clause-run
 returns-in-Ok-clause-run g c =
     let (x, was, is, may) = c.in-Ok.ensures.done.raised in
+    let (m, aim, taken, planned) = c.requires.taken in
+    let spared = loads_spared c.args.seat.now.known m c.args.job.now.key.now c.args.job.now.way.now aim c.args.job.now.found c.args.job.now.span c.args.deed planned in
     inl (
-      runs_trans c.args.table.now g.G.Gate.becomes (c.args.seat.now, c.args.gate.now) (c.carry_out_deed.new.seat, c.carry_out_deed.new.gate) (c.publish_change.new.seat, c.publish_change.new.gate)
-          (goes_run c.args.table.now g.G.Gate.becomes (c.args.seat.now, c.args.gate.now) (c.carry_out_deed.new.seat, c.carry_out_deed.new.gate) c.carry_out_deed.ensures.done.goes) c.publish_change.ensures.run,
-      omega (arith, c.in-Ok.ensures.done.few, c.publish_change.ensures.few, may.few),
+      runs_trans c.args.table.now g.G.Gate.becomes (c.args.seat.now, c.args.gate.now) (c.carry_out_deed.new.seat, c.carry_out_deed.new.gate) (c.publish_or_undo.new.seat, c.publish_or_undo.new.gate)
+          (goes_run c.args.table.now g.G.Gate.becomes (c.args.seat.now, c.args.gate.now) (c.carry_out_deed.new.seat, c.carry_out_deed.new.gate) c.carry_out_deed.ensures.done.goes) c.publish_or_undo.ensures.run,
+      omega (arith, c.in-Ok.ensures.done.few, c.publish_or_undo.ensures.few, may.few, spared),
     )
 
 pub returns-in-Ok-clause-done : goal.returns-in-Ok-clause-done
 returns-in-Ok-clause-done g c = λ ok.
     let (x, was, is, may) = c.in-Ok.ensures.done.raised in
-    (x, was, is, changed_since c.args.seat.now.known c.carry_out_deed.new.seat.known c.publish_change.new.seat.known x was c.carry_out_deed.ensures.done.goes.stays.0 (c.publish_change.ensures.changed x was may))
+    (x, was, is, changed_since c.args.seat.now.known c.carry_out_deed.new.seat.known c.publish_or_undo.new.seat.known x was c.carry_out_deed.ensures.done.goes.stays.0 (c.publish_or_undo.ensures.changed ok x was may))
+
+pub returns-in-Ok-clause-failed : goal.returns-in-Ok-clause-failed
+returns-in-Ok-clause-failed g c =
+    failed_before c.args.table.now.layout c.args.job.now c.args.seat.now.known c.carry_out_deed.new.seat.known c.publish_or_undo.new.seat.known _ c.publish_or_undo.result c.carry_out_deed.ensures.done.goes.stays.0 c.publish_or_undo.ensures.failed
+
+pub returns-in-Ok-clause-leafless : goal.returns-in-Ok-clause-leafless
+returns-in-Ok-clause-leafless g c = λ take. busy_leafless c.publish_or_undo.result _ c.publish_or_undo.ensures.failed
 
 pub undo_change-requires : goal.undo_change-requires
 undo_change-requires g c = record {
@@ -51,14 +82,33 @@ undo_change-requires g c = record {
 }
 
 pub returns-in-Err-clause-run : goal.returns-in-Err-clause-run
-returns-in-Err-clause-run g c = inl (
-  runs_trans c.args.table.now g.G.Gate.becomes (c.args.seat.now, c.args.gate.now) (c.carry_out_deed.new.seat, c.carry_out_deed.new.gate) (c.undo_change.new.seat, c.undo_change.new.gate)
-      (goes_run c.args.table.now g.G.Gate.becomes (c.args.seat.now, c.args.gate.now) (c.carry_out_deed.new.seat, c.carry_out_deed.new.gate) c.carry_out_deed.ensures.done.goes)
-      (works_run c.args.table.now g.G.Gate.becomes (c.carry_out_deed.new.seat, c.carry_out_deed.new.gate) (c.undo_change.new.seat, c.undo_change.new.gate) c.undo_change.ensures.works),
-  omega (arith, c.in-Err.ensures.done.few, c.undo_change.ensures.few, c.in-Err.ensures.done.full.few),
-)
+returns-in-Err-clause-run g c =
+    let (m, aim, taken, planned) = c.requires.taken in
+    let spared = loads_spared c.args.seat.now.known m c.args.job.now.key.now c.args.job.now.way.now aim c.args.job.now.found c.args.job.now.span c.args.deed planned in
+    inl (
+      runs_trans c.args.table.now g.G.Gate.becomes (c.args.seat.now, c.args.gate.now) (c.carry_out_deed.new.seat, c.carry_out_deed.new.gate) (c.undo_change.new.seat, c.undo_change.new.gate)
+          (goes_run c.args.table.now g.G.Gate.becomes (c.args.seat.now, c.args.gate.now) (c.carry_out_deed.new.seat, c.carry_out_deed.new.gate) c.carry_out_deed.ensures.done.goes)
+          (works_run c.args.table.now g.G.Gate.becomes (c.carry_out_deed.new.seat, c.carry_out_deed.new.gate) (c.undo_change.new.seat, c.undo_change.new.gate) c.undo_change.ensures.works),
+      omega (arith, c.in-Err.ensures.done.few, c.undo_change.ensures.few, c.in-Err.ensures.done.full.few, spared),
+    )
 
-pub returns-in-Err-clause-full : goal.returns-in-Err-clause-full
-returns-in-Err-clause-full g c =
-    no_room c.args.table.now g.G.Gate.becomes c.args.job.now.key.now (c.args.seat.now, c.args.gate.now) (c.carry_out_deed.new.seat, c.carry_out_deed.new.gate) (c.undo_change.new.seat, c.undo_change.new.gate) _ c.in-Err.full
-    c.carry_out_deed.ensures.done.goes c.undo_change.ensures.works c.undo_change.ensures.rest c.in-Err.ensures.done.full.full_of
+pub returns-in-Err-clause-failed : goal.returns-in-Err-clause-failed
+returns-in-Err-clause-failed g c =
+    rw c.refusal_of.ensures (full_failed c.args.table.now.layout c.args.job.now c.args.seat.now.known c.undo_change.new.seat.known _ c.in-Err.full
+    (no_room c.args.table.now g.G.Gate.becomes c.args.job.now.key.now (c.args.seat.now, c.args.gate.now) (c.carry_out_deed.new.seat, c.carry_out_deed.new.gate) (c.undo_change.new.seat, c.undo_change.new.gate) _ c.in-Err.full
+    c.carry_out_deed.ensures.done.goes c.undo_change.ensures.works c.undo_change.ensures.rest c.in-Err.ensures.done.full.full_of))
+
+pub returns-in-Err-clause-leafless : goal.returns-in-Err-clause-leafless
+returns-in-Err-clause-leafless g c take is =
+    let same : c.refusal_of.result ≡ FullLeaves = cc in
+    c.carry_out_deed.ensures.leafless take (c.in-Err.is ∙ ap Err (leaves_refused c.in-Err.full (sym c.refusal_of.ensures ∙ same)))
+
+-- ---- a new value is never refused
+pub returns-in-Take-clause-whole : goal.returns-in-Take-clause-whole
+returns-in-Take-clause-whole g c e = absurd (let z : Take ≡ Value = sym c.in-Take.is ∙ e in cc)
+
+pub returns-in-Ok-clause-whole : goal.returns-in-Ok-clause-whole
+returns-in-Ok-clause-whole g c e = absurd (c.carry_out_deed.ensures.kind e)
+
+pub returns-in-Err-clause-whole : goal.returns-in-Err-clause-whole
+returns-in-Err-clause-whole g c e = absurd (c.carry_out_deed.ensures.kind e)

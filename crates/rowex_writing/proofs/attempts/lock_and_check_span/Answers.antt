@@ -70,7 +70,7 @@ returns-then-check_span-clause-taken g c e m w =
       within = c.requires.within;
       way_of = way_later table.layout c.args.seat.now.known c.check_span.new.seat.known m c.args.job.now.key.now c.args.job.now.way.now c.args.job.now.found
           (later_trans (works_later table g.G.Gate.becomes (c.args.seat.now, c.args.gate.now) (c.lock_span.new.seat, c.lock_span.new.gate) c.lock_span.ensures.tries.1.1) c.check_span.ensures.reads.goes.stays.0) w;
-      locked = span_later _ _ c.args.job.now.way.now c.args.job.now.span c.check_span.ensures.reads.goes.stays (c.lock_span.ensures.locked c.if-not-lock_span.false);
+      locked = span_later _ _ c.args.job.now.way.now c.args.job.now.span c.check_span.ensures.reads.goes.stays.1 c.check_span.ensures.reads.goes.stays.2 (c.lock_span.ensures.locked c.if-not-lock_span.false);
       checked = c.check_span.ensures.checked c.if-check_span.true;
     }
 
@@ -86,7 +86,7 @@ release_records_and_locks-requires-clause-span g c =
       possible = c.check_span.ensures.possible;
       within = c.requires.within;
       from = (m, way_later table.layout c.args.seat.now.known c.check_span.new.seat.known m job.key.now job.way.now job.found (later_trans (works_later table g.G.Gate.becomes (c.args.seat.now, c.args.gate.now) (c.lock_span.new.seat, c.lock_span.new.gate) tries) goes.stays.0) w);
-      locked = span_later _ _ job.way.now job.span goes.stays (c.lock_span.ensures.locked c.if-not-lock_span.false);
+      locked = span_later _ _ job.way.now job.span goes.stays.1 goes.stays.2 (c.lock_span.ensures.locked c.if-not-lock_span.false);
     }
 
 pub returns-clause-run : goal.returns-clause-run

@@ -1,5 +1,5 @@
 -- What is left is published, as one with the node beside it or alone; or all is given back.
-use Rattle.std.proofs.Common.{◌-◌, subst, ap, arith, length}
+use Rattle.std.proofs.Common.{◌-◌, subst, ap, arith, length, ◌≡◌, ◌∙◌, sym, Err}
 use Rattle.rowex_reading.proofs.Seeing.{later_trans}
 use Rattle.rowex_writing.specs.Changes.{IsTakeChange}
 use Rattle.rowex_writing.specs.Locks.{span_numbers}
@@ -12,6 +12,9 @@ use Rattle.rowex_writing.proofs.Runs.{goes_run, runs_trans, works_run}
 use Rattle.rowex_writing.proofs.Tried.{nodes_once, nodes_then}
 use Rattle.rowex_writing.proofs.Wider.{few_then, removal_changes}
 use Rattle.rowex_writing.proofs.attempts.make_removal.Goals as goal
+use Rattle.rowex_writing.proofs.Valued.{busy_leafless, failed_before, full_failed, held_few}
+use Rattle.rowex_writing.proofs.Attempting.{leaves_refused}
+use Rattle.rowex_writing.specs.declared.attempts.TryFault.TheVariants.{FullLeaves}
 
 pub try_merge-requires-clause-takes : goal.try_merge-requires-clause-takes
 try_merge-requires-clause-takes g c = takes_taken c.args.table.now g.G.Gate.becomes (c.args.seat.now, c.args.gate.now) (c.make_without_leaf.new.seat, c.make_without_leaf.new.gate) c.args.job.now c.make_without_leaf.ensures.done.goes c.requires.taken c.requires.some
@@ -34,8 +37,8 @@ returns-then-try_merge-clause-done g c = λ ok.
     let later = c.make_without_leaf.ensures.done.goes.stays.0 in
     (x, was, subst (λ q. IsTakeChange q job.key.now job.found x was) later.pass is, changed_since c.args.seat.now.known c.make_without_leaf.new.seat.known c.try_merge.new.seat.known x was later changed)
 
-pub publish_change-requires : goal.publish_change-requires
-publish_change-requires g c =
+pub publish_or_undo-requires : goal.publish_or_undo-requires
+publish_or_undo-requires g c =
     let job = c.args.job.now in
     let (x, was, is, may) = c.in-Ok.ensures.done.raised in
     let takes = takes_taken c.args.table.now g.G.Gate.becomes (c.args.seat.now, c.args.gate.now) (c.make_without_leaf.new.seat, c.make_without_leaf.new.gate) c.args.job.now c.make_without_leaf.ensures.done.goes c.requires.taken c.requires.some in
@@ -51,9 +54,9 @@ returns-else-try_merge-clause-run g c =
     let (t, same) = is_taking c.args.table.now c.args.seat.now c.args.job.now c.requires.taken c.requires.some in
     let (x, was, is, may) = c.in-Ok.ensures.done.raised in
     let s = c.try_merge.ensures.same c.if-try_merge.false in
-    removal_changes c.args.table.now g.G.Gate.becomes c.args.job.now t c.make_without_leaf.new.build.left_nodes 80 (c.args.seat.now, c.args.gate.now) (c.make_without_leaf.new.seat, c.make_without_leaf.new.gate) (c.publish_change.new.seat, c.publish_change.new.gate) (omega arith) (goes_run c.args.table.now g.G.Gate.becomes (c.args.seat.now, c.args.gate.now) (c.make_without_leaf.new.seat, c.make_without_leaf.new.gate) c.make_without_leaf.ensures.done.goes) (c.make_without_leaf.ensures.walk (omega (arith, t.below.last)))
-    (few_then c.args.table.now g.G.Gate.becomes (span_numbers c.args.job.now.way.now c.args.job.now.span) c.make_without_leaf.new.build.left_nodes 80 (c.make_without_leaf.new.seat, c.make_without_leaf.new.gate) (c.try_merge.new.seat, c.try_merge.new.gate) (c.publish_change.new.seat, c.publish_change.new.gate) c.try_merge.ensures.tries c.publish_change.ensures.run
-    (omega (arith, c.publish_change.ensures.few, may.few, ap length s.1, t.below.last)))
+    removal_changes c.args.table.now g.G.Gate.becomes c.args.job.now t c.make_without_leaf.new.build.left_nodes 81 (c.args.seat.now, c.args.gate.now) (c.make_without_leaf.new.seat, c.make_without_leaf.new.gate) (c.publish_or_undo.new.seat, c.publish_or_undo.new.gate) (omega arith) (goes_run c.args.table.now g.G.Gate.becomes (c.args.seat.now, c.args.gate.now) (c.make_without_leaf.new.seat, c.make_without_leaf.new.gate) c.make_without_leaf.ensures.done.goes) (c.make_without_leaf.ensures.walk (omega (arith, t.below.last)))
+    (few_then c.args.table.now g.G.Gate.becomes (span_numbers c.args.job.now.way.now c.args.job.now.span) c.make_without_leaf.new.build.left_nodes 81 (c.make_without_leaf.new.seat, c.make_without_leaf.new.gate) (c.try_merge.new.seat, c.try_merge.new.gate) (c.publish_or_undo.new.seat, c.publish_or_undo.new.gate) c.try_merge.ensures.tries c.publish_or_undo.ensures.run
+    (omega (arith, c.publish_or_undo.ensures.few, may.few, ap length s.1, t.below.last, held_few c.args.job.now.found)))
 
 pub returns-else-try_merge-clause-done : goal.returns-else-try_merge-clause-done
 returns-else-try_merge-clause-done g c = λ ok.
@@ -63,7 +66,7 @@ returns-else-try_merge-clause-done g c = λ ok.
     let s = c.try_merge.ensures.same c.if-try_merge.false in
     let now = replace_later c.args.table.now c.make_without_leaf.new.seat c.try_merge.new.seat c.make_without_leaf.new.build.made.items c.try_merge.new.build.made.items job c.in-Ok.raised x was l.1 l.2 l.0 s.0 s.1 may in
     let later = later_trans c.make_without_leaf.ensures.done.goes.stays.0 l.0 in
-    (x, was, is, changed_since c.args.seat.now.known c.try_merge.new.seat.known c.publish_change.new.seat.known x was later (c.publish_change.ensures.changed x was now))
+    (x, was, is, changed_since c.args.seat.now.known c.try_merge.new.seat.known c.publish_or_undo.new.seat.known x was later (c.publish_or_undo.ensures.changed ok x was now))
 
 pub undo_change-requires : goal.undo_change-requires
 undo_change-requires g c = record {
@@ -87,7 +90,21 @@ returns-in-Err-clause-run g c = λ a h.
       omega (arith, c.in-Err.ensures.done.few, c.undo_change.ensures.few, c.in-Err.ensures.done.full.few, count, t.below.last, c.requires.some),
     )
 
-pub returns-in-Err-clause-full : goal.returns-in-Err-clause-full
-returns-in-Err-clause-full g c =
-    no_room c.args.table.now g.G.Gate.becomes c.args.job.now.key.now (c.args.seat.now, c.args.gate.now) (c.make_without_leaf.new.seat, c.make_without_leaf.new.gate) (c.undo_change.new.seat, c.undo_change.new.gate) _ c.in-Err.full
-    c.make_without_leaf.ensures.done.goes c.undo_change.ensures.works c.undo_change.ensures.rest c.in-Err.ensures.done.full.full_of
+pub returns-in-Err-clause-failed : goal.returns-in-Err-clause-failed
+returns-in-Err-clause-failed g c =
+    rw c.refusal_of.ensures (full_failed c.args.table.now.layout c.args.job.now c.args.seat.now.known c.undo_change.new.seat.known _ c.in-Err.full
+    (no_room c.args.table.now g.G.Gate.becomes c.args.job.now.key.now (c.args.seat.now, c.args.gate.now) (c.make_without_leaf.new.seat, c.make_without_leaf.new.gate) (c.undo_change.new.seat, c.undo_change.new.gate) _ c.in-Err.full
+    c.make_without_leaf.ensures.done.goes c.undo_change.ensures.works c.undo_change.ensures.rest c.in-Err.ensures.done.full.full_of))
+
+pub returns-in-Err-clause-leafless : goal.returns-in-Err-clause-leafless
+returns-in-Err-clause-leafless g c is =
+    let same : c.refusal_of.result ≡ FullLeaves = cc in
+    c.make_without_leaf.ensures.leafless (c.in-Err.is ∙ ap Err (leaves_refused c.in-Err.full (sym c.refusal_of.ensures ∙ same)))
+
+pub returns-else-try_merge-clause-failed : goal.returns-else-try_merge-clause-failed
+returns-else-try_merge-clause-failed g c =
+    let l = c.try_merge.ensures.later c.if-try_merge.false in
+    failed_before c.args.table.now.layout c.args.job.now c.args.seat.now.known c.try_merge.new.seat.known c.publish_or_undo.new.seat.known _ c.publish_or_undo.result (later_trans c.make_without_leaf.ensures.done.goes.stays.0 l.0) c.publish_or_undo.ensures.failed
+
+pub returns-else-try_merge-clause-leafless : goal.returns-else-try_merge-clause-leafless
+returns-else-try_merge-clause-leafless g c = busy_leafless c.publish_or_undo.result _ c.publish_or_undo.ensures.failed

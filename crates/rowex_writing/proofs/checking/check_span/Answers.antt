@@ -27,7 +27,7 @@ entries_stand-requires-2 g c =
         possible = c.root_stands.ensures.possible;
         within = c.requires.held.within;
         from = (m, way_later c.args.table.now.layout c.args.seat.now.known c.root_stands.new.seat.known m c.args.job.now.key.now c.args.job.now.way.now c.args.job.now.found goes.stays.0 w);
-        locked = span_later c.args.seat.now.known c.root_stands.new.seat.known c.args.job.now.way.now c.args.job.now.span goes.stays c.requires.held.locked;
+        locked = span_later c.args.seat.now.known c.root_stands.new.seat.known c.args.job.now.way.now c.args.job.now.span goes.stays.1 goes.stays.2 c.requires.held.locked;
       };
     }
 

@@ -29,7 +29,7 @@ use Rattle.tries.specs.Content.{item}
 
 -- ---- no leaf record was free
 pub returns-in_default-make_leaf : goal.returns-in_default-make_leaf
-returns-in_default-make_leaf g c = record { done = no_leaf_free c.make_leaf.ensures.goes c.in_default-make_leaf.ensures.made c.make_leaf.ensures.few }
+returns-in_default-make_leaf g c = record { done = no_leaf_free c.make_leaf.ensures.goes c.in_default-make_leaf.ensures.made c.make_leaf.ensures.few refl }
 
 -- ---- the node
 pub pair_with_leaf-pair-requires : goal.pair_with_leaf-pair-requires
@@ -142,6 +142,7 @@ returns g c = record {
                     (pair_may c.args.table.now c.args.seat.now m job.key.now job.way.now job.found job.span t c.make_node.new.seat c.make_node.new.build.made.items c.in-Some.leaf job.value goes.stays.0 goes.stays.1 goes.stays.2
                     c.args.position c.in-Leaf.old here c.in-Some-make_node.entry more side leaf.fresh leaf.spelled building spot over);
                 few = omega (arith, made_one c.in-Some.ensures.made.building, c.make_node.ensures.makes.more);
+                takes = λ number is. absurd cc;
               }),
         ));
     full = tt;

@@ -1,5 +1,5 @@
 -- The leaf's record, and the rest.
-use Rattle.std.proofs.Common.{◌-◌, ap, arith, get_or, sym}
+use Rattle.std.proofs.Common.{◌-◌, ap, arith, get_or, sym, refl}
 use Rattle.std.proofs.lemmas.Option.{get_or_from_slice_get}
 use Rattle.std.proofs.lemmas.Result.{IfErr-weaker}
 use Rattle.insert_cases.specs.declared.choice.PathNode.{PathNode}
@@ -11,7 +11,7 @@ use Rattle.rowex_writing.proofs.Runs.{goes_run, run_count}
 use Rattle.rowex_writing.proofs.growing.grow_node.Goals as goal
 
 pub returns-in_default : goal.returns-in_default
-returns-in_default g c = record { done = no_leaf_free c.make_leaf.ensures.goes c.in_default.ensures.made c.make_leaf.ensures.few }
+returns-in_default g c = record { done = no_leaf_free c.make_leaf.ensures.goes c.in_default.ensures.made c.make_leaf.ensures.few refl }
 
 pub grow_with_leaf-requires : goal.grow_with_leaf-requires
 grow_with_leaf-requires g c =

@@ -98,6 +98,7 @@ returns-clause-raised g c =
           grown_ends c.args.table.now c.args.seat.now c.raise_with_leaf.new.seat c.args.build.now.made.items c.raise_with_leaf.new.build.made.items job c.args.new.now may
           goes.stays.0 goes.stays.1 goes.stays.2 c.in-Some.entry c.show_number_fits.ensures c.in-Some.stays (c.in-Some.ensures.made may.growing) c.in-Some.ensures.low spot _ over gone;
       few = omega (arith, made_one may.growing.lowest.made_leaf.building, c.raise_with_leaf.ensures.makes.more, may.within.0);
+      takes = λ number is. absurd cc;
     } in
     replace_later c.args.table.now c.raise_with_leaf.new.seat c.leaves_free_node.new.seat c.raise_with_leaf.new.build.made.items c.leaves_free_node.new.build.made.items job raised _ None here.seat here.possible
     c.leaves_free_node.ensures.goes.stays.0 (c.leaves_free_node.ensures.goes.stays.1, c.leaves_free_node.ensures.goes.stays.2, c.leaves_free_node.ensures.own) c.leaves_free_node.ensures.made made

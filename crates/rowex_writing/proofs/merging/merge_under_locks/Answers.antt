@@ -19,6 +19,7 @@ publish_merge-requires g c =
         subst (λ made. MayMergeInto c.args.table.now c.make_merge_records.new.seat made c.args.job.now number c.in-Some.entry) (sym c.list_merged_records.ensures.made) c.in-Some.ensures.may,
         c.list_merged_records.ensures.gone,
       );
+      loaded = λ number value is. c.make_merge_records.ensures.goes.stays.3 number value (c.requires.loaded number value is);
     }
 
 pub returns-in-Some-clause-run : goal.returns-in-Some-clause-run

@@ -8,14 +8,14 @@ use Rattle.rowex_writing.proofs.merging.publish_merge.Goals as goal
 pub publish_entry-requires : goal.publish_entry-requires
 publish_entry-requires g c =
     let (number, w, may, listed) = c.requires.may in
-    let store = merge_store c.args.table.now c.args.seat.now c.args.build.now _ c.args.job.now number c.args.entry c.spot_above.result w may listed
+    let store = merge_store c.args.table.now c.args.seat.now c.args.build.now _ c.args.job.now number c.args.entry c.spot_above.result w may c.requires.loaded listed
     (ap (λ i. slice_range c.args.job.now.way.now i (c.args.job.now.span.end - 1)) c.saturating_sub.ensures) c.spot_above.ensures in
     record { may = (may.change, may.was, store) }
 
 pub returns-clause-done : goal.returns-clause-done
 returns-clause-done g c =
     let (number, w, may, listed) = c.requires.may in
-    let store = merge_store c.args.table.now c.args.seat.now c.args.build.now _ c.args.job.now number c.args.entry c.spot_above.result w may listed
+    let store = merge_store c.args.table.now c.args.seat.now c.args.build.now _ c.args.job.now number c.args.entry c.spot_above.result w may c.requires.loaded listed
     (ap (λ i. slice_range c.args.job.now.way.now i (c.args.job.now.span.end - 1)) c.saturating_sub.ensures) c.spot_above.ensures in
     (may.change, may.was, may.takes, c.publish_entry.ensures.changed may.change may.was store)
 

@@ -14,13 +14,13 @@ list_gone_records-requires g c =
 pub publish_entry-requires : goal.publish_entry-requires
 publish_entry-requires g c =
     let (x, was, may) = c.requires.may in
-    let store = change_store c.args.table.now c.args.seat.now c.args.build.now.made.items c.list_gone_records.new.build c.as_slice.result.now c.args.job.now c.args.raised c.spot_above.result x was c.requires.held
+    let store = change_store c.args.table.now c.args.seat.now c.args.build.now.made.items c.list_gone_records.new.build c.as_slice.result.now c.args.job.now c.args.raised c.spot_above.result x was c.requires.held c.requires.loaded
     c.list_gone_records.ensures.made c.list_gone_records.ensures.gone (c.as_slice.ensures.value ∙ c.list_kept_nodes-kept.ensures) c.spot_above.ensures may in
     record { may = (x, was, store) }
 
 pub returns-clause-changed : goal.returns-clause-changed
 returns-clause-changed g c = λ x was may.
-    c.publish_entry.ensures.changed x was (change_store c.args.table.now c.args.seat.now c.args.build.now.made.items c.list_gone_records.new.build c.as_slice.result.now c.args.job.now c.args.raised c.spot_above.result x was c.requires.held
+    c.publish_entry.ensures.changed x was (change_store c.args.table.now c.args.seat.now c.args.build.now.made.items c.list_gone_records.new.build c.as_slice.result.now c.args.job.now c.args.raised c.spot_above.result x was c.requires.held c.requires.loaded
     c.list_gone_records.ensures.made c.list_gone_records.ensures.gone (c.as_slice.ensures.value ∙ c.list_kept_nodes-kept.ensures) c.spot_above.ensures may)
 
 pub returns-clause-few : goal.returns-clause-few

@@ -17,7 +17,7 @@ ready_records-requires g c = let (x, was, s) = c.requires.may in record { buildi
 pub stored_word-requires : goal.stored_word-requires
 stored_word-requires g c =
     let (x, was, s) = c.requires.may in
-    now_spells c.args.table.now g.G.Gate.becomes (c.args.seat.now, c.args.gate.now) (c.ready_records.new.seat, c.ready_records.new.gate) c.args.build.now.made.items c.args.store.spot (entry_word c.args.store.entry) c.args.build.now.gone.items c.ready_records.ensures.goes x was s.ready (c.ready_records.ensures.ready s.ready.news s.ready.building)
+    now_spells c.args.table.now g.G.Gate.becomes (c.args.seat.now, c.args.gate.now) (c.ready_records.new.seat, c.ready_records.new.gate) c.args.build.now.made.items c.args.store.spot (entry_word c.args.store.entry) c.args.build.now.gone.items c.ready_records.ensures.goes x was s.ready (c.ready_records.ensures.ready s.ready.news s.ready.building) s.told s.of_entry
 
 pub publish-requires-clause-own : goal.publish-requires-clause-own
 publish-requires-clause-own g c = seat_of c.args.table.now g.G.Gate.becomes (c.args.seat.now, c.args.gate.now) (c.ready_records.new.seat, c.ready_records.new.gate) c.ready_records.ensures.goes c.requires.may.2.ready.building.seat
@@ -26,7 +26,7 @@ pub publish-requires-clause-may : goal.publish-requires-clause-may
 publish-requires-clause-may g c =
     let (x, was, s) = c.requires.may in
     subst (λ w. MayStep c.args.table.now.layout (λ found. Publish c.args.store.spot w) c.ready_records.new.seat.known) (sym c.stored_word.ensures)
-    (now_publishes c.args.table.now g.G.Gate.becomes (c.args.seat.now, c.args.gate.now) (c.ready_records.new.seat, c.ready_records.new.gate) c.args.build.now.made.items c.args.store.spot (entry_word c.args.store.entry) c.args.build.now.gone.items c.ready_records.ensures.goes x was s.ready (c.ready_records.ensures.ready s.ready.news s.ready.building)).may
+    (now_publishes c.args.table.now g.G.Gate.becomes (c.args.seat.now, c.args.gate.now) (c.ready_records.new.seat, c.ready_records.new.gate) c.args.build.now.made.items c.args.store.spot (entry_word c.args.store.entry) c.args.build.now.gone.items c.ready_records.ensures.goes x was s.ready (c.ready_records.ensures.ready s.ready.news s.ready.building) s.told).may
 
 pub retire_records-requires-clause-own : goal.retire_records-requires-clause-own
 retire_records-requires-clause-own g c = c.publish.ensures.seat.0 ∙ seat_of c.args.table.now g.G.Gate.becomes (c.args.seat.now, c.args.gate.now) (c.ready_records.new.seat, c.ready_records.new.gate) c.ready_records.ensures.goes c.requires.may.2.ready.building.seat
@@ -38,14 +38,14 @@ pub retire_records-requires-clause-published : goal.retire_records-requires-clau
 retire_records-requires-clause-published g c =
     let (x, was, s) = c.requires.may in
     subst (λ z. HasJustPublished c.publish.new.seat.known z (numbers_of c.args.kept.now)) (sym c.as_slice.ensures.value)
-    (just_published c.args.table.now g.G.Gate.becomes (c.args.seat.now, c.args.gate.now) (c.ready_records.new.seat, c.ready_records.new.gate) c.args.build.now.made.items c.args.store.spot (entry_word c.args.store.entry) c.args.build.now.gone.items c.ready_records.ensures.goes x was s.ready (c.ready_records.ensures.ready s.ready.news s.ready.building)
+    (just_published c.args.table.now g.G.Gate.becomes (c.args.seat.now, c.args.gate.now) (c.ready_records.new.seat, c.ready_records.new.gate) c.args.build.now.made.items c.args.store.spot (entry_word c.args.store.entry) c.args.build.now.gone.items c.ready_records.ensures.goes x was s.ready (c.ready_records.ensures.ready s.ready.news s.ready.building) s.told
     (numbers_of c.args.kept.now) s.keeps c.publish.new.seat.known (word_published c.args.table.now.layout c.args.store.spot c.stored_word.result (entry_word c.args.store.entry) c.ready_records.new.seat.known c.publish.new.seat.known c.stored_word.ensures c.publish.ensures.event) s.apart)
 
 pub retire_records-requires-clause-anchored : goal.retire_records-requires-clause-anchored
 retire_records-requires-clause-anchored g c =
     let (x, was, s) = c.requires.may in
     subst (λ z. IsAnchored z c.publish.new.seat.known) (sym c.is_root.ensures)
-    (still_anchored c.args.table.now g.G.Gate.becomes (c.args.seat.now, c.args.gate.now) (c.ready_records.new.seat, c.ready_records.new.gate) c.args.build.now.made.items c.args.store.spot (entry_word c.args.store.entry) c.args.build.now.gone.items c.ready_records.ensures.goes x was s.ready (c.ready_records.ensures.ready s.ready.news s.ready.building)
+    (still_anchored c.args.table.now g.G.Gate.becomes (c.args.seat.now, c.args.gate.now) (c.ready_records.new.seat, c.ready_records.new.gate) c.args.build.now.made.items c.args.store.spot (entry_word c.args.store.entry) c.args.build.now.gone.items c.ready_records.ensures.goes x was s.ready (c.ready_records.ensures.ready s.ready.news s.ready.building) s.told
     (numbers_of c.args.kept.now) s.keeps c.publish.new.seat.known (word_published c.args.table.now.layout c.args.store.spot c.stored_word.result (entry_word c.args.store.entry) c.ready_records.new.seat.known c.publish.new.seat.known c.stored_word.ensures c.publish.ensures.event) (is_root c.args.store.spot) s.anchored)
 
 pub returns-clause-run : goal.returns-clause-run
@@ -58,7 +58,7 @@ returns-clause-run g c =
 
 pub returns-clause-changed : goal.returns-clause-changed
 returns-clause-changed g c = λ x was s.
-    has_changed c.args.table.now g.G.Gate.becomes (c.args.seat.now, c.args.gate.now) (c.ready_records.new.seat, c.ready_records.new.gate) c.args.build.now.made.items c.args.store.spot (entry_word c.args.store.entry) c.args.build.now.gone.items c.ready_records.ensures.goes x was s.ready (c.ready_records.ensures.ready s.ready.news s.ready.building)
+    has_changed c.args.table.now g.G.Gate.becomes (c.args.seat.now, c.args.gate.now) (c.ready_records.new.seat, c.ready_records.new.gate) c.args.build.now.made.items c.args.store.spot (entry_word c.args.store.entry) c.args.build.now.gone.items c.ready_records.ensures.goes x was s.ready (c.ready_records.ensures.ready s.ready.news s.ready.building) s.told
     (numbers_of c.args.kept.now) s.keeps c.publish.new.seat.known (word_published c.args.table.now.layout c.args.store.spot c.stored_word.result (entry_word c.args.store.entry) c.ready_records.new.seat.known c.publish.new.seat.known c.stored_word.ensures c.publish.ensures.event) c.retire_records.new.seat.known
     c.retire_records.ensures.rest c.retire_records.ensures.front (works_fresh c.args.table.now g.G.Gate.becomes (c.publish.new.seat, c.publish.new.gate) (c.retire_records.new.seat, c.retire_records.new.gate) c.retire_records.ensures.works)
 

@@ -12,6 +12,9 @@ use Rattle.rowex_writing.proofs.Lifting.{fits_above, up_there, up_below, up_low,
 use Rattle.rowex_writing.proofs.Walked.{makes_failed, makes_then, makes_within}
 use Rattle.rowex_writing.proofs.rising.+raising.Goals as goal
 
+pub raise_to_end-bounds-way-level : goal.raise_to_end-bounds-way-level
+raise_to_end-bounds-way-level g t c = slice_get_within c.args.way.now c.args.rise.level c.requires.up.step c.requires.up.at
+
 pub raise_to_end-offset_bounds-way-level : goal.raise_to_end-offset_bounds-way-level
 raise_to_end-offset_bounds-way-level g t c = let h = slice_get_within c.args.way.now c.args.rise.level c.requires.up.step c.requires.up.at in search (rules, h)
 

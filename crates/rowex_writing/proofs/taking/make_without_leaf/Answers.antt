@@ -1,5 +1,5 @@
 -- The way has a node, or none.
-use Rattle.std.proofs.Common.{[], ◌∷◌, Some, refl, sym, ap, subst, arith, length}
+use Rattle.std.proofs.Common.{[], ◌∷◌, Some, refl, sym, ap, subst, arith, length, ◌≡◌, ◌∙◌, None}
 use Rattle.versions.specs.declared.Rec.TheVariants.{Leaf as a_leaf}
 use Rattle.version_laws.specs.Writer.{removed_change}
 use Rattle.rowex_writing.specs.Changes.{IsTakeChange, MayPublishOnceReady}
@@ -11,6 +11,7 @@ use Rattle.rowex_writing.proofs.Raised.{just_leaf_gone, nodes_alone, taken_raise
 use Rattle.rowex_writing.proofs.Removing.{found_key, may_empty, only_records, take_below, take_only}
 use Rattle.rowex_writing.proofs.taking.make_without_leaf.Goals as goal
 use Rattle.tries.specs.Content.{item}
+use Rattle.rowex_reading.specs.declared.descent.Found.TheVariants.{Leaf}
 
 pub remake_without_leaf-requires-clause-below : goal.remake_without_leaf-requires-clause-below
 remake_without_leaf-requires-clause-below g c =
@@ -54,6 +55,7 @@ returns-clause-done g c = record {
               (subst (λ made. MayPublishOnceReady c.args.table.now c.args.seat.now made spot 0 x (Some c.in-Leaf.value) (a_leaf c.in-Leaf.number ∷ [])) (sym c.clear.ensures)
               (may_empty c.args.table.now c.args.seat.now c.in-Leaf.number job.key.now c.in-Leaf.value only job.way.now job.span.end top spot over));
           few = omega (arith, ap length c.clear.ensures);
+          takes = λ leaf is. (let number : c.in-Leaf.number ≡ leaf = cc in (c.in-Leaf.value, same ∙ ap (λ n. Leaf n c.in-Leaf.value None) number, refl));
         },
       ));
   full = tt;

@@ -1,5 +1,5 @@
 -- What is left of the last node takes its place.
-use Rattle.std.proofs.Common.{rules, ◌≡◌, ◌≤◌, ◌+◌, ◌*◌, [], ◌∷◌, ◌++◌, List, get_or, length, map, ap, sym, subst, Some, refl, arith}
+use Rattle.std.proofs.Common.{rules, ◌≡◌, ◌≤◌, ◌+◌, ◌*◌, [], ◌∷◌, ◌++◌, List, get_or, length, map, ap, sym, subst, Some, refl, arith, ◌∙◌, None}
 use Rattle.std.proofs.lemmas.Option.{slice_get_within}
 use Rattle.insert_cases.specs.declared.choice.PathNode.{PathNode}
 use Rattle.record_words.specs.Entry.{HasEntryWord, entry_word}
@@ -17,6 +17,7 @@ use Rattle.rowex_writing.proofs.Removing.{IsRaised, last_one, left_raised, leaf_
 use Rattle.rowex_writing.proofs.Walked.{walk_begins}
 use Rattle.rowex_writing.proofs.taking.remake_without_leaf.Goals as goal
 use Rattle.tries.specs.Content.{item}
+use Rattle.rowex_reading.specs.declared.descent.Found.TheVariants.{Leaf as FoundLeaf}
 
 pub raise_without_leaf-requires-clause-locked : goal.raise_without_leaf-requires-clause-locked
 raise_without_leaf-requires-clause-locked g c =
@@ -72,6 +73,7 @@ returns-clause-raised g c = λ m value b.
           (may_remake table c.args.seat.now m job c.args.number value b _ at c.raise_without_leaf.new.seat c.raise_without_leaf.new.build.made.items news words h c.in-Some.entry
           c.raise_without_leaf.ensures.makes.goes.stays building side (c.in-Some.ensures.low words h) word spot over));
       few = omega (arith, ap length c.requires.made, c.raise_without_leaf.ensures.makes.more);
+      takes = λ leaf is. (let same : c.args.number ≡ leaf = cc in (value, b.is_found ∙ ap (λ n. FoundLeaf n value None) same, refl));
     }
 
 pub raise_without_leaf-requires-clause-building : goal.raise_without_leaf-requires-clause-building

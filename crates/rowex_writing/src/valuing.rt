@@ -1,0 +1,110 @@
+//! The value of a key that is held: it is loaded under the lock of what names the key's leaf, and a new one is stored to the leaf.
+
+ghost use Rattle.std.specs.Prelude.{◌≡◌, ◌+◌, ◌≤◌, ◌<◌, ◌^◌, ℕ, IsSome, MatchOption, true, false};
+ghost use Rattle.publish_laws.specs.Ending.{IsAtRest};
+ghost use Rattle.rowex_reading.specs.Possible.{IsPossible};
+ghost use Rattle.rowex_reading.specs.Ways.{IsFoundAt, value_of as the_value};
+ghost use Rattle.rowex_table.specs.Seats.{IsSeatOf};
+ghost use Rattle.rowex_writing.specs.Asking.{aim_of as the_aim};
+ghost use Rattle.rowex_writing.specs.Attempts.{HasDone, HasLoadedFound, HasMoved, IsFoundAgain};
+ghost use Rattle.rowex_writing.specs.Changes.{HasRun, HasTakenPlan};
+ghost use Rattle.rowex_writing.specs.Counts.{held_loads};
+ghost use Rattle.rowex_writing.specs.Going.{ReadsOn};
+ghost use Rattle.rowex_writing.specs.Jobs.{IsJobFrom};
+ghost use Rattle.rowex_writing.specs.Locks.{locks_of};
+ghost use Rattle.rowex_writing.specs.declared.plan.Deed.TheVariants.{Value};
+
+use crate::asking::aim_of;
+use crate::deeds::Job;
+use crate::ending::unlock_kept;
+use finite_map::Call;
+use rowex_core::{Gate, Rec, Spot};
+use rowex_reading::Found;
+use rowex_table::{HotTable, TableSeat};
+
+/// Returns what the search of `job` found, with the value that the leaf has now if it has the key: the value is loaded, under the lock of
+/// what names the leaf. `None` if the call has nothing to change at this value: another pass has changed it since.
+pub(crate) fn load_found_again<G: Gate>(
+    table: &HotTable,
+    seat: &mut TableSeat,
+    gate: &mut G,
+    job: &Job<'_>,
+    call: &Call,
+) -> Option<Found>
+    requires own { IsSeatOf table.now seat.old }
+    requires possible { IsPossible table.now.layout seat.old.known }
+    requires from { (m : ℕ) × IsJobFrom table.now.layout seat.old.known m job.now }
+    requires aims { IsSome (the_aim call.now (the_value job.now.found)) }
+    ensures reads { ReadsOn table.now G.becomes (seat.old, gate.old) (seat.new, gate.new) }
+    ensures again { MatchOption result (HasMoved table.now.layout job.now seat.old.known seat.new.known)
+        (λ now. IsFoundAgain call.now job.now.found now × HasLoadedFound seat.new.known now ×
+        ((m : ℕ) → IsJobFrom table.now.layout seat.old.known m job.now → IsFoundAt seat.new.known m job.now.key.now now)) }
+    ensures few { seat.new.known.steps ≤ seat.old.known.steps + held_loads job.now.found }
+{
+    let Found::Leaf {
+        number,
+        mismatch: None,
+        ..
+    } = job.found
+    else {
+        return Some(job.found);
+    };
+    let value = table.load_value_at(seat, gate, number, table.start_of(Rec::Leaf(number)));
+    match aim_of(call, Some(value)) {
+        None => None,
+        Some(_) => Some(Found::Leaf {
+            number,
+            value,
+            mismatch: None,
+        }),
+    }
+}
+
+/// Loads the value of the leaf that the search of `job` found, if it has the key, and returns whether it is the value in `job.found`. Else
+/// another pass has changed it since. If no leaf has the key, returns true.
+pub(crate) fn is_unchanged<G: Gate>(
+    table: &HotTable,
+    seat: &mut TableSeat,
+    gate: &mut G,
+    job: &Job<'_>,
+) -> bool
+    requires own { IsSeatOf table.now seat.old }
+    requires possible { IsPossible table.now.layout seat.old.known }
+    requires from { (m : ℕ) × IsJobFrom table.now.layout seat.old.known m job.now }
+    ensures reads { ReadsOn table.now G.becomes (seat.old, gate.old) (seat.new, gate.new) }
+    ensures same { result ≡ true → HasLoadedFound seat.new.known job.now.found }
+    ensures moved { result ≡ false → HasMoved table.now.layout job.now seat.old.known seat.new.known }
+    ensures few { seat.new.known.steps ≤ seat.old.known.steps + held_loads job.now.found }
+{
+    match job.found {
+        Found::Leaf {
+            number,
+            value,
+            mismatch: None,
+        } => table.load_value_at(seat, gate, number, table.start_of(Rec::Leaf(number))) == value,
+        _ => true,
+    }
+}
+
+/// Stores the value of `job` to the leaf that has the key, and unlocks what is locked. That store is the change. No record is claimed, and
+/// none goes.
+pub(crate) fn store_value<G: Gate>(
+    table: &HotTable,
+    seat: &mut TableSeat,
+    gate: &mut G,
+    job: &Job<'_>,
+)
+    requires taken { HasTakenPlan table.now seat.old job.now Value }
+    requires loaded { HasLoadedFound seat.old.known job.now.found }
+    ensures run { HasRun table.now G.becomes (seat.old, gate.old) (seat.new, gate.new) }
+    ensures rest { IsAtRest seat.new.known }
+    ensures done { HasDone seat.old.known seat.new.known Value job.now.key.now job.now.value job.now.found }
+    ensures few { seat.new.known.steps ≤ seat.old.known.steps + 2 + locks_of job.now.span }
+{
+    let Found::Leaf { number, .. } = job.found else {
+        unreachable!()
+    };
+    table.publish(seat, gate, Spot::Value { leaf: number }, job.value);
+    let kept = &job.way[job.span.first_locked()..job.span.len];
+    unlock_kept(table, seat, gate, kept, job.span.end == 0);
+}
