@@ -13,6 +13,8 @@ enum Object {
     Leaf(u32),
     Node(u32),
     Entry(u32, u8),
+    /// The value of a leaf.
+    Value(u32),
     /// A pass or an epoch.
     Number(u64),
 }
@@ -26,6 +28,7 @@ impl fmt::Display for Object {
             Object::Leaf(number) => write!(f, " leaf {number}"),
             Object::Node(number) => write!(f, " node {number}"),
             Object::Entry(number, entry) => write!(f, " node {number} entry {entry}"),
+            Object::Value(number) => write!(f, " leaf {number} value"),
             Object::Number(number) => write!(f, " {number}"),
         }
     }
@@ -86,11 +89,12 @@ fn object_of_record(rec: Rec) -> Object {
     }
 }
 
-/// The root or the entry word at `spot`, as a line names it.
+/// The root, the entry or the value at `spot`, as a line names it.
 fn object_of_spot(spot: Spot) -> Object {
     match spot {
         Spot::Root => Object::Root,
         Spot::Slot { node, entry } => Object::Entry(node, entry),
+        Spot::Value { leaf } => Object::Value(leaf),
     }
 }
 

@@ -239,6 +239,39 @@ fn one_leaf_is_published(rt: HostRuntime) {
     expect_pairs(&rt, rt.alloc(), &replay, 1, &[(b'a', 5)]);
 }
 
+const VALUE: Spot = Spot::Value { leaf: 0 };
+
+// The value of leaf 0, the root, is stored under the anchor's lock. It is loaded as a value, not as a fixed word. Leaf 1 is nobody's.
+const VALUED: [Line; 12] = [
+    (0, Step::LoadRef(VALUE, 5), true),
+    (0, Step::Publish(VALUE, 6), false),
+    (0, Step::Lock(Target::Anchor, 2), true),
+    (1, Step::Publish(VALUE, 6), false),
+    (0, Step::Publish(Spot::Value { leaf: 1 }, 6), false),
+    (0, Step::Publish(VALUE, 6), true),
+    (1, Step::LoadRef(VALUE, 6), true),
+    (1, Step::LoadRef(VALUE, 5), false),
+    (1, Step::LoadFixed(LEAF, 1, 6), false),
+    (0, Step::Mark(LEAF, 1), false),
+    (0, Step::Unlock(Target::Anchor), true),
+    (0, Step::Publish(VALUE, 7), false),
+];
+
+/// A value changes where it stands, by the lock of what names its leaf; the leaf stays in the tree.
+#[test]
+fn a_value_changes_under_a_lock(rt: HostRuntime) {
+    let mut replay = make_replay(&rt, rt.alloc(), Layout::of(2, 1, 2));
+    expect_record_made(&rt, &mut replay, 0, LEAF, &words_of_leaf(b'a', 5));
+    expect_events(
+        &rt,
+        &mut replay,
+        &[(0, Step::Lock(Target::Anchor, 2), true)],
+    );
+    expect_events(&rt, &mut replay, &ONE_LEAF);
+    expect_events(&rt, &mut replay, &VALUED);
+    expect_pairs(&rt, rt.alloc(), &replay, 2, &[(b'a', 6)]);
+}
+
 // A short record has no word at offset 4. With a 0 behind them, eight bytes spell a key of nine, for which it has no room.
 const SHORT: [Line; 10] = [
     (0, Step::Claim(LEAF, 0), true),
