@@ -63,16 +63,16 @@ impl Origins {
         ensures { result ≡ leaf_start self.now.layout number }
     {
         let layout = &self.layout;
-        if number < layout.medium_from {
+        if number >= layout.long_from {
+            self.long + LEAF_WORDS * (number - layout.long_from) as usize
+        } else if number < layout.medium_from {
             self.short + SHORT_WORDS * number as usize
         } else if number < layout.large_from {
             self.medium + MEDIUM_WORDS * (number - layout.medium_from) as usize
         } else if number < layout.wide_from {
             self.large + LARGE_WORDS * (number - layout.large_from) as usize
-        } else if number < layout.long_from {
-            self.wide + WIDE_WORDS * (number - layout.wide_from) as usize
         } else {
-            self.long + LEAF_WORDS * (number - layout.long_from) as usize
+            self.wide + WIDE_WORDS * (number - layout.wide_from) as usize
         }
     }
 
