@@ -10,12 +10,12 @@ use Rattle.finite_map.specs.declared.Reply.TheVariants.{Inserted, Exists, New, W
 use Rattle.rowex_table.specs.Seats.{TableView}
 use Rattle.rowex_writing.specs.declared.attempts.TryFault.TheVariants.{FullLeaves}
 use Rattle.rowex_writing.specs.declared.plan.Full.TheVariants.{Nodes, Leaves}
-use Rattle.seat_calls.specs.Refusals.{fault_in}
-use Rattle.seat_calls.specs.declared.refusals.Refusal.{Refusal}
-use Rattle.seat_calls.specs.declared.refusals.Refusal.TheVariants.{Busy as IsBusy, HeldBack, Full as IsFull}
-use Rattle.seat_calls.specs.Answers.{MayRefuse}
-use Rattle.seat_calls.specs.Calls.{IsCallCounted}
-use Rattle.seat_calls.specs.Passes.{PassView}
+use Rattle.hot_index_calls.specs.Refusals.{fault_in}
+use Rattle.hot_index_calls.specs.declared.refusals.Refusal.{Refusal}
+use Rattle.hot_index_calls.specs.declared.refusals.Refusal.TheVariants.{Busy as IsBusy, HeldBack, Full as IsFull}
+use Rattle.hot_index_calls.specs.Answers.{MayRefuse}
+use Rattle.hot_index_calls.specs.Calls.{IsCallCounted}
+use Rattle.hot_index_calls.specs.Passes.{PassView}
 use Rattle.hot_index.specs.Handles.{HandleView, Stays}
 use Rattle.hot_c.specs.Calls.{Answers, HasOutcome, FitsInKey, TellsOutcome}
 use Rattle.hot_c.specs.Refusals.{TellsRefusal}

@@ -2,8 +2,8 @@
 use Rattle.std.proofs.Common.{◌≡◌, ℕ, ◌≤◌, List, [], ◌∷◌, length, slice_get, Bool, Option, Some, inl, inr, refl, subst, arith}
 use Rattle.std.specs.Option.{option_to_list}
 use Rattle.record_words.specs.declared.layout.Layout.{Layout}
-use Rattle.seat_calls.specs.Answers.{range_from}
-use Rattle.seat_calls.specs.Passes.{PassView}
+use Rattle.hot_index_calls.specs.Answers.{range_from}
+use Rattle.hot_index_calls.specs.Passes.{PassView}
 use Rattle.hot_c.specs.Calls.{KeepsAll}
 use Rattle.hot_c.specs.Ends.{FindsBy, FindsIn}
 use Rattle.hot_c.specs.Orders.{IsFilledIn}

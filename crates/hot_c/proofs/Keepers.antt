@@ -6,7 +6,7 @@ use Rattle.std.proofs.lemmas.List.{length-map, length-reverse, reverse-reverse}
 use Rattle.std.proofs.lemmas.List.Elements.{All-nil, All-cons}
 use Rattle.record_words.specs.declared.layout.Layout.{Layout}
 use Rattle.rowex_table.specs.Seats.{TableView}
-use Rattle.seat_calls.specs.Passes.{IsNewPass, Owns, PassView}
+use Rattle.hot_index_calls.specs.Passes.{IsNewPass, Owns, PassView}
 use Rattle.hot_index.specs.Handles.{HandleView, handle_at}
 use Rattle.hot_c.specs.Calls.{IsKeeper}
 use Rattle.hot_c.specs.declared.opened.Opened.{Opened}

@@ -9,12 +9,12 @@ use Rattle.finite_map.specs.Scans.{IsLawfulScan}
 use Rattle.record_words.specs.declared.layout.Layout.{Layout}
 use Rattle.version_laws.specs.Scan.{Range}
 use Rattle.version_laws.specs.Directions.{ScanLaw}
-use Rattle.seat_calls.specs.Answers.{HasFoundPair, IsListed, IsListedBy, IsUnnoted, range_from}
-use Rattle.seat_calls.specs.Calls.{IsListReadBy, IsRangeRead}
+use Rattle.hot_index_calls.specs.Answers.{HasFoundPair, IsListed, IsListedBy, IsUnnoted, range_from}
+use Rattle.hot_index_calls.specs.Calls.{IsListReadBy, IsRangeRead}
 use Rattle.hot_index.specs.Handles.{HandleView, Stays}
-use Rattle.seat_calls.specs.Passes.{PassView}
-use Rattle.seat_calls.specs.Reverse.{IsReverseListed}
-use Rattle.seat_calls.specs.Traces.{HasGotRange, untold}
+use Rattle.hot_index_calls.specs.Passes.{PassView}
+use Rattle.hot_index_calls.specs.Reverse.{IsReverseListed}
+use Rattle.hot_index_calls.specs.Traces.{HasGotRange, untold}
 use Rattle.hot_index.proofs.Reading.{range_whole}
 use Rattle.hot_c.specs.Calls.{FitsInKey, KeepsAll, StaysOpen}
 use Rattle.hot_c.specs.Orders.{Answer, IsFilledIn, IsListedIn, in_order}

@@ -9,15 +9,15 @@ use Rattle.record_words.specs.Layout.{HasStock, leaves_of}
 use Rattle.record_words.specs.declared.layout.Layout.{Layout}
 use Rattle.record_words.specs.declared.layout.Stock.{Stock}
 use Rattle.rowex_table.specs.Seats.{TableView}
-use Rattle.seat_calls.specs.Answers.{IsNoted, IsRefused, IsUnnoted}
-use Rattle.seat_calls.specs.Calls.{GetsOr, IsTriedAndCounted}
-use Rattle.seat_calls.specs.Census.{HasCounted}
+use Rattle.hot_index_calls.specs.Answers.{IsNoted, IsRefused, IsUnnoted}
+use Rattle.hot_index_calls.specs.Calls.{GetsOr, IsTriedAndCounted}
+use Rattle.hot_index_calls.specs.Census.{HasCounted}
 use Rattle.hot_index.specs.Handles.{HandleView, Stays}
-use Rattle.seat_calls.specs.Passes.{PassView, IsNewPass}
-use Rattle.seat_calls.specs.Traces.{HasCollected, HasGot, untold}
-use Rattle.seat_calls.specs.declared.census.RecordCounts.{RecordCounts}
-use Rattle.seat_calls.specs.Refusals.{fault_in}
-use Rattle.seat_calls.specs.declared.refusals.Refusal.{Refusal}
+use Rattle.hot_index_calls.specs.Passes.{PassView, IsNewPass}
+use Rattle.hot_index_calls.specs.Traces.{HasCollected, HasGot, untold}
+use Rattle.hot_index_calls.specs.declared.census.RecordCounts.{RecordCounts}
+use Rattle.hot_index_calls.specs.Refusals.{fault_in}
+use Rattle.hot_index_calls.specs.declared.refusals.Refusal.{Refusal}
 use Rattle.hot_index.specs.Kept.{kept_stock, with_one_kept}
 use Rattle.hot_c.specs.Refusals.{TellsRefusal}
 use Rattle.hot_c.specs.Statuses.{reply_status, value_after}

@@ -2,12 +2,12 @@
 use Rattle.std.specs.Prelude.{◌≡◌, ◌⊎◌, ℕ, List, [], Bool, Option, None, IsSome}
 use Rattle.std.specs.Option.{option_to_list}
 use Rattle.record_words.specs.declared.layout.Layout.{Layout}
-use Rattle.seat_calls.specs.Answers.{HasFoundPair, IsUnnoted, range_from}
-use Rattle.seat_calls.specs.Passes.{PassView}
+use Rattle.hot_index_calls.specs.Answers.{HasFoundPair, IsUnnoted, range_from}
+use Rattle.hot_index_calls.specs.Passes.{PassView}
 use Rattle.hot_index.specs.Ranges.{IsFirstFound}
-use Rattle.seat_calls.specs.Reverse.{IsLastFound}
+use Rattle.hot_index_calls.specs.Reverse.{IsLastFound}
 use Rattle.key_ranges.specs.Ranges.{last_with}
-use Rattle.seat_calls.specs.Traces.{HasGotRange, untold}
+use Rattle.hot_index_calls.specs.Traces.{HasGotRange, untold}
 use Rattle.hot_c.specs.Calls.{FitsInKey, StaysOpen}
 use Rattle.hot_c.specs.Orders.{IsFilledIn}
 use Rattle.hot_c.specs.Pairs.{IsPairTold}

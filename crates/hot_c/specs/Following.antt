@@ -1,7 +1,7 @@
 -- What a call says by which a handle of a program in C sees what another has seen.
 use Rattle.std.specs.Prelude.{◌≡◌, ◌⊎◌, ℕ, Option, Some, None, IsSome}
 use Rattle.hot_index.specs.Stamps.{HasCaughtUp}
-use Rattle.seat_calls.specs.Passes.{PassView}
+use Rattle.hot_index_calls.specs.Passes.{PassView}
 use Rattle.hot_c.specs.Calls.{StaysOpen}
 use Rattle.hot_c.specs.declared.opened.Opened.{Opened}
 use Rattle.hot_c.specs.declared.status.TheConstants.{CLOSED, DONE}

@@ -1,7 +1,7 @@
 -- Look-ups of many keys by one call of a program in C.
 use Rattle.std.specs.Prelude.{◌≡◌, ◌⊎◌, ℕ, All, List, [], ◌∷◌, length, map, Option, Some, None, IsSome}
-use Rattle.seat_calls.specs.Many.{AreNoted, HasGotMany, gets}
-use Rattle.seat_calls.specs.Traces.{untold}
+use Rattle.hot_index_calls.specs.Many.{AreNoted, HasGotMany, gets}
+use Rattle.hot_index_calls.specs.Traces.{untold}
 use Rattle.hot_c.specs.Calls.{FitsInKey, StaysOpen}
 use Rattle.hot_c.specs.declared.lookups.Lookup.{Lookup}
 use Rattle.hot_c.specs.declared.opened.Opened.{Opened}

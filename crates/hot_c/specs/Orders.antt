@@ -2,9 +2,9 @@
 use Rattle.std.specs.Prelude.{ℕ, List, reverse, Bool}
 use Rattle.record_words.specs.declared.layout.Layout.{Layout}
 use Rattle.version_laws.specs.Scan.{Range}
-use Rattle.seat_calls.specs.Answers.{IsListed}
-use Rattle.seat_calls.specs.Passes.{PassView}
-use Rattle.seat_calls.specs.Reverse.{IsReverseListed}
+use Rattle.hot_index_calls.specs.Answers.{IsListed}
+use Rattle.hot_index_calls.specs.Passes.{PassView}
+use Rattle.hot_index_calls.specs.Reverse.{IsReverseListed}
 use Rattle.hot_c.specs.declared.pairs.Order.{Order}
 use Rattle.hot_c.specs.declared.pairs.Order.TheVariants.{Upwards, Downwards, LastUpwards}
 

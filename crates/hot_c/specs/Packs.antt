@@ -6,9 +6,9 @@ use Rattle.packed_pairs.specs.declared.pairs.Head.{Head}
 use Rattle.record_words.specs.declared.layout.Layout.{Layout}
 use Rattle.rowex_scanning.specs.Scanning.{limited}
 use Rattle.version_laws.specs.Scan.{Range}
-use Rattle.seat_calls.specs.Answers.{IsListed, range_from}
-use Rattle.seat_calls.specs.Passes.{PassView}
-use Rattle.seat_calls.specs.Reverse.{IsReverseListed}
+use Rattle.hot_index_calls.specs.Answers.{IsListed, range_from}
+use Rattle.hot_index_calls.specs.Passes.{PassView}
+use Rattle.hot_index_calls.specs.Reverse.{IsReverseListed}
 use Rattle.hot_c.specs.Orders.{Answer}
 use Rattle.hot_c.specs.Scans.{ListsInto}
 use Rattle.hot_c.specs.declared.opened.Opened.{Opened}

@@ -1,11 +1,11 @@
 -- What a call says that was refused.
 use Rattle.std.specs.Prelude.{◌≡◌, ℕ}
 use Rattle.rowex_writing.specs.declared.plan.Full.TheVariants.{Nodes, Leaves}
-use Rattle.seat_calls.specs.Refusals.{OfLeaves}
-use Rattle.seat_calls.specs.declared.census.RecordCounts.{RecordCounts}
-use Rattle.seat_calls.specs.declared.census.StateCounts.{StateCounts}
-use Rattle.seat_calls.specs.declared.refusals.Refusal.{Refusal}
-use Rattle.seat_calls.specs.declared.refusals.Refusal.TheVariants.{Busy, HeldBack, Full}
+use Rattle.hot_index_calls.specs.Refusals.{OfLeaves}
+use Rattle.hot_index_calls.specs.declared.census.RecordCounts.{RecordCounts}
+use Rattle.hot_index_calls.specs.declared.census.StateCounts.{StateCounts}
+use Rattle.hot_index_calls.specs.declared.refusals.Refusal.{Refusal}
+use Rattle.hot_index_calls.specs.declared.refusals.Refusal.TheVariants.{Busy, HeldBack, Full}
 use Rattle.hot_c.specs.declared.status.TheConstants.{BUSY, FULL_NODES, FULL_LEAVES, KEY_TOO_LONG, HELD_BACK}
 
 -- there is no record of one kind and class

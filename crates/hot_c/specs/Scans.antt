@@ -2,9 +2,9 @@
 use Rattle.std.specs.Prelude.{◌≡◌, ◌⊎◌, ℕ, ◌≤◌, List, length, drop, Bool, Option, Some, None, IsSome}
 use Rattle.std.specs.Int.{from_bool}
 use Rattle.version_laws.specs.Scan.{Range}
-use Rattle.seat_calls.specs.Answers.{HasFoundPair, IsListed, IsUnnoted, range_from}
-use Rattle.seat_calls.specs.Reverse.{IsReverseListed}
-use Rattle.seat_calls.specs.Traces.{HasGotRange, untold}
+use Rattle.hot_index_calls.specs.Answers.{HasFoundPair, IsListed, IsUnnoted, range_from}
+use Rattle.hot_index_calls.specs.Reverse.{IsReverseListed}
+use Rattle.hot_index_calls.specs.Traces.{HasGotRange, untold}
 use Rattle.hot_c.specs.Calls.{FitsInKey, StaysOpen}
 use Rattle.hot_c.specs.Orders.{Answer, IsLastListed}
 use Rattle.hot_c.specs.Pairs.{AreSpelled}

@@ -3,7 +3,7 @@
 ghost use Rattle.std.specs.Prelude.{◌≡◌, ◌≢◌, ◌⊎◌, ◌↔◌, ℕ, List, IsOk, IsSome, None, Some, length, min};
 ghost use Rattle.finite_map.specs.declared.Call.TheVariants.{Add, Exchange, Get, Insert, Remove, RemoveIf, Upsert};
 ghost use Rattle.rowex_writing.specs.declared.attempts.TryFault.TheVariants.{FullLeaves};
-ghost use Rattle.seat_calls.specs.Answers.{MayRefuse};
+ghost use Rattle.hot_index_calls.specs.Answers.{MayRefuse};
 ghost use Rattle.hot_c.specs.declared.opened.Opened.{Opened};
 ghost use Rattle.hot_c.specs.Calls.{Answers, AreClosed, FitsInKey, HasGivenBack, HasSeenRecords, HasOpenedKeeper, HaveOpened, HaveOpenedStock, IsSize, IsStockSize, OpensNext, StaysOpen, for_key, places_of};
 ghost use Rattle.hot_c.specs.Lookups.{LooksUpAll};

@@ -3,13 +3,13 @@
 ghost use Rattle.std.specs.Prelude.{◌≡◌, [], IfErr, IfOk, MatchOption, Result};
 ghost use Rattle.finite_map.specs.declared.Call.TheVariants.{Get};
 ghost use Rattle.finite_map.specs.declared.Reply.{Reply as ReplyView};
-ghost use Rattle.seat_calls.specs.Answers.{IsNoted, MayRefuse, range_from};
-ghost use Rattle.seat_calls.specs.Calls.{IsRangeRead};
-ghost use Rattle.seat_calls.specs.Refusals.{fault_in};
-ghost use Rattle.seat_calls.specs.declared.refusals.Refusal.{Refusal as RefusalView};
+ghost use Rattle.hot_index_calls.specs.Answers.{IsNoted, MayRefuse, range_from};
+ghost use Rattle.hot_index_calls.specs.Calls.{IsRangeRead};
+ghost use Rattle.hot_index_calls.specs.Refusals.{fault_in};
+ghost use Rattle.hot_index_calls.specs.declared.refusals.Refusal.{Refusal as RefusalView};
 ghost use Rattle.hot_index.specs.Handles.{Stays};
 ghost use Rattle.hot_index.specs.Stamps.{HasCaughtUp, IsStampFrom};
-ghost use Rattle.seat_calls.specs.Traces.{HasGot, untold};
+ghost use Rattle.hot_index_calls.specs.Traces.{HasGot, untold};
 ghost use Rattle.hot_c.specs.Calls.{HasOpenedNext, KeepsAll, TellsOutcome};
 ghost use Rattle.hot_c.specs.Following.{IsAsTold};
 ghost use Rattle.hot_c.specs.Orders.{IsFilledIn};

@@ -1,7 +1,7 @@
 //! How handles are opened: on a new index, with a pass for each.
 
 ghost use Rattle.std.specs.Prelude.{◌≡◌, ◌≢◌, ◌↔◌, ◌++◌, ◌∷◌, [], ℕ, All, Err, IfErr, IfOk, IsErr, IsTrue, Some, length, map, reverse, slice_get};
-ghost use Rattle.seat_calls.specs.Passes.{IsNewPass, Owns, PassView};
+ghost use Rattle.hot_index_calls.specs.Passes.{IsNewPass, Owns, PassView};
 ghost use Rattle.hot_index.specs.Handles.{handle_at};
 ghost use Rattle.hot_c.specs.Calls.{AreClosed, AreNew, HasCounts, IsKeeper, IsNewShare, IsSize, IsStockSize, places_of};
 ghost use Rattle.record_words.specs.Layout.{HasStock};

@@ -1,7 +1,7 @@
 //! What a call says that was refused.
 
 ghost use Rattle.std.specs.Prelude.{◌≤◌, ◌↔◌, IsTrue};
-ghost use Rattle.seat_calls.specs.Refusals.{OfLeaves};
+ghost use Rattle.hot_index_calls.specs.Refusals.{OfLeaves};
 ghost use Rattle.hot_c.specs.Refusals.{AreNone, TellsOfLeaves, TellsRefusal};
 
 use crate::status::{BUSY, FULL_LEAVES, FULL_NODES, HELD_BACK, KEY_TOO_LONG};

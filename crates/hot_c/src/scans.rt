@@ -1,7 +1,7 @@
 //! The scans of a range, for programs in C.
 
 ghost use Rattle.std.specs.Prelude.{◌≡◌, ◌<◌, ◌^◌, IfErr, IfOk};
-ghost use Rattle.seat_calls.specs.Answers.{range_from};
+ghost use Rattle.hot_index_calls.specs.Answers.{range_from};
 ghost use Rattle.hot_c.specs.Orders.{IsFilledIn, IsListedIn};
 ghost use Rattle.hot_c.specs.Scans.{HasFilled, Lists, ListsBy, ListsLast, ListsNothing, ListsReverse, listing};
 

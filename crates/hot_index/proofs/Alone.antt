@@ -14,8 +14,8 @@ use Rattle.rowex_records.specs.Claims.{AllMissed, HasMissedSince, IsAnothers, Te
 use Rattle.rowex_records.proofs.Claimed.{missed_so}
 use Rattle.rowex_writing.specs.Changes.{LacksNodes}
 use Rattle.rowex_writing.specs.Locks.{HasMetTaken}
-use Rattle.seat_calls.specs.Answers.{IsOvertaken}
-use Rattle.seat_calls.specs.Passes.{PassView}
+use Rattle.hot_index_calls.specs.Answers.{IsOvertaken}
+use Rattle.hot_index_calls.specs.Passes.{PassView}
 use Rattle.hot_index.specs.Statements.{IsNobodys, OnePassFullIsFull, OnePassIsNeverBusy, ThirdIsTaken}
 
 no_other : (passes pass other : ℕ) → passes ≡ 1 → pass < passes → other < passes → other ≡ pass

@@ -18,12 +18,12 @@ use Rattle.rowex_table.specs.Seats.{SeatView, TableView}
 use Rattle.rowex_writing.specs.declared.attempts.TryFault.{TryFault}
 use Rattle.rowex_writing.specs.declared.plan.Full.{Full}
 use Rattle.tries.specs.Keys.{Key}
-use Rattle.seat_calls.specs.Answers.{IsNoted, IsUnnoted, got}
-use Rattle.seat_calls.specs.Asked.{HasReplied, last_try}
-use Rattle.seat_calls.specs.Refusals.{as_tried}
-use Rattle.seat_calls.specs.declared.refusals.Refusal.{Refusal}
-use Rattle.seat_calls.specs.Passes.{IsSettled, PassView, pass_of}
-use Rattle.seat_calls.proofs.Noting.{get_changes_nothing}
+use Rattle.hot_index_calls.specs.Answers.{IsNoted, IsUnnoted, got}
+use Rattle.hot_index_calls.specs.Asked.{HasReplied, last_try}
+use Rattle.hot_index_calls.specs.Refusals.{as_tried}
+use Rattle.hot_index_calls.specs.declared.refusals.Refusal.{Refusal}
+use Rattle.hot_index_calls.specs.Passes.{IsSettled, PassView, pass_of}
+use Rattle.hot_index_calls.proofs.Noting.{get_changes_nothing}
 use Rattle.hot_index.specs.Passes.{IsSettledWith}
 use Rattle.hot_index.specs.Statements.{CountsAddUp}
 

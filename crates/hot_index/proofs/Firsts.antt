@@ -8,8 +8,8 @@ use Rattle.tries.specs.Keys.{Key}
 use Rattle.version_laws.specs.Directions.{IsLawfulBy}
 use Rattle.version_laws.specs.declared.direction.Direction.{Direction}
 use Rattle.version_laws.specs.declared.direction.Direction.TheVariants.{Upwards, Downwards}
-use Rattle.seat_calls.specs.Answers.{IsListedBy, range_from}
-use Rattle.seat_calls.specs.Passes.{PassView}
+use Rattle.hot_index_calls.specs.Answers.{IsListedBy, range_from}
+use Rattle.hot_index_calls.specs.Passes.{PassView}
 
 nothing : (found : Option (Key × ℕ)) → found ≡ None → IsSome found → ⊥
 nothing found e is = cc

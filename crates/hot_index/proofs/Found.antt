@@ -22,9 +22,9 @@ use Rattle.rowex_table.specs.Runs.{silent}
 use Rattle.rowex_table.specs.Seats.{SeatView}
 use Rattle.version_laws.specs.Scan.{IsInRange, Pair, Range}
 use Rattle.tries.specs.Keys.{Key}
-use Rattle.seat_calls.specs.Answers.{GoesOn, HasFoundPair, IsListedBy}
-use Rattle.seat_calls.specs.Passes.{PassView, pass_of}
-use Rattle.seat_calls.proofs.Noting.{HasLooked, goes_on}
+use Rattle.hot_index_calls.specs.Answers.{GoesOn, HasFoundPair, IsListedBy}
+use Rattle.hot_index_calls.specs.Passes.{PassView, pass_of}
+use Rattle.hot_index_calls.proofs.Noting.{HasLooked, goes_on}
 
 -- a scan with these pairs
 abbrev scan_of : (pairs : List (Key × ℕ)) → Bool → length pairs < 2 ^ 63 → Scan

@@ -10,7 +10,7 @@ use mathlib.Core.Option.{some}
 use lib.ListN.{get_elem?}
 use Rattle.rowex_core.specs.declared.known.Known.{Known}
 use Rattle.rowex_table.specs.Seats.{TableView, SeatView, IsNewSeatOf}
-use Rattle.seat_calls.specs.Passes.{Owns, IsNewPass, pass_of}
+use Rattle.hot_index_calls.specs.Passes.{Owns, IsNewPass, pass_of}
 
 same : {A : Type 0} (x y : A) → Some x ≡ Some y → x ≡ y
 same x y e = cc

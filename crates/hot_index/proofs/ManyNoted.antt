@@ -23,14 +23,14 @@ use Rattle.rowex_table.proofs.Running.{ends_told, runs_append, runs_one}
 use Rattle.epochs.specs.Runs.{Pins}
 use Rattle.rowex_reading.proofs.Led.{HasLookedAt, looked_at, looks_first}
 use Rattle.tries.specs.Keys.{Key}
-use Rattle.seat_calls.specs.Answers.{GoesOn}
-use Rattle.seat_calls.specs.Many.{AreNoted, AreRight, HasGotMany, HasLookedUp, gets, most_entries}
-use Rattle.seat_calls.specs.Noting.{answers_so, same_reply}
-use Rattle.seat_calls.specs.Passes.{IsSettled, pass_of}
-use Rattle.seat_calls.specs.Traces.{reading}
-use Rattle.seat_calls.proofs.LookedUp.{looked_on}
-use Rattle.seat_calls.proofs.Noting.{HasLooked, get_changes_nothing, goes_on, same_reply_reflexive, legal_front, longer, looked_then, reply_is, settles}
-use Rattle.seat_calls.proofs.Tracing.{pinned_sees}
+use Rattle.hot_index_calls.specs.Answers.{GoesOn}
+use Rattle.hot_index_calls.specs.Many.{AreNoted, AreRight, HasGotMany, HasLookedUp, gets, most_entries}
+use Rattle.hot_index_calls.specs.Noting.{answers_so, same_reply}
+use Rattle.hot_index_calls.specs.Passes.{IsSettled, pass_of}
+use Rattle.hot_index_calls.specs.Traces.{reading}
+use Rattle.hot_index_calls.proofs.LookedUp.{looked_on}
+use Rattle.hot_index_calls.proofs.Noting.{HasLooked, get_changes_nothing, goes_on, same_reply_reflexive, legal_front, longer, looked_then, reply_is, settles}
+use Rattle.hot_index_calls.proofs.Tracing.{pinned_sees}
 use Rattle.hot_index.specs.Passes.{IsSettledWith}
 use Rattle.hot_index.proofs.Counted.{count_goes, count_stays}
 

@@ -11,8 +11,8 @@ use Rattle.record_words.specs.declared.layout.Layout.{Layout}
 use Rattle.rowex_core.specs.declared.known.Known.{Known}
 use Rattle.rowex_table.specs.Rule.{SeatsHaveMet, with_front}
 use Rattle.rowex_table.specs.Seats.{SeatView}
-use Rattle.seat_calls.specs.Passes.{AreByPasses, IsSettled, pass_of}
-use Rattle.seat_calls.specs.Answers.{HaveMet, IsUnnoted}
+use Rattle.hot_index_calls.specs.Passes.{AreByPasses, IsSettled, pass_of}
+use Rattle.hot_index_calls.specs.Answers.{HaveMet, IsUnnoted}
 
 pub seen_more : (front : List Change) (k j : Known) → j ≡ with_front front k → j ≡ with_front j.front k
 seen_more front k j is = is ∙ ap (λ (l : List Change). with_front l k) (sym (ap (λ (z : Known). z.front) is))

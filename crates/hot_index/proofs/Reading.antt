@@ -20,13 +20,13 @@ use Rattle.version_laws.specs.Scan.{Range}
 use Rattle.epochs.specs.Runs.{Pins}
 use Rattle.tries.specs.Keys.{Key}
 use Rattle.version_laws.specs.Directions.{ScanLaw}
-use Rattle.seat_calls.specs.Answers.{IsFoundBy, IsListedBy, IsUnnoted, range_from}
-use Rattle.seat_calls.specs.Calls.{IsListReadBy, IsRangeReadWith, IsScanReadBy, no_part}
-use Rattle.seat_calls.specs.Passes.{PassView, IsSettled, pass_of}
+use Rattle.hot_index_calls.specs.Answers.{IsFoundBy, IsListedBy, IsUnnoted, range_from}
+use Rattle.hot_index_calls.specs.Calls.{IsListReadBy, IsRangeReadWith, IsScanReadBy, no_part}
+use Rattle.hot_index_calls.specs.Passes.{PassView, IsSettled, pass_of}
 use Rattle.hot_index.proofs.Found.{listed_found, part_found}
-use Rattle.seat_calls.proofs.Noting.{looked}
-use Rattle.seat_calls.proofs.Scanned.{if_answered, if_refused, listed_scanned, listed_unnoted, scan_answered, scan_counted, scan_refused}
-use Rattle.seat_calls.proofs.Tracing.{has_walked}
+use Rattle.hot_index_calls.proofs.Noting.{looked}
+use Rattle.hot_index_calls.proofs.Scanned.{if_answered, if_refused, listed_scanned, listed_unnoted, scan_answered, scan_counted, scan_refused}
+use Rattle.hot_index_calls.proofs.Tracing.{has_walked}
 
 module _ {G : Type 0} {range : Range} {index : TableView} {becomes : G → Event → G → Type 0} {a b : PassView × G} where
   -- whatever part is left

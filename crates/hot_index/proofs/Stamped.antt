@@ -10,12 +10,12 @@ use Rattle.record_words.specs.declared.layout.Layout.{Layout}
 use Rattle.rowex_core.specs.declared.known.Known.{Known}
 use Rattle.rowex_table.specs.Rule.{HasFollowed, with_front}
 use Rattle.rowex_table.specs.Seats.{IsOneSeat, IsShownAll, SeatView}
-use Rattle.seat_calls.specs.Passes.{IsSettled, pass_of}
+use Rattle.hot_index_calls.specs.Passes.{IsSettled, pass_of}
 use Rattle.hot_index.specs.Stamps.{HasCaughtUp}
 use Rattle.hot_index.specs.Statements.{ReturnedBeforeBegun}
 use Rattle.hot_index.proofs.Counted.{last_of}
 use Rattle.hot_index.proofs.Meets.{goes_on, unnoted}
-use Rattle.seat_calls.proofs.Noting.{longer}
+use Rattle.hot_index_calls.proofs.Noting.{longer}
 
 -- the pass is settled as before
 pub followed_settled : (layout : Layout) (stamp : List Change) (k j : Known) → HasFollowed layout stamp k j → IsSettled k → IsSettled j

@@ -1,7 +1,7 @@
 -- What contracts see of a handle.
 use Rattle.std.specs.Prelude.{◌≡◌}
 use Rattle.rowex_table.specs.Seats.{TableView}
-use Rattle.seat_calls.specs.Passes.{PassView}
+use Rattle.hot_index_calls.specs.Passes.{PassView}
 
 -- a handle: its index, which is seen as its table, and its pass
 pub record HandleView : Type 0 where

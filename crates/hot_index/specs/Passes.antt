@@ -2,7 +2,7 @@
 use Rattle.key_counts.specs.Counts.{IsCountOf}
 use Rattle.key_counts.specs.declared.KeyCount.{KeyCount}
 use Rattle.rowex_core.specs.declared.known.Known.{Known}
-use Rattle.seat_calls.specs.Passes.{IsSettled}
+use Rattle.hot_index_calls.specs.Passes.{IsSettled}
 
 -- The pass is between two calls, and the count is that of its answered calls.
 pub record IsSettledWith (k : Known) (count : KeyCount) : Type 0 where

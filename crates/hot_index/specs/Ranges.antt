@@ -1,8 +1,8 @@
 -- What a call for a first pair says.
 use Rattle.std.specs.Prelude.{ℕ, [], Option}
 use Rattle.finite_map.specs.Scans.{IsLawfulScan}
-use Rattle.seat_calls.specs.Answers.{IsFoundBy}
-use Rattle.seat_calls.specs.Passes.{PassView}
+use Rattle.hot_index_calls.specs.Answers.{IsFoundBy}
+use Rattle.hot_index_calls.specs.Passes.{PassView}
 use Rattle.key_ranges.specs.Ranges.{last_with}
 use Rattle.record_words.specs.declared.layout.Layout.{Layout}
 use Rattle.tries.specs.Keys.{Key}

@@ -5,8 +5,8 @@ use Rattle.finite_map.specs.Fronts.{BeginsWith}
 use Rattle.record_words.specs.declared.layout.Layout.{Layout}
 use Rattle.rowex_table.specs.Rule.{with_front}
 use Rattle.rowex_table.specs.Seats.{IsShownAll, StampView, TableView}
-use Rattle.seat_calls.specs.Answers.{IsUnnoted}
-use Rattle.seat_calls.specs.Passes.{PassView, pass_of}
+use Rattle.hot_index_calls.specs.Answers.{IsUnnoted}
+use Rattle.hot_index_calls.specs.Passes.{PassView, pass_of}
 
 -- the stamp is one of the index, which is seen as its table
 abbrev pub IsStampFrom : TableView → StampView → Type 0

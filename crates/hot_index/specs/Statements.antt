@@ -17,8 +17,8 @@ use Rattle.tries.specs.Keys.{Key}
 use Rattle.rowex_records.specs.Claims.{AllMissed, AllMissedFrom, HasMissedSince, IsAnothers}
 use Rattle.rowex_writing.specs.Counts.{most_nodes}
 use Rattle.rowex_writing.specs.declared.attempts.TryFault.TheVariants.{Busy, FullLeaves, FullNodes}
-use Rattle.seat_calls.specs.Answers.{IsCause, IsNoted}
-use Rattle.seat_calls.specs.Passes.{AreByPasses, PassView}
+use Rattle.hot_index_calls.specs.Answers.{IsCause, IsNoted}
+use Rattle.hot_index_calls.specs.Passes.{AreByPasses, PassView}
 
 -- Where all leaf records are long, as in an index that `create` makes, a call that lacks one has found each of them not free, and none its
 -- own.

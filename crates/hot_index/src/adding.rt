@@ -1,8 +1,8 @@
 //! Adding to the value of a key that is there.
 
 ghost use Rattle.finite_map.specs.declared.Call.TheVariants.{Add};
-ghost use Rattle.seat_calls.specs.Calls.{IsAwaited, IsTried, IsTriedWith};
-ghost use Rattle.seat_calls.specs.Passes.{Owns};
+ghost use Rattle.hot_index_calls.specs.Calls.{IsAwaited, IsTried, IsTriedWith};
+ghost use Rattle.hot_index_calls.specs.Passes.{Owns};
 
 use crate::index::{Index, Pass};
 use finite_map::{Call, Reply};

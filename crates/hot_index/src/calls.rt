@@ -2,17 +2,17 @@
 
 ghost use Rattle.std.specs.Prelude.{◌≡◌, ◌+◌, ◌≤◌, IfErr, MatchResult};
 ghost use Rattle.rowex_writing.specs.declared.plan.Full.{Full as FullValue};
-ghost use Rattle.seat_calls.specs.Answers.{IsNoted, IsRefused, MayLack, MayRefuse, fault_of};
-ghost use Rattle.seat_calls.specs.Calls.{GetsOrTries, IsCallCounted, IsCallTried, MakesStepsWith};
-ghost use Rattle.seat_calls.specs.Counts.{try_steps};
-ghost use Rattle.seat_calls.specs.Passes.{Owns};
-ghost use Rattle.seat_calls.specs.Traces.{HasTold};
+ghost use Rattle.hot_index_calls.specs.Answers.{IsNoted, IsRefused, MayLack, MayRefuse, fault_of};
+ghost use Rattle.hot_index_calls.specs.Calls.{GetsOrTries, IsCallCounted, IsCallTried, MakesStepsWith};
+ghost use Rattle.hot_index_calls.specs.Counts.{try_steps};
+ghost use Rattle.hot_index_calls.specs.Passes.{Owns};
+ghost use Rattle.hot_index_calls.specs.Traces.{HasTold};
 
 use crate::index::{Index, Pass, reply_to_get};
 use finite_map::{Call, Reply};
 use rowex_core::{Gate, NoGate};
 use rowex_writing::{Full, TryFault};
-use seat_calls::Refusal;
+use hot_index_calls::Refusal;
 use std::sync::Wait;
 
 impl Index {

@@ -3,14 +3,14 @@
 ghost use Rattle.std.specs.Prelude.{◌≡◌, IfErr, IfOk};
 ghost use Rattle.finite_map.specs.Calls.{LegalCalls};
 ghost use Rattle.key_counts.specs.Counts.{IsCountOf};
-ghost use Rattle.seat_calls.specs.Passes.{Owns};
+ghost use Rattle.hot_index_calls.specs.Passes.{Owns};
 ghost use Rattle.hot_index.specs.Handles.{handle_at};
 
 use crate::handle::{Handle, ShowsIndex};
 use crate::index::{Index, Pass};
 use key_counts::KeyCount;
 use rowex_table::TableSeat;
-use seat_calls::new_scratch;
+use hot_index_calls::new_scratch;
 use std::alloc::{AllocFailed, Global};
 use std::marker::Model;
 
@@ -22,7 +22,7 @@ pub struct ClosedPass {
 }
 
 impl Model for ClosedPass {
-    ghost use Rattle.seat_calls.specs.Passes.{PassView, pass_of};
+    ghost use Rattle.hot_index_calls.specs.Passes.{PassView, pass_of};
     ghost use Rattle.hot_index.specs.Passes.{IsSettledWith};
 
     ghost Value = { PassView };
@@ -78,7 +78,7 @@ pub struct ClosedHandle<I: ShowsIndex> {
 
 impl<I: ShowsIndex> Model for ClosedHandle<I> {
     ghost use Rattle.hot_index.specs.Handles.{HandleView};
-    ghost use Rattle.seat_calls.specs.Passes.{Owns};
+    ghost use Rattle.hot_index_calls.specs.Passes.{Owns};
 
     ghost Value = { HandleView };
 

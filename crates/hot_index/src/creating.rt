@@ -8,7 +8,7 @@ ghost use Rattle.record_words.specs.Limits.{IsPassCount, IsStockPassCount, IsNod
 ghost use Rattle.record_words.specs.declared.layout.Layout.{Layout as LayoutView};
 ghost use Rattle.rowex_table.specs.Seats.{IsNewSeatOf, SeatView};
 ghost use Rattle.hot_index.specs.Kept.{HasOneKept, kept_stock, with_one_kept};
-ghost use Rattle.seat_calls.specs.Passes.{PassView, Owns, IsNewPass};
+ghost use Rattle.hot_index_calls.specs.Passes.{PassView, Owns, IsNewPass};
 
 use crate::closed::ClosedPass;
 use crate::index::{Index, Pass};

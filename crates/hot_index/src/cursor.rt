@@ -1,10 +1,10 @@
 //! Cursors, which list a range of keys in parts, each by a scan of its own.
 
 ghost use Rattle.std.specs.Prelude.{◌≡◌, [], false, IfOk, None, Ok, OnErr, Some};
-ghost use Rattle.seat_calls.specs.Answers.{range_from};
-ghost use Rattle.seat_calls.specs.Calls.{IsListRead};
+ghost use Rattle.hot_index_calls.specs.Answers.{range_from};
+ghost use Rattle.hot_index_calls.specs.Calls.{IsListRead};
 ghost use Rattle.hot_index.specs.Cursors.{IsLeft, rest_of};
-ghost use Rattle.seat_calls.specs.Passes.{Owns};
+ghost use Rattle.hot_index_calls.specs.Passes.{Owns};
 ghost use Rattle.key_ranges.specs.Ranges.{last_with};
 
 use crate::index::{Index, Pass};

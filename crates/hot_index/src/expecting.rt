@@ -1,8 +1,8 @@
 //! Calls that expect a key to have a certain value, and change nothing if it has another or none.
 
 ghost use Rattle.finite_map.specs.declared.Call.TheVariants.{Exchange, RemoveIf};
-ghost use Rattle.seat_calls.specs.Calls.{IsAwaited, IsTried, IsTriedWith};
-ghost use Rattle.seat_calls.specs.Passes.{Owns};
+ghost use Rattle.hot_index_calls.specs.Calls.{IsAwaited, IsTried, IsTriedWith};
+ghost use Rattle.hot_index_calls.specs.Passes.{Owns};
 
 use crate::index::{Index, Pass};
 use finite_map::{Call, Reply};

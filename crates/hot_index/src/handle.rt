@@ -6,16 +6,16 @@ ghost use Rattle.finite_map.specs.Calls.{LegalCalls};
 ghost use Rattle.finite_map.specs.Reverse.{IsLawfulReverseScan};
 ghost use Rattle.key_counts.specs.Counts.{IsCountOf};
 ghost use Rattle.rowex_table.specs.Seats.{IsShownAll};
-ghost use Rattle.seat_calls.specs.Answers.{HaveMet, IsNoted, IsUnnoted, got, range_from};
-ghost use Rattle.seat_calls.specs.Calls.{IsAwaited, IsCallCounted, IsCallTried, IsListRead, IsListReadBy, IsRangeRead, IsScanRead, IsScanReadBy, IsTried};
-ghost use Rattle.seat_calls.specs.Census.{HasCounted};
+ghost use Rattle.hot_index_calls.specs.Answers.{HaveMet, IsNoted, IsUnnoted, got, range_from};
+ghost use Rattle.hot_index_calls.specs.Calls.{IsAwaited, IsCallCounted, IsCallTried, IsListRead, IsListReadBy, IsRangeRead, IsScanRead, IsScanReadBy, IsTried};
+ghost use Rattle.hot_index_calls.specs.Census.{HasCounted};
 ghost use Rattle.hot_index.specs.Handles.{Stays, handle_at};
-ghost use Rattle.seat_calls.specs.Many.{AreNoted, HasGotMany, gets};
-ghost use Rattle.seat_calls.specs.Passes.{Owns};
+ghost use Rattle.hot_index_calls.specs.Many.{AreNoted, HasGotMany, gets};
+ghost use Rattle.hot_index_calls.specs.Passes.{Owns};
 ghost use Rattle.hot_index.specs.Ranges.{IsFirstFound};
 ghost use Rattle.hot_index.specs.Stamps.{HasSeenMore};
-ghost use Rattle.seat_calls.specs.Reverse.{IsLastFound};
-ghost use Rattle.seat_calls.specs.Traces.{HasCollected, HasGot, untold};
+ghost use Rattle.hot_index_calls.specs.Reverse.{IsLastFound};
+ghost use Rattle.hot_index_calls.specs.Traces.{HasCollected, HasGot, untold};
 ghost use Rattle.key_ranges.specs.Ranges.{last_with};
 
 use crate::index::{Index, Pass};
@@ -25,7 +25,7 @@ use key_bits::Key;
 use key_counts::KeyCount;
 use packed_pairs::Pairs;
 use rowex_writing::{Full, TryFault};
-use seat_calls::{RecordCounts, Refusal};
+use hot_index_calls::{RecordCounts, Refusal};
 use std::alloc::{AllocError, Global};
 use std::marker::Model;
 use std::sync::{Arc, Wait};
@@ -70,7 +70,7 @@ pub struct Handle<I: ShowsIndex> {
 
 impl<I: ShowsIndex> Model for Handle<I> {
     ghost use Rattle.hot_index.specs.Handles.{HandleView};
-    ghost use Rattle.seat_calls.specs.Passes.{Owns};
+    ghost use Rattle.hot_index_calls.specs.Passes.{Owns};
 
     ghost Value = { HandleView };
 

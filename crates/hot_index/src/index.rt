@@ -5,12 +5,12 @@ ghost use Rattle.finite_map.specs.declared.Call.TheVariants.{Get, Insert, Remove
 ghost use Rattle.finite_map.specs.Calls.{LegalCalls};
 ghost use Rattle.key_counts.specs.Counts.{IsCountOf};
 ghost use Rattle.rowex_table.specs.Seats.{IsShownAll};
-ghost use Rattle.seat_calls.specs.Passes.{Owns};
-ghost use Rattle.seat_calls.specs.Answers.{IsNoted, IsUnnoted, HaveMet, got};
-ghost use Rattle.seat_calls.specs.Calls.{IsAwaited, IsAwaitedWith, IsCountedWith, IsTried, IsTriedWith};
-ghost use Rattle.seat_calls.specs.Census.{HasCounted};
-ghost use Rattle.seat_calls.specs.Many.{AreNoted, HasGotMany, gets};
-ghost use Rattle.seat_calls.specs.Traces.{HasCollected, HasGot, untold};
+ghost use Rattle.hot_index_calls.specs.Passes.{Owns};
+ghost use Rattle.hot_index_calls.specs.Answers.{IsNoted, IsUnnoted, HaveMet, got};
+ghost use Rattle.hot_index_calls.specs.Calls.{IsAwaited, IsAwaitedWith, IsCountedWith, IsTried, IsTriedWith};
+ghost use Rattle.hot_index_calls.specs.Census.{HasCounted};
+ghost use Rattle.hot_index_calls.specs.Many.{AreNoted, HasGotMany, gets};
+ghost use Rattle.hot_index_calls.specs.Traces.{HasCollected, HasGot, untold};
 ghost use Rattle.hot_index.specs.Stamps.{HasSeenMore};
 
 use epochs::{Given, collect_round, pin, unpin};
@@ -21,7 +21,7 @@ use rowex_core::{Gate, NoGate};
 use rowex_reading::look_up;
 use rowex_table::{HotTable, TableSeat};
 use rowex_writing::{Full, TryFault};
-use seat_calls::{
+use hot_index_calls::{
     RecordCounts, Refusal, Scratch, count_records, end_get, end_gets, look_up_each, retry_change,
     try_and_count, try_change,
 };
@@ -52,7 +52,7 @@ pub struct Pass {
 }
 
 impl Model for Pass {
-    ghost use Rattle.seat_calls.specs.Passes.{PassView, pass_of};
+    ghost use Rattle.hot_index_calls.specs.Passes.{PassView, pass_of};
     ghost use Rattle.hot_index.specs.Passes.{IsSettledWith};
 
     ghost Value = { PassView };

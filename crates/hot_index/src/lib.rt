@@ -61,5 +61,5 @@ pub use packed_pairs::Pairs;
 pub use record_words::{LayoutFault, Stock};
 pub use rowex_core::{Event, Gate, NoGate};
 pub use rowex_writing::{Full, TryFault};
-pub use seat_calls::{RecordCounts, Refusal, StateCounts};
+pub use hot_index_calls::{RecordCounts, Refusal, StateCounts};
 pub use stamp::Stamp;

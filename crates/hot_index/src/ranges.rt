@@ -1,9 +1,9 @@
 //! Scans of the keys that begin with a prefix, and the first pair from a key on.
 
 ghost use Rattle.std.specs.Prelude.{[]};
-ghost use Rattle.seat_calls.specs.Answers.{range_from};
-ghost use Rattle.seat_calls.specs.Calls.{IsListRead, IsRangeRead};
-ghost use Rattle.seat_calls.specs.Passes.{Owns};
+ghost use Rattle.hot_index_calls.specs.Answers.{range_from};
+ghost use Rattle.hot_index_calls.specs.Calls.{IsListRead, IsRangeRead};
+ghost use Rattle.hot_index_calls.specs.Passes.{Owns};
 ghost use Rattle.hot_index.specs.Ranges.{IsFirstFound};
 ghost use Rattle.key_ranges.specs.Ranges.{last_with};
 

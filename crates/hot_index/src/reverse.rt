@@ -2,11 +2,11 @@
 
 ghost use Rattle.std.specs.Prelude.{[]};
 ghost use Rattle.finite_map.specs.Reverse.{IsLawfulReverseScan};
-ghost use Rattle.seat_calls.specs.Answers.{range_from};
-ghost use Rattle.seat_calls.specs.Calls.{IsListReadBy, IsRangeRead, IsScanReadBy};
-ghost use Rattle.seat_calls.specs.Passes.{Owns};
-ghost use Rattle.seat_calls.specs.Reverse.{IsLastFound};
-ghost use Rattle.seat_calls.specs.Traces.{untold};
+ghost use Rattle.hot_index_calls.specs.Answers.{range_from};
+ghost use Rattle.hot_index_calls.specs.Calls.{IsListReadBy, IsRangeRead, IsScanReadBy};
+ghost use Rattle.hot_index_calls.specs.Passes.{Owns};
+ghost use Rattle.hot_index_calls.specs.Reverse.{IsLastFound};
+ghost use Rattle.hot_index_calls.specs.Traces.{untold};
 
 use crate::index::{Index, Pass};
 use finite_map::Scan;

@@ -2,9 +2,9 @@
 
 ghost use Rattle.version_laws.specs.Directions.{IsLawfulBy};
 ghost use Rattle.rowex_scanning.specs.Scanning.{asked_range};
-ghost use Rattle.seat_calls.specs.Answers.{IsFoundBy, range_from};
-ghost use Rattle.seat_calls.specs.Calls.{IsListRead, IsListReadBy, IsListReadWith, IsRangeRead, IsScanRead, IsScanReadBy, IsScanReadWith};
-ghost use Rattle.seat_calls.specs.Passes.{Owns};
+ghost use Rattle.hot_index_calls.specs.Answers.{IsFoundBy, range_from};
+ghost use Rattle.hot_index_calls.specs.Calls.{IsListRead, IsListReadBy, IsListReadWith, IsRangeRead, IsScanRead, IsScanReadBy, IsScanReadWith};
+ghost use Rattle.hot_index_calls.specs.Passes.{Owns};
 
 use crate::index::{Index, Pass};
 use epochs::{pin, unpin};

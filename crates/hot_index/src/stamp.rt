@@ -2,7 +2,7 @@
 
 ghost use Rattle.std.specs.Prelude.{◌≡◌};
 ghost use Rattle.rowex_table.specs.Traces.{RunBeginsWith};
-ghost use Rattle.seat_calls.specs.Passes.{Owns};
+ghost use Rattle.hot_index_calls.specs.Passes.{Owns};
 ghost use Rattle.hot_index.specs.Stamps.{HasCaughtUp, HasStamped, IsStampFrom};
 
 use crate::index::{Index, Pass};

@@ -4,7 +4,7 @@ ghost use Rattle.std.specs.Prelude.{◌≡◌, ◌≢◌, ◌≤◌, List, ℕ, 
 ghost use Rattle.std.specs.List.{zip};
 ghost use Rattle.std.specs.Io.KnownBytes.{Appends};
 ghost use Rattle.record_words.specs.Limits.{IsLeafCount, IsNodeCount};
-ghost use Rattle.seat_calls.specs.Traces.{untold};
+ghost use Rattle.hot_index_calls.specs.Traces.{untold};
 ghost use Rattle.hot_scripts.specs.Streams.{TakesAll};
 ghost use Rattle.script_runs.specs.Scripts.{AllFrom, LawfulScripts, MayEndScriptsBy};
 ghost use Rattle.script_runs.specs.Told.{IsToldOf};

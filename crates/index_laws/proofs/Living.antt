@@ -12,7 +12,7 @@ use Rattle.finite_map.proofs.Weaving.{weave-legal}
 use Rattle.plain_index.specs.Orders.{AreWoven, CallsAreWoven}
 use Rattle.plain_index.proofs.Together.{woven-in_order}
 use Rattle.record_words.specs.declared.layout.Layout.{Layout}
-use Rattle.seat_calls.specs.Passes.{PassView}
+use Rattle.hot_index_calls.specs.Passes.{PassView}
 use Rattle.index_laws.specs.Lives.{AreLives, HasLived, PassLife, LivesAreWoven, OneHistoryOfAll, called, looked_up, new, scanned, went_on}
 
 -- the calls of notes, with their replies

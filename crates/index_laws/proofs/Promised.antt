@@ -17,8 +17,8 @@ use Rattle.rowex_core.specs.declared.known.Known.{Known}
 use Rattle.rowex_core.proofs.Promises.{entries_in_reach, in_reach}
 use Rattle.record_words.specs.declared.layout.Layout.{Layout}
 use Rattle.version_laws.specs.Directions.{ScanLaw}
-use Rattle.seat_calls.specs.Answers.{IsCause, MayRefuse}
-use Rattle.seat_calls.specs.Many.{most_entries}
+use Rattle.hot_index_calls.specs.Answers.{IsCause, MayRefuse}
+use Rattle.hot_index_calls.specs.Many.{most_entries}
 use Rattle.hot_index.proofs.Alone.{one_pass_full_is_full, one_pass_is_never_busy}
 use Rattle.hot_index.proofs.Counted.{counts_add_up}
 use Rattle.hot_index.proofs.Stamped.{returned_before_begun}

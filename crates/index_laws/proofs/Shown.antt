@@ -22,8 +22,8 @@ use Rattle.rowex_table.specs.Rule.{opening_of}
 use Rattle.rowex_table.specs.Seats.{SeatView, TableView}
 use Rattle.rowex_table.proofs.Keeping.{learned_pass}
 use Rattle.rowex_table.proofs.Onward.{others_none}
-use Rattle.seat_calls.specs.Answers.{IsNoted}
-use Rattle.seat_calls.specs.Passes.{pass_of}
+use Rattle.hot_index_calls.specs.Answers.{IsNoted}
+use Rattle.hot_index_calls.specs.Passes.{pass_of}
 use Rattle.real_time.specs.Moments.{Happening, IsCallTurn, IsMomentStep, IsSoundMoment, Moment, Pending, invokes, responds, shows, steps}
 use Rattle.index_laws.specs.Executions.{LeadsOn, IsExecution}
 use Rattle.index_laws.specs.Statements.{AGetReturns}

@@ -17,8 +17,8 @@ use Rattle.rowex_core.specs.Opening.{opening}
 use Rattle.rowex_core.proofs.Promises.{opening_is_lawful}
 use Rattle.rowex_table.specs.Rule.{opening_of}
 use Rattle.rowex_table.specs.Seats.{SeatView}
-use Rattle.seat_calls.specs.Answers.{IsNoted}
-use Rattle.seat_calls.specs.Passes.{pass_of}
+use Rattle.hot_index_calls.specs.Answers.{IsNoted}
+use Rattle.hot_index_calls.specs.Passes.{pass_of}
 use Rattle.real_time.specs.Moments.{Continues, Happening, IsPlacedSince, IsResponse, IsWholeRun, Moment, Pending, invokes, refuses, responds, shows, steps}
 use Rattle.real_time.proofs.Completing.{linearizable}
 use Rattle.real_time.proofs.Growing.{longer, runs_stay_sound}

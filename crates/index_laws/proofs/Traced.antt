@@ -33,8 +33,8 @@ use Rattle.rowex_table.proofs.Keeping.{renoted}
 use Rattle.rowex_table.proofs.Linking.{lead_rest}
 use Rattle.rowex_table.proofs.Onward.{begins_on as run_begins_on, led_more, of_one_run}
 use Rattle.rowex_table.proofs.Running.{runs_same}
-use Rattle.seat_calls.specs.Traces.{untold}
-use Rattle.seat_calls.proofs.Noting.{longer}
+use Rattle.hot_index_calls.specs.Traces.{untold}
+use Rattle.hot_index_calls.proofs.Noting.{longer}
 use Rattle.real_time.specs.Moments.{Happening, IsCallTurn, IsMomentStep, IsNewIndex, IsShowing, IsSoundMoment, Moment, Pending, invokes, refuses, responds, shows, steps}
 use Rattle.real_time.proofs.Growing.{runs_stay_sound}
 use Rattle.index_laws.specs.Executions.{IsExecution, LeadsOn}

@@ -8,9 +8,9 @@ use Rattle.record_words.specs.declared.layout.Layout.{Layout}
 use Rattle.rowex_core.specs.Knowing.{SeesAllAtRoot}
 use Rattle.rowex_table.specs.Seats.{SeatView}
 use Rattle.rowex_writing.specs.declared.attempts.TryFault.{TryFault}
-use Rattle.seat_calls.specs.Answers.{IsNoted, IsRefused, MayRefuse}
-use Rattle.seat_calls.specs.Many.{AreNoted}
-use Rattle.seat_calls.specs.Passes.{PassView, pass_of}
+use Rattle.hot_index_calls.specs.Answers.{IsNoted, IsRefused, MayRefuse}
+use Rattle.hot_index_calls.specs.Many.{AreNoted}
+use Rattle.hot_index_calls.specs.Passes.{PassView, pass_of}
 use Rattle.real_time.specs.Moments.{Continues, Happening, IsCallTurn, IsNewIndex, Moment, Pending, invokes, refuses, responds, shows, steps}
 
 -- Pass q's call is pending at moment t. The seat s knows what the pass knew when it invoked the call, and e what it knows now.

@@ -26,13 +26,13 @@ use Rattle.rowex_table.specs.Seats.{SeatView, TableView}
 use Rattle.rowex_writing.specs.declared.attempts.TryFault.{TryFault}
 use Rattle.rowex_writing.specs.declared.attempts.TryFault.TheVariants.{Busy, FullLeaves}
 use Rattle.version_laws.specs.Directions.{ScanLaw}
-use Rattle.seat_calls.specs.Answers.{HaveMet, IsCause, IsListedBy, IsNoted, IsRefused, IsScannedBy, MayRefuse, range_from}
-use Rattle.seat_calls.specs.declared.census.RecordCounts.{RecordCounts}
-use Rattle.seat_calls.specs.Census.{HasCounted}
-use Rattle.seat_calls.specs.Counts.{round_steps, try_steps}
-use Rattle.seat_calls.specs.Many.{HasGotMany, most_entries}
-use Rattle.seat_calls.specs.Passes.{PassView, pass_of}
-use Rattle.seat_calls.specs.Traces.{HasCollected, HasGot, HasGotRange, HasMade, untold}
+use Rattle.hot_index_calls.specs.Answers.{HaveMet, IsCause, IsListedBy, IsNoted, IsRefused, IsScannedBy, MayRefuse, range_from}
+use Rattle.hot_index_calls.specs.declared.census.RecordCounts.{RecordCounts}
+use Rattle.hot_index_calls.specs.Census.{HasCounted}
+use Rattle.hot_index_calls.specs.Counts.{round_steps, try_steps}
+use Rattle.hot_index_calls.specs.Many.{HasGotMany, most_entries}
+use Rattle.hot_index_calls.specs.Passes.{PassView, pass_of}
+use Rattle.hot_index_calls.specs.Traces.{HasCollected, HasGot, HasGotRange, HasMade, untold}
 use Rattle.hot_index.specs.Statements.{CountsAddUp, OnePassFullIsFull, ReturnedBeforeBegun}
 use Rattle.real_time.specs.Moments.{Happening, IsWholeRun, Moment, Pending}
 use Rattle.real_time.specs.Scanning.{IsScanInTime, map_at}

@@ -8,9 +8,9 @@ use Rattle.finite_map.specs.Calls.{LegalCalls}
 use Rattle.finite_map.specs.Weaves.{Event, LegalHistory, answered, notes_of, weave}
 use Rattle.plain_index.specs.Orders.{AreWoven, calls_in}
 use Rattle.record_words.specs.declared.layout.Layout.{Layout}
-use Rattle.seat_calls.specs.Answers.{GoesOn, IsNoted, IsUnnoted}
-use Rattle.seat_calls.specs.Many.{AreNoted}
-use Rattle.seat_calls.specs.Passes.{IsNewPass, PassView}
+use Rattle.hot_index_calls.specs.Answers.{GoesOn, IsNoted, IsUnnoted}
+use Rattle.hot_index_calls.specs.Many.{AreNoted}
+use Rattle.hot_index_calls.specs.Passes.{IsNewPass, PassView}
 
 -- A new pass has lived through no calls; one whose call was answered, or whose many look-ups were, through these besides; and one that was
 -- refused, collected, met another or followed a stamp (`IsUnnoted`) or scanned (`IsScannedBy`, `IsListedBy`), through the same as before.

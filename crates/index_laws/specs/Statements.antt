@@ -9,7 +9,7 @@ use Rattle.record_words.specs.declared.layout.Layout.{Layout}
 use Rattle.rowex_core.specs.Opening.{opening}
 use Rattle.rowex_table.specs.Rule.{opening_of}
 use Rattle.rowex_writing.specs.declared.plan.Full.{Full}
-use Rattle.seat_calls.specs.Answers.{MayLack, MayRefuse, fault_of}
+use Rattle.hot_index_calls.specs.Answers.{MayLack, MayRefuse, fault_of}
 use Rattle.real_time.specs.Histories.{PendingEndOrChangeAsAsked, complete_calls}
 use Rattle.real_time.specs.Moments.{Happening, IsNewIndex, IsRefusal, IsResponse, IsWholeRun, Moment, Pending}
 use Rattle.real_time.specs.Statements.{IsLinearizable}

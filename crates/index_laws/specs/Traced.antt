@@ -23,9 +23,9 @@ use Rattle.rowex_table.specs.Rule.{with_front}
 use Rattle.rowex_table.specs.Runs.{Ends, SeesAllOfRun, StepsWith, root_load}
 use Rattle.rowex_table.specs.Seats.{IsNewSeatOf, IsShownAll, SeatView, TableView}
 use Rattle.rowex_table.specs.Traces.{RunBeginsWith}
-use Rattle.seat_calls.specs.Answers.{IsNoted}
-use Rattle.seat_calls.specs.Passes.{pass_of}
-use Rattle.seat_calls.specs.Traces.{untold}
+use Rattle.hot_index_calls.specs.Answers.{IsNoted}
+use Rattle.hot_index_calls.specs.Passes.{pass_of}
+use Rattle.hot_index_calls.specs.Traces.{untold}
 use Rattle.real_time.specs.Histories.{complete_calls}
 use Rattle.real_time.specs.Moments.{Happening, Moment, Pending, invokes, refuses, responds, shows, steps}
 use Rattle.index_laws.specs.Executions.{HasBeenRefused, HasReturned, IsExecution}

@@ -1,7 +1,7 @@
 //! Handles that are opened, closed and opened again, and the counts of keys that they keep meanwhile.
 
 ghost use Rattle.std.specs.Prelude.{All};
-ghost use Rattle.seat_calls.specs.Passes.{Owns};
+ghost use Rattle.hot_index_calls.specs.Passes.{Owns};
 
 use crate::shared::*;
 use hot_index::{ClosedHandle, ClosedPass, Handle, Index, Key, Reply, Stock, create_closed, total};

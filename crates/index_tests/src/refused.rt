@@ -2,7 +2,7 @@
 //! succeeds. What they share asks again, too.
 
 ghost use Rattle.std.specs.Prelude.{All};
-ghost use Rattle.seat_calls.specs.Passes.{Owns};
+ghost use Rattle.hot_index_calls.specs.Passes.{Owns};
 
 use crate::shared::*;
 use finite_map::{Call, Scan};

@@ -1,7 +1,7 @@
 //! What the tests share: keys, and an index with its passes.
 
 ghost use Rattle.std.specs.Prelude.{All};
-ghost use Rattle.seat_calls.specs.Passes.{Owns};
+ghost use Rattle.hot_index_calls.specs.Passes.{Owns};
 
 use hot_index::{Index, IndexFault, Key, Pass, create};
 use std::alloc::Global;

@@ -1,7 +1,7 @@
 //! What passes have seen, told to another one by stamps that come with the ends of threads.
 
 ghost use Rattle.std.specs.Prelude.{All};
-ghost use Rattle.seat_calls.specs.Passes.{Owns};
+ghost use Rattle.hot_index_calls.specs.Passes.{Owns};
 ghost use Rattle.hot_index.specs.Stamps.{IsStampFrom};
 
 use crate::shared::*;

@@ -1,6 +1,6 @@
 //! Two threads that add to one value.
 
-ghost use Rattle.seat_calls.specs.Passes.{Owns};
+ghost use Rattle.hot_index_calls.specs.Passes.{Owns};
 
 use crate::shared::*;
 use hot_index::{Handle, Index, Key, Pass, Reply};

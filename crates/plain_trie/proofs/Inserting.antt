@@ -19,12 +19,12 @@ use Rattle.tries.proofs.Contents.{content_rises}
 use Rattle.tries.proofs.Maps.{are_keys, more_inserts, exchange_inserts}
 use Rattle.tries.proofs.Tries.{trie_within}
 use Rattle.tries.proofs.Puts.{subtrie_put}
-use Rattle.plain_records.specs.declared.leaf.LeafRecord.{LeafRecord}
-use Rattle.plain_records.specs.Rising.{IsAddable, IsRaised}
-use Rattle.plain_records.specs.Store.{IsSound, ShowsTree, item_record}
-use Rattle.plain_records.proofs.Keeping.{shown_more}
-use Rattle.plain_records.proofs.Putting.{found_place, put_same, shown_put}
-use Rattle.plain_records.proofs.Storing.{push_new, push_old}
+use Rattle.plain_trie_records.specs.declared.leaf.LeafRecord.{LeafRecord}
+use Rattle.plain_trie_records.specs.Rising.{IsAddable, IsRaised}
+use Rattle.plain_trie_records.specs.Store.{IsSound, ShowsTree, item_record}
+use Rattle.plain_trie_records.proofs.Keeping.{shown_more}
+use Rattle.plain_trie_records.proofs.Putting.{found_place, put_same, shown_put}
+use Rattle.plain_trie_records.proofs.Storing.{push_new, push_old}
 use Rattle.plain_trie.specs.Views.{PlainView, IsTree, ShowsSoundTree, IsHeldInLeaf, trie_map}
 use Rattle.plain_trie.proofs.Trees.{end_found, end_read, tree_is, tree_plain, map_is}
 

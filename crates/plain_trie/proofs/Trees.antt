@@ -10,11 +10,11 @@ use Rattle.tries.specs.Content.{items, pairs}
 use Rattle.tries.specs.Keys.{Key}
 use Rattle.tries.specs.Search.{found}
 use Rattle.tries.specs.Tree.{Tree, subtrie}
-use Rattle.plain_records.specs.declared.leaf.LeafRecord.{LeafRecord}
-use Rattle.plain_records.specs.Store.{IsSound, ShowsTree, entry_tree, item_record}
-use Rattle.plain_records.proofs.Reading.{read_sound, read_exact}
-use Rattle.plain_records.proofs.Searching.{read_at}
-use Rattle.plain_records.proofs.Values.{value_found, value_missed}
+use Rattle.plain_trie_records.specs.declared.leaf.LeafRecord.{LeafRecord}
+use Rattle.plain_trie_records.specs.Store.{IsSound, ShowsTree, entry_tree, item_record}
+use Rattle.plain_trie_records.proofs.Reading.{read_sound, read_exact}
+use Rattle.plain_trie_records.proofs.Searching.{read_at}
+use Rattle.plain_trie_records.proofs.Values.{value_found, value_missed}
 use Rattle.plain_trie.specs.declared.plain.PlainTrie.TheInside.{Inside}
 use Rattle.plain_trie.specs.Views.{PlainView, EndsAt, IsTree, shown_tree, map_read, trie_map, ShowsSoundTree, ShowsTrie}
 

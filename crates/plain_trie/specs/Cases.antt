@@ -4,7 +4,7 @@ use Rattle.key_bits.specs.Bits.{IsFirstDifference}
 use Rattle.tries.specs.Keys.{Key}
 use Rattle.tries.specs.Search.{found}
 use Rattle.tries.specs.Tree.{Tree}
-use Rattle.plain_records.specs.Cases.{AddsByCase, IsNewNode}
+use Rattle.plain_trie_records.specs.Cases.{AddsByCase, IsNewNode}
 use Rattle.plain_trie.specs.Views.{PlainView, shown_tree}
 
 -- a fork that rises from the root has a new node

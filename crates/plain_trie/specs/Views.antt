@@ -8,8 +8,8 @@ use Rattle.tries.specs.Content.{items, pairs}
 use Rattle.tries.specs.Keys.{Key}
 use Rattle.tries.specs.Search.{found}
 use Rattle.tries.specs.Tree.{Tree, subtrie}
-use Rattle.plain_records.specs.declared.leaf.LeafRecord.{LeafRecord}
-use Rattle.plain_records.specs.Store.{ShowsTree, IsSound, entry_tree, item_record}
+use Rattle.plain_trie_records.specs.declared.leaf.LeafRecord.{LeafRecord}
+use Rattle.plain_trie_records.specs.Store.{ShowsTree, IsSound, entry_tree, item_record}
 
 -- what contracts see of a trie: its records, the root's entry, and for how many records the two vectors have memory
 pub record PlainView : Type 0 where

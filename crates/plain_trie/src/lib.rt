@@ -26,4 +26,4 @@
 mod plain;
 
 pub use plain::PlainTrie;
-pub use plain_records::{Place, place};
+pub use plain_trie_records::{Place, place};

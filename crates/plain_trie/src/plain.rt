@@ -13,7 +13,7 @@ mod scan;
 use compound_node::{Entry, Node};
 use finite_map::Reply;
 use key_bits::{Key, mismatch};
-use plain_records::{LeafRecord, make_room, make_root, raise_newcomer};
+use plain_trie_records::{LeafRecord, make_room, make_root, raise_newcomer};
 use std::alloc::{AllocError, Global};
 use std::marker::Model;
 
@@ -54,7 +54,7 @@ impl Model for PlainTrie {
 
 impl PlainTrie {
     ghost use Rattle.plain_trie.specs.Cases.{TakesCase};
-    ghost use Rattle.plain_records.specs.Heights.{KeepsHeights};
+    ghost use Rattle.plain_trie_records.specs.Heights.{KeepsHeights};
     ghost use Rattle.plain_trie.specs.Room.{KeepsRoom, IsTrieAnswer, IsOutOfMemory};
     ghost use Rattle.plain_trie.specs.Views.{trie_map, EndsAt, ShowsTrie, IsHeldInLeaf};
     ghost use Rattle.compound_node.specs.Nodes.{height_of};

@@ -5,7 +5,7 @@ use Rattle.rowex_core.specs.declared.event.Act.TheVariants.{Publish}
 use Rattle.rowex_core.specs.declared.event.Spot.{Spot}
 use Rattle.rowex_core.specs.Cores.{Core}
 use Rattle.rowex_core.specs.Events.{IsLockedAt}
-use Rattle.replay_state.specs.States.{StateView, IsStateOf}
+use Rattle.rowex_replay_state.specs.States.{StateView, IsStateOf}
 use Rattle.rowex_replay.specs.Runs.{Run, HasLegalEvents, core_of}
 
 -- The one kind of act that may want memory: a publish of a pass that has locked its word.

@@ -6,4 +6,4 @@ pub mod laws;
 mod replay;
 
 pub use replay::Replay;
-pub use replay_state::ReplayFault;
+pub use rowex_replay_state::ReplayFault;

@@ -1,7 +1,7 @@
 //! Runs of two passes by chance, the tasks of one in the middle of the other's.
 
 ghost use Rattle.std.specs.Prelude.{All};
-ghost use Rattle.seat_calls.specs.Passes.{Owns};
+ghost use Rattle.hot_index_calls.specs.Passes.{Owns};
 
 use crate::cases::{Case, Task, parse_two_numbers};
 use crate::guests::{Guest, create_index, do_tasks, lowest_key};

@@ -1,7 +1,7 @@
 //! Passes at their index.
 
 ghost use Rattle.std.specs.Prelude.{IfOk, All};
-ghost use Rattle.seat_calls.specs.Passes.{Owns};
+ghost use Rattle.hot_index_calls.specs.Passes.{Owns};
 
 use crate::cases::{Task, bad_line};
 use hot_index::{Gate, Handle, Index, Pairs, Pass, Reply, Scan, TryFault, create};

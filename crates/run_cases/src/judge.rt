@@ -1,7 +1,7 @@
 //! Gates that judge each step of a run: one alone, and one that stops the run for another pass.
 
 ghost use Rattle.std.specs.Prelude.{All};
-ghost use Rattle.seat_calls.specs.Passes.{Owns};
+ghost use Rattle.hot_index_calls.specs.Passes.{Owns};
 
 use crate::cases::{Case, Task, bad_line};
 use crate::guests::{Guest, do_tasks, pop_guest, scan_from_highest, scan_from_lowest};

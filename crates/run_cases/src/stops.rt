@@ -1,7 +1,7 @@
 //! The steps of what a pass does, and what happens where it is stopped after each of them.
 
 ghost use Rattle.std.specs.Prelude.{All};
-ghost use Rattle.seat_calls.specs.Passes.{Owns};
+ghost use Rattle.hot_index_calls.specs.Passes.{Owns};
 
 use crate::acts::write_act;
 use crate::cases::{Case, Task, bad_line, parse_tasks};

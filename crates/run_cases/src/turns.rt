@@ -1,7 +1,7 @@
 //! Threads that step one at a time, in an order made from a seed: so the list of their steps is the order in which they were made.
 
 ghost use Rattle.std.specs.Prelude.{All};
-ghost use Rattle.seat_calls.specs.Passes.{Owns};
+ghost use Rattle.hot_index_calls.specs.Passes.{Owns};
 
 use crate::cases::{Case, bad_line, parse_two_numbers};
 use crate::chance::Chance;

@@ -19,8 +19,8 @@ use Rattle.finite_map.proofs.Steps.{map_after_all-push, replies_of-push}
 use Rattle.rowex_core.specs.declared.event.Event.{Event}
 use Rattle.rowex_table.specs.Seats.{TableView}
 use Rattle.hot_scripts.specs.Meaning.{line, reply_text}
-use Rattle.seat_calls.specs.Answers.{IsScanned, IsUnnoted, range_from}
-use Rattle.seat_calls.specs.Passes.{PassView, AreByPasses, IsNewPass}
+use Rattle.hot_index_calls.specs.Answers.{IsScanned, IsUnnoted, range_from}
+use Rattle.hot_index_calls.specs.Passes.{PassView, AreByPasses, IsNewPass}
 use Rattle.script_runs.specs.Answers.{Answered, called, refused, listed, full_text, lines_of_answer}
 use Rattle.script_runs.specs.Runs.{text_told}
 use Rattle.script_runs.specs.Told.{AreTold, IsCalled}

@@ -16,8 +16,8 @@ use Rattle.finite_map.proofs.Legal.{legal_at_first, legal_longer}
 use Rattle.rowex_core.specs.declared.event.Event.{Event}
 use Rattle.rowex_table.specs.Seats.{TableView}
 use Rattle.hot_index.specs.Handles.{handle_at}
-use Rattle.seat_calls.specs.Passes.{PassView, AreByPasses, IsNewPass}
-use Rattle.seat_calls.specs.Traces.{untold}
+use Rattle.hot_index_calls.specs.Passes.{PassView, AreByPasses, IsNewPass}
+use Rattle.hot_index_calls.specs.Traces.{untold}
 use Rattle.hot_scripts.specs.declared.command.Command.{Command}
 use Rattle.script_runs.specs.declared.together.Done.{Done}
 use Rattle.hot_scripts.specs.Meaning.{line}

@@ -3,7 +3,7 @@ use Rattle.std.proofs.Common.{◌≡◌, ℕ, suc, ◌+◌, List, [], ◌∷◌,
 use Rattle.std.specs.List.{All, AllZip, slice_get, zip}
 use Rattle.std.proofs.lemmas.List.Elements.{All-nil, All-cons, All-head, All-tail}
 use Rattle.hot_index.specs.Handles.{HandleView, handle_at}
-use Rattle.seat_calls.specs.Passes.{PassView, Owns}
+use Rattle.hot_index_calls.specs.Passes.{PassView, Owns}
 use Rattle.rowex_core.specs.declared.event.Event.{Event}
 use Rattle.rowex_table.specs.Seats.{TableView}
 use Rattle.hot_scripts.specs.declared.command.Command.{Command}

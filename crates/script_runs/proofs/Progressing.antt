@@ -21,10 +21,10 @@ use Rattle.rowex_core.specs.declared.event.Event.{Event}
 use Rattle.rowex_table.specs.Runs.{events_of}
 use Rattle.rowex_table.specs.Seats.{TableView}
 use Rattle.rowex_table.proofs.Running.{told_append}
-use Rattle.seat_calls.specs.Answers.{IsListed, IsNoted, IsScanned, range_from}
-use Rattle.seat_calls.specs.Passes.{PassView, AreByPasses}
-use Rattle.seat_calls.specs.Traces.{HasRead, HasTold, untold}
-use Rattle.seat_calls.proofs.Tracing.{read_told, told_untold}
+use Rattle.hot_index_calls.specs.Answers.{IsListed, IsNoted, IsScanned, range_from}
+use Rattle.hot_index_calls.specs.Passes.{PassView, AreByPasses}
+use Rattle.hot_index_calls.specs.Traces.{HasRead, HasTold, untold}
+use Rattle.hot_index_calls.proofs.Tracing.{read_told, told_untold}
 use Rattle.hot_scripts.specs.declared.command.Command.{Command}
 use Rattle.hot_scripts.specs.declared.command.Command.TheVariants.{Call as Asks, Scan as Lists}
 use Rattle.hot_scripts.specs.declared.command.Range.{Range}

@@ -3,10 +3,10 @@ use Rattle.std.specs.Prelude.{◌≡◌, ℕ, ◌++◌, All, List, [], ◌∷◌
 use Rattle.finite_map.specs.declared.Call.{Call}
 use Rattle.rowex_core.specs.declared.event.Event.{Event}
 use Rattle.rowex_table.specs.Seats.{TableView}
-use Rattle.seat_calls.specs.Answers.{HaveMet}
+use Rattle.hot_index_calls.specs.Answers.{HaveMet}
 use Rattle.hot_index.specs.Handles.{HandleView, handle_at}
-use Rattle.seat_calls.specs.Passes.{PassView, IsNewPass, Owns}
-use Rattle.seat_calls.specs.Traces.{HasTold, untold}
+use Rattle.hot_index_calls.specs.Passes.{PassView, IsNewPass, Owns}
+use Rattle.hot_index_calls.specs.Traces.{HasTold, untold}
 use Rattle.hot_scripts.specs.declared.command.Command.{Command}
 use Rattle.hot_scripts.specs.Meaning.{line}
 use Rattle.hot_scripts.specs.Parses.{script_commands}

@@ -8,8 +8,8 @@ use Rattle.finite_map.specs.Scans.{IsLawfulScan}
 use Rattle.finite_map.specs.Weaves.{AllLegal}
 use Rattle.rowex_core.specs.declared.event.Event.{Event}
 use Rattle.rowex_table.specs.Seats.{TableView}
-use Rattle.seat_calls.specs.Answers.{MayLack}
-use Rattle.seat_calls.specs.Traces.{untold}
+use Rattle.hot_index_calls.specs.Answers.{MayLack}
+use Rattle.hot_index_calls.specs.Traces.{untold}
 use Rattle.hot_scripts.specs.declared.command.Command.{Command}
 use Rattle.hot_scripts.specs.declared.fault.RunFault.{RunFault}
 use Rattle.hot_scripts.specs.declared.fault.RunFault.TheVariants.{Memory}

@@ -10,9 +10,9 @@ use Rattle.record_words.specs.Leaf.{words_for}
 use Rattle.rowex_core.specs.declared.event.Event.{Event}
 use Rattle.rowex_table.specs.Runs.{IsTold}
 use Rattle.rowex_table.specs.Seats.{TableView}
-use Rattle.seat_calls.specs.Answers.{IsRefused, IsScanned, MayLack, fault_of, range_from}
-use Rattle.seat_calls.specs.Passes.{PassView, AreByPasses, IsNewPass, Owns}
-use Rattle.seat_calls.specs.Traces.{HasTold}
+use Rattle.hot_index_calls.specs.Answers.{IsRefused, IsScanned, MayLack, fault_of, range_from}
+use Rattle.hot_index_calls.specs.Passes.{PassView, AreByPasses, IsNewPass, Owns}
+use Rattle.hot_index_calls.specs.Traces.{HasTold}
 use Rattle.hot_index.specs.Kept.{with_one_kept}
 use Rattle.hot_scripts.specs.declared.command.Command.{Command}
 use Rattle.hot_scripts.specs.Grammar.{called_key}

@@ -1,9 +1,9 @@
 //! How a pass makes the calls of its script: it waits for others, or has nobody to wait for.
 
 ghost use Rattle.std.specs.Prelude.{◌≡◌, IfErr, MatchResult};
-ghost use Rattle.seat_calls.specs.Answers.{IsNoted, IsRefused, MayLack, fault_of};
+ghost use Rattle.hot_index_calls.specs.Answers.{IsNoted, IsRefused, MayLack, fault_of};
 ghost use Rattle.hot_index.specs.Handles.{Stays};
-ghost use Rattle.seat_calls.specs.Traces.{HasTold};
+ghost use Rattle.hot_index_calls.specs.Traces.{HasTold};
 
 use finite_map::{Call, Reply};
 use hot_index::{Full, Gate, Handle, Index, TryFault};

@@ -3,7 +3,7 @@
 ghost use Rattle.std.specs.Prelude.{◌≡◌, ℕ, IfOk, OnOk};
 ghost use Rattle.hot_index.specs.Handles.{Stays};
 ghost use Rattle.hot_scripts.specs.Parses.{script_commands};
-ghost use Rattle.seat_calls.specs.Traces.{HasTold};
+ghost use Rattle.hot_index_calls.specs.Traces.{HasTold};
 ghost use Rattle.script_runs.specs.Progress.{HasAnsweredCommand, HasRunCommands, answered_as};
 ghost use Rattle.script_runs.specs.Told.{IsCommandTold};
 

@@ -1,8 +1,8 @@
 //! A script that runs alone, on a new index of one pass.
 
 ghost use Rattle.std.specs.Prelude.{◌≡◌, IfOk};
-ghost use Rattle.seat_calls.specs.Passes.{Owns, PassView};
-ghost use Rattle.seat_calls.specs.Traces.{untold};
+ghost use Rattle.hot_index_calls.specs.Passes.{Owns, PassView};
+ghost use Rattle.hot_index_calls.specs.Traces.{untold};
 ghost use Rattle.hot_scripts.specs.Parses.{script_commands};
 ghost use Rattle.script_runs.specs.Progress.{HasRunCommands};
 ghost use Rattle.script_runs.specs.Runs.{AreAnswered};

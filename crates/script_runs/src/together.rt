@@ -2,8 +2,8 @@
 
 ghost use Rattle.std.specs.Prelude.{◌≡◌, ◌≤◌, All, IfOk, flat_map, length, map};
 ghost use Rattle.std.specs.List.{AllZip, zip};
-ghost use Rattle.seat_calls.specs.Answers.{HaveMet};
-ghost use Rattle.seat_calls.specs.Passes.{Owns};
+ghost use Rattle.hot_index_calls.specs.Answers.{HaveMet};
+ghost use Rattle.hot_index_calls.specs.Passes.{Owns};
 ghost use Rattle.hot_index.specs.Handles.{handle_at};
 ghost use Rattle.hot_scripts.specs.declared.script.TheConstants.{MAX_FILES};
 ghost use Rattle.hot_scripts.specs.Parses.{script_commands};

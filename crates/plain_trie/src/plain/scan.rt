@@ -7,7 +7,7 @@ ghost use Rattle.plain_trie.specs.Views.{trie_map};
 use super::PlainTrie;
 use finite_map::Scan;
 use key_bits::Key;
-use plain_records::{Range, scan_below};
+use plain_trie_records::{Range, scan_below};
 use std::alloc::{AllocError, Global};
 
 impl PlainTrie {

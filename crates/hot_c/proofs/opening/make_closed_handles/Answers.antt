@@ -3,7 +3,7 @@ use Rattle.std.proofs.Common.{◌≡◌, ◌∷◌, [], ◌++◌, ◌∙◌, app
 use Rattle.std.specs.Vec.Iter.{into_iter_items}
 use Rattle.std.proofs.lemmas.List.Elements.{All-head, All-rest}
 use Rattle.hot_index.specs.Handles.{HandleView, handle_at}
-use Rattle.seat_calls.specs.Passes.{Owns}
+use Rattle.hot_index_calls.specs.Passes.{Owns}
 use Rattle.rowex_table.specs.Seats.{TableView}
 use Rattle.hot_c.proofs.opening.make_closed_handles.Goals as goal
 

@@ -3,7 +3,7 @@ use Rattle.std.specs.Prelude.{◌≡◌, ◌++◌, map}
 use Rattle.std.specs.List.{All}
 use Rattle.std.specs.Vec.Iter.{into_iter_items}
 use Rattle.hot_index.specs.Handles.{handle_at}
-use Rattle.seat_calls.specs.Passes.{Owns}
+use Rattle.hot_index_calls.specs.Passes.{Owns}
 use Rattle.hot_c.proofs.opening.make_closed_handles.Given as goal
 
 abbrev pub invariant-loop-pass : goal.invariant-loop-pass

@@ -1,7 +1,7 @@
 -- The passes are those of the new index.
 use Rattle.record_words.specs.Layout.{HasStock}
 use Rattle.hot_index.specs.Kept.{kept_stock}
-use Rattle.seat_calls.specs.Passes.{Owns}
+use Rattle.hot_index_calls.specs.Passes.{Owns}
 use Rattle.hot_c.proofs.Keepers.{all_of, keeper_made}
 use Rattle.hot_c.proofs.opening.make_keeper.Goals as goal
 

@@ -4,7 +4,7 @@ use Rattle.std.specs.Global.{Global}
 use Rattle.std.specs.List.{slice_get}
 use Rattle.std.specs.Vec.Iter.{into_iter_items}
 use Rattle.hot_index.specs.Handles.{HandleView}
-use Rattle.seat_calls.specs.Passes.{PassView, Owns, IsNewPass}
+use Rattle.hot_index_calls.specs.Passes.{PassView, Owns, IsNewPass}
 use Rattle.rowex_table.specs.Seats.{TableView}
 use Rattle.hot_c.specs.declared.opened.Opened.{Opened}
 use Rattle.hot_c.proofs.Places.{AreFrom, each_longer, first_of, rest_of}

@@ -2,7 +2,7 @@
 use Rattle.std.specs.Prelude.{◌≡◌, [], ℕ, ◌+◌, Box, Some, length, slice_get}
 use Rattle.std.specs.Global.{Global}
 use Rattle.std.specs.Vec.Iter.{into_iter_items, into_iter_len}
-use Rattle.seat_calls.specs.Passes.{PassView, Owns, IsNewPass}
+use Rattle.hot_index_calls.specs.Passes.{PassView, Owns, IsNewPass}
 use Rattle.hot_c.specs.declared.opened.Opened.{Opened}
 use Rattle.hot_c.proofs.Places.{AreFrom}
 use Rattle.hot_c.proofs.opening.share_index.Given as goal

@@ -4,7 +4,7 @@ use Rattle.std.specs.List.{slice_get}
 use Rattle.std.specs.Vec.Iter.{into_iter_items}
 use Rattle.key_counts.specs.Counts.{IsCountOf}
 use Rattle.rowex_core.specs.declared.known.Known.{Known}
-use Rattle.seat_calls.specs.Passes.{PassView, Owns, IsNewPass, IsSettled, pass_of}
+use Rattle.hot_index_calls.specs.Passes.{PassView, Owns, IsNewPass, IsSettled, pass_of}
 use Rattle.hot_index.proofs.Making.{AreFrom, all_left, first_of, rest_of, each_of_none, each_longer, new_pass}
 use Rattle.hot_index.proofs.creating.make_closed_passes.Goals as goal
 

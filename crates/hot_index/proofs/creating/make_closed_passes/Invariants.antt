@@ -1,7 +1,7 @@
 -- The passes that have been made are those of the numbers below, and the seats that are left are of the numbers from there on.
 use Rattle.std.specs.Prelude.{◌≡◌, ℕ, ◌+◌, Some, length, slice_get}
 use Rattle.std.specs.Vec.Iter.{into_iter_items, into_iter_len}
-use Rattle.seat_calls.specs.Passes.{PassView, Owns, IsNewPass}
+use Rattle.hot_index_calls.specs.Passes.{PassView, Owns, IsNewPass}
 use Rattle.hot_index.proofs.Making.{AreFrom}
 use Rattle.hot_index.proofs.creating.make_closed_passes.Given as goal
 

@@ -1,7 +1,7 @@
 -- One pass more is open.
 use Rattle.std.proofs.Common.{◌≡◌, ◌∷◌, [], ◌++◌, append_assoc, subst}
 use Rattle.std.specs.Vec.Iter.{into_iter_items}
-use Rattle.seat_calls.specs.Passes.{PassView}
+use Rattle.hot_index_calls.specs.Passes.{PassView}
 use Rattle.hot_index.proofs.creating.open_passes.Goals as goal
 
 pub loop-pass-preserved : goal.loop-pass-preserved

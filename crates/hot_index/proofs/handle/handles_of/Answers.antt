@@ -3,7 +3,7 @@ use Rattle.std.proofs.Common.{◌≡◌, ◌∷◌, [], ◌++◌, append_assoc, 
 use Rattle.std.specs.Vec.Iter.{into_iter_items}
 use Rattle.std.proofs.lemmas.List.Elements.{All-rest}
 use Rattle.hot_index.specs.Handles.{HandleView, handle_at}
-use Rattle.seat_calls.specs.Passes.{Owns}
+use Rattle.hot_index_calls.specs.Passes.{Owns}
 use Rattle.hot_index.proofs.handle.handles_of.Goals as goal
 
 pub loop-pass-preserved : goal.loop-pass-preserved

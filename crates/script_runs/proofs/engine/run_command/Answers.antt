@@ -1,6 +1,6 @@
 -- Why `run_command` meets its contract.
 use Rattle.std.proofs.lemmas.Result.{on_ok_weaker}
-use Rattle.seat_calls.specs.Passes.{PassView}
+use Rattle.hot_index_calls.specs.Passes.{PassView}
 use Rattle.script_runs.proofs.Progressing.{HasAnsweredCommand-call}
 use Rattle.script_runs.proofs.engine.run_command.Goals as goal
 

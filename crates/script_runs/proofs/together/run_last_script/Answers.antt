@@ -2,7 +2,7 @@
 use Rattle.std.proofs.Common.{subst, arith}
 use Rattle.std.proofs.lemmas.Result.{IfOk-weaker}
 use Rattle.hot_index.specs.Handles.{HandleView}
-use Rattle.seat_calls.specs.Passes.{Owns}
+use Rattle.hot_index_calls.specs.Passes.{Owns}
 use Rattle.hot_scripts.specs.Parses.{script_commands}
 use Rattle.script_runs.proofs.Joint.{met_long}
 use Rattle.script_runs.proofs.Numbered.{at_own}

@@ -2,7 +2,7 @@
 use Rattle.std.proofs.Common.{subst}
 use Rattle.finite_map.specs.Calls.{LegalCalls}
 use Rattle.key_counts.specs.Counts.{IsCountOf}
-use Rattle.seat_calls.specs.Passes.{PassView}
+use Rattle.hot_index_calls.specs.Passes.{PassView}
 use Rattle.hot_index.proofs.closed.ClosedPass.count.Goals as goal
 
 pub returns-clause-count : goal.returns-clause-count

@@ -2,10 +2,10 @@
 use Rattle.std.proofs.Common.{refl, ap, subst}
 use Rattle.rowex_core.specs.declared.known.Known.{Known}
 use Rattle.rowex_table.specs.Seats.{TableView}
-use Rattle.seat_calls.specs.Answers.{IsUnnoted}
-use Rattle.seat_calls.specs.Passes.{PassView, pass_of}
-use Rattle.seat_calls.specs.Traces.{HasCollected}
-use Rattle.seat_calls.proofs.Collected.{round_few, round_settled, round_unnoted}
+use Rattle.hot_index_calls.specs.Answers.{IsUnnoted}
+use Rattle.hot_index_calls.specs.Passes.{PassView, pass_of}
+use Rattle.hot_index_calls.specs.Traces.{HasCollected}
+use Rattle.hot_index_calls.proofs.Collected.{round_few, round_settled, round_unnoted}
 use Rattle.hot_index.proofs.Counted.{settled_on}
 use Rattle.hot_index.proofs.index.Index.collect_with.Goals as goal
 

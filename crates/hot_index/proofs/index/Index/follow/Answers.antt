@@ -1,7 +1,7 @@
 -- What the seat has seen, the pass has.
 use Rattle.std.proofs.Common.{subst}
 use Rattle.rowex_table.specs.Seats.{StampView, TableView}
-use Rattle.seat_calls.specs.Passes.{PassView, pass_of}
+use Rattle.hot_index_calls.specs.Passes.{PassView, pass_of}
 use Rattle.hot_index.specs.Stamps.{HasCaughtUp}
 use Rattle.hot_index.proofs.Counted.{settled_on}
 use Rattle.hot_index.proofs.Stamped.{caught_up, followed_settled}

@@ -1,10 +1,10 @@
 -- The gets are noted as their pass clears the pin, and it has settled then.
 use Rattle.std.proofs.Common.{rules, ◌∙◌, IsSome, length, sym, ap, subst}
 use Rattle.rowex_table.specs.Seats.{TableView}
-use Rattle.seat_calls.specs.Passes.{PassView, pass_of}
-use Rattle.seat_calls.specs.Many.{AreNoted, HasGotMany, gets}
-use Rattle.seat_calls.proofs.LookedUp.{looked_on, on_same}
-use Rattle.seat_calls.proofs.Noting.{fits_then}
+use Rattle.hot_index_calls.specs.Passes.{PassView, pass_of}
+use Rattle.hot_index_calls.specs.Many.{AreNoted, HasGotMany, gets}
+use Rattle.hot_index_calls.proofs.LookedUp.{looked_on, on_same}
+use Rattle.hot_index_calls.proofs.Noting.{fits_then}
 use Rattle.hot_index.proofs.ManyNoted.{gets_counted, gets_made, gets_noted}
 use Rattle.hot_index.proofs.index.Index.get_many_with.Goals as goal
 

@@ -2,12 +2,12 @@
 use Rattle.std.proofs.Common.{rules, ◌∙◌, IsSome, sym, ap, subst}
 use Rattle.finite_map.specs.declared.Call.TheVariants.{Get}
 use Rattle.rowex_table.specs.Seats.{TableView}
-use Rattle.seat_calls.specs.Passes.{PassView, pass_of}
-use Rattle.seat_calls.specs.Answers.{IsNoted, got}
-use Rattle.seat_calls.specs.Traces.{HasGot}
+use Rattle.hot_index_calls.specs.Passes.{PassView, pass_of}
+use Rattle.hot_index_calls.specs.Answers.{IsNoted, got}
+use Rattle.hot_index_calls.specs.Traces.{HasGot}
 use Rattle.rowex_reading.proofs.Led.{looked_at, looks_same}
-use Rattle.seat_calls.proofs.Noting.{fits_then, get_noted}
-use Rattle.seat_calls.proofs.Tracing.{has_got}
+use Rattle.hot_index_calls.proofs.Noting.{fits_then, get_noted}
+use Rattle.hot_index_calls.proofs.Tracing.{has_got}
 use Rattle.hot_index.proofs.Counted.{got_on}
 use Rattle.hot_index.proofs.index.Index.get_with.Goals as goal
 

@@ -6,12 +6,12 @@ use Rattle.version_laws.specs.Scan.{Range}
 use Rattle.rowex_reading.proofs.Led.{looked_at, looks_same}
 use Rattle.rowex_scanning.specs.Scanning.{asked_range}
 use Rattle.version_laws.specs.Directions.{IsLawfulBy}
-use Rattle.seat_calls.specs.Calls.{IsListReadBy}
-use Rattle.seat_calls.specs.Passes.{PassView, pass_of}
-use Rattle.seat_calls.proofs.Noting.{fits_then, looked}
+use Rattle.hot_index_calls.specs.Calls.{IsListReadBy}
+use Rattle.hot_index_calls.specs.Passes.{PassView, pass_of}
+use Rattle.hot_index_calls.proofs.Noting.{fits_then, looked}
 use Rattle.hot_index.proofs.Counted.{settled_on}
 use Rattle.hot_index.proofs.Reading.{list_read}
-use Rattle.seat_calls.proofs.Scanned.{scan_refused, scan_settled}
+use Rattle.hot_index_calls.proofs.Scanned.{scan_refused, scan_settled}
 use Rattle.hot_index.proofs.index.Index.list_range.Goals as goal
 
 pub unpin-requires : goal.unpin-requires

@@ -2,8 +2,8 @@
 use Rattle.std.proofs.Common.{subst, ap, ◌∙◌}
 use Rattle.rowex_core.specs.declared.known.Known.{Known}
 use Rattle.rowex_table.specs.Seats.{IsShownAll, TableView}
-use Rattle.seat_calls.specs.Answers.{HaveMet}
-use Rattle.seat_calls.specs.Passes.{PassView, pass_of}
+use Rattle.hot_index_calls.specs.Answers.{HaveMet}
+use Rattle.hot_index_calls.specs.Passes.{PassView, pass_of}
 use Rattle.hot_index.specs.Stamps.{HasSeenMore}
 use Rattle.hot_index.proofs.Counted.{settled_on}
 use Rattle.hot_index.proofs.Meets.{first_settled, second_settled, passes_met, seen_more}

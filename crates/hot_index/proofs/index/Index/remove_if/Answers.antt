@@ -2,7 +2,7 @@
 use Rattle.std.proofs.Common.{subst}
 use Rattle.finite_map.specs.declared.Call.TheVariants.{RemoveIf}
 use Rattle.tries.specs.Keys.{Key}
-use Rattle.seat_calls.specs.Calls.{IsAwaited}
+use Rattle.hot_index_calls.specs.Calls.{IsAwaited}
 use Rattle.hot_index.proofs.index.Index.remove_if.Goals as goal
 
 pub returns : goal.returns

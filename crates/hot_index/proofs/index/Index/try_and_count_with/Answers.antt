@@ -1,5 +1,5 @@
 -- What the call leaves on the seat, as the pass sees it.
-use Rattle.seat_calls.proofs.Trying.{counted_seen}
+use Rattle.hot_index_calls.proofs.Trying.{counted_seen}
 use Rattle.hot_index.proofs.Counted.{counted_on}
 use Rattle.hot_index.proofs.index.Index.try_and_count_with.Goals as goal
 

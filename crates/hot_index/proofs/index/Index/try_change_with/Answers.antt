@@ -1,5 +1,5 @@
 -- What the call leaves on the seat, as the pass sees it.
-use Rattle.seat_calls.proofs.Trying.{tried_seen}
+use Rattle.hot_index_calls.proofs.Trying.{tried_seen}
 use Rattle.hot_index.proofs.Counted.{tried_on}
 use Rattle.hot_index.proofs.index.Index.try_change_with.Goals as goal
 

@@ -1,5 +1,5 @@
 -- A change is counted, and a get is never refused.
-use Rattle.seat_calls.proofs.Trying.{may_count, unless_get}
+use Rattle.hot_index_calls.proofs.Trying.{may_count, unless_get}
 use Rattle.hot_index.proofs.index.Index.try_counted.Goals as goal
 
 pub returns-in_default : goal.returns-in_default

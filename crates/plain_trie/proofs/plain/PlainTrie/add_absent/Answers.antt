@@ -9,12 +9,12 @@ use Rattle.finite_map.specs.Maps.{value_at}
 use Rattle.insert_cases.proofs.Choosing.{some_injective}
 use Rattle.tries.specs.Content.{item}
 use Rattle.tries.specs.Search.{found}
-use Rattle.plain_records.specs.declared.leaf.LeafRecord.{LeafRecord}
-use Rattle.plain_records.specs.Cases.{AddsByCase, is_split}
-use Rattle.plain_records.specs.Heights.{KeepsHeights}
-use Rattle.plain_records.specs.Rising.{IsAddable}
-use Rattle.plain_records.proofs.Cases.{later_by_case, new_node}
-use Rattle.plain_records.proofs.Heights.{heights_same, heights_then}
+use Rattle.plain_trie_records.specs.declared.leaf.LeafRecord.{LeafRecord}
+use Rattle.plain_trie_records.specs.Cases.{AddsByCase, is_split}
+use Rattle.plain_trie_records.specs.Heights.{KeepsHeights}
+use Rattle.plain_trie_records.specs.Rising.{IsAddable}
+use Rattle.plain_trie_records.proofs.Cases.{later_by_case, new_node}
+use Rattle.plain_trie_records.proofs.Heights.{heights_same, heights_then}
 use Rattle.plain_trie.specs.Cases.{MakesRoot}
 use Rattle.plain_trie.specs.Views.{PlainView, trie_map}
 use Rattle.plain_trie.proofs.Inserting.{leaf_addable, raised_becomes}

@@ -6,7 +6,7 @@ use Rattle.std.proofs.lemmas.Result.{err_from_is_err_and}
 use Rattle.finite_map.specs.declared.Scan.{Scan}
 use Rattle.finite_map.specs.Maps.{Map}
 use Rattle.finite_map.specs.Scans.{IsScanOf, range_of}
-use Rattle.plain_records.specs.Store.{ShowsSound}
+use Rattle.plain_trie_records.specs.Store.{ShowsSound}
 use Rattle.tries.specs.Tree.{Tree}
 use Rattle.plain_trie.specs.Views.{IsTree, PlainView}
 use Rattle.plain_trie.proofs.Trees.{map_is, plain_tree}

@@ -1,0 +1,131 @@
+-- A round of collection leaves a settled pass settled.
+use Rattle.std.proofs.Common.{◌≡◌, ℕ, zero, suc, ◌+◌, ◌*◌, ◌<◌, ◌≤◌, List, [], ◌∷◌, ◌++◌, length, nat_lt, true, false, Bool, if◌then◌else◌, None, sym, ap, subst, ◌∙◌, arith, length-append}
+use Rattle.std.proofs.lemmas.List.{append-nil}
+use Rattle.record_words.specs.declared.TheConstants.{EPOCHS}
+use Rattle.versions.specs.declared.Rec.{Rec}
+use Rattle.versions.specs.declared.Rec.TheVariants.{Node as a_node, Leaf as a_leaf}
+use Rattle.rowex_core.specs.declared.event.Act.{Act}
+use Rattle.rowex_core.specs.declared.event.Act.TheVariants.{Advance, LoadEpoch}
+use Rattle.rowex_core.specs.declared.event.Event.{Event}
+use Rattle.rowex_core.specs.declared.known.Known.{Known}
+use Rattle.rowex_table.specs.Runs.{Does, InTurn}
+use Rattle.rowex_table.specs.Seats.{TableView, SeatView}
+use Rattle.finite_map.specs.Calls.{LegalCalls}
+use Rattle.finite_map.specs.Fronts.{BeginsWith}
+use Rattle.epochs.specs.Rounds.{IsRound, IsSmallRound, LoadsPin, VisitEach, Visits, advance_steps}
+use Rattle.epochs.specs.Runs.{collecting}
+use Rattle.hot_index_calls.specs.Answers.{IsUnnoted}
+use Rattle.hot_index_calls.specs.Asked.{IsIdle}
+use Rattle.hot_index_calls.specs.Counts.{round_steps}
+use Rattle.hot_index_calls.specs.Passes.{AreByPasses, IsSettled, pass_of}
+use Rattle.hot_index_calls.proofs.Noting.{event_makers}
+
+-- how many steps the parts of a round have
+parts_count : (first next : Act) (begin pins nodes leaves : List Act) → length (first ∷ begin ++ next ∷ pins ++ nodes ++ leaves) ≡ 2 + length begin + length pins + length nodes + length leaves
+parts_count first next begin pins nodes leaves =
+    length-append (first ∷ begin ++ next ∷ pins ++ nodes) leaves ∙ ap (λ n. n + length leaves)
+    (length-append (first ∷ begin ++ next ∷ pins) nodes ∙ ap (λ n. n + length nodes) (length-append (first ∷ begin) (next ∷ pins))) ∙
+    omega arith
+
+advance_few : (epoch found : ℕ) → length (advance_steps epoch found) ≤ 1
+advance_few epoch found = cases (nat_lt (epoch + 1) EPOCHS)
+  where
+    cases : (t : Bool) → length (if t then Advance epoch found ∷ [] else []) ≤ 1
+    cases true = omega arith
+    cases false = omega arith
+
+pins_few : (n : ℕ) (acts : List Act) → InTurn LoadsPin n acts → length acts ≤ n
+pins_few zero acts none = let z : length acts ≡ 0 = ap (λ (l : List Act). length l) none in omega (arith, z)
+pins_few (suc n) acts (before, last, first, (word, is), all) =
+    let z : length acts ≡ length (before ++ last) = ap (λ (l : List Act). length l) all in
+    let one : length last ≡ 1 = ap (λ (l : List Act). length l) is in
+    omega (arith, z, one, length-append before last, pins_few n before first)
+
+visit_few : (bound : ℕ) (r : Rec) (acts : List Act) → Visits bound r acts → length acts ≤ 2
+visit_few bound r _ (Visits.passes word not) = omega arith
+visit_few bound r _ (Visits.tries epoch found low below) = omega arith
+
+visits_few : (bound : ℕ) (kind : ℕ → Rec) (n : ℕ) (acts : List Act) → InTurn (λ m. Visits bound (kind m)) n acts → length acts ≤ 2 * n
+visits_few bound kind zero acts none = let z : length acts ≡ 0 = ap (λ (l : List Act). length l) none in omega (arith, z)
+visits_few bound kind (suc n) acts (before, last, first, visit, all) =
+    let z : length acts ≡ length (before ++ last) = ap (λ (l : List Act). length l) all in
+    omega (arith, z, length-append before last, visit_few bound (kind n) last visit, visits_few bound kind n before first)
+
+each_few : (bound : ℕ) (recs : List Rec) (acts : List Act) → VisitEach bound recs acts → length acts ≤ 2 * length recs
+each_few bound [] acts none = let z : length acts ≡ 0 = ap (λ (l : List Act). length l) none in omega (arith, z)
+each_few bound (r ∷ recs) acts (first, rest, visit, visits, all) =
+    let z : length acts ≡ length (first ++ rest) = ap (λ (l : List Act). length l) all in
+    omega (arith, z, length-append first rest, visit_few bound r first visit, each_few bound recs rest visits)
+
+-- Steps of a round, of which there is a first
+module _ {G : Type 0} {table : TableView} {becomes : G → Event → G → Type 0} {first : Act} {acts : List Act} {a b : SeatView × G} (does : Does table becomes collecting (first ∷ acts) a b) where
+  -- of what the pass knows its pin, its round, its steps and those that failed alone have changed
+  pub does_settled : b.0.known.pin ≡ None → IsSettled a.0.known → IsSettled b.0.known
+  does_settled free s = record {
+    own = ap (λ (z : Known). z.own) does.rest ∙ s.own;
+    locks = ap (λ (z : Known). z.locks) does.rest ∙ s.locks;
+    anchor = ap (λ (z : Known). z.anchor) does.rest ∙ s.anchor;
+    pin = free;
+    fresh = subst (λ (z : Known). BeginsWith z.front z.fresh.front) (sym does.rest) s.fresh;
+    loaded = subst (λ (z : Known). z.fresh.step < z.steps) (sym does.rest) (let l = s.loaded in omega arith);
+    legal = subst (λ (z : Known). LegalCalls z.front z.pass z.notes) (sym does.rest) s.legal;
+  }
+
+  pub does_idle : b.0.known.pin ≡ None → IsIdle table a.0 → IsIdle table b.0
+  does_idle free idle = (does.seat.0 ∙ idle.0, does_settled free idle.1)
+
+  -- before the first step the pass's front is of a lawful core
+  makers : AreByPasses table.layout a.0.known.front
+  makers = event_makers does.steps.1.event
+
+  pub does_unnoted : IsSettled a.0.known → IsUnnoted table.layout (pass_of a.0) (pass_of b.0)
+  does_unnoted s = record {
+    number = ap (λ (z : Known). z.pass) does.rest;
+    front = subst (λ (z : Known). BeginsWith z.front a.0.known.front) (sym does.rest) ([], sym (append-nil a.0.known.front));
+    notes = ap (λ (z : Known). z.notes) does.rest;
+    legal = subst (λ (z : Known). LegalCalls z.front z.pass z.notes) (sym does.rest) s.legal;
+    makers = subst (λ (z : Known). AreByPasses table.layout z.front) (sym does.rest) makers;
+  }
+
+module _ {G : Type 0} {table : TableView} {becomes : G → Event → G → Type 0} {a b : SeatView × G} {nodes leaves : ℕ} (r : IsRound table becomes a b nodes leaves) where
+  pub round_settled : b.0.known.pin ≡ None → IsSettled a.0.known → IsSettled b.0.known
+  round_settled = does_settled r.does
+
+  pub round_unnoted : IsSettled a.0.known → IsUnnoted table.layout (pass_of a.0) (pass_of b.0)
+  round_unnoted = does_unnoted r.does
+
+  -- the epoch twice and its exchange, each pin, and each record in at most two steps
+  pub round_few : b.0.known.steps ≤ a.0.known.steps + round_steps table.layout
+  round_few =
+      let count : b.0.known.steps ≡ a.0.known.steps + (2 + length (advance_steps r.epoch r.found) + length r.pins + length r.nodes + length r.leaves) =
+      ap (λ (z : Known). z.steps) r.does.rest ∙ ap (λ n. a.0.known.steps + n) (parts_count (LoadEpoch r.epoch) (LoadEpoch r.next) (advance_steps r.epoch r.found) r.pins r.nodes r.leaves) in
+      omega (
+        arith,
+        count,
+        advance_few r.epoch r.found,
+        pins_few table.layout.passes r.pins r.loads_pins,
+        visits_few b.0.known.round.bound a_node table.layout.nodes r.nodes r.visits_nodes,
+        visits_few b.0.known.round.bound a_leaf table.layout.leaves r.leaves r.visits_leaves,
+      )
+
+module _ {G : Type 0} {table : TableView} {becomes : G → Event → G → Type 0} {most : ℕ} {a b : SeatView × G} (r : IsSmallRound table becomes most a b) where
+  pub small_unnoted : IsSettled a.0.known → IsUnnoted table.layout (pass_of a.0) (pass_of b.0)
+  small_unnoted = does_unnoted r.does
+
+  pub small_later : a.0.known.steps ≤ b.0.known.steps
+  small_later = let s = ap (λ (z : Known). z.steps) r.does.rest in omega arith
+
+  -- the epoch twice and its exchange, each pin, and each record that is visited in at most two steps
+  pub small_few : b.0.known.steps ≤ a.0.known.steps + (3 + table.layout.passes + 2 * most)
+  small_few =
+      let count : b.0.known.steps ≡ a.0.known.steps + (2 + length (advance_steps r.epoch r.found) + length r.pins + length r.visits + 0) =
+      ap (λ (z : Known). z.steps) r.does.rest ∙ ap (λ n. a.0.known.steps + n) (ap (λ (l : List Act). length l) (sym (append-nil (LoadEpoch r.epoch ∷ advance_steps r.epoch r.found ++ LoadEpoch r.next ∷ r.pins ++ r.visits)))
+      ∙ parts_count (LoadEpoch r.epoch) (LoadEpoch r.next) (advance_steps r.epoch r.found) r.pins r.visits []) in
+      omega (
+        arith,
+        count,
+        advance_few r.epoch r.found,
+        pins_few table.layout.passes r.pins r.loads_pins,
+        each_few b.0.known.round.bound r.recs r.visits r.visits_each,
+        r.few,
+      )

@@ -1,0 +1,89 @@
+-- The try, and the count after it.
+use Rattle.std.proofs.Common.{◌≡◌, ◌+◌, ◌∙◌, ℕ, List, Ok, Err, Result, length, ap, refl, sym, subst, arith}
+use Rattle.finite_map.specs.Maps.{key_of}
+use Rattle.record_words.specs.declared.layout.Layout.{Layout}
+use Rattle.versions.specs.declared.Rec.{Rec}
+use Rattle.rowex_core.specs.declared.event.Act.TheVariants.{ClearPin}
+use Rattle.rowex_core.specs.declared.known.Known.{Known}
+use Rattle.rowex_writing.specs.declared.attempts.TryFault.{TryFault}
+use Rattle.rowex_writing.specs.declared.attempts.TryFault.TheVariants.{Busy}
+use Rattle.rowex_writing.specs.Walks.{nodes_among}
+use Rattle.hot_index_calls.specs.Answers.{fault_of}
+use Rattle.hot_index_calls.specs.Asked.{HasAsked, HasLacked, HasReplied}
+use Rattle.hot_index_calls.specs.Calls.{IsTriedWith}
+use Rattle.hot_index_calls.specs.Census.{loads_in}
+use Rattle.hot_index_calls.specs.Passes.{pass_of}
+use Rattle.hot_index_calls.specs.Refusals.{Judges, fault_in}
+use Rattle.hot_index_calls.specs.Traces.{AreAttempts}
+use Rattle.hot_index_calls.proofs.Refusing.{counted_later, counted_replied, judged_fault, nodes_most, stepped_on, told_after}
+use Rattle.hot_index_calls.proofs.Trying.{tried_seen}
+use Rattle.hot_index_calls.proofs.changing.try_and_count.Goals as goal
+
+pub try_change-requires : goal.try_change-requires
+try_change-requires g c = record { idle = c.requires.idle }
+
+pub returns-in-Ok : goal.returns-in-Ok
+returns-in-Ok g c =
+    let asked = c.in-Ok.ensures.asked in
+    let (acts, are, ends) = asked.ended in
+    record {
+      replied = asked.replied;
+      stepped = (acts, ClearPin, ends);
+      later = asked.later;
+      tried = record { mid = (pass_of c.try_change.new.seat, c.try_change.new.gate); tried = tried_seen refl refl asked c.in-Ok.ensures.few; told = refl };
+    }
+
+pub returns-in_default : goal.returns-in_default
+returns-in_default g c =
+    let table = c.args.table.now in
+    let call = c.args.call.now in
+    let asked = subst (λ (f : TryFault). HasAsked table g.G.Gate.becomes (AreAttempts table g.G.Gate.becomes call (Err f)) call (Err f) (c.args.seat.now, c.args.gate.now) (c.try_change.new.seat, c.try_change.new.gate)) (c.lack_of.ensures.none c.in_default.is) c.in-Err.ensures.asked in
+    let (acts, are, ends) = asked.ended in
+    record {
+      replied = asked.replied;
+      stepped = (acts, ClearPin, ends);
+      later = asked.later;
+      tried = record { mid = (pass_of c.try_change.new.seat, c.try_change.new.gate); tried = tried_seen refl refl asked c.in-Err.ensures.few; told = refl };
+    }
+
+pub count_records-counts-requires : goal.count_records-counts-requires
+count_records-counts-requires g c = c.in-Err.ensures.asked.replied.idle.0
+
+pub returns-in-Some-clause-replied : goal.returns-in-Some-clause-replied
+returns-in-Some-clause-replied g c =
+    let table = c.args.table.now in
+    let call = c.args.call.now in
+    let asked = subst (λ (f : TryFault). HasAsked table g.G.Gate.becomes (AreAttempts table g.G.Gate.becomes call (Err f)) call (Err f) (c.args.seat.now, c.args.gate.now) (c.try_change.new.seat, c.try_change.new.gate)) c.in-Some.ensures.some c.in-Err.ensures.asked in
+    subst (λ (f : TryFault). HasReplied table call (Err f) c.args.seat.now c.count_records-counts.new.seat) (sym (judged_fault _ _ _ _ _ c.judge_lack.result c.judge_lack.ensures))
+    (counted_replied {m = (c.try_change.new.seat, c.try_change.new.gate)} {b = (c.count_records-counts.new.seat, c.count_records-counts.new.gate)} c.count_records-counts.ensures.steps table.layout.nodes_in_range.0 c.count_records-counts.ensures.pin call c.args.seat.now c.in-Some.lacks asked.replied asked.later)
+
+pub returns-in-Some-clause-stepped : goal.returns-in-Some-clause-stepped
+returns-in-Some-clause-stepped g c =
+    let (acts, are, ends) = c.in-Err.ensures.asked.ended in
+    stepped_on acts (loads_in c.args.table.now.layout c.count_records-counts.ensures.steps.0) ClearPin (c.args.seat.now, c.args.gate.now) (c.try_change.new.seat, c.try_change.new.gate) (c.count_records-counts.new.seat, c.count_records-counts.new.gate) ends
+    c.count_records-counts.ensures.steps.3.steps
+
+pub returns-in-Some-clause-later : goal.returns-in-Some-clause-later
+returns-in-Some-clause-later g c =
+    let n : c.count_records-counts.new.seat.known.steps ≡ c.try_change.new.seat.known.steps + length (loads_in c.args.table.now.layout c.count_records-counts.ensures.steps.0) = ap (λ (z : Known). z.steps) c.count_records-counts.ensures.steps.3.rest in
+    omega (arith, n, c.in-Err.ensures.asked.later)
+
+pub returns-in-Some-clause-tried : goal.returns-in-Some-clause-tried
+returns-in-Some-clause-tried g c =
+    let table = c.args.table.now in
+    let call = c.args.call.now in
+    let fault = fault_of c.in-Some.lacks in
+    let asked = subst (λ (f : TryFault). HasAsked table g.G.Gate.becomes (AreAttempts table g.G.Gate.becomes call (Err f)) call (Err f) (c.args.seat.now, c.args.gate.now) (c.try_change.new.seat, c.try_change.new.gate)) c.in-Some.ensures.some c.in-Err.ensures.asked in
+    let lacked = subst (λ (f : TryFault). HasLacked table c.try_change.new.scratch.build.made.items (Err f) c.args.seat.now c.try_change.new.seat) c.in-Some.ensures.some c.in-Err.ensures.lacks in
+    let judged : Judges table.layout.passes c.in-Some.lacks c.saturating_add-needs.result (length (key_of call)) c.count_records-counts.result c.judge_lack.result =
+    subst (λ (l : Layout). Judges l.passes c.in-Some.lacks c.saturating_add-needs.result (length (key_of call)) c.count_records-counts.result c.judge_lack.result) c.layout.ensures
+    (subst (λ (k : List ℕ). Judges c.layout.result.passes c.in-Some.lacks c.saturating_add-needs.result (length k) c.count_records-counts.result c.judge_lack.result) (c.as_bytes.ensures.bytes ∙ c.key.ensures) c.judge_lack.ensures) in
+    let needs : c.saturating_add-needs.result ≡ length (nodes_among c.try_change.new.scratch.build.made.items) + 1 =
+    omega (arith, c.saturating_add-needs.ensures, c.count_node_records.ensures, ap (λ (l : List Rec). length (nodes_among l)) c.as_slice.ensures.value, nodes_most c.as_slice.result.now, c.as_slice.ensures.fits) in
+    record {
+      mid = (pass_of c.try_change.new.seat, c.try_change.new.gate);
+      tried = subst (λ (f : TryFault). IsTriedWith call (Err f) table g.G.Gate.becomes (pass_of c.args.seat.now, c.args.gate.now) (pass_of c.try_change.new.seat, c.try_change.new.gate)) (sym (judged_fault _ _ _ _ _ c.judge_lack.result c.judge_lack.ensures))
+          (tried_seen refl refl asked c.in-Err.ensures.few);
+      told = told_after {m = (c.try_change.new.seat, c.try_change.new.gate)} {b = (c.count_records-counts.new.seat, c.count_records-counts.new.gate)} c.count_records-counts.ensures.steps table.layout.nodes_in_range.0 call c.args.seat.now c.args.gate.now c.in-Some.lacks
+          c.try_change.new.scratch.build.made.items c.saturating_add-needs.result lacked needs c.judge_lack.result judged;
+    }

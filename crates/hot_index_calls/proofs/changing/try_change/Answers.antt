@@ -1,0 +1,10 @@
+-- A small round or nothing, and then the tries.
+use Rattle.hot_index_calls.proofs.Trying.{tidied_asked, tidied_few, tidied_lacks}
+use Rattle.hot_index_calls.proofs.changing.try_change.Goals as goal
+
+pub returns : goal.returns
+returns g c = record {
+  asked = tidied_asked _ _ _ c.args.call.now c.try_twice.result c.requires.idle.1 c.try_twice.ensures.asked c.collect_due.ensures.tidied;
+  lacks = tidied_lacks _ _ _ c.args.call.now c.try_twice.result c.requires.idle.1 c.try_twice.ensures.asked c.try_twice.new.scratch.build.made.items c.collect_due.ensures.tidied c.try_twice.ensures.lacks;
+  few = tidied_few _ _ _ c.args.call.now c.try_twice.result c.requires.idle.1 c.try_twice.ensures.asked c.collect_due.ensures.tidied c.try_twice.ensures.few;
+}

@@ -1,0 +1,162 @@
+-- What calls of an index say.
+use Rattle.std.specs.Prelude.{◌≡◌, ◌≢◌, ◌⊎◌, ℕ, ◌<◌, ◌≤◌, List, [], ◌∷◌, ◌++◌, length, slice_get, Bool, true, IsTrue, Option, Some, None}
+use Rattle.std.specs.Option.{option_to_list}
+use Rattle.finite_map.specs.declared.Change.{Change}
+use Rattle.finite_map.specs.declared.Call.{Call}
+use Rattle.finite_map.specs.declared.Call.TheVariants.{Get, Remove, RemoveIf}
+use Rattle.finite_map.specs.declared.Reply.{Reply}
+use Rattle.finite_map.specs.declared.Reply.TheVariants.{Value, Absent}
+use Rattle.finite_map.specs.declared.Scan.{Scan}
+use Rattle.finite_map.specs.Calls.{LegalCalls}
+use Rattle.finite_map.specs.Maps.{key_of}
+use Rattle.finite_map.specs.Fronts.{BeginsWith}
+use Rattle.finite_map.specs.Scans.{is_within, IsHeldBetween, IsLawfulScan}
+use Rattle.finite_map.specs.Weaves.{LegalHistory, weave}
+use Rattle.tries.specs.Keys.{Key}
+use Rattle.record_words.specs.declared.layout.Layout.{Layout}
+use Rattle.rowex_scanning.specs.Scanning.{limited}
+use Rattle.version_laws.specs.Directions.{ScanLaw}
+use Rattle.versions.specs.declared.Rec.{Rec}
+use Rattle.version_laws.specs.Scan.{Range}
+use Rattle.rowex_writing.specs.Changes.{LacksLeaves, LacksNodes}
+use Rattle.rowex_writing.specs.Locks.{HasMetTaken}
+use Rattle.rowex_writing.specs.declared.attempts.TryFault.{TryFault}
+use Rattle.rowex_writing.specs.declared.attempts.TryFault.TheVariants.{Busy, FullNodes, FullLeaves}
+use Rattle.rowex_writing.specs.declared.plan.Full.{Full}
+use Rattle.rowex_writing.specs.declared.plan.Full.TheVariants.{Nodes, Leaves}
+use Rattle.hot_index_calls.specs.Passes.{PassView, AreByPasses}
+
+-- the reply that says what a get found
+abbrev pub got : Option ℕ → Reply
+got None = Absent
+got (Some value) = Value value
+
+-- the pass's front has grown, by changes of passes of the index, and its last load of the root was in this call
+pub record GoesOn (layout : Layout) (k j : PassView) : Type 0 where
+  pub number : j.number ≡ k.number
+  pub front : BeginsWith j.front k.front
+  pub fresh : BeginsWith j.fresh.front k.front
+  pub seen : BeginsWith j.front j.fresh.front
+  pub now : (k.steps ≤ j.fresh.step) × (j.fresh.step < j.steps)
+  pub makers : AreByPasses layout j.front
+
+-- A call of the pass was answered: there is one note more, of this call and this reply, which stands in the history at a
+-- place from what the pass had seen at its last load of the root up to what it has seen now; and the pass's calls are legal.
+pub record IsNoted (layout : Layout) (k j : PassView) (call : Call) (reply : Reply) : Type 0 where
+  pub on : GoesOn layout k j
+  pub place : ℕ
+  pub notes : j.notes ≡ k.notes ++ record { place = place; call = call; reply = reply } ∷ []
+  pub low : length j.fresh.front ≤ place
+  pub high : place ≤ length j.front
+  pub legal : LegalCalls j.front j.number j.notes
+
+-- the range from one key to another, of which a scan lists so many pairs at most
+abbrev pub range_from : Key → Key → ℕ → Range
+range_from from upto limit = record { from = from; upto = upto; limit = limit }
+
+-- A scan was answered: it is lawful from the last load of the root to what the pass has seen now, and adds no note.
+pub record IsScannedBy (IsLawful : ScanLaw) (layout : Layout) (k j : PassView) (range : Range) (scan : Scan) : Type 0 where
+  pub on : GoesOn layout k j
+  pub notes : j.notes ≡ k.notes
+  pub lawful : IsLawful j.fresh.front j.front range.from range.upto range.limit scan
+  pub legal : LegalCalls j.front j.number j.notes
+
+-- A scan into a list was answered, whether there is a further key. It adds no note; and a scan with these pairs is lawful from the
+-- last load of the root to what the pass has seen now.
+pub record IsListedBy (IsLawful : ScanLaw) (layout : Layout) (k j : PassView) (range : Range) (pairs : List (Key × ℕ)) (more : Bool) : Type 0 where
+  pub on : GoesOn layout k j
+  pub notes : j.notes ≡ k.notes
+  pub lawful : (scan : Scan) → scan.pairs.items ≡ pairs → scan.more ≡ more → IsLawful j.fresh.front j.front range.from range.upto range.limit scan
+  pub legal : LegalCalls j.front j.number j.notes
+
+-- A scan into a list was refused memory: it is answered as one that was cut at the number of its pairs, which are fewer than the limit.
+abbrev pub IsListedInPartBy : ScanLaw → Layout → PassView → PassView → Range → List (Key × ℕ) → Type 0
+IsListedInPartBy IsLawful layout k j range pairs = (length pairs < range.limit) × IsListedBy IsLawful layout k j (limited range (length pairs)) pairs true
+
+-- a scan for one pair found this one, or found none
+abbrev pub IsFoundBy : ScanLaw → Layout → PassView → PassView → Key → Key → Option (Key × ℕ) → Type 0
+IsFoundBy IsLawful layout k j from upto found = (more : Bool) × IsListedBy IsLawful layout k j (range_from from upto 1) (option_to_list found) more
+
+-- the same of scans upwards
+abbrev pub IsScanned : Layout → PassView → PassView → Range → Scan → Type 0
+IsScanned = IsScannedBy IsLawfulScan
+
+abbrev pub IsListed : Layout → PassView → PassView → Range → List (Key × ℕ) → Bool → Type 0
+IsListed = IsListedBy IsLawfulScan
+
+-- A scan upwards into a list ran out of memory: it is as one that was cut at the number of its pairs.
+abbrev pub IsListedInPart : Layout → PassView → PassView → Range → List (Key × ℕ) → Type 0
+IsListedInPart = IsListedInPartBy IsLawfulScan
+
+-- A scan was refused memory, which it needed for a pair: the limit allows one, and a key of the range was in the index in a version
+-- from the last load of the root to what the pass has seen now.
+pub record HasFoundPair (layout : Layout) (k j : PassView) (range : Range) : Type 0 where
+  pub on : GoesOn layout k j
+  pub room : 0 < range.limit
+  pub key : Key
+  pub value : ℕ
+  pub within : IsTrue (is_within range.from range.upto key)
+  pub held : IsHeldBetween j.fresh.front j.front key value
+
+-- A call was refused or asked nothing of the map: no note is added.
+pub record IsUnnoted (layout : Layout) (k j : PassView) : Type 0 where
+  pub number : j.number ≡ k.number
+  pub front : BeginsWith j.front k.front
+  pub notes : j.notes ≡ k.notes
+  pub legal : LegalCalls j.front j.number j.notes
+  pub makers : AreByPasses layout j.front
+
+-- The pass has seen a change by another pass of the index, made since it set the pin that it had at its last load of the root, a step
+-- of this call: the change stands behind all those that had been made by then.
+pub record IsOvertaken (layout : Layout) (k j : PassView) : Type 0 where
+  pub loaded : k.steps ≤ j.fresh.step
+  pub change : Change
+  pub place : ℕ
+  pub is : slice_get j.front place ≡ Some change
+  pub since : j.fresh.pinned ≤ place
+  pub another : change.pass ≢ j.number
+  pub below : change.pass < layout.passes
+
+-- Another pass of the index stood in the way: a lock of this call found what it wanted to lock locked or retired by it, or a change of
+-- it was made since the pin under which the call loaded the root last.
+pub record HasConflict (layout : Layout) (k j : PassView) : Type 0 where
+  pub pass : j.number < layout.passes
+  pub met : HasMetTaken layout j.number k.steps j.failed ⊎ IsOvertaken layout k j
+
+-- Why a call was refused: another pass stood in its way; or of each node record, or of each leaf record with room for its key, a claim
+-- failed or a load found the state not free. Then no leaf record was the pass's own, and of the node records at most two for each node
+-- that it had locked, and one.
+abbrev pub IsCause : Layout → Key → PassView → PassView → TryFault → Type 0
+IsCause layout key k j Busy = HasConflict layout k j
+IsCause layout key k j FullNodes = (own : List Rec) × LacksNodes layout j.number j.failed k.steps own
+IsCause layout key k j FullLeaves = LacksLeaves layout key j.number j.failed k.steps
+
+-- A call was refused: it has changed nothing and adds no note, and this is the cause.
+pub record IsRefused (layout : Layout) (call : Call) (k j : PassView) (fault : TryFault) : Type 0 where
+  pub unnoted : IsUnnoted layout k j
+  pub cause : IsCause layout (key_of call) k j fault
+
+-- the refusal of a call that waits for others
+abbrev pub fault_of : Full → TryFault
+fault_of Nodes = FullNodes
+fault_of Leaves = FullLeaves
+
+-- a call may be refused so: a get never, and neither removal for want of a leaf record
+abbrev pub MayRefuse : Call → TryFault → Type 0
+MayRefuse (Get key) fault = ⊥
+MayRefuse (Remove key) FullLeaves = ⊥
+MayRefuse (RemoveIf key expected) FullLeaves = ⊥
+MayRefuse call fault = Unit {0}
+
+-- the records of this kind may all be taken when this call asks for one
+abbrev pub MayLack : Call → Full → Type 0
+MayLack call full = MayRefuse call (fault_of full)
+
+-- Two passes have met: both have seen one list of changes, which begins with what each had seen; the calls of both are legal
+-- in it, and stand together in one sequential history.
+pub record HaveMet (layout : Layout) (j k j' k' : PassView) : Type 0 where
+  pub first : IsUnnoted layout j j'
+  pub second : IsUnnoted layout k k'
+  pub fronts : j'.front ≡ k'.front
+  pub apart : j'.number ≢ k'.number
+  pub history : LegalHistory (weave j'.front (j'.notes ++ k'.notes))

@@ -1,0 +1,171 @@
+-- What a call of an index ensures, each of its clauses a field by the clause's name.
+use Rattle.std.specs.Prelude.{◌≡◌, ◌+◌, ◌≤◌, ℕ, Bool, List, [], ◌∷◌, Result, Ok, Err, MatchResult, IfOk, IfErr, OnErr}
+use Rattle.finite_map.specs.declared.Call.{Call}
+use Rattle.finite_map.specs.declared.Call.TheVariants.{Get}
+use Rattle.finite_map.specs.declared.Reply.{Reply}
+use Rattle.finite_map.specs.declared.Scan.{Scan}
+use Rattle.finite_map.specs.Scans.{IsLawfulScan}
+use Rattle.record_words.specs.declared.layout.Layout.{Layout}
+use Rattle.rowex_core.specs.declared.event.Event.{Event}
+use Rattle.rowex_table.specs.Seats.{TableView}
+use Rattle.rowex_writing.specs.Attempts.{IsLeafless}
+use Rattle.rowex_writing.specs.declared.attempts.TryFault.{TryFault}
+use Rattle.rowex_writing.specs.declared.attempts.TryFault.TheVariants.{FullLeaves}
+use Rattle.rowex_writing.specs.declared.plan.Full.{Full}
+use Rattle.rowex_writing.specs.declared.plan.Full.TheVariants.{Leaves}
+use Rattle.version_laws.specs.Scan.{Range}
+use Rattle.tries.specs.Keys.{Key}
+use Rattle.version_laws.specs.Directions.{ScanLaw}
+use Rattle.hot_index_calls.specs.Answers.{HasFoundPair, IsListedBy, IsListedInPartBy, IsNoted, IsRefused, IsScannedBy, IsUnnoted, MayRefuse, fault_of}
+use Rattle.hot_index_calls.specs.Refusals.{IsPassing, IsTold, as_tried, fault_in}
+use Rattle.hot_index_calls.specs.declared.census.RecordCounts.{RecordCounts}
+use Rattle.hot_index_calls.specs.declared.refusals.Refusal.{Refusal}
+use Rattle.hot_index_calls.specs.declared.refusals.Refusal.TheVariants.{Full as IsFull}
+use Rattle.hot_index_calls.specs.Counts.{scan_steps}
+use Rattle.hot_index_calls.specs.Passes.{Owns, PassView}
+use Rattle.hot_index_calls.specs.Traces.{HasGot, HasGotRange, HasMade, HasTold, untold}
+
+-- A change that doesn't wait was answered or refused, by these steps, of which the gate was told.
+pub record IsTriedWith {G : Type 0} (asked : Call) (result : Result Reply TryFault) (index : TableView) (becomes : G → Event → G → Type 0)
+    (a b : PassView × G) : Type 0 where
+  pub own : Owns index b.0
+  pub call : MatchResult result (IsNoted index.layout a.0 b.0 asked) (IsRefused index.layout asked a.0 b.0)
+  pub made : HasMade index becomes asked result a b
+  pub leafless : IsLeafless FullLeaves asked result
+
+-- a change that doesn't wait, with no gate
+abbrev pub IsTried : Call → Result Reply TryFault → TableView → PassView → PassView → Type 0
+IsTried asked result index k j = IsTriedWith asked result index untold (k, tt) (j, tt)
+
+-- the first is said of a get, and the second of each other call
+abbrev pub GetsOr : Call → Type 0 → Type 0 → Type 0
+GetsOr (Get key) Gets Changes = Gets
+GetsOr asked Gets Changes = Changes
+
+-- The steps of a call with this outcome, so many at most, of which the gate was told: those of a get, or of a change's attempts and rounds.
+abbrev pub MakesStepsWith : {G : Type 0} → Call → Result Reply TryFault → TableView → (G → Event → G → Type 0) → PassView × G → PassView × G → Type 0
+MakesStepsWith asked result index becomes a b = GetsOr asked (HasGot index becomes a b) (HasMade index becomes asked result a b)
+
+-- the same of a call with no gate
+abbrev pub MakesSteps : Call → Result Reply TryFault → TableView → PassView → PassView → Type 0
+MakesSteps asked result index k j = MakesStepsWith asked result index untold (k, tt) (j, tt)
+
+-- A call that doesn't wait, a get or a change, was answered, or refused where it may be, by its steps.
+pub record IsCallTried (asked : Call) (result : Result Reply TryFault) (index : TableView) (k j : PassView) : Type 0 where
+  pub own : Owns index j
+  pub call : MatchResult result (IsNoted index.layout k j asked) (IsRefused index.layout asked k j)
+  pub may : IfErr result (MayRefuse asked)
+  pub made : MakesSteps asked result index k j
+
+-- A change was tried once, by a whole call that doesn't wait. If no record was free, all records were counted then, and the result says what
+-- the count says.
+pub record IsTriedAndCounted {G : Type 0} (asked : Call) (result : Result Reply Refusal) (index : TableView) (becomes : G → Event → G → Type 0)
+    (a b : PassView × G) : Type 0 where
+  pub mid : PassView × G
+  pub tried : IsTriedWith asked (as_tried result) index becomes a mid
+  pub told : IsTold asked result index becomes a mid b
+
+-- Tries of a change were refused for these reasons, one after the other, and none of them is final.
+abbrev pub AreTriesRefused : {G : Type 0} → Call → List Refusal → TableView → (G → Event → G → Type 0) → PassView × G → PassView × G → Type 0
+AreTriesRefused asked [] index becomes a b = b ≡ a
+AreTriesRefused {G = G} asked (refusal ∷ refusals) index becomes a b =
+    (m : PassView × G) × IsTriedAndCounted asked (Err refusal) index becomes a m × IsPassing refusal × AreTriesRefused asked refusals index becomes m b
+
+-- what a change that waits returns, by its last try: the reply, or a refusal that is final
+abbrev pub IsOfLast : Result Reply Full → Result Reply Refusal → Type 0
+IsOfLast (Ok reply) last = last ≡ Ok reply
+IsOfLast (Err full) last = (counts : RecordCounts) × (last ≡ Err (IsFull full counts))
+
+-- A change that waits makes tries, with a count after each that found no record free, and no other step. It goes on after a try that was busy
+-- or held back, and ends with any other: so in an index of one pass it makes one try. The last one leaves what the change leaves. So the
+-- cause of a refusal lies in the last try alone.
+pub record MakesTries {G : Type 0} (asked : Call) (result : Result Reply Full) (index : TableView) (becomes : G → Event → G → Type 0)
+    (a b : PassView × G) : Type 0 where
+  pub refusals : List Refusal
+  pub last : PassView × G
+  pub refused : AreTriesRefused asked refusals index becomes a last
+  pub alone : index.layout.passes ≡ 1 → refusals ≡ []
+  pub outcome : Result Reply Refusal
+  pub tried : IsTriedAndCounted asked outcome index becomes last b
+  pub is_last : IsOfLast result outcome
+
+-- The steps of a call that waits and has this outcome: those of a get, or a change's tries.
+abbrev pub GetsOrTries : {G : Type 0} → Call → Result Reply Full → TableView → (G → Event → G → Type 0) → PassView × G → PassView × G → Type 0
+GetsOrTries asked result index becomes a b = GetsOr asked (HasGot index becomes a b) (MakesTries asked result index becomes a b)
+
+-- A change that waits was answered or refused, by its steps, of which the gate was told: those of its tries. Its last load of the root has
+-- shown the pass all that any pass had seen by then.
+pub record IsAwaitedWith {G : Type 0} (asked : Call) (result : Result Reply Full) (index : TableView) (becomes : G → Event → G → Type 0)
+    (a b : PassView × G) : Type 0 where
+  pub own : Owns index b.0
+  pub call : MatchResult result (IsNoted index.layout a.0 b.0 asked) (λ full. IsRefused index.layout asked a.0 b.0 (fault_of full))
+  pub leafless : IsLeafless Leaves asked result
+  pub tries : MakesTries asked result index becomes a b
+  pub told : HasTold index becomes a b
+
+-- the same, where nobody is told of its steps
+abbrev pub IsAwaited : Call → Result Reply Full → TableView → PassView → PassView → Type 0
+IsAwaited asked result index k j = IsAwaitedWith asked result index untold (k, tt) (j, tt)
+
+-- A change was tried once and counted, and was answered or refused.
+pub record IsCountedWith {G : Type 0} (asked : Call) (result : Result Reply Refusal) (index : TableView) (becomes : G → Event → G → Type 0)
+    (a b : PassView × G) : Type 0 where
+  pub own : Owns index b.0
+  pub call : MatchResult result (IsNoted index.layout a.0 b.0 asked) (λ refusal. IsRefused index.layout asked a.0 b.0 (fault_in refusal))
+  pub leafless : IsLeafless FullLeaves asked (as_tried result)
+  pub made : IsTriedAndCounted asked result index becomes a b
+
+-- A call that doesn't wait, a get or a change, was answered, or refused where it may be. After a change that found no record free all records
+-- were counted.
+pub record IsCallCounted (asked : Call) (result : Result Reply Refusal) (index : TableView) (k j : PassView) : Type 0 where
+  pub own : Owns index j
+  pub call : MatchResult result (IsNoted index.layout k j asked) (λ refusal. IsRefused index.layout asked k j (fault_in refusal))
+  pub may : IfErr result (λ refusal. MayRefuse asked (fault_in refusal))
+  pub made : GetsOr asked (HasGot index untold (k, tt) (j, tt)) (IsTriedAndCounted asked result index untold (k, tt) (j, tt))
+
+-- A range was read, with such an answer, or memory was refused for a pair that it had found, and such a part is left; by its steps, so
+-- many at most, of which the gate was told.
+pub record IsRangeReadWith {A E G : Type 0} (IsAnswer : Layout → PassView → PassView → A → Type 0) (IsPart : Layout → PassView → PassView → Type 0)
+    (range : Range) (result : Result A E) (index : TableView) (becomes : G → Event → G → Type 0) (a b : PassView × G) : Type 0 where
+  pub own : Owns index b.0
+  pub ok : IfOk result (IsAnswer index.layout a.0 b.0)
+  pub err : OnErr result (IsUnnoted index.layout a.0 b.0)
+  pub part : OnErr result (IsPart index.layout a.0 b.0)
+  pub memory : OnErr result (HasFoundPair index.layout a.0 b.0 range)
+  pub steps : b.0.steps ≤ a.0.steps + scan_steps range.limit
+  pub read : HasGotRange index becomes range.limit a b
+
+-- no part is left
+abbrev pub no_part : Layout → PassView → PassView → Type 0
+no_part layout k j = Unit {0}
+
+-- a range was read, with no gate; out of memory no part is left
+abbrev pub IsRangeRead : {A E : Type 0} → (Layout → PassView → PassView → A → Type 0) → Range → Result A E → TableView → PassView → PassView → Type 0
+IsRangeRead IsAnswer range result index k j = IsRangeReadWith IsAnswer no_part range result index untold (k, tt) (j, tt)
+
+-- a scan was made that is lawful in this sense
+abbrev pub IsScanReadBy : {E G : Type 0} → ScanLaw → Range → Result Scan E → TableView → (G → Event → G → Type 0) → PassView × G → PassView × G → Type 0
+IsScanReadBy IsLawful range result index becomes a b =
+    IsRangeReadWith (λ layout k j. IsScannedBy IsLawful layout k j range) no_part range result index becomes a b
+
+-- a scan upwards was made that is lawful, and a gate was told its steps
+abbrev pub IsScanReadWith : {E G : Type 0} → Range → Result Scan E → TableView → (G → Event → G → Type 0) → PassView × G → PassView × G → Type 0
+IsScanReadWith range result index becomes a b = IsScanReadBy IsLawfulScan range result index becomes a b
+
+-- a scan upwards was made that is lawful
+abbrev pub IsScanRead : {E : Type 0} → Range → Result Scan E → TableView → PassView → PassView → Type 0
+IsScanRead range result index k j = IsScanReadWith range result index untold (k, tt) (j, tt)
+
+-- the same of a scan into a list
+abbrev pub IsListReadBy : {E G : Type 0} → ScanLaw → Range → List (Key × ℕ) → Result Bool E → TableView → (G → Event → G → Type 0) → PassView × G → PassView × G → Type 0
+IsListReadBy IsLawful range pairs result index becomes a b =
+    IsRangeReadWith (λ layout k j. IsListedBy IsLawful layout k j range pairs) (λ layout k j. IsListedInPartBy IsLawful layout k j range pairs)
+    range result index becomes a b
+
+-- a scan upwards into a list was made that is lawful, and a gate was told its steps
+abbrev pub IsListReadWith : {E G : Type 0} → Range → List (Key × ℕ) → Result Bool E → TableView → (G → Event → G → Type 0) → PassView × G → PassView × G → Type 0
+IsListReadWith range pairs result index becomes a b = IsListReadBy IsLawfulScan range pairs result index becomes a b
+
+-- a scan upwards into a list was made that is lawful
+abbrev pub IsListRead : {E : Type 0} → Range → List (Key × ℕ) → Result Bool E → TableView → PassView → PassView → Type 0
+IsListRead range pairs result index k j = IsListReadWith range pairs result index untold (k, tt) (j, tt)

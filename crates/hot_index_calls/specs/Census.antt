@@ -1,0 +1,116 @@
+-- What a count of all records says.
+use Rattle.std.specs.Prelude.{◌≡◌, ℕ, suc, ◌+◌, ◌*◌, List, [], ◌∷◌, ◌++◌, length, Bool, true, false, count_by}
+use Rattle.record_words.specs.Layout.{word_count}
+use Rattle.record_words.specs.State.{state_word}
+use Rattle.record_words.specs.declared.TheConstants.{WORD_BYTES}
+use Rattle.record_words.specs.declared.layout.Layout.{Layout}
+use Rattle.record_words.specs.declared.state.Tag.{Tag}
+use Rattle.record_words.specs.declared.state.Tag.TheVariants.{Free, Held, Live, Locked, Obsolete}
+use Rattle.versions.specs.declared.Rec.{Rec}
+use Rattle.versions.specs.declared.Rec.TheVariants.{Node as a_node, Leaf as a_leaf}
+use Rattle.rowex_core.specs.declared.event.Act.{Act}
+use Rattle.rowex_core.specs.declared.event.Act.TheVariants.{LoadState}
+use Rattle.rowex_core.specs.declared.event.Event.{Event}
+use Rattle.rowex_table.specs.Runs.{Does, IsTold, Runs, events_of}
+use Rattle.rowex_table.specs.Seats.{SeatView, TableView}
+use Rattle.epochs.specs.Runs.{collecting}
+use Rattle.hot_index_calls.specs.Passes.{PassView, pass_of}
+use Rattle.hot_index_calls.specs.declared.census.RecordCounts.{RecordCounts}
+use Rattle.hot_index_calls.specs.declared.census.StateCounts.{StateCounts}
+
+abbrev pub is_free : Tag → Bool
+is_free Free = true
+is_free tag = false
+
+abbrev pub is_held : Tag → Bool
+is_held Held = true
+is_held tag = false
+
+-- a locked node is live
+abbrev pub is_live : Tag → Bool
+is_live Live = true
+is_live Locked = true
+is_live tag = false
+
+abbrev pub is_obsolete : Tag → Bool
+is_obsolete (Obsolete epoch) = true
+is_obsolete tag = false
+
+-- how many of these tags there are of each kind
+abbrev pub counts_of : List Tag → StateCounts
+counts_of tags = record { free = count_by is_free tags; held = count_by is_held tags; live = count_by is_live tags; obsolete = count_by is_obsolete tags }
+
+-- the loads of the states of records of one kind, from this number on and in turn, that find these tags
+abbrev pub loads_of : (ℕ → Rec) → ℕ → List Tag → List Act
+loads_of kind n [] = []
+loads_of kind n (tag ∷ tags) = LoadState (kind n) (state_word tag) ∷ loads_of kind (suc n) tags
+
+-- the tags that were found: of the nodes, and of the leaves of each class, in the order of their numbers
+pub record FoundTags : Type 0 where
+  pub nodes : List Tag
+  pub short : List Tag
+  pub medium : List Tag
+  pub large : List Tag
+  pub wide : List Tag
+  pub long : List Tag
+
+-- one tag for each record of the layout
+pub record OneForEach (layout : Layout) (tags : FoundTags) : Type 0 where
+  pub nodes : layout.nodes ≡ length tags.nodes
+  pub short : layout.medium_from ≡ length tags.short
+  pub medium : layout.large_from ≡ layout.medium_from + length tags.medium
+  pub large : layout.wide_from ≡ layout.large_from + length tags.large
+  pub wide : layout.long_from ≡ layout.wide_from + length tags.wide
+  pub long : layout.leaves ≡ layout.long_from + length tags.long
+
+-- the loads that find these, nodes first
+abbrev pub loads_in : Layout → FoundTags → List Act
+loads_in layout tags =
+    loads_of a_node 0 tags.nodes ++ loads_of a_leaf 0 tags.short ++ loads_of a_leaf layout.medium_from tags.medium ++
+    loads_of a_leaf layout.large_from tags.large ++ loads_of a_leaf layout.wide_from tags.wide ++ loads_of a_leaf layout.long_from tags.long
+
+-- how many of these there are, and how many bytes the table takes
+abbrev pub counts_in : Layout → FoundTags → RecordCounts
+counts_in layout tags = record {
+  nodes = counts_of tags.nodes;
+  short = counts_of tags.short;
+  medium = counts_of tags.medium;
+  large = counts_of tags.large;
+  wide = counts_of tags.wide;
+  long = counts_of tags.long;
+  bytes = WORD_BYTES * word_count layout;
+}
+
+-- All records were counted: the pass loads the state of each once, in the order of their numbers and nodes first, and makes no other
+-- step, from the seat that it has before to the one that it has after; the counts are of the tags that these loads find, each at its
+-- own moment. The gate is told each load, in order, and nothing else; the pass sees no change by them.
+pub record HasCounted {G : Type 0} (index : TableView) (becomes : G → Event → G → Type 0) (a b : PassView × G) (counts : RecordCounts) : Type 0 where
+  pub tags : FoundTags
+  pub begins : a.0 ≡ pass_of a.0.seat
+  pub ends : b.0 ≡ pass_of b.0.seat
+  pub each : OneForEach index.layout tags
+  pub counts_are : counts ≡ counts_in index.layout tags
+  pub steps : Runs index becomes (loads_in index.layout tags) (a.0.seat, a.1) (b.0.seat, b.1)
+  pub told : IsTold becomes (events_of a.0.number (loads_in index.layout tags)) a.1 b.1
+  pub front : b.0.front ≡ a.0.front
+  pub many : b.0.steps ≡ a.0.steps + (index.layout.nodes + index.layout.leaves)
+
+-- On a seat
+
+-- the counts with one record more, of this tag
+abbrev pub with_tag : Tag → StateCounts → StateCounts
+with_tag Free counts = record counts { free = counts.free + 1 }
+with_tag Held counts = record counts { held = counts.held + 1 }
+with_tag Live counts = record counts { live = counts.live + 1 }
+with_tag Locked counts = record counts { live = counts.live + 1 }
+with_tag (Obsolete epoch) counts = record counts { obsolete = counts.obsolete + 1 }
+
+-- The records of one kind from one number up to another, without that, have been counted: so many were in each state.
+abbrev pub CountsFrom : {G : Type 0} → TableView → (G → Event → G → Type 0) → (ℕ → Rec) → ℕ → ℕ → StateCounts → SeatView × G → SeatView × G → Type 0
+CountsFrom table becomes kind first behind counts a b =
+    (tags : List Tag) × (behind ≡ first + length tags) × (counts ≡ counts_of tags) × Does table becomes collecting (loads_of kind first tags) a b
+
+-- all records have been counted
+abbrev pub CountsAll : {G : Type 0} → TableView → (G → Event → G → Type 0) → RecordCounts → SeatView × G → SeatView × G → Type 0
+CountsAll table becomes counts a b =
+    (tags : FoundTags) × OneForEach table.layout tags × (counts ≡ counts_in table.layout tags) × Does table becomes collecting (loads_in table.layout tags) a b

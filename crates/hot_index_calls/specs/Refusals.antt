@@ -1,0 +1,91 @@
+-- Why a change is refused that found no record free: by a count of all records, made after its try was undone.
+use Rattle.std.specs.Prelude.{◌≡◌, ◌⊎◌, ℕ, suc, ◌<◌, ◌≤◌, List, length, Result, Ok, Err}
+use Rattle.finite_map.specs.declared.Call.{Call}
+use Rattle.finite_map.specs.declared.Reply.{Reply}
+use Rattle.finite_map.specs.Maps.{key_of}
+use Rattle.record_words.specs.declared.layout.Layout.{Layout}
+use Rattle.rowex_core.specs.declared.event.Event.{Event}
+use Rattle.rowex_table.specs.Seats.{TableView}
+use Rattle.rowex_writing.specs.Changes.{LacksNodes}
+use Rattle.rowex_writing.specs.declared.attempts.TryFault.{TryFault}
+use Rattle.rowex_writing.specs.declared.attempts.TryFault.TheVariants.{Busy}
+use Rattle.rowex_writing.specs.declared.plan.Full.{Full}
+use Rattle.rowex_writing.specs.declared.plan.Full.TheVariants.{Nodes, Leaves}
+use Rattle.versions.specs.declared.Rec.{Rec}
+use Rattle.hot_index_calls.specs.Answers.{fault_of}
+use Rattle.hot_index_calls.specs.Census.{HasCounted}
+use Rattle.hot_index_calls.specs.Passes.{PassView}
+use Rattle.hot_index_calls.specs.declared.census.RecordCounts.{RecordCounts}
+use Rattle.hot_index_calls.specs.declared.census.StateCounts.{StateCounts}
+use Rattle.hot_index_calls.specs.declared.refusals.Refusal.{Refusal}
+use Rattle.hot_index_calls.specs.declared.refusals.Refusal.TheVariants.{Busy as IsBusy, HeldBack, Full as IsFull}
+
+-- Of one kind and class fewer records are free than are needed, none is claimed by a call, and none is retired and not given back.
+pub record AreShort (needs : ℕ) (counts : StateCounts) : Type 0 where
+  pub free : counts.free < needs
+  pub held : counts.held ≡ 0
+  pub obsolete : counts.obsolete ≡ 0
+
+-- it is so of each class of leaf records that has room for a key of this length
+pub record OfLeaves (IsSo : StateCounts → Type 0) (length : ℕ) (counts : RecordCounts) : Type 0 where
+  pub short : length ≤ 8 → IsSo counts.short
+  pub medium : length ≤ 24 → IsSo counts.medium
+  pub large : length ≤ 56 → IsSo counts.large
+  pub wide : length ≤ 88 → IsSo counts.wide
+  pub long : IsSo counts.long
+
+-- the index is full for a change that lacks a record of this kind: of the nodes it needs so many, and of the leaf records one with room
+abbrev pub IsShortOf : Full → (needs length : ℕ) → RecordCounts → Type 0
+IsShortOf Nodes needs length counts = AreShort needs counts.nodes
+IsShortOf Leaves needs length counts = OfLeaves (AreShort 1) length counts
+
+-- the refusal is final: the index is full by the count, or no other pass may give a record back
+abbrev pub IsFinal : (passes : ℕ) → Full → (needs length : ℕ) → RecordCounts → Type 0
+IsFinal passes lacks needs length counts = (passes ≡ 1) ⊎ IsShortOf lacks needs length counts
+
+-- what the count says of the lack: it is held back, or final
+abbrev pub Judges : (passes : ℕ) → Full → (needs length : ℕ) → RecordCounts → Refusal → Type 0
+Judges passes lacks needs length counts IsBusy = ⊥
+Judges passes lacks needs length counts (HeldBack full) = (full ≡ lacks) × ¬ (IsFinal passes lacks needs length counts)
+Judges passes lacks needs length counts (IsFull full shown) = (full ≡ lacks) × (shown ≡ counts) × IsFinal passes lacks needs length counts
+
+-- the refusal isn't final
+abbrev pub IsPassing : Refusal → Type 0
+IsPassing IsBusy = Unit {0}
+IsPassing (HeldBack lacks) = Unit {0}
+IsPassing (IsFull lacks counts) = ⊥
+
+-- the fault of the try
+abbrev pub fault_in : Refusal → TryFault
+fault_in IsBusy = Busy
+fault_in (HeldBack lacks) = fault_of lacks
+fault_in (IsFull lacks counts) = fault_of lacks
+
+abbrev pub as_tried : Result Reply Refusal → Result Reply TryFault
+as_tried (Ok reply) = Ok reply
+as_tried (Err refusal) = Err (fault_in refusal)
+
+-- what it needs where it lacks this: one node record more than its own, beside which it found none free
+abbrev pub NeedsBeside : Layout → PassView → PassView → Full → ℕ → Type 0
+NeedsBeside layout k j Nodes needs = (own : List Rec) × LacksNodes layout j.number j.failed k.steps own × (needs ≡ suc (length own))
+NeedsBeside layout k j Leaves needs = Unit {0}
+
+-- After the try, which led from a to m, all records were counted, and the count says this of its lack.
+pub record IsCountedAfter {G : Type 0} (call : Call) (lacks : Full) (refusal : Refusal) (index : TableView) (becomes : G → Event → G → Type 0)
+    (a m b : PassView × G) : Type 0 where
+  pub needs : ℕ
+  pub needed : NeedsBeside index.layout a.0 m.0 lacks needs
+  pub counts : RecordCounts
+  pub counted : HasCounted index becomes m b counts
+  pub judged : Judges index.layout.passes lacks needs (length (key_of call)) counts refusal
+
+-- where it was busy, nothing was counted
+abbrev pub IsToldAfter : {G : Type 0} → Call → TableView → (G → Event → G → Type 0) → (a m b : PassView × G) → Refusal → Type 0
+IsToldAfter call index becomes a m b IsBusy = b ≡ m
+IsToldAfter call index becomes a m b (HeldBack lacks) = IsCountedAfter call lacks (HeldBack lacks) index becomes a m b
+IsToldAfter call index becomes a m b (IsFull lacks counts) = IsCountedAfter call lacks (IsFull lacks counts) index becomes a m b
+
+-- after one that was answered neither
+abbrev pub IsTold : {G : Type 0} → Call → Result Reply Refusal → TableView → (G → Event → G → Type 0) → (a m b : PassView × G) → Type 0
+IsTold call (Ok reply) index becomes a m b = b ≡ m
+IsTold call (Err refusal) index becomes a m b = IsToldAfter call index becomes a m b refusal

@@ -1,0 +1,196 @@
+-- What a call does, step by step, and what its gate is told.
+use Rattle.std.specs.Prelude.{◌≡◌, ◌⊎◌, ◌+◌, ◌*◌, ◌≤◌, ℕ, All, List, [], ◌∷◌, ◌++◌, length, Bool, true, false, Result, Ok, Err}
+use Rattle.key_bits.specs.declared.TheConstants.{MAX_BYTES}
+use Rattle.finite_map.specs.declared.Call.{Call}
+use Rattle.finite_map.specs.declared.Note.{Note}
+use Rattle.finite_map.specs.declared.Reply.{Reply}
+use Rattle.record_words.specs.declared.layout.Layout.{Layout}
+use Rattle.versions.specs.declared.Rec.{Rec}
+use Rattle.versions.specs.declared.Rec.TheVariants.{Node as a_node, Leaf as a_leaf}
+use Rattle.rowex_core.specs.declared.event.Act.{Act}
+use Rattle.rowex_core.specs.declared.event.Act.TheVariants.{LoadEpoch, SetPin, LoadRef, ClearPin}
+use Rattle.rowex_core.specs.declared.event.Event.{Event}
+use Rattle.rowex_core.specs.declared.event.Spot.TheVariants.{Root}
+use Rattle.rowex_core.specs.declared.known.Known.{Known}
+use Rattle.rowex_table.specs.Runs.{Ends, InTurn, IsTold, Runs, SeesAllOfRun, events_of, silent}
+use Rattle.rowex_table.specs.Seats.{TableView, SeatView}
+use Rattle.rowex_reading.specs.Reads.{IsBelowRoot, entries_in}
+use Rattle.rowex_scanning.specs.Counts.{scan_entries}
+use Rattle.epochs.specs.Rounds.{IsRound, IsSmallRound, LoadsPin, VisitEach, Visits, advance_steps}
+use Rattle.epochs.specs.declared.limbo.TheConstants.{MOST_VISITED}
+use Rattle.rowex_writing.specs.Attempts.{AreAttemptSteps}
+use Rattle.rowex_writing.specs.declared.attempts.TryFault.{TryFault}
+use Rattle.rowex_writing.specs.declared.attempts.TryFault.TheVariants.{Busy, FullNodes, FullLeaves}
+use Rattle.rowex_writing.specs.declared.plan.Full.{Full}
+use Rattle.hot_index_calls.specs.Answers.{IsRefused, fault_of}
+use Rattle.hot_index_calls.specs.Counts.{round_steps, try_steps}
+use Rattle.hot_index_calls.specs.Noting.{change_notes}
+use Rattle.hot_index_calls.specs.Passes.{PassView, pass_of}
+
+-- nobody is told
+abbrev pub untold : Unit {0} → Event → Unit {0} → Type 0
+untold g event h = Unit {0}
+
+-- the acts of a call that only reads: it pins the pass, loads the root and then words below it, and clears the pin
+abbrev pub reading : ℕ → ℕ → List Act → List Act
+reading epoch root loads = LoadEpoch epoch ∷ SetPin epoch ∷ LoadRef Root root ∷ loads
+
+-- The call pins the pass, loads the root and then words below it, and clears the pin: these steps lead from the very seat that the
+-- pass has before to the one that it has after, one after the other, and no other does. With the last one come the call's notes. The
+-- gate is told each of them, in order, and nothing else. The load of the root shows the pass all changes that the table's steps had made
+-- by then, and so all that any pass had seen.
+pub record HasRead {G : Type 0} (index : TableView) (becomes : G → Event → G → Type 0) (a b : PassView × G) : Type 0 where
+  pub epoch : ℕ
+  pub root : ℕ
+  pub loads : List Act
+  pub said : Known → List Note
+  pub begins : a.0 ≡ pass_of a.0.seat
+  pub ends : b.0 ≡ pass_of b.0.seat
+  pub below : All IsBelowRoot loads
+  pub steps : Ends index becomes (reading epoch root loads) ClearPin said (a.0.seat, a.1) (b.0.seat, b.1)
+  pub sees : SeesAllOfRun index.layout a.0.seat b.0.seat
+  pub told : IsTold becomes (events_of a.0.number (reading epoch root loads ++ ClearPin ∷ [])) a.1 b.1
+
+-- A get loads one entry in each node on the way of its key: it makes at most 26 steps for each entry that it loads, and 36 beside.
+pub record HasGot {G : Type 0} (index : TableView) (becomes : G → Event → G → Type 0) (a b : PassView × G) : Type 0 where
+  pub read : HasRead index becomes a b
+  pub depth : entries_in read.loads ≤ 9 * MAX_BYTES
+  pub few : b.0.steps ≤ a.0.steps + 36 + 26 * entries_in read.loads
+
+-- A scan loads one entry for each node to which it goes, and one for each leaf: it makes at most 26 steps for each entry that it loads, 8
+-- more for each pair of its limit, and 101 beside.
+pub record HasGotRange {G : Type 0} (index : TableView) (becomes : G → Event → G → Type 0) (limit : ℕ) (a b : PassView × G) : Type 0 where
+  pub read : HasRead index becomes a b
+  pub most : entries_in read.loads ≤ scan_entries limit
+  pub few : b.0.steps ≤ a.0.steps + 101 + 26 * entries_in read.loads + 8 * limit
+
+-- An attempt, but for its last step, which clears the pin: it pins the pass, leaves the pin, and tries each lock once at most. Its
+-- steps are bounded by the entries that its search loads, the locks that it tries, and the records of the table.
+pub record IsAttempt (layout : Layout) (acts : List Act) : Type 0 where
+  pub epoch : ℕ
+  pub rest : List Act
+  pub acts_are : acts ≡ LoadEpoch epoch ∷ SetPin epoch ∷ rest
+  pub steps : AreAttemptSteps layout rest
+
+-- The steps of a round of collection: it loads the epoch, makes it the next one, loads it again and loads each pin; then it visits each
+-- record, nodes first.
+pub record AreRoundSteps (layout : Layout) (acts : List Act) : Type 0 where
+  pub epoch : ℕ
+  pub found : ℕ
+  pub next : ℕ
+  pub bound : ℕ
+  pub pins : List Act
+  pub nodes : List Act
+  pub leaves : List Act
+  pub acts_are : acts ≡ LoadEpoch epoch ∷ advance_steps epoch found ++ LoadEpoch next ∷ pins ++ nodes ++ leaves
+  pub loads_pins : InTurn LoadsPin layout.passes pins
+  pub visits_nodes : InTurn (λ n. Visits bound (a_node n)) layout.nodes nodes
+  pub visits_leaves : InTurn (λ n. Visits bound (a_leaf n)) layout.leaves leaves
+
+-- The steps of a small round: it begins in the same way, and then visits some records alone.
+pub record AreSmallSteps (layout : Layout) (acts : List Act) : Type 0 where
+  pub epoch : ℕ
+  pub found : ℕ
+  pub next : ℕ
+  pub bound : ℕ
+  pub pins : List Act
+  pub recs : List Rec
+  pub visits : List Act
+  pub acts_are : acts ≡ LoadEpoch epoch ∷ advance_steps epoch found ++ LoadEpoch next ∷ pins ++ visits
+  pub loads_pins : InTurn LoadsPin layout.passes pins
+  pub visits_each : VisitEach bound recs visits
+  pub few : length recs ≤ MOST_VISITED
+
+-- on a seat: one attempt
+abbrev pub IsOneAttempt : {G : Type 0} → TableView → SeatView × G → SeatView × G → List Act → Type 0
+IsOneAttempt table a b acts = IsAttempt table.layout acts
+
+-- On a seat: two attempts, and a round of collection between them. When the first had ended, the call was refused as full by it alone; and
+-- from there the other steps lead on. The notes of the call come with the last.
+pub record AreTwoAttempts {G : Type 0} (table : TableView) (becomes : G → Event → G → Type 0) (call : Call) (result : Result Reply TryFault)
+    (a b : SeatView × G) (acts : List Act) : Type 0 where
+  pub first : List Act
+  pub between : List Act
+  pub second : List Act
+  pub acts_are : acts ≡ first ++ (ClearPin ∷ between ++ second)
+  pub tries : IsAttempt table.layout first
+  pub round : AreRoundSteps table.layout between
+  pub tries_again : IsAttempt table.layout second
+  pub refused : SeatView × G
+  pub tried : Ends table becomes first ClearPin silent a refused
+  pub full : Full
+  pub lacked : IsRefused table.layout call (pass_of a.0) (pass_of refused.0) (fault_of full)
+  pub goes_on : Ends table becomes (between ++ second) ClearPin (change_notes call result) refused b
+
+-- whether the call was refused as full
+abbrev pub is_full : Result Reply TryFault → Bool
+is_full (Ok reply) = false
+is_full (Err Busy) = false
+is_full (Err FullNodes) = true
+is_full (Err FullLeaves) = true
+
+-- On a seat: one attempt, whose answer stands unless it is full; or two, with a round between them, where the first was full.
+abbrev pub AreTries : {G : Type 0} → TableView → (G → Event → G → Type 0) → Call → Result Reply TryFault → SeatView × G → SeatView × G → List Act → Type 0
+AreTries table becomes call result a b acts = (IsAttempt table.layout acts × (is_full result ≡ false)) ⊎ AreTwoAttempts table becomes call result a b acts
+
+-- On a seat: these tries, and before them a small round or nothing.
+pub record AreAttempts {G : Type 0} (table : TableView) (becomes : G → Event → G → Type 0) (call : Call) (result : Result Reply TryFault)
+    (a b : SeatView × G) (acts : List Act) : Type 0 where
+  pub before : List Act
+  pub rest : List Act
+  pub acts_are : acts ≡ before ++ rest
+  pub tidies : (before ≡ []) ⊎ AreSmallSteps table.layout before
+  pub tidied : SeatView × G
+  pub steps : Runs table becomes before a tidied
+  pub tries : AreTries table becomes call result tidied b rest
+
+-- On a seat: the pass makes a small round, or no step.
+abbrev pub Tidies : {G : Type 0} → TableView → (G → Event → G → Type 0) → SeatView × G → SeatView × G → Type 0
+Tidies table becomes a b = (b ≡ a) ⊎ IsSmallRound table becomes MOST_VISITED a b
+
+-- On a seat: the call makes such steps, and then clears the pin of its pass, with these notes.
+abbrev pub HasEnded : {G : Type 0} → TableView → (G → Event → G → Type 0) → (List Act → Type 0) → (Known → List Note) → SeatView × G → SeatView × G → Type 0
+HasEnded table becomes Are said a b = (acts : List Act) × Are acts × Ends table becomes acts ClearPin said a b
+
+-- The call makes one attempt, or two with a round of collection between them, and a small round or nothing before; it makes no other
+-- step, from the seat that the pass has before to the one that it has after. An attempt tries each lock once at most. A second one follows
+-- a first that was full, and no other. The last step clears the pin. With it comes the call's note, if it was answered. The gate is told
+-- each of the steps, in order, and nothing else. So many they are at most. Answered or refused, its last load of the root has shown the
+-- pass all changes that the table's steps had made by then, and so all that any pass had seen.
+pub record HasMade {G : Type 0} (index : TableView) (becomes : G → Event → G → Type 0) (call : Call) (result : Result Reply TryFault)
+    (a b : PassView × G) : Type 0 where
+  pub acts : List Act
+  pub begins : a.0 ≡ pass_of a.0.seat
+  pub ends : b.0 ≡ pass_of b.0.seat
+  pub tries : AreAttempts index becomes call result (a.0.seat, a.1) (b.0.seat, b.1) acts
+  pub steps : Ends index becomes acts ClearPin (change_notes call result) (a.0.seat, a.1) (b.0.seat, b.1)
+  pub sees : SeesAllOfRun index.layout a.0.seat b.0.seat
+  pub told : IsTold becomes (events_of a.0.number (acts ++ ClearPin ∷ [])) a.1 b.1
+  pub few : b.0.steps ≤ a.0.steps + try_steps index.layout
+
+-- On a seat: the call makes steps, one after the other, and these notes come with the last.
+abbrev pub HasStepped : {G : Type 0} → TableView → (G → Event → G → Type 0) → (Known → List Note) → SeatView × G → SeatView × G → Type 0
+HasStepped table becomes said a b = (acts : List Act) × (last : Act) × Ends table becomes acts last said a b
+
+-- The pass makes these steps, one after the other, and no other, from the seat that it has before to the one that it has after; with
+-- the last one come the call's notes. The gate is told each of them, in order, and nothing else. Answered or refused, its last load of the
+-- root has shown the pass all changes that the table's steps had made by then, and so all that any pass had seen.
+pub record HasTold {G : Type 0} (index : TableView) (becomes : G → Event → G → Type 0) (a b : PassView × G) : Type 0 where
+  pub acts : List Act
+  pub last : Act
+  pub said : Known → List Note
+  pub begins : a.0 ≡ pass_of a.0.seat
+  pub ends : b.0 ≡ pass_of b.0.seat
+  pub steps : Ends index becomes acts last said (a.0.seat, a.1) (b.0.seat, b.1)
+  pub sees : SeesAllOfRun index.layout a.0.seat b.0.seat
+  pub told : IsTold becomes (events_of a.0.number (acts ++ last ∷ [])) a.1 b.1
+
+-- The pass makes one round of collection, from the seat that it has before to the one that it has after, whose own exchanges give back
+-- so many nodes and so many leaves; it sees no change by it.
+-- The gate is told each of its steps, and so many they are at most.
+pub record HasCollected {G : Type 0} (index : TableView) (becomes : G → Event → G → Type 0) (a b : PassView × G) (nodes leaves : ℕ) : Type 0 where
+  pub begins : a.0 ≡ pass_of a.0.seat
+  pub ends : b.0 ≡ pass_of b.0.seat
+  pub round : IsRound index becomes (a.0.seat, a.1) (b.0.seat, b.1) nodes leaves
+  pub front : b.0.front ≡ a.0.front
+  pub few : b.0.steps ≤ a.0.steps + round_steps index.layout

@@ -1,0 +1,233 @@
+//! A call that may change the index, made with a pass's seat and scratch lists: its attempts, and the note of an answer.
+
+ghost use Rattle.std.specs.Prelude.{◌≡◌, ◌⊎◌, ◌+◌, ◌<◌, ◌≤◌, ◌↔◌, List, Err, None, IfSome, IsSome, IsTrue, false};
+ghost use Rattle.finite_map.specs.declared.Note.{Note};
+ghost use Rattle.rowex_core.specs.declared.event.Act.TheVariants.{ClearPin};
+ghost use Rattle.rowex_core.specs.declared.known.Known.{Known};
+ghost use Rattle.rowex_table.specs.Runs.{StepsWith};
+ghost use Rattle.rowex_table.specs.Seats.{IsPassOf};
+ghost use Rattle.rowex_writing.specs.declared.plan.Full.TheVariants.{Nodes, Leaves};
+ghost use Rattle.hot_index_calls.specs.Answers.{fault_of};
+ghost use Rattle.hot_index_calls.specs.Asked.{HasAsked, HasLacked, HasReplied, HasRested, IsIdle, last_try};
+ghost use Rattle.hot_index_calls.specs.Calls.{IsTriedAndCounted, MakesTries};
+ghost use Rattle.hot_index_calls.specs.Counts.{once_steps, try_steps, twice_steps};
+ghost use Rattle.hot_index_calls.specs.Noting.{change_notes};
+ghost use Rattle.hot_index_calls.specs.Passes.{pass_of};
+ghost use Rattle.hot_index_calls.specs.Refusals.{as_tried};
+ghost use Rattle.hot_index_calls.specs.Traces.{AreAttempts, AreTries, HasStepped, IsOneAttempt, Tidies, is_full};
+
+use crate::census::count_records;
+use crate::refusals::{Refusal, count_node_records, final_refusal, judge_lack, lack_of};
+use crate::scratch::Scratch;
+use epochs::{Given, collect_round, collect_small_round, pin, unpin};
+use finite_map::{Call, Reply};
+use rowex_core::Gate;
+use rowex_table::{HotTable, TableSeat};
+use rowex_writing::{Full, TryFault, attempt};
+use std::sync::Wait;
+use std::thread;
+
+/// Tries to make the change `call`, at most twice, after a small round of collection if one is due. `gate` is told each step. Returns the
+/// reply, or why the last attempt was refused: it has changed nothing then. The pass is between two calls, before and after.
+pub fn try_change<G: Gate>(
+    table: &HotTable,
+    seat: &mut TableSeat,
+    gate: &mut G,
+    scratch: &mut Scratch,
+    call: &Call,
+) -> Result<Reply, TryFault>
+    requires idle { IsIdle table.now seat.old }
+    ensures asked { HasAsked table.now G.becomes (AreAttempts table.now G.becomes call.now result) call.now result (seat.old, gate.old) (seat.new, gate.new) }
+    ensures lacks { HasLacked table.now scratch.new.build.made.items result seat.old seat.new }
+    ensures few { seat.new.known.steps ≤ seat.old.known.steps + try_steps table.now.layout }
+{
+    collect_due(table, seat, gate, scratch);
+    try_twice(table, seat, gate, scratch, call)
+}
+
+/// Makes a small round of collection if the pass has retired enough records. The next claims begin with those that it gave back.
+fn collect_due<G: Gate>(table: &HotTable, seat: &mut TableSeat, gate: &mut G, scratch: &mut Scratch)
+    requires idle { IsIdle table.now seat.old }
+    ensures idle { IsIdle table.now seat.new }
+    ensures tidied { Tidies table.now G.becomes (seat.old, gate.old) (seat.new, gate.new) }
+{
+    if scratch.limbo.is_due() {
+        collect_small_round(table, seat, gate, &mut scratch.limbo);
+        scratch.reuse_given_records(table.layout());
+    }
+}
+
+/// Tries to make the change `call`. If no record was free, it makes a full round of collection and tries once more. Returns the reply, or
+/// why the last attempt was refused. If the round gave back no record of the kind, and there is no other pass, the second attempt does
+/// nothing, and the refusal is the first one's. `scratch.build.made` lists what it had claimed, if no record was free.
+fn try_twice<G: Gate>(
+    table: &HotTable,
+    seat: &mut TableSeat,
+    gate: &mut G,
+    scratch: &mut Scratch,
+    call: &Call,
+) -> Result<Reply, TryFault>
+    requires idle { IsIdle table.now seat.old }
+    ensures asked { HasAsked table.now G.becomes (AreTries table.now G.becomes call.now result) call.now result (seat.old, gate.old) (seat.new, gate.new) }
+    ensures lacks { HasLacked table.now scratch.new.build.made.items result seat.old seat.new }
+    ensures few { seat.new.known.steps ≤ seat.old.known.steps + twice_steps table.now.layout }
+{
+    let first = make_attempt(table, seat, gate, scratch, call);
+    let Some(lacks) = full_kind(first) else {
+        return first;
+    };
+    let round = collect_round(table, seat, gate);
+    let passes = table.layout().passes;
+    let count = given_count(round.given, lacks);
+    scratch.reset_skips();
+    if may_find_free_record(passes, count) {
+        return make_attempt(table, seat, gate, scratch, call);
+    }
+    pin_and_unpin(table, seat, gate);
+    first
+}
+
+/// The kind of record of which none was free, if `answer` is a refusal for that. `None` for a reply, and for `Busy`.
+fn full_kind(answer: Result<Reply, TryFault>) -> Option<Full>
+    ensures some { IfSome result (λ full. answer ≡ Err (fault_of full)) }
+    ensures none { result ≡ None → is_full answer ≡ false }
+{
+    match answer {
+        Err(TryFault::FullNodes) => Some(Full::Nodes),
+        Err(TryFault::FullLeaves) => Some(Full::Leaves),
+        Ok(_) | Err(TryFault::Busy) => None,
+    }
+}
+
+/// How many records of the kind `kind` a round gave back, by its counts `given`.
+fn given_count(given: Given, kind: Full) -> u32
+    ensures nodes { kind ≡ Nodes → result ≡ given.nodes }
+    ensures leaves { kind ≡ Leaves → result ≡ given.leaves }
+{
+    match kind {
+        Full::Nodes => given.nodes,
+        Full::Leaves => given.leaves,
+    }
+}
+
+/// Whether a record of a kind may be free after a round that gave back `given` of it, in an index of `passes` passes. It may be one of
+/// these, or one that another pass gave back meanwhile.
+fn may_find_free_record(passes: u32, given: u32) -> bool
+    ensures { IsTrue result ↔ ((1 < passes) ⊎ (0 < given)) }
+{
+    passes > 1 || given > 0
+}
+
+/// Pins the pass and clears the pin: an attempt of three steps that does nothing. It is made in place of a second try that could find no
+/// room. No note is added, and what the first try found not free stays known.
+fn pin_and_unpin<G: Gate>(table: &HotTable, seat: &mut TableSeat, gate: &mut G)
+    requires idle { IsIdle table.now seat.old }
+    ensures rested { HasRested table.now G.becomes (seat.old, gate.old) (seat.new, gate.new) }
+{
+    pin(table, seat, gate);
+    unpin(table, seat, gate);
+}
+
+/// Tries to make the change `call` as [`try_change`] does. If no record was free, it counts all records then, and the refusal says what the
+/// count says. `gate` is told each step. The pass is between two calls, before and after.
+pub fn try_and_count<G: Gate>(
+    table: &HotTable,
+    seat: &mut TableSeat,
+    gate: &mut G,
+    scratch: &mut Scratch,
+    call: &Call,
+) -> Result<Reply, Refusal>
+    requires idle { IsIdle table.now seat.old }
+    ensures replied { HasReplied table.now call.now (as_tried result) seat.old seat.new }
+    ensures stepped { HasStepped table.now G.becomes (change_notes call.now (as_tried result)) (seat.old, gate.old) (seat.new, gate.new) }
+    ensures later { seat.old.known.steps ≤ seat.new.known.steps }
+    ensures tried { IsTriedAndCounted call.now result table.now G.becomes (pass_of seat.old, gate.old) (pass_of seat.new, gate.new) }
+{
+    match try_change(table, seat, gate, scratch, call) {
+        Ok(reply) => Ok(reply),
+        Err(fault) => {
+            let Some(lacks) = lack_of(fault) else {
+                return Err(Refusal::Busy);
+            };
+            let needs = count_node_records(scratch.build.made.as_slice()).saturating_add(1);
+            let counts = count_records(table, seat, gate);
+            let (passes, size) = (table.layout().passes, call.key().as_bytes().len());
+            Err(judge_lack(passes, lacks, needs, size, counts))
+        }
+    }
+}
+
+/// Tries to make the change `call` until it is made, or refused for want of records. It tries again as long as another pass is in its
+/// way, or by a count records may come back. `gate` is told each step; `rt` allows it to wait. Returns the reply, or the kind of records of
+/// which none was free: it has changed nothing then. The pass is between two calls, before and after.
+pub fn retry_change<R: Wait, G: Gate>(
+    rt: &R,
+    table: &HotTable,
+    seat: &mut TableSeat,
+    gate: &mut G,
+    scratch: &mut Scratch,
+    call: &Call,
+) -> Result<Reply, Full>
+    requires idle { IsIdle table.now seat.old }
+    ensures replied { HasReplied table.now call.now (last_try result) seat.old seat.new }
+    ensures stepped { HasStepped table.now G.becomes (change_notes call.now (last_try result)) (seat.old, gate.old) (seat.new, gate.new) }
+    ensures tries { MakesTries call.now result table.now G.becomes (pass_of seat.old, gate.old) (pass_of seat.new, gate.new) }
+{
+    for _ in rt.forever() {
+        match try_and_count(table, seat, gate, scratch, call) {
+            Ok(reply) => return Ok(reply),
+            Err(refusal) => {
+                if let Some(full) = final_refusal(refusal) {
+                    return Err(full);
+                }
+                thread::yield_now();
+            }
+        }
+    }
+    unreachable!()
+}
+
+/// Makes one attempt at `call`, with the pass pinned, and notes its reply if it has one. Returns the reply, or why the attempt was
+/// refused.
+fn make_attempt<G: Gate>(
+    table: &HotTable,
+    seat: &mut TableSeat,
+    gate: &mut G,
+    scratch: &mut Scratch,
+    call: &Call,
+) -> Result<Reply, TryFault>
+    requires idle { IsIdle table.now seat.old }
+    ensures asked { HasAsked table.now G.becomes (IsOneAttempt table.now) call.now result (seat.old, gate.old) (seat.new, gate.new) }
+    ensures lacks { HasLacked table.now scratch.new.build.made.items result seat.old seat.new }
+    ensures few { seat.new.known.steps ≤ seat.old.known.steps + once_steps table.now.layout }
+{
+    pin(table, seat, gate);
+    let outcome = attempt(
+        table,
+        seat,
+        gate,
+        &mut scratch.way,
+        &mut scratch.build,
+        call,
+    );
+    end_attempt(table, seat, gate, call, outcome);
+    scratch.move_unlinked_to_limbo();
+    outcome
+}
+
+/// Clears the pin at the end of an attempt. The notes `said` come with this step: that of a reply, or none. The caller's proof makes them
+/// of `_call` and `_outcome`, which the code doesn't read.
+fn end_attempt<G: Gate>(
+    table: &HotTable,
+    seat: &mut TableSeat,
+    gate: &mut G,
+    _call: &Call,
+    _outcome: Result<Reply, TryFault>,
+)
+    ghost said: { Known → List Note }
+    requires fits { IsPassOf table.now seat.old }
+    requires pinned { IsSome seat.old.known.pin }
+    ensures step { StepsWith table.now G.becomes ClearPin said (seat.old, gate.old) (seat.new, gate.new) }
+{
+    unpin(table, seat, gate);
+}

@@ -1,0 +1,115 @@
+//! Why a change is refused that found no record free: by a count of all records, made after its try was undone.
+
+ghost use Rattle.std.specs.Prelude.{◌≡◌, ◌↔◌, ◌∷◌, [], IfSome, IsTrue, None, length};
+ghost use Rattle.rowex_writing.specs.declared.attempts.TryFault.TheVariants.{Busy};
+ghost use Rattle.rowex_writing.specs.Walks.{nodes_among};
+ghost use Rattle.hot_index_calls.specs.Answers.{fault_of};
+ghost use Rattle.hot_index_calls.specs.Refusals.{AreShort, IsPassing, IsShortOf, Judges, OfLeaves};
+ghost use Rattle.hot_index_calls.specs.declared.census.RecordCounts.{RecordCounts as CountsView};
+ghost use Rattle.hot_index_calls.specs.declared.refusals.Refusal.TheVariants.{Full as IsFull};
+
+use crate::census::{RecordCounts, StateCounts};
+use rowex_core::Rec;
+use rowex_writing::{Full, TryFault};
+
+/// Why a try was refused that counts the records where it found none free. It has changed nothing then.
+#[derive(Clone, Copy)]
+pub enum Refusal {
+    /// Another pass was in its way.
+    Busy,
+    /// No record of the kind was free, but by the count one may come back: another pass has claimed one, or one is retired, or enough are free.
+    HeldBack(Full),
+    /// No record of the kind was free. By the count fewer are free than the change needs, and none may come back; or the index has one pass.
+    Full(Full, RecordCounts),
+}
+
+/// What a try is refused with that lacked a record of the kind `lacks`, by `counts`, made after it. It needs `needs` node records, or one
+/// leaf record with room for a key of `size` bytes. `passes` is the number of passes of the index.
+pub(crate) fn judge_lack(
+    passes: u32,
+    lacks: Full,
+    needs: usize,
+    size: usize,
+    counts: RecordCounts,
+) -> Refusal
+    ensures { Judges passes lacks needs size counts result }
+{
+    if passes == 1 || is_short_of(lacks, needs, size, &counts) {
+        Refusal::Full(lacks, counts)
+    } else {
+        Refusal::HeldBack(lacks)
+    }
+}
+
+/// The kind of record that a try with the fault `fault` lacked; `None` if it was busy.
+pub(crate) fn lack_of(fault: TryFault) -> Option<Full>
+    ensures some { IfSome result (λ full. fault ≡ fault_of full) }
+    ensures none { result ≡ None → fault ≡ Busy }
+{
+    match fault {
+        TryFault::FullNodes => Some(Full::Nodes),
+        TryFault::FullLeaves => Some(Full::Leaves),
+        TryFault::Busy => None,
+    }
+}
+
+/// The kind of record that a call lacks which waits and was refused with `refusal`; `None` if it tries again.
+pub(crate) fn final_refusal(refusal: Refusal) -> Option<Full>
+    ensures some { IfSome result (λ full. (counts : CountsView) × (refusal ≡ IsFull full counts)) }
+    ensures none { result ≡ None → IsPassing refusal }
+{
+    match refusal {
+        Refusal::Full(full, _) => Some(full),
+        Refusal::Busy | Refusal::HeldBack(_) => None,
+    }
+}
+
+/// How many of the records `recs` are node records.
+pub(crate) fn count_node_records(recs: &[Rec]) -> usize
+    ensures { result ≡ length (nodes_among recs.now) }
+{
+    let mut count = 0;
+    for index in 0..recs.len() {
+        count += count_if_node(recs[index]);
+    }
+    count
+}
+
+/// 1 for a node record, and 0 for a leaf record.
+fn count_if_node(rec: Rec) -> usize
+    ensures { result ≡ length (nodes_among (rec ∷ [])) }
+{
+    match rec {
+        Rec::Node(_) => 1,
+        Rec::Leaf(_) => 0,
+    }
+}
+
+/// Whether an index with `counts` is full for a change that lacks a record of the kind `lacks`. It needs `needs` node records, or one leaf
+/// record with room for a key of `size` bytes.
+fn is_short_of(lacks: Full, needs: usize, size: usize, counts: &RecordCounts) -> bool
+    ensures { IsTrue result ↔ IsShortOf lacks needs size counts.now }
+{
+    match lacks {
+        Full::Nodes => are_short(needs, &counts.nodes),
+        Full::Leaves => are_leaves_short(size, counts),
+    }
+}
+
+/// Whether of one kind and class fewer records are free than `needs`, and none is held or obsolete, by `counts`.
+fn are_short(needs: usize, counts: &StateCounts) -> bool
+    ensures { IsTrue result ↔ AreShort needs counts.now }
+{
+    (counts.free as usize) < needs && counts.held == 0 && counts.obsolete == 0
+}
+
+/// Whether of each class of leaf records with room for a key of `size` bytes none is free, held or obsolete, by `counts`.
+fn are_leaves_short(size: usize, counts: &RecordCounts) -> bool
+    ensures { IsTrue result ↔ OfLeaves (AreShort 1) size counts.now }
+{
+    (size > 8 || are_short(1, &counts.short))
+        && (size > 24 || are_short(1, &counts.medium))
+        && (size > 56 || are_short(1, &counts.large))
+        && (size > 88 || are_short(1, &counts.wide))
+        && are_short(1, &counts.long)
+}

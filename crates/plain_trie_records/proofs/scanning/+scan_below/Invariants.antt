@@ -1,0 +1,20 @@
+-- The scan goes on to the pairs at the places so far; heights fall on the way down.
+use Rattle.std.proofs.Common.{◌≡◌, ◌++◌, take}
+use Rattle.finite_map.specs.Maps.{Map}
+use Rattle.finite_map.specs.Scans.{IsScanOf}
+use Rattle.pieces.specs.Piece.{Place}
+use Rattle.compound_node.specs.Nodes.{height_of}
+use Rattle.tries.specs.Content.{pairs}
+use Rattle.tries.specs.Tree.{Tree, subtrie}
+use Rattle.plain_trie_records.specs.Store.{ShowsSound}
+use Rattle.plain_trie_records.proofs.Parts.{items_of_all}
+use Rattle.plain_trie_records.proofs.Standing.{below}
+use Rattle.plain_trie_records.proofs.scanning.+scan_below.Given as goal
+
+abbrev pub decreases-scan_below : goal.decreases-scan_below
+decreases-scan_below l = height_of l.entry
+
+abbrev pub invariant-loop-place : goal.invariant-loop-place
+invariant-loop-place l =
+    (t : Tree) (m : Map) → subtrie t ≡ Place l.fn.entry → ShowsSound l.nodes.items l.leaves.items t → IsScanOf m l.range.from.now l.range.upto.now l.range.limit l.fn.scan →
+    IsScanOf (m ++ pairs (items_of_all (take l.place (below t)))) l.range.from.now l.range.upto.now l.range.limit l.scan

@@ -1,0 +1,113 @@
+-- The case of an insertion: how it is chosen at a node, and what is done there.
+use Rattle.std.specs.Prelude.{◌≡◌, ◌⊎◌, ℕ, zero, suc, ◌<◌, ◌≤◌, Bool, List, length, slice_get, slice_set, Some, false, true}
+use Rattle.pieces.specs.Changes.{AtRootFork}
+use Rattle.pieces.specs.Grafts.{grafted}
+use Rattle.pieces.specs.Growth.{grown}
+use Rattle.pieces.specs.Piece.{Place, Fork}
+use Rattle.compound_node.specs.Nodes.{NodeView, piece, height_of, IsBuiltFrom}
+use Rattle.compound_node.specs.declared.entries.Entry.{Entry}
+use Rattle.compound_node.specs.declared.entries.Entry.TheVariants.{Leaf, Node}
+use Rattle.insert_cases.specs.declared.choice.Case.{Case}
+use Rattle.insert_cases.specs.declared.choice.Case.TheVariants.{LeafPushdown, NormalInsert, Overflow}
+use Rattle.insert_cases.specs.declared.choice.Choice.{Choice}
+use Rattle.insert_cases.specs.declared.raising.Risen.{Risen}
+use Rattle.insert_cases.specs.declared.raising.Risen.TheVariants.{Whole, Split}
+use Rattle.insert_cases.specs.Levels.{IsPullUp}
+use Rattle.insert_cases.specs.Ways.{IsAffectedNode}
+use Rattle.tries.specs.Keys.{Key, bit}
+use Rattle.tries.specs.Place.{spot}
+use Rattle.tries.specs.Search.{child, seek}
+use Rattle.tries.specs.Tree.{Subtrie, Tree, leaf, node, fork, subtrie}
+use Rattle.plain_trie_records.specs.Heights.{Remains}
+
+-- the node shows one side of the root fork
+abbrev pub IsOneSide : NodeView → Subtrie → Type 0
+IsOneSide view shown = AtRootFork (λ p zero one. (piece view ≡ zero) ⊎ (piece view ≡ one)) shown
+
+-- What became of the affected node in its record, where it would show this subtrie with the leaf as one entry more: a new node
+-- over leaves stands in the place of its one affected leaf; or it has the leaf; or it was cut, and one side is left.
+abbrev pub IsCaseDone : Case → NodeView → NodeView → ℕ → Subtrie → Type 0
+IsCaseDone LeafPushdown old new first shown = (number : ℕ) × (new ≡ record old { entries = slice_set old.entries first (Node number 1) })
+IsCaseDone NormalInsert old new first shown = IsBuiltFrom new shown
+IsCaseDone Overflow old new first shown = IsOneSide new shown
+
+-- so in the record of this number
+abbrev pub DoesCase : List NodeView → ℕ → Case → NodeView → ℕ → Subtrie → Type 0
+DoesCase nodes n case old first shown = (new : NodeView) × (slice_get nodes n ≡ Some new) × IsCaseDone case old new first shown
+
+-- ---- above the affected node
+-- a fork of two, and not one entry
+abbrev pub is_split : Risen → Bool
+is_split (Whole entry) = false
+is_split (Split position first second) = true
+
+-- the node's root fork goes up
+abbrev pub is_overflow : Case → Bool
+is_overflow LeafPushdown = false
+is_overflow NormalInsert = false
+is_overflow Overflow = true
+
+-- A node takes in a fork in place of its entry at a place: it has one entry more; or it was full and has one side of the
+-- root fork that it would have then, which goes up.
+pub record TakesFork (old new : NodeView) (at : ℕ) (up : Bool) : Type 0 where
+  pub position : ℕ
+  pub zero_entry : Entry
+  pub one_entry : Entry
+  pub room : length old.entries < 32 → IsBuiltFrom new (grafted at (Fork position (Place zero_entry) (Place one_entry)) (piece old)) × (up ≡ false)
+  pub full : length old.entries ≡ 32 → IsOneSide new (grafted at (Fork position (Place zero_entry) (Place one_entry)) (piece old)) × (up ≡ true)
+
+-- the node has a node at a place, and else it is as it was
+abbrev pub HasNodeAt : NodeView → NodeView → ℕ → Type 0
+HasNodeAt old new at = (number : ℕ) × (height : ℕ) × (new ≡ record old { entries = slice_set old.entries at (Node number height) })
+
+-- What a node does above a child of this height. Where a fork rose from the child, the node takes it in if it goes into a
+-- parent of the node's height, and else has it in a node at the child's place, and nothing goes up. Where none rose, the
+-- node is as it was, or has another entry at one place.
+abbrev pub IsLevelDone : ℕ → Bool → NodeView → NodeView → ℕ → Bool → Type 0
+IsLevelDone low false old new at up = Remains old new × (up ≡ false)
+IsLevelDone low true old new at up = (IsPullUp low old.height → TakesFork old new at up) × ((IsPullUp low old.height → ⊥) → HasNodeAt old new at × (up ≡ false))
+
+-- so in the record of this number
+pub record DoesLevel (old new : List NodeView) (n low at : ℕ) (rose up : Bool) : Type 0 where
+  pub before : NodeView
+  pub after : NodeView
+  pub old_at : slice_get old n ≡ Some before
+  pub new_at : slice_get new n ≡ Some after
+  pub does : IsLevelDone low rose before after at up
+
+-- so at each node on the key's way from the node so many levels below t up to t: whether a fork rose down there, and whether
+-- one rises from t
+abbrev pub DoesLevels : List NodeView → List NodeView → Key → ℕ → Tree → Bool → Bool → Type 0
+DoesLevels old new k zero t low up = up ≡ low
+DoesLevels old new k (suc l) (leaf n j v) low up = ⊥
+DoesLevels old new k (suc l) (node n y b) low up =
+    (rose : Bool) × DoesLevels old new k l (child k b) low rose × DoesLevel old new n (height_of (seek k (subtrie b))) (spot k (subtrie b)) rose up
+DoesLevels old new k (suc l) (fork q a b) low up = ⊥
+
+-- ---- an insertion
+-- The records before and after a new leaf was added below t, and whether a fork rises from there: what was done is the case
+-- of the node that the leaf's key affects, and each node above did what it does with what rose to it.
+pub record IsByCase (old new : List NodeView) (k : Key) (p number : ℕ) (t : Tree) (up : Bool) : Type 0 where
+  pub choice : Choice
+  pub affected : IsAffectedNode k p t choice
+  pub view : NodeView
+  pub at : slice_get old affected.number ≡ Some view
+  pub does : DoesCase new affected.number choice.case view choice.first (grown p (bit k p) (Leaf number) choice.first (piece view))
+  pub rises : DoesLevels old new k choice.level t (is_overflow choice.case) up
+
+-- so where there is a node; a leaf alone gives way to a fork of itself and the new one
+abbrev pub AddsByCase : List NodeView → List NodeView → Key → ℕ → ℕ → Tree → Bool → Type 0
+AddsByCase old new k p number (leaf n l v) up = up ≡ true
+AddsByCase old new k p number (node n x b) up = IsByCase old new k p number (node n x b) up
+AddsByCase old new k p number (fork q a b) up = Unit {0}
+
+-- a node that was not among so many
+abbrev pub IsNewNode : ℕ → Entry → Type 0
+IsNewNode count (Leaf n) = ⊥
+IsNewNode count (Node n h) = count ≤ n
+
+-- In a node a new one was put between it and its child at a place: it has this subtrie, the fork that rose there.
+pub record IsPutBetween (old new : List NodeView) (n at : ℕ) (node_view : NodeView) (shown : Subtrie) : Type 0 where
+  pub view : NodeView
+  pub built : IsBuiltFrom view shown
+  pub after : slice_get new n ≡ Some (record node_view { entries = slice_set node_view.entries at (Node (length old) view.height) })

@@ -1,0 +1,85 @@
+-- One leaf more: where it belongs, and what the records show after it rose.
+use Rattle.std.specs.Prelude.{◌≡◌, ◌≢◌, ℕ, suc, ◌<◌, List, ◌∷◌, [], ◌++◌, length, slice_get, Some}
+use Rattle.key_bits.specs.Key.{IsKey}
+use Rattle.key_bits.specs.Bits.{IsFirstDifference}
+use Rattle.pieces.specs.Piece.{Place}
+use Rattle.compound_node.specs.Nodes.{NodeView, IsBuiltFrom}
+use Rattle.compound_node.specs.declared.entries.Entry.{Entry}
+use Rattle.compound_node.specs.declared.entries.Entry.TheVariants.{Node}
+use Rattle.tries.specs.Changes.{IsAdded}
+use Rattle.tries.specs.Content.{Item}
+use Rattle.tries.specs.Place.{spot}
+use Rattle.tries.specs.Search.{child, found}
+use Rattle.tries.specs.Tree.{Subtrie, Fixed, Tree, leaf, node, fork, subtrie, IsTrie, IsBuilt, IsLower}
+use Rattle.plain_trie_records.specs.declared.leaf.LeafRecord.{LeafRecord}
+use Rattle.plain_trie_records.specs.Store.{ShowsTree, item_record}
+use Rattle.insert_cases.specs.Ways.{WayBelow}
+
+-- no node of the tree has this number
+abbrev pub NoNode : ℕ → Tree → Type 0
+NoNode n (leaf m k v) = Unit {0}
+NoNode n (node m x b) = (n ≢ m) × NoNode n b
+NoNode n (fork p a b) = NoNode n a × NoNode n b
+
+-- nodes that are not of the tree stay
+abbrev pub StaysStored : List NodeView → List NodeView → Tree → Type 0
+StaysStored old new s = (n : ℕ) (v : NodeView) → NoNode n s → slice_get old n ≡ Some v → slice_get new n ≡ Some v
+
+-- In the place of s, which the old nodes show, the new ones show a tree with one leaf more. It begins with this subtrie, its
+-- entries are lower than h, and all nodes but those of s are as they were.
+pub record IsRaised (old new : List NodeView) (leaves : List LeafRecord) (x : Item) (p : ℕ) (s : Tree) (h : ℕ) (head : Subtrie) : Type 0 where
+  pub tree : Tree
+  pub begins : subtrie tree ≡ head
+  pub adds : IsAdded x p s tree
+  pub built : IsBuilt tree
+  pub lower : IsLower h tree
+  pub shown : ShowsTree new leaves tree
+  pub kept : StaysStored old new s
+
+-- The records show a tree at an entry, and a new leaf besides, whose key differs first at p from that of the leaf where
+-- its search in the tree ends.
+pub record IsAddable (nodes : List NodeView) (leaves : List LeafRecord) (x : Item) (p : ℕ) (e : Entry) (t : Tree) : Type 0 where
+  pub head : subtrie t ≡ Place e
+  pub trie : IsTrie t
+  pub built : IsBuilt t
+  pub shown : ShowsTree nodes leaves t
+  pub key : IsKey x.key
+  pub differ : IsFirstDifference x.key (found x.key t).key p
+  pub new : slice_get leaves x.number ≡ Some (item_record x)
+
+-- the records of nodes and those of leaves
+pub record Records : Type 0 where
+  pub nodes : List NodeView
+  pub leaves : List LeafRecord
+
+abbrev pub records : List NodeView → List LeafRecord → Records
+records nodes leaves = record { nodes = nodes; leaves = leaves }
+
+-- a node of this number and height, and the place in it of a child of height `low`
+pub record Level : Type 0 where
+  pub number : ℕ
+  pub height : ℕ
+  pub at : ℕ
+  pub low : ℕ
+
+abbrev pub level : ℕ → ℕ → ℕ → ℕ → Level
+level number height at low = record { number = number; height = height; at = at; low = low }
+
+-- A node of the old records, below which a new leaf has risen up to its child at the key's place: this subtrie stands in the
+-- child's place.
+pub record IsLifting (old : Records) (new : List NodeView) (x : Item) (p : ℕ) (l : Level) (y : Fixed) (b : Tree) (head : Subtrie) : Type 0 where
+  pub trie : IsTrie b
+  pub built : IsBuilt (node l.number y b)
+  pub shown : ShowsTree old.nodes old.leaves (node l.number y b)
+  pub below : WayBelow p x.key b
+  pub high_is : y.height ≡ l.height
+  pub at_is : l.at ≡ spot x.key (subtrie b)
+  pub lower : l.low < l.height
+  pub up : IsRaised old.nodes new old.leaves x p (child x.key b) (suc l.low) head
+
+-- one node more, behind the others, that was built for this subtrie
+pub record IsNew (old new : List NodeView) (entry : Entry) (shown : Subtrie) : Type 0 where
+  pub view : NodeView
+  pub added : new ≡ old ++ view ∷ []
+  pub built : IsBuiltFrom view shown
+  pub is : entry ≡ Node (length old) view.height

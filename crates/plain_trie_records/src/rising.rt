@@ -1,0 +1,184 @@
+//! How a new leaf rises from the node that it affects to the root, in records that are kept in a vector.
+
+ghost use Rattle.std.specs.Prelude.{◌≡◌, ◌⊎◌, ◌↔◌, ℕ, suc, ◌+◌, ◌^◌, ◌<◌, ◌≤◌, Bool, IsTrue, List, Some, true, slice_get, slice_set};
+ghost use Rattle.std.specs.Vec.{vec_len, vec_capacity};
+ghost use Rattle.pieces.specs.Growth.{grown, IsAffected};
+ghost use Rattle.pieces.specs.Piece.{Fork, Place as At, size};
+ghost use Rattle.compound_node.specs.Nodes.{NodeView, piece, IsEntry, IsLawfulNode, StandsBelow, height_of};
+ghost use Rattle.compound_node.specs.declared.entries.Entry.{Entry as EntryView};
+ghost use Rattle.tries.specs.Affected.{subtrie_forked};
+ghost use Rattle.tries.specs.Content.{Item, item};
+ghost use Rattle.tries.specs.Tree.{Tree, Fixed, node as tree_node};
+ghost use Rattle.pieces.specs.Grafts.{grafted, IsAbovePath};
+ghost use Rattle.plain_trie_records.specs.Cases.{AddsByCase, DoesCase, IsLevelDone, IsNewNode, IsPutBetween, TakesFork, is_overflow, is_split};
+ghost use Rattle.plain_trie_records.specs.Heights.{KeepsHeights};
+ghost use Rattle.plain_trie_records.specs.Rising.{IsRaised, IsAddable, IsLifting, level, records};
+ghost use Rattle.insert_cases.specs.Risen.{subtrie_of};
+ghost use Rattle.insert_cases.specs.Ways.{case_of};
+ghost use Rattle.plain_trie_records.specs.Risen.{IsNamed, RisenShows, OthersStay, AllStay};
+ghost use Rattle.plain_trie_records.specs.declared.leaf.LeafRecord.{LeafRecord};
+
+use crate::raising::{push_pair, put_node, store_grown};
+use compound_node::{Entry, Node};
+use insert_cases::{Risen, grow, is_pull_up, pull_up};
+use key_bits::Key;
+
+/// Adds the leaf of record `leaf`, which has `key`, below `entry`, and returns what takes the place of `entry`. The key differs first at
+/// `position` from that of the leaf where its search ends. `nodes` has room for as many nodes more as `entry` is high. The search goes down
+/// to the node that takes the new leaf, or to a leaf, which gives way to a fork of itself and the new one. Each node on the way back takes
+/// in what took its child's place.
+pub fn raise_newcomer(
+    nodes: &mut Vec<Node>,
+    entry: Entry,
+    key: &Key,
+    position: u16,
+    leaf: u32,
+) -> Risen
+    requires place { (leaves : List LeafRecord) × (value : ℕ) × (t : Tree) × IsAddable nodes.old.items leaves (item leaf key.now value) position entry t }
+    requires position { position < 65535 }
+    requires room { vec_len nodes.old + height_of entry ≤ vec_capacity nodes.old }
+    requires small { vec_len nodes.old + height_of entry ≤ 2 ^ 32 }
+    ensures raised { (leaves : List LeafRecord) (value : ℕ) (t : Tree) → IsAddable nodes.old.items leaves (item leaf key.now value) position entry t →
+        IsRaised nodes.old.items nodes.new.items leaves (item leaf key.now value) position t (suc (height_of entry)) (subtrie_of result) }
+    ensures case { (leaves : List LeafRecord) (value : ℕ) (t : Tree) → IsAddable nodes.old.items leaves (item leaf key.now value) position entry t →
+        AddsByCase nodes.old.items nodes.new.items key.now position leaf t (is_split result) }
+    ensures low { height_of entry ≡ 0 → (nodes.new.items ≡ nodes.old.items) × (bit : Bool) ×
+        (subtrie_of result ≡ subtrie_forked bit position (Entry.Leaf leaf) (At entry)) }
+    ensures heights { KeepsHeights nodes.old.items nodes.new.items }
+    ensures len { vec_len nodes.new ≤ vec_len nodes.old + height_of entry }
+    ensures capacity { vec_capacity nodes.new ≡ vec_capacity nodes.old }
+{
+    match entry {
+        Entry::Leaf(_) => fork_entries(entry, position, key.bit(position), Entry::Leaf(leaf)),
+        Entry::Node { number, height } => {
+            let node = &nodes[number as usize];
+            let at = node.search(key);
+            prove!(at < node.count());
+            let (first, last) = node.affected(at, position);
+            if node_takes_leaf(height, first, last) {
+                let bit = key.bit(position);
+                let grown = grow(node, first, last, position, bit, Entry::Leaf(leaf));
+                return store_grown(nodes, number, height, grown);
+            }
+            let child = node.entry(at);
+            let risen = raise_newcomer(nodes, child, key, position, leaf);
+            lift_risen(nodes, number, height, at, child.height(), risen)
+        }
+    }
+}
+
+/// Whether a new leaf that affects the entries from `first` to `last` of a node of the height `height` goes into that node itself. So it is
+/// if these are several, or all entries are leaves. Else it goes to the one affected entry or below it: into a node there, or into a new one
+/// of both.
+fn node_takes_leaf(height: u16, first: u8, last: u8) -> bool
+    ensures { IsTrue result ↔ ((first < last) ⊎ (height ≡ 1)) }
+{
+    first < last || height == 1
+}
+
+/// The fork at `position` of the entries `old` and `new`, where `new` is the 1 side if `bit` is true, else the 0 side.
+fn fork_entries(old: Entry, position: u16, bit: bool, new: Entry) -> Risen
+    ensures { subtrie_of result ≡ subtrie_forked bit position new (At old) }
+{
+    if bit {
+        Risen::Split {
+            position,
+            zero: old,
+            one: new,
+        }
+    } else {
+        Risen::Split {
+            position,
+            zero: new,
+            one: old,
+        }
+    }
+}
+
+/// Puts `risen` in the place of entry `at` of node `number`, which is `height` high, and returns what takes the node's place. `low` is the
+/// height of the entry that was there. A fork goes into the node if that is one higher than `low`, else into a new node at the place. A
+/// full node that takes in the fork is cut, and the fork of its sides is returned.
+fn lift_risen(
+    nodes: &mut Vec<Node>,
+    number: u32,
+    height: u16,
+    at: u8,
+    low: u16,
+    risen: Risen,
+) -> Risen
+    requires place { (ns : List NodeView) × (leaves : List LeafRecord) × (x : Item) × (p : ℕ) × (y : Fixed) × (b : Tree) ×
+        IsLifting (records ns leaves) nodes.old.items x p (level number height at low) y b (subtrie_of risen) }
+    requires room { vec_len nodes.old < vec_capacity nodes.old }
+    requires small { vec_len nodes.old < 2 ^ 32 }
+    ensures raised { (ns : List NodeView) (leaves : List LeafRecord) (x : Item) (p : ℕ) (y : Fixed) (b : Tree) →
+        IsLifting (records ns leaves) nodes.old.items x p (level number height at low) y b (subtrie_of risen) →
+        IsRaised ns nodes.new.items leaves x p (tree_node number y b) (suc height) (subtrie_of result) }
+    ensures between { (old : NodeView) (p : ℕ) (zero one : EntryView) → slice_get nodes.old.items number ≡ Some old →
+        subtrie_of risen ≡ Fork p (At zero) (At one) → low + 1 < height →
+        IsPutBetween nodes.old.items nodes.new.items number at old (Fork p (At zero) (At one)) }
+    ensures takes { (old : NodeView) → slice_get nodes.old.items number ≡ Some old →
+        (new : NodeView) × (slice_get nodes.new.items number ≡ Some new) × IsLevelDone low (is_split risen) old new at (is_split result) }
+    ensures others { OthersStay nodes.old.items nodes.new.items number }
+    ensures heights { KeepsHeights nodes.old.items nodes.new.items }
+    ensures len { vec_len nodes.new ≤ vec_len nodes.old + 1 }
+    ensures capacity { vec_capacity nodes.new ≡ vec_capacity nodes.old }
+{
+    match risen {
+        Risen::Whole(entry) => Risen::Whole(replace_entry(nodes, number, at, entry)),
+        Risen::Split {
+            position,
+            zero,
+            one,
+        } => {
+            if is_pull_up(low, height) {
+                let node = &nodes[number as usize];
+                prove!(at < node.count());
+                let grown = pull_up(node, at, position, zero, one);
+                return store_grown(nodes, number, height, grown);
+            }
+            let entry = push_pair(nodes, position, zero, one);
+            Risen::Whole(replace_entry(nodes, number, at, entry))
+        }
+    }
+}
+
+/// Returns the root's entry when `risen` takes the old root's place. One entry is returned as it is. A fork becomes a new node in `nodes`,
+/// which have room for it.
+pub fn make_root(nodes: &mut Vec<Node>, risen: Risen) -> Entry
+    requires place { (ns : List NodeView) × (leaves : List LeafRecord) × (x : Item) × (p : ℕ) × (t : Tree) × (h : ℕ) ×
+        IsRaised ns nodes.old.items leaves x p t h (subtrie_of risen) }
+    requires room { vec_len nodes.old < vec_capacity nodes.old }
+    requires small { vec_len nodes.old < 2 ^ 32 }
+    ensures raised { (ns : List NodeView) (leaves : List LeafRecord) (x : Item) (p : ℕ) (t : Tree) (h : ℕ) →
+        IsRaised ns nodes.old.items leaves x p t h (subtrie_of risen) → IsRaised ns nodes.new.items leaves x p t (suc h) (At result) }
+    ensures new { is_split risen ≡ true → IsNewNode (vec_len nodes.old) result }
+    ensures all { AllStay nodes.old.items nodes.new.items }
+    ensures heights { KeepsHeights nodes.old.items nodes.new.items }
+    ensures capacity { vec_capacity nodes.new ≡ vec_capacity nodes.old }
+{
+    match risen {
+        Risen::Whole(entry) => entry,
+        Risen::Split {
+            position,
+            zero,
+            one,
+        } => push_pair(nodes, position, zero, one),
+    }
+}
+
+/// Puts `entry`, which is lower than node `number`, into its slot `at` in its own record, and returns the node's entry. Its height stays.
+fn replace_entry(nodes: &mut Vec<Node>, number: u32, at: u8, entry: Entry) -> Entry
+    requires { (old : NodeView) × (slice_get nodes.old.items number ≡ Some old) × (at < size (piece old)) × StandsBelow old.height entry }
+    ensures shows { (old : NodeView) → slice_get nodes.old.items number ≡ Some old → IsNamed nodes.new.items old result (grafted at (At entry) (piece old)) }
+    ensures fields { (old : NodeView) → slice_get nodes.old.items number ≡ Some old →
+        slice_get nodes.new.items number ≡ Some (record old { entries = slice_set old.entries at entry }) }
+    ensures others { OthersStay nodes.old.items nodes.new.items number }
+    ensures heights { KeepsHeights nodes.old.items nodes.new.items }
+    ensures len { vec_len nodes.new ≡ vec_len nodes.old }
+    ensures capacity { vec_capacity nodes.new ≡ vec_capacity nodes.old }
+{
+    let node = &nodes[number as usize];
+    prove!(at < node.count());
+    let node = node.replace(at, entry);
+    put_node(nodes, number, node)
+}

@@ -1,7 +1,0 @@
-use Rattle.std.proofs.Common.{◌≡◌, ℕ, ◌<◌, get_or, slice_get, false, Some}
-use Rattle.replay_state.specs.declared.fate.Fate.{Fate}
-use Rattle.replay_state.specs.Links.{MayBeLinked}
-use Rattle.replay_state.proofs.links.may_link.Given as goal
-
-abbrev pub invariant-loop-i : goal.invariant-loop-i
-invariant-loop-i l = (k : ℕ) → k < l.i → (f : Fate) → slice_get l.fates k ≡ Some f → MayBeLinked l.pass (get_or l.linked k false) f

@@ -1,7 +1,0 @@
-use Rattle.std.proofs.Common.{ℕ, ◌<◌, ◌+◌}
-use Rattle.versions.specs.declared.Rec.TheVariants.{Node as a_node}
-use Rattle.replay_state.specs.Records.{HasWordStored}
-use Rattle.replay_state.proofs.records.Records.has_entry.Given as goal
-
-abbrev pub invariant-loop-slot : goal.invariant-loop-slot
-invariant-loop-slot l = (k : ℕ) → k < l.slot → ¬ (HasWordStored l.self (a_node l.node) (25 + k) l.word)

@@ -1,5 +1,0 @@
-use Rattle.std.proofs.Common.{◌≡◌, map, take}
-use Rattle.replay_state.proofs.state.State.content.Given as goal
-
-abbrev pub invariant-loop-item : goal.invariant-loop-item
-invariant-loop-item l = l.pairs.items ≡ map (λ x. (x.key, x.value)) (take l.item-index l.item-items)

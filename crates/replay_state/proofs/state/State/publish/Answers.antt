@@ -1,6 +1,0 @@
--- The word is that of an entry.
-use Rattle.replay_state.proofs.Stores.{entry_spelled}
-use Rattle.replay_state.proofs.state.State.publish.Goals as goal
-
-pub publish_entry-requires : goal.publish_entry-requires
-publish_entry-requires c = entry_spelled c.in-Slot-Ok.field-0-1 c.args.word (c.in-Slot-Ok.ensures.spelling)

@@ -1,0 +1,60 @@
+-- When a state is that of a core, and what a step of it may answer.
+use Rattle.std.specs.Prelude.{◌≡◌, ◌⊎◌, ℕ, ◌<◌, List, map, Bool, true, false, Option, Some}
+use Rattle.compound_node.specs.declared.entries.Entry.{Entry}
+use Rattle.compound_node.specs.declared.entries.Entry.TheVariants.{Leaf}
+use Rattle.record_words.specs.Entry.{entry_word}
+use Rattle.finite_map.specs.declared.Change.{Change}
+use Rattle.versions.specs.declared.Rec.TheVariants.{Node as a_node, Leaf as a_leaf}
+use Rattle.versions.specs.Told.{items_of}
+use Rattle.rowex_core.specs.declared.event.Act.{Act}
+use Rattle.rowex_core.specs.declared.event.Act.TheVariants.{Publish}
+use Rattle.rowex_core.specs.declared.event.Spot.{Spot}
+use Rattle.rowex_core.specs.declared.event.Spot.TheVariants.{Root, Slot, Value}
+use Rattle.record_words.specs.declared.TheConstants.{MAX_ENTRIES}
+use Rattle.rowex_core.specs.Cores.{Core, IsLawful}
+use Rattle.rowex_core.specs.Events.{LegalAct, after}
+use Rattle.replay_trees.specs.declared.trees.Item.{Item as ReadItem}
+use Rattle.replay_trees.specs.Versions.{read_item}
+use Rattle.rowex_replay_state.specs.declared.passes.PassState.{PassState}
+use Rattle.rowex_replay_state.specs.Passes.{ArePassesOf}
+use Rattle.rowex_replay_state.specs.Records.{RecordsView, AreRecordsOf, HasLockedEntry, lock_in, words_in}
+
+-- what contracts see of the state of a replay
+pub record StateView : Type 0 where
+  pub records : RecordsView
+  pub passes : List PassState
+  pub anchor : Option ℕ
+  pub root : Option Entry
+  pub epoch : ℕ
+  pub changes : List Change
+  pub items : List ReadItem
+
+-- The state is that of this core: they have the same records, passes, locks, epoch, root and changes, and the state has
+-- the leaves of the newest version.
+pub record IsStateOf (s : StateView) (c : Core) : Type 0 where
+  pub records : AreRecordsOf s.records c.layout c.words c.fate c.lock
+  pub passes : ArePassesOf s.passes c.layout c.pins c.rounds
+  pub anchor : c.anchor ≡ s.anchor
+  pub root : c.root ≡ s.root
+  pub epoch : c.epoch ≡ s.epoch
+  pub changes : c.changes ≡ s.changes
+  pub items : items_of (c.past.version c.past.now) ≡ map read_item s.items
+
+-- The act of pass q was made, and is legal in each lawful core whose state it was; or it wasn't, and is legal in none.
+abbrev pub IsStepped : Bool → StateView → StateView → ℕ → Act → Type 0
+IsStepped true s t q act = (c : Core) → ∥ IsLawful c ∥₁ → IsStateOf s c → LegalAct c q act × IsStateOf t (after c q act)
+IsStepped false s t q act = (t ≡ s) × ((c : Core) → IsLawful c → IsStateOf s c → ¬ (LegalAct c q act))
+
+-- pass q has locked what names the leaf
+abbrev pub HasNamerLocked : StateView → ℕ → ℕ → Type 0
+HasNamerLocked s q l = ((s.anchor ≡ Some q) × (s.root ≡ Some (Leaf l))) ⊎ HasLockedEntry s.records q (entry_word (Some (Leaf l)))
+
+-- pass q has locked the word of the spot; of a value, what names its leaf
+abbrev pub HasLock : StateView → ℕ → Spot → Type 0
+HasLock s q Root = s.anchor ≡ Some q
+HasLock s q (Slot n j) = (j < MAX_ENTRIES) × (lock_in s.records (a_node n) ≡ Some (Some q))
+HasLock s q (Value l) = ((words : List ℕ) × (words_in s.records (a_leaf l) ≡ Some words)) × HasNamerLocked s q l
+
+-- the act is a publish of pass q, which has locked its word
+abbrev pub IsLockedPublish : StateView → ℕ → Act → Type 0
+IsLockedPublish s q act = (spot : Spot) × (w : ℕ) × (act ≡ Publish spot w) × HasLock s q spot

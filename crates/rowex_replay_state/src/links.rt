@@ -1,0 +1,101 @@
+//! What a publish asks of the fates of records, and what it makes of them.
+
+ghost use Rattle.std.specs.Prelude.{◌≡◌, ◌↔◌, ◌+◌, ◌<◌, ◌^◌, IsTrue, None, false, get_or};
+ghost use Rattle.versions.specs.Steps.{next_fate};
+ghost use Rattle.rowex_replay_state.specs.Fates.{stored_fate};
+ghost use Rattle.rowex_replay_state.specs.Links.{AllMayBeLinked, AllMayBeUnlinked, AreNextFates, MayBeLinked, MayBeUnlinked};
+
+use crate::fate::Fate;
+
+impl Fate {
+    /// Whether the fate lets `pass` publish a tree that links the record, or one that doesn't if `is_linked` is false. What is linked must
+    /// be in the tree already, or made ready by `pass`. What isn't linked may have any fate.
+    fn may_be_linked(self, pass: u16, is_linked: bool) -> bool
+        ensures { IsTrue result ↔ MayBeLinked pass is_linked self }
+    {
+        match self {
+            Fate::InTree { .. } => true,
+            Fate::Ready { by } if by == pass => true,
+            _ => !is_linked,
+        }
+    }
+
+    /// Whether the fate lets `pass` publish a tree that links the node, or one that doesn't if `is_linked` is false. A node of the tree may
+    /// be left out only if `pass` has locked it. `lock` is the pass that has, if any.
+    fn may_be_unlinked(self, pass: u16, is_linked: bool, lock: Option<u16>) -> bool
+        ensures { IsTrue result ↔ MayBeUnlinked pass is_linked lock self }
+    {
+        match self {
+            Fate::InTree { .. } => is_linked || lock == Some(pass),
+            _ => true,
+        }
+    }
+
+    /// The fate after `pass` has published version `now + 1`, of which `is_linked` says whether it links the record. A ready record that is
+    /// linked is in the tree then. One of the tree that isn't linked is unlinked, and all other fates stay.
+    fn fate_after_publish(self, now: u64, pass: u16, is_linked: bool) -> Fate
+        requires { now + 1 < 2 ^ 64 }
+        ensures { stored_fate result ≡ next_fate now pass is_linked (stored_fate self) }
+    {
+        match self {
+            Fate::Ready { .. } if is_linked => Fate::InTree { since: now + 1 },
+            Fate::InTree { since } if !is_linked => Fate::Unlinked {
+                since,
+                last: now,
+                by: pass,
+            },
+            _ => self,
+        }
+    }
+}
+
+/// Whether the `fates` of all nodes, or of all leaves, let `pass` publish a tree that links just those that `linked` marks. `may_be_linked`
+/// says so of each. A record past the last flag isn't linked.
+pub(crate) fn may_link(fates: &[Fate], pass: u16, linked: &[bool]) -> bool
+    ensures { IsTrue result ↔ AllMayBeLinked pass linked.now fates.now }
+{
+    for (i, fate) in fates.iter().enumerate() {
+        if !fate.may_be_linked(pass, flag_at(linked, i)) {
+            return false;
+        }
+    }
+    true
+}
+
+/// Whether the `fates` and `locks` of all nodes let `pass` publish a tree that links just those that `linked` marks. `may_be_unlinked` says
+/// so of each. A node past the last flag isn't linked, and one past the last lock isn't locked.
+pub(crate) fn may_unlink(fates: &[Fate], locks: &[Option<u16>], pass: u16, linked: &[bool]) -> bool
+    ensures { IsTrue result ↔ AllMayBeUnlinked pass linked.now locks.now fates.now }
+{
+    for (i, fate) in fates.iter().enumerate() {
+        if !fate.may_be_unlinked(pass, flag_at(linked, i), lock_at(locks, i)) {
+            return false;
+        }
+    }
+    true
+}
+
+/// Makes each of `fates` the one after `pass` has published version `now + 1`, which links just the records that `linked` marks. A record
+/// past the last flag isn't linked.
+pub(crate) fn update_each_fate(fates: &mut [Fate], now: u64, pass: u16, linked: &[bool])
+    requires { now + 1 < 2 ^ 64 }
+    ensures { AreNextFates now pass linked.now fates.old fates.new }
+{
+    for i in 0..fates.len() {
+        fates[i] = fates[i].fate_after_publish(now, pass, flag_at(linked, i));
+    }
+}
+
+/// The flag at place `at`; `false` past the last one.
+fn flag_at(flags: &[bool], at: usize) -> bool
+    ensures { result ≡ get_or flags.now at false }
+{
+    flags.get(at).copied().unwrap_or(false)
+}
+
+/// The pass that has locked the node at place `at`; `None` if none has, and past the last one.
+fn lock_at(locks: &[Option<u16>], at: usize) -> Option<u16>
+    ensures { result ≡ get_or locks.now at None }
+{
+    locks.get(at).copied().flatten()
+}

@@ -1,0 +1,96 @@
+//! The steps that lock and unlock the anchor and nodes.
+
+ghost use Rattle.std.specs.Prelude.{◌≡◌, ◌↔◌, IsTrue, Some};
+ghost use Rattle.rowex_core.specs.declared.event.Act.{Act};
+ghost use Rattle.rowex_core.specs.declared.event.Act.TheVariants.{Lock, Unlock};
+ghost use Rattle.rowex_core.specs.declared.event.Target.TheVariants.{Anchor, Node as NodeTarget};
+ghost use Rattle.rowex_replay_state.specs.States.{IsStepped};
+
+use crate::fate::live_state;
+use crate::state::State;
+use record_words::{Tag, pack_state};
+use rowex_core::{Rec, Target};
+
+impl State {
+    /// Whether `pass` has locked the anchor.
+    pub(crate) fn has_locked_anchor(&self, pass: u16) -> bool
+        ensures { IsTrue result ↔ (self.now.anchor ≡ Some pass) }
+    {
+        self.anchor == Some(pass)
+    }
+
+    /// Locks `target` for `pass` if it is live and unlocked. Returns whether that is legal: `found` is its state word before, and a node
+    /// that is live and unlocked is in the tree. If not, nothing changes.
+    pub(crate) fn lock(&mut self, pass: u16, target: Target, found: u64) -> bool
+        ensures { IsStepped result self.old self.new pass (Lock target found) }
+    {
+        match target {
+            Target::Anchor => self.lock_anchor(pass, found),
+            Target::Node(number) => self.lock_node(pass, number, found),
+        }
+    }
+
+    /// Unlocks `target`. Returns whether that is legal: `pass` has locked it, and a node is in the tree. If not, nothing changes.
+    pub(crate) fn unlock(&mut self, pass: u16, target: Target) -> bool
+        ensures { IsStepped result self.old self.new pass (Unlock target) }
+    {
+        match target {
+            Target::Anchor => self.unlock_anchor(pass),
+            Target::Node(number) => self.unlock_node(pass, number),
+        }
+    }
+
+    /// As `lock`, of the anchor.
+    fn lock_anchor(&mut self, pass: u16, found: u64) -> bool
+        ensures { IsStepped result self.old self.new pass (Lock Anchor found) }
+    {
+        if found != pack_state(live_state(self.anchor)) {
+            return false;
+        }
+        if self.anchor.is_none() {
+            self.anchor = Some(pass);
+        }
+        true
+    }
+
+    /// As `lock`, of node `node`.
+    fn lock_node(&mut self, pass: u16, node: u32, found: u64) -> bool
+        ensures { IsStepped result self.old self.new pass (Lock (NodeTarget node) found) }
+    {
+        if !self.records.has_state_word(Rec::Node(node), found) {
+            return false;
+        }
+        if found == pack_state(Tag::Live) {
+            if !self.records.is_node_in_tree(node) {
+                return false;
+            }
+            self.records.set_lock(node, Some(pass));
+        }
+        true
+    }
+
+    /// As `unlock`, of the anchor.
+    fn unlock_anchor(&mut self, pass: u16) -> bool
+        ensures { IsStepped result self.old self.new pass (Unlock Anchor) }
+    {
+        if !self.has_locked_anchor(pass) {
+            return false;
+        }
+        self.anchor = None;
+        true
+    }
+
+    /// As `unlock`, of node `node`.
+    fn unlock_node(&mut self, pass: u16, node: u32) -> bool
+        ensures { IsStepped result self.old self.new pass (Unlock (NodeTarget node)) }
+    {
+        if !self.records.is_locked_by(node, pass) {
+            return false;
+        }
+        if !self.records.is_node_in_tree(node) {
+            return false;
+        }
+        self.records.set_lock(node, None);
+        true
+    }
+}

@@ -1,0 +1,94 @@
+//! The passes: their pins, and their rounds over the pins of all.
+
+ghost use Rattle.std.specs.Prelude.{◌≡◌, ◌↔◌, ◌<◌, ℕ, IsTrue, true, slice_get, set, Some, None, length, MatchOption, unwrap_or, min, replicate, false};
+
+use record_words::MAX_STOCK_PASSES;
+
+/// The most passes of an index, as a length.
+const PASSES: usize = MAX_STOCK_PASSES as usize;
+
+/// What a replay keeps of a pass: its pin, and its round. Its last load of the epoch found `epoch`, or 0 before the first, when `version`
+/// was the newest. `bound` is the least of `epoch` and of the pins loaded since, and `seen` says of which passes these were.
+#[derive(Clone, Copy)]
+pub(crate) struct PassState {
+    pub(crate) pin: Option<u64>,
+    pub(crate) epoch: u64,
+    pub(crate) version: u64,
+    pub(crate) bound: u64,
+    pub(crate) seen: [bool; PASSES],
+}
+
+impl PassState {
+    ghost use Rattle.rowex_replay_state.specs.Passes.{fresh_pass, in_round, with_pin_seen, HasLoadedPins, IsOutOfReach, MayPin};
+
+    /// A pass that has done nothing yet.
+    pub(crate) fn new() -> PassState
+        ensures { result ≡ fresh_pass }
+    {
+        PassState {
+            pin: None,
+            epoch: 0,
+            version: 0,
+            bound: 0,
+            seen: [false; PASSES],
+        }
+    }
+
+    /// The pass when it has loaded `epoch` at `version`. Its round has loaded no pin yet, and its own pin stays.
+    pub(crate) fn begin_round(self, epoch: u64, version: u64) -> PassState
+        ensures { result ≡ in_round self epoch version }
+    {
+        PassState {
+            epoch,
+            version,
+            bound: epoch,
+            seen: [false; PASSES],
+            ..self
+        }
+    }
+
+    /// The pass when its round has loaded `pin`, that of pass `of`, which may be itself. `None` is that of a pass that isn't pinned. The
+    /// bound falls to `pin` if that is lower.
+    pub(crate) fn see_pin(self, of: u16, pin: Option<u64>) -> PassState
+        ensures { result ≡ with_pin_seen self of pin }
+    {
+        let mut seen = self.seen;
+        if (of as usize) < PASSES {
+            seen[of as usize] = true;
+        }
+        let bound = match pin {
+            None => self.bound,
+            Some(word) => self.bound.min(word),
+        };
+        PassState {
+            bound,
+            seen,
+            ..self
+        }
+    }
+
+    /// Whether the pass may be pinned by `epoch`: it isn't pinned, and that is the epoch that it loaded last. `false` for 0.
+    pub(crate) fn may_pin(&self, epoch: u64) -> bool
+        ensures { IsTrue result ↔ MayPin self.now epoch }
+    {
+        self.pin.is_none() && epoch == self.epoch && epoch >= 1
+    }
+
+    /// Whether this pass's round shows that no pass can reach what was marked with `epoch`. That is at least 1 and below the round's bound,
+    /// and the round has loaded the pins of the first `passes` passes.
+    pub(crate) fn is_unreachable(&self, epoch: u64, passes: usize) -> bool
+        ensures { IsTrue result ↔ IsOutOfReach self.now epoch passes }
+    {
+        if epoch < 1 || epoch >= self.bound {
+            return false;
+        }
+        self.has_seen_all(passes)
+    }
+
+    /// Whether the pass has loaded the pin of each of the first `passes` passes in its round.
+    fn has_seen_all(&self, passes: usize) -> bool
+        ensures { IsTrue result ↔ HasLoadedPins self.now passes }
+    {
+        self.seen.iter().take(passes).all(|seen| *seen)
+    }
+}

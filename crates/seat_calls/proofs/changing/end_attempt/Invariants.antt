@@ -1,5 +1,0 @@
--- The notes are the caller's.
-use Rattle.seat_calls.proofs.changing.end_attempt.Given as goal
-
-abbrev pub ghost-unpin : goal.ghost-unpin
-ghost-unpin g a = g.said
