@@ -31,7 +31,7 @@ returns-then-not-lock_and_check_span-clause-refused g c k loaded later =
 pub load_found_again-found-requires : goal.load_found_again-found-requires
 load_found_again-found-requires g c =
     let (m, aim, way, planned) = c.requires.planned in
-    record { taken = (c.args.deed, m, aim, c.lock_and_check_span.ensures.taken c.if-not-lock_and_check_span.false m way, planned_later _ _ _ _ _ _ _ _ c.lock_and_check_span.ensures.later planned) }
+    record { taken = (c.args.deed, (m, aim, c.lock_and_check_span.ensures.taken c.if-not-lock_and_check_span.false m way, planned_later _ _ _ _ _ _ _ _ c.lock_and_check_span.ensures.later planned)) }
 
 -- ---- the call has nothing to change then
 pub release_records_and_locks-requires-clause-span : goal.release_records_and_locks-requires-clause-span
