@@ -9,7 +9,7 @@ use Rattle.rowex_writing.proofs.Attempted.{ended_run}
 use Rattle.rowex_writing.proofs.Attempting.{planned_again, planned_later, refused_busy, refused_failed, failed_later}
 use Rattle.rowex_writing.proofs.Keeping.{changed_since, made_held}
 use Rattle.rowex_writing.proofs.Runs.{goes_run, run_loaded, runs_trans, works_fresh, works_run}
-use Rattle.rowex_writing.proofs.Valued.{ends_after, front_grown, held_again, held_few, holds_reads, holds_taken, taken_again}
+use Rattle.rowex_writing.proofs.Valued.{ends_after, held_again, held_few, holds_reads, holds_taken, taken_again}
 use Rattle.rowex_writing.proofs.Works.{works_later}
 use Rattle.rowex_writing.proofs.attempts.try_plan.Given as given
 use Rattle.rowex_writing.proofs.attempts.try_plan.Goals as goal
