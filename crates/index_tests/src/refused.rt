@@ -52,9 +52,10 @@ fn insert_both_keys(rt: &impl Abort, guest: &mut Guest, keys: &(Key, Key)) {
     assert!(rt; guest.try_insert(&keys.1, 2) == Ok(Reply::Inserted));
 }
 
-/// Replaces the leaf of the first key. Asserts that a round gives the old one back.
+/// Removes the first key and inserts it again. Asserts that a round gives its old leaf back.
 fn replace_first_leaf(rt: &impl Abort, guest: &mut Guest, keys: &(Key, Key)) {
-    assert!(rt; guest.try_upsert(&keys.0, 3) == Ok(Reply::Was(1)));
+    assert!(rt; guest.try_remove(&keys.0) == Ok(Reply::Removed(1)));
+    assert!(rt; guest.try_insert(&keys.0, 3) == Ok(Reply::Inserted));
     assert!(rt; guest.collect().leaves == 1);
 }
 
