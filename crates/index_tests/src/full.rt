@@ -1,5 +1,5 @@
 //! Indexes that are filled to the last record, beside a map: held keys take new values there, all can be removed, and as many go in again.
-//! It passes also where any one allocation is refused, since it asks again.
+//! What is refused memory is asked for again.
 
 ghost use Rattle.std.specs.Prelude.{◌<◌, ◌≤◌, All};
 ghost use Rattle.hot_index_calls.specs.Passes.{Owns};
@@ -162,7 +162,7 @@ fn fill<R: Abort + Wait>(rt: &R, alloc: Global, guest: &mut Guest, map: &mut Pla
 }
 
 /// Fills an index of `nodes` node records, removes all keys, and fills it again. Asserts that as many keys go in. Returns how many.
-fn fill_twice<R: Abort + Wait>(rt: &R, alloc: Global, nodes: u32) -> u32 {
+pub fn fill_twice<R: Abort + Wait>(rt: &R, alloc: Global, nodes: u32) -> u32 {
     let (index, mut passes) = make_small_index(rt, alloc, nodes);
     let mut guest = Handle::new(&index, pop_pass(rt, &index, &mut passes));
     let mut map = PlainIndex::new(alloc);
@@ -174,16 +174,12 @@ fn fill_twice<R: Abort + Wait>(rt: &R, alloc: Global, nodes: u32) -> u32 {
     count
 }
 
-/// Two keys go in where there is one node, and 32 where there are two.
+/// Where there are one to a hundred nodes, a full index takes new values of its keys, can be emptied, and takes as many keys again. With
+/// one node these are two, with two they are 32. The largest lack no node, but leaves.
 #[test]
-fn a_full_index_of_one_or_two_nodes_can_be_emptied(rt: HostRuntime) {
+fn a_full_index_can_be_emptied(rt: HostRuntime) {
     assert!(rt; fill_twice(&rt, rt.alloc(), 1) == 2);
     assert!(rt; fill_twice(&rt, rt.alloc(), 2) == 32);
-}
-
-/// So it is where there are up to a hundred nodes, of which the last lack no node but leaves.
-#[test]
-fn full_indexes_of_many_sizes_can_be_emptied(rt: HostRuntime) {
     for nodes in 3..=100 {
         let _ = fill_twice(&rt, rt.alloc(), nodes);
     }
