@@ -37,7 +37,7 @@ use Rattle.rowex_core.specs.Knowing.{IsPinnedSince}
 use Rattle.rowex_reading.specs.Seen.{Sure, since}
 use Rattle.rowex_reading.proofs.Seeing.{later_trans, held_stable, missed_stable, shaped_stable, sure_later, since_later}
 use Rattle.rowex_writing.specs.Asking.{aim_of, aim_where, reply_to, value_in}
-use Rattle.rowex_writing.specs.Attempts.{HasAnswered, HasDone, HasLoadedRoot, HasLooked, HasRefused, IsAttemptCause, IsChangeOf, IsLeafless, refusal_of, revalued, HasFailed, GivesValue, HasMissed, IsFullFault, IsFullOfNew}
+use Rattle.rowex_writing.specs.Attempts.{HasAnswered, HasDone, HasLoadedRoot, HasLooked, HasRefused, IsAttemptCause, IsChangeOf, IsLeafless, refusal_of, revalued, HasFailed, HasMissed, IsFullFault, IsFullOfNew, MayTake}
 use Rattle.rowex_writing.specs.Changes.{AreAffected, HasChanged, HasNoRoom, HasRun, IsFull, IsPlanned}
 use Rattle.rowex_writing.specs.Locks.{HasMetLock}
 use Rattle.rowex_writing.specs.Walks.{nodes_among}
@@ -470,30 +470,40 @@ failed_later layout job i j made Busy failed = failed.1
 failed_later layout job i j made FullNodes none = none.later
 failed_later layout job i j made FullLeaves none = none.later
 
--- a call that gives its key a value takes none away
-no_removal : (call : Call) (held : Option ℕ) → aim_of call held ≡ Some ToRemove → GivesValue call → ⊥
-no_removal (Insert key value) held e gives = cc
-no_removal (Upsert key value) held e gives = cc
-no_removal (Exchange key expected value) held e gives = let other : ToUpsert ≡ ToRemove = aim_met (λ a. a ≡ ToRemove) expected held ToUpsert ToRemove e refl in cc
-no_removal (Add key delta) None e gives = cc
-no_removal (Add key delta) (Some had) e gives = cc
-no_removal (Get key) held e gives = cc
-no_removal (Remove key) held e gives = gives
-no_removal (RemoveIf key expected) held e gives = gives
+-- a call that aims at a removal is one
+removal_may : (j : Known) (call : Call) (held : Option ℕ) → aim_of call held ≡ Some ToRemove → MayTake j call
+removal_may j (Insert key value) held e = absurd (cc)
+removal_may j (Upsert key value) held e = absurd (cc)
+removal_may j (Exchange key expected value) held e = absurd (let other : ToUpsert ≡ ToRemove = aim_met (λ a. a ≡ ToRemove) expected held ToUpsert ToRemove e refl in cc)
+removal_may j (Add key delta) None e = absurd (cc)
+removal_may j (Add key delta) (Some had) e = absurd (cc)
+removal_may j (Get key) held e = absurd (cc)
+removal_may j (Remove key) held e = tt
+removal_may j (RemoveIf key expected) held e = tt
 
--- so where no record was free for it, its search has not found the key
+-- and one that aims at anything where its key is absent gives it a value, or is a removal
+absent_may : (j : Known) (call : Call) (aim : Aim) → aim_of call None ≡ Some aim → HasMissed j (key_of call) → MayTake j call
+absent_may j (Insert key value) aim e missed = missed
+absent_may j (Upsert key value) aim e missed = missed
+absent_may j (Exchange key expected value) aim e missed = absurd (cc)
+absent_may j (Add key delta) aim e missed = absurd (cc)
+absent_may j (Get key) aim e missed = absurd (cc)
+absent_may j (Remove key) aim e missed = tt
+absent_may j (RemoveIf key expected) aim e missed = tt
+
 missed : (k j : Known) (key other : Key) → key ≡ other → IsPinnedSince k (since k) → Sure k (λ s. WasAbsentSince s (since k) key) → IsLater k j → HasMissed j other
 missed k j key other same pinned sure later =
     (since k, since_later later pinned, subst (λ z. Sure j (λ s. WasAbsentSince s (since k) z)) same (sure_later {P = λ s. WasAbsentSince s (since k) key} (missed_stable (since k) key) later sure))
 
+-- so where no record was free for it, it may take one
 pub full_of_new : (k p j : Known) (m : ℕ) (key : Key) (way : List PathNode) (aim : Aim) (found : Found) (span : Span) (deed : Deed) (fault : TryFault) (call : Call) → key ≡ key_of call →
     IsPlanned p m key way aim found (a_change span deed) → IsPinnedSince k (since k) → HasFound k key (value_of found) → IsLater k j → aim_of call (value_of found) ≡ Some aim → (deed ≡ ValueDeed → fault ≡ Busy) →
     IsFullOfNew j call fault
-full_of_new k p j m key way aim Nothing span deed fault call same planned pinned sure later e whole full gives = missed k j key (key_of call) same pinned sure later
-full_of_new k p j m key way aim (Leaf n v (Some q)) span deed fault call same planned pinned sure later e whole full gives = missed k j key (key_of call) same pinned sure later
-full_of_new k p j m key way ToInsert (Leaf n v None) span deed fault call same (first, last, is, affected) pinned sure later e whole full gives = no_answer _ span deed (sym is)
-full_of_new k p j m key way ToUpsert (Leaf n v None) span deed fault call same (first, last, is, affected) pinned sure later e whole full gives = absurd (subst IsFullFault (whole (ap deed_in is)) full)
-full_of_new k p j m key way ToRemove (Leaf n v None) span deed fault call same planned pinned sure later e whole full gives = absurd (no_removal call (Some v) e gives)
+full_of_new k p j m key way aim Nothing span deed fault call same planned pinned sure later e whole full = absent_may j call aim e (missed k j key (key_of call) same pinned sure later)
+full_of_new k p j m key way aim (Leaf n v (Some q)) span deed fault call same planned pinned sure later e whole full = absent_may j call aim e (missed k j key (key_of call) same pinned sure later)
+full_of_new k p j m key way ToInsert (Leaf n v None) span deed fault call same (first, last, is, affected) pinned sure later e whole full = no_answer _ span deed (sym is)
+full_of_new k p j m key way ToUpsert (Leaf n v None) span deed fault call same (first, last, is, affected) pinned sure later e whole full = absurd (subst IsFullFault (whole (ap deed_in is)) full)
+full_of_new k p j m key way ToRemove (Leaf n v None) span deed fault call same (first, last, is, affected) pinned sure later e whole full = removal_may j call (Some v) e
 
 -- a refusal for want of a leaf record is for want of one
 pub leaves_refused : (full : Full) → refusal_of full ≡ FullLeaves → full ≡ Leaves

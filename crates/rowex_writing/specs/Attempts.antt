@@ -1,7 +1,7 @@
 -- One attempt of a call that may change the map: what it answers, and why it is refused.
 use Rattle.std.specs.Prelude.{◌≡◌, ◌≢◌, ◌⊎◌, ℕ, ◌<◌, ◌≤◌, List, ◌++◌, length, All, Option, Some, None, Result, Err}
 use Rattle.finite_map.specs.declared.Call.{Call}
-use Rattle.finite_map.specs.declared.Call.TheVariants.{Remove, RemoveIf}
+use Rattle.finite_map.specs.declared.Call.TheVariants.{Insert, Remove, RemoveIf, Upsert}
 use Rattle.finite_map.specs.declared.Change.{Change}
 use Rattle.finite_map.specs.declared.Reply.{Reply}
 use Rattle.finite_map.specs.Calls.{change_of, effect_of}
@@ -138,19 +138,21 @@ abbrev pub IsFullFault : TryFault → Type 0
 IsFullFault Busy = ⊥
 IsFullFault fault = Unit {0}
 
--- the call gives its key a value
-abbrev pub GivesValue : Call → Type 0
-GivesValue (Remove key) = ⊥
-GivesValue (RemoveIf key expected) = ⊥
-GivesValue call = Unit {0}
-
 -- the key was absent in a version since some version, to which the pass's pin goes back
 abbrev pub HasMissed : Known → Key → Type 0
 HasMissed j key = (m : ℕ) × IsPinnedSince j m × Sure j (λ s. WasAbsentSince s m key)
 
--- a call that gives its key a value is refused for want of a record only if its search has not found the key
+-- A call may lack a record: an insertion or an upsert whose search has not found the key, and a removal. No other call takes one.
+abbrev pub MayTake : Known → Call → Type 0
+MayTake j (Insert key value) = HasMissed j key
+MayTake j (Upsert key value) = HasMissed j key
+MayTake j (Remove key) = Unit {0}
+MayTake j (RemoveIf key expected) = Unit {0}
+MayTake j call = ⊥
+
+-- so it is refused for want of one only where it may
 abbrev pub IsFullOfNew : Known → Call → TryFault → Type 0
-IsFullOfNew j call fault = IsFullFault fault → GivesValue call → HasMissed j (key_of call)
+IsFullOfNew j call fault = IsFullFault fault → MayTake j call
 
 -- It was refused: no change of its own was made.
 pub record HasRefused (layout : Layout) (key : Key) (k j : Known) (made : List Rec) (fault : TryFault) : Type 0 where

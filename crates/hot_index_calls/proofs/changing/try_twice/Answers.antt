@@ -2,6 +2,7 @@
 use Rattle.std.proofs.Common.{◌≤◌, ◌∙◌, Result, Err, refl, sym, ap, subst, le_trans, arith}
 use Rattle.finite_map.specs.declared.Reply.{Reply}
 use Rattle.finite_map.specs.Maps.{key_of}
+use Rattle.finite_map.proofs.Growth.{begins_on}
 use Rattle.rowex_core.specs.declared.known.Fresh.{Fresh}
 use Rattle.rowex_core.specs.declared.known.Known.{Known}
 use Rattle.rowex_writing.specs.declared.attempts.TryFault.{TryFault}
@@ -13,6 +14,7 @@ use Rattle.rowex_writing.specs.Changes.{LacksNodes}
 use Rattle.rowex_writing.specs.Walks.{nodes_among}
 use Rattle.hot_index_calls.specs.Passes.{pass_of}
 use Rattle.hot_index_calls.proofs.Collected.{does_idle, round_few}
+use Rattle.hot_index_calls.proofs.Conflicts.{may_take_from_before, no_further}
 use Rattle.hot_index_calls.proofs.Resting.{cause_still, lacked_full, lacks_still}
 use Rattle.hot_index_calls.proofs.Tracing.{ended_again}
 use Rattle.hot_index_calls.proofs.Trying.{lacks_from_before, once_asked, outcome_then, round_later, then_collected, unnoted_then}
@@ -78,7 +80,14 @@ returns g c =
       replied = record {
         idle = again.idle;
         noted = tt;
-        refused = record { unnoted = unnoted_then table.layout k (pass_of c.collect_round-round.new.seat) (pass_of c.pin_and_unpin.new.seat) collected later again.unnoted; cause = cause };
+        refused = record {
+          unnoted = unnoted_then table.layout k (pass_of c.collect_round-round.new.seat) (pass_of c.pin_and_unpin.new.seat) collected later again.unnoted;
+          cause = cause;
+          full = λ full. may_take_from_before call k k (pass_of c.make_attempt-first.new.seat) (pass_of c.pin_and_unpin.new.seat) (no_further refl)
+              (begins_on c.make_attempt-first.new.seat.known.front c.collect_round-round.new.seat.known.front c.pin_and_unpin.new.seat.known.front
+              (no_further (ap (λ (z : Known). z.front) round.does.rest)) again.unnoted.front)
+              (again.fresh ∙ ap (λ (z : Known). z.fresh) round.does.rest) (first.replied.refused.full full);
+        };
         leafless = first.replied.leafless;
         loaded = subst (λ (z : Fresh). c.args.seat.now.known.steps ≤ z.step) (sym (again.fresh ∙ ap (λ (z : Known). z.fresh) round.does.rest)) first.replied.loaded;
       };
