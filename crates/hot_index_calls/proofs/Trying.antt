@@ -396,7 +396,7 @@ module _ {G : Type 0} {table : TableView} {becomes : G → Event → G → Type 
       same = (run_same table becomes b c run).2
 
   -- a key that was absent since its pin was so by what contracts see
-  absent_seen : (key : Key) {said : Known → List Note} → IsEvent table.layout ClearPin said c.0.known d.0.known → tries.HasMissed c.0.known key → WasAbsent key (pass_of a.0) (pass_of d.0)
+  absent_seen : (key : Key) {said : Known → List Note} → IsEvent table.layout ClearPin said c.0.known d.0.known → tries.HasMissedKey c.0.known key → WasAbsent key (pass_of a.0) (pass_of d.0)
   absent_seen key event (m, (p, pin, early), missed) = absent_from_before key (pass_of a.0) (pass_of a.0) (pass_of c.0) (pass_of d.0) (no_further refl)
       (no_further (ap (λ (z : Known). z.front) event.learned_is)) (ap (λ (z : Known). z.fresh) event.learned_is) there
     where
@@ -415,7 +415,7 @@ module _ {G : Type 0} {table : TableView} {becomes : G → Event → G → Type 
         absent = had.3;
       }
 
-  may_take_seen : (call : Call) {said : Known → List Note} → IsEvent table.layout ClearPin said c.0.known d.0.known → tries.MayTake c.0.known call → MayTake call (pass_of a.0) (pass_of d.0)
+  may_take_seen : (call : Call) {said : Known → List Note} → IsEvent table.layout ClearPin said c.0.known d.0.known → tries.WantsRecord c.0.known call → MayTake call (pass_of a.0) (pass_of d.0)
   may_take_seen (Insert key value) event missed = absent_seen key event missed
   may_take_seen (Upsert key value) event missed = absent_seen key event missed
   may_take_seen (Exchange key expected value) event missed = absurd missed

@@ -37,7 +37,7 @@ use Rattle.rowex_core.specs.Knowing.{IsPinnedSince}
 use Rattle.rowex_reading.specs.Seen.{Sure, since}
 use Rattle.rowex_reading.proofs.Seeing.{later_trans, held_stable, missed_stable, shaped_stable, sure_later, since_later}
 use Rattle.rowex_writing.specs.Asking.{aim_of, aim_where, reply_to, value_in}
-use Rattle.rowex_writing.specs.Attempts.{HasAnswered, HasDone, HasLoadedRoot, HasLooked, HasRefused, IsAttemptCause, IsChangeOf, IsLeafless, refusal_of, revalued, HasFailed, HasMissed, IsFullFault, IsFullOfNew, MayTake}
+use Rattle.rowex_writing.specs.Attempts.{HasAnswered, HasDone, HasLoadedRoot, HasLooked, HasRefused, IsAttemptCause, IsChangeOf, IsLeafless, refusal_of, revalued, HasFailed, HasMissedKey, IsFullFault, IsFullOfNew, WantsRecord}
 use Rattle.rowex_writing.specs.Changes.{AreAffected, HasChanged, HasNoRoom, HasRun, IsFull, IsPlanned}
 use Rattle.rowex_writing.specs.Locks.{HasMetLock}
 use Rattle.rowex_writing.specs.Walks.{nodes_among}
@@ -471,7 +471,7 @@ failed_later layout job i j made FullNodes none = none.later
 failed_later layout job i j made FullLeaves none = none.later
 
 -- a call that aims at a removal is one
-removal_may : (j : Known) (call : Call) (held : Option ℕ) → aim_of call held ≡ Some ToRemove → MayTake j call
+removal_may : (j : Known) (call : Call) (held : Option ℕ) → aim_of call held ≡ Some ToRemove → WantsRecord j call
 removal_may j (Insert key value) held e = absurd (cc)
 removal_may j (Upsert key value) held e = absurd (cc)
 removal_may j (Exchange key expected value) held e = absurd (let other : ToUpsert ≡ ToRemove = aim_met (λ a. a ≡ ToRemove) expected held ToUpsert ToRemove e refl in cc)
@@ -482,7 +482,7 @@ removal_may j (Remove key) held e = tt
 removal_may j (RemoveIf key expected) held e = tt
 
 -- and one that aims at anything where its key is absent gives it a value, or is a removal
-absent_may : (j : Known) (call : Call) (aim : Aim) → aim_of call None ≡ Some aim → HasMissed j (key_of call) → MayTake j call
+absent_may : (j : Known) (call : Call) (aim : Aim) → aim_of call None ≡ Some aim → HasMissedKey j (key_of call) → WantsRecord j call
 absent_may j (Insert key value) aim e missed = missed
 absent_may j (Upsert key value) aim e missed = missed
 absent_may j (Exchange key expected value) aim e missed = absurd (cc)
@@ -491,7 +491,7 @@ absent_may j (Get key) aim e missed = absurd (cc)
 absent_may j (Remove key) aim e missed = tt
 absent_may j (RemoveIf key expected) aim e missed = tt
 
-missed : (k j : Known) (key other : Key) → key ≡ other → IsPinnedSince k (since k) → Sure k (λ s. WasAbsentSince s (since k) key) → IsLater k j → HasMissed j other
+missed : (k j : Known) (key other : Key) → key ≡ other → IsPinnedSince k (since k) → Sure k (λ s. WasAbsentSince s (since k) key) → IsLater k j → HasMissedKey j other
 missed k j key other same pinned sure later =
     (since k, since_later later pinned, subst (λ z. Sure j (λ s. WasAbsentSince s (since k) z)) same (sure_later {P = λ s. WasAbsentSince s (since k) key} (missed_stable (since k) key) later sure))
 

@@ -139,20 +139,20 @@ IsFullFault Busy = ⊥
 IsFullFault fault = Unit {0}
 
 -- the key was absent in a version since some version, to which the pass's pin goes back
-abbrev pub HasMissed : Known → Key → Type 0
-HasMissed j key = (m : ℕ) × IsPinnedSince j m × Sure j (λ s. WasAbsentSince s m key)
+abbrev pub HasMissedKey : Known → Key → Type 0
+HasMissedKey j key = (m : ℕ) × IsPinnedSince j m × Sure j (λ s. WasAbsentSince s m key)
 
 -- A call may lack a record: an insertion or an upsert whose search has not found the key, and a removal. No other call takes one.
-abbrev pub MayTake : Known → Call → Type 0
-MayTake j (Insert key value) = HasMissed j key
-MayTake j (Upsert key value) = HasMissed j key
-MayTake j (Remove key) = Unit {0}
-MayTake j (RemoveIf key expected) = Unit {0}
-MayTake j call = ⊥
+abbrev pub WantsRecord : Known → Call → Type 0
+WantsRecord j (Insert key value) = HasMissedKey j key
+WantsRecord j (Upsert key value) = HasMissedKey j key
+WantsRecord j (Remove key) = Unit {0}
+WantsRecord j (RemoveIf key expected) = Unit {0}
+WantsRecord j call = ⊥
 
 -- so it is refused for want of one only where it may
 abbrev pub IsFullOfNew : Known → Call → TryFault → Type 0
-IsFullOfNew j call fault = IsFullFault fault → MayTake j call
+IsFullOfNew j call fault = IsFullFault fault → WantsRecord j call
 
 -- It was refused: no change of its own was made.
 pub record HasRefused (layout : Layout) (key : Key) (k j : Known) (made : List Rec) (fault : TryFault) : Type 0 where
