@@ -435,6 +435,16 @@ value_found k m key way ToInsert (Leaf n v None) span (first, last, is, affected
 value_found k m key way ToUpsert (Leaf n v None) span (first, last, is, affected) = (n, v, refl, ap (λ (s : Span). s.len) (ap span_in is), ap (λ (s : Span). s.end) (ap span_in is))
 value_found k m key way ToRemove (Leaf n v None) span (first, last, is, affected) = absurd (cc)
 
+-- a change to a leaf that was found for the key has a span to the end of the way
+pub plan_reaches : (k : Known) (m : ℕ) (key : Key) (way : List PathNode) (aim : Aim) (found : Found) (span : Span) (deed : Deed) → IsPlanned k m key way aim found (a_change span deed) →
+    (n v : ℕ) → found ≡ Leaf n v None → span.len ≡ length way
+plan_reaches k m key way aim found span deed planned n v is = go aim (subst (λ f. IsPlanned k m key way aim f (a_change span deed)) is planned)
+  where
+    go : (a : Aim) → IsPlanned k m key way a (Leaf n v None) (a_change span deed) → span.len ≡ length way
+    go ToInsert (first, last, plan, affected) = no_answer _ span deed (sym plan)
+    go ToUpsert (first, last, plan, affected) = ap (λ (s : Span). s.len) (ap span_in plan)
+    go ToRemove (first, last, plan, affected) = ap (λ (s : Span). s.len) (ap span_in plan)
+
 -- since the start no fewer steps have been made
 loaded_steps : (k j : Known) → HasLoadedRoot k j → k.steps ≤ j.steps
 loaded_steps k j l = let x = l.from in let y = l.upto in omega (arith, x, y)

@@ -5,8 +5,8 @@ use Rattle.finite_map.specs.declared.Call.TheVariants.{Insert, Remove, RemoveIf,
 use Rattle.finite_map.specs.declared.Change.{Change}
 use Rattle.finite_map.specs.declared.Reply.{Reply}
 use Rattle.finite_map.specs.Calls.{change_of, effect_of}
-use Rattle.finite_map.specs.Fronts.{BeginsWith, OthersGoOn}
-use Rattle.finite_map.specs.Maps.{key_of}
+use Rattle.finite_map.specs.Fronts.{BeginsWith, OthersGoOn, map_of}
+use Rattle.finite_map.specs.Maps.{key_of, value_at}
 use Rattle.record_words.specs.declared.layout.Layout.{Layout}
 use Rattle.tries.specs.Keys.{Key}
 use Rattle.versions.specs.declared.Rec.{Rec}
@@ -91,6 +91,19 @@ pub record IsFoundAgain (call : Call) (found now : Found) : Type 0 where
   pub value : ℕ
   pub is : now ≡ revalued found value
   pub aims : (aim : Aim) → aim_of call (value_of found) ≡ Some aim → aim_of call (value_of now) ≡ Some aim
+
+-- where a leaf was found for the key, the key has this value after the changes that the pass has seen
+abbrev pub HoldsFound : Known → Key → Found → Type 0
+HoldsFound k key found = (number value : ℕ) → found ≡ Leaf number value None → value_at (map_of k.front) key ≡ Some value
+
+-- Under its locks the pass has found the key with another value, at which the call has nothing to change. The key had it in a version
+-- since the pass's last load of the root.
+pub record HasFoundOther (k j : Known) (call : Call) (key : Key) (now : Found) : Type 0 where
+  pub later : IsLater k j
+  pub value : ℕ
+  pub is : value_of now ≡ Some value
+  pub held : HasFound j key (Some value)
+  pub aimless : aim_of call (Some value) ≡ None
 
 -- it has loaded the value of the leaf that was found for the key, if one was, since it last locked
 abbrev pub HasLoadedFound : Known → Found → Type 0

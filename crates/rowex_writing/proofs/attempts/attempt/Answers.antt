@@ -1,5 +1,5 @@
 -- The search, its plan, and what follows from it.
-use Rattle.std.proofs.Common.{[], Err, ◌∙◌, ap, subst, sym, arith, refl, IsSome, ◌≡◌}
+use Rattle.std.proofs.Common.{[], Err, Some, inl, inr, ◌∙◌, ap, subst, sym, arith, refl, IsSome, ◌≡◌}
 use Rattle.rowex_reading.specs.Seen.{since}
 use Rattle.rowex_reading.specs.Ways.{IsWayOf, value_of}
 use Rattle.rowex_reading.proofs.Led.{reads_later, same_since}
@@ -128,14 +128,18 @@ returns-in-Ok-clause-answered g c =
     let b = begun_on c.args.table.now g.G.Gate.becomes c.find_plan.ensures.reads.0 c.find_plan.ensures.reads.1 (c.args.seat.now, c.args.gate.now) (c.search_way-found.new.seat, c.search_way-found.new.gate) (c.find_plan.new.seat, c.find_plan.new.gate) c.search_way-found.ensures.searched c.search_way-found.ensures.possible c.requires.own c.requires.rest c.find_plan.ensures.reads.2 in
     let m = since c.search_way-found.new.seat.known in
     let planned = plan_made c.args.table.now.layout _ _ m c.key-key.result.now _ _ _ _ _ c.as_slice-way.ensures.value c.search_way-found.ensures.way c.find_plan.ensures.planned in
-    let (again, done) = c.in-Ok.ensures.done in
     let plan : IsPlanned c.find_plan.new.seat.known m c.key-key.result.now c.as_slice-way.result.now c.in-Some.aim c.search_way-found.result (Change c.in-Change.span c.in-Change.deed) = subst (IsPlanned _ _ _ _ _ _) c.in-Change.is planned in
-    let now = subst (λ f. IsPlanned c.find_plan.new.seat.known m c.key-key.result.now c.as_slice-way.result.now c.in-Some.aim f (Change c.in-Change.span c.in-Change.deed)) (sym again.is)
-    (planned_again c.find_plan.new.seat.known m c.key-key.result.now c.as_slice-way.result.now c.in-Some.aim c.search_way-found.result again.value c.in-Change.span c.in-Change.deed plan) in
-    let aims = again.aims c.in-Some.aim (ap (aim_of c.args.call.now) (sym c.found_value-held.ensures) ∙ (sym c.aim_of.ensures ∙ c.in-Some.is)) in
-    rw (c.reply-in-Ok.ensures []) (rw (c.found_value.ensures)
-    (answered_change c.args.seat.now.known c.find_plan.new.seat.known c.find_plan.new.seat.known c.try_plan.new.seat.known m c.key-key.result.now (value_in c.args.call.now (value_of c.in-Ok.now)) c.as_slice-way.result.now c.args.call.now
-    (value_of c.in-Ok.now) c.in-Some.aim c.in-Ok.now c.in-Change.span c.in-Change.deed b.later c.key-key.ensures refl refl aims now done))
+    rw (c.reply-in-Ok.ensures []) (rw (c.found_value.ensures) (elim c.in-Ok.ensures.done [
+      | inl other ↦ answered_look c.args.seat.now.known c.try_plan.new.seat.known c.args.call.now _ (later_trans b.later other.later)
+          (aimless_looked c.try_plan.new.seat.known c.key-key.result.now c.args.call.now (value_of c.in-Ok.now) (Some other.value) c.key-key.ensures other.is (ap (aim_of c.args.call.now) other.is ∙ other.aimless) other.held)
+      | inr made ↦
+          let again = made.0 in
+          let now = subst (λ f. IsPlanned c.find_plan.new.seat.known m c.key-key.result.now c.as_slice-way.result.now c.in-Some.aim f (Change c.in-Change.span c.in-Change.deed)) (sym again.is)
+          (planned_again c.find_plan.new.seat.known m c.key-key.result.now c.as_slice-way.result.now c.in-Some.aim c.search_way-found.result again.value c.in-Change.span c.in-Change.deed plan) in
+          let aims = again.aims c.in-Some.aim (ap (aim_of c.args.call.now) (sym c.found_value-held.ensures) ∙ (sym c.aim_of.ensures ∙ c.in-Some.is)) in
+          answered_change c.args.seat.now.known c.find_plan.new.seat.known c.find_plan.new.seat.known c.try_plan.new.seat.known m c.key-key.result.now (value_in c.args.call.now (value_of c.in-Ok.now)) c.as_slice-way.result.now c.args.call.now
+          (value_of c.in-Ok.now) c.in-Some.aim c.in-Ok.now c.in-Change.span c.in-Change.deed b.later c.key-key.ensures refl refl aims now made.1
+    ]))
 
 pub try_plan-requires-clause-aims : goal.try_plan-requires-clause-aims
 try_plan-requires-clause-aims g c =
