@@ -2,7 +2,7 @@
 use Rattle.std.proofs.Common.{◌-◌, subst, ap, arith, length, ◌≡◌, ◌∙◌, sym, refl, Err}
 use Rattle.rowex_reading.proofs.Seeing.{later_trans}
 use Rattle.rowex_writing.specs.Changes.{IsTakeChange}
-use Rattle.rowex_writing.specs.Locks.{span_numbers}
+use Rattle.rowex_writing.specs.Locks.{HasTheSame, span_numbers}
 use Rattle.rowex_writing.specs.declared.plan.Deed.TheVariants.{Take}
 use Rattle.rowex_writing.proofs.Beside.{takes_on}
 use Rattle.rowex_writing.proofs.Counting.{numbers_few}
@@ -92,7 +92,7 @@ publish_or_undo-requires g c =
     let l = c.try_merge.ensures.later c.if-try_merge.false in
     let s = c.try_merge.ensures.same c.if-try_merge.false in
     let later = later_trans reads.goes.stays.0 l.0 in
-    let all = (s.0.0 ∙ reads.goes.stays.1, s.0.1 ∙ reads.goes.stays.2, s.0.2 ∙ reads.own) in
+    let all : HasTheSame c.make_without_leaf.new.seat.known c.try_merge.new.seat.known = (s.0.0 ∙ reads.goes.stays.1, s.0.1 ∙ reads.goes.stays.2, s.0.2 ∙ reads.own) in
     record {
       held = holds_later c.args.table.now c.make_without_leaf.new.seat c.try_merge.new.seat job takes (later, l.1, l.2) all;
       may = (x, was, replace_later c.args.table.now c.make_without_leaf.new.seat c.try_merge.new.seat c.make_without_leaf.new.build.made.items c.try_merge.new.build.made.items job c.in-Ok.raised x was l.1 l.2 later all s.1 may);

@@ -17,11 +17,11 @@ has_key g c =
     c.in-Leaf-default-default-None.is ∙ ap (λ o. Leaf c.in-Leaf-default-default-None.number c.in-Leaf-default-default-None.value o) none
 
 pub load_value_at-value-requires-clause-own : goal.load_value_at-value-requires-clause-own
-load_value_at-value-requires-clause-own g c = let (deed, m, aim, t, planned) = c.requires.taken in t.seat
+load_value_at-value-requires-clause-own g c = let (deed, (m, aim, t, planned)) = c.requires.taken in t.seat
 
 pub start_of-requires : goal.start_of-requires
 start_of-requires g c =
-    let (deed, m, aim, t, planned) = c.requires.taken in
+    let (deed, (m, aim, t, planned)) = c.requires.taken in
     found_in_table c.args.table.now.layout c.args.seat.now.known m c.args.job.now.key.now c.in-Leaf-default-default-None.number c.in-Leaf-default-default-None.value t.possible t.way_of.since
     (subst (IsFoundAt c.args.seat.now.known m c.args.job.now.key.now) (has_key g (goal.at.start_of-requires g c).In-Leaf-default-default-None) t.way_of.found_at)
 
