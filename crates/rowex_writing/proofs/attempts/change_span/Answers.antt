@@ -1,6 +1,6 @@
 -- A new value, a removal, or what the deed has made is published; or all is given back.
-use Rattle.std.proofs.Common.{◌<◌, inl, inr, refl, sym, ap, subst, arith, ◌≡◌, ◌∙◌, Err}
-use Rattle.rowex_writing.specs.Attempts.{HasDone, HasFailed}
+use Rattle.std.proofs.Common.{◌<◌, inl, inr, sym, ap, subst, arith, ◌≡◌, ◌∙◌, Err}
+use Rattle.rowex_writing.specs.Attempts.{HasDone}
 use Rattle.rowex_writing.specs.Changes.{HasTakenPlan}
 use Rattle.rowex_writing.specs.Counts.{held_loads}
 use Rattle.rowex_writing.specs.Locks.{span_numbers}

@@ -9,7 +9,7 @@ use Rattle.rowex_writing.proofs.Attempted.{ended_run}
 use Rattle.rowex_writing.proofs.Attempting.{one_lock, planned_again, planned_later, refused_busy, refused_failed, failed_later}
 use Rattle.rowex_writing.proofs.Keeping.{changed_since, made_held}
 use Rattle.rowex_writing.proofs.Runs.{goes_run, run_loaded, runs_trans, works_fresh, works_run}
-use Rattle.rowex_writing.proofs.Valued.{ends_after, front_grown, held_again, held_few, holds_reads, holds_taken, taken_again}
+use Rattle.rowex_writing.proofs.Valued.{ends_after, held_again, held_few, holds_reads, holds_taken, taken_again}
 use Rattle.rowex_writing.proofs.Works.{works_later}
 use Rattle.rowex_writing.proofs.attempts.try_plan.Given as given
 use Rattle.rowex_writing.proofs.attempts.try_plan.Goals as goal
@@ -31,7 +31,7 @@ returns-then-not-lock_and_check_span-clause-refused g c k loaded later =
 pub load_found_again-found-requires : goal.load_found_again-found-requires
 load_found_again-found-requires g c =
     let (m, aim, way, planned) = c.requires.planned in
-    record { taken = (c.args.deed, m, aim, c.lock_and_check_span.ensures.taken c.if-not-lock_and_check_span.false m way, planned_later _ _ _ _ _ _ _ _ c.lock_and_check_span.ensures.later planned) }
+    record { taken = (c.args.deed, (m, aim, c.lock_and_check_span.ensures.taken c.if-not-lock_and_check_span.false m way, planned_later _ _ _ _ _ _ _ _ c.lock_and_check_span.ensures.later planned)) }
 
 -- ---- the call has nothing to change then
 pub release_records_and_locks-requires-clause-span : goal.release_records_and_locks-requires-clause-span

@@ -1,6 +1,4 @@
 -- A merge is of the one record that was made.
-use Rattle.std.proofs.Common.{◌∷◌, [], sym, ap, ◌∙◌}
-use Rattle.versions.specs.declared.Rec.TheVariants.{Node as a_node}
 use Rattle.rowex_writing.proofs.Locking.{reads_none}
 use Rattle.rowex_writing.proofs.merging.plan_merge.Goals as goal
 

@@ -1,5 +1,5 @@
 -- The node beside, the wider locks, and the store under them.
-use Rattle.std.proofs.Common.{◌∷◌, [], false, refl, sym, ap, ◌∙◌, subst, arith}
+use Rattle.std.proofs.Common.{refl, sym, ◌∙◌, subst, arith}
 use Rattle.rowex_reading.proofs.Seeing.{later_trans}
 use Rattle.rowex_writing.specs.Changes.{IsDeedChange}
 use Rattle.rowex_writing.specs.Locks.{span_numbers}

@@ -1,7 +1,6 @@
 -- A leaf with the key is one of the table's; and its value, as loaded, is the key's.
-use Rattle.std.proofs.Common.{◌≡◌, ℕ, Option, None, Some, refl, sym, ap, subst, ◌∙◌}
+use Rattle.std.proofs.Common.{◌≡◌, None, sym, ap, subst, ◌∙◌}
 use Rattle.rowex_reading.specs.Ways.{IsFoundAt}
-use Rattle.rowex_reading.specs.declared.descent.Found.{Found}
 use Rattle.rowex_reading.specs.declared.descent.Found.TheVariants.{Leaf}
 use Rattle.rowex_writing.specs.Attempts.{revalued}
 use Rattle.rowex_writing.proofs.Named.{held_loaded}
