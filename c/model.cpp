@@ -380,7 +380,7 @@ static void test_keys() {
 int main(int count, char **words) {
     if (count != 2)
         return 2;
-    alarm(300); // a call that doesn't return fails the test
+    alarm(900); // a call that doesn't return fails the test
     if (std::string(words[1]) != "threads") {
         test_closing();
         test_updates();

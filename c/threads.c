@@ -392,8 +392,8 @@ static void test_filling(void) {
         CHECK(hot_destroy(&handles[i]) == HOT_DONE);
 }
 
-/* Fourth test: eight threads on one core set keys again and again. While one is stopped in the middle of a call, it holds back what the
- * others retire, so that they find no record free; they wait, and none is refused. */
+/* Fourth test: eight threads on one core put keys in and take them out. While one is stopped in the middle of a call, it holds back what
+ * the others retire, so that they find no record free; they wait, and none is refused. */
 #define CROWDED 8
 #define FEW_KEYS 800
 #define FEW_LEAVES 3887
@@ -409,12 +409,12 @@ static void *set_keys(void *given) {
     unsigned turn;
     for (turn = 0; turn < me->calls; turn++) {
         key at = key_of(next(&me->state) % FEW_KEYS);
-        uint64_t had;
-        hot_status status = hot_try_upsert(me->handle, at.bytes, DIGITS, turn, &had);
+        int puts = next(&me->state) % 2;
+        hot_status status = puts ? hot_try_upsert(me->handle, at.bytes, DIGITS, turn, NULL) : hot_try_remove(me->handle, at.bytes, DIGITS, NULL);
         me->waits += status == HOT_HELD_BACK;
         if (status == HOT_BUSY || status == HOT_HELD_BACK)
-            status = hot_upsert(me->handle, at.bytes, DIGITS, turn, &had);
-        me->refused += status != HOT_NEW && status != HOT_WAS;
+            status = puts ? hot_upsert(me->handle, at.bytes, DIGITS, turn, NULL) : hot_remove(me->handle, at.bytes, DIGITS, NULL);
+        me->refused += status >= HOT_BUSY;
     }
     return NULL;
 }
@@ -424,7 +424,7 @@ static int keep_to(const cpu_set_t *cores) {
     return sched_setaffinity(0, sizeof *cores, cores) == 0;
 }
 
-/* So many upserts; answers whether any found that other calls held records back. */
+/* So many changes; answers whether any found that other calls held records back. */
 static int test_stopped(unsigned calls) {
     static const hot_stock stock = {FEW_LEAVES, FEW_LEAVES, 0, 0, 0, 0};
     hot_handle handles[CROWDED];
