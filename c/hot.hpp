@@ -560,6 +560,18 @@ class handle {
     [[nodiscard]] std::optional<entry> last() { return last(greatest()); }
     [[nodiscard]] bool empty() { return !first(); }
 
+    /// Remove the first pair whose key is from one to another, both included, or the last one, and return it, or none where there is none:
+    /// hot_pop_first, hot_pop_last, which say what holds beside other calls. They wait, and throw std::runtime_error where the index is full.
+    std::optional<entry> pop_first(key_view from = {}, key_view upto = greatest()) { return pop(hot_pop_first, from, upto); }
+    std::optional<entry> pop_last(key_view from = {}, key_view upto = greatest()) { return pop(hot_pop_last, from, upto); }
+
+    /// Remove all keys, or those from one to another, both included, page by page: hot_clear, hot_clear_range. They wait and throw in the
+    /// same way, and then some keys are left.
+    void clear() { clear_range({}, greatest()); }
+    void clear_range(key_view from, key_view upto) {
+        made(hot_clear_range(it(), bytes(from), from.size(), bytes(upto), upto.size()));
+    }
+
     /// How many keys there are: hot_len.
     [[nodiscard]] std::size_t size() {
         std::size_t count = 0;
@@ -621,13 +633,24 @@ class handle {
         for (std::size_t i = 0; i < into.count_; i++)
             into.used_ += into.heads_[i].length;
     }
+    static entry copied(const hot_pair &it) { return {std::string(reinterpret_cast<const char *>(it.key), it.length), it.value}; }
     template <class Call> std::optional<entry> end(Call call, key_view key) {
         hot_pair found;
         const hot_status status = call(it(), bytes(key), key.size(), &found);
         check(status);
-        if (status != HOT_FOUND)
-            return std::nullopt;
-        return entry{std::string(reinterpret_cast<const char *>(found.key), found.length), found.value};
+        return status == HOT_FOUND ? std::optional(copied(found)) : std::nullopt;
+    }
+    // Throws where a change was refused.
+    static void made(hot_status status) {
+        check(status);
+        if (change{static_cast<hot::status>(status), {}}.is_refused())
+            throw std::runtime_error(hot_status_text(status));
+    }
+    template <class Call> std::optional<entry> pop(Call call, key_view from, key_view upto) {
+        hot_pair found;
+        const hot_status status = call(it(), bytes(from), from.size(), bytes(upto), upto.size(), &found);
+        made(status);
+        return status == HOT_REMOVED ? std::optional(copied(found)) : std::nullopt;
     }
     template <class Call> change put(Call call, key_view key, std::uint64_t value) {
         std::uint64_t had = 0;
