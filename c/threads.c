@@ -1,7 +1,6 @@
 /* Tests of the library by threads: two that change keys of all lengths beside two that look up, scan and list; four that make calls
  * by chance where few records are to spare, or none; eight on one core, so that each is stopped in the middle of its calls; eight that
- * share three handles; four that send each other moments; two that take most keys out and put them in again beside two that scan; and
- * four that take pairs from the ends beside two that put keys in. */
+ * share three handles; four that send each other moments; and two that take most keys out and put them in again beside two that scan. */
 #define _GNU_SOURCE
 #include "hot.h"
 #include "check.h"
@@ -566,12 +565,66 @@ static void test_telling(void) {
     CHECK(hot_close_index(index) == HOT_DONE);
 }
 
+/* Another test: two threads put keys in, and four take pairs from both ends until all are gone. Each pair is taken once. */
+#define TAKERS 4
+#define JOBS 20000
+
+static unsigned taken[2 * JOBS];
+static int at_work;
+
+static void *put_jobs(void *given) {
+    worker *me = given;
+    unsigned i;
+    for (i = 0; i < JOBS; i++)
+        put_in(me->handle, 2 * i + me->half);
+    __atomic_sub_fetch(&at_work, 1, __ATOMIC_SEQ_CST);
+    return NULL;
+}
+
+static void *take_jobs(void *given) {
+    worker *me = given;
+    for (;;) {
+        int is_last = __atomic_load_n(&at_work, __ATOMIC_SEQ_CST) == 0;
+        hot_pair pair;
+        hot_status status = (me->half ? hot_pop_last : hot_pop_first)(me->handle, hot_last_key, 0, HOT_TO_END, &pair);
+        CHECK(status == HOT_REMOVED || status == HOT_ABSENT);
+        if (status == HOT_REMOVED)
+            CHECK(pair.value < 2 * JOBS && __atomic_add_fetch(&taken[pair.value], 1, __ATOMIC_SEQ_CST) == 1);
+        else if (is_last)
+            return NULL;
+        else
+            sched_yield();
+    }
+}
+
+static void test_jobs(void) {
+    static const hot_stock stock = {20000, 10000, 10000, 10000, 10000, 10000};
+    hot_handle handles[TAKERS + 2];
+    worker workers[TAKERS + 2];
+    pthread_t threads[TAKERS + 2];
+    size_t count;
+    unsigned i;
+    memset(handles, 0, sizeof handles);
+    CHECK(hot_create_with(&stock, handles, TAKERS + 2) == HOT_DONE);
+    at_work = 2;
+    for (i = 0; i < TAKERS + 2; i++) {
+        workers[i].handle = &handles[i];
+        workers[i].half = i % 2;
+        CHECK(pthread_create(&threads[i], NULL, i < TAKERS ? take_jobs : put_jobs, &workers[i]) == 0);
+    }
+    for (i = 0; i < TAKERS + 2; i++)
+        CHECK(pthread_join(threads[i], NULL) == 0);
+    for (i = 0; i < 2 * JOBS; i++)
+        CHECK(taken[i] == 1);
+    CHECK(hot_len(&handles[0], &count) == HOT_DONE && count == 0);
+    for (i = 0; i < TAKERS + 2; i++)
+        CHECK(hot_destroy(&handles[i]) == HOT_DONE);
+}
+
 /* Seventh test: two threads take all their keys out and put them in again, so that nodes merge and split, beside two that scan upwards and
  * downwards. Each scan has every key that stays, and none twice. */
 #define STAYS 16
 #define WAVES 60
-
-static int at_work;
 
 /* The pairs rise from `first` on up to `last`, or fall by a step of -1, and every key that stays is there. */
 static void check_stays(const hot_pair *pairs, size_t count, int first, int step, int last, uint32_t more) {
@@ -646,61 +699,6 @@ static void test_waves(void) {
         CHECK(hot_destroy(&handles[i]) == HOT_DONE);
 }
 
-/* Eighth test: two threads put keys in, and four take pairs from both ends until all are gone. Each pair is taken once. */
-#define TAKERS 4
-#define JOBS 20000
-
-static unsigned taken[2 * JOBS];
-
-static void *put_jobs(void *given) {
-    worker *me = given;
-    unsigned i;
-    for (i = 0; i < JOBS; i++)
-        put_in(me->handle, 2 * i + me->half);
-    __atomic_sub_fetch(&at_work, 1, __ATOMIC_SEQ_CST);
-    return NULL;
-}
-
-static void *take_jobs(void *given) {
-    worker *me = given;
-    for (;;) {
-        int is_last = __atomic_load_n(&at_work, __ATOMIC_SEQ_CST) == 0;
-        hot_pair pair;
-        hot_status status = (me->half ? hot_pop_last : hot_pop_first)(me->handle, hot_last_key, 0, HOT_TO_END, &pair);
-        CHECK(status == HOT_REMOVED || status == HOT_ABSENT);
-        if (status == HOT_REMOVED)
-            CHECK(pair.value < 2 * JOBS && __atomic_add_fetch(&taken[pair.value], 1, __ATOMIC_SEQ_CST) == 1);
-        else if (is_last)
-            return NULL;
-        else
-            sched_yield();
-    }
-}
-
-static void test_jobs(void) {
-    static const hot_stock stock = {20000, 10000, 10000, 10000, 10000, 10000};
-    hot_handle handles[TAKERS + 2];
-    worker workers[TAKERS + 2];
-    pthread_t threads[TAKERS + 2];
-    size_t count;
-    unsigned i;
-    memset(handles, 0, sizeof handles);
-    CHECK(hot_create_with(&stock, handles, TAKERS + 2) == HOT_DONE);
-    at_work = 2;
-    for (i = 0; i < TAKERS + 2; i++) {
-        workers[i].handle = &handles[i];
-        workers[i].half = i % 2;
-        CHECK(pthread_create(&threads[i], NULL, i < TAKERS ? take_jobs : put_jobs, &workers[i]) == 0);
-    }
-    for (i = 0; i < TAKERS + 2; i++)
-        CHECK(pthread_join(threads[i], NULL) == 0);
-    for (i = 0; i < 2 * JOBS; i++)
-        CHECK(taken[i] == 1);
-    CHECK(hot_len(&handles[0], &count) == HOT_DONE && count == 0);
-    for (i = 0; i < TAKERS + 2; i++)
-        CHECK(hot_destroy(&handles[i]) == HOT_DONE);
-}
-
 int main(void) {
     /* Keys, nodes and leaves: room for all; more keys than leaves; one node, which comes and goes. */
     static const unsigned crowds[5][3] = {{500, 60, 520}, {12, 16, 8}, {5, 1, 16}, {3, 1, 2}, {2, 1, 1}};
@@ -714,8 +712,8 @@ int main(void) {
     CHECK(i < 10);
     test_opening();
     test_telling();
-    test_waves();
     test_jobs();
+    test_waves();
     if (!failures)
         puts("passed: threads that read while others change keys of all lengths, or make nodes merge, threads where few records are to spare, and threads that are stopped");
     return failures;
