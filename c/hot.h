@@ -31,7 +31,8 @@
  * made from a signal handler, or after a fork in the child of a process with threads. A call has 48 KiB of stack.
  *
  * A call fails only by its status. None waits for another, except hot_insert, hot_upsert, hot_exchange, hot_remove, hot_remove_if and
- * hot_add; hot_copy, hot_clear, hot_clear_range, hot_pop_first and hot_pop_last, which make such calls; hot_open and hot_stamp, for each other; and hot_stamp and hot_follow, too.
+ * hot_add; hot_copy, hot_clear, hot_clear_range, hot_pop_first and hot_pop_last, which make such calls; hot_open and hot_stamp, for each
+ * other; and hot_stamp and hot_follow, too.
  * Each other call ends after a bounded number of steps, whatever other threads do: a step is one atomic access to a word of the index.
  * Each call below that makes steps gives its bound, for the worst tree that there can be.
  *
