@@ -171,6 +171,7 @@ extern "C" {
         upto: *const u8,
         upto_length: usize,
     ) -> Status;
+    fn hot_copy(from: *mut RawHandle, to: *mut RawHandle) -> Status;
     fn hot_census(handle: *mut RawHandle, counts: *mut Census) -> Status;
     fn hot_len(handle: *mut RawHandle, count: *mut usize) -> Status;
     fn hot_meet(one: *mut RawHandle, other: *mut RawHandle) -> Status;
@@ -451,6 +452,11 @@ impl Lease {
         let mut count = 0;
         unsafe { hot_len(self.raw(), &mut count) };
         count
+    }
+
+    /// The other lease may be this one, too.
+    pub(crate) fn copy_to(&self, other: &Lease) -> Status {
+        unsafe { hot_copy(self.raw(), other.raw()) }
     }
 
     /// The other lease may be this one, since the library is handed pointers.

@@ -22,10 +22,12 @@
 #![deny(clippy::unwrap_used, clippy::expect_used, clippy::panic, clippy::indexing_slicing)]
 mod error;
 mod ffi;
+mod growing;
 mod key;
 mod range;
 
 pub use error::{CompareExchangeError, Error, TryInsertError};
+pub use growing::{Growing, User};
 pub use key::{key_of, values_of, FromKey, ToKey};
 pub use range::{KeyRange, Range};
 
@@ -513,6 +515,11 @@ impl Handle {
             Some((from, upto)) => Error::check(self.lease.clear_range(from.bytes(), upto.bytes())).map(|_| ()),
             None => Ok(()),
         }
+    }
+
+    /// Gives each key its value in the index of another handle, page by page. If it is refused, the rest isn't copied.
+    pub fn copy_to(&self, other: &Handle) -> Result<(), Error> {
+        Error::check(self.lease.copy_to(&other.lease)).map(|_| ())
     }
 
     /// How many keys there are: exact while nobody changes the index.
