@@ -30,7 +30,6 @@ pub struct User {
 }
 
 struct All {
-    users: usize,
     /// How often the index has been copied.
     turn: AtomicU64,
     now: Mutex<Hot>,
@@ -51,7 +50,6 @@ impl Growing {
         let copier = index.handle()?;
         Ok(Growing {
             all: Arc::new(All {
-                users,
                 turn: AtomicU64::new(0),
                 now: Mutex::new(index),
                 copier: Mutex::new((*stock, copier)),
@@ -120,7 +118,7 @@ impl All {
             wide_leaves: copier.0.wide_leaves.saturating_mul(2),
             long_leaves: copier.0.long_leaves.saturating_mul(2),
         };
-        let next = Hot::with_stock(&stock, self.users.saturating_add(1))?;
+        let next = Hot::with_stock(&stock, copier.1.index().handles())?;
         let handle = next.handle()?;
         copier.1.copy_to(&handle)?;
         *copier = (stock, handle);
@@ -133,9 +131,7 @@ impl All {
 
 impl fmt::Debug for Growing {
     fn fmt(&self, to: &mut fmt::Formatter<'_>) -> fmt::Result {
-        to.debug_struct("Growing")
-            .field("users", &self.all.users)
-            .finish_non_exhaustive()
+        to.debug_struct("Growing").finish_non_exhaustive()
     }
 }
 
