@@ -10,9 +10,9 @@ ghost use Rattle.hot_index_calls.specs.Traces.{HasTold};
 
 use crate::index::{Index, Pass, reply_to_get};
 use finite_map::{Call, Reply};
+use hot_index_calls::Refusal;
 use rowex_core::{Gate, NoGate};
 use rowex_writing::{Full, TryFault};
-use hot_index_calls::Refusal;
 use std::sync::Wait;
 
 impl Index {

@@ -15,16 +15,16 @@ ghost use Rattle.hot_index.specs.Stamps.{HasSeenMore};
 
 use epochs::{Given, collect_round, pin, unpin};
 use finite_map::{Call, Reply};
+use hot_index_calls::{
+    RecordCounts, Refusal, Scratch, count_records, end_get, end_gets, look_up_each, retry_change,
+    try_and_count, try_change,
+};
 use key_bits::Key;
 use key_counts::KeyCount;
 use rowex_core::{Gate, NoGate};
 use rowex_reading::look_up;
 use rowex_table::{HotTable, TableSeat};
 use rowex_writing::{Full, TryFault};
-use hot_index_calls::{
-    RecordCounts, Refusal, Scratch, count_records, end_get, end_gets, look_up_each, retry_change,
-    try_and_count, try_change,
-};
 use std::marker::Model;
 use std::sync::Wait;
 
