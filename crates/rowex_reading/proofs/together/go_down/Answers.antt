@@ -1,5 +1,5 @@
 -- None has gone down; one search more has, or is at a leaf; and all have.
-use Rattle.std.proofs.Common.{◌≡◌, ◌+◌, ◌*◌, ◌<◌, ◌≤◌, ℕ, List, Bool, arith, length, refl, subst, sym, Some, true, false, le_refl}
+use Rattle.std.proofs.Common.{◌≡◌, ◌+◌, List, Bool, arith, length, refl, subst, sym, Some, true, false}
 use Rattle.std.specs.Prelude.{slice_get}
 use Rattle.std.proofs.lemmas.Option.{slice_get_read, slice_get-get_or}
 use Rattle.compound_node.specs.declared.entries.Entry.{Entry}

@@ -1,10 +1,9 @@
 -- No key is there; the root's entry; and one group more.
-use Rattle.std.proofs.Common.{◌≡◌, ◌∙◌, ◌+◌, ◌-◌, ◌*◌, ◌≤◌, ℕ, [], None, arith, get_or, length, length-take-le, length-drop, subst, sym}
+use Rattle.std.proofs.Common.{◌≡◌, ◌∙◌, ◌+◌, ◌-◌, ◌≤◌, ℕ, [], None, arith, get_or, length, subst}
 use Rattle.std.proofs.lemmas.List.{length-set}
 use Rattle.std.proofs.lemmas.Option.{slice_get-get_or}
 use borrow.Rule.Slice.PartMut.{mid_len, mid_of, same_len_mid}
 use Rattle.rowex_reading.specs.Lookups.{HaveFound}
-use Rattle.rowex_reading.specs.Reads.{IsReader}
 use Rattle.rowex_reading.proofs.Led.{reader_then, root_pinned, root_reader}
 use Rattle.rowex_reading.proofs.Looking.{none_found}
 use Rattle.rowex_reading.proofs.SideBySide.{found_group, found_more, found_on, more_searched, none_searched, root_on}

@@ -1,5 +1,5 @@
 -- The root was empty, or the keys before the first of the group have been looked up from its entry.
-use Rattle.std.proofs.Common.{◌≡◌, ℕ, ◌+◌, ◌-◌, ◌*◌, ◌≤◌, length}
+use Rattle.std.proofs.Common.{◌≡◌, ◌-◌, ◌≤◌, length}
 use Rattle.rowex_reading.specs.Lookups.{HaveFound, HaveSearched}
 use Rattle.rowex_reading.specs.Reads.{IsReader}
 use Rattle.rowex_reading.specs.Seen.{IsAtRoot}

@@ -1,8 +1,6 @@
 -- The root for each key, one node down, and the leaves.
-use Rattle.std.proofs.Common.{◌≡◌, ◌∙◌, ◌+◌, ◌*◌, ◌≤◌, ℕ, arith, le_trans, length, length-take-le, subst}
+use Rattle.std.proofs.Common.{◌≡◌, ◌∙◌, ◌+◌, ◌*◌, arith, le_trans, length, length-take-le, subst}
 use Rattle.std.proofs.Math.Nat.{mul-le-mul_left}
-use Rattle.key_bits.specs.declared.TheConstants.{MAX_BYTES}
-use Rattle.compound_node.specs.Nodes.{height_of}
 use Rattle.rowex_reading.specs.Reads.{Reads}
 use Rattle.rowex_reading.proofs.Led.{reader_then, reads_none, reads_trans}
 use Rattle.rowex_reading.proofs.SideBySide.{heights_first, ways_first}
