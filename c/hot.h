@@ -3,7 +3,7 @@
  * hot_open_index makes an index, and hot_open opens a handle on it. A handle is the right to use the index. Calls with different
  * handles may run at the same time; calls with the same handle may not. So give each thread its own handle, or hand a handle over by a
  * lock, by a thread's start or join, or by a sequentially consistent atomic. A call takes effect for all others at once, or not at all; but
- * hot_copy, hot_clear, hot_each and hot_get_packed make several calls, one after the other.
+ * hot_copy, hot_clear, hot_clear_range, hot_pop_first, hot_pop_last, hot_each and hot_get_packed make several calls, one after the other.
  *
  * A key is 0 to HOT_MAX_KEY bytes of any value. Keys are ordered as by memcmp, and a key comes after its own prefixes. The index
  * copies keys: the memory of a key is yours again when the call returns.
@@ -31,7 +31,8 @@
  * made from a signal handler, or after a fork in the child of a process with threads. A call has 48 KiB of stack.
  *
  * A call fails only by its status. None waits for another, except hot_insert, hot_upsert, hot_exchange, hot_remove, hot_remove_if and
- * hot_add; hot_copy and hot_clear, which make such calls; hot_open and hot_stamp, for each other; and hot_stamp and hot_follow, too.
+ * hot_add; hot_copy, hot_clear, hot_clear_range, hot_pop_first and hot_pop_last, which make such calls; hot_open and hot_stamp, for each
+ * other; and hot_stamp and hot_follow, too.
  * Each other call ends after a bounded number of steps, whatever other threads do: a step is one atomic access to a word of the index.
  * Each call below that makes steps gives its bound, for the worst tree that there can be.
  *
@@ -78,8 +79,8 @@ extern const uint8_t hot_last_key[HOT_MAX_KEY];
 #define HOT_TO_END hot_last_key, HOT_MAX_KEY
 
 /* How a call came out. Each call says which of these it returns. From HOT_BUSY to HOT_NO_MEMORY, and from HOT_HELD_BACK on, the call
- * was refused and changed nothing; with any other status it was made. hot_copy, hot_clear, hot_each and hot_get_packed return the status
- * of the first of their calls that was refused: what those before it did stays. */
+ * was refused and changed nothing; with any other status it was made. hot_copy, hot_clear, hot_clear_range, hot_each and hot_get_packed
+ * return the status of the first of their calls that was refused: what those before it did stays. */
 typedef uint32_t hot_status;
 enum {
     HOT_DONE = 0,          /* it was made; there is nothing else to tell */
@@ -291,6 +292,10 @@ hot_status hot_remove_if(hot_handle *handle, const uint8_t *key, size_t length, 
  * HOT_DONE; or HOT_CLOSED, HOT_NO_MEMORY or HOT_FULL_NODES, and then some keys are left. */
 hot_status hot_clear(hot_handle *handle);
 
+/* hot_clear of the keys from `from` to `upto`, both included.
+ * HOT_DONE; or HOT_KEY_TOO_LONG, HOT_CLOSED; or HOT_NO_MEMORY or HOT_FULL_NODES, and then some keys are left. */
+hot_status hot_clear_range(hot_handle *handle, const uint8_t *from, size_t from_length, const uint8_t *upto, size_t upto_length);
+
 /* Gives each key of one index its value in another, in key order and page by page, as hot_scan and hot_upsert do. What other calls
  * change in the first one meanwhile is copied or not.
  * HOT_DONE; or HOT_CLOSED, HOT_NO_MEMORY, HOT_FULL_NODES, HOT_FULL_LEAVES or HOT_KEY_TOO_LONG, and then the rest was not copied. */
@@ -335,6 +340,11 @@ hot_status hot_before(const uint8_t *key, size_t length, uint8_t *previous, size
 hot_status hot_scan_prefix(hot_handle *handle, const uint8_t *prefix, size_t length, const uint8_t *after, size_t after_length,
                            hot_pair *pairs, size_t limit, size_t *count, uint32_t *more);
 
+/* hot_scan_prefix downwards: from the last one if `before` is NULL, else from the one before that key, such as the last one that an
+ * earlier call listed. It writes and answers what hot_scan_reverse does, by as many steps at most. */
+hot_status hot_scan_prefix_reverse(hot_handle *handle, const uint8_t *prefix, size_t length, const uint8_t *before, size_t before_length,
+                                   hot_pair *pairs, size_t limit, size_t *count, uint32_t *more);
+
 /* The head of a packed pair: how many bytes its key has, and its value. */
 typedef struct hot_head {
     uint8_t length;
@@ -377,6 +387,15 @@ hot_status hot_first(hot_handle *handle, const uint8_t *from, size_t length, hot
  * Nothing is written unless it is found. It makes at most 168667 steps.
  * HOT_FOUND, HOT_ABSENT; or HOT_KEY_TOO_LONG, HOT_CLOSED, HOT_NO_MEMORY (only if there was a pair). */
 hot_status hot_last(hot_handle *handle, const uint8_t *upto, size_t length, hot_pair *pair);
+
+/* Removes the first pair whose key is from `from` to `upto`, both included, or the last one, and writes it: by a scan for one pair and then
+ * hot_remove of its key, and again where another call has removed that key meanwhile. So one call alone gets a pair, with the value that
+ * its key had when it was removed. No key of the range before it, or behind it for hot_pop_last, was there all along from the beginning of
+ * that scan to the removal; one that another call puts in meanwhile may be.
+ * HOT_REMOVED; or HOT_ABSENT if a scan found no pair, or HOT_FULL_NODES, HOT_KEY_TOO_LONG, HOT_CLOSED, HOT_NO_MEMORY, and then nothing was
+ * written. */
+hot_status hot_pop_first(hot_handle *handle, const uint8_t *from, size_t from_length, const uint8_t *upto, size_t upto_length, hot_pair *pair);
+hot_status hot_pop_last(hot_handle *handle, const uint8_t *from, size_t from_length, const uint8_t *upto, size_t upto_length, hot_pair *pair);
 
 /* Gives back records that changes have unlinked and that no call can reach any more, and writes how many. Programs need not call
  * it: a change that finds no record free does this itself before it gives up. It makes at most 3 steps, one for each handle of

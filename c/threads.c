@@ -393,8 +393,8 @@ static void test_filling(void) {
         CHECK(hot_destroy(&handles[i]) == HOT_DONE);
 }
 
-/* Fourth test: eight threads on one core set keys again and again. While one is stopped in the middle of a call, it holds back what the
- * others retire, so that they find no record free; they wait, and none is refused. */
+/* Fourth test: eight threads on one core put keys in and take them out. While one is stopped in the middle of a call, it holds back what
+ * the others retire, so that they find no record free; they wait, and none is refused. */
 #define CROWDED 8
 #define FEW_KEYS 800
 #define FEW_LEAVES 3887
@@ -410,12 +410,12 @@ static void *set_keys(void *given) {
     unsigned turn;
     for (turn = 0; turn < me->calls; turn++) {
         key at = key_of(next(&me->state) % FEW_KEYS);
-        uint64_t had;
-        hot_status status = hot_try_upsert(me->handle, at.bytes, DIGITS, turn, &had);
+        int puts = next(&me->state) % 2;
+        hot_status status = puts ? hot_try_upsert(me->handle, at.bytes, DIGITS, turn, NULL) : hot_try_remove(me->handle, at.bytes, DIGITS, NULL);
         me->waits += status == HOT_HELD_BACK;
         if (status == HOT_BUSY || status == HOT_HELD_BACK)
-            status = hot_upsert(me->handle, at.bytes, DIGITS, turn, &had);
-        me->refused += status != HOT_NEW && status != HOT_WAS;
+            status = puts ? hot_upsert(me->handle, at.bytes, DIGITS, turn, NULL) : hot_remove(me->handle, at.bytes, DIGITS, NULL);
+        me->refused += status >= HOT_BUSY;
     }
     return NULL;
 }
@@ -425,7 +425,7 @@ static int keep_to(const cpu_set_t *cores) {
     return sched_setaffinity(0, sizeof *cores, cores) == 0;
 }
 
-/* So many upserts; answers whether any found that other calls held records back. */
+/* So many changes; answers whether any found that other calls held records back. */
 static int test_stopped(unsigned calls) {
     static const hot_stock stock = {FEW_LEAVES, FEW_LEAVES, 0, 0, 0, 0};
     hot_handle handles[CROWDED];
@@ -566,12 +566,66 @@ static void test_telling(void) {
     CHECK(hot_close_index(index) == HOT_DONE);
 }
 
+/* Another test: two threads put keys in, and four take pairs from both ends until all are gone. Each pair is taken once. */
+#define TAKERS 4
+#define JOBS 20000
+
+static unsigned taken[2 * JOBS];
+static int at_work;
+
+static void *put_jobs(void *given) {
+    worker *me = given;
+    unsigned i;
+    for (i = 0; i < JOBS; i++)
+        put_in(me->handle, 2 * i + me->half);
+    __atomic_sub_fetch(&at_work, 1, __ATOMIC_SEQ_CST);
+    return NULL;
+}
+
+static void *take_jobs(void *given) {
+    worker *me = given;
+    for (;;) {
+        int is_last = __atomic_load_n(&at_work, __ATOMIC_SEQ_CST) == 0;
+        hot_pair pair;
+        hot_status status = (me->half ? hot_pop_last : hot_pop_first)(me->handle, hot_last_key, 0, HOT_TO_END, &pair);
+        CHECK(status == HOT_REMOVED || status == HOT_ABSENT);
+        if (status == HOT_REMOVED)
+            CHECK(pair.value < 2 * JOBS && __atomic_add_fetch(&taken[pair.value], 1, __ATOMIC_SEQ_CST) == 1);
+        else if (is_last)
+            return NULL;
+        else
+            sched_yield();
+    }
+}
+
+static void test_jobs(void) {
+    static const hot_stock stock = {20000, 10000, 10000, 10000, 10000, 10000};
+    hot_handle handles[TAKERS + 2];
+    worker workers[TAKERS + 2];
+    pthread_t threads[TAKERS + 2];
+    size_t count;
+    unsigned i;
+    memset(handles, 0, sizeof handles);
+    CHECK(hot_create_with(&stock, handles, TAKERS + 2) == HOT_DONE);
+    at_work = 2;
+    for (i = 0; i < TAKERS + 2; i++) {
+        workers[i].handle = &handles[i];
+        workers[i].half = i % 2;
+        CHECK(pthread_create(&threads[i], NULL, i < TAKERS ? take_jobs : put_jobs, &workers[i]) == 0);
+    }
+    for (i = 0; i < TAKERS + 2; i++)
+        CHECK(pthread_join(threads[i], NULL) == 0);
+    for (i = 0; i < 2 * JOBS; i++)
+        CHECK(taken[i] == 1);
+    CHECK(hot_len(&handles[0], &count) == HOT_DONE && count == 0);
+    for (i = 0; i < TAKERS + 2; i++)
+        CHECK(hot_destroy(&handles[i]) == HOT_DONE);
+}
+
 /* Seventh test: two threads take all their keys out and put them in again, so that nodes merge and split, beside two that scan upwards and
  * downwards. Each scan has every key that stays, and none twice. */
 #define STAYS 16
 #define WAVES 60
-
-static int at_work;
 
 /* The pairs rise from `first` on up to `last`, or fall by a step of -1, and every key that stays is there. */
 static void check_stays(const hot_pair *pairs, size_t count, int first, int step, int last, uint32_t more) {
@@ -726,6 +780,7 @@ int main(void) {
     CHECK(i < 10);
     test_opening();
     test_telling();
+    test_jobs();
     test_waves();
     test_values();
     if (!failures)
