@@ -39,7 +39,7 @@ use Rattle.rowex_reading.proofs.Seeing.{later_trans, held_stable, missed_stable,
 use Rattle.rowex_writing.specs.Asking.{aim_of, aim_where, reply_to, value_in}
 use Rattle.rowex_writing.specs.Attempts.{HasAnswered, HasDone, HasLoadedRoot, HasLooked, HasRefused, IsAttemptCause, IsChangeOf, IsLeafless, refusal_of, revalued, HasFailed, HasMissedKey, IsFullFault, IsFullOfNew, WantsRecord}
 use Rattle.rowex_writing.specs.Changes.{AreAffected, HasChanged, HasNoRoom, HasRun, IsFull, IsPlanned}
-use Rattle.rowex_writing.specs.Locks.{HasMetLock}
+use Rattle.rowex_writing.specs.Locks.{HasMetLock, locks_of}
 use Rattle.rowex_writing.specs.Walks.{nodes_among}
 use Rattle.rowex_writing.specs.Plans.{change, IsCase, IsNewLeafPlan}
 use Rattle.rowex_reading.specs.Ways.{IsWayOf, value_of}
@@ -60,7 +60,8 @@ use Rattle.rowex_writing.proofs.Keeping.{lacks_so}
 use Rattle.rowex_writing.proofs.Onward.{looks_run, reads_run}
 use Rattle.rowex_writing.proofs.Runs.{run_loaded, runs_trans}
 use Rattle.rowex_writing.proofs.Spans.{met_since}
-use Rattle.rowex_writing.specs.Counts.{held_loads, spare_steps}
+use Rattle.record_words.specs.declared.TheConstants.{HEAD_WORDS}
+use Rattle.rowex_writing.specs.Counts.{held_loads, most_nodes, most_steps, most_steps_of, search_steps, spare_steps, value_steps}
 use Rattle.rowex_writing.specs.Jobs.{IsJobFrom}
 use Rattle.rowex_writing.specs.declared.deeds.Job.{Job}
 
@@ -508,6 +509,57 @@ full_of_new k p j m key way aim (Leaf n v (Some q)) span deed fault call same pl
 full_of_new k p j m key way ToInsert (Leaf n v None) span deed fault call same (first, last, is, affected) pinned sure later e whole full = no_answer _ span deed (sym is)
 full_of_new k p j m key way ToUpsert (Leaf n v None) span deed fault call same (first, last, is, affected) pinned sure later e whole full = absurd (subst IsFullFault (whole (ap deed_in is)) full)
 full_of_new k p j m key way ToRemove (Leaf n v None) span deed fault call same (first, last, is, affected) pinned sure later e whole full = removal_may j call (Some v) e
+
+-- ---- how many steps a new value takes
+-- it locks one node, or the anchor
+pub one_lock : (k : Known) (m : ℕ) (key : Key) (way : List PathNode) (aim : Aim) (found : Found) (span : Span) (deed : Deed) → IsPlanned k m key way aim found (a_change span deed) → deed ≡ ValueDeed → locks_of span ≡ 1
+one_lock k m key way aim found span deed planned e =
+    let (number, value, is, len, end) = value_found k m key way aim found span (subst (λ d. IsPlanned k m key way aim found (a_change span d)) e planned) in omega (arith, len, end)
+
+-- a call that aims at a new value of a held key alone
+upserts : (expected v : ℕ) (aim : Aim) → aim_where expected (Some v) ToUpsert ≡ Some aim → aim ≡ ToUpsert
+upserts expected v ToInsert e = absurd (let other : ToUpsert ≡ ToInsert = aim_met (λ a. a ≡ ToInsert) expected (Some v) ToUpsert ToInsert e refl in cc)
+upserts expected v ToUpsert e = refl
+upserts expected v ToRemove e = absurd (let other : ToUpsert ≡ ToRemove = aim_met (λ a. a ≡ ToRemove) expected (Some v) ToUpsert ToRemove e refl in cc)
+
+value_planned : (k : Known) (m : ℕ) (key : Key) (way : List PathNode) (aim : Aim) (n v : ℕ) (span : Span) (deed : Deed) → IsPlanned k m key way aim (Leaf n v None) (a_change span deed) → aim ≡ ToUpsert → deed ≡ ValueDeed
+value_planned k m key way ToInsert n v span deed planned e = absurd (cc)
+value_planned k m key way ToUpsert n v span deed (first, last, is, affected) e = ap deed_in is
+value_planned k m key way ToRemove n v span deed planned e = absurd (cc)
+
+-- the deed of an exchange or an addition
+exchange_values : (k : Known) (m : ℕ) (key : Key) (way : List PathNode) (expected : ℕ) (aim : Aim) (found : Found) (span : Span) (deed : Deed) → aim_where expected (value_of found) ToUpsert ≡ Some aim →
+    IsPlanned k m key way aim found (a_change span deed) → deed ≡ ValueDeed
+exchange_values k m key way expected aim Nothing span deed e planned = absurd (cc)
+exchange_values k m key way expected aim (Leaf n v (Some p)) span deed e planned = absurd (cc)
+exchange_values k m key way expected aim (Leaf n v None) span deed e planned = value_planned k m key way aim n v span deed planned (upserts expected v aim e)
+
+add_values : (k : Known) (m : ℕ) (key : Key) (way : List PathNode) (added : Key) (delta : ℕ) (aim : Aim) (found : Found) (span : Span) (deed : Deed) → aim_of (Add added delta) (value_of found) ≡ Some aim →
+    IsPlanned k m key way aim found (a_change span deed) → deed ≡ ValueDeed
+add_values k m key way added delta aim Nothing span deed e planned = absurd (cc)
+add_values k m key way added delta aim (Leaf n v (Some p)) span deed e planned = absurd (cc)
+add_values k m key way added delta aim (Leaf n v None) span deed e planned = value_planned k m key way aim n v span deed planned (let same : ToUpsert ≡ aim = cc in sym same)
+
+-- a change that was tried makes no more steps than an attempt of its call
+pub tried_few : (layout : Layout) (a b : ℕ) (k : Known) (m : ℕ) (key : Key) (way : List PathNode) (aim : Aim) (found : Found) (span : Span) (deed : Deed) (call : Call) → aim_of call (value_of found) ≡ Some aim →
+    IsPlanned k m key way aim found (a_change span deed) → (deed ≡ ValueDeed → b ≤ a + search_steps most_nodes + HEAD_WORDS + value_steps) → b ≤ a + most_steps layout → b ≤ a + most_steps_of call layout
+tried_few layout a b k m key way aim found span deed (Insert own value) e planned short few = few
+tried_few layout a b k m key way aim found span deed (Upsert own value) e planned short few = few
+tried_few layout a b k m key way aim found span deed (Exchange own expected value) e planned short few = let n = short (exchange_values k m key way expected aim found span deed e planned) in omega (arith, n)
+tried_few layout a b k m key way aim found span deed (Add own delta) e planned short few = let n = short (add_values k m key way own delta aim found span deed e planned) in omega (arith, n)
+tried_few layout a b k m key way aim found span deed (Get own) e planned short few = few
+tried_few layout a b k m key way aim found span deed (Remove own) e planned short few = few
+tried_few layout a b k m key way aim found span deed (RemoveIf own expected) e planned short few = few
+
+-- nor does one that only looks
+pub looked_few : (layout : Layout) (a b : ℕ) (call : Call) → b ≤ a + search_steps most_nodes + HEAD_WORDS → b ≤ a + most_steps_of call layout
+looked_few layout a b (Insert own value) few = omega (arith, few)
+looked_few layout a b (Upsert own value) few = omega (arith, few)
+looked_few layout a b (Exchange own expected value) few = omega (arith, few)
+looked_few layout a b (Add own delta) few = omega (arith, few)
+looked_few layout a b (Get own) few = omega (arith, few)
+looked_few layout a b (Remove own) few = omega (arith, few)
+looked_few layout a b (RemoveIf own expected) few = omega (arith, few)
 
 -- a refusal for want of a leaf record is for want of one
 pub leaves_refused : (full : Full) → refusal_of full ≡ FullLeaves → full ≡ Leaves

@@ -19,7 +19,7 @@ ghost use Rattle.rowex_writing.specs.Merging.{ChangesOn, EndsChange};
 ghost use Rattle.rowex_writing.specs.declared.plan.Deed.TheVariants.{Take};
 ghost use Rattle.rowex_writing.specs.Jobs.{HoldsSpan, IsJobFrom, IsWithinWay};
 ghost use Rattle.rowex_writing.specs.Locks.{HasMadeNoChange, HasMetLock, TriesNodesBy, Works, locks_of, span_numbers};
-ghost use Rattle.rowex_writing.specs.Counts.{change_steps, held_loads, most_locks, most_steps, span_steps};
+ghost use Rattle.rowex_writing.specs.Counts.{change_steps, held_loads, most_locks, most_steps_of, span_steps, value_steps};
 ghost use Rattle.record_words.specs.declared.TheConstants.{HEAD_WORDS};
 
 use crate::asking::{aim_of, found_value, new_value};
@@ -66,7 +66,8 @@ pub enum TryFault {
 /// search found the key absent; an exchange or an addition never.
 ///
 /// If it tries no lock, it makes at most 58 atomic steps, and 26 for each node on the key's way. Else it makes at most 124, and 26 for
-/// each such node. To these come 297 for each lock that it tries, four for each leaf record and two for each node record.
+/// each such node. To these come 297 for each lock that it tries, four for each leaf record and two for each node record. An exchange or an
+/// addition makes at most 66, and 26 for each such node.
 pub fn attempt<G: Gate>(
     table: &HotTable,
     seat: &mut TableSeat,
@@ -86,7 +87,7 @@ pub fn attempt<G: Gate>(
     ensures refused { IfErr result (HasRefused table.now.layout (the_key call.now) seat.old.known seat.new.known build.new.made.items) }
     ensures leafless { IsLeafless TryFault.FullLeaves call.now result }
     ensures full { IfErr result (IsFullOfNew seat.new.known call.now) }
-    ensures few { seat.new.known.steps ≤ seat.old.known.steps + most_steps table.now.layout }
+    ensures few { seat.new.known.steps ≤ seat.old.known.steps + most_steps_of call.now table.now.layout }
 {
     let key = call.key();
     let found = search_way(table, seat, gate, key, way);
@@ -143,6 +144,7 @@ fn try_plan<G: Gate>(
         HasRefused table.now.layout job.now.key.now k seat.new.known build.new.made.items fault) }
     ensures later { IfErr result (λ fault. IsLater seat.old.known seat.new.known) }
     ensures whole { deed ≡ Deed.Value → IfErr result (λ fault. fault ≡ TryFault.Busy) }
+    ensures short { deed ≡ Deed.Value → seat.new.known.steps ≤ seat.old.known.steps + value_steps }
     ensures leafless { deed ≡ Deed.Take → result ≢ Err TryFault.FullLeaves }
 {
     if !lock_and_check_span(table, seat, gate, job) {
@@ -183,6 +185,7 @@ fn change_span<G: Gate>(
     ensures done { result ≡ Ok tt → HasDone seat.old.known seat.new.known deed job.now.key.now job.now.value job.now.found }
     ensures failed { IfErr result (HasFailed table.now.layout job.now seat.old.known seat.new.known build.new.made.items) }
     ensures whole { deed ≡ Deed.Value → result ≡ Ok tt }
+    ensures short { deed ≡ Deed.Value → seat.new.known.steps ≤ seat.old.known.steps + 2 + locks_of job.now.span }
     ensures leafless { deed ≡ Deed.Take → result ≢ Err TryFault.FullLeaves }
 {
     match deed {

@@ -107,3 +107,16 @@ returns-in-Ok-clause-whole g c e = absurd (c.carry_out_deed.ensures.kind e)
 
 pub returns-in-Err-clause-whole : goal.returns-in-Err-clause-whole
 returns-in-Err-clause-whole g c e = absurd (c.carry_out_deed.ensures.kind e)
+
+-- ---- how many steps it takes
+pub returns-in-Value-clause-short : goal.returns-in-Value-clause-short
+returns-in-Value-clause-short g c e = c.store_value.ensures.few
+
+pub returns-in-Take-clause-short : goal.returns-in-Take-clause-short
+returns-in-Take-clause-short g c e = absurd (let z : Take ≡ Value = sym c.in-Take.is ∙ e in cc)
+
+pub returns-in-Ok-clause-short : goal.returns-in-Ok-clause-short
+returns-in-Ok-clause-short g c e = absurd (c.carry_out_deed.ensures.kind e)
+
+pub returns-in-Err-clause-short : goal.returns-in-Err-clause-short
+returns-in-Err-clause-short g c e = absurd (c.carry_out_deed.ensures.kind e)

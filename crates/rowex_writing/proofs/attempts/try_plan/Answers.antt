@@ -6,7 +6,7 @@ use Rattle.rowex_reading.proofs.Seeing.{later_trans}
 use Rattle.rowex_writing.specs.Asking.{aim_of, value_in}
 use Rattle.rowex_writing.specs.Changes.{HasTakenSpan, IsDeedChange, IsPlanned}
 use Rattle.rowex_writing.proofs.Attempted.{ended_run}
-use Rattle.rowex_writing.proofs.Attempting.{planned_again, planned_later, refused_busy, refused_failed, failed_later}
+use Rattle.rowex_writing.proofs.Attempting.{one_lock, planned_again, planned_later, refused_busy, refused_failed, failed_later}
 use Rattle.rowex_writing.proofs.Keeping.{changed_since, made_held}
 use Rattle.rowex_writing.proofs.Runs.{goes_run, run_loaded, runs_trans, works_fresh, works_run}
 use Rattle.rowex_writing.proofs.Valued.{ends_after, held_again, held_few, holds_reads, holds_taken, taken_again}
@@ -164,3 +164,28 @@ returns-in-Err-clause-later g c =
 
 pub returns-in-Err-clause-whole : goal.returns-in-Err-clause-whole
 returns-in-Err-clause-whole g c e = let ok = sym c.in-Err.is ∙ c.change_span.ensures.whole e in absurd cc
+
+-- ---- how many steps a new value takes
+pub returns-then-not-lock_and_check_span-clause-short : goal.returns-then-not-lock_and_check_span-clause-short
+returns-then-not-lock_and_check_span-clause-short g c e =
+    let (m, aim, way, planned) = c.requires.planned in
+    let one = one_lock c.args.seat.now.known m c.args.job.now.key.now c.args.job.now.way.now aim c.args.job.now.found c.args.job.now.span c.args.deed planned e in
+    let (locks, tried, some, upto, each, few) = c.lock_and_check_span.ensures.run in
+    omega (arith, one, upto, few)
+
+pub returns-in_default-clause-short : goal.returns-in_default-clause-short
+returns-in_default-clause-short g c e =
+    let (m, aim, way, planned) = c.requires.planned in
+    let one = one_lock c.args.seat.now.known m c.args.job.now.key.now c.args.job.now.way.now aim c.args.job.now.found c.args.job.now.span c.args.deed planned e in
+    let (locks, tried, some, upto, each, few) = c.lock_and_check_span.ensures.run in
+    omega (arith, one, upto, few, c.load_found_again-found.ensures.few, held_few c.args.job.now.found, c.release_records_and_locks.ensures.few)
+
+pub returns-in-Ok-clause-short : goal.returns-in-Ok-clause-short
+returns-in-Ok-clause-short g c e =
+    let (m, aim, way, planned) = c.requires.planned in
+    let one = one_lock c.args.seat.now.known m c.args.job.now.key.now c.args.job.now.way.now aim c.args.job.now.found c.args.job.now.span c.args.deed planned e in
+    let (locks, tried, some, upto, each, few) = c.lock_and_check_span.ensures.run in
+    omega (arith, one, upto, few, c.load_found_again-found.ensures.few, held_few c.args.job.now.found, c.change_span.ensures.short e)
+
+pub returns-in-Err-clause-short : goal.returns-in-Err-clause-short
+returns-in-Err-clause-short g c e = let ok = sym c.in-Err.is ∙ c.change_span.ensures.whole e in absurd cc
