@@ -378,6 +378,11 @@ hot_status hot_first(hot_handle *handle, const uint8_t *from, size_t length, hot
  * HOT_FOUND, HOT_ABSENT; or HOT_KEY_TOO_LONG, HOT_CLOSED, HOT_NO_MEMORY (only if there was a pair). */
 hot_status hot_last(hot_handle *handle, const uint8_t *upto, size_t length, hot_pair *pair);
 
+/* Counts the keys from `from` to `upto`, both included, and writes their number to `count`: that of the pairs that hot_scan could list in
+ * its place, if it had room for all. It reads few of the keys.
+ * HOT_DONE; or HOT_KEY_TOO_LONG, HOT_CLOSED, and then nothing was written. */
+hot_status hot_count(hot_handle *handle, const uint8_t *from, size_t from_length, const uint8_t *upto, size_t upto_length, size_t *count);
+
 /* Gives back records that changes have unlinked and that no call can reach any more, and writes how many. Programs need not call
  * it: a change that finds no record free does this itself before it gives up. It makes at most 3 steps, one for each handle of
  * the index, and 2 for each record.
