@@ -13,15 +13,15 @@ use Rattle.rowex_scanning.specs.Scanning.{asked_range, request_of}
 use Rattle.rowex_scanning.proofs.Parts.{walk_part}
 use Rattle.rowex_scanning.proofs.Passing.{ahead_later, leaf_at, leaf_reached, passed_more, passed_none}
 use Rattle.rowex_scanning.proofs.Walking.{IsAtEntry, walk_fits, walk_full, walk_past, walk_short}
-use Rattle.rowex_scanning.proofs.scanning.append_pairs_of_leaves.Given as given
-use Rattle.rowex_scanning.proofs.scanning.append_pairs_of_leaves.Goals as goal
-use Rattle.rowex_scanning.proofs.scanning.append_pairs_of_leaves.Goals.{After-take_leaf}
+use Rattle.rowex_scanning.proofs.scanning.take_each_leaf.Given as given
+use Rattle.rowex_scanning.proofs.scanning.take_each_leaf.Goals as goal
+use Rattle.rowex_scanning.proofs.scanning.take_each_leaf.Goals.{After-take_leaf}
 
 -- The walk is at the leaf that was read.
-leaf : (g : given.Over) (c : After-take_leaf g) (top : PathNode) (frames : List PathNode) → AreNext c.args.seat.now.known (request_of c.args.scan.now.range.now) top frames c.args.pairs.now c.args.leaves.now →
+leaf : (g : given.Over) (c : After-take_leaf g) (top : PathNode) (frames : List PathNode) → AreNext c.args.seat.now.known (request_of c.args.scan.now.range.now) top frames (g.S.Tallies.tally c.args.sink.now) c.args.leaves.now →
     IsAtEntry c.args.scan.now.range.now.direction c.loop-index.seat.known (since c.args.seat.now.known) (asked_range c.args.scan.now.range.now)
     (record top { at = place_ahead c.args.scan.now.range.now.direction top.at c.loop-index.index })
-    frames c.loop-index.pairs (Leaf (get_or c.args.leaves.now c.loop-index.index 0))
+    frames (g.S.Tallies.tally c.loop-index.sink) (Leaf (get_or c.args.leaves.now c.loop-index.index 0))
 leaf g c top frames next =
     let (ahead, p) = c.loop-index.invariant.passed top frames next in leaf_at (walk_fits next.bound.0) (let come = next.come in omega (arith, come, c.loop-index-test.true)) p (ahead c.loop-index.index c.loop-index-test.true)
 
@@ -49,6 +49,9 @@ take_leaf-requires-clause-leaf g c =
     let (led, reached) =
     leaf_reached (walk_fits next.bound.0) (let come = next.come in omega (arith, come, c.loop-index-test.true)) p (ahead c.loop-index.index c.loop-index-test.true) c.args.scan.now.table.now.layout in
     (since c.args.seat.now.known, led, reached)
+
+pub take_leaf-requires-clause-few : goal.take_leaf-requires-clause-few
+take_leaf-requires-clause-few g c = let (top, frames, next) = c.requires.next in let i = c.loop-index.invariant in walk_short (i.passed top frames next).1.walk i.reader.1
 
 pub returns-in_err-take_leaf-clause-reads : goal.returns-in_err-take_leaf-clause-reads
 returns-in_err-take_leaf-clause-reads g c = ended g (goal.at.returns-in_err-take_leaf-clause-reads g c).After-take_leaf
@@ -92,5 +95,5 @@ returns-clause-reads g c = let (n, few, reads) = c.loop-index.invariant.reads in
 
 pub returns-clause-taken : goal.returns-clause-taken
 returns-clause-taken g c = λ top frames next.
-    subst (λ z. HavePassed c.loop-index.seat.known (since c.args.seat.now.known) (request_of c.args.scan.now.range.now) frames (top, c.args.pairs.now) z c.loop-index.pairs)
+    subst (λ z. HavePassed c.loop-index.seat.known (since c.args.seat.now.known) (request_of c.args.scan.now.range.now) frames top (g.S.Tallies.tally c.args.sink.now).size z (g.S.Tallies.tally c.loop-index.sink))
     (omega (arith, c.loop-index-test.false, c.loop-index.auto.index-end)) (c.loop-index.invariant.passed top frames next).1
