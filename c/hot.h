@@ -12,15 +12,15 @@
  * leaves its handle open; another thread may go on using it, or close it. hot_close_index frees an index whose handles are closed.
  * hot_create makes an index and opens all its handles at once, and closing the last one frees it.
  *
- * When the index is full. A change writes new records before it retires those that it replaces. Retired records can be used again once
- * the calls that ran at that time, or began soon after, have returned: the next collection gives them back, and a change that finds no
- * record free makes a collection itself, tries again, and then counts all records. If fewer are free than it needs, and none is claimed
- * by a change that is under way or retired, it returns HOT_FULL_NODES or HOT_FULL_LEAVES: keys must be removed first. So it does where
- * the index has one handle. Else other calls hold records back, and it is to be tried again: hot_insert and the like do so, and
- * hot_try_insert and the like return HOT_HELD_BACK. An index has one node record more than asked, up to 4294967295, which insertions
- * leave free for removals: so a full index can be emptied. A thread that is stopped in the middle of a call, even of a look-up or a
- * scan, may hold back everything that is retired meanwhile. The count loads one record after another: with a handful of records to
- * spare, changes that are under way may have a few of them in use for a moment.
+ * When the index is full. A key that is there gets a new value where it stands, which takes no record. Any other change writes new records
+ * before it retires those that it replaces. Retired records can be used again once the calls that ran at that time, or began soon after,
+ * have returned: the next collection gives them back, and a change that finds no record free makes a collection itself, tries again, and
+ * then counts all records. If fewer are free than it needs, and none is claimed by a change that is under way or retired, it returns
+ * HOT_FULL_NODES or HOT_FULL_LEAVES: keys must be removed first. So it does where the index has one handle. Else other calls hold records
+ * back, and it is to be tried again: hot_insert and the like do so, and hot_try_insert and the like return HOT_HELD_BACK. An index has one
+ * node record more than asked, up to 4294967295, which insertions leave free for removals: so a full index can be emptied. A thread that is
+ * stopped in the middle of a call, even of a look-up or a scan, may hold back everything that is retired meanwhile. The count loads one
+ * record after another: with a handful of records to spare, changes that are under way may have a few of them in use for a moment.
  *
  * Keys in calls. A key, a prefix or an end of a range that has more than HOT_MAX_KEY bytes is refused as HOT_KEY_TOO_LONG by each call.
  * The value that a key had is written to `had` if the call says so, and else `had` stays as it is; it may be NULL, if it is not wanted.
@@ -255,17 +255,17 @@ hot_status hot_get_packed(hot_handle *handle, const uint8_t *bytes, const size_t
  * HOT_INSERTED, HOT_EXISTS; or HOT_BUSY, HOT_HELD_BACK, HOT_FULL_NODES, HOT_FULL_LEAVES, HOT_KEY_TOO_LONG, HOT_CLOSED. */
 hot_status hot_try_insert(hot_handle *handle, const uint8_t *key, size_t length, uint64_t value, uint64_t *had);
 
-/* Gives a key a value. If it had one before, that is written to `had`.
+/* Gives a key a value. If it had one before, that is written to `had`. It lacks records only if it found the key absent.
  * HOT_NEW, HOT_WAS; or HOT_BUSY, HOT_HELD_BACK, HOT_FULL_NODES, HOT_FULL_LEAVES, HOT_KEY_TOO_LONG, HOT_CLOSED. */
 hot_status hot_try_upsert(hot_handle *handle, const uint8_t *key, size_t length, uint64_t value, uint64_t *had);
 
 /* Compare and exchange: gives a key a new value if it has the expected one. If it has another, it keeps that, which is written to
- * `had`.
- * HOT_EXCHANGED, HOT_DIFFERS, HOT_ABSENT; or HOT_BUSY, HOT_HELD_BACK, HOT_FULL_NODES, HOT_FULL_LEAVES, HOT_KEY_TOO_LONG, HOT_CLOSED. */
+ * `had`. This and hot_try_add make at most 56488 steps, and one for each handle of the index.
+ * HOT_EXCHANGED, HOT_DIFFERS, HOT_ABSENT; or HOT_BUSY, HOT_KEY_TOO_LONG, HOT_CLOSED. */
 hot_status hot_try_exchange(hot_handle *handle, const uint8_t *key, size_t length, uint64_t expected, uint64_t value, uint64_t *had);
 
 /* Adds to the value of a key that is there, modulo 2 to the power of 64, by one search. The value that it had is written to `had`.
- * HOT_WAS, HOT_ABSENT; or HOT_BUSY, HOT_HELD_BACK, HOT_FULL_NODES, HOT_FULL_LEAVES, HOT_KEY_TOO_LONG, HOT_CLOSED. */
+ * HOT_WAS, HOT_ABSENT; or HOT_BUSY, HOT_KEY_TOO_LONG, HOT_CLOSED. */
 hot_status hot_try_add(hot_handle *handle, const uint8_t *key, size_t length, uint64_t delta, uint64_t *had);
 
 /* Removes a key. If it had a value, that is written to `had`.
@@ -387,6 +387,11 @@ hot_status hot_first(hot_handle *handle, const uint8_t *from, size_t length, hot
  * Nothing is written unless it is found. It makes at most 168667 steps.
  * HOT_FOUND, HOT_ABSENT; or HOT_KEY_TOO_LONG, HOT_CLOSED, HOT_NO_MEMORY (only if there was a pair). */
 hot_status hot_last(hot_handle *handle, const uint8_t *upto, size_t length, hot_pair *pair);
+
+/* Counts the keys from `from` to `upto`, both included, and writes their number to `count`: that of the pairs that hot_scan could list in
+ * its place, if it had room for all. It reads few of the keys.
+ * HOT_DONE; or HOT_KEY_TOO_LONG, HOT_CLOSED, and then nothing was written. */
+hot_status hot_count(hot_handle *handle, const uint8_t *from, size_t from_length, const uint8_t *upto, size_t upto_length, size_t *count);
 
 /* Removes the first pair whose key is from `from` to `upto`, both included, or the last one, and writes it: by a scan for one pair and then
  * hot_remove of its key, and again where another call has removed that key meanwhile. So one call alone gets a pair, with the value that

@@ -123,6 +123,7 @@ static void test_full() {
     const auto change = handles[0].insert("b", 2);
     CHECK(change.what == hot::status::full_leaves && change.is_refused() && !change.had);
     CHECK(std::string(change.text()) == hot_status_text(HOT_FULL_LEAVES));
+    CHECK(handles[0].upsert("a", 2).had == 1 && handles[0].exchange("a", 2, 3).had == 2 && handles[0].try_add("a", 4).had == 3);
 }
 
 // Small indexes are filled to their last node record, and emptied again.

@@ -1,6 +1,7 @@
 /* Tests of the library by threads: two that change keys of all lengths beside two that look up, scan and list; four that make calls
  * by chance where few records are to spare, or none; eight on one core, so that each is stopped in the middle of its calls; eight that
- * share three handles; four that send each other moments; and two that take most keys out and put them in again beside two that scan. */
+ * share three handles; four that send each other moments; two that take most keys out and put them in again beside two that scan;
+ * and four that give held keys new values in a full index. */
 #define _GNU_SOURCE
 #include "hot.h"
 #include "check.h"
@@ -699,6 +700,73 @@ static void test_waves(void) {
         CHECK(hot_destroy(&handles[i]) == HOT_DONE);
 }
 
+/* Eighth test: four threads give held keys new values in an index that is full to the last leaf record. None is refused, each finds the value
+ * that it gave its own key last, and one counter tells of all additions. A new key is refused all the while, and no record moves. */
+#define FULL_LEAVES 100
+#define GIVES 20000
+
+/* Gives a key of its own, whose value is `old`, another in one of three ways. */
+static void give_value(hot_handle *handle, const key *at, uint64_t old, uint64_t value) {
+    uint64_t had = old;
+    hot_status status;
+    switch (value % 3) {
+    case 0:
+        CHECK(hot_upsert(handle, at->bytes, DIGITS, value, &had) == HOT_WAS);
+        break;
+    case 1:
+        CHECK(hot_exchange(handle, at->bytes, DIGITS, old + 1, value, &had) == HOT_DIFFERS && had == old);
+        CHECK(hot_exchange(handle, at->bytes, DIGITS, old, value, NULL) == HOT_EXCHANGED);
+        break;
+    default:
+        do
+            status = hot_try_add(handle, at->bytes, DIGITS, value - old, &had);
+        while (status == HOT_BUSY);
+        CHECK(status == HOT_WAS);
+    }
+    CHECK(had == old);
+}
+
+static void *give_values(void *given) {
+    worker *me = given;
+    const key own = key_of(1 + me->half), all = key_of(0), another = key_of(NUMBERS);
+    uint64_t turn;
+    for (turn = 1; turn <= GIVES; turn++) {
+        give_value(me->handle, &own, turn - 1, turn);
+        CHECK(hot_add(me->handle, all.bytes, DIGITS, 1, NULL) == HOT_WAS);
+        if (turn % 64 == 0)
+            CHECK(hot_insert(me->handle, another.bytes, DIGITS, turn, NULL) == HOT_FULL_LEAVES);
+    }
+    return NULL;
+}
+
+static void test_values(void) {
+    hot_handle handles[4] = {HOT_HANDLE, HOT_HANDLE, HOT_HANDLE, HOT_HANDLE};
+    const key all = key_of(0);
+    worker workers[4];
+    pthread_t threads[4];
+    hot_counts before, after;
+    uint32_t given[2];
+    uint64_t sum = 0;
+    unsigned i;
+    CHECK(hot_create(FULL_LEAVES, FULL_LEAVES, handles, 4) == HOT_DONE);
+    for (i = 0; i < FULL_LEAVES; i++) {
+        key at = key_of(i);
+        CHECK(hot_insert(&handles[0], at.bytes, DIGITS, 0, NULL) == HOT_INSERTED);
+    }
+    CHECK(hot_collect(&handles[0], &given[0], &given[1]) == HOT_DONE && hot_census(&handles[0], &before) == HOT_DONE);
+    for (i = 0; i < 4; i++) {
+        workers[i].handle = &handles[i];
+        workers[i].half = i;
+        CHECK(pthread_create(&threads[i], NULL, give_values, &workers[i]) == 0);
+    }
+    for (i = 0; i < 4; i++)
+        CHECK(pthread_join(threads[i], NULL) == 0);
+    CHECK(hot_get(&handles[0], all.bytes, DIGITS, &sum) == HOT_FOUND && sum == 4 * GIVES);
+    CHECK(hot_census(&handles[0], &after) == HOT_DONE && after.long_leaves.live == FULL_LEAVES && after.nodes.live == before.nodes.live);
+    for (i = 0; i < 4; i++)
+        CHECK(hot_destroy(&handles[i]) == HOT_DONE);
+}
+
 int main(void) {
     /* Keys, nodes and leaves: room for all; more keys than leaves; one node, which comes and goes. */
     static const unsigned crowds[5][3] = {{500, 60, 520}, {12, 16, 8}, {5, 1, 16}, {3, 1, 2}, {2, 1, 1}};
@@ -714,6 +782,7 @@ int main(void) {
     test_telling();
     test_jobs();
     test_waves();
+    test_values();
     if (!failures)
         puts("passed: threads that read while others change keys of all lengths, or make nodes merge, threads where few records are to spare, and threads that are stopped");
     return failures;
