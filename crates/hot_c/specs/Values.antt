@@ -1,5 +1,5 @@
 -- What a scan of values by a program in C says.
-use Rattle.std.specs.Prelude.{◌≡◌, ◌⊎◌, ℕ, ◌≤◌, List, length, take, drop, Bool, Option, None, IsSome}
+use Rattle.std.specs.Prelude.{◌≡◌, ◌⊎◌, ◌++◌, ℕ, ◌≤◌, List, length, drop, Bool, Option, None, IsSome}
 use Rattle.std.specs.Int.{from_bool}
 use Rattle.hot_index_calls.specs.Answers.{AreValuesListed, HasFoundPair, IsUnnoted, range_from}
 use Rattle.hot_index_calls.specs.Traces.{HasGotRange, untold}
@@ -19,8 +19,7 @@ valued room count more = record { room = room; count = count; more = more }
 -- the array begins with these values, for which it has room, and is otherwise as it was
 pub record AreWritten (values : List ℕ) (is_more : Bool) (before after : Valued) : Type 0 where
   pub short : length values ≤ length before.room
-  pub written : take (length values) after.room ≡ values
-  pub others : drop (length values) after.room ≡ drop (length values) before.room
+  pub written : after.room ≡ values ++ drop (length values) before.room
   pub count : after.count ≡ length values
   pub more : after.more ≡ from_bool is_more
 

@@ -1,6 +1,6 @@
 //! The values of a range, without their keys, for programs in C.
 
-ghost use Rattle.std.specs.Prelude.{◌≡◌};
+ghost use Rattle.std.specs.Prelude.{◌++◌, ◌≡◌, ◌≤◌, drop, length};
 ghost use Rattle.hot_c.specs.Values.{ListsValues, valued};
 
 use crate::handle::Handle;
@@ -40,11 +40,19 @@ pub extern "C" fn hot_scan_values(
         .scan_values_into(&first, &last, room.len(), &mut values)
     {
         Ok(is_more) => {
-            room[..values.len()].copy_from_slice(&values);
+            write_values(&values, room);
             *count = values.len();
             *more = u32::from(is_more);
             DONE
         }
         Err(_) => NO_MEMORY,
     }
+}
+
+/// Writes `values` to the first places of `room`, which has room for them.
+fn write_values(values: &[u64], room: &mut [u64])
+    requires { length values.now ≤ length room.old }
+    ensures { room.new ≡ values.now ++ drop (length values.now) room.old }
+{
+    room[..values.len()].copy_from_slice(values);
 }
