@@ -13,6 +13,7 @@ pub record Valued : Type 0 where
   pub count : ℕ
   pub more : ℕ
 
+-- what C sees of a scan, with these values
 abbrev pub valued : List ℕ → ℕ → ℕ → Valued
 valued room count more = record { room = room; count = count; more = more }
 
@@ -31,7 +32,8 @@ pub record ListsValues (from upto : List ℕ) (old new : Option Opened) (before 
   pub long : IsSome old → ¬ (FitsInKey from × FitsInKey upto) → (status ≡ KEY_TOO_LONG) × (new ≡ old) × (after ≡ before)
   pub made : IsSome old → FitsInKey from → FitsInKey upto →
       ((status ≡ DONE) × (values : List ℕ) × (is_more : Bool) ×
-      StaysOpen (λ index k j. AreValuesListed index.layout k j (range_from from upto (length before.room)) values is_more) old new × AreWritten values is_more before after)
+      StaysOpen (λ index k j. AreValuesListed index.layout k j (range_from from upto (length before.room)) values is_more) old new
+      × AreWritten values is_more before after)
       ⊎ ((status ≡ NO_MEMORY) × StaysOpen (λ index k j. IsUnnoted index.layout k j × HasFoundPair index.layout k j (range_from from upto (length before.room))) old new
       × (after ≡ before))
   pub read : IsSome old → FitsInKey from → FitsInKey upto → StaysOpen (λ index k j. HasGotRange index untold (length before.room) (k, tt) (j, tt)) old new

@@ -70,7 +70,8 @@ pub(crate) trait Sink: Tallies {
         requires origins { scan.now.origins.now.layout ≡ scan.now.table.now.layout }
         requires next { (top : PathNode) × (frames : List PathNode) × AreNext seat.old.known (request_of scan.now.range.now) top frames (Self.tally self.old) leaves.now }
         ensures reads { (n : ℕ) × (n ≤ LEAF_FIELDS * length leaves.now) × Reads scan.now.table.now G.becomes 0 n (seat.old, gate.old) (seat.new, gate.new) }
-        ensures taken { IfOk result (AreTakenOnWays seat.old.known seat.new.known (request_of scan.now.range.now) (Self.tally self.old) leaves.now (Self.tally self.new)) }
+        ensures taken { IfOk result (AreTakenOnWays seat.old.known seat.new.known (request_of scan.now.range.now) (Self.tally self.old) leaves.now
+            (Self.tally self.new)) }
         ensures part { OnErr result (HasTakenPart scan.now.range.now.direction seat.new.known (asked_range scan.now.range.now) (Self.tally self.new)) }
         ensures refused { OnErr result Self.may_refuse };
 }
