@@ -37,6 +37,10 @@ static void call(hot_handle *handle, const char *kind, uint64_t number)
     case 'g':
         must(hot_get(handle, key, length, &had), HOT_FOUND);
         break;
+    case 'c': /* half of the keys, on average */
+        memset(upto, 0xff, sizeof upto);
+        must(hot_count(handle, key, length, upto, sizeof upto, &found), HOT_DONE);
+        break;
     case 'p':
         memset(upto, 0xff, sizeof upto);
         must(hot_scan_packed(handle, key, length, upto, sizeof upto, bytes, sizeof bytes, heads, PAGE, &found, &more), HOT_DONE);
@@ -52,8 +56,8 @@ int main(int words, char **word)
     uint64_t keys = words > 3 ? strtoull(word[2], NULL, 10) : 0, calls = words > 3 ? strtoull(word[3], NULL, 10) : 0, number;
     hot_handle handle = HOT_HANDLE;
     int of = words == 5 && !strcmp(word[4], "urls") ? PAGES : RANDOM;
-    if (words != (of == PAGES ? 5 : 4) || !strchr("iuaergsp", word[1][0]) || keys < 1 || keys > MOST_KEYS || calls > keys || calls > MOST_CALLS) {
-        fprintf(stderr, "usage: count insert|upsert|add|exchange|remove|get|scan|packed KEYS CALLS [urls]    at most 200,000 and 20,000, and no more calls than keys\n");
+    if (words != (of == PAGES ? 5 : 4) || !strchr("iuaergspc", word[1][0]) || keys < 1 || keys > MOST_KEYS || calls > keys || calls > MOST_CALLS) {
+        fprintf(stderr, "usage: count insert|upsert|add|exchange|remove|get|scan|packed|count KEYS CALLS [urls]    at most 200,000 and 20,000, and no more calls than keys\n");
         return 2;
     }
     must(hot_create(MOST_KEYS / 8, MOST_KEYS + 2 * MOST_CALLS, &handle, 1), HOT_DONE);

@@ -393,6 +393,11 @@ hot_status hot_last(hot_handle *handle, const uint8_t *upto, size_t length, hot_
  * HOT_DONE; or HOT_KEY_TOO_LONG, HOT_CLOSED, and then nothing was written. */
 hot_status hot_count(hot_handle *handle, const uint8_t *from, size_t from_length, const uint8_t *upto, size_t upto_length, size_t *count);
 
+/* hot_scan of values alone: writes those of the first `limit` pairs to `values`, for which it has room. It answers what hot_scan does, and
+ * makes no more steps than hot_scan may. It names no key to go on from: hot_count tells how much room takes them all. */
+hot_status hot_scan_values(hot_handle *handle, const uint8_t *from, size_t from_length, const uint8_t *upto, size_t upto_length,
+                           uint64_t *values, size_t limit, size_t *count, uint32_t *more);
+
 /* Removes the first pair whose key is from `from` to `upto`, both included, or the last one, and writes it: by a scan for one pair and then
  * hot_remove of its key, and again where another call has removed that key meanwhile. So one call alone gets a pair, with the value that
  * its key had when it was removed. No key of the range before it, or behind it for hot_pop_last, was there all along from the beginning of

@@ -565,6 +565,17 @@ class handle {
     }
     [[nodiscard]] std::size_t count_prefix(key_view prefix) { return count(prefix, last_with(prefix)); }
 
+    /// The values of the keys from one key to another, both included, in key order: hot_scan_values.
+    [[nodiscard]] std::vector<std::uint64_t> values(key_view from, key_view upto) {
+        std::vector<std::uint64_t> found(count(from, upto) + page);
+        std::size_t listed = 0;
+        for (std::uint32_t more = 1; more != 0;) {
+            check(hot_scan_values(it(), bytes(from), from.size(), bytes(upto), upto.size(), found.data(), found.size(), &listed, &more));
+            found.resize(more != 0 ? found.size() * 2 : listed);
+        }
+        return found;
+    }
+
     /// The first pair whose key is `from` or above, and the last one whose key is `upto` or below: those of all keys, if none is given.
     [[nodiscard]] std::optional<entry> first(key_view from = {}) { return end(hot_first, from); }
     [[nodiscard]] std::optional<entry> last(key_view upto) { return end(hot_last, upto); }

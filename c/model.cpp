@@ -152,6 +152,10 @@ class random_calls {
         const std::size_t page = 1 + below(70);
         auto wanted = listed(from, after);
         CHECK(handle_.scan(from, upto, page).entries() == wanted && handle_.count(from, upto) == wanted.size());
+        std::vector<std::uint64_t> values;
+        for (const hot::entry &it : wanted)
+            values.push_back(it.value);
+        CHECK(handle_.values(from, upto) == values);
         CHECK(handle_.scan_half_open(from, upto, page).entries() == listed(from, upto));
         const std::size_t count = std::min(wanted.size(), page);
         CHECK(handle_.scan_last(from, upto, page).entries() == std::vector(wanted.end() - static_cast<std::ptrdiff_t>(count), wanted.end()));

@@ -9,6 +9,7 @@ pub mod Calls
 pub mod Orders
 pub mod Scans
 pub mod Counting
+pub mod Values
 pub mod Packs
 pub mod Ends
 pub mod Stocks

@@ -18,3 +18,4 @@ mod scans;
 mod slot;
 mod status;
 mod stock;
+mod values;

@@ -15,7 +15,8 @@ use Rattle.rowex_reading.proofs.Loading.{pinned_by}
 use Rattle.rowex_reading.specs.Seen.{Sure, seen, since}
 use Rattle.rowex_scanning.proofs.Scanned.{lawful_scan}
 use Rattle.version_laws.specs.Directions.{IsAnswer, IsLawfulBy}
-use Rattle.rowex_scanning.specs.Scanning.{HasScanned, HasScannedPart, limited}
+use Rattle.rowex_scanning.specs.Scanning.{HasScanned, HasScannedPart, HasTakenPart, limited}
+use Rattle.rowex_scanning.specs.Tallies.{Tally}
 use Rattle.version_laws.specs.declared.direction.Direction.{Direction}
 use Rattle.version_laws.specs.declared.direction.Direction.TheVariants.{Upwards, Downwards}
 use Rattle.rowex_table.specs.Runs.{silent}
@@ -76,9 +77,12 @@ module _ {layout : Layout} {i : Known} (s t : SeatView) (looks : HasLooked s.kno
       let (key, value, within, held, past) = l.further refl in
       record { on = goes_on s t looks.on event; room = room; key = key; value = value; within = within; held = held }
 
+  further : (x : Past) (n : ℕ) (taken : List Pair) (d : Direction) → IsAnswer d x (since i) (limited g n) taken true → (key : Key) × (value : ℕ) × IsInRange g key × IsHeldSince x (since i) key value
+  further x n taken Upwards cut = let (key, value, inside, held, past) = cut.further in (key, value, inside, held)
+  further x n taken Downwards cut = let (key, value, inside, held, past) = cut.further in (key, value, inside, held)
+
   pub part_found : (d : Direction) {pairs : List (Key × ℕ)} → HasScannedPart d i g pairs → HasFoundPair layout (pass_of s) (pass_of t) g
   part_found d {pairs} h = sure_found (let short = h.0 in omega (arith, short)) (λ c lawful recalls. further (seen c i) (length pairs) h.1.taken d (h.1.answer c lawful recalls))
-    where
-      further : (x : Past) (n : ℕ) (taken : List Pair) (d : Direction) → IsAnswer d x (since i) (limited g n) taken true → (key : Key) × (value : ℕ) × IsInRange g key × IsHeldSince x (since i) key value
-      further x n taken Upwards cut = let (key, value, inside, held, past) = cut.further in (key, value, inside, held)
-      further x n taken Downwards cut = let (key, value, inside, held, past) = cut.further in (key, value, inside, held)
+
+  pub taken_found : (d : Direction) (u : Tally) → HasTakenPart d i g u → HasFoundPair layout (pass_of s) (pass_of t) g
+  taken_found d u h = sure_found (let short = h.0 in omega (arith, short)) (λ c lawful recalls. let (taken, tallied, answer) = h.1 c lawful recalls in further (seen c i) u.size taken d answer)

@@ -8,7 +8,7 @@ ghost use Rattle.key_counts.specs.Counts.{IsCountOf};
 ghost use Rattle.rowex_table.specs.Seats.{IsShownAll};
 ghost use Rattle.rowex_writing.specs.declared.attempts.TryFault.TheVariants.{Busy};
 ghost use Rattle.hot_index_calls.specs.Answers.{HaveMet, IsNoted, IsUnnoted, got, range_from};
-ghost use Rattle.hot_index_calls.specs.Calls.{IsAwaited, IsCallCounted, IsCallTried, IsCountRead, IsListRead, IsListReadBy, IsRangeRead, IsScanRead, IsScanReadBy, IsTried};
+ghost use Rattle.hot_index_calls.specs.Calls.{IsAwaited, IsCallCounted, IsCallTried, IsCountRead, IsListRead, IsListReadBy, IsRangeRead, IsScanRead, IsScanReadBy, IsTried, IsValuesRead};
 ghost use Rattle.hot_index_calls.specs.Census.{HasCounted};
 ghost use Rattle.hot_index.specs.Handles.{Stays, handle_at};
 ghost use Rattle.hot_index_calls.specs.Many.{AreNoted, HasGotMany, gets};
@@ -278,6 +278,22 @@ impl<I: ShowsIndex> Handle<I> {
         self.index
             .show()
             .scan_into(&mut self.pass, from, upto, limit, pairs)
+    }
+
+    /// Replaces what `values` holds with the values of the first `limit` pairs from `from` to `upto`, and returns whether there are more.
+    /// If memory is refused, an error: `values` then has the first of these. As `Index::scan_values_into`.
+    pub fn scan_values_into(
+        &mut self,
+        from: &Key,
+        upto: &Key,
+        limit: usize,
+        values: &mut Vec<u64>,
+    ) -> Result<bool, AllocError>
+        ensures call { Stays (IsValuesRead (range_from from.now upto.now limit) values.new.items result) self.old self.new }
+    {
+        self.index
+            .show()
+            .scan_values_into(&mut self.pass, from, upto, limit, values)
     }
 
     /// How many keys there are from `from` to `upto`, both included, as `Index::count_range` returns.

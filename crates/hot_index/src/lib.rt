@@ -43,6 +43,7 @@ mod handle;
 mod index;
 pub mod laws;
 mod range_counts;
+mod range_values;
 mod ranges;
 mod reverse;
 mod scans;

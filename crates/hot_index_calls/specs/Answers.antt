@@ -1,5 +1,5 @@
 -- What calls of an index say.
-use Rattle.std.specs.Prelude.{◌≡◌, ◌≢◌, ◌⊎◌, ℕ, ◌<◌, ◌≤◌, List, [], ◌∷◌, ◌++◌, length, slice_get, take, Bool, true, IsTrue, Option, Some, None}
+use Rattle.std.specs.Prelude.{◌≡◌, ◌≢◌, ◌⊎◌, ℕ, ◌<◌, ◌≤◌, List, [], ◌∷◌, ◌++◌, length, map, slice_get, take, Bool, true, IsTrue, Option, Some, None}
 use Rattle.std.specs.Option.{option_to_list}
 use Rattle.finite_map.specs.declared.Change.{Change}
 use Rattle.finite_map.specs.declared.Call.{Call}
@@ -92,6 +92,18 @@ pub record IsRangeCounted (layout : Layout) (k j : PassView) (range : Range) (nu
   pub number_is : number ≡ length pairs
   pub more : Bool
   pub listed : IsListed layout k j range pairs more
+
+-- The values of a range were listed, whether there is a further one. It adds no note; and they are those of the pairs of some list that a
+-- lawful scan gives, at most as many as the limit.
+pub record AreValuesListed (layout : Layout) (k j : PassView) (range : Range) (values : List ℕ) (more : Bool) : Type 0 where
+  pub few : length values ≤ range.limit
+  pub pairs : List (Key × ℕ)
+  pub values_are : values ≡ map (λ (e : Key × ℕ). e.1) pairs
+  pub listed : IsListed layout k j range pairs more
+
+-- They were refused memory: they are as those that were cut at their number, which is less than the limit.
+abbrev pub AreValuesListedInPart : Layout → PassView → PassView → Range → List ℕ → Type 0
+AreValuesListedInPart layout k j range values = (length values < range.limit) × AreValuesListed layout k j (limited range (length values)) values true
 
 -- A scan upwards into a list ran out of memory: it is as one that was cut at the number of its pairs.
 abbrev pub IsListedInPart : Layout → PassView → PassView → Range → List (Key × ℕ) → Type 0

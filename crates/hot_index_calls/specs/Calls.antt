@@ -16,7 +16,7 @@ use Rattle.rowex_writing.specs.declared.plan.Full.TheVariants.{Leaves}
 use Rattle.version_laws.specs.Scan.{Range}
 use Rattle.tries.specs.Keys.{Key}
 use Rattle.version_laws.specs.Directions.{ScanLaw}
-use Rattle.hot_index_calls.specs.Answers.{HasFoundPair, IsListedBy, IsListedInPartBy, IsNoted, IsRangeCounted, IsRefused, IsScannedBy, IsUnnoted, MayRefuse, fault_of}
+use Rattle.hot_index_calls.specs.Answers.{AreValuesListed, AreValuesListedInPart, HasFoundPair, IsListedBy, IsListedInPartBy, IsNoted, IsRangeCounted, IsRefused, IsScannedBy, IsUnnoted, MayRefuse, fault_of}
 use Rattle.hot_index_calls.specs.Refusals.{IsPassing, IsCountTold, as_tried, fault_in}
 use Rattle.hot_index_calls.specs.declared.census.RecordCounts.{RecordCounts}
 use Rattle.hot_index_calls.specs.declared.refusals.Refusal.{Refusal}
@@ -178,3 +178,13 @@ IsCountReadWith range number index becomes a b =
 -- the same, where nobody is told of its steps
 abbrev pub IsCountRead : Range → ℕ → TableView → PassView → PassView → Type 0
 IsCountRead range number index k j = IsCountReadWith range number index untold (k, tt) (j, tt)
+
+-- The values of a range were listed, by its steps, of which the gate was told.
+abbrev pub IsValuesReadWith : {E G : Type 0} → Range → List ℕ → Result Bool E → TableView → (G → Event → G → Type 0) → PassView × G → PassView × G → Type 0
+IsValuesReadWith range values result index becomes a b =
+    IsRangeReadWith (λ layout k j. AreValuesListed layout k j range values) (λ layout k j. AreValuesListedInPart layout k j range values)
+    range result index becomes a b
+
+-- the same, where nobody is told of its steps
+abbrev pub IsValuesRead : {E : Type 0} → Range → List ℕ → Result Bool E → TableView → PassView → PassView → Type 0
+IsValuesRead range values result index k j = IsValuesReadWith range values result index untold (k, tt) (j, tt)

@@ -1,6 +1,6 @@
 -- What a scan gives is lawful.
-use Rattle.std.proofs.Common.{◌≡◌, ℕ, ◌≤◌, List, [], ◌∷◌, ◌++◌, length, Bool, true, false, Some, refl, ap, sym, ◌∙◌, subst, arith, le_refl}
-use Rattle.std.proofs.lemmas.List.{append-nil, append_assoc}
+use Rattle.std.proofs.Common.{◌≡◌, ℕ, ◌≤◌, List, [], ◌∷◌, ◌++◌, length, map, Bool, true, false, Some, refl, ap, sym, ◌∙◌, subst, arith, le_refl}
+use Rattle.std.proofs.lemmas.List.{append-nil, append_assoc, map-append}
 use Rattle.finite_map.specs.declared.Change.{Change}
 use Rattle.finite_map.specs.declared.Note.{Note}
 use Rattle.finite_map.specs.declared.Scan.{Scan}
@@ -18,7 +18,7 @@ use Rattle.version_laws.proofs.Fronts.{scan_is_lawful}
 use Rattle.rowex_reading.specs.Seen.{seen, since}
 use Rattle.version_laws.specs.Directions.{IsAnswer, IsLawfulBy}
 use Rattle.rowex_scanning.specs.Scanning.{HasScanned, HasTaken}
-use Rattle.rowex_scanning.specs.Tallies.{tally_of_pairs}
+use Rattle.rowex_scanning.specs.Tallies.{tally_of_pairs, values_taken}
 use Rattle.version_laws.specs.declared.direction.Direction.{Direction}
 use Rattle.rowex_reading.proofs.Seeing.{seen_told, seen_steady}
 use Rattle.rowex_reading.proofs.Later.{event_recalls}
@@ -70,3 +70,8 @@ taken_scanned {d} {k} {g} {pairs} {more} h = record {
 pub answer_short : (d : Direction) (s : Past) (m : ℕ) (g : Range) (taken : List Pair) (more : Bool) → IsAnswer d s m g taken more → length taken ≤ g.limit
 answer_short d s m g taken false answer = answer.short
 answer_short d s m g taken true answer = let full = answer.full in omega (arith, full)
+
+-- The values that were taken are those of the pairs.
+pub values_of_pairs : (taken : List Pair) → values_taken taken ≡ map (λ (e : Key × ℕ). e.1) (in_order_taken taken)
+values_of_pairs [] = refl
+values_of_pairs (x ∷ xs) = ap (λ z. z ++ x.value ∷ []) (values_of_pairs xs) ∙ sym (map-append (λ (e : Key × ℕ). e.1) (in_order_taken xs) ((x.key, x.value) ∷ []))

@@ -1,5 +1,5 @@
 -- What a walk keeps of the pairs that it takes: all of them, or a part.
-use Rattle.std.specs.Prelude.{◌≡◌, ℕ, ◌+◌, List, [], ◌∷◌, length}
+use Rattle.std.specs.Prelude.{◌≡◌, ℕ, ◌+◌, List, [], ◌∷◌, ◌++◌, length}
 use Rattle.tries.specs.Keys.{Key}
 use Rattle.versions.specs.State.{Past}
 use Rattle.version_laws.specs.Scan.{Pair, Range, Frame as Stage, in_order_taken}
@@ -34,6 +34,15 @@ tally_of_number n = record { size = n; says = λ taken. Unit {0} }
 -- these are the pairs, in the order in which they were taken
 abbrev pub tally_of_pairs : List (Key × ℕ) → Tally
 tally_of_pairs pairs = record { size = length pairs; says = λ taken. pairs ≡ in_order_taken taken }
+
+-- the values of pairs, in the order in which they were taken
+abbrev pub values_taken : List Pair → List ℕ
+values_taken [] = []
+values_taken (x ∷ xs) = values_taken xs ++ x.value ∷ []
+
+-- these are the values
+abbrev pub tally_of_values : List ℕ → Tally
+tally_of_values values = record { size = length values; says = λ taken. values ≡ values_taken taken }
 
 -- a scan has taken such pairs on this way
 abbrev pub IsTalliedScan : Direction → Past → ℕ → Range → List Stage → Tally → Type 0

@@ -16,7 +16,7 @@ ghost use Rattle.rowex_scanning.specs.Counts.{Scans, Walks, scan_loads};
 ghost use Rattle.version_laws.specs.Directions.{IsEarlier, IsNoLater};
 ghost use Rattle.rowex_scanning.specs.Scanning.{HasScanned, HasScannedPart, HasTaken, HasTakenPart};
 ghost use Rattle.rowex_scanning.specs.Scanning.{IsEntered, IsLeafRefused, IsLeafTaken, IsPairRefused, IsPairTaken, IsReached, IsWalkAlong, asked_range, first_key_of, last_key_of, request_of};
-ghost use Rattle.rowex_scanning.specs.Tallies.{IsNone};
+ghost use Rattle.rowex_scanning.specs.Tallies.{IsNone, tally_of_values};
 
 use crate::ahead::{MOST_AHEAD, load_entries_ahead};
 use crate::direction::{
@@ -95,6 +95,27 @@ pub fn scan_root<G: Gate>(
     ensures few { seat.new.known.steps ≤ seat.old.known.steps + (1 + scan_loads range.now.limit) }
 {
     walk_root(table, seat, gate, way, range, pairs)
+}
+
+/// Does what [`scan_root`] does, but lists the values of the pairs alone.
+#[inline(always)]
+pub fn scan_values<G: Gate>(
+    table: &HotTable,
+    seat: &mut TableSeat,
+    gate: &mut G,
+    way: &mut ArrayVec<PathNode, MOST_NODES>,
+    range: &Range,
+    values: &mut Vec<u64>,
+) -> Result<bool, AllocError>
+    requires own { IsSeatOf table.now seat.old }
+    requires pinned { IsSome seat.old.known.pin }
+    ensures looks { Scans table.now G.becomes range.now.limit (seat.old, gate.old) (seat.new, gate.new) }
+    ensures keys { IsKey range.now.from.now × IsKey range.now.upto.now }
+    ensures scanned { IfOk result (HasTaken range.now.direction seat.new.known (asked_range range.now) (tally_of_values values.new.items)) }
+    ensures part { OnErr result (HasTakenPart range.now.direction seat.new.known (asked_range range.now) (tally_of_values values.new.items)) }
+    ensures few { seat.new.known.steps ≤ seat.old.known.steps + (1 + scan_loads range.now.limit) }
+{
+    walk_root(table, seat, gate, way, range, values)
 }
 
 /// Gives `sink` the first pairs of `range` in its direction, `range.limit` at most, in place of those that it has. Returns whether there is

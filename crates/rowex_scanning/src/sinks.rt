@@ -1,4 +1,4 @@
-//! What a walk keeps of the pairs that it takes: a list of them, or their number.
+//! What a walk keeps of the pairs that it takes: a list of them, or of their values; `counting.rt` has their number.
 
 ghost use Rattle.std.specs.Prelude.{◌*◌, ◌<◌, ◌≡◌, ◌≤◌, ◌^◌, ◌-◌, ℕ, IfOk, List, OnErr, OnOk, length, take};
 ghost use Rattle.insert_cases.specs.declared.choice.PathNode.{PathNode};
@@ -70,7 +70,8 @@ pub(crate) trait Sink: Tallies {
         requires origins { scan.now.origins.now.layout ≡ scan.now.table.now.layout }
         requires next { (top : PathNode) × (frames : List PathNode) × AreNext seat.old.known (request_of scan.now.range.now) top frames (Self.tally self.old) leaves.now }
         ensures reads { (n : ℕ) × (n ≤ LEAF_FIELDS * length leaves.now) × Reads scan.now.table.now G.becomes 0 n (seat.old, gate.old) (seat.new, gate.new) }
-        ensures taken { IfOk result (AreTakenOnWays seat.old.known seat.new.known (request_of scan.now.range.now) (Self.tally self.old) leaves.now (Self.tally self.new)) }
+        ensures taken { IfOk result (AreTakenOnWays seat.old.known seat.new.known (request_of scan.now.range.now) (Self.tally self.old) leaves.now
+            (Self.tally self.new)) }
         ensures part { OnErr result (HasTakenPart scan.now.range.now.direction seat.new.known (asked_range scan.now.range.now) (Self.tally self.new)) }
         ensures refused { OnErr result Self.may_refuse };
 }
@@ -113,6 +114,55 @@ impl Tallies for Pairs {
 }
 
 impl Sink for Pairs {
+    #[inline(always)]
+    fn take_leaves<G: Gate>(
+        &mut self,
+        scan: &Scan,
+        seat: &mut TableSeat,
+        gate: &mut G,
+        leaves: &[u32],
+        places: &mut [u8; MAX_BYTES],
+    ) -> Result<Verdict, AllocError> {
+        take_each_leaf(scan, seat, gate, leaves, places, self)
+    }
+}
+
+impl Tallies for Vec<u64> {
+    ghost use Rattle.rowex_scanning.specs.Tallies.{tally_of_values};
+
+    ghost tally = { λ values. tally_of_values values.items };
+
+    ghost may_refuse = { Unit {0} };
+
+    #[inline(always)]
+    fn reset(&mut self) {
+        self.clear();
+    }
+
+    #[inline(always)]
+    fn size(&self) -> usize {
+        self.len()
+    }
+
+    /// They are touched if they are several.
+    #[inline(always)]
+    fn should_touch_leaves(&self, count: u8) -> bool {
+        count > 1
+    }
+
+    #[inline(always)]
+    fn take_pair(
+        &mut self,
+        _places: &[u8; MAX_BYTES],
+        _length: usize,
+        value: u64,
+    ) -> Result<(), AllocError> {
+        self.push(value)?;
+        Ok(())
+    }
+}
+
+impl Sink for Vec<u64> {
     #[inline(always)]
     fn take_leaves<G: Gate>(
         &mut self,

@@ -1,0 +1,58 @@
+//! The values of a range, without their keys, for programs in C.
+
+ghost use Rattle.std.specs.Prelude.{◌++◌, ◌≡◌, ◌≤◌, drop, length};
+ghost use Rattle.hot_c.specs.Values.{ListsValues, valued};
+
+use crate::handle::Handle;
+use crate::status::{CLOSED, DONE, KEY_TOO_LONG, NO_MEMORY};
+use key_bits::Key;
+use std::alloc::Global;
+
+/// Writes the values of the first pairs whose keys are from `from` to `upto`, both included, in key order: at most as many as `room` has
+/// places, and other places stay. `count` is their number then, and `more` 1 if the range has more, else 0: `DONE`. With `CLOSED`,
+/// `KEY_TOO_LONG` or `NO_MEMORY` these three stay.
+#[unsafe(no_mangle)]
+pub extern "C" fn hot_scan_values(
+    alloc: Global,
+    handle: &mut Handle,
+    from: &[u8],
+    upto: &[u8],
+    room: &mut [u64],
+    count: &mut usize,
+    more: &mut u32,
+) -> u32
+    ensures call { ListsValues from.now upto.now handle.old.slot.opened handle.new.slot.opened
+        (valued room.old count.old more.old) (valued room.new count.new more.new) result }
+    ensures place { handle.new.place ≡ handle.old.place }
+{
+    if !handle.is_open() {
+        return CLOSED;
+    }
+    let mut first = Key::empty();
+    let mut last = Key::empty();
+    let (Ok(()), Ok(())) = (first.set_bytes(from), last.set_bytes(upto)) else {
+        return KEY_TOO_LONG;
+    };
+    let mut values = Vec::new(alloc);
+    let opened = handle.slot.lend();
+    match opened
+        .handle
+        .scan_values_into(&first, &last, room.len(), &mut values)
+    {
+        Ok(is_more) => {
+            write_values(&values, room);
+            *count = values.len();
+            *more = u32::from(is_more);
+            DONE
+        }
+        Err(_) => NO_MEMORY,
+    }
+}
+
+/// Writes `values` to the first places of `room`, which has room for them.
+fn write_values(values: &[u64], room: &mut [u64])
+    requires { length values.now ≤ length room.old }
+    ensures { room.new ≡ values.now ++ drop (length values.now) room.old }
+{
+    room[..values.len()].copy_from_slice(values);
+}
