@@ -402,7 +402,16 @@ impl Lease {
     /// How many keys there are from one key to another.
     pub(crate) fn count(&self, from: &[u8], upto: &[u8]) -> usize {
         let mut count = 0;
-        unsafe { hot_count(self.raw(), from.as_ptr(), from.len(), upto.as_ptr(), upto.len(), &mut count) };
+        unsafe {
+            hot_count(
+                self.raw(),
+                from.as_ptr(),
+                from.len(),
+                upto.as_ptr(),
+                upto.len(),
+                &mut count,
+            )
+        };
         count
     }
 
