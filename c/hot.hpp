@@ -806,6 +806,8 @@ class growing {
         /// of it. Where the larger one can't be made it throws as the constructor of `index`, and all stays as it was.
         template <class Call> hot::change change(Call call) {
             for (;;) {
+                if (of_->is_copied_)
+                    const std::lock_guard<std::mutex> wait(of_->copying_);
                 std::shared_lock<std::shared_mutex> lock(of_->changing_);
                 follow();
                 const hot::change made = call(handle_);
@@ -833,8 +835,16 @@ class growing {
     };
 
   private:
-    // Makes a larger index, unless another user has done so since this turn.
+    struct raised {
+        explicit raised(std::atomic<bool> &flag) : flag_(flag) { flag_ = true; }
+        ~raised() { flag_ = false; }
+        std::atomic<bool> &flag_;
+    };
+
+    // Makes a larger index, unless another user has done so since this turn. No change begins while it waits for those that run.
     void grow(std::uint64_t turn) {
+        const std::lock_guard<std::mutex> copying(copying_);
+        const raised flag(is_copied_);
         const std::lock_guard<std::shared_mutex> lock(changing_);
         if (turn != turn_)
             return;
@@ -857,6 +867,8 @@ class growing {
     index now_;
     handle copier_;
     std::atomic<std::uint64_t> turn_{0};
+    std::atomic<bool> is_copied_{false};
+    std::mutex copying_;         // held by who copies the index, or waits to do so
     std::mutex opening_;         // held by who opens a handle, and by who takes another index
     std::shared_mutex changing_; // shared by who changes the index, and held by who copies it
 };
