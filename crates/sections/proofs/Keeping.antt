@@ -70,7 +70,7 @@ module _ {S : Type 0} (count slots id i : ℕ) (k : Known) (f : ℕ → ℕ) (Th
 -- the same for a seat that is an owner's
 pub allows_me : {S : Type 0} (count slots id i : ℕ) (key : ℕ) (me : Me S Seated) (f : ℕ → ℕ) (Then : ℕ → Seated → Seated → Type 0) → key ≡ count → me ≡ (Owner (known_of me.0), [])
     → ((s : State S Seated) (r : Ruled count s) → IsTrueOf count (get_or s.words REACH 0) r.run (Owner (known_of me.0)) →
-        (next : List Event) × (j : Known) × Makes_here count slots id i (known_of me.0) f (λ n w. Then n (Owner (known_of me.0)) w) s r.run next j × Then (get_or s.words i 0) (Owner (known_of me.0)) (Owner j))
+    (next : List Event) × (j : Known) × Makes_here count slots id i (known_of me.0) f (λ n w. Then n (Owner (known_of me.0)) w) s r.run next j × Then (get_or s.words i 0) (Owner (known_of me.0)) (Owner j))
     → Allows {S = S} {V = Seated} (Ruled key) slots id me i f (λ n m'. (m'.1 ≡ me.1) × Then n me.0 m'.0)
 allows_me {S = S} count slots id i key me f Then same is go =
     subst (λ (x : ℕ). Allows {S = S} {V = Seated} (Ruled x) slots id me i f (λ n m'. (m'.1 ≡ me.1) × Then n me.0 m'.0)) (sym same)

@@ -100,8 +100,7 @@ enters {S = S} count slots id key q place word me same own at more few =
     let e : Event = Entered k.number (word - 1) in
     let grown : moments_in k.run ≤ moments_in r.run = moments_grow k.number k.run r.run knows.1 in
     let was : word_in k.number r.run ≡ 0 = word_kept k.number k.run r.run knows.1 ∙ (ap (λ z. word_in z k.run) own.1 ∙ own.3) in
-    let low : k.number < k.count = subst (λ z. z < k.count) (sym own.1) own.4 in
-    (
+    let low : k.number < k.count = subst (λ z. z < k.count) (sym own.1) own.4 in (
       e ∷ r.run,
       record k { run = e ∷ r.run },
       acts count k.number place word e k s r knows refl low (knows.2 own.2) (at ∙ ap place_of (sym own.1)) (was, omega arith) (λ p ne. (ne, tt))
@@ -119,8 +118,7 @@ leaves {S = S} count slots id key q place me on word same own opened at =
     let was : word_in k.number r.run ≡ word = word_kept k.number k.run r.run knows.1 ∙ (ap (λ z. word_in z k.run) own.1 ∙ own.3) in
     let low : k.number < k.count = subst (λ z. z < k.count) (sym own.1) own.4 in
     let within : k.number < get_or s.words REACH 0 = ⊎_elim (λ h. h) (λ (h : get_or s.words REACH 0 ≤ k.number). let never : word_in k.number r.run ≡ 0 = word_never k.number r.run (r.shows.beyond k.number h) in absurd (omega arith))
-        (cases_lt k.number (get_or s.words REACH 0)) in
-    (
+    (cases_lt k.number (get_or s.words REACH 0)) in (
       e ∷ r.run,
       record k { run = e ∷ r.run },
       acts count k.number place 0 e k s r knows refl low within (at ∙ ap place_of (sym own.1)) (omega arith) (λ p ne. (ne, tt)) (word_own 0 (word_in k.number r.run) k.number) refl,
