@@ -13,3 +13,4 @@ pub mod Ends
 pub mod Stocks
 pub mod Lookups
 pub mod Following
+pub mod Sections

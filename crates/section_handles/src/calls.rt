@@ -92,7 +92,7 @@ impl Opened {
     pub fn is_past(&mut self, moment: u64) -> bool
         ensures looks { Looks self.old.section self.new.section }
         ensures past { result ≡ true → IsPast moment self.new.section.known.run }
-        ensures held { result ≡ false → IsHeld self.old.sections.value.count moment self.new.section.known.run }
+        ensures held { result ≡ false → IsHeld moment self.new.section.known.run }
         ensures keeps { (self.new.sections.value ≡ self.old.sections.value) × (self.new.kept.items ≡ self.old.kept.items) }
     {
         self.sections.is_past(&mut self.section, moment)

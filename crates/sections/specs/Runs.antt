@@ -57,5 +57,5 @@ abbrev pub IsNewer : ℕ → ℕ → Type 0
 IsNewer moment word = (word ≡ 0) ⊎ (moment < word)
 
 -- The moment may not be past: it has not been taken, or a section is open that was entered with fewer moments.
-abbrev pub IsHeld : ℕ → ℕ → List Event → Type 0
-IsHeld count moment run = (moments_in run < moment) ⊎ ((q : ℕ) × (q < count) × IsOpen q run × (word_in q run ≤ moment))
+abbrev pub IsHeld : ℕ → List Event → Type 0
+IsHeld moment run = (moments_in run < moment) ⊎ ((q : ℕ) × IsOpen q run × (word_in q run ≤ moment))

@@ -66,7 +66,7 @@ impl Sections {
         requires { IsSectionOf self.now section.old }
         ensures looks { Looks section.old section.new }
         ensures past { result ≡ true → IsPast moment section.new.known.run }
-        ensures held { result ≡ false → IsHeld self.now.count moment section.new.known.run }
+        ensures held { result ≡ false → IsHeld moment section.new.known.run }
     {
         if self.load_moments(section) < moment {
             return false;
