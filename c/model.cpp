@@ -93,7 +93,7 @@ class random_calls {
         const std::uint64_t one = below(3), other = below(3);
         const bool is_try = is_alone() && below(2), is_equal = had == one;
         const status unequal = had ? status::differs : status::absent;
-        switch (below(8)) {
+        switch (below(9)) {
         case 0:
             return expect(is_try ? handle_.try_insert(key, one) : handle_.insert(key, one), had ? status::exists : status::inserted, had, key,
                           had ? had : one);
@@ -111,8 +111,25 @@ class random_calls {
             return expect(is_try ? handle_.try_add(key, one) : handle_.add(key, one), had ? status::replaced : status::absent, had, key,
                           had ? value(*had + one) : had);
         case 6: CHECK(handle_.fetch_add(key, one) == had.value_or(0)); return set(key, had.value_or(0) + one);
+        case 7: return take();
         default: return update(key, had, below(2) ? value(one) : value());
         }
+    }
+
+    // Takes a pair from an end of a range, or now and then all of its pairs.
+    void take() {
+        const std::string one = key(), other = key(), &from = std::min(one, other), &upto = std::max(one, other);
+        const std::vector<hot::entry> wanted = listed(from, upto + '\0');
+        if (below(20) == 0) {
+            handle_.clear_range(from, upto);
+            model_.erase(model_.lower_bound(from), model_.upper_bound(upto));
+            return;
+        }
+        const bool is_first = below(2);
+        const std::optional<hot::entry> taken = is_first ? handle_.pop_first(from, upto) : handle_.pop_last(from, upto);
+        CHECK(wanted.empty() ? !taken : taken == (is_first ? wanted.front() : wanted.back()));
+        if (taken)
+            model_.erase(taken->key);
     }
 
     void update(const std::string &key, value had, value to) {
@@ -380,7 +397,7 @@ static void test_keys() {
 int main(int count, char **words) {
     if (count != 2)
         return 2;
-    alarm(300); // a call that doesn't return fails the test
+    alarm(900); // a call that doesn't return fails the test
     if (std::string(words[1]) != "threads") {
         test_closing();
         test_updates();

@@ -115,7 +115,7 @@ key_ranges!(
 );
 
 /// The least and the greatest key that a range may have, or `None` if it has none.
-fn ends(range: &impl KeyRange) -> Option<(Key, Key)> {
+pub(crate) fn ends(range: &impl KeyRange) -> Option<(Key, Key)> {
     let (from, upto) = range.key_bounds();
     let from = match from {
         Bound::Unbounded => Key::LEAST,

@@ -148,7 +148,7 @@ module _ {G : Type 0} (table : TableView) (becomes : G → Event → G → Type 
   ends_untold acts last said a b (m, run, end) = ((m.0, tt), runs_untold acts a m run, step_untold last said m b end)
 
   -- a call that ended on its seat
-  pub has_made : {call : Call} {r : Result Reply TryFault} (a b : SeatView × G) → HasEnded table becomes (AreAttempts table becomes call r a b) (change_notes call r) a b → b.0.known.steps ≤ a.0.known.steps + try_steps table.layout →
+  pub has_made : {call : Call} {r : Result Reply TryFault} (a b : SeatView × G) → HasEnded table becomes (AreAttempts table becomes call r a b) (change_notes call r) a b → b.0.known.steps ≤ a.0.known.steps + try_steps call table.layout →
       a.0.known.steps ≤ b.0.known.fresh.step → HasMade table becomes call r (pass_of a.0, a.1) (pass_of b.0, b.1)
   has_made {call = call} {r = r} a b (acts, tries, ends) few loaded = record {
     acts = acts;

@@ -17,7 +17,7 @@ use Rattle.version_laws.specs.Scan.{Range}
 use Rattle.tries.specs.Keys.{Key}
 use Rattle.version_laws.specs.Directions.{ScanLaw}
 use Rattle.hot_index_calls.specs.Answers.{HasFoundPair, IsListedBy, IsListedInPartBy, IsNoted, IsRefused, IsScannedBy, IsUnnoted, MayRefuse, fault_of}
-use Rattle.hot_index_calls.specs.Refusals.{IsPassing, IsTold, as_tried, fault_in}
+use Rattle.hot_index_calls.specs.Refusals.{IsPassing, IsCountTold, as_tried, fault_in}
 use Rattle.hot_index_calls.specs.declared.census.RecordCounts.{RecordCounts}
 use Rattle.hot_index_calls.specs.declared.refusals.Refusal.{Refusal}
 use Rattle.hot_index_calls.specs.declared.refusals.Refusal.TheVariants.{Full as IsFull}
@@ -63,7 +63,7 @@ pub record IsTriedAndCounted {G : Type 0} (asked : Call) (result : Result Reply 
     (a b : PassView × G) : Type 0 where
   pub mid : PassView × G
   pub tried : IsTriedWith asked (as_tried result) index becomes a mid
-  pub told : IsTold asked result index becomes a mid b
+  pub told : IsCountTold asked result index becomes a mid b
 
 -- Tries of a change were refused for these reasons, one after the other, and none of them is final.
 abbrev pub AreTriesRefused : {G : Type 0} → Call → List Refusal → TableView → (G → Event → G → Type 0) → PassView × G → PassView × G → Type 0
