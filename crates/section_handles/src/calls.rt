@@ -22,7 +22,7 @@ pub fn make_keeper(alloc: Global, count: u16) -> Result<Box<Opened, Global>, All
         return Err(AllocError);
     };
     let sections = Arc::new(alloc, sections)?;
-    let apart = [0; 4];
+    let apart = [0; 2];
     Ok(Box::new(
         alloc,
         Opened {
@@ -113,7 +113,7 @@ fn box_section(
         sections,
         section,
         kept: Vec::new(alloc),
-        apart: [0; 4],
+        apart: [0; 2],
     };
     Box::new(alloc, opened).map_err(|refused| refused.value.section)
 }

@@ -15,7 +15,7 @@ pub struct Opened {
     /// Sections of the table that others will open, the last one first.
     pub kept: Vec<Section>,
     /// Room, so that no line of a processor's cache has two sections.
-    pub(crate) apart: [u64; 4],
+    pub(crate) apart: [u64; 2],
     pub ghost own: { IsSectionOf sections.value section },
     pub ghost kept_own: { All (IsSectionOf sections.value) kept.items },
 }
