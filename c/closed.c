@@ -75,6 +75,7 @@ static hot_handle open_handle = HOT_HANDLE;
     CALL(hot_scan_packed(closed, key, 1, key, 1, to->key, 1, &to->head, 1, &to->count, &to->more))         \
     CALL(hot_scan_packed_reverse(closed, key, 1, key, 1, to->key, 1, &to->head, 1, &to->count, &to->more)) \
     CALL(hot_each(closed, key, 1, key, 1, visit, to))                                          \
+    CALL(hot_count(closed, key, 1, key, 1, &to->count))                                        \
     CALL(hot_first(closed, key, 1, &to->pair))                                                 \
     CALL(hot_last(closed, key, 1, &to->pair))                                                  \
     CALL(hot_collect(closed, &to->nodes, &to->leaves))                                         \

@@ -421,6 +421,11 @@ hot_status hot_first(hot_handle *handle, const uint8_t *from, size_t length, hot
  * HOT_FOUND, HOT_ABSENT; or HOT_KEY_TOO_LONG, HOT_CLOSED, HOT_NO_MEMORY (only if there was a pair). */
 hot_status hot_last(hot_handle *handle, const uint8_t *upto, size_t length, hot_pair *pair);
 
+/* Counts the keys from `from` to `upto`, both included, and writes their number to `count`: that of the pairs that hot_scan could list in
+ * its place, if it had room for all. It reads few of the keys.
+ * HOT_DONE; or HOT_KEY_TOO_LONG, HOT_CLOSED, and then nothing was written. */
+hot_status hot_count(hot_handle *handle, const uint8_t *from, size_t from_length, const uint8_t *upto, size_t upto_length, size_t *count);
+
 /* Removes the first pair whose key is from `from` to `upto`, both included, or the last one, and writes it: by a scan for one pair and then
  * hot_remove of its key, and again where another call has removed that key meanwhile. So one call alone gets a pair, with the value that
  * its key had when it was removed. No key of the range before it, or behind it for hot_pop_last, was there all along from the beginning of

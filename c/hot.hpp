@@ -587,6 +587,14 @@ class handle {
         return range(it(), from, upto, count, order::last);
     }
 
+    /// How many keys there are from one key to another, both included: hot_count. And how many begin with a prefix.
+    [[nodiscard]] std::size_t count(key_view from, key_view upto) {
+        std::size_t count = 0;
+        check(hot_count(it(), bytes(from), from.size(), bytes(upto), upto.size(), &count));
+        return count;
+    }
+    [[nodiscard]] std::size_t count_prefix(key_view prefix) { return count(prefix, last_with(prefix)); }
+
     /// The first pair whose key is `from` or above, and the last one whose key is `upto` or below: those of all keys, if none is given.
     [[nodiscard]] std::optional<entry> first(key_view from = {}) { return end(hot_first, from); }
     [[nodiscard]] std::optional<entry> last(key_view upto) { return end(hot_last, upto); }

@@ -151,7 +151,7 @@ class random_calls {
         const std::string one = key(), other = key(), &from = std::min(one, other), &upto = std::max(one, other), after = upto + '\0';
         const std::size_t page = 1 + below(70);
         auto wanted = listed(from, after);
-        CHECK(handle_.scan(from, upto, page).entries() == wanted);
+        CHECK(handle_.scan(from, upto, page).entries() == wanted && handle_.count(from, upto) == wanted.size());
         CHECK(handle_.scan_half_open(from, upto, page).entries() == listed(from, upto));
         const std::size_t count = std::min(wanted.size(), page);
         CHECK(handle_.scan_last(from, upto, page).entries() == std::vector(wanted.end() - static_cast<std::ptrdiff_t>(count), wanted.end()));
@@ -163,7 +163,7 @@ class random_calls {
         CHECK(wanted.empty() ? !first || first->key > upto : first == wanted.front() && last == wanted.back());
         std::reverse(wanted.begin(), wanted.end());
         CHECK(handle_.scan_reverse(from, upto, page).entries() == wanted);
-        CHECK(from == upto || handle_.scan(upto, from).entries().empty());
+        CHECK(from == upto || (handle_.scan(upto, from).entries().empty() && handle_.count(upto, from) == 0));
         compare_prefix(one);
         CHECK(handle_.get_many({one, other}) == std::vector({held(one), held(other)}));
         CHECK(handle_.get(one) == held(one) && handle_.contains(other) == held(other).has_value());
@@ -173,7 +173,7 @@ class random_calls {
         std::vector<hot::entry> wanted;
         for (auto at = model_.lower_bound(prefix); at != model_.end() && at->first.compare(0, prefix.size(), prefix) == 0; ++at)
             wanted.push_back({at->first, at->second});
-        CHECK(handle_.scan_prefix(prefix).entries() == wanted);
+        CHECK(handle_.scan_prefix(prefix).entries() == wanted && handle_.count_prefix(prefix) == wanted.size());
         std::reverse(wanted.begin(), wanted.end());
         CHECK(handle_.scan_prefix_reverse(prefix).entries() == wanted);
     }

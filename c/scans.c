@@ -78,6 +78,7 @@ static void test_prefix_reverse(void) {
 static void test_scan(void) {
     hot_handle handle = HOT_HANDLE;
     hot_pair pairs[3];
+    uint8_t key[HOT_MAX_KEY + 1] = {0};
     uint64_t had;
     size_t count = 9;
     uint32_t more = 9;
@@ -95,6 +96,9 @@ static void test_scan(void) {
     CHECK(count == 2 && more == 0 && pairs[1].value == 3);
     CHECK(hot_scan(&handle, bytes("x"), 1, bytes("z"), 1, pairs, 0, &count, &more) == HOT_DONE);
     CHECK(count == 0 && more == 0);
+    CHECK(hot_count(&handle, bytes("a"), 1, bytes("b"), 1, &count) == HOT_DONE && count == 2);
+    CHECK(hot_count(&handle, bytes("b"), 1, key, sizeof key, &count) == HOT_KEY_TOO_LONG && count == 2);
+    CHECK(hot_count(&handle, bytes(""), 0, HOT_TO_END, &count) == HOT_DONE && count == 3);
     CHECK(hot_destroy(&handle) == HOT_DONE);
 }
 

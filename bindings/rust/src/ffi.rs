@@ -154,6 +154,14 @@ extern "C" {
         count: *mut usize,
         more: *mut u32,
     ) -> Status;
+    fn hot_count(
+        handle: *mut RawHandle,
+        from: *const u8,
+        from_length: usize,
+        upto: *const u8,
+        upto_length: usize,
+        count: *mut usize,
+    ) -> Status;
     fn hot_first(handle: *mut RawHandle, from: *const u8, length: usize, pair: *mut RawPair) -> Status;
     fn hot_last(handle: *mut RawHandle, upto: *const u8, length: usize, pair: *mut RawPair) -> Status;
     fn hot_pop_first(
@@ -411,6 +419,13 @@ impl Lease {
             at = end;
         }
         Ok((pairs, more != 0))
+    }
+
+    /// How many keys there are from one key to another.
+    pub(crate) fn count(&self, from: &[u8], upto: &[u8]) -> usize {
+        let mut count = 0;
+        unsafe { hot_count(self.raw(), from.as_ptr(), from.len(), upto.as_ptr(), upto.len(), &mut count) };
+        count
     }
 
     /// The first pair from a key on.

@@ -501,6 +501,11 @@ impl Handle {
         Range::new(self, &keys)
     }
 
+    /// How many keys a range has: [`range`](Handle::range)`.count()`, but few of the keys are read.
+    pub fn count_range(&self, keys: impl KeyRange) -> usize {
+        range::count(self, &keys)
+    }
+
     /// The pairs whose keys begin with these bytes, in the same way.
     pub fn prefix(&self, prefix: impl AsRef<[u8]>) -> Range<'_> {
         Range::prefix(self, prefix.as_ref())

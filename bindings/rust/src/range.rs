@@ -135,6 +135,11 @@ pub(crate) fn ends(range: &impl KeyRange) -> Option<(Key, Key)> {
     }
 }
 
+/// How many keys a range has.
+pub(crate) fn count(handle: &Handle, keys: &impl KeyRange) -> usize {
+    ends(keys).map_or(0, |(from, upto)| handle.lease().count(from.bytes(), upto.bytes()))
+}
+
 /// The pairs of a range of keys, in order from either end: see [`Handle::range`].
 pub struct Range<'a> {
     handle: &'a Handle,

@@ -122,6 +122,7 @@ fn change(handle: &Handle, model: &mut Model, random: &mut Random) {
 fn check_range(handle: &Handle, model: &Model, random: &mut Random) {
     let keys = (random.bound(), random.bound());
     let wanted = listed(model, |key| within(key, &keys));
+    assert_eq!(handle.count_range(keys.clone()), wanted.len());
     let (mut range, mut front, mut back) = (handle.range(keys), Vec::new(), Vec::new());
     loop {
         let is_forward = random.below(3) > 0;

@@ -12,3 +12,4 @@ pub mod Answered
 pub mod LookedUp
 pub mod Keepers
 pub mod Sectioned
+pub mod Numbered

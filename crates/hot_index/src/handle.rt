@@ -1,6 +1,6 @@
 //! A handle: a pass at its index. Its calls don't ask that the pass belong to the index, since it does.
 
-ghost use Rattle.std.specs.Prelude.{◌≡◌, ◌≢◌, [], All, Err, IfErr, IfOk, IsOk, length, map};
+ghost use Rattle.std.specs.Prelude.{◌-◌, ◌^◌, ◌≡◌, ◌≢◌, [], All, Err, IfErr, IfOk, IsOk, length, map};
 ghost use Rattle.finite_map.specs.declared.Call.TheVariants.{Add, Exchange, Get, Insert, Remove, RemoveIf, Upsert};
 ghost use Rattle.finite_map.specs.Calls.{LegalCalls};
 ghost use Rattle.finite_map.specs.Reverse.{IsLawfulReverseScan};
@@ -8,7 +8,7 @@ ghost use Rattle.key_counts.specs.Counts.{IsCountOf};
 ghost use Rattle.rowex_table.specs.Seats.{IsShownAll};
 ghost use Rattle.rowex_writing.specs.declared.attempts.TryFault.TheVariants.{Busy};
 ghost use Rattle.hot_index_calls.specs.Answers.{HaveMet, IsNoted, IsUnnoted, got, range_from};
-ghost use Rattle.hot_index_calls.specs.Calls.{IsAwaited, IsCallCounted, IsCallTried, IsListRead, IsListReadBy, IsRangeRead, IsScanRead, IsScanReadBy, IsTried};
+ghost use Rattle.hot_index_calls.specs.Calls.{IsAwaited, IsCallCounted, IsCallTried, IsCountRead, IsListRead, IsListReadBy, IsRangeRead, IsScanRead, IsScanReadBy, IsTried};
 ghost use Rattle.hot_index_calls.specs.Census.{HasCounted};
 ghost use Rattle.hot_index.specs.Handles.{Stays, handle_at};
 ghost use Rattle.hot_index_calls.specs.Many.{AreNoted, HasGotMany, gets};
@@ -278,6 +278,13 @@ impl<I: ShowsIndex> Handle<I> {
         self.index
             .show()
             .scan_into(&mut self.pass, from, upto, limit, pairs)
+    }
+
+    /// How many keys there are from `from` to `upto`, both included, as `Index::count_range` returns.
+    pub fn count_range(&mut self, from: &Key, upto: &Key) -> usize
+        ensures { Stays (IsCountRead (range_from from.now upto.now (2 ^ 63 - 1)) result) self.old self.new }
+    {
+        self.index.show().count_range(&mut self.pass, from, upto)
     }
 
     /// Replaces what `pairs` holds with the first `limit` pairs whose keys begin with `prefix`, and returns whether there are more. If

@@ -42,6 +42,7 @@ mod expecting;
 mod handle;
 mod index;
 pub mod laws;
+mod range_counts;
 mod ranges;
 mod reverse;
 mod scans;

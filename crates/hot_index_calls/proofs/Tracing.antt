@@ -16,7 +16,7 @@ use Rattle.rowex_table.proofs.Seeing.{ends_see, runs_after, runs_see, sees_then,
 use Rattle.epochs.specs.Rounds.{IsRound, IsSmallRound, advance_steps}
 use Rattle.epochs.specs.declared.limbo.TheConstants.{MOST_VISITED}
 use Rattle.epochs.specs.Runs.{Pins}
-use Rattle.rowex_reading.specs.Lookups.{HasSearched}
+use Rattle.rowex_reading.specs.Lookups.{HasSearched, HaveSearched}
 use Rattle.rowex_reading.specs.Reads.{Looks}
 use Rattle.rowex_reading.proofs.Counting.{looks_count}
 use Rattle.rowex_scanning.specs.Counts.{Scans, scan_entries}
@@ -27,6 +27,7 @@ use Rattle.rowex_writing.specs.declared.attempts.TryFault.{TryFault}
 use Rattle.rowex_writing.specs.declared.plan.Full.{Full}
 use Rattle.hot_index_calls.specs.Answers.{IsRefused, fault_of}
 use Rattle.hot_index_calls.specs.Counts.{try_steps}
+use Rattle.hot_index_calls.specs.Many.{HasGotMany}
 use Rattle.hot_index_calls.specs.Noting.{change_notes}
 use Rattle.hot_index_calls.specs.Passes.{PassView, pass_of}
 use Rattle.hot_index_calls.specs.Traces.{AreAttempts, AreRoundSteps, AreSmallSteps, AreTries, HasEnded, HasGot, HasMade, HasRead, HasStepped, HasTold, HasGotRange, IsAttempt, Tidies, is_full, reading, untold}
@@ -122,6 +123,18 @@ module _ {G : Type 0} (table : TableView) (becomes : G → Event → G → Type 
         read = has_read pins search.looks end;
         depth = subst (λ e. e ≤ 9 * MAX_BYTES) (sym entries) search.low;
         few = subst (λ e. d.0.known.steps ≤ a.0.known.steps + 36 + 26 * e) (sym entries) (omega (arith, steps, few));
+      }
+
+  -- and so of many keys
+  pub has_got_many : {said : Known → List Note} {a b c d : SeatView × G} (count : ℕ) → Pins table becomes a b → HaveSearched table becomes count b c → StepsWith table becomes ClearPin said c d →
+      HasGotMany table becomes count (pass_of a.0, a.1) (pass_of d.0, d.1)
+  unfolding has_read
+  has_got_many {said} {a} {b} {c} {d} count pins search end =
+      let steps = read_steps pins search.looks end in let few = search.few in let entries = search.looks.rest.entries_are in
+      record {
+        read = has_read pins search.looks end;
+        depth = subst (λ e. e ≤ count * (9 * MAX_BYTES)) (sym entries) search.low;
+        few = subst (λ e. d.0.known.steps ≤ a.0.known.steps + 4 + 32 * count + 26 * e) (sym entries) (omega (arith, steps, few));
       }
 
   pub has_walked : {said : Known → List Note} {a b c d : SeatView × G} (limit : ℕ) → Pins table becomes a b → Scans table becomes limit b c → StepsWith table becomes ClearPin said c d →

@@ -85,6 +85,14 @@ IsScanned = IsScannedBy IsLawfulScan
 abbrev pub IsListed : Layout → PassView → PassView → Range → List (Key × ℕ) → Bool → Type 0
 IsListed = IsListedBy IsLawfulScan
 
+-- A range was counted. It adds no note; and the number is that of the pairs of some list that a lawful scan gives. It is at most the limit.
+pub record IsRangeCounted (layout : Layout) (k j : PassView) (range : Range) (number : ℕ) : Type 0 where
+  pub few : number ≤ range.limit
+  pub pairs : List (Key × ℕ)
+  pub number_is : number ≡ length pairs
+  pub more : Bool
+  pub listed : IsListed layout k j range pairs more
+
 -- A scan upwards into a list ran out of memory: it is as one that was cut at the number of its pairs.
 abbrev pub IsListedInPart : Layout → PassView → PassView → Range → List (Key × ℕ) → Type 0
 IsListedInPart = IsListedInPartBy IsLawfulScan

@@ -1,7 +1,7 @@
 -- How the parts of an attempt make its answer, or its refusal.
 use Rattle.std.specs.Prelude.{if◌then◌else◌, nat_eq, IsSome}
 use Rattle.std.specs.Option.{option_map}
-use Rattle.std.proofs.Common.{◌≡◌, ◌≢◌, ◌⊎◌, inl, inr, ℕ, ◌≤◌, ◌<◌, List, [], ◌∷◌, length, refl, sym, ap, subst, ◌∙◌, arith, Option, Some, None, Bool, true, false, Ok, Err, ◌*◌}
+use Rattle.std.proofs.Common.{◌≡◌, ◌≢◌, ◌⊎◌, inl, inr, ℕ, ◌+◌, ◌≤◌, ◌<◌, List, [], ◌∷◌, length, refl, sym, ap, subst, ◌∙◌, arith, Option, Some, None, Bool, true, false, Ok, Err, ◌*◌}
 use Rattle.finite_map.specs.declared.Call.{Call}
 use Rattle.finite_map.specs.declared.Call.TheVariants.{Insert, Upsert, Exchange, Add, Get, Remove, RemoveIf}
 use Rattle.finite_map.specs.declared.Change.{Change}
@@ -398,15 +398,9 @@ aims_again (Get key) a b aim e some = absurd (cc)
 aims_again (Remove key) a b aim e some = e
 aims_again (RemoveIf key expected) a b aim e some = aim_here expected a b ToRemove aim e some
 
-no_aim : {A : Type 0} (o : Option Aim) → IsSome o → o ≡ None → A
+pub no_aim : {A : Type 0} (o : Option Aim) → IsSome o → o ≡ None → A
 no_aim None some none = absurd (let z : ⊥ = cc in z)
 no_aim (Some aim) some none = absurd (cc)
-
--- a call that has no aim at one value, and one at another
-pub aims_differ : (call : Call) (a b : ℕ) → IsSome (aim_of call (Some a)) → aim_of call (Some b) ≡ None → a ≢ b
-aims_differ call a b some none same =
-    let gone : aim_of call (Some a) ≡ None = ap (λ n. aim_of call (Some n)) same ∙ none in
-    no_aim (aim_of call (Some a)) some gone
 
 -- where the leaf has the key
 pub found_for_key : (found : Found) (n v o w : ℕ) (mismatch : Option ℕ) → found ≡ Leaf o w None → found ≡ Leaf n v mismatch → found ≡ Leaf n v None

@@ -55,7 +55,7 @@ use Rattle.rowex_writing.specs.declared.plan.Deed.{Deed}
 use Rattle.rowex_writing.specs.declared.plan.Span.{Span}
 use Rattle.publish_laws.specs.Loops.{KeepsLoaded}
 use Rattle.rowex_writing.proofs.Above.{locked_at}
-use Rattle.rowex_writing.proofs.Attempting.{aims_again, found_later, plan_reaches}
+use Rattle.rowex_writing.proofs.Attempting.{aims_again, found_later, no_aim, plan_reaches}
 use Rattle.rowex_writing.proofs.Placing.{leaf_at as read_at, there_still}
 
 -- ---- what names the leaf is locked
@@ -140,10 +140,6 @@ found_again call found now value is some = record {
 }
 
 -- one that has none has found another value
-absurd_aim : {A : Type 0} (o : Option Aim) → IsSome o → o ≡ None → A
-absurd_aim None some none = absurd (let z : ⊥ = cc in z)
-absurd_aim (Some aim) some none = absurd (cc)
-
 pub found_other : (layout : Layout) (k i j : Known) (call : Call) (key : Key) (found now : Found) (value : ℕ) → now ≡ revalued found value → IsSome (aim_of call (value_of found)) → aim_of call (value_of now) ≡ None →
     IsPossible layout i → HoldsFound i key now → IsLater k i → IsLater i j → since j ≡ since i → HasFoundOther k j call key now
 found_other layout k i j call key found now value is some none possible held before after same = go found is some
@@ -152,8 +148,8 @@ found_other layout k i j call key found now value is some none possible held bef
     later = later_trans before after
 
     go : (f : Found) → now ≡ revalued f value → IsSome (aim_of call (value_of f)) → HasFoundOther k j call key now
-    go Nothing e s = absurd_aim (aim_of call None) s (ap (λ (z : Found). aim_of call (value_of z)) (sym e) ∙ none)
-    go (Leaf n v (Some p)) e s = absurd_aim (aim_of call None) s (ap (λ (z : Found). aim_of call (value_of z)) (sym e) ∙ none)
+    go Nothing e s = no_aim (aim_of call None) s (ap (λ (z : Found). aim_of call (value_of z)) (sym e) ∙ none)
+    go (Leaf n v (Some p)) e s = no_aim (aim_of call None) s (ap (λ (z : Found). aim_of call (value_of z)) (sym e) ∙ none)
     go (Leaf n v None) e s = record {
       later = later;
       value = value;

@@ -236,7 +236,7 @@ anchored_on true k j kept is = kept.1 is
 anchored_on false k j kept is = kept.0 is
 
 pub failed_before : (layout : Layout) (job : Job) (a b c : Known) (made : List Rec) (r : Result ⊤ TryFault) → IsLater a b → IfErr r (λ fault. (fault ≡ Busy) × HasFailed layout job b c made fault) → IfErr r (HasFailed layout job a c made)
-failed_before layout job a b c made (Ok x) later h = tt
+failed_before layout job a b c made (Ok x) _ h = tt
 failed_before layout job a b c made (Err fault) later h = failed_since layout job a b c made fault later h.0 h.1
 
 pub busy_leafless : {X : Type 0} (r : Result X TryFault) (P : TryFault → Type 0) → IfErr r (λ fault. (fault ≡ Busy) × P fault) → r ≢ Err FullLeaves

@@ -111,6 +111,16 @@ class SortedMap(Map[K], MutableMapping[K, int], Generic[K]):
         """The pairs whose keys `irange` lists."""
         return self._list(ITEMS, self._bounds(minimum, maximum, inclusive), reverse)
 
+    def count_range(
+        self,
+        minimum: Optional[K] = None,
+        maximum: Optional[K] = None,
+        inclusive: tuple[bool, bool] = (True, True),
+    ) -> int:
+        """How many keys `irange` lists: few of them are read."""
+        bounds = self._bounds(minimum, maximum, inclusive)
+        return 0 if bounds is None else self._count(*bounds)
+
     def prefix_items(self, prefix: K, reverse: bool = False) -> Iterator[tuple[K, int]]:
         """The pairs whose keys begin with the prefix."""
         code = self._encode(prefix)
