@@ -2,8 +2,8 @@
 use Rattle.std.proofs.Common.{◌≡◌, ◌⊎◌, ℕ, Bool, true, false, List, [], Option, Some, None, IsSome, Result, Ok, Err, IfOk, IfErr, MatchOption, Box, refl, sym, ap, ◌∙◌, subst, inl, inr}
 use Rattle.std.specs.Global.{Global}
 use Rattle.sections.specs.Runs.{IsHeld, IsPast}
-use Rattle.sections.specs.Sections.{Enters, IsInside, Leaves, Looks, SectionView, TakesMoment}
-use Rattle.section_handles.specs.Handles.{HasOpenedNext, KeepsAll}
+use Rattle.sections.specs.Sections.{Enters, IsInside, Leaves, SeesOthers, SectionView, TakesMoment}
+use Rattle.section_handles.specs.Handles.{HasOpenedSection, IsAsItWas}
 use Rattle.section_handles.specs.declared.opened.Opened.{Opened as OpenSection}
 use Rattle.hot_c.specs.declared.status.TheConstants.{CLOSED, DONE, INSIDE, NO_HANDLE, NO_MEMORY, NOT_PAST, OUTSIDE}
 use Rattle.hot_c.specs.Sections.{EntersSection, FindsHeld, FindsPast, HoldsInside, HoldsOutside, KeepsSection, LeavesSection, OpensSection, TellsMoment, TellsPast}
@@ -57,25 +57,25 @@ module _ (old : Option OpenSection) (o p : OpenSection) (held : old ≡ Some o) 
     pub took : (before after : ℕ) → TakesMoment after o.section p.section → TellsMoment old (Some p) before after DONE
     took before after takes = record { closed = λ none. absurd (never none); taken = λ some. (refl, keeps_as (TakesMoment after) takes) }
 
-    pub past : (moment : ℕ) → Looks o.section p.section → IsPast moment p.section.known.run → TellsPast moment old (Some p) DONE
+    pub past : (moment : ℕ) → SeesOthers o.section p.section → IsPast moment p.section.known.run → TellsPast moment old (Some p) DONE
     past moment looks is = record { closed = λ none. absurd (never none); told = λ some. inl (refl, keeps_as (FindsPast moment) (looks, is)) }
 
-    pub not_past : (moment : ℕ) → Looks o.section p.section → IsHeld moment p.section.known.run → TellsPast moment old (Some p) NOT_PAST
+    pub not_past : (moment : ℕ) → SeesOthers o.section p.section → IsHeld moment p.section.known.run → TellsPast moment old (Some p) NOT_PAST
     not_past moment looks is = record { closed = λ none. absurd (never none); told = λ some. inr (refl, keeps_as (FindsHeld moment) (looks, is)) }
 
   -- the handle that keeps sections held o before, and p after
 
-  pub opened_next : (handle : Option OpenSection) (next : OpenSection) → handle ≡ Some next → HasOpenedNext o p next → (was : OpenSection) → old ≡ Some was → OpensSection was (Some p) handle DONE
+  pub opened_next : (handle : Option OpenSection) (next : OpenSection) → handle ≡ Some next → HasOpenedSection o p next → (was : OpenSection) → old ≡ Some was → OpensSection was (Some p) handle DONE
   opened_next handle next is opens was has =
-      (p, refl, inl (refl, next, is, subst (λ (z : OpenSection). HasOpenedNext z p next) (sym (same was has)) opens))
+      (p, refl, inl (refl, next, is, subst (λ (z : OpenSection). HasOpenedSection z p next) (sym (same was has)) opens))
 
-  pub none_kept : (handle : Option OpenSection) → handle ≡ None → o.kept.items ≡ [] → KeepsAll o p → (was : OpenSection) → old ≡ Some was → OpensSection was (Some p) handle NO_HANDLE
+  pub none_kept : (handle : Option OpenSection) → handle ≡ None → o.kept.items ≡ [] → IsAsItWas o p → (was : OpenSection) → old ≡ Some was → OpensSection was (Some p) handle NO_HANDLE
   none_kept handle none empty keeps was has =
       let is = sym (same was has) in
-      (p, refl, inr (inl (refl, none, subst (λ (z : OpenSection). z.kept.items ≡ []) is empty, subst (λ (z : OpenSection). KeepsAll z p) is keeps)))
+      (p, refl, inr (inl (refl, none, subst (λ (z : OpenSection). z.kept.items ≡ []) is empty, subst (λ (z : OpenSection). IsAsItWas z p) is keeps)))
 
-  pub none_opened : (handle : Option OpenSection) → handle ≡ None → KeepsAll o p → (was : OpenSection) → old ≡ Some was → OpensSection was (Some p) handle NO_MEMORY
-  none_opened handle none keeps was has = (p, refl, inr (inr (refl, none, subst (λ (z : OpenSection). KeepsAll z p) (sym (same was has)) keeps)))
+  pub none_opened : (handle : Option OpenSection) → handle ≡ None → IsAsItWas o p → (was : OpenSection) → old ≡ Some was → OpensSection was (Some p) handle NO_MEMORY
+  none_opened handle none keeps was has = (p, refl, inr (inr (refl, none, subst (λ (z : OpenSection). IsAsItWas z p) (sym (same was has)) keeps)))
 
 -- what an option has, and what it is where it has nothing
 pub some_of : {A : Type 0} (Empty : Type 0) (Holds : A → Type 0) (found : Option A) (x : A) → found ≡ Some x → MatchOption found Empty Holds → Holds x

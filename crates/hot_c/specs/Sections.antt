@@ -1,8 +1,8 @@
 -- What the calls of sections say, for programs in C.
 use Rattle.std.specs.Prelude.{◌≡◌, ◌⊎◌, ◌<◌, ℕ, [], Option, Some, None, IsSome}
 use Rattle.sections.specs.Runs.{IsHeld, IsPast}
-use Rattle.sections.specs.Sections.{Enters, IsInside, Leaves, Looks, SectionView, TakesMoment}
-use Rattle.section_handles.specs.Handles.{HasOpenedNext, IsKeeper, KeepsAll}
+use Rattle.sections.specs.Sections.{Enters, IsInside, Leaves, SeesOthers, SectionView, TakesMoment}
+use Rattle.section_handles.specs.Handles.{HasOpenedSection, KeepsSections, IsAsItWas}
 use Rattle.section_handles.specs.declared.opened.Opened.{Opened as OpenSection}
 use Rattle.hot_c.specs.declared.status.TheConstants.{CLOSED, DONE, INSIDE, NO_HANDLE, NO_MEMORY, NOT_PAST, OUTSIDE}
 
@@ -50,10 +50,10 @@ pub record TellsMoment (old new : Option OpenSection) (before after status : ℕ
 
 -- The owner of a section has looked, and found that the moment is past, or what may hold it.
 abbrev pub FindsPast : ℕ → SectionView → SectionView → Type 0
-FindsPast moment s t = Looks s t × IsPast moment t.known.run
+FindsPast moment s t = SeesOthers s t × IsPast moment t.known.run
 
 abbrev pub FindsHeld : ℕ → SectionView → SectionView → Type 0
-FindsHeld moment s t = Looks s t × IsHeld moment t.known.run
+FindsHeld moment s t = SeesOthers s t × IsHeld moment t.known.run
 
 -- It is told whether the moment of this number is past. With a closed handle that is told, and nothing has changed.
 pub record TellsPast (moment : ℕ) (old new : Option OpenSection) (status : ℕ) : Type 0 where
@@ -62,11 +62,11 @@ pub record TellsPast (moment : ℕ) (old new : Option OpenSection) (status : ℕ
 
 -- a handle was opened that keeps the sections of a new table, as many as this
 abbrev pub HasOpenedSections : ℕ → Option OpenSection → Type 0
-HasOpenedSections count new = (opened : OpenSection) × (new ≡ Some opened) × IsKeeper count opened
+HasOpenedSections count new = (opened : OpenSection) × (new ≡ Some opened) × KeepsSections count opened
 
 -- From an open handle that keeps sections, a closed one was opened with the next of them; or there was none, or no memory.
 abbrev pub OpensSection : OpenSection → Option OpenSection → Option OpenSection → ℕ → Type 0
 OpensSection was keeper handle status = (now : OpenSection) × (keeper ≡ Some now) ×
-    (((status ≡ DONE) × (opened : OpenSection) × (handle ≡ Some opened) × HasOpenedNext was now opened)
-    ⊎ ((status ≡ NO_HANDLE) × (handle ≡ None) × (was.kept.items ≡ []) × KeepsAll was now)
-    ⊎ ((status ≡ NO_MEMORY) × (handle ≡ None) × KeepsAll was now))
+    (((status ≡ DONE) × (opened : OpenSection) × (handle ≡ Some opened) × HasOpenedSection was now opened)
+    ⊎ ((status ≡ NO_HANDLE) × (handle ≡ None) × (was.kept.items ≡ []) × IsAsItWas was now)
+    ⊎ ((status ≡ NO_MEMORY) × (handle ≡ None) × IsAsItWas was now))

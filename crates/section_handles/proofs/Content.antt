@@ -5,7 +5,7 @@ use types.Logic.{Logic}
 use denote.Struct.Owning.{shape, to}
 use denote.Struct.Struct.{Struct, Struct-Makes, Struct-Tells}
 use Rattle.core.proofs.alloc.Calls.{handle_tells}
-use Rattle.section_handles.specs.Owning.{owns_opened}
+use Rattle.section_handles.specs.Owning.{owns_section}
 use Rattle.section_handles.specs.contracts.slot.Slot.{the_row, the_type}
 
 -- the word is the pointer
@@ -34,11 +34,11 @@ held (Some x) e = (x, refl)
 
 module _ {M : Type 1} {𝓤 : Ura M} {𝓛 : Logic 𝓤} {K : Type 0} {Γ : List (Item 𝓤)} {G : Goal 𝓤 𝓛.H} where
   -- a slot goes, and what it holds is left
-  pub slot_out : K → (s : the_row.Denot) (vs : List Val) → (vs ≡ word s.at ∷ [] → Seq K 𝓛 (‵ (owns_opened s.at s.opened) ∷ Γ) G) → Seq K 𝓛 (‵ (the_row.own_val s vs) ∷ Γ) G
+  pub slot_out : K → (s : the_row.Denot) (vs : List Val) → (vs ≡ word s.at ∷ [] → Seq K 𝓛 (‵ (owns_section s.at s.opened) ∷ Γ) G) → Seq K 𝓛 (‵ (the_row.own_val s vs) ∷ Γ) G
   slot_out t s vs k = fsplit t $ facts t Word (Is Word) (shows 𝓛 Word) (to the_type s) vs (λ is. k (Struct-Tells (shape the_type) (rawptr_vals, tt) (rawptr_Tells, tt) (to the_type s) vs is))
 
   -- and is made of that
-  pub slot_in : K → (s : the_row.Denot) → Step K 𝓛 (‵ (the_row.own_val s (word s.at ∷ [])) ∷ Γ) G (‵ (owns_opened s.at s.opened) ∷ Γ) G
+  pub slot_in : K → (s : the_row.Denot) → Step K 𝓛 (‵ (the_row.own_val s (word s.at ∷ [])) ∷ Γ) G (‵ (owns_section s.at s.opened) ∷ Γ) G
   slot_in t s = step (λ rest. owned t Word (Is Word) (Struct-Makes 𝓛 (shape the_type) (rawptr_pure, tt)) (to the_type s) (word s.at ∷ []) ((ptr_val s.at ∷ [], tt), (refl, (refl, tt))) $ fjoin t $ rest)
 
   -- what is owned of a value is owned at one machine value, which fits

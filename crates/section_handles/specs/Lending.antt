@@ -7,9 +7,9 @@ use Rattle.section_handles.specs.contracts.opened.Opened.{the_row as opened_row}
 use Rattle.section_handles.specs.contracts.slot.Slot.{the_row as slot_row}
 
 -- the slot, holding this
-abbrev pub with_opened : Slot → Opened → Slot
-with_opened slot opened = record slot { opened = Some opened }
+abbrev pub with_section : Slot → Opened → Slot
+with_section slot opened = record slot { opened = Some opened }
 
 -- the slot ends with the last value behind the reference
-abbrev pub LendsOpened : MutBor Slot → MutBor Opened → Fml
-LendsOpened slot opened = Lends slot_row opened_row slot opened (with_opened slot.now)
+abbrev pub LendsSection : MutBor Slot → MutBor Opened → Fml
+LendsSection slot opened = Lends slot_row opened_row slot opened (with_section slot.now)

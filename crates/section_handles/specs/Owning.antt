@@ -9,10 +9,10 @@ use Rattle.section_handles.specs.declared.opened.Opened.{Opened}
 use Rattle.section_handles.specs.contracts.opened.Opened.{the_row}
 
 -- C's heap: every handle of it is this one
-abbrev pub heap : Global
-heap = record { memory = record { seal = tt } }
+abbrev pub section_heap : Global
+section_heap = record { memory = record { seal = tt } }
 
 -- nothing, or what a box of C's heap owns at this pointer
-abbrev pub owns_opened : Ptr → Option Opened → Fml
-owns_opened at None = ftrue
-owns_opened at (Some opened) = box_owns (ghosts.dealloc_token heap) the_row at opened
+abbrev pub owns_section : Ptr → Option Opened → Fml
+owns_section at None = ftrue
+owns_section at (Some opened) = box_owns (ghosts.dealloc_token section_heap) the_row at opened

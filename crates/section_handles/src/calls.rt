@@ -2,8 +2,8 @@
 
 ghost use Rattle.std.specs.Prelude.{◌≡◌, ◌<◌, [], IfErr, IfOk, MatchOption, false, true};
 ghost use Rattle.sections.specs.Runs.{IsHeld, IsPast};
-ghost use Rattle.sections.specs.Sections.{Enters, IsInside, IsSectionOf, Leaves, Looks, TakesMoment};
-ghost use Rattle.section_handles.specs.Handles.{HasOpenedNext, IsKeeper, KeepsAll};
+ghost use Rattle.sections.specs.Sections.{Enters, IsInside, IsSectionOf, Leaves, SeesOthers, TakesMoment};
+ghost use Rattle.section_handles.specs.Handles.{HasOpenedSection, KeepsSections, IsAsItWas};
 
 use crate::opened::Opened;
 use sections::{Section, Sections};
@@ -14,7 +14,7 @@ use std::sync::Arc;
 /// memory is refused.
 pub fn make_keeper(alloc: Global, count: u16) -> Result<Box<Opened, Global>, AllocError>
     requires { count < 65_535 }
-    ensures { IfOk result (λ made. IsKeeper count made.value) }
+    ensures { IfOk result (λ made. KeepsSections count made.value) }
 {
     let (sections, mut kept) = Sections::new(alloc, count + 1)?;
     kept.reverse();
@@ -38,8 +38,9 @@ impl Opened {
     /// Takes the last section out of `kept`, with a share of the table; `None` if none is kept. If memory is refused, an error, and all stay
     /// kept.
     pub fn open_next(&mut self, alloc: Global) -> Result<Option<Box<Opened, Global>>, AllocError>
-        ensures opened { IfOk result (λ next. MatchOption next (self.old.kept.items ≡ [] × KeepsAll self.old self.new) (λ b. HasOpenedNext self.old self.new b.value)) }
-        ensures refused { IfErr result (λ _. KeepsAll self.old self.new) }
+        ensures opened { IfOk result (λ next. MatchOption next (self.old.kept.items ≡ [] × IsAsItWas self.old self.new)
+            (λ b. HasOpenedSection self.old self.new b.value)) }
+        ensures refused { IfErr result (λ _. IsAsItWas self.old self.new) }
     {
         let sections = Arc::try_clone(&self.sections)?;
         let Some(section) = self.kept.pop() else {
@@ -90,7 +91,7 @@ impl Opened {
 
     /// Whether the moment of this number is past, as `Sections::is_past` tells.
     pub fn is_past(&mut self, moment: u64) -> bool
-        ensures looks { Looks self.old.section self.new.section }
+        ensures looks { SeesOthers self.old.section self.new.section }
         ensures past { result ≡ true → IsPast moment self.new.section.known.run }
         ensures held { result ≡ false → IsHeld moment self.new.section.known.run }
         ensures keeps { (self.new.sections.value ≡ self.old.sections.value) × (self.new.kept.items ≡ self.old.kept.items) }

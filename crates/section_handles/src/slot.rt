@@ -1,7 +1,7 @@
 //! A place for what an open handle holds, behind an untyped pointer that C may hold.
 
 ghost use Rattle.std.specs.Prelude.{◌≡◌, Option as Maybe, None, Some, IsSome};
-ghost use Rattle.section_handles.specs.Owning.{owns_opened};
+ghost use Rattle.section_handles.specs.Owning.{owns_section};
 ghost use Rattle.section_handles.specs.declared.opened.Opened.{Opened as Content};
 
 use crate::opened::Opened;
@@ -18,7 +18,7 @@ pub struct Slot {
 }
 
 impl Model for Slot {
-    ghost also_owns = { λ s. owns_opened s.at s.opened };
+    ghost also_owns = { λ s. owns_section s.at s.opened };
 }
 
 impl Slot {

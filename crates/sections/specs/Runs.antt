@@ -28,9 +28,9 @@ MayFollow run (Entered q n) = (word_in q run ≡ 0) × (n ≤ moments_in run)
 MayFollow run (Left q) = IsOpen q run
 MayFollow run Taken = moments_in run < MOST_MOMENTS
 
-abbrev pub IsLawful : List Event → Type 0
-IsLawful [] = Unit {0}
-IsLawful (e ∷ run) = MayFollow run e × IsLawful run
+abbrev pub IsLawfulRun : List Event → Type 0
+IsLawfulRun [] = Unit {0}
+IsLawfulRun (e ∷ run) = MayFollow run e × IsLawfulRun run
 
 -- none of the events is one of section q
 abbrev pub HasNoneOf : ℕ → List Event → Type 0
@@ -40,12 +40,12 @@ HasNoneOf q (Left p ∷ run) = (p ≢ q) × HasNoneOf q run
 HasNoneOf q (Taken ∷ run) = HasNoneOf q run
 
 -- the run goes on from an earlier one,
-abbrev pub GoesOn : List Event → List Event → Type 0
-GoesOn earlier later = (more : List Event) × (later ≡ more ++ earlier)
+abbrev pub RunGoesOn : List Event → List Event → Type 0
+RunGoesOn earlier later = (more : List Event) × (later ≡ more ++ earlier)
 
 -- and by no event of section q
-abbrev pub OthersGoOn : ℕ → List Event → List Event → Type 0
-OthersGoOn q earlier later = (more : List Event) × (later ≡ more ++ earlier) × HasNoneOf q more
+abbrev pub OthersRunOn : ℕ → List Event → List Event → Type 0
+OthersRunOn q earlier later = (more : List Event) × (later ≡ more ++ earlier) × HasNoneOf q more
 
 -- The moment of this number is past: each section that was open at any time before it was taken has been left since then. The
 -- moments are numbered from 1 on, in the order in which they are taken.

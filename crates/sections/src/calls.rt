@@ -2,7 +2,7 @@
 
 ghost use Rattle.std.specs.Prelude.{◌≡◌, ◌<◌, ◌≤◌, true, false};
 ghost use Rattle.sections.specs.Runs.{IsHeld, IsNewer, IsPast};
-ghost use Rattle.sections.specs.Sections.{Enters, IsInside, IsSectionOf, Leaves, Looks, TakesMoment};
+ghost use Rattle.sections.specs.Sections.{Enters, IsInside, IsSectionOf, Leaves, SeesOthers, TakesMoment};
 
 use crate::table::{MOST_MOMENTS, Section, Sections};
 
@@ -64,7 +64,7 @@ impl Sections {
     /// moment was taken.
     pub fn is_past(&self, section: &mut Section, moment: u64) -> bool
         requires { IsSectionOf self.now section.old }
-        ensures looks { Looks section.old section.new }
+        ensures looks { SeesOthers section.old section.new }
         ensures past { result ≡ true → IsPast moment section.new.known.run }
         ensures held { result ≡ false → IsHeld moment section.new.known.run }
     {

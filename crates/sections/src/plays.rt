@@ -1,7 +1,7 @@
 //! The rule of the table, and what its steps tell.
 
 ghost use Rattle.sections.specs.declared.events.Seated.TheVariants.{Dealer};
-ghost use Rattle.sections.specs.Rule.{Ruled, counting, dealt, entering, finding, found_moments, found_reach, found_word, leaving, next_dealer, taking};
+ghost use Rattle.sections.specs.Rule.{SectionsRuled, counting, section_dealt, entering, finding, found_moments, found_reach, found_word, leaving, next_section, taking};
 
 use crate::events::Seated;
 use atomic_table::{Play, Split, TableRule};
@@ -11,7 +11,7 @@ use atomic_table::{Play, Split, TableRule};
 pub(crate) struct SectionRule;
 
 impl TableRule<(), Seated, u16> for SectionRule {
-    ghost holds = { Ruled };
+    ghost holds = { SectionsRuled };
 
     ghost first = { λ count. Dealer 0 count };
 }
@@ -20,9 +20,9 @@ impl TableRule<(), Seated, u16> for SectionRule {
 pub(crate) struct Deal;
 
 impl Split<Seated> for Deal {
-    ghost left = { next_dealer };
+    ghost left = { next_section };
 
-    ghost right = { dealt };
+    ghost right = { section_dealt };
 }
 
 /// The number of moments is loaded.

@@ -2,7 +2,7 @@
 
 ghost use Rattle.std.specs.Prelude.{◌≡◌, ◌≤◌, ◌<◌, ℕ, true};
 ghost use Rattle.sections.specs.Runs.{HasNoneOf, moments_in, word_in};
-ghost use Rattle.sections.specs.Sections.{Enters, IsInside, IsSectionOf, Leaves, Looks, StartsCounting, TakesNext};
+ghost use Rattle.sections.specs.Sections.{Enters, IsInside, IsSectionOf, Leaves, SeesOthers, StartsCounting, TakesNext};
 
 use crate::plays::{Counts, Entering, FindsMoments, FindsReach, FindsWord, Leaving, Taking};
 use crate::table::{FIRST_SECTION, MOMENTS, MOST_MOMENTS, REACH, Section, Sections};
@@ -11,7 +11,7 @@ impl Sections {
     /// Loads how many moments have been taken, and returns it.
     pub(crate) fn load_moments(&self, section: &mut Section) -> u64
         requires { IsSectionOf self.now section.old }
-        ensures looks { Looks section.old section.new }
+        ensures looks { SeesOthers section.old section.new }
         ensures found { result ≡ moments_in section.new.known.run }
         ensures most { result ≤ MOST_MOMENTS }
     {
@@ -23,7 +23,7 @@ impl Sections {
     /// Loads the reach and returns it: all sections that were ever entered have numbers below it.
     pub(crate) fn load_reach(&self, section: &mut Section) -> u16
         requires { IsSectionOf self.now section.old }
-        ensures looks { Looks section.old section.new }
+        ensures looks { SeesOthers section.old section.new }
         ensures within { result ≤ self.now.count }
         ensures beyond { (q : ℕ) → result ≤ q → HasNoneOf q section.new.known.run }
     {
@@ -38,7 +38,7 @@ impl Sections {
     pub(crate) fn load_word(&self, section: &mut Section, of: u16) -> u64
         requires own { IsSectionOf self.now section.old }
         requires range { of < self.now.count }
-        ensures looks { Looks section.old section.new }
+        ensures looks { SeesOthers section.old section.new }
         ensures found { result ≡ word_in of section.new.known.run }
     {
         let place = FIRST_SECTION + 8 * of as usize;

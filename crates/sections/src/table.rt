@@ -37,9 +37,9 @@ impl Model for Section {
 
     ghost Value = { SectionView };
 
-    ghost use Rattle.sections.specs.Rule.{IsOwners, known_of};
+    ghost use Rattle.sections.specs.Rule.{IsOwners, owner_of};
 
-    ghost view = { λ s. record { table = s.seat.table_id; known = known_of s.seat.me.0 } };
+    ghost view = { λ s. record { table = s.seat.table_id; known = owner_of s.seat.me.0 } };
 
     ghost invariant = { λ s. IsOwners s.seat.me s.number s.counted s.word };
 }
@@ -57,11 +57,11 @@ impl Model for Sections {
     ghost Value = { SectionsView };
 
     ghost use Rattle.std.specs.Prelude.{◌≡◌};
-    ghost use Rattle.sections.specs.Rule.{word_count};
+    ghost use Rattle.sections.specs.Rule.{sections_words};
 
     ghost view = { λ t. record { id = t.table.shared.table_id; count = t.count } };
 
-    ghost invariant = { λ t. (t.table.shared.table_id.words ≡ word_count t.count) × (t.table.shared.key ≡ t.count) };
+    ghost invariant = { λ t. (t.table.shared.table_id.words ≡ sections_words t.count) × (t.table.shared.key ≡ t.count) };
 }
 
 impl Sections {

@@ -6,7 +6,7 @@ use Rattle.std_heap.specs.contracts.Global.{the_row as A}
 use Rattle.std_heap.specs.contracts.GlobalAllocator.TheImpl.{ghosts, dict}
 use Rattle.std_heap.proofs.GlobalAllocator.TheImpl.Met.{passed}
 use Rattle.std_heap.proofs.Global.TheLaws as heap
-use Rattle.section_handles.specs.Owning.{owns_opened}
+use Rattle.section_handles.specs.Owning.{owns_section}
 use Rattle.section_handles.specs.declared.opened.Opened.{Opened}
 use Rattle.section_handles.specs.contracts.slot.Slot.{the_row as S}
 use Rattle.section_handles.specs.contracts.Destruct++none.drop.Key.{symbol}
@@ -38,7 +38,7 @@ into_box_spec 𝓤 𝓛 𝓜 𝓡 wired =
     let at = slot.at in
     let z : G.Ghost = ((ages, shares, tt, (alloc, (at, tt)), (a ∷ [], (ptr_val at ∷ [], tt))), x) in
     -- [the allocator; nothing; what the slot holds]
-    move ! (2 ∷ []) $ rewrite ! 0 (λ (content : Option Opened). ‵ (owns_opened at content)) holds refl $
+    move ! (2 ∷ []) $ rewrite ! 0 (λ (content : Option Opened). ‵ (owns_section at content)) holds refl $
     unbound ! $
     move ! (2 ∷ []) $ feq_i ! (List Val) (ptr_val at ∷ []) (ptr_val at ∷ []) refl $ fjoin ! $ move ! (2 ∷ 0 ∷ []) $ fjoin ! $
     ageless ! $ join ! $ join ! $

@@ -8,8 +8,8 @@ use denote.Memory.{lone, mem, part_at, part_of, cell_at}
 use denote.Ref.{MutBor, MutRef, mut_vals, mut_Tells}
 use denote.Follow.{follows, lends_Part}
 use Rattle.std_heap.specs.contracts.GlobalAllocator.TheImpl.{ghosts}
-use Rattle.section_handles.specs.Lending.{with_opened}
-use Rattle.section_handles.specs.Owning.{heap, owns_opened}
+use Rattle.section_handles.specs.Lending.{with_section}
+use Rattle.section_handles.specs.Owning.{section_heap, owns_section}
 use Rattle.section_handles.specs.declared.opened.Opened.{Opened}
 use Rattle.section_handles.specs.contracts.opened.Opened.{the_row as O}
 use Rattle.section_handles.specs.contracts.slot.Slot.{the_row as S}
@@ -24,18 +24,18 @@ stayed = (stay_dropped (mut_ref_to (0 ∷ []) tt (plain (λ _. S))) no, tt)
 module _ {M : Type 1} {𝓤 : Ura M} (𝓛 : Logic 𝓤) (slot : S.Denot) (b o b' o' : ℕ) where
   -- the right to free what lies behind the pointer, and the slot's word
   abbrev Right : Fml
-  Right = ghosts.dealloc_token heap (bare (lone O.mir)) (block_ptr b' o')
+  Right = ghosts.dealloc_token section_heap (bare (lone O.mir)) (block_ptr b' o')
 
   abbrev Cell : Ptr → Fml
   Cell at = cell_at full_share S.mir (word at ∷ []) b o
 
   -- with any content there they are a slot again
-  refilled : slot.at ≡ block_ptr b' o' → (x : Opened) → ent 𝓤 (sep 𝓤 (sem 𝓛 ((mem O).own_at x b' o')) (sep 𝓤 (sem 𝓛 Right) (sem 𝓛 (Cell (block_ptr b' o'))))) (sem 𝓛 ((mem S).own_at (with_opened slot x) b o))
+  refilled : slot.at ≡ block_ptr b' o' → (x : Opened) → ent 𝓤 (sep 𝓤 (sem 𝓛 ((mem O).own_at x b' o')) (sep 𝓤 (sem 𝓛 Right) (sem 𝓛 (Cell (block_ptr b' o'))))) (sem 𝓛 ((mem S).own_at (with_section slot x) b o))
   unfolding part_of
   refilled at_block x = qed 𝓛 (‵ (part_at O full_share x b' o') ∷ ‵ Right ∷ ‵ (Cell (block_ptr b' o')) ∷ []) ∵ fjoin ! $
-      rewrite ! 0 (λ (p : Ptr). ‵ (owns_opened p (Some x))) (sym at_block) refl $ slot_in ! (with_opened slot x) $
+      rewrite ! 0 (λ (p : Ptr). ‵ (owns_section p (Some x))) (sym at_block) refl $ slot_in ! (with_section slot x) $
       rewrite ! 1 (λ (p : Ptr). ‵ (Cell p)) (sym at_block) refl $ move ! (1 ∷ []) $ fjoin ! $
-      fpack ! (List Val) (λ us. fsep (cell_at full_share S.mir us b o) (S.own_val (with_opened slot x) us)) (word slot.at ∷ []) $ done !
+      fpack ! (List Val) (λ us. fsep (cell_at full_share S.mir us b o) (S.own_val (with_section slot x) us)) (word slot.at ∷ []) $ done !
 
 pub lend_spec : {M : Type 1} → statement M
 lend_spec 𝓤 𝓛 𝓜 𝓡 wired =
@@ -50,8 +50,8 @@ lend_spec 𝓤 𝓛 𝓜 𝓡 wired =
     split ! $ split ! $ move ! (2 ∷ []) $ split ! $ keep ! (0 ∷ 2 ∷ []) $
     enter ! _ _ _ _ _ $ alloc_all ! (λ l. pass_all ! refl ((tt, tt), tt) $
     fsplit3 ! $ move ! (1 ∷ 2 ∷ 3 ∷ []) $ opens ! tt S b o (λ us. move ! (1 ∷ []) $ slot_out ! slot us (λ is.
-    rewrite ! 0 (λ (held : Option Opened). ‵ (owns_opened slot.at held)) holds refl $
-    in_a_block ! slot.at (λ p. owns_opened p (Some x)) (fst∗ 𝓤 (never 𝓤) (sem 𝓛 (ghosts.dealloc_token heap (bare (lone O.mir)) null_ptr))) (λ b' o' at_block. fsplit ! $
+    rewrite ! 0 (λ (held : Option Opened). ‵ (owns_section slot.at held)) holds refl $
+    in_a_block ! slot.at (λ p. owns_section p (Some x)) (fst∗ 𝓤 (never 𝓤) (sem 𝓛 (ghosts.dealloc_token section_heap (bare (lone O.mir)) null_ptr))) (λ b' o' at_block. fsplit ! $
     rewrite ! 2 (λ (vs : List Val). ‵ (cell_at full_share S.mir vs b o)) (is ∙ ap (λ (p : Ptr). word p ∷ []) at_block) refl $
     -- [what lies behind the pointer; the right to free it; the slot's word; the open borrow, in three entries]
     first ! $ blocks ! $
@@ -62,8 +62,8 @@ lend_spec 𝓤 𝓛 𝓜 𝓡 wired =
     sets ! (of_opd ! (get ! refl)) refl (tt, tt) $
     move ! (3 ∷ 4 ∷ 5 ∷ []) $ group ! 6 $
     let lent : GName → MutBor Opened = λ γ. record { ref_ptr = (b', o'); ghost_name = γ; now = x } in
-    use1 𝓛 (later (some (λ (γ : GName). ‵ ((MutRef (named 0) κ O).own_val (lent γ) (vptr b' o' ∷ [])) ⊛ ‵ (flft κ q) ⊛ ‵ (follows S O self.ghost_name γ (with_opened slot)))))
-    (lends_Part 𝓛 S O (with_opened slot) (named 0) κ q b o b' o' self.ghost_name (sep 𝓤 (sem 𝓛 (Right 𝓛 slot b o b' o')) (sem 𝓛 (Cell 𝓛 slot b o b' o' (block_ptr b' o')))) (refilled 𝓛 slot b o b' o' at_block) (S.coded.code slot) (S.coded.code slot) x) $ await ! tt $ pick ! (λ γ. split3 ! $
+    use1 𝓛 (later (some (λ (γ : GName). ‵ ((MutRef (named 0) κ O).own_val (lent γ) (vptr b' o' ∷ [])) ⊛ ‵ (flft κ q) ⊛ ‵ (follows S O self.ghost_name γ (with_section slot)))))
+    (lends_Part 𝓛 S O (with_section slot) (named 0) κ q b o b' o' self.ghost_name (sep 𝓤 (sem 𝓛 (Right 𝓛 slot b o b' o')) (sem 𝓛 (Cell 𝓛 slot b o b' o' (block_ptr b' o')))) (refilled 𝓛 slot b o b' o' at_block) (S.coded.code slot) (S.coded.code slot) x) $ await ! tt $ pick ! (λ γ. split3 ! $
     returns ! (look_at ! 0 refl) $ free_all ! refl $ keep ! (0 ∷ 1 ∷ 2 ∷ []) $
     -- [the loan; the token; that the slot follows]
     suffices ! _ (ends_at 𝓛 f.ended stayed c y (vptr b' o') (lent γ) (tt, tt) (tt, tt)) $

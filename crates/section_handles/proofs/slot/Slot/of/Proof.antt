@@ -3,7 +3,7 @@ use Rattle.section_handles.proofs.Steps.{List, [], ◌∷◌, ◌++◌, Some, re
 use denote.Param.NoDrop.{glues}
 use Rattle.std_heap.specs.contracts.GlobalAllocator.TheImpl.{ghosts, dict}
 use Rattle.std_heap.proofs.GlobalAllocator.TheImpl.Met.{passed}
-use Rattle.section_handles.specs.Owning.{owns_opened}
+use Rattle.section_handles.specs.Owning.{owns_section}
 use Rattle.section_handles.specs.contracts.slot.Slot.{the_row as S}
 use Rattle.section_handles.specs.contracts.Destruct++none.drop.Key.{symbol}
 use Rattle.section_handles.proofs.Content.{word, slot_in, one_word, pointer_fits, word_fits}
@@ -40,7 +40,7 @@ of_spec 𝓤 𝓛 𝓜 𝓡 wired =
     (held_drops 𝓤 𝓛 𝓜 𝓡 (code.calls-section_handles::section_handles++opened++Opened+Destruct::drop 𝓡.env wired))) z
     (and_then ! (get ! refl) (no_more !)) (λ v.
     use1 𝓛 (later (some (λ (at : Ptr). (tokens 𝓛 ⊛ ‵ (RawPtr.own_val at (v ∷ []))) ⊛
-    some (λ (ls : Lasts F z.0.0 z.0.3). ‵ (lasts F z.0.0 z.0.3 ls) ⊛ ‵ (owns_opened at (Some box.value)))))) (id⊢ 𝓤 _) $
+    some (λ (ls : Lasts F z.0.0 z.0.3). ‵ (lasts F z.0.0 z.0.3 ls) ⊛ ‵ (owns_section at (Some box.value)))))) (id⊢ 𝓤 _) $
     await ! tt $ pick ! (λ at. split ! $ move ! (1 ∷ []) $ pick ! (λ ls. split ! $ drop ! $ move ! (1 ∷ []) $ split ! $ drop ! $ feq_l ! (λ is_at.
     lands_as ! (ap only is_at) refl (pointer_fits at) $
     sets ! (of_opd ! (get ! refl)) refl (pointer_fits at) $

@@ -1,5 +1,4 @@
 -- The words below `of` have been looked at.
-use Rattle.sections.specs.Sections.{SectionView}
 use Rattle.sections.proofs.Past.{HasLooked}
 use Rattle.sections.proofs.table.Sections.is_past.Given as goal
 

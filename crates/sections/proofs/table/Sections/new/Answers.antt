@@ -2,7 +2,7 @@
 use Rattle.std.proofs.Common.{rules, ◌≡◌, ℕ, List, ap, subst, sym, ◌∙◌}
 use mathlib.Core.Option.{some}
 use lib.ListN.{get_elem?}
-use Rattle.sections.specs.Rule.{dealt, known_of, next_dealer}
+use Rattle.sections.specs.Rule.{section_dealt, owner_of, next_section}
 use Rattle.sections.specs.Sections.{IsNewSection, SectionsView, SectionView}
 use Rattle.sections.proofs.Dealing.{deals, each_longer, opens}
 use Rattle.sections.proofs.table.Sections.new.Goals as goal
@@ -20,9 +20,9 @@ loop-number-preserved c =
     let split = c.split_seat-seat.ensures in
     let made : SectionsView = record { id = c.in_ok-table.table.shared.table_id; count = c.args.count } in (
       search rules,
-      split.2 ∙ (λ i. (next_dealer (was i), none i)),
+      split.2 ∙ (λ i. (next_section (was i), none i)),
       search rules,
       subst (λ (l : List SectionView). (q : ℕ) (s : SectionView) → get_elem? l q ≡ some s → IsNewSection made q s) (sym c.in_ok-push.ensures.items)
           (each_longer (λ q (s : SectionView). IsNewSection made q s) c.loop-number.sections.items _ c.loop-number.number c.loop-number.invariant.2 c.loop-number.invariant.3
-          (search rules, ap (λ m. known_of m.0) split.4 ∙ ap (λ v. known_of (dealt v)) was)),
+          (search rules, ap (λ m. owner_of m.0) split.4 ∙ ap (λ v. owner_of (section_dealt v)) was)),
     )
