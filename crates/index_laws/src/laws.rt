@@ -1,5 +1,6 @@
 //! Laws of the index over whole runs. The functions do nothing: their contracts are the laws.
 ghost use Rattle.index_laws.specs.Headline.{Headline};
+ghost use Rattle.index_laws.specs.Joined.{OneRunIsAnExecution, ShownHaveEnded, SilentStepsEnd, TwoThatMeetHaveEnded};
 ghost use Rattle.index_laws.specs.Statements.{AGetReturns, Responses};
 ghost use Rattle.index_laws.specs.Steps.{StepsAreMoments, StepsFollow};
 ghost use Rattle.index_laws.specs.Traced.{AGetIsTraced, CallsMakeNoAsides, EndedBeforeLoaded, EndedOrLoadedBefore, EndedOrShownBefore, LoadsAreMoments, LoadsSeeAll, MetAreOfOneRun, TracedAreExecutions};
@@ -35,6 +36,28 @@ pub fn allowed_steps_are_steps_of_the_run()
 /// in which each step's trace is what came before it.
 pub fn contracts_make_an_execution()
     ensures { TracedAreExecutions }
+{}
+
+/// Let the traces of all passes of an index have ended in one run. The calls that they made are an execution by contracts alone, and
+/// linearizable. No premise speaks of executions.
+pub fn calls_of_one_run_are_an_execution()
+    ensures { OneRunIsAnExecution }
+{}
+
+/// Let a run begin with the steps of which each pass of an index knew, and let each then be shown steps that begin with this run. Their
+/// traces have ended in it.
+pub fn shown_passes_have_ended_in_one_run()
+    ensures { ShownHaveEnded }
+{}
+
+/// Let the two passes of an index meet that has no other. Their traces have ended in the run of which both know then.
+pub fn two_that_meet_have_ended_in_one_run()
+    ensures { TwoThatMeetHaveEnded }
+{}
+
+/// The steps of a round of collection or of a count, which come with no notes, are the steps of a call.
+pub fn silent_steps_are_of_a_call()
+    ensures { SilentStepsEnd }
 {}
 
 /// For each layout with a pass, and each key, there is an execution by contracts alone. In it a get in a new index finds its key absent.

@@ -1,0 +1,67 @@
+-- Where passes have ended in one run, and that their calls are linearizable then.
+use Rattle.std.proofs.Common.{◌≡◌, ◌≢◌, ⊎_elim, ℕ, ◌<◌, List, [], ◌∷◌, None, Some, refl, sym, ap, subst, ◌∙◌, arith, le_refl}
+use Rattle.std.proofs.lemmas.Bool.{cases_eq}
+use Rattle.rowex_core.specs.declared.event.Event.{Event}
+use Rattle.rowex_table.specs.Runs.{StepsWith, silent}
+use Rattle.rowex_table.specs.Seats.{SeatView}
+use Rattle.rowex_table.specs.Traces.{OthersStepOn}
+use Rattle.hot_index_calls.specs.Traces.{untold}
+use Rattle.real_time.specs.Histories.{PendingEndOrChangeAsAsked}
+use Rattle.real_time.specs.Moments.{Moment, Pending}
+use Rattle.index_laws.specs.Joined.{HasDone, OneRunIsAnExecution, ShownHaveEnded, SilentStepsEnd, TwoThatMeetHaveEnded, of_two}
+use Rattle.index_laws.specs.Traced.{moment_of}
+use Rattle.index_laws.proofs.Interleaving.{named_by, one_execution}
+use Rattle.index_laws.proofs.Placing.{others_between}
+use Rattle.index_laws.proofs.Timed.{executions_are_linearizable}
+use Rattle.index_laws.proofs.Traced.{traced_are_executions}
+
+none_some : (call : Pending) (P : Type 0) → None ≡ Some call → P
+none_some call P e = cc
+
+pub one_run_is_an_execution : OneRunIsAnExecution
+one_run_is_an_execution table run done seat x =
+    let r = one_execution table run done seat x in
+    let last : ℕ = r.0 in
+    let moments : ℕ → Moment = λ t. moment_of table.layout (r.1 t) in
+    let ends : PendingEndOrChangeAsAsked table.layout last last moments = λ q low call is. none_some call _ (sym (r.3.idle q low) ∙ is) in
+    (last, r.1, r.2, r.3, executions_are_linearizable table.layout last last moments r.2 (le_refl last) (traced_are_executions table last r.1 r.2 r.3.traced) ends)
+
+pub shown_have_ended : ShownHaveEnded
+shown_have_ended table run done seat shown led each begun later begins = record {
+  led = led;
+  each = each;
+  others = λ q low. others_between q (seat q).trace run (shown q).trace
+      (subst (λ p. OthersStepOn p (seat q).trace (shown q).trace) (named_by (each q low)) (later q low).run.others) (begun q low) (begins q low);
+}
+
+-- what is so of pass 0 and pass 1
+of_both : {A : Type 0} (P : ℕ → A → Type 0) (x y : A) → P 0 x → P 1 y → (passes : ℕ) → passes ≡ 2 → (q : ℕ) → q < passes → P q (of_two x y q)
+of_both P x y here there passes two q low = ⊎_elim
+    (λ (e : q ≡ 0). subst (λ k. P k (of_two x y k)) (sym e) here)
+    (λ (ne : q ≢ 0). let e : 1 ≡ q = omega (arith, two, low, ne) in subst (λ k. P k (of_two x y k)) e there)
+    (cases_eq q 0)
+
+pub two_that_meet_have_ended : TwoThatMeetHaveEnded
+two_that_meet_have_ended table ours theirs s t u v two first second shown other same =
+    let n : ℕ = table.layout.passes in
+    let run : List Event = u.trace in
+    record {
+      led = (shown.run.core, shown.run.led);
+      each = both_done n two;
+      others = of_both (λ q (z : SeatView). OthersStepOn q z.trace run) s t
+          (subst (λ p. OthersStepOn p s.trace run) (named_by first) shown.run.others)
+          (subst (λ l. OthersStepOn 1 t.trace l) (sym same) (subst (λ p. OthersStepOn p t.trace v.trace) (named_by second) other.run.others)) n two;
+    }
+  where
+    both_done : (passes : ℕ) → passes ≡ 2 → (q : ℕ) → q < passes → HasDone table q (of_two ours theirs q) (of_two s t q)
+    both_done passes is q low = ⊎_elim
+        (λ (e : q ≡ 0). subst (λ k. HasDone table k (of_two ours theirs k) (of_two s t k)) (sym e) first)
+        (λ (ne : q ≢ 0). let e : 1 ≡ q = omega (arith, is, low, ne) in subst (λ k. HasDone table k (of_two ours theirs k) (of_two s t k)) e second)
+        (cases_eq q 0)
+
+pub silent_steps_end : SilentStepsEnd
+silent_steps_end table act [] s e (m, step, is) =
+    ([], act, refl, ((s, tt), refl, subst (λ (z : SeatView × Unit {0}). StepsWith table untold act silent (s, tt) z) (sym is) step))
+silent_steps_end table act (next ∷ acts) s e (m, step, runs) =
+    let h = silent_steps_end table next acts m.0 e runs in
+    (act ∷ h.0, h.1, ap (λ l. act ∷ l) h.2, (h.3.0, (m, step, h.3.1), h.3.2))
