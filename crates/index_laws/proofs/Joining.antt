@@ -3,11 +3,11 @@ use Rattle.std.proofs.Common.{◌≡◌, ◌≢◌, ⊎_elim, ℕ, ◌<◌, List
 use Rattle.std.proofs.lemmas.Bool.{cases_eq}
 use Rattle.rowex_core.specs.declared.event.Event.{Event}
 use Rattle.rowex_table.specs.Runs.{StepsWith, silent}
-use Rattle.rowex_table.specs.Seats.{SeatView}
+use Rattle.rowex_table.specs.Seats.{SeatView, TableView}
 use Rattle.rowex_table.specs.Traces.{OthersStepOn}
 use Rattle.hot_index_calls.specs.Traces.{untold}
 use Rattle.real_time.specs.Histories.{PendingEndOrChangeAsAsked}
-use Rattle.real_time.specs.Moments.{Moment, Pending}
+use Rattle.real_time.specs.Moments.{Happening, Moment, Pending}
 use Rattle.index_laws.specs.Joined.{HasDone, OneRunIsAnExecution, ShownHaveEnded, SilentStepsEnd, TwoThatMeetHaveEnded, of_two}
 use Rattle.index_laws.specs.Traced.{moment_of}
 use Rattle.index_laws.proofs.Interleaving.{named_by, one_execution}
@@ -35,10 +35,17 @@ shown_have_ended table run done seat shown led each begun later begins = record 
 }
 
 -- what is so of pass 0 and pass 1
-of_both : {A : Type 0} (P : ℕ → A → Type 0) (x y : A) → P 0 x → P 1 y → (passes : ℕ) → passes ≡ 2 → (q : ℕ) → q < passes → P q (of_two x y q)
+pub of_both : {A : Type 0} (P : ℕ → A → Type 0) (x y : A) → P 0 x → P 1 y → (passes : ℕ) → passes ≡ 2 → (q : ℕ) → q < passes → P q (of_two x y q)
 of_both P x y here there passes two q low = ⊎_elim
     (λ (e : q ≡ 0). subst (λ k. P k (of_two x y k)) (sym e) here)
     (λ (ne : q ≢ 0). let e : 1 ≡ q = omega (arith, two, low, ne) in subst (λ k. P k (of_two x y k)) e there)
+    (cases_eq q 0)
+
+pub both_done : (table : TableView) (ours theirs : List Happening) (s t : SeatView) → HasDone table 0 ours s → HasDone table 1 theirs t → (passes : ℕ) → passes ≡ 2 →
+    (q : ℕ) → q < passes → HasDone table q (of_two ours theirs q) (of_two s t q)
+both_done table ours theirs s t first second passes is q low = ⊎_elim
+    (λ (e : q ≡ 0). subst (λ k. HasDone table k (of_two ours theirs k) (of_two s t k)) (sym e) first)
+    (λ (ne : q ≢ 0). let e : 1 ≡ q = omega (arith, is, low, ne) in subst (λ k. HasDone table k (of_two ours theirs k) (of_two s t k)) e second)
     (cases_eq q 0)
 
 pub two_that_meet_have_ended : TwoThatMeetHaveEnded
@@ -47,17 +54,11 @@ two_that_meet_have_ended table ours theirs s t u v two first second shown other 
     let run : List Event = u.trace in
     record {
       led = (shown.run.core, shown.run.led);
-      each = both_done n two;
+      each = both_done table ours theirs s t first second n two;
       others = of_both (λ q (z : SeatView). OthersStepOn q z.trace run) s t
           (subst (λ p. OthersStepOn p s.trace run) (named_by first) shown.run.others)
           (subst (λ l. OthersStepOn 1 t.trace l) (sym same) (subst (λ p. OthersStepOn p t.trace v.trace) (named_by second) other.run.others)) n two;
     }
-  where
-    both_done : (passes : ℕ) → passes ≡ 2 → (q : ℕ) → q < passes → HasDone table q (of_two ours theirs q) (of_two s t q)
-    both_done passes is q low = ⊎_elim
-        (λ (e : q ≡ 0). subst (λ k. HasDone table k (of_two ours theirs k) (of_two s t k)) (sym e) first)
-        (λ (ne : q ≢ 0). let e : 1 ≡ q = omega (arith, is, low, ne) in subst (λ k. HasDone table k (of_two ours theirs k) (of_two s t k)) e second)
-        (cases_eq q 0)
 
 pub silent_steps_end : SilentStepsEnd
 silent_steps_end table act [] s e (m, step, is) =

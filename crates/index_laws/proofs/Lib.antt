@@ -10,5 +10,6 @@ pub mod Coming
 pub mod Moving
 pub mod Interleaving
 pub mod Joining
+pub mod Finding
 pub mod Living
 pub mod Promised

@@ -1,9 +1,11 @@
 -- Passes whose traces have ended in one run of the table: what each has done, as the contracts of its calls say one after the other, and the
 -- execution that they make together.
-use Rattle.std.specs.Prelude.{◌≡◌, ℕ, zero, suc, ◌<◌, ◌≤◌, All, List, [], ◌∷◌, ◌++◌, None, if◌then◌else◌, length, map, nat_eq}
+use Rattle.std.specs.Prelude.{◌≡◌, ℕ, zero, suc, ◌<◌, ◌≤◌, ◌^◌, All, List, [], ◌∷◌, ◌++◌, None, if◌then◌else◌, length, map, nat_eq}
 use Rattle.finite_map.specs.declared.Call.{Call}
+use Rattle.finite_map.specs.declared.Call.TheVariants.{Get, Insert}
 use Rattle.finite_map.specs.declared.Note.{Note}
 use Rattle.finite_map.specs.declared.Reply.{Reply}
+use Rattle.finite_map.specs.declared.Reply.TheVariants.{Inserted, Value}
 use Rattle.finite_map.specs.Calls.{LegalCalls}
 use Rattle.finite_map.specs.Fronts.{BeginsWith}
 use Rattle.record_words.specs.declared.layout.Layout.{Layout}
@@ -143,3 +145,11 @@ abbrev pub SilentStepsEnd : Type 0
 SilentStepsEnd =
     (table : TableView) (act : Act) (acts : List Act) (s e : SeatView) → Runs table untold (act ∷ acts) (s, tt) (e, tt) →
     (before : List Act) × (last : Act) × (act ∷ acts ≡ before ++ last ∷ []) × Ends table untold before last silent (s, tt) (e, tt)
+
+-- Passes do end in one run: in an index of two, pass 0 inserts the key of no bytes, with any value, and pass 1 finds it there.
+abbrev pub AnInsertIsFound : Type 0
+AnInsertIsFound =
+    (table : TableView) → table.layout.passes ≡ 2 → (value : ℕ) → value < 2 ^ 64 →
+    (run : List Event) × (done : ℕ → List Happening) × (seat : ℕ → SeatView) × HaveEndedInOneRun table run done seat ×
+    ((seat 0).known.notes ≡ record { place = 0; call = Insert [] value; reply = Inserted } ∷ []) ×
+    ((seat 1).known.notes ≡ record { place = 1; call = Get []; reply = Value value } ∷ [])
