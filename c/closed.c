@@ -58,6 +58,9 @@ static hot_handle open_handle = HOT_HANDLE;
     CALL(hot_add(closed, key, 1, 1, &to->value))                                               \
     CALL(hot_remove_if(closed, key, 1, 1, &to->value))                                         \
     CALL(hot_clear(closed))                                                                    \
+    CALL(hot_clear_range(closed, key, 1, key, 1))                                              \
+    CALL(hot_pop_first(closed, key, 1, key, 1, &to->pair))                                     \
+    CALL(hot_pop_last(closed, key, 1, key, 1, &to->pair))                                      \
     CALL(hot_copy(closed, closed))                                                             \
     CALL(hot_copy(closed, &open_handle))                                                       \
     CALL(hot_copy(&open_handle, closed))                                                       \
@@ -66,9 +69,12 @@ static hot_handle open_handle = HOT_HANDLE;
     CALL(hot_scan_last(closed, key, 1, key, 1, &to->pair, 1, &to->count, &to->more))           \
     CALL(hot_scan_prefix(closed, key, 1, NULL, 0, &to->pair, 1, &to->count, &to->more))        \
     CALL(hot_scan_prefix(closed, key, 1, key, 1, &to->pair, 1, &to->count, &to->more))         \
+    CALL(hot_scan_prefix_reverse(closed, key, 1, NULL, 0, &to->pair, 1, &to->count, &to->more)) \
+    CALL(hot_scan_prefix_reverse(closed, key, 1, key, 1, &to->pair, 1, &to->count, &to->more))  \
     CALL(hot_scan_packed(closed, key, 1, key, 1, to->key, 1, &to->head, 1, &to->count, &to->more))         \
     CALL(hot_scan_packed_reverse(closed, key, 1, key, 1, to->key, 1, &to->head, 1, &to->count, &to->more)) \
     CALL(hot_each(closed, key, 1, key, 1, visit, to))                                          \
+    CALL(hot_count(closed, key, 1, key, 1, &to->count))                                        \
     CALL(hot_first(closed, key, 1, &to->pair))                                                 \
     CALL(hot_last(closed, key, 1, &to->pair))                                                  \
     CALL(hot_collect(closed, &to->nodes, &to->leaves))                                         \

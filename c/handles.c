@@ -168,6 +168,33 @@ static void test_copy(void) {
     CHECK(hot_destroy(&from) == HOT_DONE && hot_destroy(&small) == HOT_DONE);
 }
 
+/* Pairs that are taken from the ends of a range, and a range that is cleared; more keys than are listed at a time. Other keys stay. */
+static void test_range(void) {
+    enum { MANY = 200 };
+    static const uint8_t too_long[HOT_MAX_KEY + 1] = {0};
+    const uint8_t from = 10, upto = MANY - 10, none = MANY + 1;
+    hot_handle handle = HOT_HANDLE;
+    hot_pair pair;
+    size_t count = 0;
+    uint8_t key;
+    CHECK(hot_create(100, 300, &handle, 1) == HOT_DONE);
+    CHECK(hot_clear_range(&handle, &from, 1, &upto, 1) == HOT_DONE && hot_pop_first(&handle, &from, 1, &upto, 1, &pair) == HOT_ABSENT);
+    for (key = 0; key < MANY; key++)
+        CHECK(hot_insert(&handle, &key, 1, key, NULL) == HOT_INSERTED);
+    CHECK(hot_pop_first(&handle, &from, 1, &upto, 1, &pair) == HOT_REMOVED && pair.length == 1 && pair.key[0] == from && pair.value == from);
+    CHECK(hot_pop_last(&handle, &from, 1, &upto, 1, &pair) == HOT_REMOVED && pair.length == 1 && pair.key[0] == upto && pair.value == upto);
+    CHECK(hot_pop_first(&handle, &none, 1, HOT_TO_END, &pair) == HOT_ABSENT && hot_pop_last(&handle, &upto, 1, &from, 1, &pair) == HOT_ABSENT);
+    CHECK(hot_pop_last(&handle, too_long, sizeof too_long, HOT_TO_END, &pair) == HOT_KEY_TOO_LONG && pair.value == upto);
+    CHECK(hot_clear_range(&handle, &from, 1, too_long, sizeof too_long) == HOT_KEY_TOO_LONG);
+    CHECK(hot_clear_range(&handle, &upto, 1, &from, 1) == HOT_DONE && hot_len(&handle, &count) == HOT_DONE && count == MANY - 2);
+    CHECK(hot_clear_range(&handle, &from, 1, &upto, 1) == HOT_DONE && hot_len(&handle, &count) == HOT_DONE && count == 19);
+    for (key = 0; key < from; key++)
+        CHECK(hot_pop_first(&handle, hot_last_key, 0, HOT_TO_END, &pair) == HOT_REMOVED && pair.value == key);
+    for (key = MANY - 1; key > upto; key--)
+        CHECK(hot_pop_last(&handle, hot_last_key, 0, HOT_TO_END, &pair) == HOT_REMOVED && pair.value == key);
+    CHECK(hot_pop_last(&handle, hot_last_key, 0, HOT_TO_END, &pair) == HOT_ABSENT && hot_destroy(&handle) == HOT_DONE);
+}
+
 /* Calls on a small stack, among them those that hand pairs to others. */
 static void *call_all(void *given) {
     hot_handle *handles = given;
@@ -312,6 +339,7 @@ int main(void) {
     test_len();
     test_order();
     test_copy();
+    test_range();
     test_stack();
     test_memory();
     test_threads();

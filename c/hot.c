@@ -121,6 +121,27 @@ hot_status hot_scan_prefix(hot_handle *handle, const uint8_t *prefix, size_t len
     return hot_scan(handle, from, from_length, upto, HOT_MAX_KEY, pairs, limit, count, more);
 }
 
+hot_status hot_scan_prefix_reverse(hot_handle *handle, const uint8_t *prefix, size_t length, const uint8_t *before, size_t before_length,
+                                   hot_pair *pairs, size_t limit, size_t *count, uint32_t *more) {
+    uint8_t last[HOT_MAX_KEY], upto[HOT_MAX_KEY];
+    size_t upto_length = HOT_MAX_KEY;
+    if (length > HOT_MAX_KEY)
+        return hot_scan_reverse(handle, prefix, length, prefix, length, pairs, limit, count, more);
+    memset(last, 0xff, HOT_MAX_KEY);
+    if (length > 0)
+        memcpy(last, prefix, length);
+    switch (before == NULL ? HOT_DONE : hot_before(before, before_length, upto, &upto_length)) {
+    case HOT_ABSENT: /* No key comes before it: the range is empty. */
+        return hot_scan_reverse(handle, last, HOT_MAX_KEY, last, 0, pairs, limit, count, more);
+    case HOT_KEY_TOO_LONG: return hot_scan_reverse(handle, last, HOT_MAX_KEY, before, before_length, pairs, limit, count, more);
+    }
+    if (before == NULL || is_below(last, HOT_MAX_KEY, upto, upto_length)) {
+        memcpy(upto, last, HOT_MAX_KEY);
+        upto_length = HOT_MAX_KEY;
+    }
+    return hot_scan_reverse(handle, last, length, upto, upto_length, pairs, limit, count, more);
+}
+
 hot_status hot_each(hot_handle *handle, const uint8_t *from, size_t from_length, const uint8_t *upto, size_t upto_length,
                     hot_visitor *visit, void *context) {
     enum { PAGE = 32 };
@@ -285,22 +306,62 @@ static int copy_pair(void *context, const hot_pair *pair) {
     return go_on(each, hot_upsert(each->handle, pair->key, pair->length, pair->value, NULL));
 }
 
-static hot_status change_all(hot_handle *from, hot_visitor *visit, hot_handle *handle) {
+/* What came of handing over pairs, and of the changes that they were handed to. */
+static hot_status both(hot_status status, const change_each *each) {
+    return status == HOT_DONE ? each->status : status;
+}
+
+hot_status hot_clear_range(hot_handle *handle, const uint8_t *from, size_t from_length, const uint8_t *upto, size_t upto_length) {
     change_each each;
-    hot_status status;
     each.handle = handle;
     each.status = HOT_DONE;
-    status = hot_each(from, hot_last_key, 0, HOT_TO_END, visit, &each);
-    return status == HOT_DONE ? each.status : status;
+    return both(hot_each(handle, from, from_length, upto, upto_length, remove_pair, &each), &each);
 }
 
 hot_status hot_clear(hot_handle *handle) {
-    return change_all(handle, remove_pair, handle);
+    return hot_clear_range(handle, hot_last_key, 0, HOT_TO_END);
 }
 
 hot_status hot_copy(hot_handle *from, hot_handle *to) {
+    change_each each;
     uint16_t number;
-    return hot_number(to, &number) == HOT_DONE ? change_all(from, copy_pair, to) : HOT_CLOSED;
+    each.handle = to;
+    each.status = hot_number(to, &number);
+    if (each.status != HOT_DONE)
+        return each.status;
+    return both(hot_each(from, hot_last_key, 0, HOT_TO_END, copy_pair, &each), &each);
+}
+
+/* hot_scan or hot_scan_reverse. */
+typedef hot_status scan_call(hot_handle *handle, const uint8_t *from, size_t from_length, const uint8_t *upto, size_t upto_length,
+                             hot_pair *pairs, size_t limit, size_t *count, uint32_t *more);
+
+/* Removes the first pair that the scan lists. */
+static hot_status pop(scan_call *scan, hot_handle *handle, const uint8_t *from, size_t from_length, const uint8_t *upto, size_t upto_length,
+                      hot_pair *pair) {
+    hot_pair found;
+    hot_status status;
+    size_t count;
+    uint32_t more;
+    do {
+        status = scan(handle, from, from_length, upto, upto_length, &found, 1, &count, &more);
+        if (status != HOT_DONE)
+            return status;
+        if (count == 0)
+            return HOT_ABSENT;
+        status = hot_remove(handle, found.key, found.length, &found.value);
+    } while (status == HOT_ABSENT);
+    if (status == HOT_REMOVED)
+        *pair = found;
+    return status;
+}
+
+hot_status hot_pop_first(hot_handle *handle, const uint8_t *from, size_t from_length, const uint8_t *upto, size_t upto_length, hot_pair *pair) {
+    return pop(hot_scan, handle, from, from_length, upto, upto_length, pair);
+}
+
+hot_status hot_pop_last(hot_handle *handle, const uint8_t *from, size_t from_length, const uint8_t *upto, size_t upto_length, hot_pair *pair) {
+    return pop(hot_scan_reverse, handle, from, from_length, upto, upto_length, pair);
 }
 
 hot_status hot_len(hot_handle *handle, size_t *count) {

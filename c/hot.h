@@ -3,7 +3,7 @@
  * hot_open_index makes an index, and hot_open opens a handle on it. A handle is the right to use the index. Calls with different
  * handles may run at the same time; calls with the same handle may not. So give each thread its own handle, or hand a handle over by a
  * lock, by a thread's start or join, or by a sequentially consistent atomic. A call takes effect for all others at once, or not at all; but
- * hot_copy, hot_clear, hot_each and hot_get_packed make several calls, one after the other.
+ * hot_copy, hot_clear, hot_clear_range, hot_pop_first, hot_pop_last, hot_each and hot_get_packed make several calls, one after the other.
  *
  * A key is 0 to HOT_MAX_KEY bytes of any value. Keys are ordered as by memcmp, and a key comes after its own prefixes. The index
  * copies keys: the memory of a key is yours again when the call returns.
@@ -12,15 +12,15 @@
  * leaves its handle open; another thread may go on using it, or close it. hot_close_index frees an index whose handles are closed.
  * hot_create makes an index and opens all its handles at once, and closing the last one frees it.
  *
- * When the index is full. A change writes new records before it retires those that it replaces. Retired records can be used again once
- * the calls that ran at that time, or began soon after, have returned: the next collection gives them back, and a change that finds no
- * record free makes a collection itself, tries again, and then counts all records. If fewer are free than it needs, and none is claimed
- * by a change that is under way or retired, it returns HOT_FULL_NODES or HOT_FULL_LEAVES: keys must be removed first. So it does where
- * the index has one handle. Else other calls hold records back, and it is to be tried again: hot_insert and the like do so, and
- * hot_try_insert and the like return HOT_HELD_BACK. An index has one node record more than asked, up to 4294967295, which insertions
- * leave free for removals: so a full index can be emptied. A thread that is stopped in the middle of a call, even of a look-up or a
- * scan, may hold back everything that is retired meanwhile. The count loads one record after another: with a handful of records to
- * spare, changes that are under way may have a few of them in use for a moment.
+ * When the index is full. A key that is there gets a new value where it stands, which takes no record. Any other change writes new records
+ * before it retires those that it replaces. Retired records can be used again once the calls that ran at that time, or began soon after,
+ * have returned: the next collection gives them back, and a change that finds no record free makes a collection itself, tries again, and
+ * then counts all records. If fewer are free than it needs, and none is claimed by a change that is under way or retired, it returns
+ * HOT_FULL_NODES or HOT_FULL_LEAVES: keys must be removed first. So it does where the index has one handle. Else other calls hold records
+ * back, and it is to be tried again: hot_insert and the like do so, and hot_try_insert and the like return HOT_HELD_BACK. An index has one
+ * node record more than asked, up to 4294967295, which insertions leave free for removals: so a full index can be emptied. A thread that is
+ * stopped in the middle of a call, even of a look-up or a scan, may hold back everything that is retired meanwhile. The count loads one
+ * record after another: with a handful of records to spare, changes that are under way may have a few of them in use for a moment.
  *
  * Keys in calls. A key, a prefix or an end of a range that has more than HOT_MAX_KEY bytes is refused as HOT_KEY_TOO_LONG by each call.
  * The value that a key had is written to `had` if the call says so, and else `had` stays as it is; it may be NULL, if it is not wanted.
@@ -31,7 +31,8 @@
  * made from a signal handler, or after a fork in the child of a process with threads. A call has 48 KiB of stack.
  *
  * A call fails only by its status. None waits for another, except hot_insert, hot_upsert, hot_exchange, hot_remove, hot_remove_if and
- * hot_add; hot_copy and hot_clear, which make such calls; hot_open and hot_stamp, for each other; and hot_stamp and hot_follow, too.
+ * hot_add; hot_copy, hot_clear, hot_clear_range, hot_pop_first and hot_pop_last, which make such calls; hot_open and hot_stamp, for each
+ * other; and hot_stamp and hot_follow, too.
  * Each other call ends after a bounded number of steps, whatever other threads do: a step is one atomic access to a word of the index.
  * Each call below that makes steps gives its bound, for the worst tree that there can be.
  *
@@ -78,8 +79,8 @@ extern const uint8_t hot_last_key[HOT_MAX_KEY];
 #define HOT_TO_END hot_last_key, HOT_MAX_KEY
 
 /* How a call came out. Each call says which of these it returns. From HOT_BUSY to HOT_NO_MEMORY, and from HOT_HELD_BACK on, the call
- * was refused and changed nothing; with any other status it was made. hot_copy, hot_clear, hot_each and hot_get_packed return the status
- * of the first of their calls that was refused: what those before it did stays. */
+ * was refused and changed nothing; with any other status it was made. hot_copy, hot_clear, hot_clear_range, hot_each and hot_get_packed
+ * return the status of the first of their calls that was refused: what those before it did stays. */
 typedef uint32_t hot_status;
 enum {
     HOT_DONE = 0,          /* it was made; there is nothing else to tell */
@@ -254,17 +255,17 @@ hot_status hot_get_packed(hot_handle *handle, const uint8_t *bytes, const size_t
  * HOT_INSERTED, HOT_EXISTS; or HOT_BUSY, HOT_HELD_BACK, HOT_FULL_NODES, HOT_FULL_LEAVES, HOT_KEY_TOO_LONG, HOT_CLOSED. */
 hot_status hot_try_insert(hot_handle *handle, const uint8_t *key, size_t length, uint64_t value, uint64_t *had);
 
-/* Gives a key a value. If it had one before, that is written to `had`.
+/* Gives a key a value. If it had one before, that is written to `had`. It lacks records only if it found the key absent.
  * HOT_NEW, HOT_WAS; or HOT_BUSY, HOT_HELD_BACK, HOT_FULL_NODES, HOT_FULL_LEAVES, HOT_KEY_TOO_LONG, HOT_CLOSED. */
 hot_status hot_try_upsert(hot_handle *handle, const uint8_t *key, size_t length, uint64_t value, uint64_t *had);
 
 /* Compare and exchange: gives a key a new value if it has the expected one. If it has another, it keeps that, which is written to
- * `had`.
- * HOT_EXCHANGED, HOT_DIFFERS, HOT_ABSENT; or HOT_BUSY, HOT_HELD_BACK, HOT_FULL_NODES, HOT_FULL_LEAVES, HOT_KEY_TOO_LONG, HOT_CLOSED. */
+ * `had`. This and hot_try_add make at most 56488 steps, and one for each handle of the index.
+ * HOT_EXCHANGED, HOT_DIFFERS, HOT_ABSENT; or HOT_BUSY, HOT_KEY_TOO_LONG, HOT_CLOSED. */
 hot_status hot_try_exchange(hot_handle *handle, const uint8_t *key, size_t length, uint64_t expected, uint64_t value, uint64_t *had);
 
 /* Adds to the value of a key that is there, modulo 2 to the power of 64, by one search. The value that it had is written to `had`.
- * HOT_WAS, HOT_ABSENT; or HOT_BUSY, HOT_HELD_BACK, HOT_FULL_NODES, HOT_FULL_LEAVES, HOT_KEY_TOO_LONG, HOT_CLOSED. */
+ * HOT_WAS, HOT_ABSENT; or HOT_BUSY, HOT_KEY_TOO_LONG, HOT_CLOSED. */
 hot_status hot_try_add(hot_handle *handle, const uint8_t *key, size_t length, uint64_t delta, uint64_t *had);
 
 /* Removes a key. If it had a value, that is written to `had`.
@@ -290,6 +291,10 @@ hot_status hot_remove_if(hot_handle *handle, const uint8_t *key, size_t length, 
 /* Removes all keys, page by page, as hot_remove does. A key that another call puts in meanwhile may stay.
  * HOT_DONE; or HOT_CLOSED, HOT_NO_MEMORY or HOT_FULL_NODES, and then some keys are left. */
 hot_status hot_clear(hot_handle *handle);
+
+/* hot_clear of the keys from `from` to `upto`, both included.
+ * HOT_DONE; or HOT_KEY_TOO_LONG, HOT_CLOSED; or HOT_NO_MEMORY or HOT_FULL_NODES, and then some keys are left. */
+hot_status hot_clear_range(hot_handle *handle, const uint8_t *from, size_t from_length, const uint8_t *upto, size_t upto_length);
 
 /* Gives each key of one index its value in another, in key order and page by page, as hot_scan and hot_upsert do. What other calls
  * change in the first one meanwhile is copied or not.
@@ -335,6 +340,11 @@ hot_status hot_before(const uint8_t *key, size_t length, uint8_t *previous, size
 hot_status hot_scan_prefix(hot_handle *handle, const uint8_t *prefix, size_t length, const uint8_t *after, size_t after_length,
                            hot_pair *pairs, size_t limit, size_t *count, uint32_t *more);
 
+/* hot_scan_prefix downwards: from the last one if `before` is NULL, else from the one before that key, such as the last one that an
+ * earlier call listed. It writes and answers what hot_scan_reverse does, by as many steps at most. */
+hot_status hot_scan_prefix_reverse(hot_handle *handle, const uint8_t *prefix, size_t length, const uint8_t *before, size_t before_length,
+                                   hot_pair *pairs, size_t limit, size_t *count, uint32_t *more);
+
 /* The head of a packed pair: how many bytes its key has, and its value. */
 typedef struct hot_head {
     uint8_t length;
@@ -377,6 +387,20 @@ hot_status hot_first(hot_handle *handle, const uint8_t *from, size_t length, hot
  * Nothing is written unless it is found. It makes at most 168667 steps.
  * HOT_FOUND, HOT_ABSENT; or HOT_KEY_TOO_LONG, HOT_CLOSED, HOT_NO_MEMORY (only if there was a pair). */
 hot_status hot_last(hot_handle *handle, const uint8_t *upto, size_t length, hot_pair *pair);
+
+/* Counts the keys from `from` to `upto`, both included, and writes their number to `count`: that of the pairs that hot_scan could list in
+ * its place, if it had room for all. It reads few of the keys.
+ * HOT_DONE; or HOT_KEY_TOO_LONG, HOT_CLOSED, and then nothing was written. */
+hot_status hot_count(hot_handle *handle, const uint8_t *from, size_t from_length, const uint8_t *upto, size_t upto_length, size_t *count);
+
+/* Removes the first pair whose key is from `from` to `upto`, both included, or the last one, and writes it: by a scan for one pair and then
+ * hot_remove of its key, and again where another call has removed that key meanwhile. So one call alone gets a pair, with the value that
+ * its key had when it was removed. No key of the range before it, or behind it for hot_pop_last, was there all along from the beginning of
+ * that scan to the removal; one that another call puts in meanwhile may be.
+ * HOT_REMOVED; or HOT_ABSENT if a scan found no pair, or HOT_FULL_NODES, HOT_KEY_TOO_LONG, HOT_CLOSED, HOT_NO_MEMORY, and then nothing was
+ * written. */
+hot_status hot_pop_first(hot_handle *handle, const uint8_t *from, size_t from_length, const uint8_t *upto, size_t upto_length, hot_pair *pair);
+hot_status hot_pop_last(hot_handle *handle, const uint8_t *from, size_t from_length, const uint8_t *upto, size_t upto_length, hot_pair *pair);
 
 /* Gives back records that changes have unlinked and that no call can reach any more, and writes how many. Programs need not call
  * it: a change that finds no record free does this itself before it gives up. It makes at most 3 steps, one for each handle of

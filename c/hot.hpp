@@ -4,6 +4,7 @@
 
 #include "hot.h"
 #include <algorithm>
+#include <atomic>
 #include <cstddef>
 #include <cstdint>
 #include <cstring>
@@ -11,8 +12,10 @@
 #include <iterator>
 #include <limits>
 #include <memory>
+#include <mutex>
 #include <new>
 #include <optional>
+#include <shared_mutex>
 #include <stdexcept>
 #include <string>
 #include <string_view>
@@ -554,11 +557,34 @@ class handle {
         return range(it(), from, upto, count, order::last);
     }
 
+    /// How many keys there are from one key to another, both included: hot_count. And how many begin with a prefix.
+    [[nodiscard]] std::size_t count(key_view from, key_view upto) {
+        std::size_t count = 0;
+        check(hot_count(it(), bytes(from), from.size(), bytes(upto), upto.size(), &count));
+        return count;
+    }
+    [[nodiscard]] std::size_t count_prefix(key_view prefix) { return count(prefix, last_with(prefix)); }
+
     /// The first pair whose key is `from` or above, and the last one whose key is `upto` or below: those of all keys, if none is given.
     [[nodiscard]] std::optional<entry> first(key_view from = {}) { return end(hot_first, from); }
     [[nodiscard]] std::optional<entry> last(key_view upto) { return end(hot_last, upto); }
     [[nodiscard]] std::optional<entry> last() { return last(greatest()); }
     [[nodiscard]] bool empty() { return !first(); }
+
+    /// Remove the first pair whose key is from one to another, both included, or the last one, and return it, or none where there is none:
+    /// hot_pop_first, hot_pop_last, which say what holds beside other calls. They wait, and throw std::runtime_error where the index is full.
+    std::optional<entry> pop_first(key_view from = {}, key_view upto = greatest()) { return pop(hot_pop_first, from, upto); }
+    std::optional<entry> pop_last(key_view from = {}, key_view upto = greatest()) { return pop(hot_pop_last, from, upto); }
+
+    /// Remove all keys, or those from one to another, both included, page by page: hot_clear, hot_clear_range. They wait and throw in the
+    /// same way, and then some keys are left.
+    void clear() { clear_range({}, greatest()); }
+    void clear_range(key_view from, key_view upto) {
+        made(hot_clear_range(it(), bytes(from), from.size(), bytes(upto), upto.size()));
+    }
+
+    /// Gives each key its value in the index of another handle: hot_copy. It waits and throws in the same way, and then the rest isn't copied.
+    void copy_to(handle &other) { made(hot_copy(it(), other.it())); }
 
     /// How many keys there are: hot_len.
     [[nodiscard]] std::size_t size() {
@@ -621,13 +647,24 @@ class handle {
         for (std::size_t i = 0; i < into.count_; i++)
             into.used_ += into.heads_[i].length;
     }
+    static entry copied(const hot_pair &it) { return {std::string(reinterpret_cast<const char *>(it.key), it.length), it.value}; }
     template <class Call> std::optional<entry> end(Call call, key_view key) {
         hot_pair found;
         const hot_status status = call(it(), bytes(key), key.size(), &found);
         check(status);
-        if (status != HOT_FOUND)
-            return std::nullopt;
-        return entry{std::string(reinterpret_cast<const char *>(found.key), found.length), found.value};
+        return status == HOT_FOUND ? std::optional(copied(found)) : std::nullopt;
+    }
+    // Throws where a change was refused.
+    static void made(hot_status status) {
+        check(status);
+        if (change{static_cast<hot::status>(status), {}}.is_refused())
+            throw std::runtime_error(hot_status_text(status));
+    }
+    template <class Call> std::optional<entry> pop(Call call, key_view from, key_view upto) {
+        hot_pair found;
+        const hot_status status = call(it(), bytes(from), from.size(), bytes(upto), upto.size(), &found);
+        made(status);
+        return status == HOT_REMOVED ? std::optional(copied(found)) : std::nullopt;
     }
     template <class Call> change put(Call call, key_view key, std::uint64_t value) {
         std::uint64_t had = 0;
@@ -732,6 +769,86 @@ class index {
 [[nodiscard]] inline std::vector<handle> create(std::uint32_t nodes, std::uint32_t leaves, std::size_t count = 1) {
     return create(hot_stock{nodes, 0, 0, 0, 0, leaves}, count);
 }
+
+/// An index that grows, for who can't say how many keys there will be at most. Few need it, since a stock takes no memory until it is used.
+/// Where a change finds it full, it is copied into an index with twice the records. Changes wait for that, and look-ups go on in the old one.
+class growing {
+  public:
+    /// An empty index that begins with this stock, and has room for so many users at a time, 1 to 1023. Throws as the constructor of `index`.
+    explicit growing(const hot_stock &stock, std::size_t users = 63)
+        : users_(users), stock_(stock), now_(stock, users + 1), copier_(now_.open()) {}
+
+    /// The right to use the index, for one thread at a time. It must be gone before the index. It keeps the memory of an index that has been
+    /// copied until its next call.
+    class user {
+      public:
+        /// Throws std::runtime_error if there are too many users.
+        explicit user(growing &of) : of_(&of) { follow(); }
+
+        /// Calls `call` with a handle, for look-ups and scans, and returns what it returns. What it changes may be lost.
+        template <class Call> auto read(Call call) {
+            follow();
+            return call(handle_);
+        }
+
+        /// Calls `call` with a handle, by which it makes a change; and if that is refused as full, again in a larger index. Returns what came
+        /// of it. Where the larger one can't be made it throws as the constructor of `index`, and all stays as it was.
+        template <class Call> hot::change change(Call call) {
+            for (;;) {
+                std::shared_lock<std::shared_mutex> lock(of_->changing_);
+                follow();
+                const hot::change made = call(handle_);
+                if (made.what != status::full_nodes && made.what != status::full_leaves)
+                    return made;
+                lock.unlock();
+                of_->grow(turn_);
+            }
+        }
+
+      private:
+        // Goes over to the index of now.
+        void follow() {
+            if (handle_ && turn_ == of_->turn_)
+                return;
+            const handle left = std::move(handle_);
+            const std::lock_guard<std::mutex> lock(of_->opening_);
+            handle_ = of_->now_.open();
+            turn_ = of_->turn_;
+        }
+
+        growing *of_;
+        handle handle_;
+        std::uint64_t turn_ = 0;
+    };
+
+  private:
+    // Makes a larger index, unless another user has done so since this turn.
+    void grow(std::uint64_t turn) {
+        const std::lock_guard<std::shared_mutex> lock(changing_);
+        if (turn != turn_)
+            return;
+        hot_stock larger = stock_;
+        for (std::uint32_t *count : {&larger.nodes, &larger.short_leaves, &larger.medium_leaves, &larger.large_leaves, &larger.wide_leaves,
+                                     &larger.long_leaves})
+            *count = *count > UINT32_MAX / 2 ? UINT32_MAX : *count * 2;
+        index next(larger, users_ + 1);
+        handle copier = next.open();
+        copier_.copy_to(copier);
+        const std::lock_guard<std::mutex> opening(opening_);
+        now_ = std::move(next);
+        copier_ = std::move(copier);
+        stock_ = larger;
+        ++turn_;
+    }
+
+    const std::size_t users_;
+    hot_stock stock_;
+    index now_;
+    handle copier_;
+    std::atomic<std::uint64_t> turn_{0};
+    std::mutex opening_;         // held by who opens a handle, and by who takes another index
+    std::shared_mutex changing_; // shared by who changes the index, and held by who copies it
+};
 
 /// How many bytes the records of an index with this stock and this number of handles take: hot_stock_bytes. Throws std::invalid_argument.
 [[nodiscard]] inline std::size_t stock_bytes(const hot_stock &stock, std::size_t count = 1) {

@@ -9,6 +9,7 @@
 #include <stdio.h>
 #include <string.h>
 #include <sys/mman.h>
+#include <sys/prctl.h>
 #include <sys/resource.h>
 #include <sys/wait.h>
 #include <unistd.h>
@@ -95,14 +96,20 @@ int __wrap_madvise(void *at, size_t size, int advice) {
 
 static const hot_stock stock = {20, 40, 0, 0, 0, 10}, large_stock = {2500, 2500, 0, 0, 0, 10};
 
-/* The bytes of the process that are resident. */
-static size_t resident(void) {
-    unsigned long all, pages = 0;
-    FILE *file = fopen("/proc/self/statm", "r");
-    CHECK(file != NULL && fscanf(file, "%lu %lu", &all, &pages) == 2);
+/* The bytes of the process that are resident, without those of files, which the system may take back at any time. It counts pages: what
+ * /proc/self/statm says may be some dozens of them off. */
+static long resident(void) {
+    char line[256];
+    long bytes = 0, part;
+    FILE *file = fopen("/proc/self/smaps_rollup", "r");
+    CHECK(file != NULL);
+    while (file != NULL && fgets(line, sizeof line, file) != NULL)
+        if (sscanf(line, "Pss_Anon: %ld", &part) == 1 || sscanf(line, "Pss_Shmem: %ld", &part) == 1)
+            bytes += part * 1024;
     if (file != NULL)
         fclose(file);
-    return pages * 4096;
+    CHECK(bytes > 0);
+    return bytes;
 }
 
 /* 1,024 handles take little until they are opened. One that is closed and opened again takes no more. */
@@ -161,14 +168,17 @@ static void test_kept(void) {
     CHECK(most > 48 << 10);
 }
 
-/* What isn't used of an index is not resident: neither while there are few keys, nor in a handle. */
+/* What isn't used of an index is not resident: neither while there are few keys, nor in a handle. Huge pages, which some systems give
+ * unasked, would be resident as wholes. */
 static void test_resident(void) {
     enum { KEYS = 300000, FEW = 10000, MOST = 70 };
     hot_handle handle = HOT_HANDLE, other = HOT_HANDLE;
     hot_index *index = NULL;
     hot_stock roomy;
-    size_t first = resident(), made, opened, filled;
+    long first, made, opened, filled;
     uint32_t key;
+    CHECK(prctl(PR_SET_THP_DISABLE, 1, 0, 0, 0) == 0);
+    first = resident();
     hot_stock_for_keys(KEYS, 8, &roomy);
     CHECK(hot_open_index(&roomy, 4, &index) == HOT_DONE);
     made = resident();
@@ -181,9 +191,10 @@ static void test_resident(void) {
         CHECK(hot_insert(&handle, (const uint8_t *)&mixed, 8, key, NULL) == HOT_INSERTED);
     }
     filled = resident();
-    CHECK(filled - opened < (size_t)FEW * MOST);
+    CHECK(filled - opened < FEW * MOST);
     CHECK(hot_close(&handle) == HOT_DONE && hot_close(&other) == HOT_DONE && hot_close_index(index) == HOT_DONE && in_use == 0);
-    printf("resident: %zu bytes once the index is made, %zu for each handle, %zu for each of %d keys\n", made - first,
+    CHECK(prctl(PR_SET_THP_DISABLE, 0, 0, 0, 0) == 0);
+    printf("resident: %ld bytes once the index is made, %ld for each handle, %ld for each of %d keys\n", made - first,
            (opened - made) / 2, (filled - opened) / FEW, FEW);
 }
 

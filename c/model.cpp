@@ -93,7 +93,7 @@ class random_calls {
         const std::uint64_t one = below(3), other = below(3);
         const bool is_try = is_alone() && below(2), is_equal = had == one;
         const status unequal = had ? status::differs : status::absent;
-        switch (below(8)) {
+        switch (below(9)) {
         case 0:
             return expect(is_try ? handle_.try_insert(key, one) : handle_.insert(key, one), had ? status::exists : status::inserted, had, key,
                           had ? had : one);
@@ -111,8 +111,25 @@ class random_calls {
             return expect(is_try ? handle_.try_add(key, one) : handle_.add(key, one), had ? status::replaced : status::absent, had, key,
                           had ? value(*had + one) : had);
         case 6: CHECK(handle_.fetch_add(key, one) == had.value_or(0)); return set(key, had.value_or(0) + one);
+        case 7: return take();
         default: return update(key, had, below(2) ? value(one) : value());
         }
+    }
+
+    // Takes a pair from an end of a range, or now and then all of its pairs.
+    void take() {
+        const std::string one = key(), other = key(), &from = std::min(one, other), &upto = std::max(one, other);
+        const std::vector<hot::entry> wanted = listed(from, upto + '\0');
+        if (below(20) == 0) {
+            handle_.clear_range(from, upto);
+            model_.erase(model_.lower_bound(from), model_.upper_bound(upto));
+            return;
+        }
+        const bool is_first = below(2);
+        const std::optional<hot::entry> taken = is_first ? handle_.pop_first(from, upto) : handle_.pop_last(from, upto);
+        CHECK(wanted.empty() ? !taken : taken == (is_first ? wanted.front() : wanted.back()));
+        if (taken)
+            model_.erase(taken->key);
     }
 
     void update(const std::string &key, value had, value to) {
@@ -134,7 +151,7 @@ class random_calls {
         const std::string one = key(), other = key(), &from = std::min(one, other), &upto = std::max(one, other), after = upto + '\0';
         const std::size_t page = 1 + below(70);
         auto wanted = listed(from, after);
-        CHECK(handle_.scan(from, upto, page).entries() == wanted);
+        CHECK(handle_.scan(from, upto, page).entries() == wanted && handle_.count(from, upto) == wanted.size());
         CHECK(handle_.scan_half_open(from, upto, page).entries() == listed(from, upto));
         const std::size_t count = std::min(wanted.size(), page);
         CHECK(handle_.scan_last(from, upto, page).entries() == std::vector(wanted.end() - static_cast<std::ptrdiff_t>(count), wanted.end()));
@@ -146,7 +163,7 @@ class random_calls {
         CHECK(wanted.empty() ? !first || first->key > upto : first == wanted.front() && last == wanted.back());
         std::reverse(wanted.begin(), wanted.end());
         CHECK(handle_.scan_reverse(from, upto, page).entries() == wanted);
-        CHECK(from == upto || handle_.scan(upto, from).entries().empty());
+        CHECK(from == upto || (handle_.scan(upto, from).entries().empty() && handle_.count(upto, from) == 0));
         compare_prefix(one);
         CHECK(handle_.get_many({one, other}) == std::vector({held(one), held(other)}));
         CHECK(handle_.get(one) == held(one) && handle_.contains(other) == held(other).has_value());
@@ -156,7 +173,7 @@ class random_calls {
         std::vector<hot::entry> wanted;
         for (auto at = model_.lower_bound(prefix); at != model_.end() && at->first.compare(0, prefix.size(), prefix) == 0; ++at)
             wanted.push_back({at->first, at->second});
-        CHECK(handle_.scan_prefix(prefix).entries() == wanted);
+        CHECK(handle_.scan_prefix(prefix).entries() == wanted && handle_.count_prefix(prefix) == wanted.size());
         std::reverse(wanted.begin(), wanted.end());
         CHECK(handle_.scan_prefix_reverse(prefix).entries() == wanted);
     }
@@ -380,7 +397,7 @@ static void test_keys() {
 int main(int count, char **words) {
     if (count != 2)
         return 2;
-    alarm(300); // a call that doesn't return fails the test
+    alarm(900); // a call that doesn't return fails the test
     if (std::string(words[1]) != "threads") {
         test_closing();
         test_updates();

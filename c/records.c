@@ -49,9 +49,9 @@ static void test_full(void) {
     CHECK(hot_try_insert(&handle, bytes("a"), 1, 1, &had) == HOT_INSERTED);
     CHECK(hot_try_insert(&handle, bytes("b"), 1, 2, &had) == HOT_FULL_LEAVES && had == 7);
     CHECK(hot_insert(&handle, bytes("b"), 1, 2, &had) == HOT_FULL_LEAVES && had == 7);
-    CHECK(hot_exchange(&handle, bytes("a"), 1, 1, 2, &had) == HOT_FULL_LEAVES && had == 7);
-    CHECK(hot_exchange(&handle, bytes("a"), 1, 2, 3, &had) == HOT_DIFFERS && had == 1);
-    CHECK(hot_try_remove_if(&handle, bytes("a"), 1, 1, &had) == HOT_REMOVED && had == 1);
+    CHECK(hot_exchange(&handle, bytes("a"), 1, 1, 2, &had) == HOT_EXCHANGED && had == 7);
+    CHECK(hot_exchange(&handle, bytes("a"), 1, 1, 3, &had) == HOT_DIFFERS && had == 2);
+    CHECK(hot_try_remove_if(&handle, bytes("a"), 1, 2, &had) == HOT_REMOVED && had == 2);
     CHECK(hot_try_insert(&handle, bytes("a"), 1, 1, &had) == HOT_INSERTED);
     CHECK(hot_try_remove(&handle, bytes("a"), 1, &had) == HOT_REMOVED && had == 1);
     CHECK(hot_try_insert(&handle, bytes("b"), 1, 2, &had) == HOT_INSERTED);
@@ -253,8 +253,9 @@ static void test_sizes(void) {
     CHECK(hot_destroy(&handle) == HOT_DONE);
 }
 
-/* Many upserts by one handle: none is refused. Answers whether small rounds were enough. A full round would give back what the other
- * handle has retired, the one leaf for 24 bytes that is not in use; and no more leaves are kept back than make the next round due. */
+/* Keys that one handle takes out and puts in again: no call is refused. Answers whether small rounds were enough. A full round would give
+ * back what the other handle has retired, the one leaf for 24 bytes that is not in use; and no more leaves are kept back than make the
+ * next round due. */
 #define STEADY 100000
 #define DUE 32
 static int are_small_rounds(hot_handle handles[2], uint32_t calls) {
@@ -263,7 +264,8 @@ static int are_small_rounds(hot_handle handles[2], uint32_t calls) {
     uint64_t had;
     for (i = 0; i < calls; i++) {
         uint64_t key = i * UINT64_C(7919) % STEADY;
-        CHECK(hot_try_upsert(&handles[0], (uint8_t *)&key, sizeof key, i, &had) == HOT_WAS);
+        CHECK(hot_try_remove(&handles[0], (uint8_t *)&key, sizeof key, &had) == HOT_REMOVED);
+        CHECK(hot_try_insert(&handles[0], (uint8_t *)&key, sizeof key, i, &had) == HOT_INSERTED);
         if (i % 1000 == 999) {
             CHECK(hot_census(&handles[0], &counts) == HOT_DONE);
             others += !are(counts.medium_leaves, 0, 0, 1, 1) || counts.short_leaves.live != STEADY || counts.short_leaves.obsolete > DUE;
@@ -272,19 +274,21 @@ static int are_small_rounds(hot_handle handles[2], uint32_t calls) {
     return others == 0;
 }
 
-/* Small rounds are enough where as many leaves are to spare as a handle retires between two of them. With one fewer they are not. */
+/* Small rounds are enough where as many leaves are to spare as a handle retires records between two of them. With two leaves they are
+ * not. */
 static void test_small_rounds(void) {
     uint32_t spare;
-    for (spare = DUE - 1; spare <= DUE; spare++) {
+    for (spare = 2; spare <= DUE; spare += DUE - 2) {
         hot_stock stock = {STEADY / 8, STEADY + spare, 2, 0, 0, 0};
         hot_handle handles[2] = {HOT_HANDLE, HOT_HANDLE};
         uint64_t key, had;
         CHECK(hot_create_with(&stock, handles, 2) == HOT_DONE);
         for (key = 0; key < STEADY; key++)
             CHECK(hot_try_insert(&handles[0], (uint8_t *)&key, sizeof key, key, &had) == HOT_INSERTED);
-        CHECK(hot_try_upsert(&handles[1], bytes("of another size"), 15, 1, &had) == HOT_NEW);
-        CHECK(hot_try_upsert(&handles[1], bytes("of another size"), 15, 2, &had) == HOT_WAS);
-        CHECK(are_small_rounds(handles, spare == DUE ? 1000000 : 2000) == (spare == DUE));
+        CHECK(hot_try_insert(&handles[1], bytes("of another size"), 15, 1, &had) == HOT_INSERTED);
+        CHECK(hot_try_remove(&handles[1], bytes("of another size"), 15, &had) == HOT_REMOVED);
+        CHECK(hot_try_insert(&handles[1], bytes("of another size"), 15, 2, &had) == HOT_INSERTED);
+        CHECK(are_small_rounds(handles, spare == DUE ? 500000 : 2000) == (spare == DUE));
         CHECK(hot_destroy(&handles[0]) == HOT_DONE && hot_destroy(&handles[1]) == HOT_DONE);
     }
 }

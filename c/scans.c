@@ -39,10 +39,46 @@ static void test_prefix(void) {
     CHECK(hot_first(&handle, bytes("a"), 1, &pair) == HOT_CLOSED);
 }
 
+/* The same downwards. In each row a scan of a prefix ends before a key, or at the last one, and lists these values; then there may be more. */
+static void test_prefix_reverse(void) {
+    static const struct {
+        const char *prefix, *before;
+        size_t count;
+        uint64_t values[2];
+        uint32_t more;
+    } rows[] = {
+        {"a", NULL, 2, {3, 2}, 1}, {"a", "a\377\377", 2, {2, 1}, 0}, {"a", "ab", 1, {1, 0}, 0},  {"a", "a", 0, {0, 0}, 0},
+        {"a", "", 0, {0, 0}, 0},   {"a", "0", 0, {0, 0}, 0},         {"a", "c", 2, {3, 2}, 1},   {"", NULL, 2, {5, 4}, 1},
+        {"", "b", 2, {3, 2}, 1},   {"ab", NULL, 1, {2, 0}, 0},       {"ac", NULL, 0, {0, 0}, 0}, {"\377", NULL, 1, {5, 0}, 0},
+    };
+    static const char *const keys[] = {"a", "ab", "a\377\377", "b"};
+    hot_handle handle = HOT_HANDLE;
+    hot_pair pairs[2];
+    uint8_t greatest[HOT_MAX_KEY + 1];
+    size_t row, count = 9;
+    uint32_t more = 9;
+    memset(greatest, 0xff, sizeof greatest);
+    CHECK(hot_create(100, 100, &handle, 1) == HOT_DONE && hot_insert(&handle, greatest, HOT_MAX_KEY, 5, NULL) == HOT_INSERTED);
+    for (row = 0; row < 4; row++)
+        CHECK(hot_insert(&handle, bytes(keys[row]), strlen(keys[row]), row + 1, NULL) == HOT_INSERTED);
+    for (row = 0; row < sizeof rows / sizeof rows[0]; row++) {
+        const char *before = rows[row].before;
+        CHECK(hot_scan_prefix_reverse(&handle, bytes(rows[row].prefix), strlen(rows[row].prefix), before ? bytes(before) : NULL,
+                                      before ? strlen(before) : 0, pairs, 2, &count, &more) == HOT_DONE);
+        CHECK(count == rows[row].count && more == rows[row].more);
+        CHECK((count < 1 || pairs[0].value == rows[row].values[0]) && (count < 2 || pairs[1].value == rows[row].values[1]));
+    }
+    count = 9;
+    CHECK(hot_scan_prefix_reverse(&handle, greatest, sizeof greatest, NULL, 0, pairs, 2, &count, &more) == HOT_KEY_TOO_LONG && count == 9);
+    CHECK(hot_scan_prefix_reverse(&handle, greatest, 1, greatest, sizeof greatest, pairs, 2, &count, &more) == HOT_KEY_TOO_LONG && count == 9);
+    CHECK(hot_destroy(&handle) == HOT_DONE);
+}
+
 /* Scans: the order of keys, the limit, and the places that are left as they were. */
 static void test_scan(void) {
     hot_handle handle = HOT_HANDLE;
     hot_pair pairs[3];
+    uint8_t key[HOT_MAX_KEY + 1] = {0};
     uint64_t had;
     size_t count = 9;
     uint32_t more = 9;
@@ -60,6 +96,9 @@ static void test_scan(void) {
     CHECK(count == 2 && more == 0 && pairs[1].value == 3);
     CHECK(hot_scan(&handle, bytes("x"), 1, bytes("z"), 1, pairs, 0, &count, &more) == HOT_DONE);
     CHECK(count == 0 && more == 0);
+    CHECK(hot_count(&handle, bytes("a"), 1, bytes("b"), 1, &count) == HOT_DONE && count == 2);
+    CHECK(hot_count(&handle, bytes("b"), 1, key, sizeof key, &count) == HOT_KEY_TOO_LONG && count == 2);
+    CHECK(hot_count(&handle, bytes(""), 0, HOT_TO_END, &count) == HOT_DONE && count == 3);
     CHECK(hot_destroy(&handle) == HOT_DONE);
 }
 
@@ -307,6 +346,7 @@ int main(void) {
     test_scan_reverse();
     test_scan_last();
     test_prefix();
+    test_prefix_reverse();
     test_after();
     test_before();
     puts(failures ? "c/scans.c failed" : "passed: c/scans.c");

@@ -54,8 +54,8 @@ static void test_calls() {
     CHECK(first.try_remove("b").had == 24 && first.remove("b").what == hot::status::absent);
     const auto found = first.get_many({"b", {}});
     CHECK(found.size() == 2 && !found[0] && found[1] == 10 && first.get_many({}).empty());
-    CHECK(first.census().long_leaves.obsolete == 3);
-    CHECK(first.collect().leaves == 3 && first.census().long_leaves.free == 99);
+    CHECK(first.census().long_leaves.obsolete == 1);
+    CHECK(first.collect().leaves == 1 && first.census().long_leaves.free == 99);
     CHECK(throws<std::logic_error>([&] { return handles[0].get("b"); }));
     CHECK(throws<std::length_error>([&] { return first.get(std::string(HOT_MAX_KEY + 1, 'a')); }));
     CHECK(throws<std::invalid_argument>([] { return hot::create(0, 10); }));
@@ -123,6 +123,7 @@ static void test_full() {
     const auto change = handles[0].insert("b", 2);
     CHECK(change.what == hot::status::full_leaves && change.is_refused() && !change.had);
     CHECK(std::string(change.text()) == hot_status_text(HOT_FULL_LEAVES));
+    CHECK(handles[0].upsert("a", 2).had == 1 && handles[0].exchange("a", 2, 3).had == 2 && handles[0].try_add("a", 4).had == 3);
 }
 
 // Small indexes are filled to their last node record, and emptied again.
@@ -242,6 +243,12 @@ static void test_ends() {
     CHECK(hot::after("b") == std::string("b\0", 2) && hot::after("b" + std::string(HOT_MAX_KEY - 1, '\xff')) == "c");
     CHECK(!hot::after(long_key) && !hot::after(too_long) && hot::after({}) == std::string(1, '\0'));
     CHECK(hot::to_string(hot::status::full_leaves) == hot_status_text(HOT_FULL_LEAVES));
+    CHECK(handle.pop_first() == hot::entry{"a", 1} && handle.pop_last({}, "c") == hot::entry{"c", 1} && !handle.pop_first("ba", "bb"));
+    CHECK(handle.pop_first("b\1")->key == long_key && !handle.pop_last("c") && throws<std::length_error>([&] { return handle.pop_last(too_long); }));
+    handle.clear_range("b", "b");
+    CHECK(handle.pop_last() == hot::entry{std::string("b\0", 2), 2} && !handle.pop_last() && !handle.insert("a", 1).is_refused());
+    handle.clear();
+    CHECK(handle.empty());
 }
 
 // What is listed goes into containers and through algorithms, and keys come as strings and as bytes.
@@ -345,6 +352,35 @@ static void test_counting() {
     CHECK(handles[0].get("sum") == 8000 && handles[0].get("added") == 8000 && handles[1].fetch_add("added", UINT64_MAX) == 8000);
 }
 
+// Two threads put keys into an index that grows, and two find each key that was put in.
+static void test_growing() {
+    constexpr std::uint32_t many = 4000;
+    hot::growing index(hot_stock{4, 20, 0, 0, 0, 0}, 4);
+    std::atomic<std::uint32_t> written[2] = {0, 0}, wrong = 0;
+    std::vector<std::thread> threads;
+    for (std::uint8_t of = 0; of < 2; of++) {
+        threads.emplace_back([&, of] {
+            hot::growing::user me(index);
+            for (std::uint32_t number = 0; number < many; written[of] = ++number)
+                wrong += me.change([&](hot::handle &at) { return at.insert(hot::key_of(number, of), number); }).what != hot::status::inserted;
+        });
+        threads.emplace_back([&, of] {
+            hot::growing::user me(index);
+            for (std::uint32_t turn = 0, count = 0; count < many; turn++)
+                if (count = written[of]; count == 0)
+                    std::this_thread::yield();
+                else
+                    wrong += me.read([&](hot::handle &at) { return at.get(hot::key_of(turn % count, of)); }) != turn % count;
+        });
+    }
+    for (std::thread &thread : threads)
+        thread.join();
+    hot::growing::user me(index);
+    CHECK(wrong == 0 && me.read([](hot::handle &at) { return at.size(); }) == 2 * many);
+    CHECK(throws<std::length_error>([&] { return me.change([](hot::handle &at) { return at.upsert("longer than 8 bytes", 1); }); }));
+    CHECK(throws<std::invalid_argument>([] { return hot::growing(hot_stock{4, 20, 0, 0, 0, 0}, 1024); }));
+}
+
 int main() {
     test_calls();
     test_index();
@@ -359,6 +395,7 @@ int main() {
     test_handles();
     test_threads();
     test_counting();
+    test_growing();
     std::puts(failures ? "the C++ test failed" : "the C++ test passed");
     return failures;
 }

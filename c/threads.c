@@ -1,6 +1,7 @@
 /* Tests of the library by threads: two that change keys of all lengths beside two that look up, scan and list; four that make calls
  * by chance where few records are to spare, or none; eight on one core, so that each is stopped in the middle of its calls; eight that
- * share three handles; four that send each other moments; and two that take most keys out and put them in again beside two that scan. */
+ * share three handles; four that send each other moments; two that take most keys out and put them in again beside two that scan;
+ * and four that give held keys new values in a full index. */
 #define _GNU_SOURCE
 #include "hot.h"
 #include "check.h"
@@ -392,8 +393,8 @@ static void test_filling(void) {
         CHECK(hot_destroy(&handles[i]) == HOT_DONE);
 }
 
-/* Fourth test: eight threads on one core set keys again and again. While one is stopped in the middle of a call, it holds back what the
- * others retire, so that they find no record free; they wait, and none is refused. */
+/* Fourth test: eight threads on one core put keys in and take them out. While one is stopped in the middle of a call, it holds back what
+ * the others retire, so that they find no record free; they wait, and none is refused. */
 #define CROWDED 8
 #define FEW_KEYS 800
 #define FEW_LEAVES 3887
@@ -409,12 +410,12 @@ static void *set_keys(void *given) {
     unsigned turn;
     for (turn = 0; turn < me->calls; turn++) {
         key at = key_of(next(&me->state) % FEW_KEYS);
-        uint64_t had;
-        hot_status status = hot_try_upsert(me->handle, at.bytes, DIGITS, turn, &had);
+        int puts = next(&me->state) % 2;
+        hot_status status = puts ? hot_try_upsert(me->handle, at.bytes, DIGITS, turn, NULL) : hot_try_remove(me->handle, at.bytes, DIGITS, NULL);
         me->waits += status == HOT_HELD_BACK;
         if (status == HOT_BUSY || status == HOT_HELD_BACK)
-            status = hot_upsert(me->handle, at.bytes, DIGITS, turn, &had);
-        me->refused += status != HOT_NEW && status != HOT_WAS;
+            status = puts ? hot_upsert(me->handle, at.bytes, DIGITS, turn, NULL) : hot_remove(me->handle, at.bytes, DIGITS, NULL);
+        me->refused += status >= HOT_BUSY;
     }
     return NULL;
 }
@@ -424,7 +425,7 @@ static int keep_to(const cpu_set_t *cores) {
     return sched_setaffinity(0, sizeof *cores, cores) == 0;
 }
 
-/* So many upserts; answers whether any found that other calls held records back. */
+/* So many changes; answers whether any found that other calls held records back. */
 static int test_stopped(unsigned calls) {
     static const hot_stock stock = {FEW_LEAVES, FEW_LEAVES, 0, 0, 0, 0};
     hot_handle handles[CROWDED];
@@ -565,12 +566,66 @@ static void test_telling(void) {
     CHECK(hot_close_index(index) == HOT_DONE);
 }
 
+/* Another test: two threads put keys in, and four take pairs from both ends until all are gone. Each pair is taken once. */
+#define TAKERS 4
+#define JOBS 20000
+
+static unsigned taken[2 * JOBS];
+static int at_work;
+
+static void *put_jobs(void *given) {
+    worker *me = given;
+    unsigned i;
+    for (i = 0; i < JOBS; i++)
+        put_in(me->handle, 2 * i + me->half);
+    __atomic_sub_fetch(&at_work, 1, __ATOMIC_SEQ_CST);
+    return NULL;
+}
+
+static void *take_jobs(void *given) {
+    worker *me = given;
+    for (;;) {
+        int is_last = __atomic_load_n(&at_work, __ATOMIC_SEQ_CST) == 0;
+        hot_pair pair;
+        hot_status status = (me->half ? hot_pop_last : hot_pop_first)(me->handle, hot_last_key, 0, HOT_TO_END, &pair);
+        CHECK(status == HOT_REMOVED || status == HOT_ABSENT);
+        if (status == HOT_REMOVED)
+            CHECK(pair.value < 2 * JOBS && __atomic_add_fetch(&taken[pair.value], 1, __ATOMIC_SEQ_CST) == 1);
+        else if (is_last)
+            return NULL;
+        else
+            sched_yield();
+    }
+}
+
+static void test_jobs(void) {
+    static const hot_stock stock = {20000, 10000, 10000, 10000, 10000, 10000};
+    hot_handle handles[TAKERS + 2];
+    worker workers[TAKERS + 2];
+    pthread_t threads[TAKERS + 2];
+    size_t count;
+    unsigned i;
+    memset(handles, 0, sizeof handles);
+    CHECK(hot_create_with(&stock, handles, TAKERS + 2) == HOT_DONE);
+    at_work = 2;
+    for (i = 0; i < TAKERS + 2; i++) {
+        workers[i].handle = &handles[i];
+        workers[i].half = i % 2;
+        CHECK(pthread_create(&threads[i], NULL, i < TAKERS ? take_jobs : put_jobs, &workers[i]) == 0);
+    }
+    for (i = 0; i < TAKERS + 2; i++)
+        CHECK(pthread_join(threads[i], NULL) == 0);
+    for (i = 0; i < 2 * JOBS; i++)
+        CHECK(taken[i] == 1);
+    CHECK(hot_len(&handles[0], &count) == HOT_DONE && count == 0);
+    for (i = 0; i < TAKERS + 2; i++)
+        CHECK(hot_destroy(&handles[i]) == HOT_DONE);
+}
+
 /* Seventh test: two threads take all their keys out and put them in again, so that nodes merge and split, beside two that scan upwards and
  * downwards. Each scan has every key that stays, and none twice. */
 #define STAYS 16
 #define WAVES 60
-
-static int at_work;
 
 /* The pairs rise from `first` on up to `last`, or fall by a step of -1, and every key that stays is there. */
 static void check_stays(const hot_pair *pairs, size_t count, int first, int step, int last, uint32_t more) {
@@ -645,6 +700,73 @@ static void test_waves(void) {
         CHECK(hot_destroy(&handles[i]) == HOT_DONE);
 }
 
+/* Eighth test: four threads give held keys new values in an index that is full to the last leaf record. None is refused, each finds the value
+ * that it gave its own key last, and one counter tells of all additions. A new key is refused all the while, and no record moves. */
+#define FULL_LEAVES 100
+#define GIVES 20000
+
+/* Gives a key of its own, whose value is `old`, another in one of three ways. */
+static void give_value(hot_handle *handle, const key *at, uint64_t old, uint64_t value) {
+    uint64_t had = old;
+    hot_status status;
+    switch (value % 3) {
+    case 0:
+        CHECK(hot_upsert(handle, at->bytes, DIGITS, value, &had) == HOT_WAS);
+        break;
+    case 1:
+        CHECK(hot_exchange(handle, at->bytes, DIGITS, old + 1, value, &had) == HOT_DIFFERS && had == old);
+        CHECK(hot_exchange(handle, at->bytes, DIGITS, old, value, NULL) == HOT_EXCHANGED);
+        break;
+    default:
+        do
+            status = hot_try_add(handle, at->bytes, DIGITS, value - old, &had);
+        while (status == HOT_BUSY);
+        CHECK(status == HOT_WAS);
+    }
+    CHECK(had == old);
+}
+
+static void *give_values(void *given) {
+    worker *me = given;
+    const key own = key_of(1 + me->half), all = key_of(0), another = key_of(NUMBERS);
+    uint64_t turn;
+    for (turn = 1; turn <= GIVES; turn++) {
+        give_value(me->handle, &own, turn - 1, turn);
+        CHECK(hot_add(me->handle, all.bytes, DIGITS, 1, NULL) == HOT_WAS);
+        if (turn % 64 == 0)
+            CHECK(hot_insert(me->handle, another.bytes, DIGITS, turn, NULL) == HOT_FULL_LEAVES);
+    }
+    return NULL;
+}
+
+static void test_values(void) {
+    hot_handle handles[4] = {HOT_HANDLE, HOT_HANDLE, HOT_HANDLE, HOT_HANDLE};
+    const key all = key_of(0);
+    worker workers[4];
+    pthread_t threads[4];
+    hot_counts before, after;
+    uint32_t given[2];
+    uint64_t sum = 0;
+    unsigned i;
+    CHECK(hot_create(FULL_LEAVES, FULL_LEAVES, handles, 4) == HOT_DONE);
+    for (i = 0; i < FULL_LEAVES; i++) {
+        key at = key_of(i);
+        CHECK(hot_insert(&handles[0], at.bytes, DIGITS, 0, NULL) == HOT_INSERTED);
+    }
+    CHECK(hot_collect(&handles[0], &given[0], &given[1]) == HOT_DONE && hot_census(&handles[0], &before) == HOT_DONE);
+    for (i = 0; i < 4; i++) {
+        workers[i].handle = &handles[i];
+        workers[i].half = i;
+        CHECK(pthread_create(&threads[i], NULL, give_values, &workers[i]) == 0);
+    }
+    for (i = 0; i < 4; i++)
+        CHECK(pthread_join(threads[i], NULL) == 0);
+    CHECK(hot_get(&handles[0], all.bytes, DIGITS, &sum) == HOT_FOUND && sum == 4 * GIVES);
+    CHECK(hot_census(&handles[0], &after) == HOT_DONE && after.long_leaves.live == FULL_LEAVES && after.nodes.live == before.nodes.live);
+    for (i = 0; i < 4; i++)
+        CHECK(hot_destroy(&handles[i]) == HOT_DONE);
+}
+
 int main(void) {
     /* Keys, nodes and leaves: room for all; more keys than leaves; one node, which comes and goes. */
     static const unsigned crowds[5][3] = {{500, 60, 520}, {12, 16, 8}, {5, 1, 16}, {3, 1, 2}, {2, 1, 1}};
@@ -658,7 +780,9 @@ int main(void) {
     CHECK(i < 10);
     test_opening();
     test_telling();
+    test_jobs();
     test_waves();
+    test_values();
     if (!failures)
         puts("passed: threads that read while others change keys of all lengths, or make nodes merge, threads where few records are to spare, and threads that are stopped");
     return failures;

@@ -789,15 +789,15 @@ static int fill_with_blobs(sqlite3 *db) {
     return count;
 }
 
-/* A full table can be emptied, and filled again. */
+/* A full table takes new values, and can be emptied and filled again. */
 static void full_tables(void) {
     static const int keys[] = {0, 1, 100, 1000};
     for (size_t at = 0; at < sizeof keys / sizeof *keys; at++) {
         char *arguments = sqlite3_mprintf("type=blob, longest=8, keys=%d", keys[at]);
         sqlite3 *db = connect_to(arguments);
         int count = fill_with_blobs(db);
-        want(db, SQLITE_OK, "BEGIN; DELETE FROM t; ROLLBACK");
-        if (number(db, "SELECT count(*) FROM t") != count)
+        want(db, SQLITE_OK, "UPDATE t SET value = value + 1; BEGIN; DELETE FROM t; ROLLBACK");
+        if (number(db, "SELECT count(*) FROM t") != count || number(db, "SELECT sum(value) FROM t") != count * (count + 1) / 2)
             fail(arguments, "a rollback did not put all back");
         want(db, SQLITE_OK, "DELETE FROM t");
         if (number(db, "SELECT count(*) FROM t") != 0 || fill_with_blobs(db) != count)

@@ -76,6 +76,37 @@ static PyObject *map_pairs(PyObject *self, PyObject *words) {
     return made;
 }
 
+/* The keys from one to another, and how many they are. */
+typedef struct span {
+    code from, upto;
+    size_t count;
+} span;
+
+static hot_status count_span(hot_handle *handle, void *what) {
+    span *it = what;
+    return hot_count(handle, it->from.bytes, it->from.length, it->upto.bytes, it->upto.length, &it->count);
+}
+
+static PyObject *map_count(PyObject *self, PyObject *words) {
+    PyObject *from, *upto, *made = NULL;
+    span what = {.from = {.owner = NULL}, .upto = {.owner = NULL}};
+    codec bytes = {.kind = OF_BYTES};
+    store *in = usable((map *)self);
+    if (!in || !PyArg_ParseTuple(words, "OO:_count", &from, &upto))
+        return NULL;
+    if (code_of(&bytes, from, &what.from) == 0 && code_of(&bytes, upto, &what.upto) == 0) {
+        hot_status status;
+        Py_BEGIN_ALLOW_THREADS status = store_long(in, count_span, &what);
+        Py_END_ALLOW_THREADS if (status == HOT_DONE)
+            made = PyLong_FromSize_t(what.count);
+        else
+            raise_status(status);
+    }
+    code_end(&what.from);
+    code_end(&what.upto);
+    return made;
+}
+
 /* ---- The type ---- */
 
 static void *end_turn(void) {
@@ -199,6 +230,7 @@ static PyMethodDef methods[] = {
     {"__class_getitem__", Py_GenericAlias, METH_O | METH_CLASS, NULL},
     {"clear", METHOD(map_clear_all), METH_NOARGS, "clear($self)\n--\n\nDeletes all keys at once."},
     {"_encode", METHOD(map_encode), METH_O, "_encode($self, key, /)\n--\n\nThe key's bytes."},
+    {"_count", METHOD(map_count), METH_VARARGS, "_count($self, start, end, /)\n--\n\nHow many keys there are from one key's bytes to another's."},
     {"_pairs", METHOD(map_pairs), METH_VARARGS,
      "_pairs($self, start, end, reverse, what, /)\n--\n\nIterates over keys, values or pairs from one key's bytes to another's."},
     {NULL, NULL, 0, NULL},

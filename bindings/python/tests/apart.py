@@ -5,7 +5,7 @@ import subprocess
 import sys
 import textwrap
 
-LONGEST = 120
+LONGEST = 600
 
 
 def run_apart(code, *words, **options):

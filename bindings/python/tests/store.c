@@ -137,7 +137,7 @@ static void together(void) {
 
 int main(int count, char **words) {
     (void)words;
-    alarm(60); /* a call that never returns ends the program */
+    alarm(600); /* a call that never returns ends the program */
     wanted_store wanted = {.threads = MOST_THREADS + 1};
     store *none;
     assert(store_open(&wanted, &of_lock, &none) == HOT_OUT_OF_RANGE);

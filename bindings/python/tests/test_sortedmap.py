@@ -69,6 +69,7 @@ class Model:
         wanted = [key for key in keys if inside(key, *ends, both)]
         equal(list(mine.irange(*ends, both)), wanted)
         equal(list(mine.irange(*ends, both, reverse=True)), wanted[::-1])
+        equal(mine.count_range(*ends, both), len(wanted))
         wanted = [(key, other[key]) for key in keys if key <= one]
         equal(mine.floor_item(one), wanted[-1] if wanted else None)
         wanted = [(key, other[key]) for key in keys if key > one]

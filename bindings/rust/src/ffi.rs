@@ -94,6 +94,8 @@ type PackedScan = unsafe extern "C" fn(
     *mut u32,
 ) -> Status;
 
+type Pop = unsafe extern "C" fn(*mut RawHandle, *const u8, usize, *const u8, usize, *mut RawPair) -> Status;
+
 extern "C" {
     fn hot_status_text(status: Status) -> *const c_char;
     fn hot_open_index(stock: *const Stock, handles: usize, index: *mut *mut RawIndex) -> Status;
@@ -144,8 +146,40 @@ extern "C" {
         count: *mut usize,
         more: *mut u32,
     ) -> Status;
+    fn hot_count(
+        handle: *mut RawHandle,
+        from: *const u8,
+        from_length: usize,
+        upto: *const u8,
+        upto_length: usize,
+        count: *mut usize,
+    ) -> Status;
     fn hot_first(handle: *mut RawHandle, from: *const u8, length: usize, pair: *mut RawPair) -> Status;
     fn hot_last(handle: *mut RawHandle, upto: *const u8, length: usize, pair: *mut RawPair) -> Status;
+    fn hot_pop_first(
+        handle: *mut RawHandle,
+        from: *const u8,
+        from_length: usize,
+        upto: *const u8,
+        upto_length: usize,
+        pair: *mut RawPair,
+    ) -> Status;
+    fn hot_pop_last(
+        handle: *mut RawHandle,
+        from: *const u8,
+        from_length: usize,
+        upto: *const u8,
+        upto_length: usize,
+        pair: *mut RawPair,
+    ) -> Status;
+    fn hot_clear_range(
+        handle: *mut RawHandle,
+        from: *const u8,
+        from_length: usize,
+        upto: *const u8,
+        upto_length: usize,
+    ) -> Status;
+    fn hot_copy(from: *mut RawHandle, to: *mut RawHandle) -> Status;
     fn hot_census(handle: *mut RawHandle, counts: *mut Census) -> Status;
     fn hot_len(handle: *mut RawHandle, count: *mut usize) -> Status;
     fn hot_meet(one: *mut RawHandle, other: *mut RawHandle) -> Status;
@@ -365,6 +399,13 @@ impl Lease {
         Ok((pairs, more != 0))
     }
 
+    /// How many keys there are from one key to another.
+    pub(crate) fn count(&self, from: &[u8], upto: &[u8]) -> usize {
+        let mut count = 0;
+        unsafe { hot_count(self.raw(), from.as_ptr(), from.len(), upto.as_ptr(), upto.len(), &mut count) };
+        count
+    }
+
     /// The first pair from a key on.
     pub(crate) fn first(&self, from: &[u8]) -> Result<Option<(Vec<u8>, u64)>, Error> {
         let mut pair = NO_PAIR;
@@ -387,6 +428,35 @@ impl Lease {
         }
     }
 
+    /// Removes the first pair from one key to another.
+    pub(crate) fn pop_first(&self, from: &[u8], upto: &[u8]) -> Result<Option<(Vec<u8>, u64)>, Error> {
+        self.pop(hot_pop_first, from, upto)
+    }
+
+    /// Removes the last pair from one key to another.
+    pub(crate) fn pop_last(&self, from: &[u8], upto: &[u8]) -> Result<Option<(Vec<u8>, u64)>, Error> {
+        self.pop(hot_pop_last, from, upto)
+    }
+
+    fn pop(&self, call: Pop, from: &[u8], upto: &[u8]) -> Result<Option<(Vec<u8>, u64)>, Error> {
+        // Once the pair is removed, no memory may be missing.
+        let mut key = room(MAX_KEY, 0)?;
+        let mut pair = NO_PAIR;
+        let (start, end) = (from.as_ptr(), upto.as_ptr());
+        let status = Error::check(unsafe { call(self.raw(), start, from.len(), end, upto.len(), &mut pair) })?;
+        if status != REMOVED {
+            return Ok(None);
+        }
+        key.copy_from_slice(&pair.key);
+        key.truncate(pair.length as usize);
+        Ok(Some((key, pair.value)))
+    }
+
+    /// Removes all keys from one to another.
+    pub(crate) fn clear_range(&self, from: &[u8], upto: &[u8]) -> Status {
+        unsafe { hot_clear_range(self.raw(), from.as_ptr(), from.len(), upto.as_ptr(), upto.len()) }
+    }
+
     pub(crate) fn add(&self, key: &[u8], delta: u64) -> (Status, u64) {
         let mut had = 0;
         let status = unsafe { hot_add(self.raw(), key.as_ptr(), key.len(), delta, &mut had) };
@@ -397,6 +467,11 @@ impl Lease {
         let mut count = 0;
         unsafe { hot_len(self.raw(), &mut count) };
         count
+    }
+
+    /// The other lease may be this one, too.
+    pub(crate) fn copy_to(&self, other: &Lease) -> Status {
+        unsafe { hot_copy(self.raw(), other.raw()) }
     }
 
     /// The other lease may be this one, since the library is handed pointers.

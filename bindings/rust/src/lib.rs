@@ -22,10 +22,12 @@
 #![deny(clippy::unwrap_used, clippy::expect_used, clippy::panic, clippy::indexing_slicing)]
 mod error;
 mod ffi;
+mod growing;
 mod key;
 mod range;
 
 pub use error::{CompareExchangeError, Error, TryInsertError};
+pub use growing::{Growing, User};
 pub use key::{key_of, values_of, FromKey, ToKey};
 pub use range::{KeyRange, Range};
 
@@ -433,6 +435,11 @@ impl Handle {
         Range::new(self, &keys)
     }
 
+    /// How many keys a range has: [`range`](Handle::range)`.count()`, but few of the keys are read.
+    pub fn count_range(&self, keys: impl KeyRange) -> usize {
+        range::count(self, &keys)
+    }
+
     /// The pairs whose keys begin with these bytes, in the same way.
     pub fn prefix(&self, prefix: impl AsRef<[u8]>) -> Range<'_> {
         Range::prefix(self, prefix.as_ref())
@@ -469,23 +476,55 @@ impl Handle {
 
     /// Removes the pair with the least key, and returns it.
     pub fn pop_first(&self) -> Result<Option<(Vec<u8>, u64)>, Error> {
-        self.pop(Handle::first_key_value)
+        self.pop_first_in(..)
     }
 
     /// Removes the pair with the greatest key, and returns it.
     pub fn pop_last(&self) -> Result<Option<(Vec<u8>, u64)>, Error> {
-        self.pop(Handle::last_key_value)
+        self.pop_last_in(..)
     }
 
-    fn pop(&self, end: impl Fn(&Handle) -> Option<(Vec<u8>, u64)>) -> Result<Option<(Vec<u8>, u64)>, Error> {
-        while let Some((key, value)) = end(self) {
-            match self.remove_if(&key, value) {
-                Ok(_) => return Ok(Some((key, value))),
-                Err(CompareExchangeError::Refused(why)) => return Err(why),
-                Err(_) => {}
-            }
+    /// Removes the first pair whose key is in a range, and returns it. No two calls get the same pair. No key of the range comes before it
+    /// that was there all along; one that another thread puts in meanwhile may.
+    ///
+    /// ```
+    /// let handle = hot::Hot::with_capacity(10, 8, 1)?.handle()?;
+    /// handle.extend([("a", 1), ("b", 2), ("c", 3)])?;
+    /// assert_eq!(handle.pop_first_in("b"..), Ok(Some((b"b".to_vec(), 2))));
+    /// assert_eq!(handle.pop_first_in("b".."c"), Ok(None));
+    /// # Ok::<(), hot::Error>(())
+    /// ```
+    pub fn pop_first_in(&self, keys: impl KeyRange) -> Result<Option<(Vec<u8>, u64)>, Error> {
+        match range::ends(&keys) {
+            Some((from, upto)) => self.lease.pop_first(from.bytes(), upto.bytes()),
+            None => Ok(None),
         }
-        Ok(None)
+    }
+
+    /// Removes the last pair whose key is in a range in the same way.
+    pub fn pop_last_in(&self, keys: impl KeyRange) -> Result<Option<(Vec<u8>, u64)>, Error> {
+        match range::ends(&keys) {
+            Some((from, upto)) => self.lease.pop_last(from.bytes(), upto.bytes()),
+            None => Ok(None),
+        }
+    }
+
+    /// Removes all keys, page by page. A key that another thread puts in meanwhile may stay. If it is refused, some keys are left.
+    pub fn clear(&self) -> Result<(), Error> {
+        self.clear_range(..)
+    }
+
+    /// Removes the keys of a range in the same way.
+    pub fn clear_range(&self, keys: impl KeyRange) -> Result<(), Error> {
+        match range::ends(&keys) {
+            Some((from, upto)) => Error::check(self.lease.clear_range(from.bytes(), upto.bytes())).map(|_| ()),
+            None => Ok(()),
+        }
+    }
+
+    /// Gives each key its value in the index of another handle, page by page. If it is refused, the rest isn't copied.
+    pub fn copy_to(&self, other: &Handle) -> Result<(), Error> {
+        Error::check(self.lease.copy_to(&other.lease)).map(|_| ())
     }
 
     /// How many keys there are: exact while nobody changes the index.

@@ -115,7 +115,7 @@ key_ranges!(
 );
 
 /// The least and the greatest key that a range may have, or `None` if it has none.
-fn ends(range: &impl KeyRange) -> Option<(Key, Key)> {
+pub(crate) fn ends(range: &impl KeyRange) -> Option<(Key, Key)> {
     let (from, upto) = range.key_bounds();
     let from = match from {
         Bound::Unbounded => Key::LEAST,
@@ -133,6 +133,11 @@ fn ends(range: &impl KeyRange) -> Option<(Key, Key)> {
     } else {
         None
     }
+}
+
+/// How many keys a range has.
+pub(crate) fn count(handle: &Handle, keys: &impl KeyRange) -> usize {
+    ends(keys).map_or(0, |(from, upto)| handle.lease().count(from.bytes(), upto.bytes()))
 }
 
 /// The pairs of a range of keys, in order from either end: see [`Handle::range`].

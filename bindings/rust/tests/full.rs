@@ -54,7 +54,7 @@ fn small_indexes_are_filled_and_emptied() {
         small_indexes();
         ends.send(()).unwrap();
     });
-    match ended.recv_timeout(Duration::from_secs(60)) {
+    match ended.recv_timeout(Duration::from_secs(600)) {
         Err(mpsc::RecvTimeoutError::Timeout) => panic!("a call does not return"),
         _ => work.join().unwrap(),
     }

@@ -122,6 +122,7 @@ fn change(handle: &Handle, model: &mut Model, random: &mut Random) {
 fn check_range(handle: &Handle, model: &Model, random: &mut Random) {
     let keys = (random.bound(), random.bound());
     let wanted = listed(model, |key| within(key, &keys));
+    assert_eq!(handle.count_range(keys.clone()), wanted.len());
     let (mut range, mut front, mut back) = (handle.range(keys), Vec::new(), Vec::new());
     loop {
         let is_forward = random.below(3) > 0;
@@ -133,6 +134,28 @@ fn check_range(handle: &Handle, model: &Model, random: &mut Random) {
     }
     front.extend(back.into_iter().rev());
     assert_eq!(front, wanted);
+}
+
+/// Takes a pair from an end of a range, or now and then all pairs of a range.
+fn check_taking(handle: &Handle, model: &mut Model, random: &mut Random) {
+    let keys = (random.bound(), random.bound());
+    let mut wanted = listed(model, |key| within(key, &keys));
+    match random.below(20) {
+        0 => assert_eq!(handle.clear_range(keys), Ok(())),
+        kind => {
+            let taken = if kind % 2 == 0 {
+                wanted.truncate(1);
+                handle.pop_first_in(keys)
+            } else {
+                wanted.drain(..wanted.len().saturating_sub(1));
+                handle.pop_last_in(keys)
+            };
+            assert_eq!(taken, Ok(wanted.first().cloned()));
+        }
+    }
+    for (key, _) in wanted {
+        model.remove(&key);
+    }
 }
 
 fn check_look_ups(handle: &Handle, model: &Model, random: &mut Random) {
@@ -160,6 +183,7 @@ fn random_calls_return_what_a_btree_map_does() {
             if round % 8 == 0 {
                 check_range(&handle, &model, &mut random);
                 check_look_ups(&handle, &model, &mut random);
+                check_taking(&handle, &mut model, &mut random);
             }
         }
         assert_eq!(handle.len(), model.len());
@@ -170,7 +194,8 @@ fn random_calls_return_what_a_btree_map_does() {
             greatest.map(|(key, value)| model.remove(&key) == Some(value)),
             Some(true)
         );
-        assert!(handle.into_iter().eq(model));
+        assert!((&handle).into_iter().eq(model));
+        assert_eq!((handle.clear(), handle.pop_last(), handle.len()), (Ok(()), Ok(None), 0));
     }
 }
 

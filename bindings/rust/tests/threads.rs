@@ -1,6 +1,6 @@
 //! Threads of `std::thread::scope`, each with a handle of its own.
-use hot::{Error, Hot};
-use std::sync::atomic::{AtomicBool, Ordering};
+use hot::{key_of, Error, Growing, Hot, Stock};
+use std::sync::atomic::{AtomicBool, AtomicU32, Ordering};
 use std::thread;
 
 #[test]
@@ -21,6 +21,55 @@ fn counters_lose_nothing() -> Result<(), Error> {
     });
     let handle = hot.handle()?;
     assert_eq!((handle.values().sum::<u64>(), handle.len()), (60_000, 10));
+    Ok(())
+}
+
+/// Two threads put keys in, and two find each key that was put in.
+#[test]
+fn an_index_grows_while_threads_read() -> Result<(), Error> {
+    const MANY: u32 = 4000;
+    let stock = Stock {
+        nodes: 4,
+        short_leaves: 20,
+        ..Stock::default()
+    };
+    let index = Growing::with_stock(&stock, 4)?;
+    let written = [AtomicU32::new(0), AtomicU32::new(0)];
+    thread::scope(|scope| {
+        for (of, written) in (0..2u8).zip(&written) {
+            let (mut writer, mut reader) = (index.user().unwrap(), index.user().unwrap());
+            scope.spawn(move || {
+                for number in 0..MANY {
+                    let key = key_of((number, of));
+                    let made = writer.change(|handle| handle.insert(&key, number.into()));
+                    assert_eq!(made, Ok(None));
+                    written.store(number + 1, Ordering::SeqCst);
+                }
+            });
+            scope.spawn(move || {
+                let mut turn = 0;
+                loop {
+                    let count = written.load(Ordering::SeqCst);
+                    match turn % count.max(1) {
+                        _ if count == 0 => thread::yield_now(),
+                        number => assert_eq!(reader.read().unwrap().get(key_of((number, of))), Some(number.into())),
+                    }
+                    if count == MANY {
+                        break;
+                    }
+                    turn += 1;
+                }
+            });
+        }
+    });
+    let mut user = index.user()?;
+    assert_eq!(user.read()?.len(), 2 * MANY as usize);
+    assert_eq!(
+        user.change(|handle| handle.insert("longer than 8", 1)),
+        Err(Error::KeyTooLong)
+    );
+    assert_eq!(index.clone().user().map(|_| ()), Ok(()));
+    assert_eq!(Growing::with_stock(&stock, 1024).err(), Some(Error::OutOfRange));
     Ok(())
 }
 

@@ -8,7 +8,6 @@ use Rattle.finite_map.specs.declared.Call.{Call}
 use Rattle.finite_map.specs.declared.Reply.{Reply}
 use Rattle.finite_map.specs.declared.Reply.TheVariants.{Inserted, Exists, New, Was, Exchanged, Differs, Value, Absent, Removed}
 use Rattle.rowex_table.specs.Seats.{TableView}
-use Rattle.rowex_writing.specs.declared.attempts.TryFault.TheVariants.{FullLeaves}
 use Rattle.rowex_writing.specs.declared.plan.Full.TheVariants.{Nodes, Leaves}
 use Rattle.hot_index_calls.specs.Refusals.{fault_in}
 use Rattle.hot_index_calls.specs.declared.refusals.Refusal.{Refusal}
@@ -18,10 +17,10 @@ use Rattle.hot_index_calls.specs.Calls.{IsCallCounted}
 use Rattle.hot_index_calls.specs.Passes.{PassView}
 use Rattle.hot_index.specs.Handles.{HandleView, Stays}
 use Rattle.hot_c.specs.Calls.{Answers, HasOutcome, FitsInKey, TellsOutcome}
-use Rattle.hot_c.specs.Refusals.{TellsRefusal}
+use Rattle.hot_c.specs.Refusals.{TellsOfNoLack, TellsRefusal, TellsWhatMay}
 use Rattle.hot_c.specs.Statuses.{reply_status, value_after}
 use Rattle.hot_c.specs.declared.opened.Opened.{Opened}
-use Rattle.hot_c.specs.declared.status.TheConstants.{BUSY, FULL_LEAVES}
+use Rattle.hot_c.specs.declared.status.TheConstants.{BUSY, FULL_LEAVES, FULL_NODES, HELD_BACK}
 
 some_is_none : (s : Opened) → Some s ≡ None → ⊥
 some_is_none s e = cc
@@ -76,26 +75,31 @@ pub told_refusal : (size : ℕ) (call : Call) (outcome : Result Reply Refusal) (
 told_refusal size call outcome status before after old new refusal is h told left =
     told_as size call (Err refusal) status before after old new (subst (λ (o : Result Reply Refusal). Stays (IsCallCounted call o) old new) is h) told left
 
--- no reply is told as full
-unfull : (reply : Reply) → reply_status reply ≡ FULL_LEAVES → ⊥
-unfull (Value v) e = omega (arith, e)
-unfull Absent e = omega (arith, e)
-unfull Inserted e = omega (arith, e)
-unfull (Exists v) e = omega (arith, e)
-unfull New e = omega (arith, e)
-unfull (Was v) e = omega (arith, e)
-unfull (Removed v) e = omega (arith, e)
-unfull Exchanged e = omega (arith, e)
-unfull (Differs v) e = omega (arith, e)
+-- no reply is told as a lack
+no_lack : (reply : Reply) (status : ℕ) → status ≡ reply_status reply → TellsOfNoLack status
+no_lack (Value v) status e = ((λ f. omega (arith, e, f)), (λ f. omega (arith, e, f)), (λ f. omega (arith, e, f)))
+no_lack Absent status e = ((λ f. omega (arith, e, f)), (λ f. omega (arith, e, f)), (λ f. omega (arith, e, f)))
+no_lack Inserted status e = ((λ f. omega (arith, e, f)), (λ f. omega (arith, e, f)), (λ f. omega (arith, e, f)))
+no_lack (Exists v) status e = ((λ f. omega (arith, e, f)), (λ f. omega (arith, e, f)), (λ f. omega (arith, e, f)))
+no_lack New status e = ((λ f. omega (arith, e, f)), (λ f. omega (arith, e, f)), (λ f. omega (arith, e, f)))
+no_lack (Was v) status e = ((λ f. omega (arith, e, f)), (λ f. omega (arith, e, f)), (λ f. omega (arith, e, f)))
+no_lack (Removed v) status e = ((λ f. omega (arith, e, f)), (λ f. omega (arith, e, f)), (λ f. omega (arith, e, f)))
+no_lack Exchanged status e = ((λ f. omega (arith, e, f)), (λ f. omega (arith, e, f)), (λ f. omega (arith, e, f)))
+no_lack (Differs v) status e = ((λ f. omega (arith, e, f)), (λ f. omega (arith, e, f)), (λ f. omega (arith, e, f)))
 
--- a call that needs no leaf record doesn't tell that it found none
-pub unleafed : (size : ℕ) (call : Call) (status : ℕ) (outcome : Result Reply Refusal) (index : TableView) (k j : PassView) → TellsOutcome size call status outcome index k j →
-    IfErr outcome (λ refusal. MayRefuse call (fault_in refusal)) → ¬ MayRefuse call FullLeaves → status ≢ FULL_LEAVES
-unleafed size call status (Ok reply) index k j told may never e = unfull reply (sym told.1 ∙ e)
-unleafed size call status (Err IsBusy) index k j told may never e = omega (arith, e, told.1)
-unleafed size call status (Err (HeldBack lacks)) index k j told may never e = omega (arith, e, told.1)
-unleafed size call status (Err (IsFull Nodes counts)) index k j told may never e = omega (arith, e, told.1)
-unleafed size call status (Err (IsFull Leaves counts)) index k j told may never e = never may
+-- and a status that tells of none tells of none that the call may not have
+tells_may : (call : Call) (status : ℕ) → TellsOfNoLack status → TellsWhatMay call status
+tells_may call status (nodes, leaves, held) = record { nodes = λ never. nodes; leaves = λ never. leaves; held = λ never none. held }
+
+-- what a refusal tells that the call may have
+pub told_may : (size : ℕ) (call : Call) (status : ℕ) (outcome : Result Reply Refusal) (index : TableView) (k j : PassView) → TellsOutcome size call status outcome index k j →
+    IfErr outcome (λ refusal. MayRefuse call (fault_in refusal)) → TellsWhatMay call status
+told_may size call status (Ok reply) index k j told may = tells_may call status (no_lack reply status told.1)
+told_may size call status (Err IsBusy) index k j told may = tells_may call status ((λ f. omega (arith, f, told.1)), (λ f. omega (arith, f, told.1)), (λ f. omega (arith, f, told.1)))
+told_may size call status (Err (HeldBack Nodes)) index k j told may = record { nodes = λ never. absurd (never may); leaves = λ never f. omega (arith, f, told.1); held = λ never none. absurd (never may) }
+told_may size call status (Err (HeldBack Leaves)) index k j told may = record { nodes = λ never f. omega (arith, f, told.1); leaves = λ never. absurd (never may); held = λ never none. absurd (none may) }
+told_may size call status (Err (IsFull Nodes counts)) index k j told may = record { nodes = λ never. absurd (never may); leaves = λ never f. omega (arith, f, told.1); held = λ never none. absurd (never may) }
+told_may size call status (Err (IsFull Leaves counts)) index k j told may = record { nodes = λ never f. (let taken = told.1.taken (λ all. omega (arith, f, told.1.none all)) in omega (arith, f, taken)); leaves = λ never. absurd (never may); held = λ never none. absurd (none may) }
 
 -- the bytes that a key took are fit for one
 pub of_key : (bytes key : List ℕ) (r : Result (Unit {0}) KeyFault) → r ≡ Ok tt → (IsOk r ↔ (length bytes ≤ MAX_BYTES)) → (IsOk r → (key ≡ bytes) × IsKey key) → (key ≡ bytes) × FitsInKey bytes

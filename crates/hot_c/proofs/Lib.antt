@@ -11,3 +11,4 @@ pub mod Written
 pub mod Answered
 pub mod LookedUp
 pub mod Keepers
+pub mod Numbered

@@ -61,7 +61,8 @@ HasSeenRecords counts index k j = IsUnnoted index.layout k j × HasCounted index
 
 -- A call for a key of this length was made, and the status tells its outcome.
 abbrev pub TellsOutcome : ℕ → Call → ℕ → Result Reply Refusal → TableView → PassView → PassView → Type 0
-TellsOutcome size call status outcome index k j = HasOutcome call outcome index k j × MatchResult outcome (λ reply. status ≡ reply_status reply) (λ refusal. TellsRefusal size refusal status)
+TellsOutcome size call status outcome index k j =
+    HasOutcome call outcome index k j × MatchResult outcome (λ reply. status ≡ reply_status reply) (λ refusal. TellsRefusal size refusal status)
 
 -- A call for a key through a handle, which finds `before` where C wants a value and leaves `after`. A closed handle and a key that
 -- is too long are told as such, and nothing has changed; else the call is made, and its outcome told.

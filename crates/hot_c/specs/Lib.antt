@@ -8,6 +8,7 @@ pub mod Around
 pub mod Calls
 pub mod Orders
 pub mod Scans
+pub mod Counting
 pub mod Packs
 pub mod Ends
 pub mod Stocks

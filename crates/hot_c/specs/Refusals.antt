@@ -1,6 +1,9 @@
 -- What a call says that was refused.
-use Rattle.std.specs.Prelude.{◌≡◌, ℕ}
+use Rattle.std.specs.Prelude.{◌≡◌, ◌≢◌, ℕ}
+use Rattle.finite_map.specs.declared.Call.{Call}
+use Rattle.rowex_writing.specs.declared.attempts.TryFault.TheVariants.{FullLeaves, FullNodes}
 use Rattle.rowex_writing.specs.declared.plan.Full.TheVariants.{Nodes, Leaves}
+use Rattle.hot_index_calls.specs.Answers.{MayRefuse}
 use Rattle.hot_index_calls.specs.Refusals.{OfLeaves}
 use Rattle.hot_index_calls.specs.declared.census.RecordCounts.{RecordCounts}
 use Rattle.hot_index_calls.specs.declared.census.StateCounts.{StateCounts}
@@ -26,3 +29,13 @@ TellsRefusal length Busy status = status ≡ BUSY
 TellsRefusal length (HeldBack lacks) status = status ≡ HELD_BACK
 TellsRefusal length (Full Nodes counts) status = status ≡ FULL_NODES
 TellsRefusal length (Full Leaves counts) status = TellsOfLeaves length counts status
+
+-- The status tells of no lack of records of a kind that the call never lacks, and where it lacks neither, of none that others hold back.
+pub record TellsWhatMay (call : Call) (status : ℕ) : Type 0 where
+  pub nodes : ¬ MayRefuse call FullNodes → status ≢ FULL_NODES
+  pub leaves : ¬ MayRefuse call FullLeaves → status ≢ FULL_LEAVES
+  pub held : ¬ MayRefuse call FullNodes → ¬ MayRefuse call FullLeaves → status ≢ HELD_BACK
+
+-- the status tells of no lack of records
+abbrev pub TellsOfNoLack : ℕ → Type 0
+TellsOfNoLack status = (status ≢ FULL_NODES) × (status ≢ FULL_LEAVES) × (status ≢ HELD_BACK)

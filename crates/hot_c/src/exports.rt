@@ -2,11 +2,10 @@
 
 ghost use Rattle.std.specs.Prelude.{◌≡◌, ◌≢◌, ◌⊎◌, ◌↔◌, ℕ, List, IsOk, IsSome, None, Some, length, min};
 ghost use Rattle.finite_map.specs.declared.Call.TheVariants.{Add, Exchange, Get, Insert, Remove, RemoveIf, Upsert};
-ghost use Rattle.rowex_writing.specs.declared.attempts.TryFault.TheVariants.{FullLeaves};
-ghost use Rattle.hot_index_calls.specs.Answers.{MayRefuse};
 ghost use Rattle.hot_c.specs.declared.opened.Opened.{Opened};
 ghost use Rattle.hot_c.specs.Calls.{Answers, AreClosed, FitsInKey, HasGivenBack, HasSeenRecords, HasOpenedKeeper, HaveOpened, HaveOpenedStock, IsSize, IsStockSize, OpensNext, StaysOpen, for_key, places_of};
 ghost use Rattle.hot_c.specs.Lookups.{LooksUpAll};
+ghost use Rattle.hot_c.specs.Refusals.{TellsOfNoLack, TellsWhatMay};
 ghost use Rattle.hot_c.specs.Stocks.{TakesBytes, stock_in};
 ghost use Rattle.record_words.specs.Layout.{stock_for, stock_for_any};
 ghost use Rattle.record_words.specs.declared.TheConstants.{MAX_STOCK_PASSES};
@@ -255,7 +254,7 @@ pub extern "C" fn hot_try_insert(handle: &mut Handle, key: &[u8], value: u64, ha
 }
 
 /// Gives `key` the value `value`, whether it has one or not: `NEW`, or `WAS` with the value that it had in `had`. It is refused with the
-/// same statuses as `hot_try_insert`.
+/// same statuses as `hot_try_insert`. But it lacks a record only if its search found the key absent.
 #[unsafe(no_mangle)]
 pub extern "C" fn hot_try_upsert(handle: &mut Handle, key: &[u8], value: u64, had: &mut u64) -> u32
     ensures call { Answers key.now (Upsert key.now value) handle.old.slot.opened handle.new.slot.opened had.old had.new result }
@@ -266,7 +265,7 @@ pub extern "C" fn hot_try_upsert(handle: &mut Handle, key: &[u8], value: u64, ha
 }
 
 /// Gives `key` the value `value` if it has the value `expected` (`EXCHANGED`). Else it changes nothing: `DIFFERS` with the value that the
-/// key has in `had`, or `ABSENT`. It is refused with the same statuses as `hot_try_insert`.
+/// key has in `had`, or `ABSENT`. It takes no record, so it is refused only with `BUSY`, `CLOSED` or `KEY_TOO_LONG`.
 #[unsafe(no_mangle)]
 pub extern "C" fn hot_try_exchange(
     handle: &mut Handle,
@@ -276,6 +275,7 @@ pub extern "C" fn hot_try_exchange(
     had: &mut u64,
 ) -> u32
     ensures call { Answers key.now (Exchange key.now expected value) handle.old.slot.opened handle.new.slot.opened had.old had.new result }
+    ensures takes { TellsOfNoLack result }
     ensures place { handle.new.place ≡ handle.old.place }
 {
     let mut call = Call::Exchange(Key::empty(), expected, value);
@@ -283,10 +283,11 @@ pub extern "C" fn hot_try_exchange(
 }
 
 /// Adds `delta` to the value of `key`, modulo 2 to the power of 64: `WAS` with the value that it had in `had`. `ABSENT` if the key is
-/// absent, and then nothing changes. It is refused with the same statuses as `hot_try_insert`.
+/// absent, and then nothing changes. It is refused as `hot_try_exchange` is.
 #[unsafe(no_mangle)]
 pub extern "C" fn hot_try_add(handle: &mut Handle, key: &[u8], delta: u64, had: &mut u64) -> u32
     ensures call { Answers key.now (Add key.now delta) handle.old.slot.opened handle.new.slot.opened had.old had.new result }
+    ensures takes { TellsOfNoLack result }
     ensures place { handle.new.place ≡ handle.old.place }
 {
     let mut call = Call::Add(Key::empty(), delta);
@@ -327,7 +328,7 @@ pub extern "C" fn hot_try_remove_if(
 #[inline(always)]
 fn make_call(handle: &mut Handle, call: &mut Call, key: &[u8], had: &mut u64) -> u32
     ensures call { Answers key.now (for_key key.now call.old) handle.old.slot.opened handle.new.slot.opened had.old had.new result }
-    ensures leafless { ¬ MayRefuse (for_key key.now call.old) FullLeaves → result ≢ FULL_LEAVES }
+    ensures may { TellsWhatMay (for_key key.now call.old) result }
     ensures place { handle.new.place ≡ handle.old.place }
 {
     if !handle.is_open() {
@@ -362,7 +363,7 @@ fn set_key(call: &mut Call, key: &[u8]) -> Result<(), KeyFault>
 fn make_call_on_open_handle(handle: &mut Handle, call: &Call, size: usize, had: &mut u64) -> u32
     requires { IsSome handle.old.slot.opened }
     ensures call { (key : List ℕ) → FitsInKey key → length key ≡ size → Answers key call.now handle.old.slot.opened handle.new.slot.opened had.old had.new result }
-    ensures leafless { ¬ MayRefuse call.now FullLeaves → result ≢ FULL_LEAVES }
+    ensures may { TellsWhatMay call.now result }
     ensures place { handle.new.place ≡ handle.old.place }
 {
     handle.slot.lend().try_call(call, size, had)

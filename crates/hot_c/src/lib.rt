@@ -2,6 +2,7 @@
 #![tactic(auto)]
 
 mod around;
+mod counting;
 mod ends;
 mod exports;
 mod following;

@@ -9,3 +9,4 @@ pub mod Meets
 pub mod Longs
 pub mod Stamped
 pub mod Alone
+pub mod Held

@@ -12,7 +12,9 @@ use Rattle.rowex_core.specs.declared.event.Event.{Event}
 use Rattle.rowex_reading.proofs.Led.{looked_at, looks_same}
 use Rattle.rowex_scanning.specs.Counts.{Scans, scan_loads}
 use Rattle.version_laws.specs.Directions.{IsLawfulBy}
-use Rattle.rowex_scanning.specs.Scanning.{HasScanned, HasScannedPart, limited}
+use Rattle.rowex_scanning.specs.Scanning.{HasScanned, HasScannedPart, HasTaken, limited}
+use Rattle.rowex_scanning.specs.Tallies.{tally_of_number}
+use Rattle.version_laws.specs.declared.direction.Direction.TheVariants.{Upwards}
 use Rattle.version_laws.specs.declared.direction.Direction.{Direction}
 use Rattle.rowex_table.specs.Runs.{StepsWith, silent}
 use Rattle.rowex_table.specs.Seats.{IsSeatOf, SeatView, TableView}
@@ -21,11 +23,11 @@ use Rattle.epochs.specs.Runs.{Pins}
 use Rattle.tries.specs.Keys.{Key}
 use Rattle.version_laws.specs.Directions.{ScanLaw}
 use Rattle.hot_index_calls.specs.Answers.{IsFoundBy, IsListedBy, IsUnnoted, range_from}
-use Rattle.hot_index_calls.specs.Calls.{IsListReadBy, IsRangeReadWith, IsScanReadBy, no_part}
+use Rattle.hot_index_calls.specs.Calls.{IsCountReadWith, IsListReadBy, IsRangeReadWith, IsScanReadBy, no_part}
 use Rattle.hot_index_calls.specs.Passes.{PassView, IsSettled, pass_of}
 use Rattle.hot_index.proofs.Found.{listed_found, part_found}
 use Rattle.hot_index_calls.proofs.Noting.{looked}
-use Rattle.hot_index_calls.proofs.Scanned.{if_answered, if_refused, listed_scanned, listed_unnoted, scan_answered, scan_counted, scan_refused}
+use Rattle.hot_index_calls.proofs.Scanned.{if_answered, if_refused, listed_scanned, listed_unnoted, scan_answered, scan_counted, scan_numbered, scan_refused}
 use Rattle.hot_index_calls.proofs.Tracing.{has_walked}
 
 module _ {G : Type 0} {range : Range} {index : TableView} {becomes : G → Event → G → Type 0} {a b : PassView × G} where
@@ -81,6 +83,23 @@ list_read table becomes d g pairs r {a} {b} {c} {e} settled pins own pinned scan
       err = if_refused r (IsUnnoted table.layout (pass_of a.0) (pass_of e.0)) (scan_refused a.0 e.0 settled looks end.event);
       part = on_err_weaker r (λ h. (h.0, scan_answered a.0 e.0 settled looks end.event d (limited g (length pairs)) keys still pairs true h.1)) cut;
       memory = on_err_weaker r (part_found a.0 e.0 looks end.event g keys still d) cut;
+      steps = scan_counted (scan_loads g.limit) pins few end;
+      read = has_walked table becomes g.limit pins scans end;
+    }
+
+-- The same of a count, which needs no memory.
+pub count_read : {G : Type 0} (table : TableView) (becomes : G → Event → G → Type 0) (g : Range) (number : ℕ) (more : Bool) {a b c e : SeatView × G} → IsSettled a.0.known → Pins table becomes a b → IsSeatOf table b.0 → IsSome b.0.known.pin →
+    Scans table becomes g.limit b c → IsKey g.from × IsKey g.upto → HasTaken Upwards c.0.known g (tally_of_number number) more → c.0.known.steps ≤ b.0.known.steps + (1 + scan_loads g.limit) → StepsWith table becomes ClearPin silent c e →
+    IsCountReadWith g number table becomes (pass_of a.0, a.1) (pass_of e.0, e.1)
+count_read table becomes g number more {a} {b} {c} {e} settled pins own pinned scans keys counted few end =
+    let looks = looked settled pins scans.3 in
+    let still : IsSome c.0.known.pin = subst IsSome (sym (looked_at scans.3).later.pin) pinned in
+    record {
+      own = end.seat.0 ∙ ((looks_same scans.3).0 ∙ own);
+      ok = scan_numbered a.0 e.0 settled looks end.event g keys still number more counted;
+      err = tt;
+      part = tt;
+      memory = tt;
       steps = scan_counted (scan_loads g.limit) pins few end;
       read = has_walked table becomes g.limit pins scans end;
     }

@@ -7,6 +7,7 @@ use Rattle.record_words.specs.declared.layout.Stock.{Stock}
 abbrev pub with_one_kept : ℕ → ℕ
 with_one_kept nodes = min (nodes + 1) 4294967295
 
+-- a stock with one more
 abbrev pub kept_stock : Stock → Stock
 kept_stock stock = record stock { nodes = with_one_kept stock.nodes }
 

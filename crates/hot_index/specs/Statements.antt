@@ -1,11 +1,13 @@
 -- What the contracts of the index give in other words.
-use Rattle.std.specs.Prelude.{◌+◌, ◌≡◌, ◌⊎◌, ◌*◌, ◌<◌, ◌≤◌, ℕ, List, [], length, slice_get, Contains, Option, Some, None}
+use Rattle.std.specs.Prelude.{◌+◌, ◌≡◌, ◌≢◌, ◌⊎◌, ◌*◌, ◌<◌, ◌≤◌, ℕ, List, [], length, slice_get, take, Contains, Option, Some, None}
 use Rattle.key_bits.specs.Key.{IsKey}
 use Rattle.finite_map.specs.declared.Call.{Call}
+use Rattle.finite_map.specs.declared.Call.TheVariants.{Remove, RemoveIf}
 use Rattle.finite_map.specs.declared.Change.{Change}
 use Rattle.finite_map.specs.declared.Reply.{Reply}
 use Rattle.finite_map.specs.Calls.{LegalCalls, place_after}
-use Rattle.finite_map.specs.Fronts.{BeginsWith, LegalFront, OthersGoOn}
+use Rattle.finite_map.specs.Fronts.{BeginsWith, LegalFront, OthersGoOn, map_of}
+use Rattle.finite_map.specs.Maps.{key_of, value_at}
 use Rattle.key_counts.specs.Counts.{AreCounts, IsCountOf}
 use Rattle.key_counts.specs.declared.KeyCount.{KeyCount}
 use Rattle.record_words.specs.declared.layout.Layout.{Layout}
@@ -16,8 +18,9 @@ use Rattle.versions.specs.declared.Rec.TheVariants.{Node as a_node, Leaf as a_le
 use Rattle.tries.specs.Keys.{Key}
 use Rattle.rowex_records.specs.Claims.{AllMissed, AllMissedFrom, HasMissedSince, IsAnothers}
 use Rattle.rowex_writing.specs.Counts.{most_nodes}
+use Rattle.rowex_writing.specs.declared.attempts.TryFault.{TryFault}
 use Rattle.rowex_writing.specs.declared.attempts.TryFault.TheVariants.{Busy, FullLeaves, FullNodes}
-use Rattle.hot_index_calls.specs.Answers.{IsCause, IsNoted}
+use Rattle.hot_index_calls.specs.Answers.{IsCause, IsNoted, IsRefused}
 use Rattle.hot_index_calls.specs.Passes.{AreByPasses, PassView}
 
 -- Where all leaf records are long, as in an index that `create` makes, a call that lacks one has found each of them not free, and none its
@@ -37,7 +40,8 @@ IsNobodys r by = by ≡ None
 
 -- each node record was in the tree or retired when its turn came, but for 4,321, which the call may have claimed itself
 abbrev pub AreTakenButOwn : Layout → PassView → PassView → Type 0
-AreTakenButOwn layout k j = (own : List Rec) × (length own ≤ 2 * most_nodes + 1) × AllMissed (λ r by. IsNobodys r by ⊎ Contains own r) a_node layout.nodes j.failed k.steps
+AreTakenButOwn layout k j =
+    (own : List Rec) × (length own ≤ 2 * most_nodes + 1) × AllMissed (λ r by. IsNobodys r by ⊎ Contains own r) a_node layout.nodes j.failed k.steps
 
 -- At least a third of the node records, but one, were in the tree or retired when their turn came: these, each listed once.
 pub record ThirdIsTaken (layout : Layout) (k j : PassView) : Type 0 where
@@ -53,6 +57,24 @@ OnePassFullIsFull =
     (layout : Layout) (key : Key) (k j : PassView) → layout.passes ≡ 1 → j.number < layout.passes →
     (IsCause layout key k j FullLeaves → AllMissedFrom IsNobodys layout (words_for (length key)) j.failed k.steps) ×
     (IsCause layout key k j FullNodes → ThirdIsTaken layout k j × AreTakenButOwn layout k j)
+
+-- the call is no removal
+abbrev pub GivesValue : Call → Type 0
+GivesValue (Remove key) = ⊥
+GivesValue (RemoveIf key expected) = ⊥
+GivesValue call = Unit {0}
+
+-- A call that gives its key a value is never refused as full if its key was held in each version that the pass has seen since the call began.
+abbrev pub HeldIsNeverFull : Type 0
+HeldIsNeverFull =
+    (layout : Layout) (call : Call) (k j : PassView) (fault : TryFault) → IsRefused layout call k j fault → GivesValue call →
+    ((n : ℕ) → length k.front ≤ n → n ≤ length j.front → value_at (map_of (take n j.front)) (key_of call) ≢ None) → fault ≡ Busy
+
+-- In an index of one pass it is refused only if its key is absent.
+abbrev pub OnePassRefusesNewAlone : Type 0
+OnePassRefusesNewAlone =
+    (layout : Layout) (call : Call) (k j : PassView) (fault : TryFault) → layout.passes ≡ 1 → j.number < layout.passes → LegalCalls k.front k.number k.notes →
+    IsRefused layout call k j fault → GivesValue call → value_at (map_of k.front) (key_of call) ≡ None
 
 -- A call was answered, and a stamp tells of all that its pass had seen then. Where a pass has seen what the stamp tells of before it
 -- begins a call, that call's place is no earlier than the first one's, and later than the first one's change.

@@ -1,6 +1,8 @@
 //! Adding to the value of a key that is there.
 
+ghost use Rattle.std.specs.Prelude.{◌≡◌, IfErr, IsOk};
 ghost use Rattle.finite_map.specs.declared.Call.TheVariants.{Add};
+ghost use Rattle.rowex_writing.specs.declared.attempts.TryFault.TheVariants.{Busy};
 ghost use Rattle.hot_index_calls.specs.Calls.{IsAwaited, IsTried, IsTriedWith};
 ghost use Rattle.hot_index_calls.specs.Passes.{Owns};
 
@@ -15,10 +17,12 @@ impl Index {
     /// Adds `delta` to the value of `key`, modulo 2 to the power of 64: `Was` with the value before. An absent key stays absent:
     /// `Absent`.
     ///
-    /// It searches once. It never blocks, makes no more steps than `try_insert` may, and is refused for the same reasons.
+    /// It searches once. It never blocks, and makes no more steps than `try_exchange` may. It takes no record, so it is refused only as
+    /// `Busy`.
     pub fn try_add(&self, pass: &mut Pass, key: &Key, delta: u64) -> Result<Reply, TryFault>
         requires { Owns self.now pass.old }
-        ensures { IsTried (Add key.now delta) result self.now pass.old pass.new }
+        ensures call { IsTried (Add key.now delta) result self.now pass.old pass.new }
+        ensures busy { IfErr result (λ fault. fault ≡ Busy) }
     {
         self.try_add_with(pass, key, delta, &mut NoGate)
     }
@@ -32,7 +36,8 @@ impl Index {
         gate: &mut G,
     ) -> Result<Reply, TryFault>
         requires { Owns self.now pass.old }
-        ensures { IsTriedWith (Add key.now delta) result self.now G.becomes (pass.old, gate.old) (pass.new, gate.new) }
+        ensures call { IsTriedWith (Add key.now delta) result self.now G.becomes (pass.old, gate.old) (pass.new, gate.new) }
+        ensures busy { IfErr result (λ fault. fault ≡ Busy) }
     {
         self.try_change_with(pass, gate, &Call::Add(key.copy(), delta))
     }
@@ -40,7 +45,7 @@ impl Index {
     /// Adds `delta` to the value of `key`, modulo 2 to the power of 64: `Was` with the value before. An absent key stays absent:
     /// `Absent`.
     ///
-    /// It begins again as `insert` does, when another pass is in its way or records may come back, and is refused for the same reasons.
+    /// It begins again as `insert` does, when another pass is in its way. It takes no record, so it is never refused.
     pub fn add<R: Wait>(
         &self,
         rt: &R,
@@ -49,7 +54,8 @@ impl Index {
         delta: u64,
     ) -> Result<Reply, Full>
         requires { Owns self.now pass.old }
-        ensures { IsAwaited (Add key.now delta) result self.now pass.old pass.new }
+        ensures call { IsAwaited (Add key.now delta) result self.now pass.old pass.new }
+        ensures made { IsOk result }
     {
         self.retry_change_with(rt, pass, &mut NoGate, &Call::Add(key.copy(), delta))
     }

@@ -10,9 +10,9 @@ ghost use Rattle.hot_index_calls.specs.Traces.{HasTold};
 
 use crate::index::{Index, Pass, reply_to_get};
 use finite_map::{Call, Reply};
+use hot_index_calls::Refusal;
 use rowex_core::{Gate, NoGate};
 use rowex_writing::{Full, TryFault};
-use hot_index_calls::Refusal;
 use std::sync::Wait;
 
 impl Index {
@@ -40,7 +40,7 @@ impl Index {
         ensures lacks { IfErr result (λ fault. (full : FullValue) → fault ≡ fault_of full → MayLack call.now full) }
         ensures may { IfErr result (MayRefuse call.now) }
         ensures made { MakesStepsWith call.now result self.now G.becomes (pass.old, gate.old) (pass.new, gate.new) }
-        ensures steps { pass.new.steps ≤ pass.old.steps + try_steps self.now.layout }
+        ensures steps { pass.new.steps ≤ pass.old.steps + try_steps call.now self.now.layout }
         ensures told { HasTold self.now G.becomes (pass.old, gate.old) (pass.new, gate.new) }
     {
         match call {

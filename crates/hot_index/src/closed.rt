@@ -8,9 +8,9 @@ ghost use Rattle.hot_index.specs.Handles.{handle_at};
 
 use crate::handle::{Handle, ShowsIndex};
 use crate::index::{Index, Pass};
+use hot_index_calls::new_scratch;
 use key_counts::KeyCount;
 use rowex_table::TableSeat;
-use hot_index_calls::new_scratch;
 use std::alloc::{AllocFailed, Global};
 use std::marker::Model;
 

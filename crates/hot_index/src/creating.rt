@@ -33,7 +33,8 @@ pub enum IndexFault {
 /// Returns it with its passes in the order of their numbers. It checks the three numbers first, in this order. The fault `Layout` has the
 /// first that is out of range; `Memory` if memory is refused.
 ///
-/// The index has one node record more, which insertions leave free, so that a removal finds one. All leaf records are long. So a call that lacks one has found each of them taken (`laws::all_long_full_is_full`).
+/// The index has one node record more, which insertions leave free, so that a removal finds one. All leaf records are long. So a call that
+/// lacks one has found each of them taken (`laws::all_long_full_is_full`).
 pub fn create(
     alloc: Global,
     passes: u32,

@@ -1,6 +1,8 @@
 //! Calls that expect a key to have a certain value, and change nothing if it has another or none.
 
+ghost use Rattle.std.specs.Prelude.{◌≡◌, IfErr, IsOk};
 ghost use Rattle.finite_map.specs.declared.Call.TheVariants.{Exchange, RemoveIf};
+ghost use Rattle.rowex_writing.specs.declared.attempts.TryFault.TheVariants.{Busy};
 ghost use Rattle.hot_index_calls.specs.Calls.{IsAwaited, IsTried, IsTriedWith};
 ghost use Rattle.hot_index_calls.specs.Passes.{Owns};
 
@@ -15,7 +17,7 @@ impl Index {
     /// Compare and exchange: gives `key` the value `value` if it has the value `expected` (`Exchanged`). Else it changes nothing, and
     /// returns `Differs` with the key's value, or `Absent`.
     ///
-    /// It never blocks, makes no more steps than `try_insert` may, and is refused for the same reasons.
+    /// It never blocks, and makes at most 56,488 steps, and one for each pass. It takes no record, so it is refused only as `Busy`.
     pub fn try_exchange(
         &self,
         pass: &mut Pass,
@@ -24,7 +26,8 @@ impl Index {
         value: u64,
     ) -> Result<Reply, TryFault>
         requires { Owns self.now pass.old }
-        ensures { IsTried (Exchange key.now expected value) result self.now pass.old pass.new }
+        ensures call { IsTried (Exchange key.now expected value) result self.now pass.old pass.new }
+        ensures busy { IfErr result (λ fault. fault ≡ Busy) }
     {
         self.try_exchange_with(pass, key, expected, value, &mut NoGate)
     }
@@ -39,7 +42,8 @@ impl Index {
         gate: &mut G,
     ) -> Result<Reply, TryFault>
         requires { Owns self.now pass.old }
-        ensures { IsTriedWith (Exchange key.now expected value) result self.now G.becomes (pass.old, gate.old) (pass.new, gate.new) }
+        ensures call { IsTriedWith (Exchange key.now expected value) result self.now G.becomes (pass.old, gate.old) (pass.new, gate.new) }
+        ensures busy { IfErr result (λ fault. fault ≡ Busy) }
     {
         self.try_change_with(pass, gate, &Call::Exchange(key.copy(), expected, value))
     }
@@ -47,8 +51,7 @@ impl Index {
     /// Compare and exchange: gives `key` the value `value` if it has the value `expected` (`Exchanged`). Else it changes nothing, and
     /// returns `Differs` with the key's value, or `Absent`.
     ///
-    /// Where `try_exchange` would return `Busy`, or records may come back, the call begins again, as `insert` does. It is refused for the
-    /// same reasons as `insert`.
+    /// Where `try_exchange` would return `Busy`, the call begins again, as `insert` does. It takes no record, so it is never refused.
     pub fn exchange<R: Wait>(
         &self,
         rt: &R,
@@ -58,7 +61,8 @@ impl Index {
         value: u64,
     ) -> Result<Reply, Full>
         requires { Owns self.now pass.old }
-        ensures { IsAwaited (Exchange key.now expected value) result self.now pass.old pass.new }
+        ensures call { IsAwaited (Exchange key.now expected value) result self.now pass.old pass.new }
+        ensures made { IsOk result }
     {
         self.retry_change_with(
             rt,

@@ -1,13 +1,14 @@
 //! A handle: a pass at its index. Its calls don't ask that the pass belong to the index, since it does.
 
-ghost use Rattle.std.specs.Prelude.{◌≡◌, ◌≢◌, [], All, Err, IfOk, length, map};
+ghost use Rattle.std.specs.Prelude.{◌-◌, ◌^◌, ◌≡◌, ◌≢◌, [], All, Err, IfErr, IfOk, IsOk, length, map};
 ghost use Rattle.finite_map.specs.declared.Call.TheVariants.{Add, Exchange, Get, Insert, Remove, RemoveIf, Upsert};
 ghost use Rattle.finite_map.specs.Calls.{LegalCalls};
 ghost use Rattle.finite_map.specs.Reverse.{IsLawfulReverseScan};
 ghost use Rattle.key_counts.specs.Counts.{IsCountOf};
 ghost use Rattle.rowex_table.specs.Seats.{IsShownAll};
+ghost use Rattle.rowex_writing.specs.declared.attempts.TryFault.TheVariants.{Busy};
 ghost use Rattle.hot_index_calls.specs.Answers.{HaveMet, IsNoted, IsUnnoted, got, range_from};
-ghost use Rattle.hot_index_calls.specs.Calls.{IsAwaited, IsCallCounted, IsCallTried, IsListRead, IsListReadBy, IsRangeRead, IsScanRead, IsScanReadBy, IsTried};
+ghost use Rattle.hot_index_calls.specs.Calls.{IsAwaited, IsCallCounted, IsCallTried, IsCountRead, IsListRead, IsListReadBy, IsRangeRead, IsScanRead, IsScanReadBy, IsTried};
 ghost use Rattle.hot_index_calls.specs.Census.{HasCounted};
 ghost use Rattle.hot_index.specs.Handles.{Stays, handle_at};
 ghost use Rattle.hot_index_calls.specs.Many.{AreNoted, HasGotMany, gets};
@@ -21,11 +22,11 @@ ghost use Rattle.key_ranges.specs.Ranges.{last_with};
 use crate::index::{Index, Pass};
 use epochs::Given;
 use finite_map::{Call, Reply, Scan};
+use hot_index_calls::{RecordCounts, Refusal};
 use key_bits::Key;
 use key_counts::KeyCount;
 use packed_pairs::Pairs;
 use rowex_writing::{Full, TryFault};
-use hot_index_calls::{RecordCounts, Refusal};
 use std::alloc::{AllocError, Global};
 use std::marker::Model;
 use std::sync::{Arc, Wait};
@@ -150,7 +151,8 @@ impl<I: ShowsIndex> Handle<I> {
         expected: u64,
         value: u64,
     ) -> Result<Reply, Full>
-        ensures { Stays (IsAwaited (Exchange key.now expected value) result) self.old self.new }
+        ensures call { Stays (IsAwaited (Exchange key.now expected value) result) self.old self.new }
+        ensures made { IsOk result }
     {
         self.index
             .show()
@@ -159,7 +161,8 @@ impl<I: ShowsIndex> Handle<I> {
 
     /// Adds `delta` to the value of `key`, if it has one, and returns what `Index::add` does.
     pub fn add<R: Wait>(&mut self, rt: &R, key: &Key, delta: u64) -> Result<Reply, Full>
-        ensures { Stays (IsAwaited (Add key.now delta) result) self.old self.new }
+        ensures call { Stays (IsAwaited (Add key.now delta) result) self.old self.new }
+        ensures made { IsOk result }
     {
         self.index.show().add(rt, &mut self.pass, key, delta)
     }
@@ -198,7 +201,8 @@ impl<I: ShowsIndex> Handle<I> {
 
     /// Tries to give `key` the value `value` if it has the value `expected`, and returns what `Index::try_exchange` does.
     pub fn try_exchange(&mut self, key: &Key, expected: u64, value: u64) -> Result<Reply, TryFault>
-        ensures { Stays (IsTried (Exchange key.now expected value) result) self.old self.new }
+        ensures call { Stays (IsTried (Exchange key.now expected value) result) self.old self.new }
+        ensures busy { IfErr result (λ fault. fault ≡ Busy) }
     {
         self.index
             .show()
@@ -207,7 +211,8 @@ impl<I: ShowsIndex> Handle<I> {
 
     /// Tries to add `delta` to the value of `key`, if it has one, and returns what `Index::try_add` does.
     pub fn try_add(&mut self, key: &Key, delta: u64) -> Result<Reply, TryFault>
-        ensures { Stays (IsTried (Add key.now delta) result) self.old self.new }
+        ensures call { Stays (IsTried (Add key.now delta) result) self.old self.new }
+        ensures busy { IfErr result (λ fault. fault ≡ Busy) }
     {
         self.index.show().try_add(&mut self.pass, key, delta)
     }
@@ -273,6 +278,13 @@ impl<I: ShowsIndex> Handle<I> {
         self.index
             .show()
             .scan_into(&mut self.pass, from, upto, limit, pairs)
+    }
+
+    /// How many keys there are from `from` to `upto`, both included, as `Index::count_range` returns.
+    pub fn count_range(&mut self, from: &Key, upto: &Key) -> usize
+        ensures { Stays (IsCountRead (range_from from.now upto.now (2 ^ 63 - 1)) result) self.old self.new }
+    {
+        self.index.show().count_range(&mut self.pass, from, upto)
     }
 
     /// Replaces what `pairs` holds with the first `limit` pairs whose keys begin with `prefix`, and returns whether there are more. If

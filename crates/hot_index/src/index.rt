@@ -15,16 +15,16 @@ ghost use Rattle.hot_index.specs.Stamps.{HasSeenMore};
 
 use epochs::{Given, collect_round, pin, unpin};
 use finite_map::{Call, Reply};
+use hot_index_calls::{
+    RecordCounts, Refusal, Scratch, count_records, end_get, end_gets, look_up_each, retry_change,
+    try_and_count, try_change,
+};
 use key_bits::Key;
 use key_counts::KeyCount;
 use rowex_core::{Gate, NoGate};
 use rowex_reading::look_up;
 use rowex_table::{HotTable, TableSeat};
 use rowex_writing::{Full, TryFault};
-use hot_index_calls::{
-    RecordCounts, Refusal, Scratch, count_records, end_get, end_gets, look_up_each, retry_change,
-    try_and_count, try_change,
-};
 use std::marker::Model;
 use std::sync::Wait;
 
@@ -125,9 +125,8 @@ impl Index {
     /// the pin under which the call loaded the root last. So an index of one pass is never busy.
     ///
     /// It returns `FullNodes` only if it found each node record not free when its turn came, beside those that it had claimed itself. One
-    /// that is free is left for the removals. For `FullLeaves` the same holds of each leaf
-    /// record with room for the key. It makes the round of collection first. Then it looks again, unless the index has one pass
-    /// and the round gave back none of the kind.
+    /// that is free is left for the removals. For `FullLeaves` the same holds of each leaf record with room for the key. It makes the round
+    /// of collection first. Then it looks again, unless the index has one pass and the round gave back none of the kind.
     ///
     /// A refused call has changed nothing, and holds no lock and no record.
     pub fn try_insert(&self, pass: &mut Pass, key: &Key, value: u64) -> Result<Reply, TryFault>
@@ -139,7 +138,8 @@ impl Index {
 
     /// Gives `key` the value `value`, whether it has one or not: `New`, or `Was` with the value that it had.
     ///
-    /// It never blocks, makes no more steps than `try_insert` may, and is refused for the same reasons.
+    /// It never blocks, makes no more steps than `try_insert` may, and is refused for the same reasons. But it returns `FullNodes` or
+    /// `FullLeaves` only if its search found the key absent: the new value of a held key takes no record (`laws::held_is_never_full`).
     pub fn try_upsert(&self, pass: &mut Pass, key: &Key, value: u64) -> Result<Reply, TryFault>
         requires { Owns self.now pass.old }
         ensures { IsTried (Upsert key.now value) result self.now pass.old pass.new }
@@ -181,7 +181,8 @@ impl Index {
 
     /// Gives `key` the value `value`, whether it has one or not: `New`, or `Was` with the value that it had.
     ///
-    /// It begins again as `insert` does, when another pass is in its way or records may come back, and is refused for the same reasons.
+    /// It begins again as `insert` does, when another pass is in its way or records may come back, and is refused for the same reasons:
+    /// only if its last search found the key absent.
     pub fn upsert<R: Wait>(
         &self,
         rt: &R,

@@ -1,6 +1,6 @@
 //! Laws of the index. The functions do nothing: their contracts are the laws.
 
-ghost use Rattle.hot_index.specs.Statements.{AllLongFullIsFull, CountsAddUp, OnePassFullIsFull, OnePassIsNeverBusy, ReturnedBeforeBegun};
+ghost use Rattle.hot_index.specs.Statements.{AllLongFullIsFull, CountsAddUp, HeldIsNeverFull, OnePassFullIsFull, OnePassIsNeverBusy, OnePassRefusesNewAlone, ReturnedBeforeBegun};
 
 /// If all leaf records are long, as `create` makes them, a call that returns `FullLeaves` has found each of them not free since it began.
 /// None was claimed by its own pass.
@@ -17,6 +17,17 @@ pub fn one_pass_is_never_busy()
 /// returns `FullNodes` only if at least a third of the node records were so, and all but 4,320, which it may have claimed itself.
 pub fn one_pass_full_is_full()
     ensures { OnePassFullIsFull }
+{}
+
+/// A call that gives its key a value is never refused as full if the key was held all the while: in each version that its pass has seen
+/// since the call began.
+pub fn held_is_never_full()
+    ensures { HeldIsNeverFull }
+{}
+
+/// In an index of one pass a call that gives its key a value is refused only if the key is absent. So a new value of a held key never is.
+pub fn one_pass_refuses_new_alone()
+    ensures { OnePassRefusesNewAlone }
 {}
 
 /// Let a stamp tell of all that a pass had seen when a call of it returned. Let a pass then follow the stamp and make a call. The first

@@ -1,12 +1,17 @@
 -- Another pass in the way of a call: what an attempt has met, and how the whole call sees it.
-use Rattle.std.proofs.Common.{◌≡◌, ◌≢◌, ◌⊎◌, inl, inr, ⊎_elim, ℕ, ◌<◌, ◌≤◌, List, [], ◌∷◌, length, get_or, Some, sym, ap, subst, ◌∙◌, arith, le_trans, length-append}
+use Rattle.std.proofs.Common.{◌≡◌, ◌≢◌, ◌⊎◌, inl, inr, ⊎_elim, ℕ, ◌<◌, ◌≤◌, List, [], ◌∷◌, length, get_or, take, Some, None, sym, ap, subst, ◌∙◌, arith, le_trans, length-append}
 use Rattle.std.specs.Prelude.{All, Contains, slice_get}
+use Rattle.std.proofs.lemmas.List.{append-nil, take-append-le}
 use Rattle.std.proofs.lemmas.List.Elements.{All-head, All-tail}
 use Rattle.std.proofs.lemmas.Option.{slice_get-get_or}
+use Rattle.finite_map.specs.declared.Call.{Call}
+use Rattle.finite_map.specs.declared.Call.TheVariants.{Add, Exchange, Get, Insert, Remove, RemoveIf, Upsert}
 use Rattle.finite_map.specs.declared.Change.{Change}
 use Rattle.finite_map.specs.declared.Kind.TheVariants.{Added}
-use Rattle.finite_map.specs.Fronts.{OthersGoOn}
+use Rattle.finite_map.specs.Fronts.{BeginsWith, OthersGoOn, map_of}
+use Rattle.finite_map.specs.Maps.{value_at}
 use Rattle.record_words.specs.declared.layout.Layout.{Layout}
+use Rattle.tries.specs.Keys.{Key}
 use Rattle.versions.specs.declared.Pin.{Pin}
 use Rattle.rowex_core.specs.declared.event.Act.{Act}
 use Rattle.rowex_core.specs.declared.event.Act.TheVariants.{LoadRef}
@@ -26,7 +31,7 @@ use Rattle.rowex_writing.specs.Attempts.{HasLoadedRoot}
 use Rattle.rowex_writing.specs.Changes.{HasTried}
 use Rattle.rowex_writing.specs.Locks.{HasMadeNoChange, HasMetTaken}
 use Rattle.rowex_writing.proofs.Works.{no_change_from_later}
-use Rattle.hot_index_calls.specs.Answers.{HasConflict, IsOvertaken}
+use Rattle.hot_index_calls.specs.Answers.{HasConflict, IsOvertaken, MayTake, WasAbsent}
 use Rattle.hot_index_calls.specs.Passes.{AreByPasses, PassView, pass_of}
 
 -- ---- the pin of an attempt
@@ -42,6 +47,19 @@ no_change_since_pins {b = b} pins p is i d late low =
     let all = e.knows.seen.front in
     let count = length-append m.0.known.front all.0 in
     absurd (omega (arith, late, low, then_, ap length front, ap length all.1, count, e.lawful.core.told.count))
+
+-- its pin tells of all changes that it had seen
+pub pins_after : {G : Type 0} {table : TableView} {becomes : G → Event → G → Type 0} {a b : SeatView × G} → Pins table becomes a b → (p : Pin) → b.0.known.pin ≡ Some p → length a.0.known.front ≤ p.version
+pins_after {a = a} {b = b} pins p is =
+    let m = pins.1.steps.0 in
+    let n = pins.1.steps.2.0 in
+    let e = pins.1.steps.2.1.event in
+    let same : b ≡ n = pins.1.steps.2.2 in
+    let then_ : p.version ≡ e.core.past.now = sym (ap version_of (sym (ap (λ (z : SeatView × _). z.0.known.pin) same ∙ ap (λ (z : Known). z.pin) e.learned_is) ∙ is)) in
+    let front : m.0.known.front ≡ a.0.known.front = ap (λ (z : Known). z.front) pins.1.steps.1.event.learned_is in
+    let all = e.knows.seen.front in
+    let count = length-append m.0.known.front all.0 in
+    omega (arith, then_, ap length front, ap length all.1, count, e.lawful.core.told.count)
 
 -- the version of the pin is kept with a load of the root
 event_pinned : (layout : Layout) (act : Act) (k j : Known) → IsEvent layout act silent k j → (j.fresh ≡ k.fresh) ⊎ (j.fresh.pinned ≡ version_of k.pin)
@@ -66,7 +84,7 @@ module _ {G : Type 0} (table : TableView) (becomes : G → Event → G → Type 
 -- ---- an attempt that was overtaken
 module _ {G : Type 0} {table : TableView} {becomes : G → Event → G → Type 0} {locks : List Target} {a b c : SeatView × G} (pins : Pins table becomes a b) (run : HasTried table becomes locks b c)
     (loaded : HasLoadedRoot b.0.known c.0.known) (before : b.0.known.fresh.step < b.0.known.steps) where
-  under_pin : (p : Pin) → b.0.known.pin ≡ Some p → c.0.known.fresh.pinned ≡ p.version
+  pub under_pin : (p : Pin) → b.0.known.pin ≡ Some p → c.0.known.fresh.pinned ≡ p.version
   under_pin p is = ⊎_elim
       (λ (same : c.0.known.fresh ≡ b.0.known.fresh). let step = ap (λ (z : Fresh). z.step) same in let late = loaded.from in absurd (omega (arith, step, late, before)))
       (λ (new : c.0.known.fresh.pinned ≡ version_of b.0.known.pin). new ∙ ap version_of is)
@@ -87,7 +105,30 @@ module _ {G : Type 0} {table : TableView} {becomes : G → Event → G → Type 
         below = makers m d low;
       }
 
--- ---- a part of a call, after which the pass had no further failed step, saw no further change and loaded no root
+-- ---- a part of a call, after which the pass loaded no root
+pub no_further : {later earlier : List Change} → later ≡ earlier → BeginsWith later earlier
+no_further {earlier = earlier} same = ([], same ∙ sym (append-nil earlier))
+
+pub absent_from_before : (key : Key) (k j h i : PassView) → BeginsWith j.front k.front → BeginsWith i.front h.front → i.fresh ≡ h.fresh → WasAbsent key j h → WasAbsent key k i
+absent_from_before key k j h i grown more fresh was = record {
+  place = was.place;
+  begun = (let begun = was.begun in omega (arith, ap length grown.1, length-append k.front grown.0, begun));
+  since = subst (λ (z : Fresh). z.pinned ≤ was.place) (sym fresh) was.since;
+  upto = (let upto = was.upto in omega (arith, ap length more.1, length-append h.front more.0, upto));
+  absent = ap (λ (z : List Change). value_at (map_of z) key) (ap (take was.place) more.1 ∙ take-append-le was.place h.front more.0 was.upto) ∙ was.absent;
+}
+
+-- it may lack a record there, too
+pub may_take_from_before : (call : Call) (k j h i : PassView) → BeginsWith j.front k.front → BeginsWith i.front h.front → i.fresh ≡ h.fresh → MayTake call j h → MayTake call k i
+may_take_from_before (Insert key value) k j h i grown more fresh was = absent_from_before key k j h i grown more fresh was
+may_take_from_before (Upsert key value) k j h i grown more fresh was = absent_from_before key k j h i grown more fresh was
+may_take_from_before (Exchange key expected value) k j h i grown more fresh was = absurd was
+may_take_from_before (Add key delta) k j h i grown more fresh was = absurd was
+may_take_from_before (Get key) k j h i grown more fresh was = absurd was
+may_take_from_before (Remove key) k j h i grown more fresh was = tt
+may_take_from_before (RemoveIf key expected) k j h i grown more fresh was = tt
+
+-- ---- one after which it also had no further failed step, and saw no further change
 pub conflict_from_before : (layout : Layout) (k j h i : PassView) → k.steps ≤ j.steps → i.number ≡ h.number → i.failed ≡ h.failed → i.front ≡ h.front → i.fresh ≡ h.fresh → HasConflict layout j h → HasConflict layout k i
 conflict_from_before layout k j h i steps number failed front fresh conflict = record {
   pass = subst (λ q. q < layout.passes) (sym number) conflict.pass;

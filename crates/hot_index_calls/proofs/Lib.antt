@@ -1,7 +1,6 @@
 -- The lemmas of the crate.
 pub mod Tracing
 pub mod Noting
-pub mod LookedUp
 pub mod Scanned
 pub mod Collected
 pub mod Counted

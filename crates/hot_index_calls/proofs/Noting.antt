@@ -20,6 +20,7 @@ use Rattle.tries.specs.Keys.{Key}
 use Rattle.tries.specs.Tree.{Tree, Has, IsTrie}
 use Rattle.tries.proofs.Contents.{holds_has}
 use Rattle.tries.proofs.Maps.{holds_value, value_holds}
+use Rattle.versions.specs.State.{WasAbsentSince}
 use Rattle.versions.specs.Told.{content}
 use Rattle.rowex_core.specs.declared.event.Act.{Act}
 use Rattle.rowex_core.specs.declared.event.Act.TheVariants.{ClearPin}
@@ -32,7 +33,7 @@ use Rattle.rowex_table.specs.Seats.{TableView, SeatView, IsPassOf, IsSame}
 use Rattle.epochs.specs.Runs.{Pins}
 use Rattle.rowex_reading.specs.Lookups.{HasFound, HasSearched}
 use Rattle.rowex_reading.specs.Reads.{Looks}
-use Rattle.rowex_reading.specs.Seen.{since}
+use Rattle.rowex_reading.specs.Seen.{Sure, since}
 use Rattle.rowex_reading.proofs.Later.{event_recalls}
 use Rattle.rowex_reading.proofs.Led.{HasLookedAt, looked_at}
 use Rattle.rowex_reading.proofs.Seeing.{seen_told, seen_within}
@@ -130,12 +131,17 @@ get_reply m key o e = ap (λ z. (step_where z m (Get key)).1) e ∙ at o
 abbrev pub HadValue : Known → Key → Option ℕ → Type 0
 HadValue k key o = (n : ℕ) × (since k ≤ n) × (n ≤ length k.front) × (value_at (map_of (take n k.front)) key ≡ o)
 
--- what a search found was so
-pub found_had : (k : Known) (key : Key) (o : Option ℕ) → HasFound k key o → (c : Core) → IsLawful c → Recalls c k → HadValue k key o
-found_had k key None found c lawful recalls =
-    let f = found c lawful recalls in
+-- a key that was absent since some version was so after some of the changes seen
+pub missed_had : (k : Known) (key : Key) (m : ℕ) → Sure k (λ s. WasAbsentSince s m key) → (c : Core) → IsLawful c → Recalls c k →
+    (n : ℕ) × (m ≤ n) × (n ≤ length k.front) × (value_at (map_of (take n k.front)) key ≡ None)
+missed_had k key m missed c lawful recalls =
+    let f = missed c lawful recalls in
     let told = (seen_told lawful recalls).content_is f.0 f.2 in
     (f.0, f.1, f.2, ap (λ (z : Map). value_at z key) (sym told) ∙ absent_at (c.past.version f.0) key f.3)
+
+-- what a search found was so
+pub found_had : (k : Known) (key : Key) (o : Option ℕ) → HasFound k key o → (c : Core) → IsLawful c → Recalls c k → HadValue k key o
+found_had k key None found c lawful recalls = missed_had k key (since k) found c lawful recalls
 found_had k key (Some v) found c lawful recalls =
     let f = found c lawful recalls in
     let told = (seen_told lawful recalls).content_is f.0 f.3 in
@@ -205,7 +211,7 @@ pub looked : {G : Type 0} {table : TableView} {becomes : G → Event → G → T
 looked {c = c} settled pins looks = looked_then c.0.known settled pins (looked_at looks)
 
 -- what holds of each of two lists holds of each of the first
-All-part : {A : Type 0} (P : A → Type 0) (xs ys : List A) → All P (xs ++ ys) → All P xs
+pub All-part : {A : Type 0} (P : A → Type 0) (xs ys : List A) → All P (xs ++ ys) → All P xs
 All-part P [] ys h = All-nil P
 All-part P (x ∷ xs) ys h = All-cons P x xs (All-head P x (xs ++ ys) h) (All-part P xs ys (All-tail P x (xs ++ ys) h))
 

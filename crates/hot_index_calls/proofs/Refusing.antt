@@ -33,11 +33,12 @@ use Rattle.hot_index_calls.specs.Asked.{HasLacked, HasReplied}
 use Rattle.hot_index_calls.specs.Calls.{IsTriedAndCounted, IsTriedWith}
 use Rattle.hot_index_calls.specs.Census.{CountsAll, HasCounted, loads_in}
 use Rattle.hot_index_calls.specs.Passes.{PassView, pass_of}
-use Rattle.hot_index_calls.specs.Refusals.{IsPassing, IsTold, IsToldAfter, Judges, NeedsBeside, as_tried, fault_in}
+use Rattle.hot_index_calls.specs.Refusals.{IsPassing, IsCountTold, IsToldAfter, Judges, NeedsBeside, as_tried, fault_in}
 use Rattle.hot_index_calls.specs.Traces.{HasEnded, HasStepped}
 use Rattle.hot_index_calls.specs.declared.census.RecordCounts.{RecordCounts}
 use Rattle.hot_index_calls.specs.declared.refusals.Refusal.{Refusal}
 use Rattle.hot_index_calls.specs.declared.refusals.Refusal.TheVariants.{Busy as IsBusy, HeldBack, Full as IsFull}
+use Rattle.hot_index_calls.proofs.Conflicts.{may_take_from_before, no_further}
 use Rattle.hot_index_calls.proofs.Counted.{counts_settled, counts_unnoted, has_counted}
 use Rattle.hot_index_calls.proofs.Resting.{lacked_full}
 use Rattle.hot_index_calls.proofs.Tracing.{HasSteps}
@@ -91,6 +92,8 @@ module _ {G : Type 0} {table : TableView} {becomes : G → Event → G → Type 
     refused = record {
       unnoted = unnoted_then table.layout (pass_of s) (pass_of m.0) (pass_of b.0) replied.refused.unnoted early (counts_unnoted all some replied.idle.1);
       cause = cause_counted (key_of call) (pass_of s) m b all.3 lacks replied.refused.cause;
+      full = λ full. may_take_from_before call (pass_of s) (pass_of s) (pass_of m.0) (pass_of b.0) (no_further refl)
+          (no_further (ap (λ (z : Known). z.front) all.3.rest)) (ap (λ (z : Known). z.fresh) all.3.rest) (replied.refused.full full);
     };
     leafless = replied.leafless;
     loaded = subst (λ (z : Fresh). s.known.steps ≤ z.step) (sym (ap (λ (z : Known). z.fresh) all.3.rest)) replied.loaded;

@@ -16,15 +16,20 @@ use Rattle.rowex_table.specs.Runs.{StepsWith, silent}
 use Rattle.epochs.specs.Runs.{Pins}
 use Rattle.rowex_core.specs.declared.event.Event.{Event}
 use Rattle.rowex_table.specs.Seats.{SeatView, TableView}
-use Rattle.version_laws.specs.Scan.{Range}
+use Rattle.version_laws.specs.Scan.{Range, in_order_taken}
 use Rattle.tries.specs.Keys.{Key}
 use Rattle.hot_index_calls.specs.Passes.{PassView, IsSettled, pass_of}
 use Rattle.version_laws.specs.Directions.{ScanLaw}
-use Rattle.hot_index_calls.specs.Answers.{IsListedBy, IsScannedBy, IsUnnoted}
-use Rattle.version_laws.specs.Directions.{IsLawfulBy}
-use Rattle.rowex_scanning.specs.Scanning.{HasScanned}
+use Rattle.hot_index_calls.specs.Answers.{IsListedBy, IsRangeCounted, IsScannedBy, IsUnnoted}
+use Rattle.version_laws.specs.Directions.{IsAnswer, IsLawfulBy}
+use Rattle.rowex_scanning.specs.Scanning.{HasScanned, HasTaken}
+use Rattle.rowex_scanning.specs.Tallies.{tally_of_number}
 use Rattle.version_laws.specs.declared.direction.Direction.{Direction}
-use Rattle.rowex_scanning.proofs.Scanned.{lawful_scan}
+use Rattle.version_laws.specs.declared.direction.Direction.TheVariants.{Upwards}
+use Rattle.rowex_reading.specs.Seen.{seen, since}
+use Rattle.rowex_reading.proofs.Later.{event_recalls}
+use Rattle.rowex_scanning.proofs.Scanned.{answer_short, lawful_scan, lawful_taken}
+use Rattle.rowex_scanning.proofs.Walking.{length_in_order_taken}
 use Rattle.hot_index_calls.proofs.Noting.{HasLooked, goes_on, legal_front, settles}
 use Rattle.rowex_reading.proofs.Loading.{pinned_by}
 
@@ -79,6 +84,29 @@ module _ {layout : Layout} {i : Known} (s t : SeatView) (settled : IsSettled s.k
         subst (λ (z : Known). IsLawfulBy d z.fresh.front z.front g.from g.upto g.limit scan) (sym event.learned_is) (lawful_scan d i g scan layout silent t.known keys.0 keys.1 p.0 p.1 listed event);
     legal = legal_then;
   }
+
+  -- A range was counted.
+  pub scan_numbered : (g : Range) → IsKey g.from × IsKey g.upto → IsSome i.pin → (number : ℕ) (more : Bool) → HasTaken Upwards i g (tally_of_number number) more → IsRangeCounted layout (pass_of s) (pass_of t) g number
+  scan_numbered g keys is number more h =
+      let (taken, tallied, answer) = h event.core event.lawful (event_recalls event) in
+      let short = answer_short Upwards (seen event.core i) (since i) g taken more answer in
+      let n = tallied.0 in
+      record {
+        few = omega (arith, short, n);
+        pairs = in_order_taken taken;
+        number_is = n ∙ sym (length_in_order_taken taken);
+        more = more;
+        listed = record {
+          on = goes_on s t looks.on event;
+          notes = notes_stay;
+          lawful =
+              λ scan same last.
+              let p = pinned_by i.pin is in
+              let listed = lawful_taken Upwards i g scan layout silent t.known keys.0 keys.1 p.0 p.1 event taken same (subst (λ z. IsAnswer Upwards (seen event.core i) (since i) g taken z) (sym last) answer) in
+              subst (λ (z : Known). IsLawfulBy Upwards z.fresh.front z.front g.from g.upto g.limit scan) (sym event.learned_is) listed;
+          legal = legal_then;
+        };
+      }
 
 -- The steps of a scan: pinned by two, unpinned by one.
 pub scan_counted : {G : Type 0} {table : TableView} {becomes : G → Event → G → Type 0} {a b c d : SeatView × G} {said : Known → List Note} (loads : ℕ) → Pins table becomes a b →

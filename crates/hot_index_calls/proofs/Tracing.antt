@@ -16,7 +16,7 @@ use Rattle.rowex_table.proofs.Seeing.{ends_see, runs_after, runs_see, sees_then,
 use Rattle.epochs.specs.Rounds.{IsRound, IsSmallRound, advance_steps}
 use Rattle.epochs.specs.declared.limbo.TheConstants.{MOST_VISITED}
 use Rattle.epochs.specs.Runs.{Pins}
-use Rattle.rowex_reading.specs.Lookups.{HasSearched}
+use Rattle.rowex_reading.specs.Lookups.{HasSearched, HaveSearched}
 use Rattle.rowex_reading.specs.Reads.{Looks}
 use Rattle.rowex_reading.proofs.Counting.{looks_count}
 use Rattle.rowex_scanning.specs.Counts.{Scans, scan_entries}
@@ -27,6 +27,7 @@ use Rattle.rowex_writing.specs.declared.attempts.TryFault.{TryFault}
 use Rattle.rowex_writing.specs.declared.plan.Full.{Full}
 use Rattle.hot_index_calls.specs.Answers.{IsRefused, fault_of}
 use Rattle.hot_index_calls.specs.Counts.{try_steps}
+use Rattle.hot_index_calls.specs.Many.{HasGotMany}
 use Rattle.hot_index_calls.specs.Noting.{change_notes}
 use Rattle.hot_index_calls.specs.Passes.{PassView, pass_of}
 use Rattle.hot_index_calls.specs.Traces.{AreAttempts, AreRoundSteps, AreSmallSteps, AreTries, HasEnded, HasGot, HasMade, HasRead, HasStepped, HasTold, HasGotRange, IsAttempt, Tidies, is_full, reading, untold}
@@ -124,6 +125,18 @@ module _ {G : Type 0} (table : TableView) (becomes : G → Event → G → Type 
         few = subst (λ e. d.0.known.steps ≤ a.0.known.steps + 36 + 26 * e) (sym entries) (omega (arith, steps, few));
       }
 
+  -- and so of many keys
+  pub has_got_many : {said : Known → List Note} {a b c d : SeatView × G} (count : ℕ) → Pins table becomes a b → HaveSearched table becomes count b c → StepsWith table becomes ClearPin said c d →
+      HasGotMany table becomes count (pass_of a.0, a.1) (pass_of d.0, d.1)
+  unfolding has_read
+  has_got_many {said} {a} {b} {c} {d} count pins search end =
+      let steps = read_steps pins search.looks end in let few = search.few in let entries = search.looks.rest.entries_are in
+      record {
+        read = has_read pins search.looks end;
+        depth = subst (λ e. e ≤ count * (9 * MAX_BYTES)) (sym entries) search.low;
+        few = subst (λ e. d.0.known.steps ≤ a.0.known.steps + 4 + 32 * count + 26 * e) (sym entries) (omega (arith, steps, few));
+      }
+
   pub has_walked : {said : Known → List Note} {a b c d : SeatView × G} (limit : ℕ) → Pins table becomes a b → Scans table becomes limit b c → StepsWith table becomes ClearPin said c d →
       HasGotRange table becomes limit (pass_of a.0, a.1) (pass_of d.0, d.1)
   unfolding has_read
@@ -148,7 +161,7 @@ module _ {G : Type 0} (table : TableView) (becomes : G → Event → G → Type 
   ends_untold acts last said a b (m, run, end) = ((m.0, tt), runs_untold acts a m run, step_untold last said m b end)
 
   -- a call that ended on its seat
-  pub has_made : {call : Call} {r : Result Reply TryFault} (a b : SeatView × G) → HasEnded table becomes (AreAttempts table becomes call r a b) (change_notes call r) a b → b.0.known.steps ≤ a.0.known.steps + try_steps table.layout →
+  pub has_made : {call : Call} {r : Result Reply TryFault} (a b : SeatView × G) → HasEnded table becomes (AreAttempts table becomes call r a b) (change_notes call r) a b → b.0.known.steps ≤ a.0.known.steps + try_steps call table.layout →
       a.0.known.steps ≤ b.0.known.fresh.step → HasMade table becomes call r (pass_of a.0, a.1) (pass_of b.0, b.1)
   has_made {call = call} {r = r} a b (acts, tries, ends) few loaded = record {
     acts = acts;

@@ -1,7 +1,8 @@
 -- What an attempt to change the map leaves: it is noted where it was answered, and has changed nothing where it was refused.
-use Rattle.std.proofs.Common.{◌≡◌, ◌≢◌, ◌⊎◌, inl, inr, ⊎_elim, ℕ, ◌+◌, ◌-◌, ◌<◌, ◌≤◌, List, [], ◌∷◌, ◌++◌, length, take, Bool, true, false, Option, Some, None, IsSome, Result, Ok, Err, refl, sym, ap, subst, ◌∙◌, arith, le_trans, length-append}
+use Rattle.std.proofs.Common.{◌≡◌, ◌≢◌, ◌⊎◌, inl, inr, ⊎_elim, ℕ, ◌+◌, ◌*◌, ◌-◌, ◌<◌, ◌≤◌, List, [], ◌∷◌, ◌++◌, length, take, Bool, true, false, Option, Some, None, IsSome, Result, Ok, Err, refl, sym, ap, subst, ◌∙◌, arith, le_trans, length-append}
 use Rattle.std.specs.Prelude.{All, IfOk, IfErr, MatchResult, is_some, nat_eq}
 use Rattle.std.specs.Option.{option_map}
+use Rattle.key_bits.specs.declared.TheConstants.{MAX_BYTES}
 use Rattle.std.proofs.lemmas.List.Elements.{All-head, All-tail}
 use Rattle.finite_map.specs.declared.Call.{Call}
 use Rattle.finite_map.specs.declared.Call.TheVariants.{Insert, Upsert, Exchange, Add, Get, Remove, RemoveIf}
@@ -30,6 +31,7 @@ use Rattle.rowex_core.specs.Knowing.{IsEvent, IsPinnedSince, Recalls}
 use Rattle.rowex_table.specs.Runs.{Runs, StepsWith}
 use Rattle.rowex_table.specs.Seats.{IsSame, SeatView, TableView}
 use Rattle.rowex_table.specs.Stays.{LeavesPin}
+use Rattle.rowex_reading.proofs.Later.{event_recalls}
 use Rattle.rowex_table.proofs.ActsLeave.{act_leaves}
 use Rattle.rowex_table.proofs.Running.{runs_same}
 use Rattle.rowex_records.specs.Claims.{AllMissed, HasMissed, IsAnothers}
@@ -47,17 +49,17 @@ use Rattle.rowex_writing.specs.declared.attempts.TryFault.{TryFault}
 use Rattle.rowex_writing.specs.declared.attempts.TryFault.TheVariants.{Busy, FullNodes, FullLeaves}
 use Rattle.rowex_writing.proofs.Keeping.{lacks_so}
 use Rattle.epochs.specs.Rounds.{IsRound}
-use Rattle.hot_index_calls.specs.Answers.{IsCause, IsNoted, IsRefused, IsUnnoted, MayLack, MayRefuse, fault_of}
+use Rattle.hot_index_calls.specs.Answers.{IsCause, IsNoted, IsRefused, IsUnnoted, MayLack, MayRefuse, MayTake, WasAbsent, fault_of}
 use Rattle.hot_index_calls.specs.Asked.{HasAsked, HasLacked, HasReplied, last_try}
 use Rattle.hot_index_calls.specs.Calls.{AreTriesRefused, GetsOr, IsAwaitedWith, IsCountedWith, IsTriedAndCounted, IsTriedWith, MakesTries}
 use Rattle.hot_index_calls.specs.declared.refusals.Refusal.{Refusal}
 use Rattle.hot_index_calls.specs.Refusals.{IsPassing, as_tried, fault_in}
-use Rattle.hot_index_calls.specs.Counts.{try_steps, twice_steps}
+use Rattle.hot_index_calls.specs.Counts.{once_steps, round_steps, try_steps, twice_steps}
 use Rattle.hot_index_calls.specs.Noting.{change_notes, place_by}
 use Rattle.hot_index_calls.specs.Passes.{IsSettled, Owns, PassView, pass_of}
 use Rattle.hot_index_calls.specs.Traces.{AreAttempts, AreTries, HasMade, HasStepped, HasTold, IsOneAttempt, Tidies, is_full}
-use Rattle.hot_index_calls.proofs.Noting.{HasGoneOn, HasLooked, WasRight, event_makers, found_had, goes_on, legal_front, longer, noted, note_of, pinned_front, pinned_pass, settles}
-use Rattle.hot_index_calls.proofs.Conflicts.{conflict_from_before, overtaken}
+use Rattle.hot_index_calls.proofs.Noting.{HasGoneOn, HasLooked, WasRight, event_makers, found_had, goes_on, legal_front, longer, missed_had, noted, note_of, pinned_front, pinned_pass, settles}
+use Rattle.hot_index_calls.proofs.Conflicts.{absent_from_before, conflict_from_before, may_take_from_before, no_further, overtaken, pins_after, under_pin}
 use Rattle.hot_index_calls.proofs.Collected.{round_unnoted, small_few, small_later, small_unnoted}
 use Rattle.hot_index_calls.proofs.Scanned.{scan_refused, scan_settled}
 use Rattle.hot_index_calls.proofs.Tracing.{ended_once, ended_tidied, has_made, has_told}
@@ -203,7 +205,11 @@ module _ (layout : Layout) (k j i : PassView) (first : IsUnnoted layout k j) (st
   }
 
   refused_then : (call : Call) (fault : TryFault) → IsRefused layout call j i fault → IsRefused layout call k i fault
-  refused_then call fault r = record { unnoted = unnoted_then r.unnoted; cause = cause_from_before layout (key_of call) k j i i fault steps refl refl refl refl r.cause }
+  refused_then call fault r = record {
+    unnoted = unnoted_then r.unnoted;
+    cause = cause_from_before layout (key_of call) k j i i fault steps refl refl refl refl r.cause;
+    full = λ full. may_take_from_before call k j i i first.front (no_further refl) refl (r.full full);
+  }
 
   noted_then : (call : Call) (reply : Reply) → IsNoted layout j i call reply → IsNoted layout k i call reply
   noted_then call reply n = record {
@@ -267,9 +273,44 @@ module _ {G : Type 0} {table : TableView} {becomes : G → Event → G → Type 
       lacks_from_before table.layout c.0.known.pass c.0.known.pass c.0.known.failed c.0.known.failed a.0.known.steps b.0.known.steps (nodes_among made) (small_later small) refl refl (h is)
 
   -- the small round is bounded, too
-  pub tidied_few : Tidies table becomes a b → c.0.known.steps ≤ b.0.known.steps + twice_steps table.layout → c.0.known.steps ≤ a.0.known.steps + try_steps table.layout
+  pub tidied_few : Tidies table becomes a b → c.0.known.steps ≤ b.0.known.steps + twice_steps call table.layout → c.0.known.steps ≤ a.0.known.steps + try_steps call table.layout
   tidied_few (inl none) few = let s = ap (λ (z : SeatView × G). z.0.known.steps) none in omega (arith, few, s)
   tidied_few (inr small) few = let count = small_few small in omega (arith, few, count)
+
+-- an attempt makes no more steps than two
+pub once_few : (call : Call) (layout : Layout) → once_steps call layout ≤ twice_steps call layout
+once_few (Insert key value) layout = omega arith
+once_few (Upsert key value) layout = omega arith
+once_few (Exchange key expected value) layout = omega arith
+once_few (Add key delta) layout = omega arith
+once_few (Get key) layout = omega arith
+once_few (Remove key) layout = omega arith
+once_few (RemoveIf key expected) layout = omega arith
+
+-- a call that may be full may make two, and a round
+pub twice_few : (call : Call) (layout : Layout) (k j : PassView) → MayTake call k j → twice_steps call layout ≡ 2 * once_steps call layout + round_steps layout
+twice_few (Insert key value) layout k j may = refl
+twice_few (Upsert key value) layout k j may = refl
+twice_few (Exchange key expected value) layout k j may = absurd may
+twice_few (Add key delta) layout k j may = absurd may
+twice_few (Get key) layout k j may = absurd may
+twice_few (Remove key) layout k j may = refl
+twice_few (RemoveIf key expected) layout k j may = refl
+
+-- nor does a get
+pub get_few : (call : Call) (layout : Layout) (j k entries : ℕ) → j ≤ k + 36 + 26 * entries → entries ≤ 9 * MAX_BYTES → j ≤ k + try_steps call layout
+get_few (Insert key value) layout j k entries few depth = omega (arith, few, depth)
+get_few (Upsert key value) layout j k entries few depth = omega (arith, few, depth)
+get_few (Exchange key expected value) layout j k entries few depth = omega (arith, few, depth)
+get_few (Add key delta) layout j k entries few depth = omega (arith, few, depth)
+get_few (Get key) layout j k entries few depth = omega (arith, few, depth)
+get_few (Remove key) layout j k entries few depth = omega (arith, few, depth)
+get_few (RemoveIf key expected) layout j k entries few depth = omega (arith, few, depth)
+
+-- a fault for want of records is one
+pub full_fault : (full : Full) → tries.IsFullFault (fault_of full)
+full_fault OfNodes = tt
+full_fault OfLeaves = tt
 
 -- a call has not tried yet, or each try was refused
 abbrev pub HasWaited : Layout → PassView → PassView → Type 0
@@ -367,6 +408,13 @@ module _ {G : Type 0} {table : TableView} {becomes : G → Event → G → Type 
       (others_since changed.before changed.others) changed.front changed.fresh changed.was_held tells in
       ((n.0, tt), n.1)
 
+  -- it had loaded the root before, in another call
+  before : b.0.known.fresh.step < b.0.known.steps
+  before =
+      let s = ap (λ (z : Known). z.steps) pinned in
+      let f = ap (λ (z : Known). z.fresh.step) pinned in
+      omega (arith, settled.loaded, s, f)
+
   -- the cause of an attempt is one by what contracts see
   cause_seen : (key : Key) (made : List Rec) (fault : TryFault) {said : Known → List Note} → IsEvent table.layout ClearPin said c.0.known d.0.known → OthersGoOn b.0.known.pass b.0.known.front c.0.known.front → tries.IsAttemptCause table.layout key b.0.known c.0.known made fault →
       IsCause table.layout key (pass_of b.0) (pass_of c.0) fault
@@ -383,15 +431,42 @@ module _ {G : Type 0} {table : TableView} {becomes : G → Event → G → Type 
       same : c.0.known.pass ≡ b.0.known.pass
       same = (run_same table becomes b c run).2
 
-      before : b.0.known.fresh.step < b.0.known.steps
-      before =
-          let s = ap (λ (z : Known). z.steps) pinned in
-          let f = ap (λ (z : Known). z.fresh.step) pinned in
-          omega (arith, settled.loaded, s, f)
+  -- a key that was absent since its pin was so by what contracts see
+  absent_seen : (key : Key) {said : Known → List Note} → IsEvent table.layout ClearPin said c.0.known d.0.known → tries.HasMissedKey c.0.known key → WasAbsent key (pass_of a.0) (pass_of d.0)
+  absent_seen key event (m, (p, pin, early), missed) = absent_from_before key (pass_of a.0) (pass_of a.0) (pass_of c.0) (pass_of d.0) (no_further refl)
+      (no_further (ap (λ (z : Known). z.front) event.learned_is)) (ap (λ (z : Known). z.fresh) event.learned_is) there
+    where
+      set : b.0.known.pin ≡ Some p
+      set = sym (pin_stays table becomes run.acts b c run.each run.steps) ∙ pin
+
+      had : (n : ℕ) × (m ≤ n) × (n ≤ length c.0.known.front) × (value_at (map_of (take n c.0.known.front)) key ≡ None)
+      had = missed_had c.0.known key m missed event.core event.lawful (event_recalls event)
+
+      there : WasAbsent key (pass_of a.0) (pass_of c.0)
+      there = record {
+        place = had.0;
+        begun = le_trans (pins_after pins p set) (le_trans early had.1);
+        since = subst (λ z. z ≤ had.0) (sym (under_pin pins run loaded before p set)) (le_trans early had.1);
+        upto = had.2;
+        absent = had.3;
+      }
+
+  may_take_seen : (call : Call) {said : Known → List Note} → IsEvent table.layout ClearPin said c.0.known d.0.known → tries.WantsRecord c.0.known call → MayTake call (pass_of a.0) (pass_of d.0)
+  may_take_seen (Insert key value) event missed = absent_seen key event missed
+  may_take_seen (Upsert key value) event missed = absent_seen key event missed
+  may_take_seen (Exchange key expected value) event missed = absurd missed
+  may_take_seen (Add key delta) event missed = absurd missed
+  may_take_seen (Get key) event missed = absurd missed
+  may_take_seen (Remove key) event missed = tt
+  may_take_seen (RemoveIf key expected) event missed = tt
 
   -- it was refused
-  when_refused : (call : Call) (made : List Rec) (fault : TryFault) → HasRefused table.layout (key_of call) b.0.known c.0.known made fault → IsEvent table.layout ClearPin (change_notes call (Err fault)) c.0.known d.0.known → Leaves call (Err fault)
-  when_refused call made fault h event = ((tt, record { unnoted = scan_refused a.0 d.0 settled (quiet h.others) event; cause = cause }), scan_settled a.0 d.0 settled (quiet h.others) event)
+  when_refused : (call : Call) (made : List Rec) (fault : TryFault) → HasRefused table.layout (key_of call) b.0.known c.0.known made fault → tries.IsFullOfNew c.0.known call fault →
+      IsEvent table.layout ClearPin (change_notes call (Err fault)) c.0.known d.0.known → Leaves call (Err fault)
+  when_refused call made fault h new event = (
+    (tt, record { unnoted = scan_refused a.0 d.0 settled (quiet h.others) event; cause = cause; full = λ full. may_take_seen call event (new full) }),
+    scan_settled a.0 d.0 settled (quiet h.others) event,
+  )
     where
       cause : IsCause table.layout (key_of call) (pass_of a.0) (pass_of d.0) fault
       cause =
@@ -400,10 +475,10 @@ module _ {G : Type 0} {table : TableView} {becomes : G → Event → G → Type 
 
   -- whatever came of it
   pub tried : (call : Call) (made : List Rec) (r : Result Reply TryFault) → IfOk r (HasAnswered b.0.known c.0.known call) → IfErr r (HasRefused table.layout (key_of call) b.0.known c.0.known made) →
-      StepsWith table becomes ClearPin (change_notes call r) c d → Leaves call r
-  tried call made (Ok reply) (inl looked) refused step = when_looked call reply looked.0 looked.1 step.event
-  tried call made (Ok reply) (inr (x, was, is, changed)) refused step = when_changed call reply x was is changed step.event
-  tried call made (Err fault) answered refused step = when_refused call made fault refused step.event
+      IfErr r (tries.IsFullOfNew c.0.known call) → StepsWith table becomes ClearPin (change_notes call r) c d → Leaves call r
+  tried call made (Ok reply) (inl looked) refused new step = when_looked call reply looked.0 looked.1 step.event
+  tried call made (Ok reply) (inr (x, was, is, changed)) refused new step = when_changed call reply x was is changed step.event
+  tried call made (Err fault) answered refused new step = when_refused call made fault refused new step.event
 
   -- and what it lacked
   pub tried_lacks : {said : Known → List Note} (key : Key) (made : List Rec) (r : Result Reply TryFault) → IfErr r (HasRefused table.layout key b.0.known c.0.known made) → StepsWith table becomes ClearPin said c d → HasLacked table made r a.0 d.0
@@ -433,44 +508,57 @@ waited_leafless (Add key delta) r h = tt
 waited_leafless (Remove key) r h = λ is. h (ap last_try is)
 waited_leafless (RemoveIf key expected) r h = λ is. h (ap last_try is)
 
--- a call that is no get is refused where it may be
-may : (call : Call) (fault : TryFault) → ((key : Key) → call ≢ Get key) → IsLeafless FullLeaves call (Err fault) → MayRefuse call fault
-may (Insert key value) fault change h = tt
-may (Upsert key value) fault change h = tt
-may (Exchange key expected value) fault change h = tt
-may (Add key delta) fault change h = tt
-may (Get key) fault change h = absurd (change key refl)
-may (Remove key) Busy change h = tt
-may (Remove key) FullNodes change h = tt
-may (Remove key) FullLeaves change h = h refl
-may (RemoveIf key expected) Busy change h = tt
-may (RemoveIf key expected) FullNodes change h = tt
-may (RemoveIf key expected) FullLeaves change h = h refl
+-- a call that waits, and lacks no leaf record, is never refused so
+leaves_of : (full : Full) → fault_of full ≡ FullLeaves → full ≡ OfLeaves
+leaves_of OfNodes e = absurd (cc)
+leaves_of OfLeaves e = refl
 
-pub may_refuse : (call : Call) (r : Result Reply TryFault) → ((key : Key) → call ≢ Get key) → IsLeafless FullLeaves call r → IfErr r (MayRefuse call)
-may_refuse call (Ok reply) change h = tt
-may_refuse call (Err fault) change h = may call fault change h
+waits_leafless : (call : Call) (full : Full) → IsLeafless {F = Full} OfLeaves call (Err full) → IsLeafless FullLeaves call (Err (fault_of full))
+waits_leafless (Get key) full h = tt
+waits_leafless (Insert key value) full h = tt
+waits_leafless (Upsert key value) full h = tt
+waits_leafless (Exchange key expected value) full h = tt
+waits_leafless (Add key delta) full h = tt
+waits_leafless (Remove key) full h = λ e. h (ap Err (leaves_of full (let same : fault_of full ≡ FullLeaves = cc in same)))
+waits_leafless (RemoveIf key expected) full h = λ e. h (ap Err (leaves_of full (let same : fault_of full ≡ FullLeaves = cc in same)))
+
+-- a call that is no get is refused where it may be
+may : (call : Call) (k j : PassView) (fault : TryFault) → ((key : Key) → call ≢ Get key) → IsLeafless FullLeaves call (Err fault) → (tries.IsFullFault fault → MayTake call k j) → MayRefuse call fault
+may (Insert key value) k j fault change h full = tt
+may (Upsert key value) k j fault change h full = tt
+may (Exchange key expected value) k j Busy change h full = tt
+may (Exchange key expected value) k j FullNodes change h full = full tt
+may (Exchange key expected value) k j FullLeaves change h full = full tt
+may (Add key delta) k j Busy change h full = tt
+may (Add key delta) k j FullNodes change h full = full tt
+may (Add key delta) k j FullLeaves change h full = full tt
+may (Get key) k j fault change h full = absurd (change key refl)
+may (Remove key) k j Busy change h full = tt
+may (Remove key) k j FullNodes change h full = tt
+may (Remove key) k j FullLeaves change h full = h refl
+may (RemoveIf key expected) k j Busy change h full = tt
+may (RemoveIf key expected) k j FullNodes change h full = tt
+may (RemoveIf key expected) k j FullLeaves change h full = h refl
+
+module _ {layout : Layout} {k j : PassView} (call : Call) (change : (key : Key) → call ≢ Get key) where
+  pub may_refuse : (r : Result Reply TryFault) → IsLeafless FullLeaves call r → MatchResult r (IsNoted layout k j call) (IsRefused layout call k j) → IfErr r (MayRefuse call)
+  may_refuse (Ok reply) h made = tt
+  may_refuse (Err fault) h made = may call k j fault change h made.full
+
+  pub may_count : (r : Result Reply Refusal) → IsLeafless FullLeaves call (as_tried r) → MatchResult r (IsNoted layout k j call) (λ refusal. IsRefused layout call k j (fault_in refusal)) →
+      IfErr r (λ refusal. MayRefuse call (fault_in refusal))
+  may_count (Ok reply) h made = tt
+  may_count (Err refusal) h made = may call k j (fault_in refusal) change h made.full
+
+  -- where it waits
+  pub waited_lacks : (r : Result Reply Full) → IsLeafless OfLeaves call r → MatchResult r (IsNoted layout k j call) (λ full. IsRefused layout call k j (fault_of full)) → IfErr r (MayLack call)
+  waited_lacks (Ok reply) h made = tt
+  waited_lacks (Err full) h made = may call k j (fault_of full) change (waits_leafless call full h) made.full
 
 -- and lacks then what it may lack
 pub may_lack : (call : Call) (r : Result Reply TryFault) → IfErr r (MayRefuse call) → IfErr r (λ fault. (full : Full) → fault ≡ fault_of full → MayLack call full)
 may_lack call (Ok reply) h = tt
 may_lack call (Err fault) h = λ full e. subst (MayRefuse call) e h
-
--- where it waits
-waits_lack : (call : Call) (full : Full) → ((key : Key) → call ≢ Get key) → IsLeafless OfLeaves call (Err full) → MayLack call full
-waits_lack (Insert key value) full change h = tt
-waits_lack (Upsert key value) full change h = tt
-waits_lack (Exchange key expected value) full change h = tt
-waits_lack (Add key delta) full change h = tt
-waits_lack (Get key) full change h = absurd (change key refl)
-waits_lack (Remove key) OfNodes change h = tt
-waits_lack (Remove key) OfLeaves change h = h refl
-waits_lack (RemoveIf key expected) OfNodes change h = tt
-waits_lack (RemoveIf key expected) OfLeaves change h = h refl
-
-pub waited_lacks : (call : Call) (r : Result Reply Full) → ((key : Key) → call ≢ Get key) → IsLeafless OfLeaves call r → IfErr r (MayLack call)
-waited_lacks call (Ok reply) change h = tt
-waited_lacks call (Err full) change h = waits_lack call full change h
 
 -- what is said of changes is said of it
 pub unless_get : (call : Call) (Gets Changes : Type 0) → ((key : Key) → call ≢ Get key) → Changes → GetsOr call Gets Changes
@@ -500,7 +588,7 @@ module _ {table index : TableView} {k : PassView} {s t : SeatView} {call : Call}
   waited_call (Ok reply) h = replied_call (Ok reply) h
   waited_call (Err full) h = replied_call (Err (fault_of full)) h
 
-  pub tried_seen : {G : Type 0} {becomes : G → Event → G → Type 0} {g h : G} {r : Result Reply TryFault} → HasAsked table becomes (AreAttempts table becomes call r) call r (s, g) (t, h) → t.known.steps ≤ s.known.steps + try_steps table.layout →
+  pub tried_seen : {G : Type 0} {becomes : G → Event → G → Type 0} {g h : G} {r : Result Reply TryFault} → HasAsked table becomes (AreAttempts table becomes call r) call r (s, g) (t, h) → t.known.steps ≤ s.known.steps + try_steps call table.layout →
       IsTriedWith call r index becomes (k, g) (pass_of t, h)
   tried_seen {becomes = becomes} {g = g} {h = h} {r = r} asked few = record {
     own = replied_own asked.replied;
@@ -547,7 +635,3 @@ counted_seen {index = index} {k = k} {t = t} {call = call} {becomes = becomes} {
     counted_call : (Noted : Reply → Type 0) (Refused : TryFault → Type 0) (r : Result Reply Refusal) → MatchResult (as_tried r) Noted Refused → MatchResult r Noted (λ refusal. Refused (fault_in refusal))
     counted_call Noted Refused (Ok reply) it = it
     counted_call Noted Refused (Err refusal) it = it
-
-pub may_count : (call : Call) (r : Result Reply Refusal) → ((key : Key) → call ≢ Get key) → IsLeafless FullLeaves call (as_tried r) → IfErr r (λ refusal. MayRefuse call (fault_in refusal))
-may_count call (Ok reply) change h = tt
-may_count call (Err refusal) change h = may call (fault_in refusal) change h

@@ -1,15 +1,15 @@
 -- What calls of an index say.
-use Rattle.std.specs.Prelude.{◌≡◌, ◌≢◌, ◌⊎◌, ℕ, ◌<◌, ◌≤◌, List, [], ◌∷◌, ◌++◌, length, slice_get, Bool, true, IsTrue, Option, Some, None}
+use Rattle.std.specs.Prelude.{◌≡◌, ◌≢◌, ◌⊎◌, ℕ, ◌<◌, ◌≤◌, List, [], ◌∷◌, ◌++◌, length, slice_get, take, Bool, true, IsTrue, Option, Some, None}
 use Rattle.std.specs.Option.{option_to_list}
 use Rattle.finite_map.specs.declared.Change.{Change}
 use Rattle.finite_map.specs.declared.Call.{Call}
-use Rattle.finite_map.specs.declared.Call.TheVariants.{Get, Remove, RemoveIf}
+use Rattle.finite_map.specs.declared.Call.TheVariants.{Add, Exchange, Get, Insert, Remove, RemoveIf, Upsert}
 use Rattle.finite_map.specs.declared.Reply.{Reply}
 use Rattle.finite_map.specs.declared.Reply.TheVariants.{Value, Absent}
 use Rattle.finite_map.specs.declared.Scan.{Scan}
 use Rattle.finite_map.specs.Calls.{LegalCalls}
-use Rattle.finite_map.specs.Maps.{key_of}
-use Rattle.finite_map.specs.Fronts.{BeginsWith}
+use Rattle.finite_map.specs.Maps.{key_of, value_at}
+use Rattle.finite_map.specs.Fronts.{BeginsWith, map_of}
 use Rattle.finite_map.specs.Scans.{is_within, IsHeldBetween, IsLawfulScan}
 use Rattle.finite_map.specs.Weaves.{LegalHistory, weave}
 use Rattle.tries.specs.Keys.{Key}
@@ -18,6 +18,7 @@ use Rattle.rowex_scanning.specs.Scanning.{limited}
 use Rattle.version_laws.specs.Directions.{ScanLaw}
 use Rattle.versions.specs.declared.Rec.{Rec}
 use Rattle.version_laws.specs.Scan.{Range}
+use Rattle.rowex_writing.specs.Attempts.{IsFullFault}
 use Rattle.rowex_writing.specs.Changes.{LacksLeaves, LacksNodes}
 use Rattle.rowex_writing.specs.Locks.{HasMetTaken}
 use Rattle.rowex_writing.specs.declared.attempts.TryFault.{TryFault}
@@ -84,6 +85,14 @@ IsScanned = IsScannedBy IsLawfulScan
 abbrev pub IsListed : Layout → PassView → PassView → Range → List (Key × ℕ) → Bool → Type 0
 IsListed = IsListedBy IsLawfulScan
 
+-- A range was counted. It adds no note; and the number is that of the pairs of some list that a lawful scan gives. It is at most the limit.
+pub record IsRangeCounted (layout : Layout) (k j : PassView) (range : Range) (number : ℕ) : Type 0 where
+  pub few : number ≤ range.limit
+  pub pairs : List (Key × ℕ)
+  pub number_is : number ≡ length pairs
+  pub more : Bool
+  pub listed : IsListed layout k j range pairs more
+
 -- A scan upwards into a list ran out of memory: it is as one that was cut at the number of its pairs.
 abbrev pub IsListedInPart : Layout → PassView → PassView → Range → List (Key × ℕ) → Type 0
 IsListedInPart = IsListedInPartBy IsLawfulScan
@@ -131,19 +140,42 @@ IsCause layout key k j Busy = HasConflict layout k j
 IsCause layout key k j FullNodes = (own : List Rec) × LacksNodes layout j.number j.failed k.steps own
 IsCause layout key k j FullLeaves = LacksLeaves layout key j.number j.failed k.steps
 
+-- The key was absent after some of the changes that the pass has seen: those that it had seen before the call are among them, and so are
+-- those that had been made when it set the pin that it had at its last load of the root.
+pub record WasAbsent (key : Key) (k j : PassView) : Type 0 where
+  pub place : ℕ
+  pub begun : length k.front ≤ place
+  pub since : j.fresh.pinned ≤ place
+  pub upto : place ≤ length j.front
+  pub absent : value_at (map_of (take place j.front)) key ≡ None
+
+-- A call may lack a record: an insertion or an upsert whose search found its key absent, and a removal. No other call takes one, since the
+-- new value of a held key needs none.
+abbrev pub MayTake : Call → PassView → PassView → Type 0
+MayTake (Insert key value) k j = WasAbsent key k j
+MayTake (Upsert key value) k j = WasAbsent key k j
+MayTake (Remove key) k j = Unit {0}
+MayTake (RemoveIf key expected) k j = Unit {0}
+MayTake call k j = ⊥
+
 -- A call was refused: it has changed nothing and adds no note, and this is the cause.
 pub record IsRefused (layout : Layout) (call : Call) (k j : PassView) (fault : TryFault) : Type 0 where
   pub unnoted : IsUnnoted layout k j
   pub cause : IsCause layout (key_of call) k j fault
+  pub full : IsFullFault fault → MayTake call k j
 
 -- the refusal of a call that waits for others
 abbrev pub fault_of : Full → TryFault
 fault_of Nodes = FullNodes
 fault_of Leaves = FullLeaves
 
--- a call may be refused so: a get never, and neither removal for want of a leaf record
+-- a call may be refused so: a get never, an exchange and an addition only as busy, and neither removal for want of a leaf record
 abbrev pub MayRefuse : Call → TryFault → Type 0
 MayRefuse (Get key) fault = ⊥
+MayRefuse (Exchange key expected value) FullNodes = ⊥
+MayRefuse (Exchange key expected value) FullLeaves = ⊥
+MayRefuse (Add key delta) FullNodes = ⊥
+MayRefuse (Add key delta) FullLeaves = ⊥
 MayRefuse (Remove key) FullLeaves = ⊥
 MayRefuse (RemoveIf key expected) FullLeaves = ⊥
 MayRefuse call fault = Unit {0}

@@ -16,8 +16,8 @@ use Rattle.rowex_writing.specs.declared.plan.Full.TheVariants.{Leaves}
 use Rattle.version_laws.specs.Scan.{Range}
 use Rattle.tries.specs.Keys.{Key}
 use Rattle.version_laws.specs.Directions.{ScanLaw}
-use Rattle.hot_index_calls.specs.Answers.{HasFoundPair, IsListedBy, IsListedInPartBy, IsNoted, IsRefused, IsScannedBy, IsUnnoted, MayRefuse, fault_of}
-use Rattle.hot_index_calls.specs.Refusals.{IsPassing, IsTold, as_tried, fault_in}
+use Rattle.hot_index_calls.specs.Answers.{HasFoundPair, IsListedBy, IsListedInPartBy, IsNoted, IsRangeCounted, IsRefused, IsScannedBy, IsUnnoted, MayRefuse, fault_of}
+use Rattle.hot_index_calls.specs.Refusals.{IsPassing, IsCountTold, as_tried, fault_in}
 use Rattle.hot_index_calls.specs.declared.census.RecordCounts.{RecordCounts}
 use Rattle.hot_index_calls.specs.declared.refusals.Refusal.{Refusal}
 use Rattle.hot_index_calls.specs.declared.refusals.Refusal.TheVariants.{Full as IsFull}
@@ -63,7 +63,7 @@ pub record IsTriedAndCounted {G : Type 0} (asked : Call) (result : Result Reply 
     (a b : PassView × G) : Type 0 where
   pub mid : PassView × G
   pub tried : IsTriedWith asked (as_tried result) index becomes a mid
-  pub told : IsTold asked result index becomes a mid b
+  pub told : IsCountTold asked result index becomes a mid b
 
 -- Tries of a change were refused for these reasons, one after the other, and none of them is final.
 abbrev pub AreTriesRefused : {G : Type 0} → Call → List Refusal → TableView → (G → Event → G → Type 0) → PassView × G → PassView × G → Type 0
@@ -169,3 +169,12 @@ IsListReadWith range pairs result index becomes a b = IsListReadBy IsLawfulScan 
 -- a scan upwards into a list was made that is lawful
 abbrev pub IsListRead : {E : Type 0} → Range → List (Key × ℕ) → Result Bool E → TableView → PassView → PassView → Type 0
 IsListRead range pairs result index k j = IsListReadWith range pairs result index untold (k, tt) (j, tt)
+
+-- A range was counted, which needs no memory, by its steps, of which the gate was told.
+abbrev pub IsCountReadWith : {G : Type 0} → Range → ℕ → TableView → (G → Event → G → Type 0) → PassView × G → PassView × G → Type 0
+IsCountReadWith range number index becomes a b =
+    IsRangeReadWith (λ layout k j. IsRangeCounted layout k j range) no_part range (Ok {E = Unit {0}} number) index becomes a b
+
+-- the same, where nobody is told of its steps
+abbrev pub IsCountRead : Range → ℕ → TableView → PassView → PassView → Type 0
+IsCountRead range number index k j = IsCountReadWith range number index untold (k, tt) (j, tt)

@@ -86,6 +86,6 @@ IsToldAfter call index becomes a m b (HeldBack lacks) = IsCountedAfter call lack
 IsToldAfter call index becomes a m b (IsFull lacks counts) = IsCountedAfter call lacks (IsFull lacks counts) index becomes a m b
 
 -- after one that was answered neither
-abbrev pub IsTold : {G : Type 0} → Call → Result Reply Refusal → TableView → (G → Event → G → Type 0) → (a m b : PassView × G) → Type 0
-IsTold call (Ok reply) index becomes a m b = b ≡ m
-IsTold call (Err refusal) index becomes a m b = IsToldAfter call index becomes a m b refusal
+abbrev pub IsCountTold : {G : Type 0} → Call → Result Reply Refusal → TableView → (G → Event → G → Type 0) → (a m b : PassView × G) → Type 0
+IsCountTold call (Ok reply) index becomes a m b = b ≡ m
+IsCountTold call (Err refusal) index becomes a m b = IsToldAfter call index becomes a m b refusal

@@ -166,7 +166,7 @@ pub record HasMade {G : Type 0} (index : TableView) (becomes : G → Event → G
   pub steps : Ends index becomes acts ClearPin (change_notes call result) (a.0.seat, a.1) (b.0.seat, b.1)
   pub sees : SeesAllOfRun index.layout a.0.seat b.0.seat
   pub told : IsTold becomes (events_of a.0.number (acts ++ ClearPin ∷ [])) a.1 b.1
-  pub few : b.0.steps ≤ a.0.steps + try_steps index.layout
+  pub few : b.0.steps ≤ a.0.steps + try_steps call index.layout
 
 -- On a seat: the call makes steps, one after the other, and these notes come with the last.
 abbrev pub HasStepped : {G : Type 0} → TableView → (G → Event → G → Type 0) → (Known → List Note) → SeatView × G → SeatView × G → Type 0

@@ -39,7 +39,7 @@ pub fn try_change<G: Gate>(
     requires idle { IsIdle table.now seat.old }
     ensures asked { HasAsked table.now G.becomes (AreAttempts table.now G.becomes call.now result) call.now result (seat.old, gate.old) (seat.new, gate.new) }
     ensures lacks { HasLacked table.now scratch.new.build.made.items result seat.old seat.new }
-    ensures few { seat.new.known.steps ≤ seat.old.known.steps + try_steps table.now.layout }
+    ensures few { seat.new.known.steps ≤ seat.old.known.steps + try_steps call.now table.now.layout }
 {
     collect_due(table, seat, gate, scratch);
     try_twice(table, seat, gate, scratch, call)
@@ -70,7 +70,7 @@ fn try_twice<G: Gate>(
     requires idle { IsIdle table.now seat.old }
     ensures asked { HasAsked table.now G.becomes (AreTries table.now G.becomes call.now result) call.now result (seat.old, gate.old) (seat.new, gate.new) }
     ensures lacks { HasLacked table.now scratch.new.build.made.items result seat.old seat.new }
-    ensures few { seat.new.known.steps ≤ seat.old.known.steps + twice_steps table.now.layout }
+    ensures few { seat.new.known.steps ≤ seat.old.known.steps + twice_steps call.now table.now.layout }
 {
     let first = make_attempt(table, seat, gate, scratch, call);
     let Some(lacks) = full_kind(first) else {
@@ -199,7 +199,7 @@ fn make_attempt<G: Gate>(
     requires idle { IsIdle table.now seat.old }
     ensures asked { HasAsked table.now G.becomes (IsOneAttempt table.now) call.now result (seat.old, gate.old) (seat.new, gate.new) }
     ensures lacks { HasLacked table.now scratch.new.build.made.items result seat.old seat.new }
-    ensures few { seat.new.known.steps ≤ seat.old.known.steps + once_steps table.now.layout }
+    ensures few { seat.new.known.steps ≤ seat.old.known.steps + once_steps call.now table.now.layout }
 {
     pin(table, seat, gate);
     let outcome = attempt(

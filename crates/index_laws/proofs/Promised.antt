@@ -2,7 +2,7 @@
 use Rattle.std.proofs.Common.{◌≡◌, ◌≢◌, inl, inr, ⊎_elim, ℕ, ◌+◌, ◌*◌, ◌<◌, ◌≤◌, List, [], ◌∷◌, ◌++◌, refl, sym, ap, subst, ◌∙◌, arith, append-nil}
 use Rattle.std.specs.Prelude.{All}
 use Rattle.std.proofs.lemmas.List.Elements.{All-head, All-nil}
-use Rattle.finite_map.specs.declared.Call.TheVariants.{Remove, RemoveIf}
+use Rattle.finite_map.specs.declared.Call.TheVariants.{Add, Exchange, Remove, RemoveIf}
 use Rattle.finite_map.specs.declared.Note.{Note}
 use Rattle.finite_map.specs.declared.Scan.{Scan}
 use Rattle.finite_map.specs.Calls.{LegalCalls, StandsIn, changes_of, own_changes}
@@ -16,11 +16,14 @@ use Rattle.plain_index.proofs.Together.{woven-in_order_two}
 use Rattle.rowex_core.specs.declared.known.Known.{Known}
 use Rattle.rowex_core.proofs.Promises.{entries_in_reach, in_reach}
 use Rattle.record_words.specs.declared.layout.Layout.{Layout}
+use Rattle.rowex_writing.specs.declared.attempts.TryFault.{TryFault}
+use Rattle.rowex_writing.specs.declared.attempts.TryFault.TheVariants.{Busy, FullLeaves, FullNodes}
 use Rattle.version_laws.specs.Directions.{ScanLaw}
 use Rattle.hot_index_calls.specs.Answers.{IsCause, MayRefuse}
 use Rattle.hot_index_calls.specs.Many.{most_entries}
 use Rattle.hot_index.proofs.Alone.{one_pass_full_is_full, one_pass_is_never_busy}
 use Rattle.hot_index.proofs.Counted.{counts_add_up}
+use Rattle.hot_index.proofs.Held.{held_is_never_full, one_pass_refuses_new_alone}
 use Rattle.hot_index.proofs.Stamped.{returned_before_begun}
 use Rattle.real_time.specs.Moments.{Happening, IsWholeRun, Moment}
 use Rattle.real_time.specs.Scanning.{IsScanInTime}
@@ -90,11 +93,23 @@ reverse_scans : ScansShow IsLawfulReverseScan IsDownToLast
 reverse_scans = scans_show IsLawfulReverseScan IsDownToLast
     (λ layout last at happens run q since until pass order within loaded from upto limit scan. (scans_in_time layout last at happens run q since until pass order within loaded from upto limit scan).1)
 
+exchanged : (key : List ℕ) (expected value : ℕ) (fault : TryFault) → fault ≢ Busy → MayRefuse (Exchange key expected value) fault → ⊥
+exchanged key expected value Busy full may = full refl
+exchanged key expected value FullNodes full may = may
+exchanged key expected value FullLeaves full may = may
+
+added : (key : List ℕ) (delta : ℕ) (fault : TryFault) → fault ≢ Busy → MayRefuse (Add key delta) fault → ⊥
+added key delta Busy full may = full refl
+added key delta FullNodes full may = may
+added key delta FullLeaves full may = may
+
 never_refused : NeverRefused
 never_refused call fault may key = (
   λ e. subst (λ c. MayRefuse c fault) e may,
   λ full e. subst (MayRefuse (Remove key)) full (subst (λ c. MayRefuse c fault) e may),
   λ full expected e. subst (MayRefuse (RemoveIf key expected)) full (subst (λ c. MayRefuse c fault) e may),
+  λ full expected value e. exchanged key expected value fault full (subst (λ c. MayRefuse c fault) e may),
+  λ full delta e. added key delta fault full (subst (λ c. MayRefuse c fault) e may),
 )
 
 refusals : Refusals
@@ -138,6 +153,7 @@ headline = record {
   refusals = refusals;
   full_alone = one_pass_full_is_full;
   never_refused = never_refused;
+  new_values_fit = record { held = held_is_never_full; alone = one_pass_refuses_new_alone };
   number_of_keys = counts_add_up;
   steps = steps;
   out_of_reach = in_reach;

@@ -10,7 +10,7 @@
 use Rattle.std.specs.Prelude.{◌≡◌, ◌≢◌, ◌⊎◌, ℕ, ◌+◌, ◌*◌, ◌<◌, ◌≤◌, All, List, [], ◌∷◌, ◌++◌, Result}
 use Rattle.key_bits.specs.declared.TheConstants.{MAX_BYTES}
 use Rattle.finite_map.specs.declared.Call.{Call}
-use Rattle.finite_map.specs.declared.Call.TheVariants.{Get, Remove, RemoveIf}
+use Rattle.finite_map.specs.declared.Call.TheVariants.{Add, Exchange, Get, Remove, RemoveIf}
 use Rattle.finite_map.specs.declared.Reply.{Reply}
 use Rattle.finite_map.specs.declared.Scan.{Scan}
 use Rattle.finite_map.specs.Calls.{LegalCalls, own_changes}
@@ -33,7 +33,7 @@ use Rattle.hot_index_calls.specs.Counts.{round_steps, try_steps}
 use Rattle.hot_index_calls.specs.Many.{HasGotMany, most_entries}
 use Rattle.hot_index_calls.specs.Passes.{PassView, pass_of}
 use Rattle.hot_index_calls.specs.Traces.{HasCollected, HasGot, HasGotRange, HasMade, untold}
-use Rattle.hot_index.specs.Statements.{CountsAddUp, OnePassFullIsFull, ReturnedBeforeBegun}
+use Rattle.hot_index.specs.Statements.{CountsAddUp, HeldIsNeverFull, OnePassFullIsFull, OnePassRefusesNewAlone, ReturnedBeforeBegun}
 use Rattle.real_time.specs.Moments.{Happening, IsWholeRun, Moment, Pending}
 use Rattle.real_time.specs.Scanning.{IsScanInTime, map_at}
 use Rattle.index_laws.specs.Lives.{OneHistoryOfAll}
@@ -92,11 +92,18 @@ Refusals =
     (layout : Layout) (call : Call) (k j : PassView) (fault : TryFault) → IsRefused layout call k j fault → LegalCalls k.front k.number k.notes →
     (j.notes ≡ k.notes) × (own_changes j.number j.front ≡ own_changes k.number k.front) × IsCause layout (key_of call) k j fault × (layout.passes ≡ 1 → fault ≢ Busy)
 
--- A get is never refused, and no removal for want of a leaf record.
+-- A call that gives its key a value is full only if its key was absent: it is never refused as full if the key was held all the while, and in
+-- an index of one pass never at all if the key is held.
+pub record NewValuesFit : Type 0 where
+  pub held : HeldIsNeverFull
+  pub alone : OnePassRefusesNewAlone
+
+-- A get is never refused, an exchange or an addition only as busy, and no removal for want of a leaf record.
 abbrev pub NeverRefused : Type 0
 NeverRefused =
     (call : Call) (fault : TryFault) → MayRefuse call fault → (key : List ℕ) →
-    (call ≢ Get key) × (fault ≡ FullLeaves → call ≢ Remove key) × (fault ≡ FullLeaves → (expected : ℕ) → call ≢ RemoveIf key expected)
+    (call ≢ Get key) × (fault ≡ FullLeaves → call ≢ Remove key) × (fault ≡ FullLeaves → (expected : ℕ) → call ≢ RemoveIf key expected) ×
+    (fault ≢ Busy → (expected value : ℕ) → call ≢ Exchange key expected value) × (fault ≢ Busy → (delta : ℕ) → call ≢ Add key delta)
 
 -- A get, gets of so many keys, a try of a change, which waits for no other pass, a scan of so many pairs, a round of collection and a count of
 -- all records make so many steps at most.
@@ -105,7 +112,7 @@ pub record BoundedSteps : Type 0 where
   pub get_many : (index : TableView) (count : ℕ) (k j : PassView) → HasGotMany index untold count (k, tt) (j, tt) →
       j.steps ≤ k.steps + 4 + 34 * count + 29 * (count * most_entries)
   pub change : (index : TableView) (call : Call) (result : Result Reply TryFault) (k j : PassView) → HasMade index untold call result (k, tt) (j, tt) →
-      j.steps ≤ k.steps + try_steps index.layout
+      j.steps ≤ k.steps + try_steps call index.layout
   pub scan : (index : TableView) (limit : ℕ) (k j : PassView) → HasGotRange index untold limit (k, tt) (j, tt) →
       j.steps ≤ k.steps + 101 + 26 * scan_entries limit + 8 * limit
   pub collect : (index : TableView) (nodes leaves : ℕ) (k j : PassView) → HasCollected index untold (k, tt) (j, tt) nodes leaves →
@@ -138,6 +145,7 @@ pub record Headline : Type 0 where
   -- each of them but for 4,320 at most
   pub full_alone : OnePassFullIsFull
   pub never_refused : NeverRefused
+  pub new_values_fit : NewValuesFit
   -- if no pass is changing the index, the counts that passes keep of their keys are those of its map
   pub number_of_keys : CountsAddUp
   pub steps : BoundedSteps

@@ -1,12 +1,15 @@
 //! Tests of the index, and of the maps for one thread, by what no contract says: that memory which was refused is asked for again, that
 //! threads which really run at once find each other's keys, tell each other by stamps what they have seen, and lose nothing that they
-//! add. Of handles that are closed for a time. And of steps of the table that no other code makes by a record's number.
+//! add. Of handles that are closed for a time, and of indexes filled to the last record. And of steps of the table that no other code
+//! makes by a record's number.
 #![tactic(auto)]
 
 #[cfg(test)]
 mod claims;
 #[cfg(test)]
 mod closed;
+#[cfg(test)]
+mod full;
 #[cfg(test)]
 mod refused;
 #[cfg(test)]

@@ -4,6 +4,7 @@
 ghost use Rattle.std.specs.Prelude.{All};
 ghost use Rattle.hot_index_calls.specs.Passes.{Owns};
 
+use crate::full::fill_twice;
 use crate::shared::*;
 use finite_map::{Call, Scan};
 use hot_index::{Event, Gate, Handle, Index, Key, Reply};
@@ -52,9 +53,10 @@ fn insert_both_keys(rt: &impl Abort, guest: &mut Guest, keys: &(Key, Key)) {
     assert!(rt; guest.try_insert(&keys.1, 2) == Ok(Reply::Inserted));
 }
 
-/// Replaces the leaf of the first key. Asserts that a round gives the old one back.
+/// Removes the first key and inserts it again. Asserts that a round gives its old leaf back.
 fn replace_first_leaf(rt: &impl Abort, guest: &mut Guest, keys: &(Key, Key)) {
-    assert!(rt; guest.try_upsert(&keys.0, 3) == Ok(Reply::Was(1)));
+    assert!(rt; guest.try_remove(&keys.0) == Ok(Reply::Removed(1)));
+    assert!(rt; guest.try_insert(&keys.0, 3) == Ok(Reply::Inserted));
     assert!(rt; guest.collect().leaves == 1);
 }
 
@@ -233,4 +235,10 @@ fn a_plain_trie_refused_memory_stays_as_it_was(rt: HostRuntime) {
         Err(_) => trie.scan(rt.alloc(), &from, &upto, 100),
     };
     expect_whole_scan(&rt, scan, 40);
+}
+
+/// An index of two nodes is filled with 32 keys, emptied, and filled again.
+#[test]
+fn a_full_index_beside_a_map_refused_memory_can_be_emptied(rt: HostRuntime) {
+    assert!(rt; fill_twice(&rt, rt.alloc(), 2) == 32);
 }

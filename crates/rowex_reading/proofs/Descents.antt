@@ -1,5 +1,5 @@
 -- The way of a search while it goes down: what is known of its nodes, and of the entry to go to next.
-use Rattle.std.proofs.Common.{◌≡◌, ℕ, zero, suc, ◌+◌, ◌*◌, ◌<◌, ◌≤◌, List, [], ◌∷◌, ◌++◌, length, Option, Some, None, refl, sym, ap, subst, ◌∙◌, arith, le_refl, length-append}
+use Rattle.std.proofs.Common.{◌≡◌, ℕ, zero, suc, ◌+◌, ◌*◌, ◌<◌, ◌≤◌, List, [], ◌∷◌, ◌++◌, length, Option, Some, None, refl, sym, ap, subst, ◌∙◌, arith, length-append}
 use Rattle.std.specs.Prelude.{slice_get, IfSome, IsNone, ◌↔◌}
 use Rattle.std.proofs.lemmas.List.{length-replicate}
 use Rattle.std.proofs.lemmas.Option.{slice_get_within}
@@ -157,7 +157,7 @@ module _ {G : Type 0} {table : TableView} {becomes : G → Event → G → Type 
     spot_is = ap (λ (s : PathNode). s.at) stepped
 
     pub there : HasPlace c.0.known (since b.0.known) n height step.at
-    there = place_of at n height (shape_of head) step.at is (le_refl HEAD_WORDS) reads seen.shaped spot_is
+    there = place_of at n height (shape_of head) step.at is reads seen.shaped spot_is
 
     -- The entry was read.
     module _ {i : SeatView × G} (e : Entry) (one : Reads table becomes 1 1 c i)
@@ -174,7 +174,7 @@ module _ {G : Type 0} {table : TableView} {becomes : G → Event → G → Type 
 
       -- the search has been led to it
       pub led_down : IsAt table becomes a i key e
-      led_down = next_of at n height (shape_of head) step.at is (le_refl HEAD_WORDS) reads seen.shaped spot_is e one stood
+      led_down = next_of at n height (shape_of head) step.at is reads seen.shaped spot_is e one stood
 
       -- the way has room for the node
       pub way_room : length way < 9 * MAX_BYTES
@@ -213,7 +213,7 @@ module _ {G : Type 0} {table : TableView} {becomes : G → Event → G → Type 
     way_ends first =
         let there : IsGoing table.layout b.0.known (since b.0.known) key way (LeafEntry n) = subst (IsGoing table.layout b.0.known (since b.0.known) key way) is going in
         subst (λ o. IsWayOf table.layout c.0.known o key way (Leaf n v differ)) (sym (same_since reads))
-        (going_ends table.layout b.0.known c.0.known (since b.0.known) key (reads_later reads) way n v differ there is_key (since_later (reads_later reads) at.pinned)
+        (going_ends table.layout b.0.known c.0.known (since b.0.known) key (reads_later reads) way n v differ there is_key (since_later (reads_later reads) at.way.pinned)
         (l, told (since b.0.known) (at_led at (LeafEntry n) is), where_differs key l differ none first))
 
     pub end_found : HasFound c.0.known key (value_of (Leaf n v differ))

@@ -18,5 +18,5 @@ pub mod Shapes
 pub mod Ways
 pub mod Descents
 pub mod Counting
-pub mod Turning
+pub mod SideBySide
 pub mod Stepping

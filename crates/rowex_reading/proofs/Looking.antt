@@ -18,10 +18,12 @@ use Rattle.version_laws.specs.Scan.{EntryStoodSince, IsRooted, IsBlank, IsPlaced
 use Rattle.version_laws.proofs.Scans.{led_placed, read_held}
 use Rattle.record_words.specs.declared.TheConstants.{HEAD_WORDS, LEAF_FIELDS}
 use Rattle.rowex_core.specs.declared.event.Event.{Event}
+use Rattle.rowex_core.specs.declared.known.Known.{Known}
 use Rattle.rowex_table.specs.Seats.{TableView, SeatView}
 use Rattle.rowex_reading.specs.Lookups.{HasFound, HasSearched}
 use Rattle.rowex_reading.specs.Reads.{Looks, Reads, ReadsRoot}
-use Rattle.rowex_reading.specs.Seen.{seen, Sure, since, IsCompared, IsLedTo, HasPlace}
+use Rattle.rowex_reading.specs.Seen.{seen, Sure, since, IsAtRoot, IsCompared, IsLedTo, HasPlace}
+use Rattle.rowex_reading.specs.Together.{IsOnWay}
 use Rattle.rowex_core.specs.Knowing.{IsPinnedSince}
 use Rattle.rowex_reading.proofs.Led.{led_shape, looks_first, looks_on, reads_later, reads_trans, root_pinned, same_since, shape_place}
 use Rattle.rowex_reading.proofs.Seeing.{sure_later, sure_map, since_later, seen_steady, led_stable, shaped_stable}
@@ -56,6 +58,74 @@ leaf_missed s m steady k n l v (o, fork p x y, lo, hi, st, pg, inl follows) r ne
 
 -- Of a pass
 
+-- the root's entry is on each key's way
+pub way_first : {k : Known} (key : Key) (e : Entry) → IsAtRoot k e → IsOnWay k key e
+way_first {k} key e (pinned, rooted) = record {
+  pinned = pinned;
+  led = λ c lawful recalls. rooted_led (seen c k) (since k) (seen_steady lawful recalls pinned) key e (rooted c lawful recalls);
+}
+
+-- what the way has led to stood in the tree
+pub way_led : {k : Known} {key : Key} (e : Entry) → IsOnWay k key e → IsLedTo k (since k) e
+way_led {k} {key} e way = (way.pinned, sure_map (λ s h. led_seen s (since k) key e h) way.led)
+
+module _ {G : Type 0} {table : TableView} {becomes : G → Event → G → Type 0} where
+  -- and it is on the way still after more loads
+  pub way_on : {f n : ℕ} {a b : SeatView × G} {key : Key} (e : Entry) → Reads table becomes f n a b → IsOnWay a.0.known key e → IsOnWay b.0.known key e
+  way_on {a = a} {b = b} {key = key} e reads way =
+      let kept : since b.0.known ≡ since a.0.known = same_since reads in
+      record {
+        pinned = subst (IsPinnedSince b.0.known) (sym kept) (since_later (reads_later reads) way.pinned);
+        led = subst (λ o. Sure b.0.known (λ s. IsLed s o key e)) (sym kept) (sure_later (led_stable (since a.0.known) key e) (reads_later reads) way.led);
+      }
+
+  -- It has led to a node, whose forks are known: there is an entry at the key's place.
+  module _ {b c : SeatView × G} {key : Key} (n height : ℕ) (forks : Subtrie) (place : ℕ) (way : IsOnWay b.0.known key (Node n height)) {loads : ℕ} (reads : Reads table becomes 0 loads b c)
+      (shaped : Sure c.0.known (λ s. IsShaped s (since b.0.known) n forks)) (leads : place ≡ spot key forks) where
+    abbrev m : ℕ
+    m = since b.0.known
+
+    pub way_place : HasPlace c.0.known (since b.0.known) n height place
+    way_place = shape_place (led_shape m n height forks reads (way_led (Node n height) way) shaped) (subst (λ z. z < size forks) (sym leads) (spot_below key forks))
+
+    -- one node down
+    pub way_next : {i : SeatView × G} (e : Entry) → Reads table becomes 1 1 c i → Sure i.0.known (λ s. IsPlaced s (since b.0.known) n place e) → IsOnWay i.0.known key e
+    way_next {i} e one placed = record {
+      pinned = subst (IsPinnedSince i.0.known) (sym kept) pinned;
+      led = subst (λ o. Sure i.0.known (λ s. IsLed s o key e)) (sym kept)
+          (λ o lawful recalls. led_placed (seen o i.0.known) m (seen_steady lawful recalls pinned) key n height place forks e
+          (shapes o lawful recalls) (sym leads) (placed o lawful recalls) (leads_on o lawful recalls));
+    }
+      where
+        both : Reads table becomes 1 (loads + 1) b i
+        both = reads_trans reads one
+
+        kept : since i.0.known ≡ m
+        kept = same_since both
+
+        pinned : IsPinnedSince i.0.known m
+        pinned = since_later (reads_later both) way.pinned
+
+        shapes : Sure i.0.known (λ s. IsShaped s m n forks)
+        shapes = sure_later (shaped_stable m n forks) (reads_later one) shaped
+
+        leads_on : Sure i.0.known (λ s. IsLed s m key (Node n height))
+        leads_on = sure_later (led_stable m key (Node n height)) (reads_later both) way.led
+
+  -- it has led to a leaf, which has been compared
+  pub way_found : {b c : SeatView × G} {key : Key} (n : ℕ) {loads : ℕ} → IsOnWay b.0.known key (Leaf n) → Reads table becomes 0 loads b c → (found : Option ℕ) →
+      ((m : ℕ) → IsLedTo b.0.known m (Leaf n) → Sure c.0.known (λ s. IsCompared s m n key found)) → HasFound c.0.known key found
+  way_found {b} {c} {key} n way reads (Some v) told =
+      let m : ℕ = since b.0.known in
+      subst (λ o. Sure c.0.known (λ s. IsHeldSince s o key v)) (sym (same_since reads))
+      (λ o lawful recalls. read_held (seen o c.0.known) m n key v (told m (way_led (Leaf n) way) o lawful recalls))
+  way_found {b} {c} {key} n way reads None told =
+      let m : ℕ = since b.0.known in
+      let led_there : Sure c.0.known (λ s. IsLed s m key (Leaf n)) = sure_later (led_stable m key (Leaf n)) (reads_later reads) way.led in
+      subst (λ o. Sure c.0.known (λ s. WasAbsentSince s o key)) (sym (same_since reads))
+      (λ o lawful recalls. (let other = told m (way_led (Leaf n) way) o lawful recalls in
+      leaf_missed (seen o c.0.known) m (seen_steady lawful recalls (since_later (reads_later reads) way.pinned)) key n other.0 other.1 (led_there o lawful recalls) other.2 other.3))
+
 -- Since its load of the root the pass was led to this entry by its search. It has passed so many nodes, and the root's entry
 -- has this height.
 pub record IsAt {G : Type 0} (table : TableView) (becomes : G → Event → G → Type 0) (a b : SeatView × G) (key : Key) (e : Entry) : Type 0 where
@@ -66,8 +136,7 @@ pub record IsAt {G : Type 0} (table : TableView) (becomes : G → Event → G �
   pub low : height ≤ 9 * MAX_BYTES
   pub few : loaded ≤ 26 * passed
   pub looks : Looks table becomes passed loaded a b
-  pub pinned : IsPinnedSince b.0.known (since b.0.known)
-  pub led : Sure b.0.known (λ s. IsLed s (since b.0.known) key e)
+  pub way : IsOnWay b.0.known key e
 
 module _ {G : Type 0} {table : TableView} {becomes : G → Event → G → Type 0} where
   -- the load of the root
@@ -81,65 +150,43 @@ module _ {G : Type 0} {table : TableView} {becomes : G → Event → G → Type 
 
     -- it named an entry
     pub at_root : IsSome a.0.known.pin → (key : Key) (e : Entry) → height_of e ≤ 9 * MAX_BYTES → Sure b.0.known (λ s. IsRooted s (since b.0.known) e) → IsAt table becomes a b key e
-    at_root is key e low rooted =
-        let pinned = root_pinned is reads in
-        record {
-          height = height_of e;
-          passed = 0;
-          loaded = 0;
-          falls = omega arith;
-          low = low;
-          few = omega arith;
-          looks = looks_first reads;
-          pinned = pinned;
-          led = λ c lawful recalls. rooted_led (seen c b.0.known) (since b.0.known) (seen_steady lawful recalls pinned) key e (rooted c lawful recalls);
-        }
+    at_root is key e low rooted = record {
+      height = height_of e;
+      passed = 0;
+      loaded = 0;
+      falls = omega arith;
+      low = low;
+      few = omega arith;
+      looks = looks_first reads;
+      way = way_first key e (root_pinned is reads, rooted);
+    }
 
   module _ {a b : SeatView × G} {key : Key} {d : Entry} (at : IsAt table becomes a b key d) where
-    abbrev m : ℕ
-    m = since b.0.known
-
     -- the search is at an entry, of which the pass knows that it stood in the tree
     pub at_led : (e : Entry) → d ≡ e → IsLedTo b.0.known (since b.0.known) e
-    at_led e is = subst (IsLedTo b.0.known m) is (at.pinned, sure_map (λ s h. led_seen s m key d h) at.led)
+    at_led e is = subst (IsLedTo b.0.known (since b.0.known)) is (way_led d at.way)
 
     -- It is a node, whose forks are known: there is an entry at the key's place.
-    module _ {c : SeatView × G} (n height : ℕ) (forks : Subtrie) (place : ℕ) (is : d ≡ Node n height) {loads : ℕ} (few : loads ≤ HEAD_WORDS) (reads : Reads table becomes 0 loads b c)
+    module _ {c : SeatView × G} (n height : ℕ) (forks : Subtrie) (place : ℕ) (is : d ≡ Node n height) (reads : Reads table becomes 0 HEAD_WORDS b c)
         (shaped : Sure c.0.known (λ s. IsShaped s (since b.0.known) n forks)) (leads : place ≡ spot key forks) where
+      way : IsOnWay b.0.known key (Node n height)
+      way = subst (IsOnWay b.0.known key) is at.way
+
       pub place_of : HasPlace c.0.known (since b.0.known) n height place
-      place_of = shape_place (led_shape m n height forks reads (at_led (Node n height) is) shaped)
-          (subst (λ z. z < size forks) (sym leads) (spot_below key forks))
+      place_of = way_place n height forks place way reads shaped leads
 
       -- one node down
       pub next_of : {i : SeatView × G} (e : Entry) → Reads table becomes 1 1 c i → (height_of e < height) × Sure i.0.known (λ s. IsPlaced s (since b.0.known) n place e) → IsAt table becomes a i key e
       next_of {i} e one entry = record {
         height = at.height;
         passed = at.passed + 1;
-        loaded = at.loaded + (loads + 1);
+        loaded = at.loaded + (HEAD_WORDS + 1);
         falls = let f : at.passed + height ≤ at.height = subst (λ z. at.passed + height_of z ≤ at.height) is at.falls in let lower = entry.0 in omega arith;
         low = at.low;
-        few = let f = at.few in omega (arith, f, few);
-        looks = looks_on at.looks both;
-        pinned = subst (IsPinnedSince i.0.known) (sym kept) pinned;
-        led = subst (λ o. Sure i.0.known (λ s. IsLed s o key e)) (sym kept)
-            (λ o lawful recalls. led_placed (seen o i.0.known) m (seen_steady lawful recalls pinned) key n height place forks e
-            (shapes o lawful recalls) (sym leads) (entry.1 o lawful recalls) (leads_on o lawful recalls));
+        few = let f = at.few in omega (arith, f);
+        looks = looks_on at.looks (reads_trans reads one);
+        way = way_next n height forks place way reads shaped leads e one entry.1;
       }
-        where
-          both : Reads table becomes 1 (loads + 1) b i
-          both = reads_trans reads one
-
-          kept : since i.0.known ≡ m
-          kept = same_since both
-
-          pinned : IsPinnedSince i.0.known m
-          pinned = since_later (reads_later both) at.pinned
-
-          shapes : Sure i.0.known (λ s. IsShaped s m n forks)
-          shapes = sure_later (shaped_stable m n forks) (reads_later one) shaped
-
-          leads_on : Sure i.0.known (λ s. IsLed s m key (Node n height))
-          leads_on = sure_later (led_stable m key (Node n height)) (reads_later both) (subst (λ z. Sure b.0.known (λ s. IsLed s m key z)) is at.led)
 
     -- it is a leaf, which has been compared
     module _ {c : SeatView × G} (n : ℕ) (is : d ≡ Leaf n) {loads : ℕ} (few : loads ≤ LEAF_FIELDS) (reads : Reads table becomes 0 loads b c) where
@@ -153,11 +200,4 @@ module _ {G : Type 0} {table : TableView} {becomes : G → Event → G → Type 
       }
 
       pub leaf_found : (found : Option ℕ) → ((m : ℕ) → IsLedTo b.0.known m (Leaf n) → Sure c.0.known (λ s. IsCompared s m n key found)) → HasFound c.0.known key found
-      leaf_found (Some v) told = subst (λ o. Sure c.0.known (λ s. IsHeldSince s o key v)) (sym (same_since reads))
-          (λ o lawful recalls. read_held (seen o c.0.known) m n key v (told m (at_led (Leaf n) is) o lawful recalls))
-      leaf_found None told = subst (λ o. Sure c.0.known (λ s. WasAbsentSince s o key)) (sym (same_since reads))
-          (λ o lawful recalls. (let other = told m (at_led (Leaf n) is) o lawful recalls in
-          leaf_missed (seen o c.0.known) m (seen_steady lawful recalls (since_later (reads_later reads) at.pinned)) key n other.0 other.1 (led_there o lawful recalls) other.2 other.3))
-        where
-          led_there : Sure c.0.known (λ s. IsLed s m key (Leaf n))
-          led_there = sure_later (led_stable m key (Leaf n)) (reads_later reads) (subst (λ z. Sure b.0.known (λ s. IsLed s m key z)) is at.led)
+      leaf_found found told = way_found n (subst (IsOnWay b.0.known key) is at.way) reads found told

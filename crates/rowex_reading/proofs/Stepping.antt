@@ -1,5 +1,5 @@
 -- A head's words, loaded in two parts, one after the other; and the step at their node.
-use Rattle.std.proofs.Common.{◌≡◌, ℕ, ◌/◌, ◌%◌, ◌^◌, ◌<◌, ◌++◌, List, length, length-append, get_or, take, drop, refl, ap, sym, ◌∙◌, subst, arith, lit≤}
+use Rattle.std.proofs.Common.{◌≡◌, ℕ, ◌/◌, ◌%◌, ◌<◌, ◌++◌, List, length, length-append, get_or, take, drop, refl, ap, sym, ◌∙◌, subst, arith, lit≤}
 use Rattle.std.proofs.lemmas.List.{drop_at, get_or_append_left, take-take, take_at}
 use Rattle.compound_node.proofs.Roots.{root_of_head}
 use Rattle.compound_node.specs.declared.entries.Entry.TheVariants.{Node}

@@ -4,4 +4,4 @@ pub mod Possible
 pub mod Reads
 pub mod Lookups
 pub mod Ways
-pub mod Turns
+pub mod Together

@@ -17,10 +17,9 @@
 //!
 //! # Four searches
 //!
-//! [`look_up`] keeps nothing of its path: a get. [`search_way`] keeps for each node what a change or a scan may ask of it later.
-//! [`go_down`] takes sixteen keys down together, a node at a time, so that the loads of one wait while those of the others run. Then
-//! [`look_up_along`] follows each of these paths from the root. [`find_affected`] asks one node of a path once more: which entries does
-//! a new leaf affect?
+//! [`look_up`] keeps nothing of its path: a get. [`look_up_all`] takes sixteen keys down side by side, a node at a time, so that the loads
+//! of one wait while those of the others run. [`search_way`] keeps for each node what a change or a scan may ask of it later.
+//! [`find_affected`] asks one node of a path once more: which entries does a new leaf affect?
 //!
 //! # Why a search in old nodes is right
 //!
@@ -35,13 +34,13 @@
 #![tactic(auto)]
 
 mod affected;
-mod along;
 mod descent;
 mod lookup;
 mod reading;
+mod together;
 
 pub use affected::find_affected;
-pub use along::{MOST_TURNS, TOGETHER, Turn, go_down};
 pub use descent::{Found, MOST_NODES, search_way};
-pub use lookup::{look_up, look_up_along};
+pub use lookup::look_up;
 pub use reading::{load_entry, load_leaf, load_path_node, load_root};
+pub use together::look_up_all;

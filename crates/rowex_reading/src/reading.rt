@@ -111,7 +111,7 @@ pub fn load_path_node<G: Gate>(
 /// Asks for the cache lines of the entries of `node`, so that they come while its head is searched. From the last entry on one of as many
 /// words as a line has is touched; the line of those before them has words of the head, too.
 #[inline(always)]
-fn touch_entries(table: &HotTable, node: NodeAt)
+pub(crate) fn touch_entries(table: &HotTable, node: NodeAt)
     requires start { IsStartOf table.now.layout (a_node node.number) node.start }
 {
     let (rec, line) = (Rec::Node(node.number), CACHE_LINE_WORDS as u8);

@@ -5,8 +5,8 @@ ghost use Rattle.std.specs.Prelude.{◌≡◌, IfOk, OnErr, OnOk, length};
 use crate::history::History;
 use key_bits::Key;
 use record_words::Layout;
-use rowex_replay_state::{ReplayFault, State};
 use rowex_core::Event;
+use rowex_replay_state::{ReplayFault, State};
 use std::alloc::{AllocError, Global};
 use std::marker::Model;
 

@@ -8,3 +8,4 @@ pub mod Turning
 pub mod Scanned
 pub mod Parts
 pub mod Begins
+pub mod Runs

@@ -10,13 +10,13 @@ use Rattle.insert_cases.specs.declared.choice.PathNode.{PathNode}
 use Rattle.record_words.specs.declared.layout.Layout.{Layout}
 use Rattle.rowex_core.specs.declared.known.Known.{Known}
 use Rattle.rowex_table.specs.Made.{IsLater}
-use Rattle.tries.specs.Keys.{Key}
 use Rattle.version_laws.specs.Scan.{Range, EntryStoodSince, IsPlaced}
 use Rattle.rowex_reading.specs.Seen.{HasPlace, HasRoom, IsLedTo, Sure}
 use Rattle.rowex_reading.proofs.Seeing.{placed_stable, room_stable, seen_stable, since_later, sure_later}
 use Rattle.rowex_scanning.specs.Ahead.{AreAhead, AreTaken, HasPlaces, HavePassed, IsNodeAhead}
-use Rattle.version_laws.specs.Directions.{first_key, gap_after, gap_before, place_ahead, to_come}
+use Rattle.version_laws.specs.Directions.{first_key, gap_after, gap_before, gap_behind, place_ahead, to_come}
 use Rattle.rowex_scanning.specs.Scanning.{IsBound, IsLeafTaken, IsReached, IsWalk}
+use Rattle.rowex_scanning.specs.Tallies.{Tally}
 use Rattle.version_laws.specs.declared.direction.Direction.{Direction}
 use Rattle.rowex_scanning.specs.declared.scanning.Verdict.{Verdict}
 use Rattle.rowex_scanning.specs.declared.scanning.Verdict.TheVariants.{Further}
@@ -63,10 +63,10 @@ module _ (d : Direction) (m : ℕ) (top : PathNode) where
       (cases_lt o i)
 
 -- Before any leaf.
-pub passed_none : {d : Direction} {k : Known} {m : ℕ} {g : Range} {top : PathNode} {frames : List PathNode} {xs : List (Key × ℕ)} → IsWalk k m (d, g) top frames xs → IsBound d k m (first_key d g) top frames → HavePassed k m (d, g) frames (top, xs) 0 xs
-passed_none {d} {k} {m} {g} {top} {frames} {xs} w b = record {
+pub passed_none : {d : Direction} {k : Known} {m : ℕ} {g : Range} {top : PathNode} {frames : List PathNode} {t : Tally} → IsWalk k m (d, g) top frames t → IsBound d k m (first_key d g) top frames → HavePassed k m (d, g) frames top t.size 0 t
+passed_none {d} {k} {m} {g} {top} {frames} {t} w b = record {
   more = omega arith;
-  walk = subst (λ (z : PathNode). IsWalk k m (d, g) z frames xs) same w;
+  walk = subst (λ (z : PathNode). IsWalk k m (d, g) z frames t) same w;
   bound = subst (λ (z : PathNode). IsBound d k m (first_key d g) z frames) same b;
 }
   where
@@ -74,9 +74,9 @@ passed_none {d} {k} {m} {g} {top} {frames} {xs} w b = record {
     same = ap (at_gap top) (sym (gap_none d top.at))
 
 -- Behind some leaves, at one more.
-module _ {d : Direction} {k : Known} {m : ℕ} {g : Range} {top : PathNode} {frames : List PathNode} {i : ℕ} {xs ys : List (Key × ℕ)} (fits : top.at ≤ top.count) (come : i < to_come d top.count top.at) (p : HavePassed k m (d, g) frames (top, xs) i ys)
+module _ {d : Direction} {k : Known} {m : ℕ} {g : Range} {top : PathNode} {frames : List PathNode} {size i : ℕ} {t : Tally} (fits : top.at ≤ top.count) (come : i < to_come d top.count top.at) (p : HavePassed k m (d, g) frames top size i t)
     {number : ℕ} (placed : Sure k (λ s. IsPlaced s m top.number (place_ahead d top.at i) (Leaf number))) where
-  pub leaf_at : IsAtEntry d k m g (record top { at = place_ahead d top.at i }) frames ys (Leaf number)
+  pub leaf_at : IsAtEntry d k m g (record top { at = place_ahead d top.at i }) frames t (Leaf number)
   leaf_at = record { walk = walk_at_place i fits come p.walk; placed = placed }
 
   bound_at : IsBound d k m (first_key d g) (record (record top { at = place_ahead d top.at i }) { at = gap_before d (place_ahead d top.at i) }) frames
@@ -86,20 +86,24 @@ module _ {d : Direction} {k : Known} {m : ℕ} {g : Range} {top : PathNode} {fra
   pub leaf_reached : (layout : Layout) → IsLedTo k m (Leaf number) × IsReached d layout k m (first_key d g) number
   leaf_reached layout = (entry_led leaf_at, bound_leaf d m (first_key d g) (record top { at = place_ahead d top.at i }) bound_at number leaf_at.walk.stands.pinned placed)
 
-  -- and which was taken
-  pub passed_more : {j : Known} {zs : List (Key × ℕ)} {verdict : Verdict} → IsLater k j → IsLeafTaken k j (d, g) number ys zs verdict → verdict ≡ Further → HavePassed j m (d, g) frames (top, xs) (i + 1) zs
-  passed_more {j} {zs} l t is = record {
-    more = let one = taken_more leaf_at l t is in let before = p.more in omega (arith, one, before);
-    walk = subst (λ z. IsWalk j m (d, g) (at_gap top z) frames zs) (gap_behind_place d top.at i) (walk_further leaf_at l t is);
+  -- the walk behind it
+  pub passed_on : {j : Known} {u : Tally} → IsLater k j → u.size ≡ t.size + 1 → IsWalk j m (d, g) (record top { at = gap_behind d (place_ahead d top.at i) }) frames u → HavePassed j m (d, g) frames top size (i + 1) u
+  passed_on {j} {u} l one w = record {
+    more = let before = p.more in omega (arith, one, before);
+    walk = subst (λ z. IsWalk j m (d, g) (at_gap top z) frames u) (gap_behind_place d top.at i) w;
     bound = subst (λ z. IsBound d j m (first_key d g) (at_gap top z) frames) (gap_behind_place d top.at i)
         (bound_next d m (first_key d g) (record top { at = place_ahead d top.at i }) (bound_later d m (first_key d g) l bound_at));
   }
+
+  -- and which was taken
+  pub passed_more : {j : Known} {u : Tally} {verdict : Verdict} → IsLater k j → IsLeafTaken k j (d, g) number t u verdict → verdict ≡ Further → HavePassed j m (d, g) frames top size (i + 1) u
+  passed_more l a is = passed_on l (taken_more leaf_at l a is) (walk_further leaf_at l a is)
 
 -- All were taken.
 pub taken_all : (Passed : Type 0) (Ended : Bool → Type 0) {verdict : Verdict} → AreTaken Passed Ended verdict → verdict ≡ Further → Passed
 taken_all Passed Ended taken is = subst (λ z. AreTaken Passed Ended z) is taken
 
 -- At the node that comes behind them.
-pub node_at : {d : Direction} {k : Known} {m : ℕ} {g : Range} {top : PathNode} {frames : List PathNode} {count number : ℕ} {xs ys : List (Key × ℕ)} → top.at ≤ top.count → count < to_come d top.count top.at → HavePassed k m (d, g) frames (top, xs) count ys →
-    (ahead : IsNodeAhead d k m top count number) → IsAtEntry d k m g (record top { at = place_ahead d top.at count }) frames ys (Node number ahead.0)
+pub node_at : {d : Direction} {k : Known} {m : ℕ} {g : Range} {top : PathNode} {frames : List PathNode} {size count number : ℕ} {t : Tally} → top.at ≤ top.count → count < to_come d top.count top.at → HavePassed k m (d, g) frames top size count t →
+    (ahead : IsNodeAhead d k m top count number) → IsAtEntry d k m g (record top { at = place_ahead d top.at count }) frames t (Node number ahead.0)
 node_at {count = count} fits come p ahead = record { walk = walk_at_place count fits come p.walk; placed = ahead.2 }

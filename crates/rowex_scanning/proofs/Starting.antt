@@ -43,12 +43,13 @@ use Rattle.rowex_reading.specs.declared.descent.Found.{Found}
 use Rattle.rowex_reading.specs.declared.descent.Found.TheVariants.{Leaf, Nothing}
 use Rattle.version_laws.specs.Directions.{IsNoLater, IsPastKey, IsScanBy, first_key, gap_before, gap_behind}
 use Rattle.rowex_scanning.specs.Scanning.{ArePastKey, AreInside, IsBound, IsReached, IsWalk, frame, frames_of}
+use Rattle.rowex_scanning.specs.Tallies.{IsNone, Tally, tally_of_number}
 use Rattle.rowex_scanning.specs.declared.start.SearchEnd.{SearchEnd}
 use Rattle.rowex_scanning.specs.Starts.{IsSearchEnd, IsBegun, IsFirst, IsParting, IsStart}
 use Rattle.version_laws.specs.declared.direction.Direction.{Direction}
 use Rattle.version_laws.specs.declared.direction.Direction.TheVariants.{Upwards, Downwards}
 use Rattle.rowex_scanning.specs.declared.start.Start.{Start}
-use Rattle.rowex_scanning.proofs.Walking.{beyond_append, walk_before, IsAtEntry}
+use Rattle.rowex_scanning.proofs.Walking.{beyond_append, walk_before, IsAtEntry, tallied_none, walk_tallied}
 
 -- ---- the affected places, by the key
 key_first : (d : ℕ) (v : Key) (x : Subtrie) → affected_first d (spot v x) x ≡ affected_from d v x
@@ -197,19 +198,17 @@ module _ (layout : Layout) (k : Known) (m : ℕ) (key : Key) (way : List PathNod
 
   -- ---- the walk from a node on
   begins : (i : ℕ) (h : i < length way) (g : Range) → g.from ≡ key → (place : ℕ) → place ≤ size (stage i h).shape → Sure k (λ s. IsScanBy Upwards s m g (record (stage i h) { place = place } ∷ stages i (down h)) []) →
-      (top : PathNode) → top ≡ record (step i h).0 { at = place } → IsWalk k m (Upwards, g) top (take i way) []
+      (top : PathNode) → top ≡ record (step i h).0 { at = place } → IsWalk k m (Upwards, g) top (take i way) (tally_of_number 0)
   begins i h g from place fits scan top is = record {
     lowest = record (stage i h) { place = place };
     others = stages i (down h);
-    taken = [];
     top_is = is ∙ ap (λ (z : PathNode). let x : PathNode = record z { at = place } in x) (sym (frame_is i h));
     frames_are = frames_are i (down h);
-    pairs_are = refl;
     room = (node i h).2.room;
     fits = fits;
     inside = are_inside i (down h);
     pinned = w.since;
-    scan = scan;
+    scan = λ c lawful known. ([], (refl, tt), scan c lawful known);
   }
 
   -- ---- at a leaf: the key may stand at the place of the lowest node
@@ -532,21 +531,21 @@ first_reached {d} layout {k} m key number f pinned j l possible other value read
     let old = sure_later {P = λ s. IsRead s m number f.found f.value} (read_stable m number f.found f.value) l f.read in
     subst (IsNoLater d key) (read_same (seen c j) m steady number f.found other f.value value (old c possible.lawful known) (read c possible.lawful known)) f.reached
 
--- ---- where a scan begins, with no pairs yet
-pub record HasBegun (d : Direction) (layout : Layout) (k : Known) (m : ℕ) (g : Range) (number : ℕ) (start : Start) (frames : List PathNode) (pairs : List (Key × ℕ)) : Type 0 where
+-- ---- where a scan begins, with no pairs so far
+pub record HasBegun (d : Direction) (layout : Layout) (k : Known) (m : ℕ) (g : Range) (number : ℕ) (start : Start) (frames : List PathNode) (t : Tally) : Type 0 where
   -- the leaf of the search may come first,
-  pub entry : start.leaf ≡ true → IsAtEntry d k m g start.top frames pairs (LeafEntry number)
+  pub entry : start.leaf ≡ true → IsAtEntry d k m g start.top frames t (LeafEntry number)
   pub reached : start.leaf ≡ true → IsReached d layout k m (first_key d g) number
   pub behind : start.leaf ≡ true → IsBound d k m (first_key d g) (record start.top { at = gap_behind d start.top.at }) frames
   -- or the walk is at a gap
-  pub walk : start.leaf ≡ false → IsWalk k m (d, g) start.top frames pairs
+  pub walk : start.leaf ≡ false → IsWalk k m (d, g) start.top frames t
   pub bound : start.leaf ≡ false → IsBound d k m (first_key d g) start.top frames
 
 -- From a start on the search's way, of which the nodes above the start are left.
-pub begun : {d : Direction} {layout : Layout} {j k : Known} {m : ℕ} {way steps frames : List PathNode} {start : Start} {pairs : List (Key × ℕ)} (found : SearchEnd) (g : Range) →
-    IsSearchEnd layout j m (first_key d g) way found → steps ≡ way → ((n : ℕ) → IsSearchEnd layout j n (first_key d g) steps found → IsStart d k n (first_key d g) steps found.number start) → frames ≡ take start.level way → pairs ≡ [] →
-    HasBegun d layout k m g found.number start frames pairs
-begun {d} {layout} {j} {k} {m} {way} {steps} {frames} {start} {pairs} found g w same starts left none = record {
+pub begun : {d : Direction} {layout : Layout} {j k : Known} {m : ℕ} {way steps frames : List PathNode} {start : Start} {t : Tally} (found : SearchEnd) (g : Range) →
+    IsSearchEnd layout j m (first_key d g) way found → steps ≡ way → ((n : ℕ) → IsSearchEnd layout j n (first_key d g) steps found → IsStart d k n (first_key d g) steps found.number start) → frames ≡ take start.level way → IsNone t →
+    HasBegun d layout k m g found.number start frames t
+begun {d} {layout} {j} {k} {m} {way} {steps} {frames} {start} {t} found g w same starts left none = record {
   entry = λ is. record { walk = walk_before start.top (there (record start.top { at = gap_before d start.top.at }) ((first is).1 g refl)) (first is).0.inside refl; placed = (first is).0.placed };
   reached = λ is. first_reached layout m (first_key d g) found.number (first is).0 ((first is).1 g refl).pinned;
   behind = λ is. (first is).0.bound;
@@ -560,8 +559,8 @@ begun {d} {layout} {j} {k} {m} {way} {steps} {frames} {start} {pairs} found g w 
     above_are : take start.level steps ≡ frames
     above_are = ap (take start.level) same ∙ sym left
 
-    there : (top : PathNode) → IsWalk k m (d, g) top frames [] → IsWalk k m (d, g) top frames pairs
-    there top = subst (λ z. IsWalk k m (d, g) top frames z) (sym none)
+    there : (top : PathNode) → IsWalk k m (d, g) top frames (tally_of_number 0) → IsWalk k m (d, g) top frames t
+    there top = walk_tallied (tallied_none t none)
 
     begins : {b : Bool} → start.leaf ≡ b → IsBegun d k m (first_key d g) found.number frames (record { level = 0; top = start.top; leaf = b })
     begins {b} is = subst (λ z. IsBegun d k m (first_key d g) found.number z (record { level = 0; top = start.top; leaf = b })) above_are

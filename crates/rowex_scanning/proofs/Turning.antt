@@ -22,6 +22,7 @@ use Rattle.rowex_scanning.proofs.Starting.{read_same}
 use Rattle.rowex_scanning.proofs.Walking.{beyond_parts, walk_before, walk_fits, IsBeforeEntry}
 use Rattle.rowex_scanning.specs.Scanning.{ArePastKey, IsBound, IsWalk, frame, frames_of}
 use Rattle.rowex_scanning.specs.Starts.{IsBegun, IsFirst, IsParting, IsStart, IsWalkFrom}
+use Rattle.rowex_scanning.specs.Tallies.{tally_of_number}
 use Rattle.version_laws.specs.declared.direction.Direction.TheVariants.{Upwards, Downwards}
 use Rattle.rowex_scanning.specs.declared.start.Start.{Start}
 use Rattle.rowex_table.specs.Made.{IsLater}
@@ -45,23 +46,24 @@ walk_at : {k : Known} {m : ℕ} {key : Key} {top : PathNode} {frames : List Path
 walk_at {k} {m} {key} {top} {frames} walks place fits bound g is = record {
   lowest = record w.lowest { place = place };
   others = w.others;
-  taken = [];
   top_is = ap (λ (z : PathNode). let x : PathNode = record z { at = place } in x) w.top_is;
   frames_are = w.frames_are;
-  pairs_are = refl;
   room = w.room;
   fits = subst (λ (z : PathNode). place ≤ z.count) w.top_is fits;
   inside = w.inside;
   pinned = w.pinned;
   scan = λ c lawful known.
-      let stack = stack_place (seen c k) m w.lowest place w.others (w.scan c lawful known).stack in
-      scan_started Downwards (seen c k) m (seen_steady lawful known w.pinned) g (record w.lowest { place = place }) w.others stack
-      (subst (λ z. IsWayEarlier Downwards (seen c k) m z w.others) (sym is) (above_earlier m key w.others w.pinned (subst (ArePastKey Upwards k m key) w.frames_are bound.above) c lawful known))
-      (subst (λ z. IsPastKey Upwards (seen c k) m z w.lowest.number place) (sym is) (subst (λ (z : PathNode). IsPastKey Upwards (seen c k) m key z.number place) w.top_is (bound.there c lawful known))
-      (seen c k) (same_past (seen c k)) (seen_steady lawful known w.pinned));
+      let stack = stack_place (seen c k) m w.lowest place w.others (w.scan c lawful known).2.stack in (
+        [],
+        (refl, tt),
+        scan_started Downwards (seen c k) m (seen_steady lawful known w.pinned) g (record w.lowest { place = place }) w.others stack
+            (subst (λ z. IsWayEarlier Downwards (seen c k) m z w.others) (sym is) (above_earlier m key w.others w.pinned (subst (ArePastKey Upwards k m key) w.frames_are bound.above) c lawful known))
+            (subst (λ z. IsPastKey Upwards (seen c k) m z w.lowest.number place) (sym is) (subst (λ (z : PathNode). IsPastKey Upwards (seen c k) m key z.number place) w.top_is (bound.there c lawful known))
+            (seen c k) (same_past (seen c k)) (seen_steady lawful known w.pinned)),
+      );
 }
   where
-    w : IsWalk k m (Upwards, (record { from = key; upto = key; limit = 0 })) top frames []
+    w : IsWalk k m (Upwards, (record { from = key; upto = key; limit = 0 })) top frames (tally_of_number 0)
     w = walks (record { from = key; upto = key; limit = 0 }) refl
 
 -- From the way of the search and the start of a scan upwards.
@@ -130,22 +132,24 @@ module _ (layout : Layout) (k j : Known) (m : ℕ) (key : Key) (way : List PathN
           one : w.found_at.0 ≡ f.found
           one = read_same (seen c j) m (seen_steady lawful known pinned) number w.found_at.0 f.found value f.value (found_read c lawful known) (f.read c lawful known)
 
-      skipped : (g : Range) → g.upto ≡ key → IsBeforeEntry Downwards j m g start.top (take start.level way) [] → IsWalk j m (Downwards, g) start.top (take start.level way) []
+      skipped : (g : Range) → g.upto ≡ key → IsBeforeEntry Downwards j m g start.top (take start.level way) (tally_of_number 0) → IsWalk j m (Downwards, g) start.top (take start.level way) (tally_of_number 0)
       skipped g upto n = record {
         lowest = n.stands.stage;
         others = n.stands.others;
-        taken = n.stands.taken;
         top_is = n.stands.at_is;
         frames_are = n.stands.frames_are;
-        pairs_are = n.stands.pairs_are;
         room = n.stands.room;
         fits = let low = n.stands.low in omega (arith, low);
         inside = n.stands.inside;
         pinned = n.stands.pinned;
         scan = λ c lawful known.
-            scan_skipped (seen c j) m g (seen_steady lawful known pinned) n.stands.stage n.stands.others n.stands.taken number f.found f.value
-            (subst (λ (z : PathNode). IsPlaced (seen c j) m z.number z.at (Leaf number)) n.stands.at_is (f.placed c lawful known)) (f.read c lawful known) Downwards (n.scan c lawful known)
-            (subst (λ z. IsBefore z f.found) (sym upto) (high c lawful known));
+            let (taken, tallied, s) = n.scan c lawful known in (
+              taken,
+              tallied,
+              scan_skipped (seen c j) m g (seen_steady lawful known pinned) n.stands.stage n.stands.others taken number f.found f.value
+                  (subst (λ (z : PathNode). IsPlaced (seen c j) m z.number z.at (Leaf number)) n.stands.at_is (f.placed c lawful known)) (f.read c lawful known) Downwards s
+                  (subst (λ z. IsBefore z f.found) (sym upto) (high c lawful known)),
+            );
       }
 
   -- The leaf stands just left of where the scan upwards starts: it comes first.

@@ -30,7 +30,7 @@ use Rattle.record_words.specs.declared.TheConstants.{HEAD_WORDS, LEAF_FIELDS}
 use Rattle.record_words.specs.declared.layout.Layout.{Layout}
 use Rattle.insert_cases.specs.declared.choice.PathNode.{PathNode}
 use Rattle.version_laws.proofs.Starts.{beyond_at_place, beyond_behind, beyond_in_child, beyond_grown}
-use Rattle.version_laws.specs.Scan.{Pair, Range, IsRooted, IsPlaced, IsRead, IsBlank, IsShaped, IsStack, in_order_taken, Frame as Stage}
+use Rattle.version_laws.specs.Scan.{Pair, Range, IsInRange, IsRooted, IsPlaced, IsRead, IsBlank, IsShaped, IsStack, in_order_taken, Frame as Stage}
 use Rattle.version_laws.proofs.Scans.{leaf_may_stand, shaped_several}
 use Rattle.version_laws.proofs.Walk.{before, behind, scan_ended, scan_filled, scan_passed, scan_popped, scan_pushed, scan_taken, stack_shape}
 use Rattle.version_laws.proofs.Ends.{answer_blank, answer_nought, answer_one, answer_outside, none_between, stack_depth, stack_high, stack_low, stack_seen}
@@ -48,8 +48,9 @@ use Rattle.rowex_reading.proofs.Seeing.{placed_stable, recalls_before, seen_grow
 use Rattle.rowex_scanning.specs.Counts.{AreWalkLoads, Scans, Walks, scan_loads}
 use Rattle.rowex_scanning.specs.Ahead.{HasPlaces, entries_ahead}
 use Rattle.rowex_scanning.specs.declared.ahead.Ahead.{Ahead}
-use Rattle.version_laws.specs.Directions.{IsAnswer, IsPastKey, IsEarlier, IsNoLater, IsScanBy, first_gap, first_key, gap_after, gap_before, gap_behind, place_ahead, to_come}
-use Rattle.rowex_scanning.specs.Scanning.{ArePastKey, AreInside, HasScanned, IsBound, IsEntered, IsLeafTaken, IsPairTaken, IsReached, IsWalk, frame, frames_of}
+use Rattle.version_laws.specs.Directions.{IsAnswer, IsPastKey, IsEarlier, IsNoLater, IsScanBy, first_gap, first_key, gap_after, gap_before, gap_behind, last_key, place_ahead, to_come}
+use Rattle.rowex_scanning.specs.Scanning.{ArePastKey, AreInside, HasTaken, IsBound, IsEntered, IsLeafTaken, IsPairTaken, IsReached, IsWalk, frame, frames_of}
+use Rattle.rowex_scanning.specs.Tallies.{AreTallied, IsKept, IsNone, IsOneMore, IsTalliedScan, Tally, tally_of_number}
 use Rattle.version_laws.specs.declared.direction.Direction.{Direction}
 use Rattle.version_laws.specs.declared.direction.Direction.TheVariants.{Upwards, Downwards}
 use Rattle.rowex_scanning.specs.declared.scanning.Verdict.{Verdict}
@@ -199,9 +200,9 @@ pop_less d top frames lower rest e = let after = ap (rest_of_frames d) e ∙ res
 -- The walk
 
 -- what the pass knows of its topmost node
-module _ {d : Direction} {k : Known} {m : ℕ} {g : Range} {top : PathNode} {frames : List PathNode} {pairs : List (Key × ℕ)} (w : IsWalk k m (d, g) top frames pairs) where
+module _ {d : Direction} {k : Known} {m : ℕ} {g : Range} {top : PathNode} {frames : List PathNode} {t : Tally} (w : IsWalk k m (d, g) top frames t) where
   walk_stack : Sure k (λ s. IsStack s m (w.lowest ∷ w.others))
-  walk_stack c lawful recalls = (w.scan c lawful recalls).stack
+  walk_stack c lawful recalls = (w.scan c lawful recalls).2.stack
 
   walk_shape : HasShape k m top.number top.height w.lowest.shape
   walk_shape = subst (λ (z : PathNode). HasShape k m z.number z.height w.lowest.shape) (sym w.top_is) (
@@ -218,72 +219,95 @@ module _ {d : Direction} {k : Known} {m : ℕ} {g : Range} {top : PathNode} {fra
       shape_place walk_shape (subst (λ z. place_ahead d top.at i < z) (ap (λ (z : PathNode). z.count) w.top_is) (place_inside d top.count top.at i walk_fits low))
 
 -- after more loads
-pub walk_later : {d : Direction} {k j : Known} {m : ℕ} {g : Range} {top : PathNode} {frames : List PathNode} {pairs : List (Key × ℕ)} → IsLater k j → IsWalk k m (d, g) top frames pairs → IsWalk j m (d, g) top frames pairs
+pub walk_later : {d : Direction} {k j : Known} {m : ℕ} {g : Range} {top : PathNode} {frames : List PathNode} {t : Tally} → IsLater k j → IsWalk k m (d, g) top frames t → IsWalk j m (d, g) top frames t
 walk_later {d} {k} {j} {m} {g} l w = record {
   lowest = w.lowest;
   others = w.others;
-  taken = w.taken;
   top_is = w.top_is;
   frames_are = w.frames_are;
-  pairs_are = w.pairs_are;
   room = w.room;
   fits = w.fits;
   inside = w.inside;
   pinned = since_later l w.pinned;
-  scan = λ c lawful recalls. scan_grown (seen c k) m g d (seen c j) (w.lowest ∷ w.others) w.taken (seen_grown c l) (w.scan c lawful (recalls_before l recalls));
+  scan = λ c lawful recalls.
+      let (taken, tallied, s) = w.scan c lawful (recalls_before l recalls) in (taken, tallied, scan_grown (seen c k) m g d (seen c j) (w.lowest ∷ w.others) taken (seen_grown c l) s);
 }
 
 -- from the last load of the root on
-pub walk_since : {d : Direction} {k : Known} {m : ℕ} {g : Range} {top : PathNode} {frames : List PathNode} {pairs : List (Key × ℕ)} → since k ≡ m → IsWalk k m (d, g) top frames pairs → IsWalk k (since k) (d, g) top frames pairs
-walk_since {d = d} {k = k} {g = g} {top = top} {frames = frames} {pairs = pairs} e = subst (λ z. IsWalk k z (d, g) top frames pairs) (sym e)
+pub walk_since : {d : Direction} {k : Known} {m : ℕ} {g : Range} {top : PathNode} {frames : List PathNode} {t : Tally} → since k ≡ m → IsWalk k m (d, g) top frames t → IsWalk k (since k) (d, g) top frames t
+walk_since {d = d} {k = k} {g = g} {top = top} {frames = frames} {t = t} e = subst (λ z. IsWalk k z (d, g) top frames t) (sym e)
 
--- A walk stands at this place in a node of this way, with these pairs so far.
-pub record IsStanding (k : Known) (m : ℕ) (at : PathNode) (frames : List PathNode) (pairs : List (Key × ℕ)) : Type 0 where
+-- where as much was taken, and as much is said of it
+pub walk_tallied : {d : Direction} {k : Known} {m : ℕ} {g : Range} {top : PathNode} {frames : List PathNode} {t u : Tally} → ((taken : List Pair) → AreTallied t taken → AreTallied u taken) → IsWalk k m (d, g) top frames t → IsWalk k m (d, g) top frames u
+walk_tallied of w = record {
+  lowest = w.lowest;
+  others = w.others;
+  top_is = w.top_is;
+  frames_are = w.frames_are;
+  room = w.room;
+  fits = w.fits;
+  inside = w.inside;
+  pinned = w.pinned;
+  scan = λ c lawful recalls. let (taken, tallied, s) = w.scan c lawful recalls in (taken, of taken tallied, s);
+}
+
+pub tallied_kept : (t u : Tally) → IsKept t u → (taken : List Pair) → AreTallied t taken → AreTallied u taken
+tallied_kept t u kept taken tallied = (kept.0 ∙ tallied.0, kept.1 taken tallied.1)
+
+pub tallied_more : (t u : Tally) (key : Key) (value : ℕ) → IsOneMore t key value u → (taken : List Pair) → AreTallied t taken → AreTallied u (record { key = key; value = value } ∷ taken)
+tallied_more t u key value more taken tallied = (let e = more.0 in let n = tallied.0 in omega (arith, e, n), more.1 taken tallied.1)
+
+-- of none there are no pairs
+pub tallied_none : (t : Tally) → IsNone t → (taken : List Pair) → AreTallied (tally_of_number 0) taken → AreTallied t taken
+tallied_none t none taken tallied = subst (AreTallied t) (sym (no_pairs taken (sym tallied.0))) none
+  where
+    no_pairs : (xs : List Pair) → length xs ≡ 0 → xs ≡ []
+    no_pairs [] e = refl
+    no_pairs (x ∷ xs) e = absurd (omega arith)
+
+-- A walk stands at this place in a node of this way.
+pub record IsStanding (k : Known) (m : ℕ) (at : PathNode) (frames : List PathNode) : Type 0 where
   pub stage : Stage
   pub others : List Stage
-  pub taken : List Pair
   pub at_is : at ≡ frame stage
   pub frames_are : frames ≡ frames_of others
-  pub pairs_are : pairs ≡ in_order_taken taken
   pub room : size stage.shape ≤ 32
   pub low : stage.place < size stage.shape
   pub inside : AreInside others
   pub pinned : IsPinnedSince k m
 
--- It is before the entry there.
-pub record IsBeforeEntry (d : Direction) (k : Known) (m : ℕ) (g : Range) (at : PathNode) (frames : List PathNode) (pairs : List (Key × ℕ)) : Type 0 where
-  pub stands : IsStanding k m at frames pairs
-  pub scan : Sure k (λ s. IsScanBy d s m g (before d stands.stage ∷ stands.others) stands.taken)
+-- It is before the entry there, with such pairs so far.
+pub record IsBeforeEntry (d : Direction) (k : Known) (m : ℕ) (g : Range) (at : PathNode) (frames : List PathNode) (t : Tally) : Type 0 where
+  pub stands : IsStanding k m at frames
+  pub scan : Sure k (λ s. IsTalliedScan d s m g (before d stands.stage ∷ stands.others) t)
 
-pub walk_before : {d : Direction} {k : Known} {m : ℕ} {g : Range} {frames : List PathNode} {pairs : List (Key × ℕ)} (at : PathNode) {top : PathNode} → IsWalk k m (d, g) top frames pairs → at.at < at.count → top ≡ record at { at = gap_before d at.at } →
-    IsBeforeEntry d k m g at frames pairs
-walk_before {d} {k} {m} {g} at w inside is = record {
+pub walk_before : {d : Direction} {k : Known} {m : ℕ} {g : Range} {frames : List PathNode} {t : Tally} (at : PathNode) {top : PathNode} → IsWalk k m (d, g) top frames t → at.at < at.count → top ≡ record at { at = gap_before d at.at } →
+    IsBeforeEntry d k m g at frames t
+walk_before {d} {k} {m} {g} {t = t} at w inside is = record {
   stands = record {
     stage = record w.lowest { place = at.at };
     others = w.others;
-    taken = w.taken;
     at_is = ap (λ (z : PathNode). let x : PathNode = record z { at = at.at } in x) (sym is ∙ w.top_is);
     frames_are = w.frames_are;
-    pairs_are = w.pairs_are;
     room = w.room;
     low = subst (λ z. at.at < z) (ap (λ (z : PathNode). z.count) (sym is ∙ w.top_is)) inside;
     inside = w.inside;
     pinned = w.pinned;
   };
-  scan = λ c lawful known. subst (λ n. IsScanBy d (seen c k) m g (record w.lowest { place = n } ∷ w.others) w.taken) place_is (w.scan c lawful known);
+  scan = λ c lawful known. subst (λ n. IsTalliedScan d (seen c k) m g (record w.lowest { place = n } ∷ w.others) t) place_is (w.scan c lawful known);
 }
   where
     place_is : w.lowest.place ≡ gap_before d at.at
     place_is = ap (λ (z : PathNode). z.at) (sym w.top_is ∙ is)
 
 -- Before the entry that comes behind so many others.
-pub walk_at_place : {d : Direction} {k : Known} {m : ℕ} {g : Range} {top : PathNode} {frames : List PathNode} {pairs : List (Key × ℕ)} (i : ℕ) → top.at ≤ top.count → i < to_come d top.count top.at →
-    IsWalk k m (d, g) (record top { at = gap_after d top.at i }) frames pairs → IsBeforeEntry d k m g (record top { at = place_ahead d top.at i }) frames pairs
+pub walk_at_place : {d : Direction} {k : Known} {m : ℕ} {g : Range} {top : PathNode} {frames : List PathNode} {t : Tally} (i : ℕ) → top.at ≤ top.count → i < to_come d top.count top.at →
+    IsWalk k m (d, g) (record top { at = gap_after d top.at i }) frames t → IsBeforeEntry d k m g (record top { at = place_ahead d top.at i }) frames t
 walk_at_place {d} {top = top} i fits come w =
     walk_before (record top { at = place_ahead d top.at i }) w (place_inside d top.count top.at i fits come) (ap (λ z. let x : PathNode = record top { at = z } in x) (gap_before_place d top.count top.at i come))
 
 -- what the pass knows of the node
-module _ {d : Direction} {k : Known} {m : ℕ} {g : Range} {at : PathNode} {frames : List PathNode} {pairs : List (Key × ℕ)} (w : IsBeforeEntry d k m g at frames pairs) where
+module _ {d : Direction} {k : Known} {m : ℕ} {g : Range} {at : PathNode} {frames : List PathNode} {t : Tally} (w : IsBeforeEntry d k m g at frames t) where
   pub entry_inside : at.at < at.count
   entry_inside = subst (λ (z : PathNode). z.at < z.count) (sym w.stands.at_is) w.stands.low
 
@@ -291,16 +315,17 @@ module _ {d : Direction} {k : Known} {m : ℕ} {g : Range} {at : PathNode} {fram
   entry_low = subst (λ (z : PathNode). z.at < 32) (sym w.stands.at_is) (let low = w.stands.low in let room = w.stands.room in omega (arith, low, room))
 
 -- Where a walk is, and the entry that the pass knows at its place.
-pub record IsAtEntry (d : Direction) (k : Known) (m : ℕ) (g : Range) (at : PathNode) (frames : List PathNode) (pairs : List (Key × ℕ)) (e : Entry) : Type 0 where
-  pub walk : IsBeforeEntry d k m g at frames pairs
+pub record IsAtEntry (d : Direction) (k : Known) (m : ℕ) (g : Range) (at : PathNode) (frames : List PathNode) (t : Tally) (e : Entry) : Type 0 where
+  pub walk : IsBeforeEntry d k m g at frames t
   pub placed : Sure k (λ s. IsPlaced s m at.number at.at e)
 
 -- the scan's invariant after more loads
-entry_scan : {d : Direction} {k j : Known} {m : ℕ} {g : Range} {at : PathNode} {frames : List PathNode} {pairs : List (Key × ℕ)} → (w : IsBeforeEntry d k m g at frames pairs) → IsLater k j →
-    Sure j (λ s. IsScanBy d s m g (before d w.stands.stage ∷ w.stands.others) w.stands.taken)
-entry_scan {d} {k} {j} {m} {g} w l c lawful recalls = scan_grown (seen c k) m g d (seen c j) (before d w.stands.stage ∷ w.stands.others) w.stands.taken (seen_grown c l) (w.scan c lawful (recalls_before l recalls))
+entry_scan : {d : Direction} {k j : Known} {m : ℕ} {g : Range} {at : PathNode} {frames : List PathNode} {t : Tally} → (w : IsBeforeEntry d k m g at frames t) → IsLater k j →
+    Sure j (λ s. IsTalliedScan d s m g (before d w.stands.stage ∷ w.stands.others) t)
+entry_scan {d} {k} {j} {m} {g} w l c lawful recalls =
+    let (taken, tallied, s) = w.scan c lawful (recalls_before l recalls) in (taken, tallied, scan_grown (seen c k) m g d (seen c j) (before d w.stands.stage ∷ w.stands.others) taken (seen_grown c l) s)
 
-module _ {d : Direction} {k : Known} {m : ℕ} {g : Range} {at : PathNode} {frames : List PathNode} {pairs : List (Key × ℕ)} {e : Entry} (a : IsAtEntry d k m g at frames pairs e) where
+module _ {d : Direction} {k : Known} {m : ℕ} {g : Range} {at : PathNode} {frames : List PathNode} {t : Tally} {e : Entry} (a : IsAtEntry d k m g at frames t e) where
   pub entry_led : IsLedTo k m e
   entry_led = placed_led at.number at.at e a.walk.stands.pinned a.placed
 
@@ -313,23 +338,24 @@ module _ {d : Direction} {k : Known} {m : ℕ} {g : Range} {at : PathNode} {fram
     there = sure_later (placed_stable m a.walk.stands.stage.number a.walk.stands.stage.place e) l (subst (λ (z : PathNode). Sure k (λ s. IsPlaced s m z.number z.at e)) a.walk.stands.at_is a.placed)
 
 -- At a node, which was entered.
-module _ {d : Direction} {k j : Known} {m : ℕ} {g : Range} {at : PathNode} {frames : List PathNode} {pairs : List (Key × ℕ)} {number height : ℕ} (a : IsAtEntry d k m g at frames pairs (Node number height)) (l : IsLater k j) {into : PathNode}
+module _ {d : Direction} {k j : Known} {m : ℕ} {g : Range} {at : PathNode} {frames : List PathNode} {t : Tally} {number height : ℕ} (a : IsAtEntry d k m g at frames t (Node number height)) (l : IsLater k j) {into : PathNode}
     (e : IsEntered d j m number height into) {more : List PathNode} (q : more ≡ frames ++ at ∷ []) where
-  pub walk_push : IsWalk j m (d, g) into more pairs
+  pub walk_push : IsWalk j m (d, g) into more t
   walk_push = record {
     lowest = record { number = number; height = height; shape = e.forks; place = first_gap d (size e.forks) };
     others = a.walk.stands.stage ∷ a.walk.stands.others;
-    taken = a.walk.stands.taken;
     top_is = e.top_is;
     frames_are = q ∙ (ap (λ z. z ++ at ∷ []) a.walk.stands.frames_are ∙ ap (λ z. frames_of a.walk.stands.others ++ z ∷ []) a.walk.stands.at_is);
-    pairs_are = a.walk.stands.pairs_are;
     room = e.room;
     fits = first_fits d (size e.forks);
     inside = (a.walk.stands.low, a.walk.stands.room, a.walk.stands.inside);
     pinned = since_later l a.walk.stands.pinned;
     scan = λ c lawful recalls.
-        scan_pushed (seen c j) m g (steady a l c lawful recalls) d a.walk.stands.stage a.walk.stands.others a.walk.stands.taken (entry_scan a.walk l c lawful recalls) number height e.forks
-        (there a l c lawful recalls) (e.shaped c lawful recalls);
+        let (taken, tallied, s) = entry_scan a.walk l c lawful recalls in (
+          taken,
+          tallied,
+          scan_pushed (seen c j) m g (steady a l c lawful recalls) d a.walk.stands.stage a.walk.stands.others taken s number height e.forks (there a l c lawful recalls) (e.shaped c lawful recalls),
+        );
   }
 
   pub walk_push_less : height < at.height → rest_of d into more < rest_of d (record at { at = gap_before d at.at }) frames
@@ -337,60 +363,77 @@ module _ {d : Direction} {k j : Known} {m : ℕ} {g : Range} {at : PathNode} {fr
       push_less d at frames into more (entry_inside a.walk) (subst (λ z. z < at.height) (sym (ap (λ (z : PathNode). z.height) e.top_is)) falls) (subst (λ z. z ≤ 32) (sym (ap (λ (z : PathNode). z.count) e.top_is)) e.room)
       (ap (λ (z : PathNode). z.at) e.top_is ∙ ap (first_gap d) (sym (ap (λ (z : PathNode). z.count) e.top_is))) q
 
--- At a leaf, which was read.
-module _ {d : Direction} {k j : Known} {m : ℕ} {g : Range} {at : PathNode} {frames : List PathNode} {pairs : List (Key × ℕ)} {number : ℕ} (a : IsAtEntry d k m g at frames pairs (Leaf number)) (l : IsLater k j) {more : List (Key × ℕ)}
-    {verdict : Verdict} (t : IsLeafTaken k j (d, g) number pairs more verdict) where
-  read : Sure j (λ s. IsRead s m number t.key t.value)
-  read = t.read m (entry_led a)
-
-  taken : {v : Verdict} → verdict ≡ v → IsPairTaken (d, g) pairs t.key t.value more v
-  taken e = subst (λ z. IsPairTaken (d, g) pairs t.key t.value more z) e t.taken
-
-  taken_length : length pairs ≡ length a.walk.stands.taken
-  taken_length = ap length a.walk.stands.pairs_are ∙ length_in_order_taken a.walk.stands.taken
-
-  pub walk_further : verdict ≡ Further → IsWalk j m (d, g) (record at { at = gap_behind d at.at }) frames more
-  walk_further is = let (within, room, e) = taken is in record {
+-- At a leaf, of which the pass is sure that it had a key and a value.
+module _ {d : Direction} {k j : Known} {m : ℕ} {g : Range} {at : PathNode} {frames : List PathNode} {t : Tally} {number : ℕ} (a : IsAtEntry d k m g at frames t (Leaf number)) (l : IsLater k j) (u : Tally) where
+  -- They belonged to the range, and there was room: one pair more.
+  pub walk_on : Sure j (λ s. (key : Key) × (value : ℕ) × IsRead s m number key value × IsInRange g key × IsOneMore t key value u) → t.size ≢ g.limit → IsWalk j m (d, g) (record at { at = gap_behind d at.at }) frames u
+  walk_on had room = record {
     lowest = behind d a.walk.stands.stage;
     others = a.walk.stands.others;
-    taken = record { key = t.key; value = t.value } ∷ a.walk.stands.taken;
     top_is = ap (λ (z : PathNode). let x : PathNode = record z { at = gap_behind d z.at } in x) a.walk.stands.at_is;
     frames_are = a.walk.stands.frames_are;
-    pairs_are = e ∙ ap (λ z. z ++ (t.key, t.value) ∷ []) a.walk.stands.pairs_are;
     room = a.walk.stands.room;
     fits = behind_fits d a.walk.stands.stage.place (size a.walk.stands.stage.shape) a.walk.stands.low;
     inside = a.walk.stands.inside;
     pinned = since_later l a.walk.stands.pinned;
     scan = λ c lawful recalls.
-        let s = entry_scan a.walk l c lawful recalls in
-        let short = s.short in
-        scan_taken (seen c j) m g (steady a l c lawful recalls) a.walk.stands.stage a.walk.stands.others a.walk.stands.taken number t.key t.value (there a l c lawful recalls) (read c lawful recalls) d s within
-        (let n = taken_length in omega (arith, short, n, room));
+        let (taken, tallied, s) = entry_scan a.walk l c lawful recalls in
+        let (key, value, read, within, more) = had c lawful recalls in
+        let short = s.short in let n = tallied.0 in (
+          record { key = key; value = value } ∷ taken,
+          tallied_more t u key value more taken tallied,
+          scan_taken (seen c j) m g (steady a l c lawful recalls) a.walk.stands.stage a.walk.stands.others taken number key value (there a l c lawful recalls) read d s within (omega (arith, short, n, room)),
+        );
   }
 
-  pub taken_more : verdict ≡ Further → length more ≡ length pairs + 1
-  taken_more is = ap length (taken is).2 ∙ length-append pairs ((t.key, t.value) ∷ [])
+  module _ (e : since j ≡ m) (kept : IsKept t u) where
+    ends : (b : Bool) → Sure j (λ s. (taken : List Pair) × AreTallied t taken × IsAnswer d s m g taken b) → HasTaken d j g u b
+    ends b answer c lawful recalls =
+        let (taken, tallied, is) = answer c lawful recalls in (taken, tallied_kept t u kept taken tallied, subst (λ z. IsAnswer d (seen c j) z g taken b) (sym e) is)
 
-  module _ (e : since j ≡ m) where
-    ends : (b : Bool) → more ≡ pairs → Sure j (λ s. IsAnswer d s m g a.walk.stands.taken b) → HasScanned d j g more b
-    ends b stay answer = record {
-      taken = a.walk.stands.taken;
-      pairs_are = stay ∙ a.walk.stands.pairs_are;
-      answer = subst (λ z. Sure j (λ s. IsAnswer d s z g a.walk.stands.taken b)) (sym e) answer;
-    }
+    -- The key was past the range.
+    pub walk_done : Sure j (λ s. (key : Key) × (value : ℕ) × IsRead s m number key value × IsEarlier d (last_key d g) key) → HasTaken d j g u false
+    walk_done had = ends false (λ c lawful recalls.
+        let (taken, tallied, s) = entry_scan a.walk l c lawful recalls in
+        let (key, value, read, late) = had c lawful recalls in (
+          taken,
+          tallied,
+          scan_passed (seen c j) m g (steady a l c lawful recalls) a.walk.stands.stage a.walk.stands.others taken number key value (there a l c lawful recalls) read d s late,
+        ))
 
-    pub walk_past : verdict ≡ IsPast → HasScanned d j g more false
-    walk_past is = let (late, stay) = taken is in ends false stay (λ c lawful recalls.
-        scan_passed (seen c j) m g (steady a l c lawful recalls) a.walk.stands.stage a.walk.stands.others a.walk.stands.taken number t.key t.value (there a l c lawful recalls) (read c lawful recalls) d
-        (entry_scan a.walk l c lawful recalls) late)
+    -- It belonged to the range, and there was no room.
+    pub walk_cut : Sure j (λ s. (key : Key) × (value : ℕ) × IsRead s m number key value × IsInRange g key) → t.size ≡ g.limit → HasTaken d j g u true
+    walk_cut had full = ends true (λ c lawful recalls.
+        let (taken, tallied, s) = entry_scan a.walk l c lawful recalls in
+        let (key, value, read, within) = had c lawful recalls in (
+          taken,
+          tallied,
+          scan_filled (seen c j) m g (steady a l c lawful recalls) a.walk.stands.stage a.walk.stands.others taken number key value (there a l c lawful recalls) read d s within (sym tallied.0 ∙ full),
+        ))
 
-    pub walk_full : verdict ≡ Full → HasScanned d j g more true
-    walk_full is = let (within, full, stay) = taken is in ends true stay (λ c lawful recalls.
-        scan_filled (seen c j) m g (steady a l c lawful recalls) a.walk.stands.stage a.walk.stands.others a.walk.stands.taken number t.key t.value (there a l c lawful recalls) (read c lawful recalls) d
-        (entry_scan a.walk l c lawful recalls) within (sym taken_length ∙ full))
+-- At a leaf, which was read.
+module _ {d : Direction} {k j : Known} {m : ℕ} {g : Range} {at : PathNode} {frames : List PathNode} {t u : Tally} {number : ℕ} (a : IsAtEntry d k m g at frames t (Leaf number)) (l : IsLater k j) {verdict : Verdict}
+    (p : IsLeafTaken k j (d, g) number t u verdict) where
+  read : Sure j (λ s. IsRead s m number p.key p.value)
+  read = p.read m (entry_led a)
+
+  taken_as : {v : Verdict} → verdict ≡ v → IsPairTaken (d, g) t p.key p.value u v
+  taken_as e = subst (λ z. IsPairTaken (d, g) t p.key p.value u z) e p.taken
+
+  pub walk_further : verdict ≡ Further → IsWalk j m (d, g) (record at { at = gap_behind d at.at }) frames u
+  walk_further is = let (within, room, more) = taken_as is in walk_on a l u (λ c lawful recalls. (p.key, p.value, read c lawful recalls, within, more)) room
+
+  pub taken_more : verdict ≡ Further → u.size ≡ t.size + 1
+  taken_more is = (taken_as is).2.0
+
+  pub walk_past : since j ≡ m → verdict ≡ IsPast → HasTaken d j g u false
+  walk_past e is = let (late, kept) = taken_as is in walk_done a l u e kept (λ c lawful recalls. (p.key, p.value, read c lawful recalls, late))
+
+  pub walk_full : since j ≡ m → verdict ≡ Full → HasTaken d j g u true
+  walk_full e is = let (within, full, kept) = taken_as is in walk_cut a l u e kept (λ c lawful recalls. (p.key, p.value, read c lawful recalls, within)) full
 
 -- The topmost node is done.
-module _ {d : Direction} {k : Known} {m : ℕ} {g : Range} {top : PathNode} {frames : List PathNode} {pairs : List (Key × ℕ)} (w : IsWalk k m (d, g) top frames pairs) where
+module _ {d : Direction} {k : Known} {m : ℕ} {g : Range} {top : PathNode} {frames : List PathNode} {t : Tally} (w : IsWalk k m (d, g) top frames t) where
   -- the frame below
   pub record IsBelow (below : PathNode) (rest : List PathNode) : Type 0 where
     pub stage : Stage
@@ -418,34 +461,32 @@ module _ {d : Direction} {k : Known} {m : ℕ} {g : Range} {top : PathNode} {fra
     place_done : to_come d (size w.lowest.shape) w.lowest.place ≡ 0
     place_done = subst (λ (z : PathNode). to_come d z.count z.at ≡ 0) w.top_is done
 
-    pub walk_pop : (lower : PathNode) (rest : List PathNode) → frames ≡ rest ++ lower ∷ [] → IsWalk k m (d, g) (record lower { at = gap_behind d lower.at }) rest pairs
+    pub walk_pop : (lower : PathNode) (rest : List PathNode) → frames ≡ rest ++ lower ∷ [] → IsWalk k m (d, g) (record lower { at = gap_behind d lower.at }) rest t
     walk_pop lower rest e =
         let b = below lower rest e in
         let i : AreInside (b.stage ∷ b.stages) = subst AreInside b.others w.inside in
         record {
           lowest = behind d b.stage;
           others = b.stages;
-          taken = w.taken;
           top_is = ap (λ (z : PathNode). let x : PathNode = record z { at = gap_behind d z.at } in x) b.below_is;
           frames_are = b.rest_are;
-          pairs_are = w.pairs_are;
           room = i.1;
           fits = behind_fits d b.stage.place (size b.stage.shape) i.0;
           inside = i.2;
           pinned = w.pinned;
           scan = λ c lawful recalls.
-              scan_popped (seen c k) m g (seen_steady lawful recalls w.pinned) d w.lowest b.stage b.stages w.taken
-              (subst (λ z. IsScanBy d (seen c k) m g (w.lowest ∷ z) w.taken) b.others (w.scan c lawful recalls)) place_done;
+              let (taken, tallied, s) = w.scan c lawful recalls in (
+                taken,
+                tallied,
+                scan_popped (seen c k) m g (seen_steady lawful recalls w.pinned) d w.lowest b.stage b.stages taken (subst (λ z. IsScanBy d (seen c k) m g (w.lowest ∷ z) taken) b.others s) place_done,
+              );
         }
 
-    pub walk_end : frames ≡ [] → since k ≡ m → HasScanned d k g pairs false
-    walk_end none e = record {
-      taken = w.taken;
-      pairs_are = w.pairs_are;
-      answer = subst (λ z. Sure k (λ s. IsAnswer d s z g w.taken false)) (sym e) (λ c lawful recalls.
-          scan_ended (seen c k) m g (seen_steady lawful recalls w.pinned) d w.lowest w.taken
-          (subst (λ z. IsScanBy d (seen c k) m g (w.lowest ∷ z) w.taken) (no_stages w.others (sym w.frames_are ∙ none)) (w.scan c lawful recalls)) place_done);
-    }
+    pub walk_end : frames ≡ [] → since k ≡ m → HasTaken d k g t false
+    walk_end none e c lawful recalls =
+        let (taken, tallied, s) = w.scan c lawful recalls in
+        let ended = scan_ended (seen c k) m g (seen_steady lawful recalls w.pinned) d w.lowest taken (subst (λ z. IsScanBy d (seen c k) m g (w.lowest ∷ z) taken) (no_stages w.others (sym w.frames_are ∙ none)) s) place_done in
+        (taken, tallied, subst (λ z. IsAnswer d (seen c k) z g taken false) (sym e) ended)
       where
         no_stages : (fs : List Stage) → frames_of fs ≡ [] → fs ≡ []
         no_stages [] q = refl
@@ -453,7 +494,7 @@ module _ {d : Direction} {k : Known} {m : ℕ} {g : Range} {top : PathNode} {fra
 
 -- What a walk comes to
 
-module _ {layout : Layout} {d : Direction} {k : Known} {m : ℕ} {g : Range} {top : PathNode} {frames : List PathNode} {pairs : List (Key × ℕ)} (w : IsWalk k m (d, g) top frames pairs) (possible : IsPossible layout k) where
+module _ {layout : Layout} {d : Direction} {k : Known} {m : ℕ} {g : Range} {top : PathNode} {frames : List PathNode} {t : Tally} (w : IsWalk k m (d, g) top frames t) (possible : IsPossible layout k) where
   known : Recalls possible.core k
   known = recalls possible.core k possible.knows
 
@@ -478,10 +519,9 @@ module _ {layout : Layout} {d : Direction} {k : Known} {m : ℕ} {g : Range} {to
       omega (arith, deep, low, high, many)
 
   -- it has no more pairs than the limit
-  pub walk_short : length pairs ≤ g.limit
+  pub walk_short : t.size ≤ g.limit
   walk_short =
-      let short = (w.scan possible.core possible.lawful known).short in
-      let n = ap length w.pairs_are ∙ length_in_order_taken w.taken in omega (arith, short, n)
+      let (taken, tallied, s) = w.scan possible.core possible.lawful known in let short = s.short in let n = tallied.0 in omega (arith, short, n)
 
 -- The loads of a walk
 
@@ -543,14 +583,14 @@ paid_most : (d : Direction) (loads entries seen more pairs limit : ℕ) (top : P
 paid_most d loads entries seen more pairs limit top frames (low, paid) few short within asked =
     let most = spare_most d frames in record { most = omega (arith, paid, short, within, asked, most); few = omega (arith, low, few, asked) }
 
-pub paid_last : {G : Type 0} {table : TableView} {becomes : G → Event → G → Type 0} {a b y z : SeatView × G} {d : Direction} {m : ℕ} {g : Range} {top : PathNode} {frames : List PathNode} {pairs : List (Key × ℕ)} →
-    (loads entries : ℕ) × IsPaid d loads entries (length pairs) top frames × Reads table becomes entries loads a b → IsWalk b.0.known m (d, g) top frames pairs → IsPossible table.layout b.0.known → (ahead : Ahead) →
-    length pairs + entries_ahead ahead ≤ g.limit + 1 → (n : ℕ) × (n ≤ entries_ahead ahead + ahead.count) × Reads table becomes (entries_ahead ahead) n b y → (n : ℕ) × (n ≤ LEAF_FIELDS * ahead.count) × Reads table becomes 0 n y z →
+pub paid_last : {G : Type 0} {table : TableView} {becomes : G → Event → G → Type 0} {a b y z : SeatView × G} {d : Direction} {m : ℕ} {g : Range} {top : PathNode} {frames : List PathNode} {t : Tally} →
+    (loads entries : ℕ) × IsPaid d loads entries t.size top frames × Reads table becomes entries loads a b → IsWalk b.0.known m (d, g) top frames t → IsPossible table.layout b.0.known → (ahead : Ahead) →
+    t.size + entries_ahead ahead ≤ g.limit + 1 → (n : ℕ) × (n ≤ entries_ahead ahead + ahead.count) × Reads table becomes (entries_ahead ahead) n b y → (n : ℕ) × (n ≤ LEAF_FIELDS * ahead.count) × Reads table becomes 0 n y z →
     Walks table becomes 0 g.limit a z
-paid_last {d = d} {g = g} {top = top} {frames = frames} {pairs = pairs} (loads, entries, paid, before) w possible ahead asked (seen, few, looks) (leaves, less, reads) = (
+paid_last {d = d} {g = g} {top = top} {frames = frames} {t = t} (loads, entries, paid, before) w possible ahead asked (seen, few, looks) (leaves, less, reads) = (
   loads + (seen + leaves),
   entries + (entries_ahead ahead + 0),
-  paid_most d loads entries (entries_ahead ahead + 0) (seen + leaves) (length pairs) g.limit top frames paid (omega (arith, few, less)) (way_short w possible) (walk_short w possible) (omega (arith, asked)),
+  paid_most d loads entries (entries_ahead ahead + 0) (seen + leaves) t.size g.limit top frames paid (omega (arith, few, less)) (way_short w possible) (walk_short w possible) (omega (arith, asked)),
   reads_trans before (reads_trans looks reads),
 )
 
@@ -657,18 +697,14 @@ none_popped {frames} some is = empty_is frames (⊎_elim (λ lt. absurd (let z :
 
 -- Scans without a walk
 
-module _ {d : Direction} {k : Known} (g : Range) {pairs : List (Key × ℕ)} (none : pairs ≡ []) where
+module _ {d : Direction} {k : Known} (g : Range) (t : Tally) (none : IsNone t) where
   -- the root is None
-  pub blank_scanned : Sure k (λ s. IsBlank s (since k)) → HasScanned d k g pairs false
-  blank_scanned blank = record { taken = []; pairs_are = none; answer = λ c lawful recalls. answer_blank (seen c k) (since k) g d (blank c lawful recalls) }
+  pub blank_scanned : Sure k (λ s. IsBlank s (since k)) → HasTaken d k g t false
+  blank_scanned blank c lawful known = ([], none, answer_blank (seen c k) (since k) g d (blank c lawful known))
 
   -- nothing is between the keys
-  pub nothing_scanned : IsBefore g.upto g.from → HasScanned d k g pairs false
-  nothing_scanned low = record { taken = []; pairs_are = none; answer = λ c lawful recalls. none_between (seen c k) (since k) g d low }
-
--- what was taken, of no pairs
-at_first : (d : Direction) (g : Range) (key : Key) (value : ℕ) (pairs more : List (Key × ℕ)) (verdict v : Verdict) → pairs ≡ [] → verdict ≡ v → IsPairTaken (d, g) pairs key value more verdict → IsPairTaken (d, g) [] key value more v
-at_first d g key value pairs more verdict v none is t = subst (λ z. IsPairTaken (d, g) z key value more v) none (subst (λ z. IsPairTaken (d, g) pairs key value more z) is t)
+  pub nothing_scanned : IsBefore g.upto g.from → HasTaken d k g t false
+  nothing_scanned low c lawful known = ([], none, none_between (seen c k) (since k) g d low)
 
 -- The root, when it was loaded last, was a leaf, which has been read since.
 pub record IsRootRead (k j : Known) (number : ℕ) (key : Key) (value : ℕ) : Type 0 where
@@ -684,28 +720,34 @@ module _ (d : Direction) {k j : Known} (g : Range) {number : ℕ} {key : Key} {v
   fixed : (c : Core) → IsLawful c → Recalls c j → IsSteady (seen c j) (since k)
   fixed c lawful recalls = seen_steady lawful recalls (since_later of.later of.root.0)
 
-  answered : {pairs : List (Key × ℕ)} (taken : List Pair) → pairs ≡ in_order_taken taken → (more : Bool) → Sure j (λ s. IsAnswer d s (since k) g taken more) → HasScanned d j g pairs more
-  answered taken e more answer = record { taken = taken; pairs_are = e; answer = subst (λ z. Sure j (λ s. IsAnswer d s z g taken more)) (sym of.same) answer }
+  answered : (t : Tally) (taken : List Pair) → AreTallied t taken → (more : Bool) → Sure j (λ s. IsAnswer d s (since k) g taken more) → HasTaken d j g t more
+  answered t taken tallied more answer c lawful recalls = (taken, tallied, subst (λ z. IsAnswer d (seen c j) z g taken more) (sym of.same) (answer c lawful recalls))
 
-  pub leaf_outside : {pairs : List (Key × ℕ)} → pairs ≡ [] → IsBefore key g.from ⊎ IsBefore g.upto key → HasScanned d j g pairs false
-  leaf_outside e out =
-      answered [] e false (λ c lawful recalls. answer_outside (seen c j) (since k) g (fixed c lawful recalls) d number key value (rooted c lawful recalls) (of.read c lawful recalls) out)
+  pub leaf_outside : (t : Tally) → IsNone t → IsBefore key g.from ⊎ IsBefore g.upto key → HasTaken d j g t false
+  leaf_outside t none out =
+      answered t [] none false (λ c lawful recalls. answer_outside (seen c j) (since k) g (fixed c lawful recalls) d number key value (rooted c lawful recalls) (of.read c lawful recalls) out)
 
-  pub leaf_early : {pairs : List (Key × ℕ)} → pairs ≡ [] → IsEarlier d key (first_key d g) → HasScanned d j g pairs false
-  leaf_early e early = leaf_outside e (out_first d g key early)
+  pub leaf_early : (t : Tally) → IsNone t → IsEarlier d key (first_key d g) → HasTaken d j g t false
+  leaf_early t none early = leaf_outside t none (out_first d g key early)
 
-  module _ {pairs more : List (Key × ℕ)} (none : pairs ≡ []) {verdict : Verdict} (t : IsPairTaken (d, g) pairs key value more verdict) where
-    pub leaf_unfilled : (verdict ≡ Further) ⊎ (verdict ≡ IsPast) → HasScanned d j g more false
+  module _ (t u : Tally) (none : IsNone t) (verdict : Verdict) (p : IsPairTaken (d, g) t key value u verdict) where
+    became : {v : Verdict} → verdict ≡ v → IsPairTaken (d, g) t key value u v
+    became is = subst (λ z. IsPairTaken (d, g) t key value u z) is p
+
+    still : IsKept t u → IsNone u
+    still kept = (kept.0 ∙ none.0, kept.1 [] none.1)
+
+    pub leaf_unfilled : (verdict ≡ Further) ⊎ (verdict ≡ IsPast) → HasTaken d j g u false
     leaf_unfilled (inl is) =
-        let (within, room, e) = at_first d g key value pairs more verdict Further none is t in
-        answered (record { key = key; value = value } ∷ []) e false
-        (λ c lawful recalls. answer_one (seen c j) (since k) g (fixed c lawful recalls) d number key value (rooted c lawful recalls) (of.read c lawful recalls) within (let ne : 0 ≢ g.limit = room in omega (arith, ne)))
-    leaf_unfilled (inr is) = let (late, e) = at_first d g key value pairs more verdict IsPast none is t in leaf_outside e (out_last d g key late)
+        let (within, room, more) = became is in
+        answered u (record { key = key; value = value } ∷ []) (tallied_more t u key value more [] none) false
+        (λ c lawful recalls. answer_one (seen c j) (since k) g (fixed c lawful recalls) d number key value (rooted c lawful recalls) (of.read c lawful recalls) within (let few = none.0 in omega (arith, room, few)))
+    leaf_unfilled (inr is) = let (late, kept) = became is in leaf_outside u (still kept) (out_last d g key late)
 
-    pub leaf_full : verdict ≡ Full → HasScanned d j g more true
+    pub leaf_full : verdict ≡ Full → HasTaken d j g u true
     leaf_full is =
-        let (within, full, e) = at_first d g key value pairs more verdict Full none is t in
-        answered [] e true (λ c lawful recalls. answer_nought (seen c j) (since k) g d number key value (of.read c lawful recalls) within (sym full))
+        let (within, full, kept) = became is in
+        answered u [] (still kept) true (λ c lawful recalls. answer_nought (seen c j) (since k) g d number key value (of.read c lawful recalls) within (sym full ∙ none.0))
 
 -- A head's forks
 

@@ -2,12 +2,14 @@
 use Rattle.std.specs.Prelude.{◌≡◌, ℕ, ◌+◌, ◌<◌, ◌≤◌, List, length, slice_index, Bool, IfSome, option_to_list, false, true}
 use Rattle.compound_node.specs.declared.entries.Entry.TheVariants.{Leaf, Node}
 use Rattle.insert_cases.specs.declared.choice.PathNode.{PathNode}
-use Rattle.tries.specs.Keys.{Key}
 use Rattle.rowex_core.specs.declared.known.Known.{Known}
-use Rattle.version_laws.specs.Scan.{IsPlaced}
+use Rattle.tries.specs.Keys.{Key}
+use Rattle.rowex_core.specs.Knowing.{IsPinnedSince}
+use Rattle.version_laws.specs.Scan.{Range, IsInRange, IsPlaced, IsRead}
 use Rattle.rowex_reading.specs.Seen.{HasPlace, Sure, since}
-use Rattle.version_laws.specs.Directions.{first_key, gap_after, place_ahead, to_come}
-use Rattle.rowex_scanning.specs.Scanning.{HasScanned, IsBound, IsBoundWalk, IsWalk, Request}
+use Rattle.version_laws.specs.Directions.{IsEarlier, IsNoLater, IsPastKey, first_key, gap_after, last_key, place_ahead, to_come}
+use Rattle.rowex_scanning.specs.Scanning.{HasTaken, IsBound, IsBoundWalk, IsWalk, Request}
+use Rattle.rowex_scanning.specs.Tallies.{Tally}
 use Rattle.rowex_scanning.specs.declared.ahead.Ahead.{Ahead}
 use Rattle.version_laws.specs.declared.direction.Direction.{Direction}
 use Rattle.rowex_scanning.specs.declared.scanning.Verdict.{Verdict}
@@ -34,15 +36,11 @@ pub record HasSeenAhead (d : Direction) (k : Known) (m : ℕ) (top : PathNode) (
   pub first : AreAhead d k m top a.count leaves
   pub node : IfSome a.node (IsNodeAhead d k m top a.count)
 
--- a node at a gap of which a walk stands, and the pairs so far
-abbrev pub Reached : Type 0
-Reached = PathNode × List (Key × ℕ)
-
--- From there the walk has passed so many leaves: it stands behind them, with their pairs.
-pub record HavePassed (k : Known) (m : ℕ) (r : Request) (frames : List PathNode) (before : Reached) (count : ℕ) (pairs : List (Key × ℕ)) : Type 0 where
-  pub more : length pairs ≡ length before.1 + count
-  pub walk : IsWalk k m r (record before.0 { at = gap_after r.0 before.0.at count }) frames pairs
-  pub bound : IsBound r.0 k m (first_key r.0 r.1) (record before.0 { at = gap_after r.0 before.0.at count }) frames
+-- From a gap of this node, with so many pairs, the walk has passed so many leaves: it stands behind them, with their pairs.
+pub record HavePassed (k : Known) (m : ℕ) (r : Request) (frames : List PathNode) (top : PathNode) (size count : ℕ) (t : Tally) : Type 0 where
+  pub more : t.size ≡ size + count
+  pub walk : IsWalk k m r (record top { at = gap_after r.0 top.at count }) frames t
+  pub bound : IsBound r.0 k m (first_key r.0 r.1) (record top { at = gap_after r.0 top.at count }) frames
 
 -- What became of a scan at some leaves: it has passed all of them; or it has ended at one, and there is a further key or not.
 abbrev pub AreTaken : Type 0 → (Bool → Type 0) → Verdict → Type 0
@@ -50,14 +48,37 @@ AreTaken Passed Ended Further = Passed
 AreTaken Passed Ended IsPast = Ended false
 AreTaken Passed Ended Full = Ended true
 
--- A walk is at a gap of this node on this way, with these pairs so far, and these leaves come next in the node.
-pub record AreNext (k : Known) (r : Request) (top : PathNode) (frames : List PathNode) (pairs : List (Key × ℕ)) (leaves : List ℕ) : Type 0 where
-  pub bound : IsBoundWalk k (since k) r top frames pairs
+-- A walk is at a gap of this node on this way, with such pairs so far, and these leaves come next in the node.
+pub record AreNext (k : Known) (r : Request) (top : PathNode) (frames : List PathNode) (t : Tally) (leaves : List ℕ) : Type 0 where
+  pub bound : IsBoundWalk k (since k) r top frames t
   pub ahead : AreAhead r.0 k (since k) top (length leaves) leaves
   pub come : length leaves ≤ to_come r.0 top.count top.at
 
 -- What became of these leaves on each way on which they came next, since the last load of the root.
-abbrev pub AreTakenOnWays : Known → Known → Request → List (Key × ℕ) → List ℕ → List (Key × ℕ) → Verdict → Type 0
-AreTakenOnWays k j r xs leaves ys verdict =
-    (top : PathNode) (frames : List PathNode) → AreNext k r top frames xs leaves →
-    AreTaken (HavePassed j (since k) r frames (top, xs) (length leaves) ys) (HasScanned r.0 j r.1 ys) verdict
+abbrev pub AreTakenOnWays : Known → Known → Request → Tally → List ℕ → Tally → Verdict → Type 0
+AreTakenOnWays k j r t leaves u verdict =
+    (top : PathNode) (frames : List PathNode) → AreNext k r top frames t leaves →
+    AreTaken (HavePassed j (since k) r frames top t.size (length leaves) u) (HasTaken r.0 j r.1 u) verdict
+
+-- These leaves come next at a gap of this node, and what stands behind it comes later than the range's first key.
+pub record AreBehindGap (k : Known) (r : Request) (top : PathNode) (leaves : List ℕ) : Type 0 where
+  pub pinned : IsPinnedSince k (since k)
+  pub there : Sure k (λ s. IsPastKey r.0 s (since k) (first_key r.0 r.1) top.number top.at)
+  pub ahead : AreAhead r.0 k (since k) top (length leaves) leaves
+  pub come : length leaves ≤ to_come r.0 top.count top.at
+
+-- the pass is sure that the keys of the first of these leaves belong to the range, whatever they are,
+abbrev pub AreWithin : Known → ℕ → Range → List ℕ → ℕ → Type 0
+AreWithin j m g leaves count = (i : ℕ) → i < count → Sure j (λ s. (key : Key) (value : ℕ) → IsRead s m (slice_index leaves i) key value → IsInRange g key)
+
+-- and that a leaf's key is past it, or not
+abbrev pub IsLeafPast : Known → ℕ → Request → ℕ → Type 0
+IsLeafPast j m r number = Sure j (λ s. (key : Key) × (value : ℕ) × IsRead s m number key value × IsEarlier r.0 (last_key r.0 r.1) key)
+
+abbrev pub IsLeafNotPast : Known → ℕ → Request → ℕ → Type 0
+IsLeafNotPast j m r number = Sure j (λ s. (key : Key) × (value : ℕ) × IsRead s m number key value × IsNoLater r.0 key (last_key r.0 r.1))
+
+-- So many of these leaves belong to the range; and the next one, if there is one, is past it.
+pub record AreParted (j : Known) (m : ℕ) (r : Request) (leaves : List ℕ) (count : ℕ) : Type 0 where
+  pub within : AreWithin j m r.1 leaves count
+  pub past : count < length leaves → IsLeafPast j m r (slice_index leaves count)

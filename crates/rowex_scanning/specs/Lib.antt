@@ -1,4 +1,5 @@
 -- The definitions of the crate.
+pub mod Tallies
 pub mod Scanning
 pub mod Ahead
 pub mod Starts

@@ -12,8 +12,9 @@ use Rattle.version_laws.specs.Scan.{Pair, Range, IsInRange, IsRead, IsShaped, in
 use Rattle.rowex_table.specs.Made.{IsLater}
 use Rattle.rowex_reading.specs.Possible.{IsPossible}
 use Rattle.rowex_reading.specs.Seen.{IsLedTo, Sure, since}
-use Rattle.version_laws.specs.Directions.{IsAnswer, IsPastKey, IsEarlier, IsNoLater, IsScanBy, first_gap, first_key, gap_behind, last_key}
+use Rattle.version_laws.specs.Directions.{IsAnswer, IsPastKey, IsEarlier, IsNoLater, first_gap, first_key, gap_behind, last_key}
 use Rattle.version_laws.specs.declared.direction.Direction.{Direction}
+use Rattle.rowex_scanning.specs.Tallies.{AreTallied, IsKept, IsOneMore, IsTalliedScan, Tally, tally_of_pairs}
 use Rattle.rowex_scanning.specs.declared.scanning.Range.{Range as Asked}
 use Rattle.rowex_scanning.specs.declared.scanning.Verdict.{Verdict}
 use Rattle.rowex_scanning.specs.declared.scanning.Verdict.TheVariants.{Further, Past as IsPast, Full}
@@ -35,44 +36,51 @@ first_key_of r = first_key r.direction (asked_range r)
 abbrev pub last_key_of : Asked → Key
 last_key_of r = last_key r.direction (asked_range r)
 
--- the pass is sure of the pairs that a scan gives, since its last load of the root, and of whether there is a further one
-pub record HasScanned (d : Direction) (k : Known) (g : Range) (pairs : List (Key × ℕ)) (more : Bool) : Type 0 where
-  pub taken : List Pair
-  pub pairs_are : pairs ≡ in_order_taken taken
-  pub answer : Sure k (λ s. IsAnswer d s (since k) g taken more)
+-- The pass is sure of such pairs, that a scan gives them, since its last load of the root, and of whether there is a further one.
+abbrev pub HasTaken : Direction → Known → Range → Tally → Bool → Type 0
+HasTaken d k g t more = Sure k (λ s. (taken : List Pair) × AreTallied t taken × IsAnswer d s (since k) g taken more)
 
 -- the range with another limit
 abbrev pub limited : Range → ℕ → Range
 limited g limit = record g { limit = limit }
 
 -- Memory was refused: the pairs are fewer than the limit, and the pass is sure of them as of those of a scan that was cut at their number.
+abbrev pub HasTakenPart : Direction → Known → Range → Tally → Type 0
+HasTakenPart d k g t = (t.size < g.limit) × HasTaken d k (limited g t.size) t true
+
+-- The same of the pairs themselves: the pass is sure of these.
+pub record HasScanned (d : Direction) (k : Known) (g : Range) (pairs : List (Key × ℕ)) (more : Bool) : Type 0 where
+  pub taken : List Pair
+  pub pairs_are : pairs ≡ in_order_taken taken
+  pub answer : Sure k (λ s. IsAnswer d s (since k) g taken more)
+
 abbrev pub HasScannedPart : Direction → Known → Range → List (Key × ℕ) → Type 0
 HasScannedPart d k g pairs = (length pairs < g.limit) × HasScanned d k (limited g (length pairs)) pairs true
 
--- What became of the pairs at one with this key and value, which doesn't come before the range: it belonged to the range; or it was past
--- the range; or it belonged to the range and there was no room.
-abbrev pub IsPairTaken : Request → List (Key × ℕ) → Key → ℕ → List (Key × ℕ) → Verdict → Type 0
-IsPairTaken (d, g) xs k v ys Further = IsInRange g k × (length xs ≢ g.limit) × (ys ≡ xs ++ (k, v) ∷ [])
-IsPairTaken (d, g) xs k v ys IsPast = IsEarlier d (last_key d g) k × (ys ≡ xs)
-IsPairTaken (d, g) xs k v ys Full = IsInRange g k × (length xs ≡ g.limit) × (ys ≡ xs)
+-- What became of a pair with this key and value, which doesn't come before the range: it belonged to the range; or it was past the range; or
+-- it belonged to the range and there was no room.
+abbrev pub IsPairTaken : Request → Tally → Key → ℕ → Tally → Verdict → Type 0
+IsPairTaken (d, g) t k v u Further = IsInRange g k × (t.size ≢ g.limit) × IsOneMore t k v u
+IsPairTaken (d, g) t k v u IsPast = IsEarlier d (last_key d g) k × IsKept t u
+IsPairTaken (d, g) t k v u Full = IsInRange g k × (t.size ≡ g.limit) × IsKept t u
 
--- The leaf has been read; and what became of the pairs at its key and value.
-pub record IsLeafTaken (k j : Known) (r : Request) (number : ℕ) (xs ys : List (Key × ℕ)) (verdict : Verdict) : Type 0 where
+-- The leaf has been read; and what became of its key and value.
+pub record IsLeafTaken (k j : Known) (r : Request) (number : ℕ) (t u : Tally) (verdict : Verdict) : Type 0 where
   pub key : Key
   pub value : ℕ
   pub read : (m : ℕ) → IsLedTo k m (Leaf number) → Sure j (λ s. IsRead s m number key value)
-  pub taken : IsPairTaken r xs key value ys verdict
+  pub taken : IsPairTaken r t key value u verdict
 
--- Memory was refused for a pair with this key, which belonged to the range and for which there was room by the limit: the pairs stay.
-abbrev pub IsPairRefused : Range → List (Key × ℕ) → Key → List (Key × ℕ) → Type 0
-IsPairRefused g xs k ys = IsInRange g k × (length xs ≢ g.limit) × (ys ≡ xs)
+-- Memory was refused for a pair with this key, which belonged to the range and for which there was room by the limit.
+abbrev pub IsPairRefused : Range → Tally → Key → Tally → Type 0
+IsPairRefused g t k u = IsInRange g k × (t.size ≢ g.limit) × IsKept t u
 
 -- The leaf has been read; and memory was refused for its pair.
-pub record IsLeafRefused (k j : Known) (g : Range) (number : ℕ) (xs ys : List (Key × ℕ)) : Type 0 where
+pub record IsLeafRefused (k j : Known) (g : Range) (number : ℕ) (t u : Tally) : Type 0 where
   pub key : Key
   pub value : ℕ
   pub read : (m : ℕ) → IsLedTo k m (Leaf number) → Sure j (λ s. IsRead s m number key value)
-  pub refused : IsPairRefused g xs key ys
+  pub refused : IsPairRefused g t key u
 
 -- The leaf's key, whenever the pass reads it, does not come before this one.
 abbrev pub IsReached : Direction → Layout → Known → ℕ → Key → ℕ → Type 0
@@ -100,19 +108,17 @@ abbrev pub AreInside : List Stage → Type 0
 AreInside [] = Unit {0}
 AreInside (f ∷ fs) = (f.place < size f.shape) × (size f.shape ≤ 32) × AreInside fs
 
--- Where a scan is: at a gap of the topmost of the frames, with these pairs so far.
-pub record IsWalk (k : Known) (m : ℕ) (r : Request) (top : PathNode) (frames : List PathNode) (pairs : List (Key × ℕ)) : Type 0 where
+-- Where a scan is: at a gap of the topmost of the frames, with such pairs so far.
+pub record IsWalk (k : Known) (m : ℕ) (r : Request) (top : PathNode) (frames : List PathNode) (t : Tally) : Type 0 where
   pub lowest : Stage
   pub others : List Stage
-  pub taken : List Pair
   pub top_is : top ≡ frame lowest
   pub frames_are : frames ≡ frames_of others
-  pub pairs_are : pairs ≡ in_order_taken taken
   pub room : size lowest.shape ≤ 32
   pub fits : lowest.place ≤ size lowest.shape
   pub inside : AreInside others
   pub pinned : IsPinnedSince k m
-  pub scan : Sure k (λ s. IsScanBy r.0 s m r.1 (lowest ∷ others) taken)
+  pub scan : Sure k (λ s. IsTalliedScan r.0 s m r.1 (lowest ∷ others) t)
 
 -- The pass is sure that all keys that stand behind the places of these frames come later than this one,
 abbrev pub ArePastKey : Direction → Known → ℕ → Key → List PathNode → Type 0
@@ -124,13 +130,13 @@ pub record IsBound (d : Direction) (k : Known) (m : ℕ) (key : Key) (top : Path
   pub there : Sure k (λ s. IsPastKey d s m key top.number top.at)
   pub above : ArePastKey d k m key frames
 
--- The walk is at a gap of this node on this way, with these pairs so far; and what stands behind it comes later than the range's first key.
-abbrev pub IsBoundWalk : Known → ℕ → Request → PathNode → List PathNode → List (Key × ℕ) → Type 0
-IsBoundWalk k m r top frames pairs = IsWalk k m r top frames pairs × IsBound r.0 k m (first_key r.0 r.1) top frames
+-- The walk is at a gap of this node on this way, with such pairs so far; and what stands behind it comes later than the range's first key.
+abbrev pub IsBoundWalk : Known → ℕ → Request → PathNode → List PathNode → Tally → Type 0
+IsBoundWalk k m r top frames t = IsWalk k m r top frames t × IsBound r.0 k m (first_key r.0 r.1) top frames
 
 -- The walk is so at a gap of the last node of this way.
-pub record IsWalkAlong (k : Known) (m : ℕ) (r : Request) (way : List PathNode) (pairs : List (Key × ℕ)) : Type 0 where
+pub record IsWalkAlong (k : Known) (m : ℕ) (r : Request) (way : List PathNode) (t : Tally) : Type 0 where
   pub top : PathNode
   pub frames : List PathNode
   pub way_is : way ≡ frames ++ top ∷ []
-  pub bound : IsBoundWalk k m r top frames pairs
+  pub bound : IsBoundWalk k m r top frames t

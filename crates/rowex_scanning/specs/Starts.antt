@@ -8,6 +8,7 @@ use Rattle.version_laws.specs.Scan.{Range, IsPlaced, IsRead}
 use Rattle.rowex_reading.specs.Seen.{Sure}
 use Rattle.version_laws.specs.Directions.{IsNoLater, IsPastKey, first_key, gap_before, gap_behind}
 use Rattle.rowex_scanning.specs.Scanning.{ArePastKey, IsBound, IsWalk}
+use Rattle.rowex_scanning.specs.Tallies.{tally_of_number}
 use Rattle.version_laws.specs.declared.direction.Direction.{Direction}
 use Rattle.version_laws.specs.declared.direction.Direction.TheVariants.{Upwards, Downwards}
 use Rattle.record_words.specs.declared.layout.Layout.{Layout}
@@ -33,7 +34,7 @@ pub record IsFirst (d : Direction) (k : Known) (m : ℕ) (key : Key) (number : �
 
 -- the walk of any scan that starts at the key, with no pairs so far
 abbrev pub IsWalkFrom : Direction → Known → ℕ → Key → PathNode → List PathNode → Type 0
-IsWalkFrom d k m key top frames = (g : Range) → first_key d g ≡ key → IsWalk k m (d, g) top frames []
+IsWalkFrom d k m key top frames = (g : Range) → first_key d g ≡ key → IsWalk k m (d, g) top frames (tally_of_number 0)
 
 -- The scan starts before the leaf at which the search has ended, or at a gap.
 abbrev pub IsBegun : Direction → Known → ℕ → Key → ℕ → List PathNode → Start → Type 0

@@ -1,7 +1,6 @@
 //! What a walk looks at ahead of its place: so the lines of several leaves come side by side.
 
-ghost use Rattle.std.specs.Prelude.{◌≡◌, ◌+◌, ◌/◌, ◌<◌, ◌≤◌, ◌↔◌, ℕ, IsTrue, length};
-ghost use Rattle.packed_pairs.specs.Parts.{keys_in};
+ghost use Rattle.std.specs.Prelude.{◌≡◌, ◌+◌, ◌<◌, ◌≤◌, ℕ};
 ghost use Rattle.compound_node.specs.declared.entries.Entry.TheVariants.{Leaf as LeafEntry};
 ghost use Rattle.rowex_reading.specs.Reads.{IsReader, Reads};
 ghost use Rattle.rowex_reading.specs.Seen.{IsLedTo};
@@ -10,9 +9,9 @@ ghost use Rattle.version_laws.specs.Directions.{to_come as to_come_of};
 
 use crate::direction::{entries_to_come, slot_ahead};
 use crate::scanning::Scan;
+use crate::sinks::Tallies;
 use compound_node::Entry;
 use insert_cases::PathNode;
-use packed_pairs::Pairs;
 use record_words::{LENGTH_OFFSET, Origins};
 use rowex_core::{Gate, Rec};
 use rowex_reading::load_entry;
@@ -33,28 +32,16 @@ pub(crate) struct Ahead {
     pub node: Option<u32>,
 }
 
-/// Whether a walk that has listed `pairs` touches the leaves in the next `count` slots. It does if these are several, and the keys so far
-/// have together at least eight bytes more than eight for each.
-///
-/// The leaf in one slot alone is read at once. Shorter keys take few instructions each, always as many, so a processor reads ahead by
-/// itself.
+/// At how many slots a walk that has taken `taken` pairs looks together: those of the pairs that `limit` leaves, and one more.
+/// `MOST_AHEAD` at most, and one if fewer than `LEAST_PAIRS` are left.
 #[inline(always)]
-fn should_touch_leaves(count: u8, pairs: &Pairs) -> bool
-    ensures { IsTrue result ↔ (1 < count) × (length pairs.now < length (keys_in pairs.now) / 8) }
-{
-    count > 1 && pairs.key_bytes() / 8 > pairs.len()
-}
-
-/// At how many slots a walk that has listed `pairs` looks together: those of the pairs that `limit` leaves, and one more. `MOST_AHEAD` at
-/// most, and one if fewer than `LEAST_PAIRS` are left.
-#[inline(always)]
-fn most_slots(limit: usize, pairs: &Pairs) -> u8
-    requires { length pairs.now ≤ limit }
+fn most_slots(limit: usize, taken: usize) -> u8
+    requires { taken ≤ limit }
     ensures some { 0 < result }
     ensures most { result ≤ MOST_AHEAD }
-    ensures few { length pairs.now + result ≤ limit + 1 }
+    ensures few { taken + result ≤ limit + 1 }
 {
-    let left = limit - pairs.len();
+    let left = limit - taken;
     if left < LEAST_PAIRS {
         1
     } else if left < MOST_AHEAD as usize {
@@ -65,38 +52,41 @@ fn most_slots(limit: usize, pairs: &Pairs) -> u8
 }
 
 /// Loads the entries in the next slots of the node `top`, up to the first that leads to a node. It looks at [`most_slots`] slots, or
-/// fewer if fewer are to come. `pairs` are those listed so far. The leaves' numbers go to the first of `leaves`, and the leaves are touched
-/// where [`should_touch_leaves`] says so. Returns how many leaves these are, and that node, if there is one.
+/// fewer if fewer are to come. The leaves' numbers go to the first of `leaves`, and the leaves are touched where `sink`, which has the pairs
+/// so far, says so. Returns how many leaves these are, and that node, if there is one.
 #[inline(always)]
-pub(crate) fn load_entries_ahead<G: Gate>(
+pub(crate) fn load_entries_ahead<G: Gate, S: Tallies>(
     scan: &Scan,
     seat: &mut TableSeat,
     gate: &mut G,
     top: &PathNode,
-    pairs: &Pairs,
+    sink: &S,
     leaves: &mut [u32; MOST_AHEAD as usize],
 ) -> Ahead
     requires reader { IsReader scan.now.table.now seat.old }
     requires origins { scan.now.origins.now.layout ≡ scan.now.table.now.layout }
     requires fits { top.now.at ≤ top.now.count }
     requires come { 0 < to_come_of scan.now.range.now.direction top.now.count top.now.at }
-    requires limit { length pairs.now ≤ scan.now.range.now.limit }
+    requires limit { (S.tally sink.now).size ≤ scan.now.range.now.limit }
     requires places { (m : ℕ) × HasPlaces scan.now.range.now.direction seat.old.known m top.now }
     ensures reads { (n : ℕ) × (n ≤ entries_ahead result + result.count) ×
         Reads scan.now.table.now G.becomes (entries_ahead result) n (seat.old, gate.old) (seat.new, gate.new) }
     ensures some { 0 < entries_ahead result }
     ensures come { entries_ahead result ≤ to_come_of scan.now.range.now.direction top.now.count top.now.at }
     ensures most { result.count ≤ MOST_AHEAD }
-    ensures few { length pairs.now + entries_ahead result ≤ scan.now.range.now.limit + 1 }
+    ensures few { (S.tally sink.now).size + entries_ahead result ≤ scan.now.range.now.limit + 1 }
     ensures ahead { (m : ℕ) → HasPlaces scan.now.range.now.direction seat.old.known m top.now →
         HasSeenAhead scan.now.range.now.direction seat.new.known m top.now leaves.new result }
 {
-    let count = entries_to_come(scan.range.direction, top).min(most_slots(scan.range.limit, pairs));
+    let count = entries_to_come(scan.range.direction, top).min(most_slots(
+        scan.range.limit,
+        sink.size(),
+    ));
     let node = NodeAt {
         number: top.number,
         start: scan.origins.start_of_node(top.number),
     };
-    let is_touching = should_touch_leaves(count, pairs);
+    let is_touching = sink.should_touch_leaves(count);
     for index in 0..count {
         let place = slot_ahead(scan.range.direction, *top, index);
         match load_entry(scan.table, seat, gate, node, place) {

@@ -3,9 +3,12 @@
 #![tactic(auto)]
 
 mod ahead;
+mod counting;
 mod direction;
 mod scanning;
+mod sinks;
 mod start;
 
+pub use counting::count_root;
 pub use scanning::{Range, scan_root};
 pub use version_laws::Direction;

@@ -14,14 +14,16 @@ ghost use Rattle.rowex_scanning.specs.Ahead.{AreNext, AreTakenOnWays};
 ghost use Rattle.rowex_scanning.specs.Starts.{IsSearchEnd};
 ghost use Rattle.rowex_scanning.specs.Counts.{Scans, Walks, scan_loads};
 ghost use Rattle.version_laws.specs.Directions.{IsEarlier, IsNoLater};
-ghost use Rattle.rowex_scanning.specs.Scanning.{HasScanned, HasScannedPart};
+ghost use Rattle.rowex_scanning.specs.Scanning.{HasScanned, HasScannedPart, HasTaken, HasTakenPart};
 ghost use Rattle.rowex_scanning.specs.Scanning.{IsEntered, IsLeafRefused, IsLeafTaken, IsPairRefused, IsPairTaken, IsReached, IsWalkAlong, asked_range, first_key_of, last_key_of, request_of};
+ghost use Rattle.rowex_scanning.specs.Tallies.{IsNone};
 
 use crate::ahead::{MOST_AHEAD, load_entries_ahead};
 use crate::direction::{
     entries_to_come, first_gap, gap_after_entries, gap_behind_slot, is_earlier_key, is_key_before,
     slot_ahead,
 };
+use crate::sinks::{Sink, Tallies};
 use crate::start::{SearchEnd, find_start};
 use arrayvec::ArrayVec;
 use insert_cases::PathNode;
@@ -92,7 +94,30 @@ pub fn scan_root<G: Gate>(
     ensures part { OnErr result (HasScannedPart range.now.direction seat.new.known (asked_range range.now) pairs.new) }
     ensures few { seat.new.known.steps ≤ seat.old.known.steps + (1 + scan_loads range.now.limit) }
 {
-    pairs.clear();
+    walk_root(table, seat, gate, way, range, pairs)
+}
+
+/// Gives `sink` the first pairs of `range` in its direction, `range.limit` at most, in place of those that it has. Returns whether there is
+/// a further one. An error if memory is refused. Inline, as [`scan_root`] is.
+#[inline(always)]
+pub(crate) fn walk_root<G: Gate, S: Sink>(
+    table: &HotTable,
+    seat: &mut TableSeat,
+    gate: &mut G,
+    way: &mut ArrayVec<PathNode, MOST_NODES>,
+    range: &Range,
+    sink: &mut S,
+) -> Result<bool, AllocError>
+    requires own { IsSeatOf table.now seat.old }
+    requires pinned { IsSome seat.old.known.pin }
+    ensures looks { Scans table.now G.becomes range.now.limit (seat.old, gate.old) (seat.new, gate.new) }
+    ensures keys { IsKey range.now.from.now × IsKey range.now.upto.now }
+    ensures scanned { IfOk result (HasTaken range.now.direction seat.new.known (asked_range range.now) (S.tally sink.new)) }
+    ensures part { OnErr result (HasTakenPart range.now.direction seat.new.known (asked_range range.now) (S.tally sink.new)) }
+    ensures refused { OnErr result S.may_refuse }
+    ensures few { seat.new.known.steps ≤ seat.old.known.steps + (1 + scan_loads range.now.limit) }
+{
+    sink.reset();
     if is_key_before(range.upto.as_bytes(), range.from.as_bytes()) {
         load_root(table, seat, gate);
         return Ok(false);
@@ -105,7 +130,7 @@ pub fn scan_root<G: Gate>(
             ..
         } => {
             if way.len() == 0 {
-                scan_leaf(table, seat, gate, range, number, pairs)
+                scan_leaf(table, seat, gate, range, number, sink)
             } else {
                 let origins = table.origins();
                 let scan = Scan {
@@ -114,7 +139,7 @@ pub fn scan_root<G: Gate>(
                     range,
                 };
                 let found = SearchEnd { number, mismatch };
-                scan_node(&scan, seat, gate, way, found, pairs)
+                scan_node(&scan, seat, gate, way, found, sink)
             }
         }
     }
@@ -131,23 +156,24 @@ pub(crate) fn first_key<'a>(range: &'a Range) -> &'a Key
     }
 }
 
-/// Scans from a root that is leaf `number`: adds its pair to `pairs`, if it belongs to `range` and the limit leaves room. Returns whether
+/// Scans from a root that is leaf `number`: gives its pair to `sink`, if it belongs to `range` and the limit leaves room. Returns whether
 /// it belongs there and has no room. An error if memory is refused.
 #[inline(always)]
-fn scan_leaf<G: Gate>(
+fn scan_leaf<G: Gate, S: Sink>(
     table: &HotTable,
     seat: &mut TableSeat,
     gate: &mut G,
     range: &Range,
     number: u32,
-    pairs: &mut Pairs,
+    sink: &mut S,
 ) -> Result<bool, AllocError>
     requires reader { IsReader table.now seat.old }
     requires root { IsAtRoot seat.old.known (LeafEntry number) }
-    requires empty { pairs.old ≡ [] }
+    requires empty { IsNone (S.tally sink.old) }
     ensures reads { (n : ℕ) × (n ≤ LEAF_FIELDS) × Reads table.now G.becomes 0 n (seat.old, gate.old) (seat.new, gate.new) }
-    ensures scanned { IfOk result (HasScanned range.now.direction seat.new.known (asked_range range.now) pairs.new) }
-    ensures part { OnErr result (HasScannedPart range.now.direction seat.new.known (asked_range range.now) pairs.new) }
+    ensures scanned { IfOk result (HasTaken range.now.direction seat.new.known (asked_range range.now) (S.tally sink.new)) }
+    ensures part { OnErr result (HasTakenPart range.now.direction seat.new.known (asked_range range.now) (S.tally sink.new)) }
+    ensures refused { OnErr result S.may_refuse }
 {
     let start = table.start_of(Rec::Leaf(number));
     let mut places = [0; MAX_BYTES];
@@ -160,30 +186,31 @@ fn scan_leaf<G: Gate>(
     ) {
         return Ok(false);
     }
-    match append_pair_in_range(pairs, range, &places, length, value)? {
+    match take_pair_in_range(sink, range, &places, length, value)? {
         Verdict::Full => Ok(true),
         Verdict::Further | Verdict::Past => Ok(false),
     }
 }
 
-/// Scans from a root that is a node. The search for the range's first key went through `way` and ended at `found`. Fills `pairs`,
-/// which is empty before, and returns whether there is a further pair. An error if memory is refused.
+/// Scans from a root that is a node. The search for the range's first key went through `way` and ended at `found`. Fills `sink`,
+/// which has no pair before, and returns whether there is a further one. An error if memory is refused.
 #[inline(always)]
-fn scan_node<G: Gate>(
+fn scan_node<G: Gate, S: Sink>(
     scan: &Scan,
     seat: &mut TableSeat,
     gate: &mut G,
     way: &mut ArrayVec<PathNode, MOST_NODES>,
     found: SearchEnd,
-    pairs: &mut Pairs,
+    sink: &mut S,
 ) -> Result<bool, AllocError>
     requires reader { IsReader scan.now.table.now seat.old }
     requires origins { scan.now.origins.now.layout ≡ scan.now.table.now.layout }
     requires way { IsSearchEnd scan.now.table.now.layout seat.old.known (since seat.old.known) (first_key_of scan.now.range.now) way.old.items found }
-    requires empty { pairs.old ≡ [] }
+    requires empty { IsNone (S.tally sink.old) }
     ensures reads { Walks scan.now.table.now G.becomes (HEAD_WORDS + LEAF_FIELDS) scan.now.range.now.limit (seat.old, gate.old) (seat.new, gate.new) }
-    ensures scanned { IfOk result (HasScanned scan.now.range.now.direction seat.new.known (asked_range scan.now.range.now) pairs.new) }
-    ensures part { OnErr result (HasScannedPart scan.now.range.now.direction seat.new.known (asked_range scan.now.range.now) pairs.new) }
+    ensures scanned { IfOk result (HasTaken scan.now.range.now.direction seat.new.known (asked_range scan.now.range.now) (S.tally sink.new)) }
+    ensures part { OnErr result (HasTakenPart scan.now.range.now.direction seat.new.known (asked_range scan.now.range.now) (S.tally sink.new)) }
+    ensures refused { OnErr result S.may_refuse }
 {
     let direction = scan.range.direction;
     let start = find_start(scan, seat, gate, way, found);
@@ -191,36 +218,37 @@ fn scan_node<G: Gate>(
     way.truncate(start.level);
     let places = &mut [0; MAX_BYTES];
     if start.leaf {
-        match take_leaf(scan, seat, gate, found.number, places, pairs)? {
+        match take_leaf(scan, seat, gate, found.number, places, sink)? {
             Verdict::Further => top.at = gap_behind_slot(direction, top.at),
             Verdict::Past => return Ok(false),
             Verdict::Full => return Ok(true),
         }
     }
     way.push(top);
-    walk_slots(scan, seat, gate, way, places, pairs)
+    walk_slots(scan, seat, gate, way, places, sink)
 }
 
-/// Walks over the slots of the last node of `way`, from its gap `at` on, and of the nodes above it, in the scan's direction. Adds the
-/// pairs of the range to `pairs`, and returns whether there is a further one. An error if memory is refused.
+/// Walks over the slots of the last node of `way`, from its gap `at` on, and of the nodes above it, in the scan's direction. Gives the
+/// pairs of the range to `sink`, and returns whether there is a further one. An error if memory is refused.
 ///
 /// It looks at several slots together, so that it doesn't wait for each leaf alone. The bytes of each key go to the same `places`,
 /// whatever stands there.
 #[inline(always)]
-fn walk_slots<G: Gate>(
+fn walk_slots<G: Gate, S: Sink>(
     scan: &Scan,
     seat: &mut TableSeat,
     gate: &mut G,
     way: &mut ArrayVec<PathNode, MOST_NODES>,
     places: &mut [u8; MAX_BYTES],
-    pairs: &mut Pairs,
+    sink: &mut S,
 ) -> Result<bool, AllocError>
     requires reader { IsReader scan.now.table.now seat.old }
     requires origins { scan.now.origins.now.layout ≡ scan.now.table.now.layout }
-    requires walk { IsWalkAlong seat.old.known (since seat.old.known) (request_of scan.now.range.now) way.old.items pairs.old }
+    requires walk { IsWalkAlong seat.old.known (since seat.old.known) (request_of scan.now.range.now) way.old.items (S.tally sink.old) }
     ensures reads { Walks scan.now.table.now G.becomes 0 scan.now.range.now.limit (seat.old, gate.old) (seat.new, gate.new) }
-    ensures scanned { IfOk result (HasScanned scan.now.range.now.direction seat.new.known (asked_range scan.now.range.now) pairs.new) }
-    ensures part { OnErr result (HasScannedPart scan.now.range.now.direction seat.new.known (asked_range scan.now.range.now) pairs.new) }
+    ensures scanned { IfOk result (HasTaken scan.now.range.now.direction seat.new.known (asked_range scan.now.range.now) (S.tally sink.new)) }
+    ensures part { OnErr result (HasTakenPart scan.now.range.now.direction seat.new.known (asked_range scan.now.range.now) (S.tally sink.new)) }
+    ensures refused { OnErr result S.may_refuse }
 {
     let direction = scan.range.direction;
     let mut leaves = [0; MOST_AHEAD as usize];
@@ -229,9 +257,9 @@ fn walk_slots<G: Gate>(
     };
     loop {
         if entries_to_come(direction, &top) > 0 {
-            let ahead = load_entries_ahead(scan, seat, gate, &top, pairs, &mut leaves);
+            let ahead = load_entries_ahead(scan, seat, gate, &top, sink, &mut leaves);
             let next = &leaves[..ahead.count as usize];
-            match append_pairs_of_leaves(scan, seat, gate, next, places, pairs)? {
+            match sink.take_leaves(scan, seat, gate, next, places)? {
                 Verdict::Further => (),
                 Verdict::Past => return Ok(false),
                 Verdict::Full => return Ok(true),
@@ -254,27 +282,26 @@ fn walk_slots<G: Gate>(
     }
 }
 
-/// Adds the pairs of `leaves`, which come next on the walk, to `pairs`, and returns `Further`. At a leaf past the range it stops and
-/// returns `Past`; at one of the range for which the limit leaves no room, `Full`. An error if memory is refused; the pairs before it stay.
-/// `places` is room for a key's bytes, and `gate` is told of each load.
+/// Takes the pairs of `leaves` one by one, as [`Sink::take_leaves`] says.
 #[inline(always)]
-fn append_pairs_of_leaves<G: Gate>(
+pub(crate) fn take_each_leaf<G: Gate, S: Tallies>(
     scan: &Scan,
     seat: &mut TableSeat,
     gate: &mut G,
     leaves: &[u32],
     places: &mut [u8; MAX_BYTES],
-    pairs: &mut Pairs,
+    sink: &mut S,
 ) -> Result<Verdict, AllocError>
     requires reader { IsReader scan.now.table.now seat.old }
     requires origins { scan.now.origins.now.layout ≡ scan.now.table.now.layout }
-    requires next { (top : PathNode) × (frames : List PathNode) × AreNext seat.old.known (request_of scan.now.range.now) top frames pairs.old leaves.now }
+    requires next { (top : PathNode) × (frames : List PathNode) × AreNext seat.old.known (request_of scan.now.range.now) top frames (S.tally sink.old) leaves.now }
     ensures reads { (n : ℕ) × (n ≤ LEAF_FIELDS * length leaves.now) × Reads scan.now.table.now G.becomes 0 n (seat.old, gate.old) (seat.new, gate.new) }
-    ensures taken { IfOk result (AreTakenOnWays seat.old.known seat.new.known (request_of scan.now.range.now) pairs.old leaves.now pairs.new) }
-    ensures part { OnErr result (HasScannedPart scan.now.range.now.direction seat.new.known (asked_range scan.now.range.now) pairs.new) }
+    ensures taken { IfOk result (AreTakenOnWays seat.old.known seat.new.known (request_of scan.now.range.now) (S.tally sink.old) leaves.now (S.tally sink.new)) }
+    ensures part { OnErr result (HasTakenPart scan.now.range.now.direction seat.new.known (asked_range scan.now.range.now) (S.tally sink.new)) }
+    ensures refused { OnErr result S.may_refuse }
 {
     for index in 0..leaves.len() {
-        match take_leaf(scan, seat, gate, leaves[index], places, pairs)? {
+        match take_leaf(scan, seat, gate, leaves[index], places, sink)? {
             Verdict::Further => (),
             Verdict::Past => return Ok(Verdict::Past),
             Verdict::Full => return Ok(Verdict::Full),
@@ -301,43 +328,45 @@ fn enter_node_at_gap<G: Gate>(
     step
 }
 
-/// Loads leaf `number`, whose key does not come before `scan.range`, and adds its pair to `pairs`, as [`append_pair_in_range`] does. Returns what
-/// becomes of the scan. An error if memory is refused. `places` is room for the key's bytes.
+/// Loads leaf `number`, whose key does not come before `scan.range`, and gives its pair to `sink`, as [`take_pair_in_range`] does. Returns
+/// what becomes of the scan. An error if memory is refused. `places` is room for the key's bytes.
 ///
 /// Keys of eight bytes are common: what is compiled for them alone has each as a number.
 #[inline(always)]
-fn take_leaf<G: Gate>(
+fn take_leaf<G: Gate, S: Tallies>(
     scan: &Scan,
     seat: &mut TableSeat,
     gate: &mut G,
     number: u32,
     places: &mut [u8; MAX_BYTES],
-    pairs: &mut Pairs,
+    sink: &mut S,
 ) -> Result<Verdict, AllocError>
     requires reader { IsReader scan.now.table.now seat.old }
     requires origins { scan.now.origins.now.layout ≡ scan.now.table.now.layout }
     requires leaf { (m : ℕ) × IsLedTo seat.old.known m (LeafEntry number) ×
         IsReached scan.now.range.now.direction scan.now.table.now.layout seat.old.known m (first_key_of scan.now.range.now) number }
+    requires few { (S.tally sink.old).size ≤ scan.now.range.now.limit }
     ensures reads { (n : ℕ) × (n ≤ LEAF_FIELDS) × Reads scan.now.table.now G.becomes 0 n (seat.old, gate.old) (seat.new, gate.new) }
-    ensures taken { IfOk result (IsLeafTaken seat.old.known seat.new.known (request_of scan.now.range.now) number pairs.old pairs.new) }
-    ensures refused { OnErr result (IsLeafRefused seat.old.known seat.new.known (asked_range scan.now.range.now) number pairs.old pairs.new) }
+    ensures taken { IfOk result (IsLeafTaken seat.old.known seat.new.known (request_of scan.now.range.now) number (S.tally sink.old) (S.tally sink.new)) }
+    ensures refused { OnErr result (IsLeafRefused seat.old.known seat.new.known (asked_range scan.now.range.now) number (S.tally sink.old) (S.tally sink.new)) }
+    ensures may { OnErr result S.may_refuse }
 {
     let start = scan.origins.start_of_leaf(number);
     let leaf = LeafAt { number, start };
     let (length, value) = load_leaf(scan.table, seat, gate, leaf, places);
     if length == 8 {
-        return append_pair_in_range(pairs, scan.range, places, 8, value);
+        return take_pair_in_range(sink, scan.range, places, 8, value);
     }
-    append_pair_in_range(pairs, scan.range, places, length, value)
+    take_pair_in_range(sink, scan.range, places, length, value)
 }
 
-/// Adds the pair of `value` and of the key in the first `length` bytes of `places` to `pairs`, and returns `Further`. Adds nothing and
-/// returns `Past` where the key is past `range`, or `Full` where it is of the range and the limit is reached. An error, and nothing added,
-/// if memory is refused. The key does not come before the range. Inline, so that the key's bytes go at once from where they were read to
-/// their place among the pairs.
+/// Gives the pair of `value` and of the key in the first `length` bytes of `places` to `sink`, and returns `Further`. Gives none and returns
+/// `Past` where the key is past `range`, or `Full` where it is of the range and the limit is reached. An error, and none given, if memory
+/// is refused. The key does not come before the range. Inline, so that the key's bytes go at once from where they were read to their place
+/// among the pairs.
 #[inline(always)]
-fn append_pair_in_range(
-    pairs: &mut Pairs,
+fn take_pair_in_range<S: Tallies>(
+    sink: &mut S,
     range: &Range,
     places: &[u8; MAX_BYTES],
     length: usize,
@@ -346,23 +375,25 @@ fn append_pair_in_range(
     requires key { IsKey (take length places.now) }
     requires fits { length ≤ MAX_BYTES }
     requires reached { IsNoLater range.now.direction (first_key_of range.now) (take length places.now) }
-    ensures taken { IfOk result (IsPairTaken (request_of range.now) pairs.old (take length places.now) value pairs.new) }
-    ensures refused { OnErr result (IsPairRefused (asked_range range.now) pairs.old (take length places.now) pairs.new) }
+    requires few { (S.tally sink.old).size ≤ range.now.limit }
+    ensures taken { IfOk result (IsPairTaken (request_of range.now) (S.tally sink.old) (take length places.now) value (S.tally sink.new)) }
+    ensures refused { OnErr result (IsPairRefused (asked_range range.now) (S.tally sink.old) (take length places.now) (S.tally sink.new)) }
+    ensures may { OnErr result S.may_refuse }
 {
     if is_past_range(range, &places[..length]) {
         return Ok(Verdict::Past);
     }
-    if pairs.len() == range.limit {
+    if sink.size() == range.limit {
         return Ok(Verdict::Full);
     }
-    pairs.push(places, length, value)?;
+    sink.take_pair(places, length, value)?;
     Ok(Verdict::Further)
 }
 
 /// Whether the key with the bytes `key` is past the last key of `range` in its direction. In a scan upwards two numbers of eight bytes
 /// mostly tell that it is not.
 #[inline(always)]
-fn is_past_range(range: &Range, key: &[u8]) -> bool
+pub(crate) fn is_past_range(range: &Range, key: &[u8]) -> bool
     requires key { IsKey key.now }
     ensures past { IsTrue result → IsEarlier range.now.direction (last_key_of range.now) key.now }
     ensures inside { result ≡ false → IsNoLater range.now.direction key.now (last_key_of range.now) }

@@ -19,7 +19,7 @@ use Rattle.rowex_writing.specs.Changes.{HasRun, HasTriedOnce}
 use Rattle.record_words.specs.declared.TheConstants.{HEAD_WORDS}
 use Rattle.rowex_writing.proofs.Onward.{reads_run}
 use Rattle.rowex_writing.proofs.Runs.{once_run, run_once}
-use Rattle.rowex_writing.specs.Counts.{attempt_steps, change_steps, most_locks, most_nodes, most_steps, rest_steps, span_steps}
+use Rattle.rowex_writing.specs.Counts.{attempt_steps, change_steps, most_locks, most_nodes, most_steps, rest_steps, search_steps, span_steps}
 use Rattle.rowex_writing.specs.Locks.{TriesNodesBy, locks_of, span_numbers, targets_of}
 use Rattle.rowex_writing.specs.Merging.{EndsChange}
 use Rattle.rowex_writing.specs.declared.deeds.Job.{Job}
@@ -103,6 +103,11 @@ module _ {G : Type 0} (table : TableView) (becomes : G → Event → G → Type 
   attempted_few =
       let looked = looks_count table becomes searched.nodes searched.loaded a m searched.looks in
       omega (arith, looked, searched.few, searched.low, few, rest_most table.layout locks most)
+
+-- ---- a search alone
+pub searched_few : {G : Type 0} (table : TableView) (becomes : G → Event → G → Type 0) (a m : SeatView × G) → HasSearched table becomes a m → m.0.known.steps ≤ a.0.known.steps + search_steps most_nodes
+searched_few table becomes a m searched =
+    let looked = looks_count table becomes searched.nodes searched.loaded a m searched.looks in omega (arith, looked, searched.few, searched.low)
 
 -- ---- a change that was tried
 -- locks that were all taken, and the change under them

@@ -1,7 +1,7 @@
 -- How the parts of an attempt make its answer, or its refusal.
 use Rattle.std.specs.Prelude.{if◌then◌else◌, nat_eq, IsSome}
 use Rattle.std.specs.Option.{option_map}
-use Rattle.std.proofs.Common.{◌≡◌, ◌≢◌, ◌⊎◌, inl, inr, ℕ, ◌≤◌, ◌<◌, List, [], ◌∷◌, length, refl, sym, ap, subst, ◌∙◌, arith, Option, Some, None, Bool, true, false, Ok, Err, ◌*◌}
+use Rattle.std.proofs.Common.{◌≡◌, ◌≢◌, ◌⊎◌, inl, inr, ℕ, ◌+◌, ◌≤◌, ◌<◌, List, [], ◌∷◌, length, refl, sym, ap, subst, ◌∙◌, arith, Option, Some, None, Bool, true, false, Ok, Err, ◌*◌}
 use Rattle.finite_map.specs.declared.Call.{Call}
 use Rattle.finite_map.specs.declared.Call.TheVariants.{Insert, Upsert, Exchange, Add, Get, Remove, RemoveIf}
 use Rattle.finite_map.specs.declared.Change.{Change}
@@ -37,9 +37,9 @@ use Rattle.rowex_core.specs.Knowing.{IsPinnedSince}
 use Rattle.rowex_reading.specs.Seen.{Sure, since}
 use Rattle.rowex_reading.proofs.Seeing.{later_trans, held_stable, missed_stable, shaped_stable, sure_later, since_later}
 use Rattle.rowex_writing.specs.Asking.{aim_of, aim_where, reply_to, value_in}
-use Rattle.rowex_writing.specs.Attempts.{HasAnswered, HasDone, HasLoadedRoot, HasLooked, HasRefused, IsAttemptCause, IsChangeOf, IsLeafless, refusal_of, revalued, HasFailed, GivesValue, HasMissed, IsFullFault, IsFullOfNew}
+use Rattle.rowex_writing.specs.Attempts.{HasAnswered, HasDone, HasLoadedRoot, HasLooked, HasRefused, IsAttemptCause, IsChangeOf, IsLeafless, refusal_of, revalued, HasFailed, HasMissedKey, IsFullFault, IsFullOfNew, WantsRecord}
 use Rattle.rowex_writing.specs.Changes.{AreAffected, HasChanged, HasNoRoom, HasRun, IsFull, IsPlanned}
-use Rattle.rowex_writing.specs.Locks.{HasMetLock}
+use Rattle.rowex_writing.specs.Locks.{HasMetLock, locks_of}
 use Rattle.rowex_writing.specs.Walks.{nodes_among}
 use Rattle.rowex_writing.specs.Plans.{change, IsCase, IsNewLeafPlan}
 use Rattle.rowex_reading.specs.Ways.{IsWayOf, value_of}
@@ -60,7 +60,8 @@ use Rattle.rowex_writing.proofs.Keeping.{lacks_so}
 use Rattle.rowex_writing.proofs.Onward.{looks_run, reads_run}
 use Rattle.rowex_writing.proofs.Runs.{run_loaded, runs_trans}
 use Rattle.rowex_writing.proofs.Spans.{met_since}
-use Rattle.rowex_writing.specs.Counts.{held_loads, spare_steps}
+use Rattle.record_words.specs.declared.TheConstants.{HEAD_WORDS}
+use Rattle.rowex_writing.specs.Counts.{held_loads, most_nodes, most_steps, most_steps_of, search_steps, spare_steps, value_steps}
 use Rattle.rowex_writing.specs.Jobs.{IsJobFrom}
 use Rattle.rowex_writing.specs.declared.deeds.Job.{Job}
 
@@ -397,15 +398,9 @@ aims_again (Get key) a b aim e some = absurd (cc)
 aims_again (Remove key) a b aim e some = e
 aims_again (RemoveIf key expected) a b aim e some = aim_here expected a b ToRemove aim e some
 
-no_aim : {A : Type 0} (o : Option Aim) → IsSome o → o ≡ None → A
+pub no_aim : {A : Type 0} (o : Option Aim) → IsSome o → o ≡ None → A
 no_aim None some none = absurd (let z : ⊥ = cc in z)
 no_aim (Some aim) some none = absurd (cc)
-
--- a call that has no aim at one value, and one at another
-pub aims_differ : (call : Call) (a b : ℕ) → IsSome (aim_of call (Some a)) → aim_of call (Some b) ≡ None → a ≢ b
-aims_differ call a b some none same =
-    let gone : aim_of call (Some a) ≡ None = ap (λ n. aim_of call (Some n)) same ∙ none in
-    no_aim (aim_of call (Some a)) some gone
 
 -- where the leaf has the key
 pub found_for_key : (found : Found) (n v o w : ℕ) (mismatch : Option ℕ) → found ≡ Leaf o w None → found ≡ Leaf n v mismatch → found ≡ Leaf n v None
@@ -433,6 +428,16 @@ value_found k m key way ToRemove (Leaf n v (Some p)) span (first, last, is, affe
 value_found k m key way ToInsert (Leaf n v None) span (first, last, is, affected) = no_answer _ span ValueDeed (sym is)
 value_found k m key way ToUpsert (Leaf n v None) span (first, last, is, affected) = (n, v, refl, ap (λ (s : Span). s.len) (ap span_in is), ap (λ (s : Span). s.end) (ap span_in is))
 value_found k m key way ToRemove (Leaf n v None) span (first, last, is, affected) = absurd (cc)
+
+-- a change to a leaf that was found for the key has a span to the end of the way
+pub plan_reaches : (k : Known) (m : ℕ) (key : Key) (way : List PathNode) (aim : Aim) (found : Found) (span : Span) (deed : Deed) → IsPlanned k m key way aim found (a_change span deed) →
+    (n v : ℕ) → found ≡ Leaf n v None → span.len ≡ length way
+plan_reaches k m key way aim found span deed planned n v is = go aim (subst (λ f. IsPlanned k m key way aim f (a_change span deed)) is planned)
+  where
+    go : (a : Aim) → IsPlanned k m key way a (Leaf n v None) (a_change span deed) → span.len ≡ length way
+    go ToInsert (first, last, plan, affected) = no_answer _ span deed (sym plan)
+    go ToUpsert (first, last, plan, affected) = ap (λ (s : Span). s.len) (ap span_in plan)
+    go ToRemove (first, last, plan, affected) = ap (λ (s : Span). s.len) (ap span_in plan)
 
 -- since the start no fewer steps have been made
 loaded_steps : (k j : Known) → HasLoadedRoot k j → k.steps ≤ j.steps
@@ -470,30 +475,91 @@ failed_later layout job i j made Busy failed = failed.1
 failed_later layout job i j made FullNodes none = none.later
 failed_later layout job i j made FullLeaves none = none.later
 
--- a call that gives its key a value takes none away
-no_removal : (call : Call) (held : Option ℕ) → aim_of call held ≡ Some ToRemove → GivesValue call → ⊥
-no_removal (Insert key value) held e gives = cc
-no_removal (Upsert key value) held e gives = cc
-no_removal (Exchange key expected value) held e gives = let other : ToUpsert ≡ ToRemove = aim_met (λ a. a ≡ ToRemove) expected held ToUpsert ToRemove e refl in cc
-no_removal (Add key delta) None e gives = cc
-no_removal (Add key delta) (Some had) e gives = cc
-no_removal (Get key) held e gives = cc
-no_removal (Remove key) held e gives = gives
-no_removal (RemoveIf key expected) held e gives = gives
+-- a call that aims at a removal is one
+removal_may : (j : Known) (call : Call) (held : Option ℕ) → aim_of call held ≡ Some ToRemove → WantsRecord j call
+removal_may j (Insert key value) held e = absurd (cc)
+removal_may j (Upsert key value) held e = absurd (cc)
+removal_may j (Exchange key expected value) held e = absurd (let other : ToUpsert ≡ ToRemove = aim_met (λ a. a ≡ ToRemove) expected held ToUpsert ToRemove e refl in cc)
+removal_may j (Add key delta) None e = absurd (cc)
+removal_may j (Add key delta) (Some had) e = absurd (cc)
+removal_may j (Get key) held e = absurd (cc)
+removal_may j (Remove key) held e = tt
+removal_may j (RemoveIf key expected) held e = tt
 
--- so where no record was free for it, its search has not found the key
-missed : (k j : Known) (key other : Key) → key ≡ other → IsPinnedSince k (since k) → Sure k (λ s. WasAbsentSince s (since k) key) → IsLater k j → HasMissed j other
+-- and one that aims at anything where its key is absent gives it a value, or is a removal
+absent_may : (j : Known) (call : Call) (aim : Aim) → aim_of call None ≡ Some aim → HasMissedKey j (key_of call) → WantsRecord j call
+absent_may j (Insert key value) aim e missed = missed
+absent_may j (Upsert key value) aim e missed = missed
+absent_may j (Exchange key expected value) aim e missed = absurd (cc)
+absent_may j (Add key delta) aim e missed = absurd (cc)
+absent_may j (Get key) aim e missed = absurd (cc)
+absent_may j (Remove key) aim e missed = tt
+absent_may j (RemoveIf key expected) aim e missed = tt
+
+missed : (k j : Known) (key other : Key) → key ≡ other → IsPinnedSince k (since k) → Sure k (λ s. WasAbsentSince s (since k) key) → IsLater k j → HasMissedKey j other
 missed k j key other same pinned sure later =
     (since k, since_later later pinned, subst (λ z. Sure j (λ s. WasAbsentSince s (since k) z)) same (sure_later {P = λ s. WasAbsentSince s (since k) key} (missed_stable (since k) key) later sure))
 
+-- so where no record was free for it, it may take one
 pub full_of_new : (k p j : Known) (m : ℕ) (key : Key) (way : List PathNode) (aim : Aim) (found : Found) (span : Span) (deed : Deed) (fault : TryFault) (call : Call) → key ≡ key_of call →
     IsPlanned p m key way aim found (a_change span deed) → IsPinnedSince k (since k) → HasFound k key (value_of found) → IsLater k j → aim_of call (value_of found) ≡ Some aim → (deed ≡ ValueDeed → fault ≡ Busy) →
     IsFullOfNew j call fault
-full_of_new k p j m key way aim Nothing span deed fault call same planned pinned sure later e whole full gives = missed k j key (key_of call) same pinned sure later
-full_of_new k p j m key way aim (Leaf n v (Some q)) span deed fault call same planned pinned sure later e whole full gives = missed k j key (key_of call) same pinned sure later
-full_of_new k p j m key way ToInsert (Leaf n v None) span deed fault call same (first, last, is, affected) pinned sure later e whole full gives = no_answer _ span deed (sym is)
-full_of_new k p j m key way ToUpsert (Leaf n v None) span deed fault call same (first, last, is, affected) pinned sure later e whole full gives = absurd (subst IsFullFault (whole (ap deed_in is)) full)
-full_of_new k p j m key way ToRemove (Leaf n v None) span deed fault call same planned pinned sure later e whole full gives = absurd (no_removal call (Some v) e gives)
+full_of_new k p j m key way aim Nothing span deed fault call same planned pinned sure later e whole full = absent_may j call aim e (missed k j key (key_of call) same pinned sure later)
+full_of_new k p j m key way aim (Leaf n v (Some q)) span deed fault call same planned pinned sure later e whole full = absent_may j call aim e (missed k j key (key_of call) same pinned sure later)
+full_of_new k p j m key way ToInsert (Leaf n v None) span deed fault call same (first, last, is, affected) pinned sure later e whole full = no_answer _ span deed (sym is)
+full_of_new k p j m key way ToUpsert (Leaf n v None) span deed fault call same (first, last, is, affected) pinned sure later e whole full = absurd (subst IsFullFault (whole (ap deed_in is)) full)
+full_of_new k p j m key way ToRemove (Leaf n v None) span deed fault call same (first, last, is, affected) pinned sure later e whole full = removal_may j call (Some v) e
+
+-- ---- how many steps a new value takes
+-- it locks one node, or the anchor
+pub one_lock : (k : Known) (m : ℕ) (key : Key) (way : List PathNode) (aim : Aim) (found : Found) (span : Span) (deed : Deed) → IsPlanned k m key way aim found (a_change span deed) → deed ≡ ValueDeed → locks_of span ≡ 1
+one_lock k m key way aim found span deed planned e =
+    let (number, value, is, len, end) = value_found k m key way aim found span (subst (λ d. IsPlanned k m key way aim found (a_change span d)) e planned) in omega (arith, len, end)
+
+-- a call that aims at a new value of a held key alone
+upserts : (expected v : ℕ) (aim : Aim) → aim_where expected (Some v) ToUpsert ≡ Some aim → aim ≡ ToUpsert
+upserts expected v ToInsert e = absurd (let other : ToUpsert ≡ ToInsert = aim_met (λ a. a ≡ ToInsert) expected (Some v) ToUpsert ToInsert e refl in cc)
+upserts expected v ToUpsert e = refl
+upserts expected v ToRemove e = absurd (let other : ToUpsert ≡ ToRemove = aim_met (λ a. a ≡ ToRemove) expected (Some v) ToUpsert ToRemove e refl in cc)
+
+value_planned : (k : Known) (m : ℕ) (key : Key) (way : List PathNode) (aim : Aim) (n v : ℕ) (span : Span) (deed : Deed) → IsPlanned k m key way aim (Leaf n v None) (a_change span deed) → aim ≡ ToUpsert → deed ≡ ValueDeed
+value_planned k m key way ToInsert n v span deed planned e = absurd (cc)
+value_planned k m key way ToUpsert n v span deed (first, last, is, affected) e = ap deed_in is
+value_planned k m key way ToRemove n v span deed planned e = absurd (cc)
+
+-- the deed of an exchange or an addition
+exchange_values : (k : Known) (m : ℕ) (key : Key) (way : List PathNode) (expected : ℕ) (aim : Aim) (found : Found) (span : Span) (deed : Deed) → aim_where expected (value_of found) ToUpsert ≡ Some aim →
+    IsPlanned k m key way aim found (a_change span deed) → deed ≡ ValueDeed
+exchange_values k m key way expected aim Nothing span deed e planned = absurd (cc)
+exchange_values k m key way expected aim (Leaf n v (Some p)) span deed e planned = absurd (cc)
+exchange_values k m key way expected aim (Leaf n v None) span deed e planned = value_planned k m key way aim n v span deed planned (upserts expected v aim e)
+
+add_values : (k : Known) (m : ℕ) (key : Key) (way : List PathNode) (added : Key) (delta : ℕ) (aim : Aim) (found : Found) (span : Span) (deed : Deed) → aim_of (Add added delta) (value_of found) ≡ Some aim →
+    IsPlanned k m key way aim found (a_change span deed) → deed ≡ ValueDeed
+add_values k m key way added delta aim Nothing span deed e planned = absurd (cc)
+add_values k m key way added delta aim (Leaf n v (Some p)) span deed e planned = absurd (cc)
+add_values k m key way added delta aim (Leaf n v None) span deed e planned = value_planned k m key way aim n v span deed planned (let same : ToUpsert ≡ aim = cc in sym same)
+
+-- a change that was tried makes no more steps than an attempt of its call
+pub tried_few : (layout : Layout) (a b : ℕ) (k : Known) (m : ℕ) (key : Key) (way : List PathNode) (aim : Aim) (found : Found) (span : Span) (deed : Deed) (call : Call) → aim_of call (value_of found) ≡ Some aim →
+    IsPlanned k m key way aim found (a_change span deed) → (deed ≡ ValueDeed → b ≤ a + search_steps most_nodes + HEAD_WORDS + value_steps) → b ≤ a + most_steps layout → b ≤ a + most_steps_of call layout
+tried_few layout a b k m key way aim found span deed (Insert own value) e planned short few = few
+tried_few layout a b k m key way aim found span deed (Upsert own value) e planned short few = few
+tried_few layout a b k m key way aim found span deed (Exchange own expected value) e planned short few = let n = short (exchange_values k m key way expected aim found span deed e planned) in omega (arith, n)
+tried_few layout a b k m key way aim found span deed (Add own delta) e planned short few = let n = short (add_values k m key way own delta aim found span deed e planned) in omega (arith, n)
+tried_few layout a b k m key way aim found span deed (Get own) e planned short few = few
+tried_few layout a b k m key way aim found span deed (Remove own) e planned short few = few
+tried_few layout a b k m key way aim found span deed (RemoveIf own expected) e planned short few = few
+
+-- nor does one that only looks
+pub looked_few : (layout : Layout) (a b : ℕ) (call : Call) → b ≤ a + search_steps most_nodes + HEAD_WORDS → b ≤ a + most_steps_of call layout
+looked_few layout a b (Insert own value) few = omega (arith, few)
+looked_few layout a b (Upsert own value) few = omega (arith, few)
+looked_few layout a b (Exchange own expected value) few = omega (arith, few)
+looked_few layout a b (Add own delta) few = omega (arith, few)
+looked_few layout a b (Get own) few = omega (arith, few)
+looked_few layout a b (Remove own) few = omega (arith, few)
+looked_few layout a b (RemoveIf own expected) few = omega (arith, few)
 
 -- a refusal for want of a leaf record is for want of one
 pub leaves_refused : (full : Full) → refusal_of full ≡ FullLeaves → full ≡ Leaves

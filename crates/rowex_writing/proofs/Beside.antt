@@ -32,7 +32,6 @@ use Rattle.rowex_reading.specs.Possible.{IsPossible}
 use Rattle.rowex_reading.specs.Seen.{HasPlace}
 use Rattle.rowex_reading.specs.Ways.{IsWayOf}
 use Rattle.rowex_reading.specs.declared.descent.Found.TheVariants.{Leaf}
-use Rattle.rowex_reading.proofs.Seeing.{later_trans}
 use Rattle.rowex_reading.proofs.Ways.{way_later}
 use Rattle.rowex_writing.specs.Going.{HasLocked, IsLockedBy, IsNodeOf, WorksOn}
 use Rattle.publish_laws.proofs.Merging.{beside_in_table}

@@ -44,7 +44,6 @@ use Rattle.rowex_reading.proofs.Later.{event_knows, event_later}
 use Rattle.rowex_reading.proofs.Placing.{slot_later, slot_some, slot_placed}
 use Rattle.rowex_reading.proofs.Rooting.{root_fresh}
 use Rattle.rowex_reading.proofs.Seeing.{seen_steady, since_later, sure_later, blank_stable, placed_stable, rooted_stable, seen_stable, shaped_stable}
-use Rattle.publish_laws.specs.Loops.{StaysLocked}
 use Rattle.std.proofs.lemmas.List.Elements.{All-cons, All-nil}
 use Rattle.publish_laws.proofs.Loops.{still_locked}
 use Rattle.rowex_writing.specs.Checks.{EntriesStand}

@@ -13,8 +13,6 @@ use Rattle.rowex_table.specs.Made.{Made}
 use Rattle.rowex_table.specs.Seats.{TableView, SeatView}
 use Rattle.rowex_records.specs.Claims.{Claims, FindsFree, FindsNone}
 use Rattle.rowex_reading.proofs.Counting.{runs_count}
-use Rattle.rowex_reading.specs.declared.descent.Found.{Found}
-use Rattle.rowex_reading.specs.declared.descent.Found.TheVariants.{Nothing, Leaf}
 use Rattle.rowex_writing.specs.Building.{HasLeafMade, IsBuilding}
 use Rattle.rowex_writing.specs.Counts.{deed_steps, leaf_steps, levels_steps}
 use Rattle.rowex_writing.specs.Locks.{numbers_of}

@@ -37,3 +37,4 @@ pub mod Walked
 pub mod Wider
 pub mod Beside
 pub mod Merged
+pub mod Named

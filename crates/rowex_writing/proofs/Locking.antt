@@ -25,7 +25,7 @@ use Rattle.rowex_table.specs.Seats.{TableView, SeatView, IsSeatOf}
 use Rattle.rowex_table.proofs.Running.{runs_one, runs_append, runs_same}
 use Rattle.versions.specs.Trades.{IsOneOf}
 use Rattle.rowex_table.proofs.ActsBefore.{entry_of_locked, fixed_of_locked}
-use Rattle.publish_laws.proofs.Loops.{later_if_same, later_transitive, still_locked, locked_on as stays_on, locked_same}
+use Rattle.publish_laws.proofs.Loops.{still_locked, locked_on as stays_on, locked_same}
 use Rattle.versions.proofs.Members.{all_of}
 use Rattle.rowex_writing.specs.Going.{WorksOn, ReadsOn, HasLocked, IsNodeOf, TriesNoLock}
 use Rattle.rowex_writing.specs.Loads.{AreRead, AreThose}

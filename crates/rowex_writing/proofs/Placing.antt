@@ -1,10 +1,8 @@
 -- A new leaf in the place of what stands there, or in a node with it: what the plan says, and that the store may be made.
-use Rattle.std.proofs.Common.{◌≡◌, inl, inr, ⊎_elim, ℕ, ◌+◌, ◌-◌, ◌*◌, ◌<◌, ◌≤◌, List, [], ◌∷◌, ◌++◌, length, get_or, Bool, true, false, nat_lt, Option, Some, None, refl, sym, ap, subst, ◌∙◌, arith, le_trans, ◌^◌, ◌⊎◌}
+use Rattle.std.proofs.Common.{◌≡◌, inl, inr, ⊎_elim, ℕ, ◌+◌, ◌-◌, ◌*◌, ◌<◌, ◌≤◌, List, [], ◌∷◌, ◌++◌, length, get_or, Bool, true, false, nat_lt, Option, Some, None, refl, sym, ap, subst, ◌∙◌, arith, le_trans, ◌^◌}
 use Rattle.std.specs.Prelude.{if◌then◌else◌, slice_get}
 use Rattle.std.proofs.lemmas.Bool.{cases_lt, ltb-true}
-use Rattle.std.proofs.lemmas.List.Elements.{All-cons}
 use Rattle.std.proofs.lemmas.Option.{slice_get-get_or}
-use Rattle.finite_map.specs.declared.Change.{Change}
 use Rattle.compound_node.specs.Nodes.{NodeView, piece, greatest_height}
 use Rattle.compound_node.specs.declared.entries.Entry.{Entry}
 use Rattle.compound_node.specs.declared.entries.Entry.TheVariants.{Leaf as LeafEntry, Node as NodeEntry}
@@ -27,7 +25,6 @@ use Rattle.tries.specs.Search.{seek}
 use Rattle.tries.specs.Tree.{Subtrie, leaf}
 use Rattle.tries.proofs.Tries.{trie_within}
 use Rattle.versions.specs.declared.Rec.{Rec}
-use Rattle.versions.specs.declared.Rec.TheVariants.{Leaf as a_leaf}
 use Rattle.versions.specs.Trades.{IsOneOf}
 use Rattle.version_laws.specs.Scan.{IsRead}
 use Rattle.version_laws.specs.Writer.{added_change, replaced_change}
@@ -35,7 +32,6 @@ use Rattle.rowex_core.specs.declared.event.Spot.{Spot}
 use Rattle.rowex_core.specs.declared.event.Spot.TheVariants.{Root, Slot, Value}
 use Rattle.rowex_core.specs.declared.known.Known.{Known}
 use Rattle.rowex_core.specs.declared.known.Locked.{Locked}
-use Rattle.rowex_core.specs.Cores.{HasRecord}
 use Rattle.rowex_core.specs.Reading.{node_words_of}
 use Rattle.rowex_core.proofs.Owning.{recalls}
 use Rattle.rowex_table.specs.Made.{Made, IsLater}
@@ -56,7 +52,6 @@ use Rattle.rowex_writing.specs.Changes.{AreAffected, HasTakenSpan, IsPlanned, Is
 use Rattle.rowex_writing.specs.Going.{HasLocked}
 use Rattle.rowex_writing.specs.Plans.{change, IsCase, IsNewLeafPlan, IsPlan}
 use Rattle.rowex_writing.specs.Putting.{IsSpotAbove}
-use Rattle.rowex_writing.specs.Retiring.{AreInTable}
 use Rattle.rowex_reading.specs.Ways.{IsFoundAt, IsMismatch, IsWayNode, IsWayOf, end_of, named}
 use Rattle.rowex_reading.proofs.Ways.{named_end}
 use Rattle.rowex_writing.specs.declared.plan.Aim.{Aim}
@@ -71,7 +66,6 @@ use Rattle.rowex_writing.specs.declared.plan.Span.{Span}
 use Rattle.rowex_writing.proofs.Above.{holds_above}
 use Rattle.rowex_writing.proofs.Shapes.{locked_shape}
 use Rattle.rowex_writing.proofs.Keeping.{made_record}
-use Rattle.rowex_writing.specs.Merging.{no_step}
 use Rattle.rowex_writing.proofs.Valued.{some_spot}
 
 -- ---- plans

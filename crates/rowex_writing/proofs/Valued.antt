@@ -1,20 +1,17 @@
 -- The value of a leaf that a search has found: loaded again under the lock of what names it, and stored.
-use Rattle.std.proofs.Common.{◌≡◌, ◌≢◌, ◌⊎◌, inl, inr, ℕ, ◌+◌, ◌*◌, ◌<◌, ◌≤◌, List, [], ◌∷◌, length, Option, Some, None, refl, sym, ap, subst, ◌∙◌, arith, zero, suc, get_or, ◌-◌, Bool, true, false, IsSome}
-use Rattle.std.specs.Prelude.{All, slice_get, IfErr, Result, Ok, Err, ⊤}
+use Rattle.std.proofs.Common.{◌≡◌, ◌≢◌, ◌⊎◌, inl, inr, ℕ, ◌+◌, ◌<◌, ◌≤◌, List, [], ◌∷◌, length, Option, Some, None, refl, sym, ap, subst, ◌∙◌, arith, zero, suc, get_or, ◌-◌, Bool, true, false, IsSome}
+use Rattle.std.specs.Prelude.{IfErr, Result, Ok, Err, ⊤}
 use Rattle.std.proofs.lemmas.Bool.{cases_lt}
 use Rattle.std.proofs.lemmas.List.{length-append}
 use Rattle.std.proofs.lemmas.List.Elements.{All-cons}
-use Rattle.compound_node.specs.declared.entries.Entry.{Entry}
 use Rattle.compound_node.specs.declared.entries.Entry.TheVariants.{Leaf as LeafEntry}
 use Rattle.finite_map.specs.declared.Change.{Change}
-use Rattle.finite_map.specs.Maps.{Map, value_at}
 use Rattle.finite_map.specs.Fronts.{BeginsWith}
 use Rattle.finite_map.proofs.Growth.{begins_on}
 use Rattle.insert_cases.specs.declared.choice.PathNode.{PathNode}
 use Rattle.record_words.specs.declared.layout.Layout.{Layout}
 use Rattle.tries.specs.Keys.{Key}
-use Rattle.tries.specs.Search.{seek}
-use Rattle.tries.specs.Tree.{Tree, leaf, Holds}
+use Rattle.tries.specs.Tree.{leaf, Holds}
 use Rattle.tries.proofs.Maps.{holds_value}
 use Rattle.version_laws.specs.Scan.{IsRead}
 use Rattle.version_laws.proofs.Search.{holds_within}
@@ -29,7 +26,6 @@ use Rattle.rowex_core.specs.declared.known.Fresh.{Fresh}
 use Rattle.rowex_core.specs.declared.known.Known.{Known}
 use Rattle.rowex_core.specs.declared.known.Locked.{Locked}
 use Rattle.rowex_core.specs.Knowing.{IsEvent, IsPinnedSince}
-use Rattle.rowex_core.specs.Reading.{node_words_of}
 use Rattle.rowex_core.proofs.Owning.{recalls}
 use Rattle.rowex_table.specs.Made.{IsLater, Made, nodes_of}
 use Rattle.rowex_table.specs.Publishes.{HasPublished}
@@ -44,19 +40,19 @@ use Rattle.rowex_reading.specs.Ways.{IsFoundAt, IsWayOf, end_of, named, RootWas}
 use Rattle.rowex_reading.specs.declared.descent.Found.{Found}
 use Rattle.rowex_reading.specs.declared.descent.Found.TheVariants.{Nothing, Leaf}
 use Rattle.rowex_reading.proofs.Later.{event_later, event_possible}
-use Rattle.rowex_reading.proofs.Seeing.{later_reflexive, read_stable, seen_steady, since_later, sure_later, sure_map, later_trans}
+use Rattle.rowex_reading.proofs.Seeing.{later_reflexive, read_stable, seen_steady, since_later, sure_later, later_trans}
 use Rattle.rowex_reading.proofs.Valuing.{both_read, value_read}
 use Rattle.rowex_reading.proofs.Ways.{way_later}
 use Rattle.publish_laws.specs.Ending.{IsAtRest}
 use Rattle.publish_laws.specs.Stages.{HasLoaded}
 use Rattle.publish_laws.proofs.Loops.{still_locked}
-use Rattle.rowex_writing.specs.Attempts.{HasFailed, HasLoadedFound, HasMoved, revalued, refusal_of}
-use Rattle.rowex_writing.specs.Changes.{HasChanged, HasNoRoom, HasRun, HasTakenSpan, IsChecked}
+use Rattle.rowex_writing.specs.Attempts.{HasFailed, HasLoadedFound, revalued, refusal_of}
+use Rattle.rowex_writing.specs.Changes.{HasChanged, HasNoRoom, HasTakenSpan}
 use Rattle.rowex_writing.specs.Counts.{held_loads}
-use Rattle.rowex_writing.specs.Going.{HasLocked, ReadsOn, TriesNoLock}
+use Rattle.rowex_writing.specs.Going.{ReadsOn, TriesNoLock}
 use Rattle.rowex_writing.specs.Jobs.{IsJobFrom, HoldsSpan}
-use Rattle.rowex_writing.specs.Locks.{locks_of, span_numbers}
-use Rattle.rowex_writing.specs.Merging.{ChangesOn, EndsChange, no_step}
+use Rattle.rowex_writing.specs.Locks.{span_numbers}
+use Rattle.rowex_writing.specs.Merging.{EndsChange, no_step}
 use Rattle.rowex_writing.specs.declared.deeds.Job.{Job}
 use Rattle.rowex_writing.specs.declared.plan.Full.{Full}
 use Rattle.rowex_writing.specs.declared.plan.Full.TheVariants.{Nodes, Leaves}
@@ -240,7 +236,7 @@ anchored_on true k j kept is = kept.1 is
 anchored_on false k j kept is = kept.0 is
 
 pub failed_before : (layout : Layout) (job : Job) (a b c : Known) (made : List Rec) (r : Result ⊤ TryFault) → IsLater a b → IfErr r (λ fault. (fault ≡ Busy) × HasFailed layout job b c made fault) → IfErr r (HasFailed layout job a c made)
-failed_before layout job a b c made (Ok x) later h = tt
+failed_before layout job a b c made (Ok x) _ h = tt
 failed_before layout job a b c made (Err fault) later h = failed_since layout job a b c made fault later h.0 h.1
 
 pub busy_leafless : {X : Type 0} (r : Result X TryFault) (P : TryFault → Type 0) → IfErr r (λ fault. (fault ≡ Busy) × P fault) → r ≢ Err FullLeaves

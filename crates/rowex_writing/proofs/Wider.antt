@@ -140,11 +140,17 @@ module _ {G : Type 0} (table : TableView) (becomes : G → Event → G → Type 
       let (locks, tried, least, most, all) = tries a (nodes_then table becomes nodes a b m h run) in (locks, tried, least, most, omega (arith, few))
 
   pub few_both : (nodes : List ℕ) (left : ℕ) (b m c d : SeatView × G) → HasTried table becomes [] b m → TriesMore table becomes nodes true m c → HasTried table becomes [] c d → d.0.known.steps ≤ b.0.known.steps + 2 * left + 600 →
-      TriesFew table becomes nodes left 60 b d
+      TriesFew table becomes nodes left 53 b d
   few_both nodes left b m c d run tries rest few a h =
       let (locks, tried, least, most, all) = tries a (nodes_then table becomes nodes a b m h run) in
       let two = all refl in
       (locks, once_then table becomes a c d tried rest, least, most, omega (arith, few, two))
+
+  -- and some before
+  pub few_before : (nodes : List ℕ) (left less more : ℕ) (b m c : SeatView × G) → HasTried table becomes [] b m → TriesFew table becomes nodes left less m c → m.0.known.steps + less ≤ b.0.known.steps + more →
+      TriesFew table becomes nodes left more b c
+  few_before nodes left less more b m c run tries before a h =
+      let (locks, tried, least, most, few) = tries a (nodes_then table becomes nodes a b m h run) in (locks, tried, least, most, omega (arith, few, before))
 
   -- and then some more
   pub few_then : (nodes : List ℕ) (left more : ℕ) (b c d : SeatView × G) → TriesFew table becomes nodes left 60 b c → HasTried table becomes [] c d → d.0.known.steps + 60 ≤ c.0.known.steps + more → TriesFew table becomes nodes left more b d

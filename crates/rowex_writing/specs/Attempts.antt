@@ -1,12 +1,12 @@
 -- One attempt of a call that may change the map: what it answers, and why it is refused.
 use Rattle.std.specs.Prelude.{◌≡◌, ◌≢◌, ◌⊎◌, ℕ, ◌<◌, ◌≤◌, List, ◌++◌, length, All, Option, Some, None, Result, Err}
 use Rattle.finite_map.specs.declared.Call.{Call}
-use Rattle.finite_map.specs.declared.Call.TheVariants.{Remove, RemoveIf}
+use Rattle.finite_map.specs.declared.Call.TheVariants.{Insert, Remove, RemoveIf, Upsert}
 use Rattle.finite_map.specs.declared.Change.{Change}
 use Rattle.finite_map.specs.declared.Reply.{Reply}
 use Rattle.finite_map.specs.Calls.{change_of, effect_of}
-use Rattle.finite_map.specs.Fronts.{BeginsWith, OthersGoOn}
-use Rattle.finite_map.specs.Maps.{key_of}
+use Rattle.finite_map.specs.Fronts.{BeginsWith, OthersGoOn, map_of}
+use Rattle.finite_map.specs.Maps.{key_of, value_at}
 use Rattle.record_words.specs.declared.layout.Layout.{Layout}
 use Rattle.tries.specs.Keys.{Key}
 use Rattle.versions.specs.declared.Rec.{Rec}
@@ -92,6 +92,19 @@ pub record IsFoundAgain (call : Call) (found now : Found) : Type 0 where
   pub is : now ≡ revalued found value
   pub aims : (aim : Aim) → aim_of call (value_of found) ≡ Some aim → aim_of call (value_of now) ≡ Some aim
 
+-- where a leaf was found for the key, the key has this value after the changes that the pass has seen
+abbrev pub HoldsFound : Known → Key → Found → Type 0
+HoldsFound k key found = (number value : ℕ) → found ≡ Leaf number value None → value_at (map_of k.front) key ≡ Some value
+
+-- Under its locks the pass has found the key with another value, at which the call has nothing to change. The key had it in a version
+-- since the pass's last load of the root.
+pub record HasFoundOther (k j : Known) (call : Call) (key : Key) (now : Found) : Type 0 where
+  pub later : IsLater k j
+  pub value : ℕ
+  pub is : value_of now ≡ Some value
+  pub held : HasFound j key (Some value)
+  pub aimless : aim_of call (Some value) ≡ None
+
 -- it has loaded the value of the leaf that was found for the key, if one was, since it last locked
 abbrev pub HasLoadedFound : Known → Found → Type 0
 HasLoadedFound k found = (number value : ℕ) → found ≡ Leaf number value None → HasLoaded k number value
@@ -138,19 +151,21 @@ abbrev pub IsFullFault : TryFault → Type 0
 IsFullFault Busy = ⊥
 IsFullFault fault = Unit {0}
 
--- the call gives its key a value
-abbrev pub GivesValue : Call → Type 0
-GivesValue (Remove key) = ⊥
-GivesValue (RemoveIf key expected) = ⊥
-GivesValue call = Unit {0}
-
 -- the key was absent in a version since some version, to which the pass's pin goes back
-abbrev pub HasMissed : Known → Key → Type 0
-HasMissed j key = (m : ℕ) × IsPinnedSince j m × Sure j (λ s. WasAbsentSince s m key)
+abbrev pub HasMissedKey : Known → Key → Type 0
+HasMissedKey j key = (m : ℕ) × IsPinnedSince j m × Sure j (λ s. WasAbsentSince s m key)
 
--- a call that gives its key a value is refused for want of a record only if its search has not found the key
+-- A call may lack a record: an insertion or an upsert whose search has not found the key, and a removal. No other call takes one.
+abbrev pub WantsRecord : Known → Call → Type 0
+WantsRecord j (Insert key value) = HasMissedKey j key
+WantsRecord j (Upsert key value) = HasMissedKey j key
+WantsRecord j (Remove key) = Unit {0}
+WantsRecord j (RemoveIf key expected) = Unit {0}
+WantsRecord j call = ⊥
+
+-- so it is refused for want of one only where it may
 abbrev pub IsFullOfNew : Known → Call → TryFault → Type 0
-IsFullOfNew j call fault = IsFullFault fault → GivesValue call → HasMissed j (key_of call)
+IsFullOfNew j call fault = IsFullFault fault → WantsRecord j call
 
 -- It was refused: no change of its own was made.
 pub record HasRefused (layout : Layout) (key : Key) (k j : Known) (made : List Rec) (fault : TryFault) : Type 0 where

@@ -1,6 +1,8 @@
 -- How many atomic steps the parts of an attempt make at most, by the nodes on its way, its locks and the records of the table.
 use Rattle.std.specs.Prelude.{ℕ, zero, suc, ◌+◌, ◌*◌, Result, Ok, Err, None}
 use Rattle.key_bits.specs.declared.TheConstants.{MAX_BYTES}
+use Rattle.finite_map.specs.declared.Call.{Call}
+use Rattle.finite_map.specs.declared.Call.TheVariants.{Add, Exchange}
 use Rattle.record_words.specs.declared.TheConstants.{HEAD_WORDS, LEAF_FIELDS, NODE_FIELDS}
 use Rattle.record_words.specs.declared.layout.Layout.{Layout}
 use Rattle.rowex_reading.specs.declared.descent.Found.{Found}
@@ -79,3 +81,14 @@ attempt_steps layout nodes locks = search_steps nodes + rest_steps layout locks
 -- any attempt
 abbrev pub most_steps : Layout → ℕ
 most_steps layout = attempt_steps layout most_nodes most_locks
+
+-- a new value of a held key, once it is planned: the try of a lock, a load of what names the leaf and one of the value, the store, and
+-- the unlocking
+abbrev pub value_steps : ℕ
+value_steps = 8
+
+-- any attempt at this call: an exchange and an addition give a held key a new value, or look alone
+abbrev pub most_steps_of : Call → Layout → ℕ
+most_steps_of (Exchange key expected value) layout = search_steps most_nodes + HEAD_WORDS + value_steps
+most_steps_of (Add key delta) layout = search_steps most_nodes + HEAD_WORDS + value_steps
+most_steps_of call layout = most_steps layout

@@ -1,12 +1,8 @@
 -- Where a new leaf, or what comes with it, is put, and what goes for it.
-use Rattle.std.specs.Prelude.{◌≡◌, ℕ, ◌-◌, ◌<◌, List, [], ◌∷◌, slice_get, Some}
+use Rattle.std.specs.Prelude.{◌≡◌, ℕ, ◌-◌, ◌<◌, List, slice_get, Some}
 use Rattle.insert_cases.specs.declared.choice.PathNode.{PathNode}
-use Rattle.versions.specs.declared.Rec.{Rec}
-use Rattle.versions.specs.declared.Rec.TheVariants.{Leaf as a_leaf}
 use Rattle.rowex_core.specs.declared.event.Spot.{Spot}
 use Rattle.rowex_core.specs.declared.event.Spot.TheVariants.{Root, Slot, Value}
-use Rattle.rowex_reading.specs.declared.descent.Found.{Found}
-use Rattle.rowex_reading.specs.declared.descent.Found.TheVariants.{Nothing, Leaf}
 
 -- the spot that names what stands below the first `end` nodes of the way: the place that the search took in the last of them
 abbrev pub IsSpotAbove : List PathNode → ℕ → Spot → Type 0

@@ -8,7 +8,7 @@ ghost use Rattle.rowex_reading.specs.Possible.{IsPossible};
 ghost use Rattle.publish_laws.specs.Ending.{IsAtRest};
 ghost use Rattle.rowex_table.specs.Made.{IsLater};
 ghost use Rattle.rowex_table.specs.Seats.{IsSeatOf};
-ghost use Rattle.rowex_writing.specs.Attempts.{HasAnswered, HasAttempted, HasDone, HasFailed, HasLoadedFound, HasLoadedRoot, HasRefused, IsFoundAgain, IsFullOfNew, IsLeafless, refusal_of as the_refusal};
+ghost use Rattle.rowex_writing.specs.Attempts.{HasAnswered, HasAttempted, HasDone, HasFailed, HasFoundOther, HasLoadedFound, HasLoadedRoot, HasRefused, IsFoundAgain, IsFullOfNew, IsLeafless, refusal_of as the_refusal};
 ghost use Rattle.rowex_reading.specs.Ways.{value_of as the_value};
 ghost use Rattle.rowex_writing.specs.Asking.{aim_of as the_aim, value_in as the_value_in};
 ghost use Rattle.rowex_writing.specs.Deeds.{MayReplace, leaf_gone};
@@ -19,7 +19,7 @@ ghost use Rattle.rowex_writing.specs.Merging.{ChangesOn, EndsChange};
 ghost use Rattle.rowex_writing.specs.declared.plan.Deed.TheVariants.{Take};
 ghost use Rattle.rowex_writing.specs.Jobs.{HoldsSpan, IsJobFrom, IsWithinWay};
 ghost use Rattle.rowex_writing.specs.Locks.{HasMadeNoChange, HasMetLock, TriesNodesBy, Works, locks_of, span_numbers};
-ghost use Rattle.rowex_writing.specs.Counts.{change_steps, held_loads, most_locks, most_steps, span_steps};
+ghost use Rattle.rowex_writing.specs.Counts.{change_steps, held_loads, most_locks, most_steps_of, span_steps, value_steps};
 ghost use Rattle.record_words.specs.declared.TheConstants.{HEAD_WORDS};
 
 use crate::asking::{aim_of, found_value, new_value};
@@ -28,7 +28,7 @@ use crate::checking::check_span;
 use crate::deeds::{Job, Raised, carry_out_deed};
 use crate::ending::release_records_and_locks;
 use crate::locks::lock_span;
-use crate::merging::try_merge;
+use crate::merging::{plan_merge, try_merge};
 use crate::plan::{Deed, Full, Plan, find_plan};
 use crate::publishing::publish_change;
 use crate::taking::make_without_leaf;
@@ -56,16 +56,18 @@ pub enum TryFault {
 }
 
 /// Makes one attempt at `call` and returns the reply. It searches for the key, locks what is to change, each once, checks that this
-/// stands as found, and changes it by one store. A call with nothing to change locks nothing. If another pass is at work there, or no
-/// record is free, nothing is changed, and the fault tells which.
+/// stands as found, and changes it by one store. A call with nothing to change locks nothing. An expected value is compared again under the
+/// locks: if it is another then, the reply says so. If another pass is at work there, or no record is free, nothing is changed, and the
+/// fault tells which.
 ///
 /// The pass is pinned, has no record and no lock, and has made no change since its pin. `way` is filled with the nodes that the search
 /// went through. After a change `build.gone` lists what it unlinked; else it stays. If no record was free, `build.made` lists those that
-/// it had claimed, and has given up. A removal is never refused as `FullLeaves`. A call that gives its key a value is never refused as full
-/// if the search found the key.
+/// it had claimed, and has given up. A removal is never refused as `FullLeaves`. An insertion or an upsert is refused as full only if the
+/// search found the key absent; an exchange or an addition never.
 ///
 /// If it tries no lock, it makes at most 58 atomic steps, and 26 for each node on the key's way. Else it makes at most 124, and 26 for
-/// each such node. To these come 297 for each lock that it tries, four for each leaf record and two for each node record.
+/// each such node. To these come 297 for each lock that it tries, four for each leaf record and two for each node record. An exchange or an
+/// addition makes at most 66, and 26 for each such node.
 pub fn attempt<G: Gate>(
     table: &HotTable,
     seat: &mut TableSeat,
@@ -85,7 +87,7 @@ pub fn attempt<G: Gate>(
     ensures refused { IfErr result (HasRefused table.now.layout (the_key call.now) seat.old.known seat.new.known build.new.made.items) }
     ensures leafless { IsLeafless TryFault.FullLeaves call.now result }
     ensures full { IfErr result (IsFullOfNew seat.new.known call.now) }
-    ensures few { seat.new.known.steps ≤ seat.old.known.steps + most_steps table.now.layout }
+    ensures few { seat.new.known.steps ≤ seat.old.known.steps + most_steps_of call.now table.now.layout }
 {
     let key = call.key();
     let found = search_way(table, seat, gate, key, way);
@@ -113,8 +115,10 @@ pub fn attempt<G: Gate>(
 }
 
 /// Makes the change `deed` that is planned for the span of `job`, and returns what the search found, with the value that the key had at the
-/// change. If another pass is at work there, or no record is free, nothing is changed, and the fault tells which. Before and after the
-/// pass has no record and no lock.
+/// change. If `call` has nothing to change at the value that the key has under the locks, nothing is changed, and that is returned.
+///
+/// If another pass is at work there, or no record is free, nothing is changed, and the fault tells which. Before and after the pass has no
+/// record and no lock.
 fn try_plan<G: Gate>(
     table: &HotTable,
     seat: &mut TableSeat,
@@ -134,25 +138,28 @@ fn try_plan<G: Gate>(
     ensures run { (locks : ℕ) × HasTriedOnce table.now G.becomes locks (seat.old, gate.old) (seat.new, gate.new) ×
         (0 < locks) × (locks ≤ most_locks) × (seat.new.known.steps + HEAD_WORDS ≤ seat.old.known.steps + span_steps locks + change_steps table.now.layout locks) }
     ensures rest { IsAtRest seat.new.known }
-    ensures done { IfOk result (λ now. IsFoundAgain call.now job.now.found now ×
-        HasDone seat.old.known seat.new.known deed job.now.key.now (the_value_in call.now (the_value now)) now) }
+    ensures done { IfOk result (λ now. HasFoundOther seat.old.known seat.new.known call.now job.now.key.now now ⊎ (IsFoundAgain call.now job.now.found now ×
+        HasDone seat.old.known seat.new.known deed job.now.key.now (the_value_in call.now (the_value now)) now)) }
     ensures refused { IfErr result (λ fault. (k : Known) → HasLoadedRoot k seat.old.known → IsLater k seat.old.known →
         HasRefused table.now.layout job.now.key.now k seat.new.known build.new.made.items fault) }
     ensures later { IfErr result (λ fault. IsLater seat.old.known seat.new.known) }
     ensures whole { deed ≡ Deed.Value → IfErr result (λ fault. fault ≡ TryFault.Busy) }
+    ensures short { deed ≡ Deed.Value → seat.new.known.steps ≤ seat.old.known.steps + value_steps }
     ensures leafless { deed ≡ Deed.Take → result ≢ Err TryFault.FullLeaves }
 {
     if !lock_and_check_span(table, seat, gate, job) {
         return Err(TryFault::Busy);
     }
-    let Some(found) = load_found_again(table, seat, gate, job, call) else {
+    let found = load_found_again(table, seat, gate, job);
+    let held = found_value(found);
+    let Some(_) = aim_of(call, held) else {
         release_records_and_locks(table, seat, gate, &[], job);
-        return Err(TryFault::Busy);
+        return Ok(found);
     };
     let job = Job {
         way: job.way,
         key: job.key,
-        value: new_value(call, found_value(found)),
+        value: new_value(call, held),
         found,
         span: job.span,
     };
@@ -178,6 +185,7 @@ fn change_span<G: Gate>(
     ensures done { result ≡ Ok tt → HasDone seat.old.known seat.new.known deed job.now.key.now job.now.value job.now.found }
     ensures failed { IfErr result (HasFailed table.now.layout job.now seat.old.known seat.new.known build.new.made.items) }
     ensures whole { deed ≡ Deed.Value → result ≡ Ok tt }
+    ensures short { deed ≡ Deed.Value → seat.new.known.steps ≤ seat.old.known.steps + 2 + locks_of job.now.span }
     ensures leafless { deed ≡ Deed.Take → result ≢ Err TryFault.FullLeaves }
 {
     match deed {
@@ -187,7 +195,10 @@ fn change_span<G: Gate>(
         }
         Deed::Take if job.span.end > 0 => make_removal(table, seat, gate, build, job),
         _ => match carry_out_deed(table, seat, gate, build, job, deed) {
-            Ok(raised) => publish_or_undo(table, seat, gate, build, job, raised),
+            Ok(raised) => {
+                publish_change(table, seat, gate, build, job, raised);
+                Ok(())
+            }
             Err(full) => {
                 undo_change(table, seat, gate, build, job);
                 Err(refusal_of(full))
@@ -207,6 +218,7 @@ fn make_removal<G: Gate>(
 ) -> Result<(), TryFault>
     requires taken { HasTakenPlan table.now seat.old job.now Take }
     requires some { 0 < job.now.span.end }
+    requires loaded { HasLoadedFound seat.old.known job.now.found }
     ensures run { ChangesOn table.now G.becomes (span_numbers job.now.way.now job.now.span) 1 (seat.old, gate.old) (seat.new, gate.new) }
     ensures done { result ≡ Ok tt → HasDone seat.old.known seat.new.known Take job.now.key.now job.now.value job.now.found }
     ensures failed { IfErr result (HasFailed table.now.layout job.now seat.old.known seat.new.known build.new.made.items) }
@@ -214,7 +226,11 @@ fn make_removal<G: Gate>(
 {
     match make_without_leaf(table, seat, gate, build, job) {
         Ok(raised) => {
-            if try_merge(table, seat, gate, build, job) {
+            let Some(merge) = plan_merge(table, seat, gate, build, job) else {
+                publish_change(table, seat, gate, build, job, raised);
+                return Ok(());
+            };
+            if try_merge(table, seat, gate, build, job, &merge) {
                 return Ok(());
             }
             publish_or_undo(table, seat, gate, build, job, raised)
@@ -226,8 +242,8 @@ fn make_removal<G: Gate>(
     }
 }
 
-/// Publishes the change of `job`, for which all records are made. If it takes a leaf away, the value is loaded once more before, since other
-/// locks may have come and gone: if it is another, the change is undone, and the result is `TryFault::Busy`.
+/// Publishes the change of `job`, for which all records are made. The value that was found is loaded once more before, since other locks have
+/// come and gone: if it is another, the change is undone, and the result is `TryFault::Busy`.
 fn publish_or_undo<G: Gate>(
     table: &HotTable,
     seat: &mut TableSeat,

@@ -78,7 +78,8 @@ impl Hint {
 
 /// Claims a record of `kind` and returns its number, counted from the first of the kind on. `None` if none was free.
 ///
-/// It tries the last spare number of `hint` first, which is spare no more. Then it tries each record once, from where `hint` says. Inline, so that no claim asks of which kind it is.
+/// It tries the last spare number of `hint` first, which is spare no more. Then it tries each record once, from where `hint` says. Inline,
+/// so that no claim asks of which kind it is.
 #[inline(always)]
 pub(crate) fn claim_by_hint<G: Gate>(
     table: &HotTable,

@@ -13,7 +13,8 @@
 //!    root. Each is tried once. A node that is locked or obsolete makes the attempt busy, after all locks are given back.
 //! 4. *Check* (`checking`): one entry of each locked node is loaded and compared with what the search found. If all are the same,
 //!    the path still stands, since nobody else changes a locked node. The value of a key that is held is loaded then: it stays while what
-//!    names its leaf is locked. A new value is stored at once (`valuing`), and that is the change; stages 5 to 8 are those of other deeds.
+//!    names its leaf is locked. A call that expects another value ends here, with nothing changed. A new value is stored at once
+//!    (`valuing`), and that is the change. The steps below are those of other deeds.
 //! 5. *Build* (`deeds`, `growing`, `taking`, `rising`, `building`, `remaking`, `claims`): records are claimed and filled with what takes
 //!    the place of the span. Nobody else can reach them yet. If no record is free, all is given up and undone.
 //! 6. *Merge* (`merging`, `locked`, `widening`): a removal whose node has another above it looks at the last fork on the path there. If its

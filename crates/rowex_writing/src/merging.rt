@@ -63,8 +63,27 @@ struct ClosedFork {
     entry: Entry,
 }
 
-/// Ends a removal by a merge, and returns whether it did. What is left of the leaf's node, in a record made for it, and its sibling become
-/// one node.
+/// Returns the merge by which a removal is to end: what is left of the leaf's node, in a record made for it, is to become one node with its
+/// sibling. `None` if something else is left, or [`find_merge`] finds none. No lock is tried.
+pub(crate) fn plan_merge<G: Gate>(
+    table: &HotTable,
+    seat: &mut TableSeat,
+    gate: &mut G,
+    build: &Build,
+    job: &Job<'_>,
+) -> Option<Merge>
+    requires takes { TakesOn table.now seat.old job.now }
+    ensures reads { ReadsOn table.now G.becomes (seat.old, gate.old) (seat.new, gate.new) }
+    ensures beside { IfSome result (λ m. IsNeighbour seat.new.known job.now m × (build.now.made.items ≡ a_node m.made ∷ [])) }
+    ensures few { seat.new.known.steps ≤ seat.old.known.steps + 7 }
+{
+    let Some(number) = sole_node(build.made.as_slice()) else {
+        return None;
+    };
+    find_merge(table, seat, gate, job, number)
+}
+
+/// Ends a removal by `merge`, and returns whether it did.
 ///
 /// It does only if both are nodes of at most 32 entries together, and no other pass is at work there. Another record must be free, if one
 /// is wanted. Else the pass has the records and locks that it had. The value is loaded once more, after the last lock.
@@ -74,20 +93,17 @@ pub(crate) fn try_merge<G: Gate>(
     gate: &mut G,
     build: &mut Build,
     job: &Job<'_>,
+    merge: &Merge,
 ) -> bool
     requires takes { TakesOn table.now seat.old job.now }
+    requires beside { IsNeighbour seat.old.known job.now merge.now }
+    requires made { build.old.made.items ≡ a_node merge.now.made ∷ [] }
     requires building { (news : List Made) × IsBuilding table.now seat.old build.old.made.items news }
-    ensures tries { TriesFew table.now G.becomes (span_numbers job.now.way.now job.now.span) build.old.left_nodes 60 (seat.old, gate.old) (seat.new, gate.new) }
+    ensures tries { TriesFew table.now G.becomes (span_numbers job.now.way.now job.now.span) build.old.left_nodes 53 (seat.old, gate.old) (seat.new, gate.new) }
     ensures done { result ≡ true → HasDone seat.old.known seat.new.known Take job.now.key.now job.now.value job.now.found }
     ensures later { result ≡ false → IsLater seat.old.known seat.new.known × IsSeatOf table.now seat.new × IsPossible table.now.layout seat.new.known }
     ensures same { result ≡ false → HasTheSame seat.old.known seat.new.known × (build.new.made.items ≡ build.old.made.items) }
 {
-    let Some(number) = sole_node(build.made.as_slice()) else {
-        return false;
-    };
-    let Some(merge) = find_merge(table, seat, gate, job, number) else {
-        return false;
-    };
     if !lock_for_merge(table, seat, gate, job, merge.number) {
         return false;
     }
@@ -95,7 +111,7 @@ pub(crate) fn try_merge<G: Gate>(
         unlock_for_merge(table, seat, gate, job, merge.number);
         return false;
     }
-    merge_under_locks(table, seat, gate, build, job, &merge)
+    merge_under_locks(table, seat, gate, build, job, merge)
 }
 
 /// The number of the node record that is all of `made`; `None` if `made` has a leaf record, several records or none.

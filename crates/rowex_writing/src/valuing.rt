@@ -1,44 +1,39 @@
 //! The value of a key that is held: it is loaded under the lock of what names the key's leaf, and a new one is stored to the leaf.
 
-ghost use Rattle.std.specs.Prelude.{◌≡◌, ◌+◌, ◌≤◌, ◌<◌, ◌^◌, ℕ, IsSome, MatchOption, true, false};
+ghost use Rattle.std.specs.Prelude.{◌≡◌, ◌+◌, ◌≤◌, ◌<◌, ◌^◌, ℕ, true, false};
 ghost use Rattle.publish_laws.specs.Ending.{IsAtRest};
 ghost use Rattle.rowex_reading.specs.Possible.{IsPossible};
-ghost use Rattle.rowex_reading.specs.Ways.{IsFoundAt, value_of as the_value};
+ghost use Rattle.rowex_reading.specs.Ways.{IsFoundAt};
 ghost use Rattle.rowex_table.specs.Seats.{IsSeatOf};
-ghost use Rattle.rowex_writing.specs.Asking.{aim_of as the_aim};
-ghost use Rattle.rowex_writing.specs.Attempts.{HasDone, HasLoadedFound, HasMoved, IsFoundAgain};
+ghost use Rattle.rowex_writing.specs.Attempts.{HasDone, HasLoadedFound, HasMoved, HoldsFound, revalued};
 ghost use Rattle.rowex_writing.specs.Changes.{HasRun, HasTakenPlan};
 ghost use Rattle.rowex_writing.specs.Counts.{held_loads};
 ghost use Rattle.rowex_writing.specs.Going.{ReadsOn};
 ghost use Rattle.rowex_writing.specs.Jobs.{IsJobFrom};
 ghost use Rattle.rowex_writing.specs.Locks.{locks_of};
+ghost use Rattle.rowex_writing.specs.declared.plan.Deed.{Deed};
 ghost use Rattle.rowex_writing.specs.declared.plan.Deed.TheVariants.{Value};
 
-use crate::asking::aim_of;
 use crate::deeds::Job;
 use crate::ending::unlock_kept;
-use finite_map::Call;
 use rowex_core::{Gate, Rec, Spot};
 use rowex_reading::Found;
 use rowex_table::{HotTable, TableSeat};
 
-/// Returns what the search of `job` found, with the value that the leaf has now if it has the key: the value is loaded, under the lock of
-/// what names the leaf. `None` if the call has nothing to change at this value: another pass has changed it since.
+/// Returns what the search of `job` found, with the value that the leaf has now if it has the key. The value is loaded under the lock of
+/// what names the leaf: it is the key's, after all changes that the pass has seen.
 pub(crate) fn load_found_again<G: Gate>(
     table: &HotTable,
     seat: &mut TableSeat,
     gate: &mut G,
     job: &Job<'_>,
-    call: &Call,
-) -> Option<Found>
-    requires own { IsSeatOf table.now seat.old }
-    requires possible { IsPossible table.now.layout seat.old.known }
-    requires from { (m : ℕ) × IsJobFrom table.now.layout seat.old.known m job.now }
-    requires aims { IsSome (the_aim call.now (the_value job.now.found)) }
+) -> Found
+    requires taken { (deed : Deed) × HasTakenPlan table.now seat.old job.now deed }
     ensures reads { ReadsOn table.now G.becomes (seat.old, gate.old) (seat.new, gate.new) }
-    ensures again { MatchOption result (HasMoved table.now.layout job.now seat.old.known seat.new.known)
-        (λ now. IsFoundAgain call.now job.now.found now × HasLoadedFound seat.new.known now ×
-        ((m : ℕ) → IsJobFrom table.now.layout seat.old.known m job.now → IsFoundAt seat.new.known m job.now.key.now now)) }
+    ensures again { (value : ℕ) × (result ≡ revalued job.now.found value) }
+    ensures loaded { HasLoadedFound seat.new.known result }
+    ensures held { HoldsFound seat.new.known job.now.key.now result }
+    ensures found { (m : ℕ) → IsJobFrom table.now.layout seat.old.known m job.now → IsFoundAt seat.new.known m job.now.key.now result }
     ensures few { seat.new.known.steps ≤ seat.old.known.steps + held_loads job.now.found }
 {
     let Found::Leaf {
@@ -47,16 +42,13 @@ pub(crate) fn load_found_again<G: Gate>(
         ..
     } = job.found
     else {
-        return Some(job.found);
+        return job.found;
     };
     let value = table.load_value_at(seat, gate, number, table.start_of(Rec::Leaf(number)));
-    match aim_of(call, Some(value)) {
-        None => None,
-        Some(_) => Some(Found::Leaf {
-            number,
-            value,
-            mismatch: None,
-        }),
+    Found::Leaf {
+        number,
+        value,
+        mismatch: None,
     }
 }
 

@@ -22,12 +22,14 @@ pub struct Case<'a> {
     pub alloc: Global,
     pub nodes: u32,
     pub leaves: u32,
-    /// What pass 0 does on each new index beforehand.
+    /// What pass 0, or beside threads the last pass, does on each new index beforehand.
     pub before: Vec<Task>,
     /// What pass 1 may do at a stop: the tasks of one of these lines, each line in its turn.
     pub others: Vec<&'a str>,
     /// The keys of what is done by chance.
     pub keys: Vec<Key>,
+    /// The key to whose value each thread adds one after each task by chance.
+    pub counter: Option<Key>,
 }
 
 impl<'a> Case<'a> {
@@ -40,6 +42,7 @@ impl<'a> Case<'a> {
             before: Vec::new(alloc),
             others: Vec::new(alloc),
             keys: Vec::new(alloc),
+            counter: None,
         }
     }
 
@@ -49,6 +52,13 @@ impl<'a> Case<'a> {
         self.before.clear();
         self.others.clear();
         self.keys.clear();
+        self.counter = None;
+        Ok(())
+    }
+
+    /// Has each thread add to the value of the key that `text` stands for; `bad_line` if it is none, and the case stays.
+    pub fn set_counter(&mut self, text: &str) -> io::Result<()> {
+        self.counter = Some(parse_key(text)?);
         Ok(())
     }
 }

@@ -8,7 +8,8 @@
 //! - `stop TASKS` stops pass 0 after each of its steps, for each of the `other` lines; `tell TASKS` also prints what both were
 //!   answered, for each range of stops
 //! - `chance SEED TURNS` makes tasks by chance in the middle of others
-//! - `threads COUNT ORDERS` lets threads step one at a time, in orders made from seeds
+//! - `threads COUNT ORDERS` lets threads step one at a time, in orders made from seeds; `counter KEY` has each add one to the value of
+//!   that key after each task, and that value is compared with how often they did
 #![tactic(auto)]
 
 mod acts;
@@ -62,6 +63,7 @@ where
         "before" => parse_tasks(&mut case.before, rest),
         "other" => Ok(case.others.push(rest)?),
         "keys" => parse_keys(&mut case.keys, rest),
+        "counter" => case.set_counter(rest),
         "steps" => stops::print_steps(rt, case, rest),
         "stop" => stops::stop_for_each_other(rt, case, rest, false),
         "tell" => stops::stop_for_each_other(rt, case, rest, true),

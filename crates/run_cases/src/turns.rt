@@ -7,7 +7,9 @@ use crate::cases::{Case, bad_line, parse_two_numbers};
 use crate::chance::Chance;
 use crate::guests::{Guest, create_index, do_tasks, pop_guest};
 use crate::judge::{Judge, verdict};
-use hot_index::{Event, Gate, Handle, Index, Pass};
+use finite_map::Call;
+use hot_index::{Event, Gate, Handle, Index, Pass, Reply};
+use key_bits::Key;
 use std::alloc::{AllocError, Global};
 use std::sync::atomic::{AtomicU64, Ordering};
 use std::thread::{Threads, map_vec};
@@ -23,7 +25,7 @@ const MOST_THREADS: u32 = 4;
 const TASKS: u64 = 12;
 
 /// Whose turn it is to step, how many steps there were, and which threads have begun and not ended, each a bit. `seed` makes the order;
-/// `lost` counts the waits that were given up and the tasks that failed.
+/// `lost` counts the waits that were given up and the tasks that failed, `added` the additions that were made.
 #[derive(Drop)]
 struct Rota {
     seed: u64,
@@ -31,6 +33,14 @@ struct Rota {
     steps: AtomicU64,
     begun: AtomicU64,
     lost: AtomicU64,
+    added: AtomicU64,
+}
+
+/// What threads have counted in the end, as a `Rota` does.
+#[derive(Clone, Copy)]
+struct Sums {
+    lost: u64,
+    added: u64,
 }
 
 impl Rota {
@@ -97,7 +107,17 @@ impl<'a> Gate for Turns<'a> {
     }
 }
 
-/// Does `TASKS` tasks by chance, by `pass`, each step in its turn. Returns its steps, each with its number. `rota.lost` counts what failed.
+/// Adds one to the value of `key`, if it has one and no other pass is at work there. Then `gate.rota.added` is one more.
+fn add_one(guest: &mut Guest, gate: &mut Turns, key: &Key) {
+    let call = Call::Add(key.copy(), 1);
+    let told = guest.index.try_call_with(&mut guest.pass, &call, gate);
+    if matches!(told, Ok(Reply::Was(_))) {
+        gate.rota.added.fetch_add(1, Ordering::SeqCst);
+    }
+}
+
+/// Does `TASKS` tasks by chance, by `pass`, each step in its turn, and adds to the value of `case.counter` after each. Returns its steps,
+/// each with its number. `rota.lost` counts what failed.
 fn run_thread(case: &Case, rota: &Rota, index: &Index, pass: Pass) -> Vec<(u64, Event)>
     requires { Owns index.now pass }
 {
@@ -113,6 +133,9 @@ fn run_thread(case: &Case, rota: &Rota, index: &Index, pass: Pass) -> Vec<(u64, 
         let task = chance.next_task(&case.keys, turn);
         if do_tasks(&mut guest, &[task], &mut gate, &mut said).is_err() {
             rota.lost.fetch_add(1, Ordering::SeqCst);
+        }
+        if let Some(key) = &case.counter {
+            add_one(&mut guest, &mut gate, key);
         }
     }
     rota.begun.fetch_sub(thread_bit(number), Ordering::SeqCst);
@@ -184,19 +207,26 @@ fn run_threads<R: AllocGlobal + Threads + Sync>(
     requires { All (Owns index.now) seats.items }
 {
     let mut last = pop_guest(index, &mut seats)?;
-    let (told, lost) = step_threads(rt, case, index, seats, seed)?;
-    count_wrong(case, passes, &mut last, &told, lost)
+    let mut judge = Judge::new(case.alloc, passes, case.nodes, case.leaves)?;
+    do_tasks(
+        &mut last,
+        &case.before,
+        &mut judge,
+        &mut String::new(case.alloc),
+    )?;
+    let (told, sums) = step_threads(rt, case, index, seats, seed)?;
+    count_wrong(case, &mut judge, &mut last, &told, sums)
 }
 
-/// Lets a thread for each of `seats` step, in an order made from `seed`. Returns the steps of each, and how often one gave up or failed. An
-/// error if memory is refused, or a thread can't be started.
+/// Lets a thread for each of `seats` step, in an order made from `seed`. Returns the steps of each, and what they counted. An error if
+/// memory is refused, or a thread can't be started.
 fn step_threads<R: AllocGlobal + Threads + Sync>(
     rt: &R,
     case: &Case,
     index: &Index,
     seats: Vec<Pass>,
     seed: u64,
-) -> io::Result<(Vec<Vec<(u64, Event)>>, u64)>
+) -> io::Result<(Vec<Vec<(u64, Event)>>, Sums)>
     requires { All (Owns index.now) seats.items }
 {
     let rota = Rota {
@@ -205,25 +235,35 @@ fn step_threads<R: AllocGlobal + Threads + Sync>(
         steps: AtomicU64::new(0),
         begun: AtomicU64::new(0),
         lost: AtomicU64::new(0),
+        added: AtomicU64::new(0),
     };
     let step_in_turn = |pass: Pass| -> Vec<(u64, Event)>
         requires { Owns index.now pass }
     { run_thread(case, &rota, index, pass) };
     let told = map_vec(rt, seats, &step_in_turn)?;
-    Ok((told, rota.lost.load(Ordering::SeqCst)))
+    let sums = Sums {
+        lost: rota.lost.load(Ordering::SeqCst),
+        added: rota.added.load(Ordering::SeqCst),
+    };
+    Ok((told, sums))
 }
 
-/// How often a replay, for `passes` passes, finds the steps `told` or scans by `last` wrong, plus `lost`. An error if memory is refused.
+/// How often `judge`, which knows all before the steps `told`, finds one of them or a scan by `last` wrong, plus `sums.lost`. One more if
+/// the value of `case.counter` isn't `sums.added`. An error if memory is refused.
 fn count_wrong(
     case: &Case,
-    passes: u32,
+    judge: &mut Judge,
     last: &mut Guest,
     told: &[Vec<(u64, Event)>],
-    lost: u64,
+    sums: Sums,
 ) -> io::Result<u64> {
-    let mut judge = Judge::new(case.alloc, passes, case.nodes, case.leaves)?;
-    judge_steps(case.alloc, &mut judge, last, told)?;
-    Ok(judge.wrong.wrapping_add(lost))
+    judge_steps(case.alloc, judge, last, told)?;
+    if let Some(key) = &case.counter {
+        if last.get(key) != Some(sums.added) {
+            judge.wrong = judge.wrong.wrapping_add(1);
+        }
+    }
+    Ok(judge.wrong.wrapping_add(sums.lost))
 }
 
 /// Lets threads step in turns on new indexes of `case`, and prints whether all was lawful. `text` has two numbers: of the threads, which

@@ -1,4 +1,4 @@
-//! Tests by values that were worked out by hand: of keys and nodes, of the maps for one thread, of words and replays.
+//! Tests by values that were worked out by hand: of keys and nodes, of the maps for one thread, of words, trees and replays.
 #![tactic(auto)]
 
 #[cfg(test)]
@@ -11,3 +11,5 @@ mod merges;
 mod nodes;
 #[cfg(test)]
 mod replays;
+#[cfg(test)]
+mod trees;

@@ -280,10 +280,12 @@ fn states_and_entries_have_their_words(rt: HostRuntime) {
     };
     for (word, want) in [
         (0, Some(None)),
+        (2, None),
         (3, None),
         (21, Some(Some(Entry::Leaf(5)))),
         (0x4_0000_0001, None),
         (34_359_738_382, Some(Some(node))),
+        (0x4_0000_0000_0002, None),
     ] {
         let entry = unpack_entry(word);
         assert!(rt; entry.ok() == want, "at {word}");

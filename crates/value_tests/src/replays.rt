@@ -1,96 +1,12 @@
-//! The trees that words show, and runs that a replay checks event by event.
+//! Runs that a replay checks event by event.
 
-use crate::nodes::{key, words_of_leaf, words_of_three};
+use crate::nodes::{words_of_leaf, words_of_three};
 use compound_node::{Entry, Node};
-use record_words::{LEAF_FIELDS, Layout, LayoutFault, LeafClass, NODE_FIELDS, Stock, pack_node};
-use replay_trees::{Linked, read_tree};
+use record_words::{Layout, LayoutFault, LeafClass, Stock, pack_node};
 use rowex_core::{Act, Event, Rec, Spot, Target};
 use rowex_replay::{Replay, ReplayFault};
 use std::alloc::Global;
 use std::process::Abort;
-
-/// What `root` shows over `nodes` and five leaves: a, b, c, q and one that spells no key. `None` if that is no lawful tree.
-fn shown_tree(
-    rt: &impl Abort,
-    alloc: Global,
-    nodes: &[[u64; NODE_FIELDS]],
-    root: Option<Entry>,
-) -> Option<Linked> {
-    let leaves = [
-        words_of_leaf(b'a', 10),
-        words_of_leaf(b'b', 20),
-        words_of_leaf(b'c', 30),
-        words_of_leaf(b'q', 40),
-        [7; LEAF_FIELDS],
-    ];
-    match read_tree(alloc, nodes, &leaves, root) {
-        Ok(linked) => linked,
-        Err(_) => panic!(rt; "no memory"),
-    }
-}
-
-/// The tree has the leaves of a, b and c, with their values; of the records just these and node 0 are linked.
-#[test]
-fn words_show_a_tree_of_three_leaves(rt: HostRuntime) {
-    let nodes = [words_of_three(), [9; NODE_FIELDS]];
-    let (number, height) = (0, 1);
-    match shown_tree(
-        &rt,
-        rt.alloc(),
-        &nodes,
-        Some(Entry::Node { number, height }),
-    ) {
-        Some(linked) => {
-            assert!(rt; linked.items.len() == 3);
-            for (i, item) in linked.items.iter().enumerate() {
-                assert!(rt; item.key == key(&rt, &[b'a' + i as u8]));
-                assert!(rt; item.number as usize == i && item.value == 10 * (i as u64 + 1));
-            }
-            assert!(rt; linked.nodes.as_slice() == [true, false].as_slice());
-            assert!(rt; linked.leaves.as_slice() == [true, true, true, false, false].as_slice());
-        }
-        None => panic!(rt; "no tree"),
-    }
-}
-
-/// The root is a leaf where its height is 0. Lawful are a leaf, the tree of three leaves, and that with a node of the greatest height. The
-/// others have a leaf twice, one outside the table, one without a key, one that parts elsewhere, two in the other order, a root of another
-/// height, one outside the table, a root leaf without a key, one outside the table, and a node of too great a height.
-#[test]
-fn other_words_show_other_trees_or_none(rt: HostRuntime) {
-    for (i, (below, second, third, number, height, want)) in [
-        (1, 5, 9, 3, 0, Some(1)),
-        (1, 5, 9, 0, 1, Some(3)),
-        (2153, 5, 9, 0, 2153, Some(3)),
-        (1, 1, 9, 0, 1, None),
-        (1, 5, 21, 0, 1, None),
-        (1, 5, 17, 0, 1, None),
-        (1, 5, 13, 0, 1, None),
-        (1, 9, 5, 0, 1, None),
-        (1, 5, 9, 0, 2, None),
-        (1, 5, 9, 1, 1, None),
-        (1, 5, 9, 4, 0, None),
-        (1, 5, 9, 5, 0, None),
-        (2154, 5, 9, 0, 2154, None),
-    ]
-    .iter()
-    .enumerate()
-    {
-        let mut words = words_of_three();
-        words[0] = 0x203 | *below << 16;
-        words[26] = *second;
-        words[27] = *third;
-        let (number, height) = (*number, *height);
-        let root = if height == 0 {
-            Entry::Leaf(number)
-        } else {
-            Entry::Node { number, height }
-        };
-        let found = shown_tree(&rt, rt.alloc(), &[words], Some(root));
-        assert!(rt; found.map(|linked| linked.items.len()) == *want, "at {i}");
-    }
-    assert!(rt; shown_tree(&rt, rt.alloc(), &[], None).is_some());
-}
 
 /// An act, shorter to write: its record, spot, target or pass, then its other numbers as in `Act`.
 #[derive(Drop)]
@@ -389,12 +305,16 @@ const REPLACED: [Line; 8] = [
     (0, Step::Unlock(Target::Node(1)), true),
 ];
 
-// Node 0 without c takes the place of node 1, which is to be locked for that.
-const REMOVED: [Line; 8] = [
+// Node 0 without c takes the place of node 1, which is to be locked for that. Two keys don't go by one store, as when the halves of a node
+// are stored one after the other. Then nothing is stored below node 1, though its lock is held: no entry, and no value of its leaf.
+const REMOVED: [Line; 11] = [
     (0, Step::Lock(Target::Anchor, 2), true),
     (0, Step::Publish(Spot::Root, NODE_0), false),
     (0, Step::Lock(Target::Node(1), 2), true),
+    (0, Step::Publish(Spot::Root, 5), false),
     (0, Step::Publish(Spot::Root, NODE_0), true),
+    (0, Step::Publish(FIRST, 17), false),
+    (0, Step::Publish(Spot::Value { leaf: 2 }, 8), false),
     (0, Step::LoadEpoch(2), true),
     (0, Step::Mark(Rec::Leaf(2), 2), true),
     (0, Step::Mark(Rec::Node(1), 2), true),
@@ -404,7 +324,7 @@ const REMOVED: [Line; 8] = [
 /// Inserts, a round, a replaced leaf and a removal are legal step by step as expected, and give the expected pairs.
 #[test]
 fn a_node_grows_and_shrinks(rt: HostRuntime) {
-    let mut replay = make_replay(&rt, rt.alloc(), Layout::of(2, 2, 4));
+    let mut replay = make_replay(&rt, rt.alloc(), Layout::of(2, 2, 5));
     let two = Node::pair(7, Entry::Leaf(0), Entry::Leaf(1));
     expect_record_made(&rt, &mut replay, 0, LEAF, &words_of_leaf(b'a', 5));
     expect_record_made(&rt, &mut replay, 0, Rec::Leaf(1), &words_of_leaf(b'b', 6));
@@ -424,6 +344,7 @@ fn a_node_grows_and_shrinks(rt: HostRuntime) {
     );
     expect_record_made(&rt, &mut replay, 0, Rec::Leaf(3), &words_of_leaf(b'a', 9));
     expect_events(&rt, &mut replay, &REPLACED);
+    expect_record_made(&rt, &mut replay, 0, Rec::Leaf(4), &words_of_leaf(b'a', 8));
     expect_record_made(
         &rt,
         &mut replay,

@@ -8,8 +8,9 @@ except ModuleNotFoundError as error:
 
 from . import _forks
 from ._errors import FullError, HotError
-from .sortedmap import Codec, SortedMap
+from .codec import Codec, key_of, values_of
+from .sortedmap import SortedMap
 
-__all__ = ["Codec", "FullError", "HotError", "SortedMap"]
+__all__ = ["Codec", "FullError", "HotError", "SortedMap", "key_of", "values_of"]
 
 _forks.watch()

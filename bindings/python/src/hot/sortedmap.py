@@ -5,20 +5,13 @@ from __future__ import annotations
 from collections.abc import Collection, ItemsView, Iterable, Iterator, KeysView, Mapping
 from collections.abc import MutableMapping, ValuesView
 from itertools import chain, islice
-from typing import Any, Callable, Generic, NamedTuple, Optional, TypeVar, Union
+from typing import Any, Generic, Optional, TypeVar, Union
 
 from ._hot import ITEMS, KEYS, MAX_KEY, VALUES, Map
+from .codec import Codec
 
 K = TypeVar("K")
 Self = TypeVar("Self", bound="SortedMap[Any]")
-
-
-class Codec(NamedTuple):
-    """How keys become bytes, whose order is then that of the keys, and back again.
-    `encode` raises TypeError for what is no key."""
-
-    encode: Callable[[Any], bytes]
-    decode: Callable[[bytes], Any]
 
 
 ALL = LEAST, GREATEST = b"", b"\xff" * MAX_KEY
@@ -43,7 +36,8 @@ def before(key: bytes) -> Optional[bytes]:
 
 class SortedMap(Map[K], MutableMapping[K, int], Generic[K]):
     """A mapping from str keys to ints, in the order of the keys. With keys=bytes,
-    keys=int (of 64 bits) or keys=Codec(encode, decode) it has other keys.
+    keys=int (of 64 bits), keys=Codec.of(str, float) for tuples or keys=Codec(encode,
+    decode) it has other keys.
 
     A key has at most 240 bytes; a value is from 0 to 2**64 - 1.
 
@@ -117,12 +111,49 @@ class SortedMap(Map[K], MutableMapping[K, int], Generic[K]):
         """The pairs whose keys `irange` lists."""
         return self._list(ITEMS, self._bounds(minimum, maximum, inclusive), reverse)
 
+    def count_range(
+        self,
+        minimum: Optional[K] = None,
+        maximum: Optional[K] = None,
+        inclusive: tuple[bool, bool] = (True, True),
+    ) -> int:
+        """How many keys `irange` lists: few of them are read."""
+        bounds = self._bounds(minimum, maximum, inclusive)
+        return 0 if bounds is None else self._count(*bounds)
+
     def prefix_items(self, prefix: K, reverse: bool = False) -> Iterator[tuple[K, int]]:
         """The pairs whose keys begin with the prefix."""
         code = self._encode(prefix)
         has_keys = len(code) <= MAX_KEY
         bounds = (code, code.ljust(MAX_KEY, b"\xff")) if has_keys else None
         return self._list(ITEMS, bounds, reverse)
+
+    def irange_pop(
+        self,
+        minimum: Optional[K] = None,
+        maximum: Optional[K] = None,
+        inclusive: tuple[bool, bool] = (True, True),
+        reverse: bool = False,
+    ) -> tuple[K, int]:
+        """Deletes the first pair whose key `irange` lists, and returns it. No two calls
+        get the same pair."""
+        while True:
+            pairs = self.irange_items(minimum, maximum, inclusive, reverse)
+            pair = next(pairs, None)
+            if pair is None:
+                raise KeyError("irange_pop(): there is no such pair")
+            if self.remove_if(*pair):
+                return pair
+
+    def irange_clear(
+        self,
+        minimum: Optional[K] = None,
+        maximum: Optional[K] = None,
+        inclusive: tuple[bool, bool] = (True, True),
+    ) -> None:
+        """Deletes the keys that `irange` lists."""
+        for key in self.irange(minimum, maximum, inclusive):
+            self.pop(key, None)
 
     def floor_item(self, key: K, inclusive: bool = True) -> Optional[tuple[K, int]]:
         """The last pair whose key is at most this one, or below it."""

@@ -7,7 +7,7 @@ returns-in-Ok-clause-call c =
     let ok : IsOk c.set_key.result = subst IsOk (sym c.in-Ok.is) refl in
     rw (← c.set_key.ensures.ok ok) (c.make_call_on_open_handle.ensures.call c.args.key.now (c.set_key.ensures.fits.0 ok) refl)
 
-pub returns-in-Ok-clause-leafless : goal.returns-in-Ok-clause-leafless
-returns-in-Ok-clause-leafless c =
+pub returns-in-Ok-clause-may : goal.returns-in-Ok-clause-may
+returns-in-Ok-clause-may c =
     let ok : IsOk c.set_key.result = subst IsOk (sym c.in-Ok.is) refl in
-    rw (← c.set_key.ensures.ok ok) c.make_call_on_open_handle.ensures.leafless
+    rw (← c.set_key.ensures.ok ok) c.make_call_on_open_handle.ensures.may

@@ -27,7 +27,7 @@ pub returns : goal.returns
 returns g c =
     let o = c.attempt-outcome.ensures in
     let run = attempt_run c.args.table.now g.G.Gate.becomes (c.pin.new.seat, c.pin.new.gate) (c.attempt-outcome.new.seat, c.attempt-outcome.new.gate) o.run in
-    let left = tried _ c.requires.idle.1 c.pin.ensures.steps run o.loaded o.rest c.args.call.now c.attempt-outcome.new.build.made.items c.attempt-outcome.result o.answered o.refused c.end_attempt.ensures.step in
+    let left = tried _ c.requires.idle.1 c.pin.ensures.steps run o.loaded o.rest c.args.call.now c.attempt-outcome.new.build.made.items c.attempt-outcome.result o.answered o.refused o.full c.end_attempt.ensures.step in
     let pinned : c.pin.new.seat.known.steps ≡ c.args.seat.now.known.steps + 2 = ap (λ (z : Known). z.steps) c.pin.ensures.steps.1.rest in
     let cleared : c.end_attempt.new.seat.known.steps ≡ c.attempt-outcome.new.seat.known.steps + 1 = ap (λ (z : Known). z.steps) c.end_attempt.ensures.step.event.learned_is in
     record {

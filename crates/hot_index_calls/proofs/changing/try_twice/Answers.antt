@@ -2,6 +2,7 @@
 use Rattle.std.proofs.Common.{◌≤◌, ◌∙◌, Result, Err, refl, sym, ap, subst, le_trans, arith}
 use Rattle.finite_map.specs.declared.Reply.{Reply}
 use Rattle.finite_map.specs.Maps.{key_of}
+use Rattle.finite_map.proofs.Growth.{begins_on}
 use Rattle.rowex_core.specs.declared.known.Fresh.{Fresh}
 use Rattle.rowex_core.specs.declared.known.Known.{Known}
 use Rattle.rowex_writing.specs.declared.attempts.TryFault.{TryFault}
@@ -13,9 +14,10 @@ use Rattle.rowex_writing.specs.Changes.{LacksNodes}
 use Rattle.rowex_writing.specs.Walks.{nodes_among}
 use Rattle.hot_index_calls.specs.Passes.{pass_of}
 use Rattle.hot_index_calls.proofs.Collected.{does_idle, round_few}
+use Rattle.hot_index_calls.proofs.Conflicts.{may_take_from_before, no_further}
 use Rattle.hot_index_calls.proofs.Resting.{cause_still, lacked_full, lacks_still}
 use Rattle.hot_index_calls.proofs.Tracing.{ended_again}
-use Rattle.hot_index_calls.proofs.Trying.{lacks_from_before, once_asked, outcome_then, round_later, then_collected, unnoted_then}
+use Rattle.hot_index_calls.proofs.Trying.{full_fault, lacks_from_before, once_asked, once_few, outcome_then, round_later, then_collected, twice_few, unnoted_then}
 use Rattle.hot_index_calls.proofs.changing.try_twice.Goals as goal
 
 pub collect_round-round-requires-clause-own : goal.collect_round-round-requires-clause-own
@@ -36,7 +38,7 @@ pub returns-in_default : goal.returns-in_default
 returns-in_default g c = record {
   asked = once_asked c.args.call.now c.make_attempt-first.result (c.full_kind.ensures.none c.in_default.is) c.make_attempt-first.ensures.asked;
   lacks = λ is. absurd (false≢true (sym (c.full_kind.ensures.none c.in_default.is) ∙ ap is_full is));
-  few = omega (arith, c.make_attempt-first.ensures.few);
+  few = omega (arith, c.make_attempt-first.ensures.few, once_few c.args.call.now c.args.table.now.layout);
 }
 
 pub returns-then-may_find_free_record : goal.returns-then-may_find_free_record
@@ -58,7 +60,11 @@ returns-then-may_find_free_record g c =
       };
       lacks = λ is. lacks_from_before table.layout c.make_attempt.new.seat.known.pass c.make_attempt.new.seat.known.pass c.make_attempt.new.seat.known.failed c.make_attempt.new.seat.known.failed c.args.seat.now.known.steps c.collect_round-round.new.seat.known.steps
           (nodes_among c.make_attempt.new.scratch.build.made.items) later refl refl (c.make_attempt.ensures.lacks is);
-      few = (let count = round_few round in omega (arith, c.make_attempt-first.ensures.few, count, c.make_attempt.ensures.few));
+      few = (
+        let count = round_few round in
+        let twice = twice_few call table.layout k (pass_of c.make_attempt-first.new.seat) (first.replied.refused.full (full_fault c.in-Some.lacks)) in
+        omega (arith, c.make_attempt-first.ensures.few, count, c.make_attempt.ensures.few, twice)
+      );
     }
 
 pub returns : goal.returns
@@ -78,7 +84,14 @@ returns g c =
       replied = record {
         idle = again.idle;
         noted = tt;
-        refused = record { unnoted = unnoted_then table.layout k (pass_of c.collect_round-round.new.seat) (pass_of c.pin_and_unpin.new.seat) collected later again.unnoted; cause = cause };
+        refused = record {
+          unnoted = unnoted_then table.layout k (pass_of c.collect_round-round.new.seat) (pass_of c.pin_and_unpin.new.seat) collected later again.unnoted;
+          cause = cause;
+          full = λ full. may_take_from_before call k k (pass_of c.make_attempt-first.new.seat) (pass_of c.pin_and_unpin.new.seat) (no_further refl)
+              (begins_on c.make_attempt-first.new.seat.known.front c.collect_round-round.new.seat.known.front c.pin_and_unpin.new.seat.known.front
+              (no_further (ap (λ (z : Known). z.front) round.does.rest)) again.unnoted.front)
+              (again.fresh ∙ ap (λ (z : Known). z.fresh) round.does.rest) (first.replied.refused.full full);
+        };
         leafless = first.replied.leafless;
         loaded = subst (λ (z : Fresh). c.args.seat.now.known.steps ≤ z.step) (sym (again.fresh ∙ ap (λ (z : Known). z.fresh) round.does.rest)) first.replied.loaded;
       };
@@ -89,6 +102,10 @@ returns g c =
       lacks = λ is. subst (λ made. LacksNodes table.layout c.pin_and_unpin.new.seat.known.pass c.pin_and_unpin.new.seat.known.failed c.args.seat.now.known.steps (nodes_among made)) (sym c.reset_skips.ensures.made)
           (lacks_still (key_of call) k (c.make_attempt-first.new.seat, c.make_attempt-first.new.gate) (c.collect_round-round.new.seat, c.collect_round-round.new.gate) (c.pin_and_unpin.new.seat, c.pin_and_unpin.new.gate) round again.failed again.unnoted.number _
           (c.make_attempt-first.ensures.lacks is));
-      few = (let count = round_few round in omega (arith, c.make_attempt-first.ensures.few, count, again.steps));
+      few = (
+        let count = round_few round in
+        let twice = twice_few call table.layout k (pass_of c.make_attempt-first.new.seat) (first.replied.refused.full (full_fault c.in-Some.lacks)) in
+        omega (arith, c.make_attempt-first.ensures.few, count, again.steps, twice)
+      );
       asked = subst (λ (z : Result Reply TryFault). HasAsked table g.G.Gate.becomes (AreTries table g.G.Gate.becomes call z) call z (c.args.seat.now, c.args.gate.now) (c.pin_and_unpin.new.seat, c.pin_and_unpin.new.gate)) (sym c.in-Some.ensures.some) whole;
     }

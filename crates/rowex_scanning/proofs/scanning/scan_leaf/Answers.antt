@@ -36,31 +36,33 @@ returns-then-is_earlier_key-clause-reads g c = loads g (goal.at.returns-then-is_
 
 pub returns-then-is_earlier_key-clause-scanned : goal.returns-then-is_earlier_key-clause-scanned
 returns-then-is_earlier_key-clause-scanned g c =
-    leaf_early c.args.range.now.direction (asked_range c.args.range.now) (root_read g (goal.at.returns-then-is_earlier_key-clause-scanned g c).After-load_leaf-length) c.requires.empty
+    leaf_early c.args.range.now.direction (asked_range c.args.range.now) (root_read g (goal.at.returns-then-is_earlier_key-clause-scanned g c).After-load_leaf-length) _ c.requires.empty
     (subst (IsEarlier c.args.range.now.direction (take c.load_leaf-length.result.0 c.load_leaf-length.new.places)) (c.as_bytes.ensures.bytes ∙ c.first_key.ensures) (c.is_earlier_key.ensures.earlier c.if-is_earlier_key.true))
 
-pub append_pair_in_range-requires-clause-reached : goal.append_pair_in_range-requires-clause-reached
-append_pair_in_range-requires-clause-reached g c =
+pub take_pair_in_range-requires-clause-reached : goal.take_pair_in_range-requires-clause-reached
+take_pair_in_range-requires-clause-reached g c =
     subst (λ z. IsNoLater c.args.range.now.direction z (take c.load_leaf-length.result.0 c.load_leaf-length.new.places)) (c.as_bytes.ensures.bytes ∙ c.first_key.ensures) (c.is_earlier_key.ensures.no_later c.if-is_earlier_key.false)
 
-pub returns-in_err-append_pair_in_range-clause-reads : goal.returns-in_err-append_pair_in_range-clause-reads
-returns-in_err-append_pair_in_range-clause-reads g c = loads g (goal.at.returns-in_err-append_pair_in_range-clause-reads g c).After-load_leaf-length
+pub returns-in_err-take_pair_in_range-clause-reads : goal.returns-in_err-take_pair_in_range-clause-reads
+returns-in_err-take_pair_in_range-clause-reads g c = loads g (goal.at.returns-in_err-take_pair_in_range-clause-reads g c).After-load_leaf-length
 
-pub returns-in_err-append_pair_in_range-clause-part : goal.returns-in_err-append_pair_in_range-clause-part
-returns-in_err-append_pair_in_range-clause-part g c =
+pub returns-in_err-take_pair_in_range-clause-part : goal.returns-in_err-take_pair_in_range-clause-part
+returns-in_err-take_pair_in_range-clause-part g c =
     rw (err_from_is_err_and c.from_residual.result c.from_residual.ensures.1).1
-    (leaf_part c.args.range.now.direction (asked_range c.args.range.now) (root_read g (goal.at.returns-in_err-append_pair_in_range-clause-part g c).After-load_leaf-length) c.requires.empty c.in_err-append_pair_in_range.ensures.refused)
+    (leaf_part c.args.range.now.direction (asked_range c.args.range.now) (root_read g (goal.at.returns-in_err-take_pair_in_range-clause-part g c).After-load_leaf-length) _ _ c.requires.empty c.in_err-take_pair_in_range.ensures.refused)
 
 pub returns-in-Full : goal.returns-in-Full
 returns-in-Full g c = let at = (goal.at.returns-in-Full g c).After-load_leaf-length in record {
   reads = loads g at;
   part = tt;
-  scanned = leaf_full c.args.range.now.direction (asked_range c.args.range.now) (root_read g at) c.requires.empty c.in_ok-append_pair_in_range.ensures.taken c.in-Full.is;
+  refused = tt;
+  scanned = leaf_full c.args.range.now.direction (asked_range c.args.range.now) (root_read g at) _ _ c.requires.empty _ c.in_ok-take_pair_in_range.ensures.taken c.in-Full.is;
 }
 
 pub returns-in-Further : goal.returns-in-Further
 returns-in-Further g c = let at = (goal.at.returns-in-Further g c).After-load_leaf-length in record {
   reads = loads g at;
   part = tt;
-  scanned = leaf_unfilled c.args.range.now.direction (asked_range c.args.range.now) (root_read g at) c.requires.empty c.in_ok-append_pair_in_range.ensures.taken c.in-Further.is;
+  refused = tt;
+  scanned = leaf_unfilled c.args.range.now.direction (asked_range c.args.range.now) (root_read g at) _ _ c.requires.empty _ c.in_ok-take_pair_in_range.ensures.taken c.in-Further.is;
 }

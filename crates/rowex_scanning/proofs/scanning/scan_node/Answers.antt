@@ -17,12 +17,12 @@ use Rattle.rowex_scanning.proofs.scanning.scan_node.Goals.{After-take_leaf, Afte
 
 -- where the scan begins
 begins : (g : given.Over) (c : After-truncate g) →
-    HasBegun c.args.scan.now.range.now.direction c.args.scan.now.table.now.layout c.find_start-start.new.seat.known (since c.args.seat.now.known) (asked_range c.args.scan.now.range.now) c.args.found.number c.find_start-start.result c.truncate.new.self.items c.args.pairs.now
+    HasBegun c.args.scan.now.range.now.direction c.args.scan.now.table.now.layout c.find_start-start.new.seat.known (since c.args.seat.now.known) (asked_range c.args.scan.now.range.now) c.args.found.number c.find_start-start.result c.truncate.new.self.items (g.S.Tallies.tally c.args.sink.now)
 begins g c = begun c.args.found (asked_range c.args.scan.now.range.now) c.requires.way c.deref.ensures.0 c.find_start-start.ensures.start c.truncate.ensures.items c.requires.empty
 
 -- the leaf that comes first; and since the search the root was not loaded
 first : (g : given.Over) (c : After-take_leaf g) →
-    IsAtEntry c.args.scan.now.range.now.direction c.find_start-start.new.seat.known (since c.args.seat.now.known) (asked_range c.args.scan.now.range.now) c.find_start-start.result.top c.truncate.new.self.items c.args.pairs.now (Leaf c.args.found.number) ×
+    IsAtEntry c.args.scan.now.range.now.direction c.find_start-start.new.seat.known (since c.args.seat.now.known) (asked_range c.args.scan.now.range.now) c.find_start-start.result.top c.truncate.new.self.items (g.S.Tallies.tally c.args.sink.now) (Leaf c.args.found.number) ×
     (since c.take_leaf.new.seat.known ≡ since c.args.seat.now.known)
 first g c = (
   (begun c.args.found (asked_range c.args.scan.now.range.now) c.requires.way c.deref.ensures.0 c.find_start-start.ensures.start c.truncate.ensures.items c.requires.empty).entry c.if-start.true,
@@ -47,7 +47,7 @@ returns-in_err-take_leaf-clause-reads g c = walks_alone c.args.scan.now.range.no
 pub returns-in_err-take_leaf-clause-part : goal.returns-in_err-take_leaf-clause-part
 returns-in_err-take_leaf-clause-part g c =
     let (a, same) = first g (goal.at.returns-in_err-take_leaf-clause-part g c).After-take_leaf in
-    let none : length c.args.pairs.now ≡ 0 = ap length c.requires.empty in
+    let none = c.requires.empty.0 in
     rw (err_from_is_err_and c.from_residual.result c.from_residual.ensures.1).1 (walk_part (reads_later c.take_leaf.ensures.reads.2) c.in_err-take_leaf.ensures.refused (omega (arith, none)) same a)
 
 pub gap_behind_slot-requires : goal.gap_behind_slot-requires
@@ -90,11 +90,11 @@ walk_slots-requires-clause-walk g c =
       bound = elim c.if-start.branch [
         | then-start+in_ok-take_leaf+in-Further w ↦
             let s = w.take_leaf.ensures.reads.2 in let same = same_since (reads_trans r s) in
-            rw (w.seat-is, w.top-is, w.gap_behind_slot.ensures, w.pairs-is) (
+            rw (w.seat-is, w.top-is, w.gap_behind_slot.ensures, w.sink-is) (
               walk_since same (walk_further (b.entry w.if-start.true) (reads_later s) w.in_ok-take_leaf.ensures.taken w.in-Further.is),
               bound_since d m key same (bound_later d m key (reads_later s) (b.behind w.if-start.true)),
             )
-        | else-start w ↦ rw (w.seat-is, w.top-is, w.pairs-is) (walk_since (same_since r) (b.walk w.if-start.false), bound_since d m key (same_since r) (b.bound w.if-start.false))
+        | else-start w ↦ rw (w.seat-is, w.top-is, w.sink-is) (walk_since (same_since r) (b.walk w.if-start.false), bound_since d m key (same_since r) (b.bound w.if-start.false))
       ];
     }
 

@@ -32,30 +32,30 @@ pub load_leaf-length-requires-clause-start : goal.load_leaf-length-requires-clau
 load_leaf-length-requires-clause-start g c =
     leaf_begins c.args.scan.now.table.now.layout c.args.scan.now.origins.now.layout c.args.seat.now.known c.requires.leaf.0 c.args.number c.start_of_leaf-start.result c.requires.reader.1 c.requires.leaf.1 c.requires.origins c.start_of_leaf-start.ensures
 
-pub append_pair_in_range-requires-clause-reached : goal.append_pair_in_range-requires-clause-reached
-append_pair_in_range-requires-clause-reached g c =
+pub take_pair_in_range-requires-clause-reached : goal.take_pair_in_range-requires-clause-reached
+take_pair_in_range-requires-clause-reached g c =
     subst (λ n. IsNoLater c.args.scan.now.range.now.direction (first_key c.args.scan.now.range.now.direction (asked_range c.args.scan.now.range.now)) (take n c.load_leaf-length.new.places)) c.if-length-eq8.true
-    (late g (goal.at.append_pair_in_range-requires-clause-reached g c).After-load_leaf-length)
+    (late g (goal.at.take_pair_in_range-requires-clause-reached g c).After-load_leaf-length)
 
 pub returns-then-length-eq8-clause-taken : goal.returns-then-length-eq8-clause-taken
 returns-then-length-eq8-clause-taken g c =
     let key = take 8 c.load_leaf-length.new.places in let value = c.load_leaf-length.result.1 in let r = request_of c.args.scan.now.range.now in
-    IfOk-weaker c.append_pair_in_range.result (IsPairTaken r c.args.pairs.now key value c.append_pair_in_range.new.pairs) (IsLeafTaken c.args.seat.now.known c.load_leaf-length.new.seat.known r c.args.number c.args.pairs.now c.append_pair_in_range.new.pairs)
-    (λ verdict taken. record { key = key; value = value; read = read_eight g (goal.at.returns-then-length-eq8-clause-taken g c).Then-length-eq8; taken = taken }) c.append_pair_in_range.ensures.taken
+    IfOk-weaker c.take_pair_in_range.result (IsPairTaken r (g.S.Tallies.tally c.args.sink.now) key value (g.S.Tallies.tally c.take_pair_in_range.new.sink)) (IsLeafTaken c.args.seat.now.known c.load_leaf-length.new.seat.known r c.args.number (g.S.Tallies.tally c.args.sink.now) (g.S.Tallies.tally c.take_pair_in_range.new.sink))
+    (λ verdict taken. record { key = key; value = value; read = read_eight g (goal.at.returns-then-length-eq8-clause-taken g c).Then-length-eq8; taken = taken }) c.take_pair_in_range.ensures.taken
 
 pub returns-then-length-eq8-clause-refused : goal.returns-then-length-eq8-clause-refused
 returns-then-length-eq8-clause-refused g c =
     let key = take 8 c.load_leaf-length.new.places in let range = asked_range c.args.scan.now.range.now in
-    let of_leaf : IsPairRefused range c.args.pairs.now key c.append_pair_in_range.new.pairs → IsLeafRefused c.args.seat.now.known c.load_leaf-length.new.seat.known range c.args.number c.args.pairs.now c.append_pair_in_range.new.pairs =
+    let of_leaf : IsPairRefused range (g.S.Tallies.tally c.args.sink.now) key (g.S.Tallies.tally c.take_pair_in_range.new.sink) → IsLeafRefused c.args.seat.now.known c.load_leaf-length.new.seat.known range c.args.number (g.S.Tallies.tally c.args.sink.now) (g.S.Tallies.tally c.take_pair_in_range.new.sink) =
     λ refused. record { key = key; value = c.load_leaf-length.result.1; read = read_eight g (goal.at.returns-then-length-eq8-clause-refused g c).Then-length-eq8; refused = refused } in
-    on_err_weaker c.append_pair_in_range.result of_leaf c.append_pair_in_range.ensures.refused
+    on_err_weaker c.take_pair_in_range.result of_leaf c.take_pair_in_range.ensures.refused
 
-pub append_pair_in_range-requires-2-clause-reached : goal.append_pair_in_range-requires-2-clause-reached
-append_pair_in_range-requires-2-clause-reached g c = late g (goal.at.append_pair_in_range-requires-2-clause-reached g c).After-load_leaf-length
+pub take_pair_in_range-requires-2-clause-reached : goal.take_pair_in_range-requires-2-clause-reached
+take_pair_in_range-requires-2-clause-reached g c = late g (goal.at.take_pair_in_range-requires-2-clause-reached g c).After-load_leaf-length
 
 pub returns-clause-refused : goal.returns-clause-refused
 returns-clause-refused g c =
     let key = take c.load_leaf-length.result.0 c.load_leaf-length.new.places in let range = asked_range c.args.scan.now.range.now in
-    let of_leaf : IsPairRefused range c.args.pairs.now key c.append_pair_in_range-2.new.pairs → IsLeafRefused c.args.seat.now.known c.load_leaf-length.new.seat.known range c.args.number c.args.pairs.now c.append_pair_in_range-2.new.pairs =
+    let of_leaf : IsPairRefused range (g.S.Tallies.tally c.args.sink.now) key (g.S.Tallies.tally c.take_pair_in_range-2.new.sink) → IsLeafRefused c.args.seat.now.known c.load_leaf-length.new.seat.known range c.args.number (g.S.Tallies.tally c.args.sink.now) (g.S.Tallies.tally c.take_pair_in_range-2.new.sink) =
     λ refused. record { key = key; value = c.load_leaf-length.result.1; read = c.load_leaf-length.ensures.leaf; refused = refused } in
-    on_err_weaker c.append_pair_in_range-2.result of_leaf c.append_pair_in_range-2.ensures.refused
+    on_err_weaker c.take_pair_in_range-2.result of_leaf c.take_pair_in_range-2.ensures.refused

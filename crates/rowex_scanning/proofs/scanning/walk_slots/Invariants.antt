@@ -1,5 +1,5 @@
 -- The pass has made loads alone, which are paid for; where the walk is; and what it has still to do.
-use Rattle.std.proofs.Common.{ℕ, length}
+use Rattle.std.proofs.Common.{ℕ}
 use Rattle.rowex_reading.specs.Reads.{IsReader, Reads}
 use Rattle.rowex_reading.specs.Seen.{since}
 use Rattle.version_laws.specs.Directions.{first_key}
@@ -10,8 +10,8 @@ use Rattle.rowex_scanning.proofs.scanning.walk_slots.Given as goal
 abbrev pub invariant-loop-seat : goal.invariant-loop-seat
 invariant-loop-seat g l = record {
   reader : IsReader l.scan.table.now l.seat;
-  reads : (loads entries : ℕ) × IsPaid l.scan.range.now.direction loads entries (length l.pairs) l.top l.way.items × Reads l.scan.table.now g.G.Gate.becomes entries loads (l.fn.seat, l.fn.gate) (l.seat, l.gate);
-  walk : IsWalk l.seat.known (since l.fn.seat.known) (request_of l.scan.range.now) l.top l.way.items l.pairs;
+  reads : (loads entries : ℕ) × IsPaid l.scan.range.now.direction loads entries (g.S.Tallies.tally l.sink).size l.top l.way.items × Reads l.scan.table.now g.G.Gate.becomes entries loads (l.fn.seat, l.fn.gate) (l.seat, l.gate);
+  walk : IsWalk l.seat.known (since l.fn.seat.known) (request_of l.scan.range.now) l.top l.way.items (g.S.Tallies.tally l.sink);
   bound : IsBound l.scan.range.now.direction l.seat.known (since l.fn.seat.known) (first_key l.scan.range.now.direction (asked_range l.scan.range.now)) l.top l.way.items;
 }
 

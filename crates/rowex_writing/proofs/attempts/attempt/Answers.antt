@@ -1,13 +1,13 @@
 -- The search, its plan, and what follows from it.
-use Rattle.std.proofs.Common.{[], Err, ◌∙◌, ap, subst, sym, arith, refl, IsSome, ◌≡◌}
+use Rattle.std.proofs.Common.{[], Err, Some, inl, inr, ◌∙◌, ap, subst, sym, arith, refl, IsSome, ◌≡◌}
 use Rattle.rowex_reading.specs.Seen.{since}
 use Rattle.rowex_reading.specs.Ways.{IsWayOf, value_of}
 use Rattle.rowex_reading.proofs.Led.{reads_later, same_since}
 use Rattle.rowex_reading.proofs.Ways.{way_later}
 use Rattle.rowex_writing.specs.Changes.{IsPlanned}
 use Rattle.rowex_writing.specs.Plans.{LiesOnWay}
-use Rattle.rowex_writing.proofs.Attempting.{aimless_looked, answered_change, answered_leafless, answered_look, begun_on, found_later, leafless, looked, plan_made, removal_takes, searched, planned_again, full_of_new}
-use Rattle.rowex_writing.proofs.Attempted.{attempted, attempted_few, tried_after}
+use Rattle.rowex_writing.proofs.Attempting.{aimless_looked, answered_change, answered_leafless, answered_look, begun_on, found_later, leafless, looked, looked_few, plan_made, removal_takes, searched, planned_again, full_of_new, tried_few}
+use Rattle.rowex_writing.proofs.Attempted.{attempted, searched_few, tried_after}
 use Rattle.rowex_writing.proofs.Onward.{reads_run}
 use Rattle.rowex_writing.proofs.Runs.{none_once, run_loaded, run_none}
 use Rattle.rowex_writing.proofs.Works.{no_change_made_later}
@@ -51,8 +51,8 @@ returns-in-Answer-clause-answered g c =
 
 pub returns-in-Answer-clause-few : goal.returns-in-Answer-clause-few
 returns-in-Answer-clause-few g c =
-    let none = none_once c.args.table.now g.G.Gate.becomes (c.search_way-found.new.seat, c.search_way-found.new.gate) (c.find_plan.new.seat, c.find_plan.new.gate) (reads_run c.args.table.now g.G.Gate.becomes c.find_plan.ensures.reads.0 c.find_plan.ensures.reads.1 (c.search_way-found.new.seat, c.search_way-found.new.gate) (c.find_plan.new.seat, c.find_plan.new.gate) c.find_plan.ensures.reads.2) in
-    attempted_few c.args.table.now g.G.Gate.becomes (c.args.seat.now, c.args.gate.now) (c.search_way-found.new.seat, c.search_way-found.new.gate) (c.find_plan.new.seat, c.find_plan.new.gate) c.search_way-found.ensures.searched none (omega arith) (omega (arith, c.find_plan.ensures.few))
+    let looked = searched_few c.args.table.now g.G.Gate.becomes (c.args.seat.now, c.args.gate.now) (c.search_way-found.new.seat, c.search_way-found.new.gate) c.search_way-found.ensures.searched in
+    looked_few c.args.table.now.layout c.args.seat.now.known.steps c.find_plan.new.seat.known.steps c.args.call.now (omega (arith, looked, c.find_plan.ensures.few))
 
 -- ---- the change
 pub try_plan-requires-clause-own : goal.try_plan-requires-clause-own
@@ -107,6 +107,12 @@ returns-in-Answer-clause-leafless g c = answered_leafless c.args.call.now _
 
 pub returns-in-Err-clause-few : goal.returns-in-Err-clause-few
 returns-in-Err-clause-few g c =
+    let m = since c.search_way-found.new.seat.known in
+    let planned = plan_made c.args.table.now.layout _ _ m c.key-key.result.now _ _ _ _ _ c.as_slice-way.ensures.value c.search_way-found.ensures.way c.find_plan.ensures.planned in
+    let plan : IsPlanned c.find_plan.new.seat.known m c.key-key.result.now c.as_slice-way.result.now c.in-Some.aim c.search_way-found.result (Change c.in-Change.span c.in-Change.deed) = subst (IsPlanned _ _ _ _ _ _) c.in-Change.is planned in
+    let looked = searched_few c.args.table.now g.G.Gate.becomes (c.args.seat.now, c.args.gate.now) (c.search_way-found.new.seat, c.search_way-found.new.gate) c.search_way-found.ensures.searched in
+    tried_few c.args.table.now.layout c.args.seat.now.known.steps c.try_plan.new.seat.known.steps c.find_plan.new.seat.known m c.key-key.result.now c.as_slice-way.result.now c.in-Some.aim c.search_way-found.result c.in-Change.span c.in-Change.deed c.args.call.now
+    (ap (aim_of c.args.call.now) (sym c.found_value-held.ensures) ∙ (sym c.aim_of.ensures ∙ c.in-Some.is)) plan (λ is. let short = c.try_plan.ensures.short is in omega (arith, looked, c.find_plan.ensures.few, short))
     (tried_after c.args.table.now g.G.Gate.becomes c.find_plan.ensures.reads.0 c.find_plan.ensures.reads.1 (c.args.seat.now, c.args.gate.now) (c.search_way-found.new.seat, c.search_way-found.new.gate) (c.find_plan.new.seat, c.find_plan.new.gate) (c.try_plan.new.seat, c.try_plan.new.gate) c.search_way-found.ensures.searched c.find_plan.ensures.reads.2 c.find_plan.ensures.few c.try_plan.ensures.run).1
 
 pub returns-in-Ok-clause-run : goal.returns-in-Ok-clause-run
@@ -122,14 +128,18 @@ returns-in-Ok-clause-answered g c =
     let b = begun_on c.args.table.now g.G.Gate.becomes c.find_plan.ensures.reads.0 c.find_plan.ensures.reads.1 (c.args.seat.now, c.args.gate.now) (c.search_way-found.new.seat, c.search_way-found.new.gate) (c.find_plan.new.seat, c.find_plan.new.gate) c.search_way-found.ensures.searched c.search_way-found.ensures.possible c.requires.own c.requires.rest c.find_plan.ensures.reads.2 in
     let m = since c.search_way-found.new.seat.known in
     let planned = plan_made c.args.table.now.layout _ _ m c.key-key.result.now _ _ _ _ _ c.as_slice-way.ensures.value c.search_way-found.ensures.way c.find_plan.ensures.planned in
-    let (again, done) = c.in-Ok.ensures.done in
     let plan : IsPlanned c.find_plan.new.seat.known m c.key-key.result.now c.as_slice-way.result.now c.in-Some.aim c.search_way-found.result (Change c.in-Change.span c.in-Change.deed) = subst (IsPlanned _ _ _ _ _ _) c.in-Change.is planned in
-    let now = subst (λ f. IsPlanned c.find_plan.new.seat.known m c.key-key.result.now c.as_slice-way.result.now c.in-Some.aim f (Change c.in-Change.span c.in-Change.deed)) (sym again.is)
-    (planned_again c.find_plan.new.seat.known m c.key-key.result.now c.as_slice-way.result.now c.in-Some.aim c.search_way-found.result again.value c.in-Change.span c.in-Change.deed plan) in
-    let aims = again.aims c.in-Some.aim (ap (aim_of c.args.call.now) (sym c.found_value-held.ensures) ∙ (sym c.aim_of.ensures ∙ c.in-Some.is)) in
-    rw (c.reply-in-Ok.ensures []) (rw (c.found_value.ensures)
-    (answered_change c.args.seat.now.known c.find_plan.new.seat.known c.find_plan.new.seat.known c.try_plan.new.seat.known m c.key-key.result.now (value_in c.args.call.now (value_of c.in-Ok.now)) c.as_slice-way.result.now c.args.call.now
-    (value_of c.in-Ok.now) c.in-Some.aim c.in-Ok.now c.in-Change.span c.in-Change.deed b.later c.key-key.ensures refl refl aims now done))
+    rw (c.reply-in-Ok.ensures []) (rw (c.found_value.ensures) (elim c.in-Ok.ensures.done [
+      | inl other ↦ answered_look c.args.seat.now.known c.try_plan.new.seat.known c.args.call.now _ (later_trans b.later other.later)
+          (aimless_looked c.try_plan.new.seat.known c.key-key.result.now c.args.call.now (value_of c.in-Ok.now) (Some other.value) c.key-key.ensures other.is (ap (aim_of c.args.call.now) other.is ∙ other.aimless) other.held)
+      | inr made ↦
+          let again = made.0 in
+          let now = subst (λ f. IsPlanned c.find_plan.new.seat.known m c.key-key.result.now c.as_slice-way.result.now c.in-Some.aim f (Change c.in-Change.span c.in-Change.deed)) (sym again.is)
+          (planned_again c.find_plan.new.seat.known m c.key-key.result.now c.as_slice-way.result.now c.in-Some.aim c.search_way-found.result again.value c.in-Change.span c.in-Change.deed plan) in
+          let aims = again.aims c.in-Some.aim (ap (aim_of c.args.call.now) (sym c.found_value-held.ensures) ∙ (sym c.aim_of.ensures ∙ c.in-Some.is)) in
+          answered_change c.args.seat.now.known c.find_plan.new.seat.known c.find_plan.new.seat.known c.try_plan.new.seat.known m c.key-key.result.now (value_in c.args.call.now (value_of c.in-Ok.now)) c.as_slice-way.result.now c.args.call.now
+          (value_of c.in-Ok.now) c.in-Some.aim c.in-Ok.now c.in-Change.span c.in-Change.deed b.later c.key-key.ensures refl refl aims now made.1
+    ]))
 
 pub try_plan-requires-clause-aims : goal.try_plan-requires-clause-aims
 try_plan-requires-clause-aims g c =
@@ -137,6 +147,12 @@ try_plan-requires-clause-aims g c =
 
 pub returns-in-Ok-clause-few : goal.returns-in-Ok-clause-few
 returns-in-Ok-clause-few g c =
+    let m = since c.search_way-found.new.seat.known in
+    let planned = plan_made c.args.table.now.layout _ _ m c.key-key.result.now _ _ _ _ _ c.as_slice-way.ensures.value c.search_way-found.ensures.way c.find_plan.ensures.planned in
+    let plan : IsPlanned c.find_plan.new.seat.known m c.key-key.result.now c.as_slice-way.result.now c.in-Some.aim c.search_way-found.result (Change c.in-Change.span c.in-Change.deed) = subst (IsPlanned _ _ _ _ _ _) c.in-Change.is planned in
+    let looked = searched_few c.args.table.now g.G.Gate.becomes (c.args.seat.now, c.args.gate.now) (c.search_way-found.new.seat, c.search_way-found.new.gate) c.search_way-found.ensures.searched in
+    tried_few c.args.table.now.layout c.args.seat.now.known.steps c.try_plan.new.seat.known.steps c.find_plan.new.seat.known m c.key-key.result.now c.as_slice-way.result.now c.in-Some.aim c.search_way-found.result c.in-Change.span c.in-Change.deed c.args.call.now
+    (ap (aim_of c.args.call.now) (sym c.found_value-held.ensures) ∙ (sym c.aim_of.ensures ∙ c.in-Some.is)) plan (λ is. let short = c.try_plan.ensures.short is in omega (arith, looked, c.find_plan.ensures.few, short))
     (tried_after c.args.table.now g.G.Gate.becomes c.find_plan.ensures.reads.0 c.find_plan.ensures.reads.1 (c.args.seat.now, c.args.gate.now) (c.search_way-found.new.seat, c.search_way-found.new.gate) (c.find_plan.new.seat, c.find_plan.new.gate) (c.try_plan.new.seat, c.try_plan.new.gate) c.search_way-found.ensures.searched c.find_plan.ensures.reads.2 c.find_plan.ensures.few c.try_plan.ensures.run).1
 
 -- ---- answered at once
@@ -162,8 +178,8 @@ returns-in_default-clause-leafless g c = answered_leafless c.args.call.now _
 
 pub returns-in_default-clause-few : goal.returns-in_default-clause-few
 returns-in_default-clause-few g c =
-    let none = none_once c.args.table.now g.G.Gate.becomes (c.search_way-found.new.seat, c.search_way-found.new.gate) (c.search_way-found.new.seat, c.search_way-found.new.gate) (run_none c.args.table.now g.G.Gate.becomes (c.search_way-found.new.seat, c.search_way-found.new.gate)) in
-    attempted_few c.args.table.now g.G.Gate.becomes (c.args.seat.now, c.args.gate.now) (c.search_way-found.new.seat, c.search_way-found.new.gate) (c.search_way-found.new.seat, c.search_way-found.new.gate) c.search_way-found.ensures.searched none (omega arith) (omega arith)
+    let looked = searched_few c.args.table.now g.G.Gate.becomes (c.args.seat.now, c.args.gate.now) (c.search_way-found.new.seat, c.search_way-found.new.gate) c.search_way-found.ensures.searched in
+    looked_few c.args.table.now.layout c.args.seat.now.known.steps c.search_way-found.new.seat.known.steps c.args.call.now (omega (arith, looked))
 
 pub returns-in-Err-clause-full : goal.returns-in-Err-clause-full
 returns-in-Err-clause-full g c =

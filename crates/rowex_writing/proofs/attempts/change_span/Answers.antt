@@ -1,6 +1,6 @@
 -- A new value, a removal, or what the deed has made is published; or all is given back.
-use Rattle.std.proofs.Common.{◌<◌, inl, inr, refl, sym, ap, subst, arith, ◌≡◌, ◌∙◌, Err}
-use Rattle.rowex_writing.specs.Attempts.{HasDone, HasFailed}
+use Rattle.std.proofs.Common.{◌<◌, inl, inr, sym, ap, subst, arith, ◌≡◌, ◌∙◌, Err}
+use Rattle.rowex_writing.specs.Attempts.{HasDone}
 use Rattle.rowex_writing.specs.Changes.{HasTakenPlan}
 use Rattle.rowex_writing.specs.Counts.{held_loads}
 use Rattle.rowex_writing.specs.Locks.{span_numbers}
@@ -10,7 +10,8 @@ use Rattle.rowex_writing.proofs.Growths.{no_room}
 use Rattle.rowex_writing.proofs.Keeping.{changed_since}
 use Rattle.rowex_writing.proofs.Merged.{holds_on, is_taking}
 use Rattle.rowex_writing.proofs.Runs.{goes_run, runs_trans, works_run}
-use Rattle.rowex_writing.proofs.Valued.{busy_leafless, failed_before, full_failed, held_few}
+use Rattle.rowex_writing.proofs.Named.{loaded_on}
+use Rattle.rowex_writing.proofs.Valued.{full_failed, held_few}
 use Rattle.rowex_writing.proofs.attempts.change_span.Goals as goal
 use Rattle.rowex_writing.specs.declared.attempts.TryFault.TheVariants.{FullLeaves}
 use Rattle.rowex_writing.specs.declared.plan.Deed.TheVariants.{Take, Value}
@@ -44,12 +45,13 @@ pub returns-in-Take-clause-done : goal.returns-in-Take-clause-done
 returns-in-Take-clause-done g c = λ ok.
     subst (λ d. HasDone c.args.seat.now.known c.make_removal.new.seat.known d c.args.job.now.key.now c.args.job.now.value c.args.job.now.found) (sym c.in-Take.is) (c.make_removal.ensures.done ok)
 
-pub publish_or_undo-requires : goal.publish_or_undo-requires
-publish_or_undo-requires g c =
+pub publish_change-requires : goal.publish_change-requires
+publish_change-requires g c =
     let (x, was, is, may) = c.in-Ok.ensures.done.raised in
     record {
       held = holds_on c.args.table.now g.G.Gate.becomes (c.args.seat.now, c.args.gate.now) (c.carry_out_deed.new.seat, c.carry_out_deed.new.gate) c.args.job.now c.args.deed c.carry_out_deed.ensures.done.goes c.requires.taken;
       may = (x, was, may);
+      loaded = loaded_on c.args.seat.now.known c.carry_out_deed.new.seat.known c.args.job.now.found c.carry_out_deed.ensures.done.goes.stays.3 c.requires.loaded;
     }
 
 pub returns-in-Ok-clause-run : goal.returns-in-Ok-clause-run
@@ -58,22 +60,15 @@ returns-in-Ok-clause-run g c =
     let (m, aim, taken, planned) = c.requires.taken in
     let spared = loads_spared c.args.seat.now.known m c.args.job.now.key.now c.args.job.now.way.now aim c.args.job.now.found c.args.job.now.span c.args.deed planned in
     inl (
-      runs_trans c.args.table.now g.G.Gate.becomes (c.args.seat.now, c.args.gate.now) (c.carry_out_deed.new.seat, c.carry_out_deed.new.gate) (c.publish_or_undo.new.seat, c.publish_or_undo.new.gate)
-          (goes_run c.args.table.now g.G.Gate.becomes (c.args.seat.now, c.args.gate.now) (c.carry_out_deed.new.seat, c.carry_out_deed.new.gate) c.carry_out_deed.ensures.done.goes) c.publish_or_undo.ensures.run,
-      omega (arith, c.in-Ok.ensures.done.few, c.publish_or_undo.ensures.few, may.few, spared),
+      runs_trans c.args.table.now g.G.Gate.becomes (c.args.seat.now, c.args.gate.now) (c.carry_out_deed.new.seat, c.carry_out_deed.new.gate) (c.publish_change.new.seat, c.publish_change.new.gate)
+          (goes_run c.args.table.now g.G.Gate.becomes (c.args.seat.now, c.args.gate.now) (c.carry_out_deed.new.seat, c.carry_out_deed.new.gate) c.carry_out_deed.ensures.done.goes) c.publish_change.ensures.run,
+      omega (arith, c.in-Ok.ensures.done.few, c.publish_change.ensures.few, may.few, spared),
     )
 
 pub returns-in-Ok-clause-done : goal.returns-in-Ok-clause-done
 returns-in-Ok-clause-done g c = λ ok.
     let (x, was, is, may) = c.in-Ok.ensures.done.raised in
-    (x, was, is, changed_since c.args.seat.now.known c.carry_out_deed.new.seat.known c.publish_or_undo.new.seat.known x was c.carry_out_deed.ensures.done.goes.stays.0 (c.publish_or_undo.ensures.changed ok x was may))
-
-pub returns-in-Ok-clause-failed : goal.returns-in-Ok-clause-failed
-returns-in-Ok-clause-failed g c =
-    failed_before c.args.table.now.layout c.args.job.now c.args.seat.now.known c.carry_out_deed.new.seat.known c.publish_or_undo.new.seat.known _ c.publish_or_undo.result c.carry_out_deed.ensures.done.goes.stays.0 c.publish_or_undo.ensures.failed
-
-pub returns-in-Ok-clause-leafless : goal.returns-in-Ok-clause-leafless
-returns-in-Ok-clause-leafless g c = λ take. busy_leafless c.publish_or_undo.result _ c.publish_or_undo.ensures.failed
+    (x, was, is, changed_since c.args.seat.now.known c.carry_out_deed.new.seat.known c.publish_change.new.seat.known x was c.carry_out_deed.ensures.done.goes.stays.0 (c.publish_change.ensures.changed x was may))
 
 pub undo_change-requires : goal.undo_change-requires
 undo_change-requires g c = record {
@@ -112,3 +107,16 @@ returns-in-Ok-clause-whole g c e = absurd (c.carry_out_deed.ensures.kind e)
 
 pub returns-in-Err-clause-whole : goal.returns-in-Err-clause-whole
 returns-in-Err-clause-whole g c e = absurd (c.carry_out_deed.ensures.kind e)
+
+-- ---- how many steps it takes
+pub returns-in-Value-clause-short : goal.returns-in-Value-clause-short
+returns-in-Value-clause-short g c e = c.store_value.ensures.few
+
+pub returns-in-Take-clause-short : goal.returns-in-Take-clause-short
+returns-in-Take-clause-short g c e = absurd (let z : Take ≡ Value = sym c.in-Take.is ∙ e in cc)
+
+pub returns-in-Ok-clause-short : goal.returns-in-Ok-clause-short
+returns-in-Ok-clause-short g c e = absurd (c.carry_out_deed.ensures.kind e)
+
+pub returns-in-Err-clause-short : goal.returns-in-Err-clause-short
+returns-in-Err-clause-short g c e = absurd (c.carry_out_deed.ensures.kind e)

@@ -1,9 +1,8 @@
 -- The value is as it was found, and the change is published; or all is given back.
-use Rattle.std.proofs.Common.{refl, subst, sym, ◌∙◌, arith}
+use Rattle.std.proofs.Common.{refl, arith}
 use Rattle.rowex_reading.proofs.Seeing.{later_trans}
 use Rattle.rowex_writing.proofs.Keeping.{changed_since}
-use Rattle.rowex_writing.proofs.Making.{building_on, goes_possible}
-use Rattle.rowex_writing.proofs.Locking.{seat_of}
+use Rattle.rowex_writing.proofs.Making.{building_on}
 use Rattle.rowex_writing.proofs.Merged.{replace_later}
 use Rattle.rowex_writing.proofs.Runs.{goes_run, runs_trans, works_run}
 use Rattle.rowex_writing.proofs.Valued.{front_grown, holds_reads, replaced_made}

@@ -1,14 +1,15 @@
 -- A refusal, or the change.
-use Rattle.std.proofs.Common.{◌≡◌, inl, inr, ap, refl, sym, subst, ◌∙◌, arith, Err, []}
+use Rattle.std.proofs.Common.{◌≡◌, inl, inr, ap, refl, sym, subst, ◌∙◌, arith, Err, [], IsSome, length}
+use Rattle.rowex_core.specs.declared.known.Fresh.{Fresh}
 use Rattle.rowex_reading.specs.Ways.{IsFoundAt, value_of}
 use Rattle.rowex_reading.proofs.Seeing.{later_trans}
-use Rattle.rowex_writing.specs.Asking.{value_in}
+use Rattle.rowex_writing.specs.Asking.{aim_of, value_in}
 use Rattle.rowex_writing.specs.Changes.{HasTakenSpan, IsDeedChange, IsPlanned}
 use Rattle.rowex_writing.proofs.Attempted.{ended_run}
-use Rattle.rowex_writing.proofs.Attempting.{planned_again, planned_later, refused_busy, refused_failed, failed_later}
+use Rattle.rowex_writing.proofs.Attempting.{one_lock, planned_again, planned_later, refused_busy, refused_failed, failed_later}
 use Rattle.rowex_writing.proofs.Keeping.{changed_since, made_held}
-use Rattle.rowex_writing.proofs.Runs.{goes_run, run_loaded, runs_trans, works_run}
-use Rattle.rowex_writing.proofs.Valued.{ends_after, front_grown, held_again, held_few, holds_reads, holds_taken, taken_again}
+use Rattle.rowex_writing.proofs.Runs.{goes_run, run_loaded, runs_trans, works_fresh, works_run}
+use Rattle.rowex_writing.proofs.Valued.{ends_after, held_again, held_few, holds_reads, holds_taken, taken_again}
 use Rattle.rowex_writing.proofs.Works.{works_later}
 use Rattle.rowex_writing.proofs.attempts.try_plan.Given as given
 use Rattle.rowex_writing.proofs.attempts.try_plan.Goals as goal
@@ -17,7 +18,8 @@ use Rattle.rowex_writing.specs.Counts.{held_loads}
 use Rattle.rowex_writing.specs.Plans.{change}
 use Rattle.rowex_writing.specs.declared.deeds.Job.{Job}
 use Rattle.rowex_writing.specs.declared.attempts.TryFault.TheVariants.{FullLeaves}
-use Rattle.rowex_writing.proofs.Making.{building_none}
+use Rattle.rowex_writing.proofs.Making.{building_none, goes_possible}
+use Rattle.rowex_writing.proofs.Named.{found_again, found_other}
 
 -- ---- another pass is at work there
 pub returns-then-not-lock_and_check_span-clause-refused : goal.returns-then-not-lock_and_check_span-clause-refused
@@ -26,29 +28,25 @@ returns-then-not-lock_and_check_span-clause-refused g c k loaded later =
     refused_busy c.args.table.now.layout c.args.job.now.key.now k _ _ m _ way.since loaded later c.lock_and_check_span.ensures.later (c.lock_and_check_span.ensures.busy c.if-not-lock_and_check_span.true m way)
 
 -- ---- what was found is loaded again
-pub load_found_again-requires-clause-own : goal.load_found_again-requires-clause-own
-load_found_again-requires-clause-own g c = let (m, aim, way, planned) = c.requires.planned in (c.lock_and_check_span.ensures.taken c.if-not-lock_and_check_span.false m way).seat
-
-pub load_found_again-requires-clause-possible : goal.load_found_again-requires-clause-possible
-load_found_again-requires-clause-possible g c = let (m, aim, way, planned) = c.requires.planned in (c.lock_and_check_span.ensures.taken c.if-not-lock_and_check_span.false m way).possible
-
-pub load_found_again-requires-clause-from : goal.load_found_again-requires-clause-from
-load_found_again-requires-clause-from g c = let (m, aim, way, planned) = c.requires.planned in (m, (c.lock_and_check_span.ensures.taken c.if-not-lock_and_check_span.false m way).way_of)
+pub load_found_again-found-requires : goal.load_found_again-found-requires
+load_found_again-found-requires g c =
+    let (m, aim, way, planned) = c.requires.planned in
+    record { taken = (c.args.deed, (m, aim, c.lock_and_check_span.ensures.taken c.if-not-lock_and_check_span.false m way, planned_later _ _ _ _ _ _ _ _ c.lock_and_check_span.ensures.later planned)) }
 
 -- ---- the call has nothing to change then
 pub release_records_and_locks-requires-clause-span : goal.release_records_and_locks-requires-clause-span
 release_records_and_locks-requires-clause-span g c =
     let (m, aim, way, planned) = c.requires.planned in
-    holds_reads c.args.table.now g.G.Gate.becomes (c.lock_and_check_span.new.seat, c.lock_and_check_span.new.gate) (c.load_found_again.new.seat, c.load_found_again.new.gate) c.args.job.now c.load_found_again.ensures.reads
+    holds_reads c.args.table.now g.G.Gate.becomes (c.lock_and_check_span.new.seat, c.lock_and_check_span.new.gate) (c.load_found_again-found.new.seat, c.load_found_again-found.new.gate) c.args.job.now c.load_found_again-found.ensures.reads
     (holds_taken c.args.table.now c.lock_and_check_span.new.seat m c.args.job.now (c.lock_and_check_span.ensures.taken c.if-not-lock_and_check_span.false m way))
 
 pub release_records_and_locks-requires-clause-held : goal.release_records_and_locks-requires-clause-held
 release_records_and_locks-requires-clause-held g c =
     let (m, aim, way, planned) = c.requires.planned in
     let taken = c.lock_and_check_span.ensures.taken c.if-not-lock_and_check_span.false m way in
-    let held = holds_reads c.args.table.now g.G.Gate.becomes (c.lock_and_check_span.new.seat, c.lock_and_check_span.new.gate) (c.load_found_again.new.seat, c.load_found_again.new.gate) c.args.job.now c.load_found_again.ensures.reads
+    let held = holds_reads c.args.table.now g.G.Gate.becomes (c.lock_and_check_span.new.seat, c.lock_and_check_span.new.gate) (c.load_found_again-found.new.seat, c.load_found_again-found.new.gate) c.args.job.now c.load_found_again-found.ensures.reads
     (holds_taken c.args.table.now c.lock_and_check_span.new.seat m c.args.job.now taken) in
-    made_held c.args.table.now c.load_found_again.new.seat [] [] (building_none c.args.table.now c.load_found_again.new.seat held.seat held.possible (c.load_found_again.ensures.reads.own ∙ taken.own))
+    made_held c.args.table.now c.load_found_again-found.new.seat [] [] (building_none c.args.table.now c.load_found_again-found.new.seat held.seat held.possible (c.load_found_again-found.ensures.reads.own ∙ taken.own))
 
 pub returns-in_default-clause-run : goal.returns-in_default-clause-run
 returns-in_default-clause-run g c =
@@ -56,72 +54,79 @@ returns-in_default-clause-run g c =
     ended_run table g.G.Gate.becomes c.args.job.now (c.args.seat.now, c.args.gate.now) (c.lock_and_check_span.new.seat, c.lock_and_check_span.new.gate) (c.release_records_and_locks.new.seat, c.release_records_and_locks.new.gate) _ c.lock_and_check_span.ensures.run
     (c.lock_and_check_span.ensures.nodes c.if-not-lock_and_check_span.false) c.if-not-lock_and_check_span.false c.requires.within c.requires.planned.2.depth
     (inl (
-      runs_trans table g.G.Gate.becomes (c.lock_and_check_span.new.seat, c.lock_and_check_span.new.gate) (c.load_found_again.new.seat, c.load_found_again.new.gate) (c.release_records_and_locks.new.seat, c.release_records_and_locks.new.gate)
-          (goes_run table g.G.Gate.becomes (c.lock_and_check_span.new.seat, c.lock_and_check_span.new.gate) (c.load_found_again.new.seat, c.load_found_again.new.gate) c.load_found_again.ensures.reads.goes)
-          (works_run table g.G.Gate.becomes (c.load_found_again.new.seat, c.load_found_again.new.gate) (c.release_records_and_locks.new.seat, c.release_records_and_locks.new.gate) c.release_records_and_locks.ensures.works),
-      omega (arith, c.load_found_again.ensures.few, held_few c.args.job.now.found, c.release_records_and_locks.ensures.few),
+      runs_trans table g.G.Gate.becomes (c.lock_and_check_span.new.seat, c.lock_and_check_span.new.gate) (c.load_found_again-found.new.seat, c.load_found_again-found.new.gate) (c.release_records_and_locks.new.seat, c.release_records_and_locks.new.gate)
+          (goes_run table g.G.Gate.becomes (c.lock_and_check_span.new.seat, c.lock_and_check_span.new.gate) (c.load_found_again-found.new.seat, c.load_found_again-found.new.gate) c.load_found_again-found.ensures.reads.goes)
+          (works_run table g.G.Gate.becomes (c.load_found_again-found.new.seat, c.load_found_again-found.new.gate) (c.release_records_and_locks.new.seat, c.release_records_and_locks.new.gate) c.release_records_and_locks.ensures.works),
+      omega (arith, c.load_found_again-found.ensures.few, held_few c.args.job.now.found, c.release_records_and_locks.ensures.few),
     ))
 
-pub returns-in_default-clause-refused : goal.returns-in_default-clause-refused
-returns-in_default-clause-refused g c k loaded later =
+pub returns-in_default-clause-done : goal.returns-in_default-clause-done
+returns-in_default-clause-done g c =
+    let table = c.args.table.now in
     let (m, aim, way, planned) = c.requires.planned in
     let taken = c.lock_and_check_span.ensures.taken c.if-not-lock_and_check_span.false m way in
-    let after = works_later c.args.table.now g.G.Gate.becomes (c.load_found_again.new.seat, c.load_found_again.new.gate) (c.release_records_and_locks.new.seat, c.release_records_and_locks.new.gate) c.release_records_and_locks.ensures.works in
-    let moved = c.in_default.ensures.again m taken.way_of in
-    let grown = front_grown after in
-    refused_busy c.args.table.now.layout c.args.job.now.key.now k _ _ m _ way.since loaded later
-    (later_trans c.lock_and_check_span.ensures.later (later_trans c.load_found_again.ensures.reads.goes.stays.0 after)) (inr (omega (arith, moved, grown)))
+    let reads = c.load_found_again-found.ensures.reads in
+    let (value, again) = c.load_found_again-found.ensures.again in
+    inl (found_other table.layout c.args.seat.now.known c.load_found_again-found.new.seat.known c.release_records_and_locks.new.seat.known c.args.call.now c.args.job.now.key.now c.args.job.now.found c.load_found_again-found.result value again
+    c.requires.aims (ap (aim_of c.args.call.now) (sym c.found_value-held.ensures) ∙ (sym c.aim_of.ensures ∙ c.in_default.is))
+    (goes_possible table g.G.Gate.becomes (c.lock_and_check_span.new.seat, c.lock_and_check_span.new.gate) (c.load_found_again-found.new.seat, c.load_found_again-found.new.gate) reads.goes taken.possible) c.load_found_again-found.ensures.held
+    (later_trans c.lock_and_check_span.ensures.later reads.goes.stays.0)
+    (works_later table g.G.Gate.becomes (c.load_found_again-found.new.seat, c.load_found_again-found.new.gate) (c.release_records_and_locks.new.seat, c.release_records_and_locks.new.gate) c.release_records_and_locks.ensures.works)
+    (ap (λ (z : Fresh). length z.front)
+    (works_fresh table g.G.Gate.becomes (c.load_found_again-found.new.seat, c.load_found_again-found.new.gate) (c.release_records_and_locks.new.seat, c.release_records_and_locks.new.gate) c.release_records_and_locks.ensures.works)))
 
 -- ---- the change
 again_taken : (g : given.Over) (c : In-Some g) → (m : _) →
     HasTakenSpan c.args.table.now c.lock_and_check_span.new.seat m c.args.job.now.key.now c.args.job.now.way.now c.args.job.now.found c.args.job.now.span →
-    HasTakenSpan c.args.table.now c.load_found_again.new.seat m c.args.job.now.key.now c.args.job.now.way.now c.in-Some.found c.args.job.now.span
+    HasTakenSpan c.args.table.now c.load_found_again-found.new.seat m c.args.job.now.key.now c.args.job.now.way.now c.load_found_again-found.result c.args.job.now.span
 again_taken g c m taken =
     let job = c.args.job.now in
-    let again = c.in-Some.ensures.again.0 in
-    subst (λ f. HasTakenSpan c.args.table.now c.load_found_again.new.seat m job.key.now job.way.now f job.span) (sym again.is)
-    (taken_again c.args.table.now g.G.Gate.becomes (c.lock_and_check_span.new.seat, c.lock_and_check_span.new.gate) (c.load_found_again.new.seat, c.load_found_again.new.gate) m job.key.now job.way.now job.found again.value job.span taken c.load_found_again.ensures.reads
-    (subst (IsFoundAt c.load_found_again.new.seat.known m job.key.now) again.is (c.in-Some.ensures.again.2 m taken.way_of)))
+    let (value, again) = c.load_found_again-found.ensures.again in
+    subst (λ f. HasTakenSpan c.args.table.now c.load_found_again-found.new.seat m job.key.now job.way.now f job.span) (sym again)
+    (taken_again c.args.table.now g.G.Gate.becomes (c.lock_and_check_span.new.seat, c.lock_and_check_span.new.gate) (c.load_found_again-found.new.seat, c.load_found_again-found.new.gate) m job.key.now job.way.now job.found value job.span taken c.load_found_again-found.ensures.reads
+    (subst (IsFoundAt c.load_found_again-found.new.seat.known m job.key.now) again (c.load_found_again-found.ensures.found m taken.way_of)))
 
 pub change_span-requires : goal.change_span-requires
 change_span-requires g c =
     let at = (goal.at.change_span-requires g c).In-Some in
     let job = c.args.job.now in
     let (m, aim, way, planned) = c.requires.planned in
-    let again = c.in-Some.ensures.again.0 in
-    let later = later_trans c.lock_and_check_span.ensures.later c.load_found_again.ensures.reads.goes.stays.0 in
+    let (value, again) = c.load_found_again-found.ensures.again in
+    let later = later_trans c.lock_and_check_span.ensures.later c.load_found_again-found.ensures.reads.goes.stays.0 in
     record {
       taken = (
         m,
         aim,
         again_taken g at m (c.lock_and_check_span.ensures.taken c.if-not-lock_and_check_span.false m way),
-        subst (λ f. IsPlanned c.load_found_again.new.seat.known m job.key.now job.way.now aim f (change job.span.len job.span.end c.args.deed)) (sym again.is)
-            (planned_again c.load_found_again.new.seat.known m job.key.now job.way.now aim job.found again.value job.span c.args.deed (planned_later _ _ _ _ _ _ _ _ later planned)),
+        subst (λ f. IsPlanned c.load_found_again-found.new.seat.known m job.key.now job.way.now aim f (change job.span.len job.span.end c.args.deed)) (sym again)
+            (planned_again c.load_found_again-found.new.seat.known m job.key.now job.way.now aim job.found value job.span c.args.deed (planned_later _ _ _ _ _ _ _ _ later planned)),
       );
-      loaded = c.in-Some.ensures.again.1;
+      loaded = c.load_found_again-found.ensures.loaded;
     }
 
 pub returns-in-Ok-clause-run : goal.returns-in-Ok-clause-run
 returns-in-Ok-clause-run g c =
     let table = c.args.table.now in
-    let again = c.in-Some.ensures.again.0 in
+    let (value, again) = c.load_found_again-found.ensures.again in
     ended_run table g.G.Gate.becomes c.args.job.now (c.args.seat.now, c.args.gate.now) (c.lock_and_check_span.new.seat, c.lock_and_check_span.new.gate) (c.change_span.new.seat, c.change_span.new.gate) _ c.lock_and_check_span.ensures.run
     (c.lock_and_check_span.ensures.nodes c.if-not-lock_and_check_span.false) c.if-not-lock_and_check_span.false c.requires.within c.requires.planned.2.depth
-    (ends_after table g.G.Gate.becomes c.args.job.now _ (c.lock_and_check_span.new.seat, c.lock_and_check_span.new.gate) (c.load_found_again.new.seat, c.load_found_again.new.gate) (c.change_span.new.seat, c.change_span.new.gate) c.load_found_again.ensures.reads
-    (omega (arith, c.load_found_again.ensures.few, held_again c.args.job.now.found again.value, ap held_loads again.is)) c.change_span.ensures.run)
+    (ends_after table g.G.Gate.becomes c.args.job.now _ (c.lock_and_check_span.new.seat, c.lock_and_check_span.new.gate) (c.load_found_again-found.new.seat, c.load_found_again-found.new.gate) (c.change_span.new.seat, c.change_span.new.gate) c.load_found_again-found.ensures.reads
+    (omega (arith, c.load_found_again-found.ensures.few, held_again c.args.job.now.found value, ap held_loads again)) c.change_span.ensures.run)
 
 pub returns-in-Ok-clause-done : goal.returns-in-Ok-clause-done
 returns-in-Ok-clause-done g c =
     let job = c.args.job.now in
-    let later = later_trans c.lock_and_check_span.ensures.later c.load_found_again.ensures.reads.goes.stays.0 in
-    let value_is = c.new_value.ensures ∙ ap (value_in c.args.call.now) c.found_value.ensures in
-    let (x, was, is, changed) = c.change_span.ensures.done c.in-Ok.is in (
-      c.in-Some.ensures.again.0,
+    let later = later_trans c.lock_and_check_span.ensures.later c.load_found_again-found.ensures.reads.goes.stays.0 in
+    let (value, again) = c.load_found_again-found.ensures.again in
+    let value_is = c.new_value.ensures ∙ ap (value_in c.args.call.now) c.found_value-held.ensures in
+    let aimed = subst IsSome (sym (sym (ap (aim_of c.args.call.now) c.found_value-held.ensures) ∙ (sym c.aim_of.ensures ∙ c.in-Some.is))) refl in
+    let (x, was, is, changed) = c.change_span.ensures.done c.in-Ok.is in inr (
+      found_again c.args.call.now job.found c.load_found_again-found.result value again aimed,
       (
         x,
         was,
-        subst (λ q. IsDeedChange q c.args.deed job.key.now (value_in c.args.call.now (value_of c.in-Some.found)) c.in-Some.found x was) later.pass (subst (λ v. IsDeedChange c.load_found_again.new.seat.known.pass c.args.deed job.key.now v c.in-Some.found x was) value_is is),
-        changed_since c.args.seat.now.known c.load_found_again.new.seat.known c.change_span.new.seat.known x was later changed,
+        subst (λ q. IsDeedChange q c.args.deed job.key.now (value_in c.args.call.now (value_of c.load_found_again-found.result)) c.load_found_again-found.result x was) later.pass (subst (λ v. IsDeedChange c.load_found_again-found.new.seat.known.pass c.args.deed job.key.now v c.load_found_again-found.result x was) value_is is),
+        changed_since c.args.seat.now.known c.load_found_again-found.new.seat.known c.change_span.new.seat.known x was later changed,
       ),
     )
 
@@ -129,11 +134,11 @@ returns-in-Ok-clause-done g c =
 pub returns-in-Err-clause-run : goal.returns-in-Err-clause-run
 returns-in-Err-clause-run g c =
     let table = c.args.table.now in
-    let again = c.in-Some.ensures.again.0 in
+    let (value, again) = c.load_found_again-found.ensures.again in
     ended_run table g.G.Gate.becomes c.args.job.now (c.args.seat.now, c.args.gate.now) (c.lock_and_check_span.new.seat, c.lock_and_check_span.new.gate) (c.change_span.new.seat, c.change_span.new.gate) _ c.lock_and_check_span.ensures.run
     (c.lock_and_check_span.ensures.nodes c.if-not-lock_and_check_span.false) c.if-not-lock_and_check_span.false c.requires.within c.requires.planned.2.depth
-    (ends_after table g.G.Gate.becomes c.args.job.now _ (c.lock_and_check_span.new.seat, c.lock_and_check_span.new.gate) (c.load_found_again.new.seat, c.load_found_again.new.gate) (c.change_span.new.seat, c.change_span.new.gate) c.load_found_again.ensures.reads
-    (omega (arith, c.load_found_again.ensures.few, held_again c.args.job.now.found again.value, ap held_loads again.is)) c.change_span.ensures.run)
+    (ends_after table g.G.Gate.becomes c.args.job.now _ (c.lock_and_check_span.new.seat, c.lock_and_check_span.new.gate) (c.load_found_again-found.new.seat, c.load_found_again-found.new.gate) (c.change_span.new.seat, c.change_span.new.gate) c.load_found_again-found.ensures.reads
+    (omega (arith, c.load_found_again-found.ensures.few, held_again c.args.job.now.found value, ap held_loads again)) c.change_span.ensures.run)
 
 pub returns-in-Err-clause-refused : goal.returns-in-Err-clause-refused
 returns-in-Err-clause-refused g c k loaded later =
@@ -142,25 +147,45 @@ returns-in-Err-clause-refused g c k loaded later =
     let (m, aim, way, planned) = c.requires.planned in
     let taken = again_taken g at m (c.lock_and_check_span.ensures.taken c.if-not-lock_and_check_span.false m way) in
     let locked = run_loaded table g.G.Gate.becomes k (c.args.seat.now, c.args.gate.now) (c.lock_and_check_span.new.seat, c.lock_and_check_span.new.gate) loaded c.lock_and_check_span.ensures.run.1.1 in
-    let there = run_loaded table g.G.Gate.becomes k (c.lock_and_check_span.new.seat, c.lock_and_check_span.new.gate) (c.load_found_again.new.seat, c.load_found_again.new.gate) locked
-    (goes_run table g.G.Gate.becomes (c.lock_and_check_span.new.seat, c.lock_and_check_span.new.gate) (c.load_found_again.new.seat, c.load_found_again.new.gate) c.load_found_again.ensures.reads.goes) in
-    let now : Job = record { way = c.args.job.now.way; key = c.args.job.now.key; value = c.new_value.result; found = c.in-Some.found; span = c.args.job.now.span } in
-    refused_failed table.layout now k c.load_found_again.new.seat.known _ _ c.in-Err.fault m taken.way_of there
-    (later_trans later (later_trans c.lock_and_check_span.ensures.later c.load_found_again.ensures.reads.goes.stays.0)) c.in-Err.ensures.failed
+    let there = run_loaded table g.G.Gate.becomes k (c.lock_and_check_span.new.seat, c.lock_and_check_span.new.gate) (c.load_found_again-found.new.seat, c.load_found_again-found.new.gate) locked
+    (goes_run table g.G.Gate.becomes (c.lock_and_check_span.new.seat, c.lock_and_check_span.new.gate) (c.load_found_again-found.new.seat, c.load_found_again-found.new.gate) c.load_found_again-found.ensures.reads.goes) in
+    let now : Job = record { way = c.args.job.now.way; key = c.args.job.now.key; value = c.new_value.result; found = c.load_found_again-found.result; span = c.args.job.now.span } in
+    refused_failed table.layout now k c.load_found_again-found.new.seat.known _ _ c.in-Err.fault m taken.way_of there
+    (later_trans later (later_trans c.lock_and_check_span.ensures.later c.load_found_again-found.ensures.reads.goes.stays.0)) c.in-Err.ensures.failed
 
 pub returns-in-Err-clause-leafless : goal.returns-in-Err-clause-leafless
 returns-in-Err-clause-leafless g c take is = let same : c.in-Err.fault ≡ FullLeaves = cc in c.change_span.ensures.leafless take (c.in-Err.is ∙ ap Err same)
 
 -- ---- what it leaves
-pub returns-in_default-clause-later : goal.returns-in_default-clause-later
-returns-in_default-clause-later g c =
-    later_trans c.lock_and_check_span.ensures.later (later_trans c.load_found_again.ensures.reads.goes.stays.0
-    (works_later c.args.table.now g.G.Gate.becomes (c.load_found_again.new.seat, c.load_found_again.new.gate) (c.release_records_and_locks.new.seat, c.release_records_and_locks.new.gate) c.release_records_and_locks.ensures.works))
-
 pub returns-in-Err-clause-later : goal.returns-in-Err-clause-later
 returns-in-Err-clause-later g c =
-    let now : Job = record { way = c.args.job.now.way; key = c.args.job.now.key; value = c.new_value.result; found = c.in-Some.found; span = c.args.job.now.span } in
-    later_trans c.lock_and_check_span.ensures.later (later_trans c.load_found_again.ensures.reads.goes.stays.0 (failed_later c.args.table.now.layout now c.load_found_again.new.seat.known c.change_span.new.seat.known _ c.in-Err.fault c.in-Err.ensures.failed))
+    let now : Job = record { way = c.args.job.now.way; key = c.args.job.now.key; value = c.new_value.result; found = c.load_found_again-found.result; span = c.args.job.now.span } in
+    later_trans c.lock_and_check_span.ensures.later (later_trans c.load_found_again-found.ensures.reads.goes.stays.0 (failed_later c.args.table.now.layout now c.load_found_again-found.new.seat.known c.change_span.new.seat.known _ c.in-Err.fault c.in-Err.ensures.failed))
 
 pub returns-in-Err-clause-whole : goal.returns-in-Err-clause-whole
 returns-in-Err-clause-whole g c e = let ok = sym c.in-Err.is ∙ c.change_span.ensures.whole e in absurd cc
+
+-- ---- how many steps a new value takes
+pub returns-then-not-lock_and_check_span-clause-short : goal.returns-then-not-lock_and_check_span-clause-short
+returns-then-not-lock_and_check_span-clause-short g c e =
+    let (m, aim, way, planned) = c.requires.planned in
+    let one = one_lock c.args.seat.now.known m c.args.job.now.key.now c.args.job.now.way.now aim c.args.job.now.found c.args.job.now.span c.args.deed planned e in
+    let (locks, tried, some, upto, each, few) = c.lock_and_check_span.ensures.run in
+    omega (arith, one, upto, few)
+
+pub returns-in_default-clause-short : goal.returns-in_default-clause-short
+returns-in_default-clause-short g c e =
+    let (m, aim, way, planned) = c.requires.planned in
+    let one = one_lock c.args.seat.now.known m c.args.job.now.key.now c.args.job.now.way.now aim c.args.job.now.found c.args.job.now.span c.args.deed planned e in
+    let (locks, tried, some, upto, each, few) = c.lock_and_check_span.ensures.run in
+    omega (arith, one, upto, few, c.load_found_again-found.ensures.few, held_few c.args.job.now.found, c.release_records_and_locks.ensures.few)
+
+pub returns-in-Ok-clause-short : goal.returns-in-Ok-clause-short
+returns-in-Ok-clause-short g c e =
+    let (m, aim, way, planned) = c.requires.planned in
+    let one = one_lock c.args.seat.now.known m c.args.job.now.key.now c.args.job.now.way.now aim c.args.job.now.found c.args.job.now.span c.args.deed planned e in
+    let (locks, tried, some, upto, each, few) = c.lock_and_check_span.ensures.run in
+    omega (arith, one, upto, few, c.load_found_again-found.ensures.few, held_few c.args.job.now.found, c.change_span.ensures.short e)
+
+pub returns-in-Err-clause-short : goal.returns-in-Err-clause-short
+returns-in-Err-clause-short g c e = let ok = sym c.in-Err.is ∙ c.change_span.ensures.whole e in absurd cc

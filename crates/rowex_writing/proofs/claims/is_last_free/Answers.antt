@@ -1,8 +1,6 @@
 -- One load, or none.
-use Rattle.std.proofs.Common.{ap, arith, sym, subst}
-use Rattle.rowex_core.specs.declared.known.Known.{Known}
+use Rattle.std.proofs.Common.{arith}
 use Rattle.rowex_writing.proofs.Making.{look_on, look_own, look_steps}
-use Rattle.rowex_writing.proofs.Locking.{goes_none}
 use Rattle.rowex_writing.proofs.claims.is_last_free.Goals as goal
 
 pub returns-clause-goes : goal.returns-clause-goes

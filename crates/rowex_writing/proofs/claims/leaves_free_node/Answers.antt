@@ -1,8 +1,7 @@
 -- The last spare one, the walk, and those that are made.
-use Rattle.std.proofs.Common.{◌≡◌, ℕ, Option, min, ap, refl, sym, subst, ◌∙◌, arith, Contains, length}
+use Rattle.std.proofs.Common.{ℕ, Option, ap, refl, sym, subst, ◌∙◌, arith, Contains, length}
 use Rattle.versions.specs.declared.Rec.{Rec as Record}
 use Rattle.versions.specs.declared.Rec.TheVariants.{Node as a_node}
-use Rattle.record_words.specs.declared.layout.Layout.{Layout}
 use Rattle.rowex_records.specs.Claims.{HasMissedSince, IsAnothersBut}
 use Rattle.rowex_records.proofs.Claimed.{missed_earlier}
 use Rattle.rowex_writing.specs.Building.{IsBuilding}

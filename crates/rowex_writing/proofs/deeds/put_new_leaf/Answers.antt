@@ -1,5 +1,5 @@
 -- The store is that of a first key.
-use Rattle.std.proofs.Common.{◌+◌, ◌*◌, [], None, sym, subst, arith, length, refl}
+use Rattle.std.proofs.Common.{◌+◌, ◌*◌, None, sym, subst, arith, refl}
 use Rattle.version_laws.specs.Writer.{added_change}
 use Rattle.rowex_writing.specs.Changes.{MayPublishOnceReady}
 use Rattle.rowex_writing.proofs.Counting.{made_one}

@@ -1,51 +1,28 @@
 -- The node beside, the wider locks, and the store under them.
-use Rattle.std.proofs.Common.{◌∷◌, [], false, refl, sym, ap, ◌∙◌, subst, arith}
-use Rattle.versions.specs.declared.Rec.TheVariants.{Node as a_node}
+use Rattle.std.proofs.Common.{refl, sym, ◌∙◌, subst, arith}
 use Rattle.rowex_reading.proofs.Seeing.{later_trans}
-use Rattle.publish_laws.proofs.Loops.{later_if_same}
 use Rattle.rowex_writing.specs.Changes.{IsDeedChange}
 use Rattle.rowex_writing.specs.Locks.{span_numbers}
 use Rattle.rowex_writing.specs.Merging.{TriesMore}
 use Rattle.rowex_writing.specs.declared.plan.Deed.TheVariants.{Take}
-use Rattle.rowex_writing.proofs.Beside.{takes_on}
 use Rattle.rowex_writing.proofs.Keeping.{changed_since}
 use Rattle.rowex_writing.proofs.Merged.{beside_wider, building_same, beside_on, way_wide, wide_on}
 use Rattle.rowex_writing.proofs.Onward.{run_possible, run_seat}
 use Rattle.rowex_writing.proofs.Runs.{goes_run, run_none, runs_trans}
-use Rattle.rowex_writing.proofs.Wider.{few_both, few_more, few_none}
+use Rattle.rowex_writing.proofs.Wider.{few_both, few_more}
 use Rattle.rowex_writing.proofs.merging.try_merge.Goals as goal
 use Rattle.rowex_reading.specs.Ways.{IsWayOf}
 use Rattle.rowex_writing.proofs.Locking.{seat_of}
 use Rattle.rowex_writing.proofs.Making.{building_on, goes_possible}
 use Rattle.rowex_writing.proofs.Valued.{held_few}
 
-pub returns-in_default-clause-tries : goal.returns-in_default-clause-tries
-returns-in_default-clause-tries g c =
-    few_none c.args.table.now g.G.Gate.becomes (span_numbers c.args.job.now.way.now c.args.job.now.span) c.args.build.now.left_nodes 60 (c.args.seat.now, c.args.gate.now) (c.args.seat.now, c.args.gate.now) (run_none c.args.table.now g.G.Gate.becomes (c.args.seat.now, c.args.gate.now)) (omega arith)
-
-pub returns-in_default-clause-later : goal.returns-in_default-clause-later
-returns-in_default-clause-later g c = λ e. (later_if_same c.args.seat.now.known c.args.seat.now.known refl, c.requires.takes.1, c.requires.takes.2)
-
-pub returns-in_default-find_merge-clause-tries : goal.returns-in_default-find_merge-clause-tries
-returns-in_default-find_merge-clause-tries g c =
-    few_none c.args.table.now g.G.Gate.becomes (span_numbers c.args.job.now.way.now c.args.job.now.span) c.args.build.now.left_nodes 60 (c.args.seat.now, c.args.gate.now) (c.find_merge.new.seat, c.find_merge.new.gate)
-    (goes_run c.args.table.now g.G.Gate.becomes (c.args.seat.now, c.args.gate.now) (c.find_merge.new.seat, c.find_merge.new.gate) c.find_merge.ensures.reads.goes) (omega (arith, c.find_merge.ensures.few))
-
-pub returns-in_default-find_merge-clause-later : goal.returns-in_default-find_merge-clause-later
-returns-in_default-find_merge-clause-later g c = λ e.
-    let now = takes_on c.args.table.now g.G.Gate.becomes (c.args.seat.now, c.args.gate.now) (c.find_merge.new.seat, c.find_merge.new.gate) c.args.job.now c.find_merge.ensures.reads.goes c.requires.takes in
-    (c.find_merge.ensures.reads.goes.stays.0, now.1, now.2)
-
-pub lock_for_merge-requires-clause-takes : goal.lock_for_merge-requires-clause-takes
-lock_for_merge-requires-clause-takes g c = takes_on c.args.table.now g.G.Gate.becomes (c.args.seat.now, c.args.gate.now) (c.find_merge.new.seat, c.find_merge.new.gate) c.args.job.now c.find_merge.ensures.reads.goes c.requires.takes
-
 pub returns-then-not-lock_for_merge-clause-tries : goal.returns-then-not-lock_for_merge-clause-tries
 returns-then-not-lock_for_merge-clause-tries g c =
-    few_more c.args.table.now g.G.Gate.becomes (span_numbers c.args.job.now.way.now c.args.job.now.span) c.args.build.now.left_nodes 60 c.lock_for_merge.result (c.args.seat.now, c.args.gate.now) (c.find_merge.new.seat, c.find_merge.new.gate) (c.lock_for_merge.new.seat, c.lock_for_merge.new.gate)
-    (goes_run c.args.table.now g.G.Gate.becomes (c.args.seat.now, c.args.gate.now) (c.find_merge.new.seat, c.find_merge.new.gate) c.find_merge.ensures.reads.goes) c.lock_for_merge.ensures.tries (omega (arith, c.find_merge.ensures.few, c.lock_for_merge.ensures.few))
+    few_more c.args.table.now g.G.Gate.becomes (span_numbers c.args.job.now.way.now c.args.job.now.span) c.args.build.now.left_nodes 53 c.lock_for_merge.result (c.args.seat.now, c.args.gate.now) (c.args.seat.now, c.args.gate.now) (c.lock_for_merge.new.seat, c.lock_for_merge.new.gate)
+    (run_none c.args.table.now g.G.Gate.becomes (c.args.seat.now, c.args.gate.now)) c.lock_for_merge.ensures.tries (omega (arith, c.lock_for_merge.ensures.few))
 
 pub returns-then-not-lock_for_merge-clause-later : goal.returns-then-not-lock_for_merge-clause-later
-returns-then-not-lock_for_merge-clause-later g c = λ e. (later_trans c.find_merge.ensures.reads.goes.stays.0 c.lock_for_merge.ensures.later.0, c.lock_for_merge.ensures.later.1, c.lock_for_merge.ensures.later.2)
+returns-then-not-lock_for_merge-clause-later g c = λ e. (c.lock_for_merge.ensures.later.0, c.lock_for_merge.ensures.later.1, c.lock_for_merge.ensures.later.2)
 
 -- the value is loaded once more
 pub is_unchanged-requires-clause-own : goal.is_unchanged-requires-clause-own
@@ -58,23 +35,23 @@ pub is_unchanged-requires-clause-from : goal.is_unchanged-requires-clause-from
 is_unchanged-requires-clause-from g c =
     let job = c.args.job.now in
     let (w, locks, anchor) = c.lock_for_merge.ensures.wide c.if-not-lock_for_merge.false in
-    (w.taking.since, subst (IsWayOf c.args.table.now.layout c.lock_for_merge.new.seat.known w.taking.since job.key.now job.way.now) (sym w.taking.found) (way_wide c.args.table.now c.lock_for_merge.new.seat job c.in-Some-find_merge.merge.number w))
+    (w.taking.since, subst (IsWayOf c.args.table.now.layout c.lock_for_merge.new.seat.known w.taking.since job.key.now job.way.now) (sym w.taking.found) (way_wide c.args.table.now c.lock_for_merge.new.seat job c.args.merge.now.number w))
 
 -- it is another: the wider locks are given back
 pub unlock_for_merge-requires : goal.unlock_for_merge-requires
 unlock_for_merge-requires g c =
     let (w, locks, anchor) = c.lock_for_merge.ensures.wide c.if-not-lock_for_merge.false in
-    record { wide = wide_on c.args.table.now g.G.Gate.becomes (c.lock_for_merge.new.seat, c.lock_for_merge.new.gate) (c.is_unchanged.new.seat, c.is_unchanged.new.gate) c.args.job.now c.in-Some-find_merge.merge.number c.is_unchanged.ensures.reads.goes w }
+    record { wide = wide_on c.args.table.now g.G.Gate.becomes (c.lock_for_merge.new.seat, c.lock_for_merge.new.gate) (c.is_unchanged.new.seat, c.is_unchanged.new.gate) c.args.job.now c.args.merge.now.number c.is_unchanged.ensures.reads.goes w }
 
 pub returns-then-not-is_unchanged-clause-tries : goal.returns-then-not-is_unchanged-clause-tries
 returns-then-not-is_unchanged-clause-tries g c =
     let table = c.args.table.now in
-    few_both table g.G.Gate.becomes (span_numbers c.args.job.now.way.now c.args.job.now.span) c.args.build.now.left_nodes (c.args.seat.now, c.args.gate.now) (c.find_merge.new.seat, c.find_merge.new.gate) (c.lock_for_merge.new.seat, c.lock_for_merge.new.gate) (c.unlock_for_merge.new.seat, c.unlock_for_merge.new.gate)
-    (goes_run table g.G.Gate.becomes (c.args.seat.now, c.args.gate.now) (c.find_merge.new.seat, c.find_merge.new.gate) c.find_merge.ensures.reads.goes)
-    (subst (λ both. TriesMore table g.G.Gate.becomes (span_numbers c.args.job.now.way.now c.args.job.now.span) both (c.find_merge.new.seat, c.find_merge.new.gate) (c.lock_for_merge.new.seat, c.lock_for_merge.new.gate)) c.if-not-lock_for_merge.false c.lock_for_merge.ensures.tries)
+    few_both table g.G.Gate.becomes (span_numbers c.args.job.now.way.now c.args.job.now.span) c.args.build.now.left_nodes (c.args.seat.now, c.args.gate.now) (c.args.seat.now, c.args.gate.now) (c.lock_for_merge.new.seat, c.lock_for_merge.new.gate) (c.unlock_for_merge.new.seat, c.unlock_for_merge.new.gate)
+    (run_none table g.G.Gate.becomes (c.args.seat.now, c.args.gate.now))
+    (subst (λ both. TriesMore table g.G.Gate.becomes (span_numbers c.args.job.now.way.now c.args.job.now.span) both (c.args.seat.now, c.args.gate.now) (c.lock_for_merge.new.seat, c.lock_for_merge.new.gate)) c.if-not-lock_for_merge.false c.lock_for_merge.ensures.tries)
     (runs_trans table g.G.Gate.becomes (c.lock_for_merge.new.seat, c.lock_for_merge.new.gate) (c.is_unchanged.new.seat, c.is_unchanged.new.gate) (c.unlock_for_merge.new.seat, c.unlock_for_merge.new.gate)
     (goes_run table g.G.Gate.becomes (c.lock_for_merge.new.seat, c.lock_for_merge.new.gate) (c.is_unchanged.new.seat, c.is_unchanged.new.gate) c.is_unchanged.ensures.reads.goes) c.unlock_for_merge.ensures.run)
-    (omega (arith, c.find_merge.ensures.few, c.lock_for_merge.ensures.few, c.is_unchanged.ensures.few, held_few c.args.job.now.found, c.unlock_for_merge.ensures.few))
+    (omega (arith, c.lock_for_merge.ensures.few, c.is_unchanged.ensures.few, held_few c.args.job.now.found, c.unlock_for_merge.ensures.few))
 
 pub returns-then-not-is_unchanged-clause-later : goal.returns-then-not-is_unchanged-clause-later
 returns-then-not-is_unchanged-clause-later g c = λ e.
@@ -83,33 +60,29 @@ returns-then-not-is_unchanged-clause-later g c = λ e.
     let reads = c.is_unchanged.ensures.reads in
     let own = seat_of table g.G.Gate.becomes (c.lock_for_merge.new.seat, c.lock_for_merge.new.gate) (c.is_unchanged.new.seat, c.is_unchanged.new.gate) reads.goes l.1 in
     let possible = goes_possible table g.G.Gate.becomes (c.lock_for_merge.new.seat, c.lock_for_merge.new.gate) (c.is_unchanged.new.seat, c.is_unchanged.new.gate) reads.goes l.2 in (
-      later_trans c.find_merge.ensures.reads.goes.stays.0 (later_trans l.0 (later_trans reads.goes.stays.0 c.unlock_for_merge.ensures.later)),
+      later_trans l.0 (later_trans reads.goes.stays.0 c.unlock_for_merge.ensures.later),
       run_seat table g.G.Gate.becomes (c.is_unchanged.new.seat, c.is_unchanged.new.gate) (c.unlock_for_merge.new.seat, c.unlock_for_merge.new.gate) c.unlock_for_merge.ensures.run own,
       run_possible table g.G.Gate.becomes (c.is_unchanged.new.seat, c.is_unchanged.new.gate) (c.unlock_for_merge.new.seat, c.unlock_for_merge.new.gate) c.unlock_for_merge.ensures.run possible,
     )
 
 pub returns-then-not-is_unchanged-clause-same : goal.returns-then-not-is_unchanged-clause-same
 returns-then-not-is_unchanged-clause-same g c = λ e.
-    let reads = c.find_merge.ensures.reads in
     let (w, locks, anchor) = c.lock_for_merge.ensures.wide c.if-not-lock_for_merge.false in
     let s = c.unlock_for_merge.ensures.same
-    (wide_on c.args.table.now g.G.Gate.becomes (c.lock_for_merge.new.seat, c.lock_for_merge.new.gate) (c.is_unchanged.new.seat, c.is_unchanged.new.gate) c.args.job.now c.in-Some-find_merge.merge.number c.is_unchanged.ensures.reads.goes w) in
-    ((s.0 ∙ (locks ∙ reads.goes.stays.1), s.1 ∙ (anchor ∙ reads.goes.stays.2), s.2 ∙ (c.is_unchanged.ensures.reads.own ∙ (c.lock_for_merge.ensures.later.3 ∙ reads.own))), refl)
+    (wide_on c.args.table.now g.G.Gate.becomes (c.lock_for_merge.new.seat, c.lock_for_merge.new.gate) (c.is_unchanged.new.seat, c.is_unchanged.new.gate) c.args.job.now c.args.merge.now.number c.is_unchanged.ensures.reads.goes w) in
+    ((s.0 ∙ locks, s.1 ∙ anchor, s.2 ∙ (c.is_unchanged.ensures.reads.own ∙ c.lock_for_merge.ensures.later.3)), refl)
 
 -- it is the same
 pub merge_under_locks-requires-clause-wide : goal.merge_under_locks-requires-clause-wide
 merge_under_locks-requires-clause-wide g c =
     let (w, locks, anchor) = c.lock_for_merge.ensures.wide c.if-not-lock_for_merge.false in
-    wide_on c.args.table.now g.G.Gate.becomes (c.lock_for_merge.new.seat, c.lock_for_merge.new.gate) (c.is_unchanged.new.seat, c.is_unchanged.new.gate) c.args.job.now c.in-Some-find_merge.merge.number c.is_unchanged.ensures.reads.goes w
+    wide_on c.args.table.now g.G.Gate.becomes (c.lock_for_merge.new.seat, c.lock_for_merge.new.gate) (c.is_unchanged.new.seat, c.is_unchanged.new.gate) c.args.job.now c.args.merge.now.number c.is_unchanged.ensures.reads.goes w
 
 pub merge_under_locks-requires-clause-beside : goal.merge_under_locks-requires-clause-beside
 merge_under_locks-requires-clause-beside g c =
     let (w, locks, anchor) = c.lock_for_merge.ensures.wide c.if-not-lock_for_merge.false in
-    beside_on c.lock_for_merge.new.seat.known c.is_unchanged.new.seat.known c.args.job.now c.in-Some-find_merge.merge c.is_unchanged.ensures.reads.goes.stays.1
-    (beside_wider c.args.table.now c.find_merge.new.seat.known c.lock_for_merge.new.seat c.args.job.now c.in-Some-find_merge.merge w locks c.in-Some-find_merge.ensures.beside.0)
-
-pub merge_under_locks-requires-clause-made : goal.merge_under_locks-requires-clause-made
-merge_under_locks-requires-clause-made g c = sym c.as_slice.ensures.value ∙ (c.in-Some.ensures ∙ ap (λ n. a_node n ∷ []) (sym c.in-Some-find_merge.ensures.beside.1))
+    beside_on c.lock_for_merge.new.seat.known c.is_unchanged.new.seat.known c.args.job.now c.args.merge.now c.is_unchanged.ensures.reads.goes.stays.1
+    (beside_wider c.args.table.now c.args.seat.now.known c.lock_for_merge.new.seat c.args.job.now c.args.merge.now w locks c.requires.beside)
 
 pub merge_under_locks-requires-clause-building : goal.merge_under_locks-requires-clause-building
 merge_under_locks-requires-clause-building g c =
@@ -117,7 +90,7 @@ merge_under_locks-requires-clause-building g c =
     let l = c.lock_for_merge.ensures.later in (
       news,
       building_on c.args.table.now g.G.Gate.becomes (c.lock_for_merge.new.seat, c.lock_for_merge.new.gate) (c.is_unchanged.new.seat, c.is_unchanged.new.gate) c.args.build.now.made.items news c.is_unchanged.ensures.reads.goes c.is_unchanged.ensures.reads.own
-          (building_same c.args.table.now c.args.seat.now c.lock_for_merge.new.seat c.args.build.now.made.items news l.1 l.2 (l.3 ∙ c.find_merge.ensures.reads.own) b),
+          (building_same c.args.table.now c.args.seat.now c.lock_for_merge.new.seat c.args.build.now.made.items news l.1 l.2 l.3 b),
     )
 
 pub merge_under_locks-requires-clause-loaded : goal.merge_under_locks-requires-clause-loaded
@@ -126,18 +99,18 @@ merge_under_locks-requires-clause-loaded g c = c.is_unchanged.ensures.same c.if-
 pub returns-clause-tries : goal.returns-clause-tries
 returns-clause-tries g c =
     let table = c.args.table.now in
-    few_both table g.G.Gate.becomes (span_numbers c.args.job.now.way.now c.args.job.now.span) c.args.build.now.left_nodes (c.args.seat.now, c.args.gate.now) (c.find_merge.new.seat, c.find_merge.new.gate) (c.lock_for_merge.new.seat, c.lock_for_merge.new.gate) (c.merge_under_locks.new.seat, c.merge_under_locks.new.gate)
-    (goes_run table g.G.Gate.becomes (c.args.seat.now, c.args.gate.now) (c.find_merge.new.seat, c.find_merge.new.gate) c.find_merge.ensures.reads.goes)
-    (subst (λ both. TriesMore table g.G.Gate.becomes (span_numbers c.args.job.now.way.now c.args.job.now.span) both (c.find_merge.new.seat, c.find_merge.new.gate) (c.lock_for_merge.new.seat, c.lock_for_merge.new.gate)) c.if-not-lock_for_merge.false c.lock_for_merge.ensures.tries)
+    few_both table g.G.Gate.becomes (span_numbers c.args.job.now.way.now c.args.job.now.span) c.args.build.now.left_nodes (c.args.seat.now, c.args.gate.now) (c.args.seat.now, c.args.gate.now) (c.lock_for_merge.new.seat, c.lock_for_merge.new.gate) (c.merge_under_locks.new.seat, c.merge_under_locks.new.gate)
+    (run_none table g.G.Gate.becomes (c.args.seat.now, c.args.gate.now))
+    (subst (λ both. TriesMore table g.G.Gate.becomes (span_numbers c.args.job.now.way.now c.args.job.now.span) both (c.args.seat.now, c.args.gate.now) (c.lock_for_merge.new.seat, c.lock_for_merge.new.gate)) c.if-not-lock_for_merge.false c.lock_for_merge.ensures.tries)
     (runs_trans table g.G.Gate.becomes (c.lock_for_merge.new.seat, c.lock_for_merge.new.gate) (c.is_unchanged.new.seat, c.is_unchanged.new.gate) (c.merge_under_locks.new.seat, c.merge_under_locks.new.gate)
     (goes_run table g.G.Gate.becomes (c.lock_for_merge.new.seat, c.lock_for_merge.new.gate) (c.is_unchanged.new.seat, c.is_unchanged.new.gate) c.is_unchanged.ensures.reads.goes) c.merge_under_locks.ensures.run)
-    (omega (arith, c.find_merge.ensures.few, c.lock_for_merge.ensures.few, c.is_unchanged.ensures.few, held_few c.args.job.now.found, c.merge_under_locks.ensures.few))
+    (omega (arith, c.lock_for_merge.ensures.few, c.is_unchanged.ensures.few, held_few c.args.job.now.found, c.merge_under_locks.ensures.few))
 
 pub returns-clause-done : goal.returns-clause-done
 returns-clause-done g c = λ e.
     let job = c.args.job.now in
     let (x, was, is, changed) = c.merge_under_locks.ensures.done e in
-    let later = later_trans c.find_merge.ensures.reads.goes.stays.0 (later_trans c.lock_for_merge.ensures.later.0 c.is_unchanged.ensures.reads.goes.stays.0) in
+    let later = later_trans c.lock_for_merge.ensures.later.0 c.is_unchanged.ensures.reads.goes.stays.0 in
     (x, was, subst (λ q. IsDeedChange q Take job.key.now job.value job.found x was) later.pass is, changed_since c.args.seat.now.known c.is_unchanged.new.seat.known c.merge_under_locks.new.seat.known x was later changed)
 
 pub returns-clause-later : goal.returns-clause-later
@@ -147,15 +120,14 @@ returns-clause-later g c = λ e.
     let reads = c.is_unchanged.ensures.reads in
     let own = seat_of table g.G.Gate.becomes (c.lock_for_merge.new.seat, c.lock_for_merge.new.gate) (c.is_unchanged.new.seat, c.is_unchanged.new.gate) reads.goes l.1 in
     let possible = goes_possible table g.G.Gate.becomes (c.lock_for_merge.new.seat, c.lock_for_merge.new.gate) (c.is_unchanged.new.seat, c.is_unchanged.new.gate) reads.goes l.2 in (
-      later_trans c.find_merge.ensures.reads.goes.stays.0 (later_trans l.0 (later_trans reads.goes.stays.0 (c.merge_under_locks.ensures.later e))),
+      later_trans l.0 (later_trans reads.goes.stays.0 (c.merge_under_locks.ensures.later e)),
       run_seat table g.G.Gate.becomes (c.is_unchanged.new.seat, c.is_unchanged.new.gate) (c.merge_under_locks.new.seat, c.merge_under_locks.new.gate) c.merge_under_locks.ensures.run own,
       run_possible table g.G.Gate.becomes (c.is_unchanged.new.seat, c.is_unchanged.new.gate) (c.merge_under_locks.new.seat, c.merge_under_locks.new.gate) c.merge_under_locks.ensures.run possible,
     )
 
 pub returns-clause-same : goal.returns-clause-same
 returns-clause-same g c = λ e.
-    let reads = c.find_merge.ensures.reads in
     let (w, locks, anchor) = c.lock_for_merge.ensures.wide c.if-not-lock_for_merge.false in
     let s = c.merge_under_locks.ensures.same e
-    (wide_on c.args.table.now g.G.Gate.becomes (c.lock_for_merge.new.seat, c.lock_for_merge.new.gate) (c.is_unchanged.new.seat, c.is_unchanged.new.gate) c.args.job.now c.in-Some-find_merge.merge.number c.is_unchanged.ensures.reads.goes w) in
-    ((s.0 ∙ (locks ∙ reads.goes.stays.1), s.1 ∙ (anchor ∙ reads.goes.stays.2), s.2 ∙ (c.is_unchanged.ensures.reads.own ∙ (c.lock_for_merge.ensures.later.3 ∙ reads.own))), s.3)
+    (wide_on c.args.table.now g.G.Gate.becomes (c.lock_for_merge.new.seat, c.lock_for_merge.new.gate) (c.is_unchanged.new.seat, c.is_unchanged.new.gate) c.args.job.now c.args.merge.now.number c.is_unchanged.ensures.reads.goes w) in
+    ((s.0 ∙ locks, s.1 ∙ anchor, s.2 ∙ (c.is_unchanged.ensures.reads.own ∙ c.lock_for_merge.ensures.later.3)), s.3)

@@ -1,10 +1,9 @@
 -- A leaf with the key is one of the table's; and where it has another value, it has been changed.
-use Rattle.std.proofs.Common.{◌≡◌, ◌≢◌, ℕ, None, ap, eqb, sym, subst, ◌∙◌}
+use Rattle.std.proofs.Common.{◌≡◌, ◌≢◌, None, ap, sym, subst, ◌∙◌}
 use Rattle.std.proofs.lemmas.Bool.{eq-eqb, false≢true}
 use Rattle.rowex_reading.specs.Ways.{IsFoundAt}
 use Rattle.rowex_reading.specs.declared.descent.Found.TheVariants.{Leaf}
-use Rattle.rowex_writing.specs.Attempts.{HasLoadedFound}
-use Rattle.rowex_writing.proofs.Valued.{found_in_table, found_loaded, moved_since, value_reads}
+use Rattle.rowex_writing.proofs.Valued.{found_in_table, moved_since, value_reads}
 use Rattle.rowex_writing.proofs.valuing.is_unchanged.Given as given
 use Rattle.rowex_writing.proofs.valuing.is_unchanged.Goals as goal
 use Rattle.rowex_writing.proofs.valuing.is_unchanged.Goals.{In-Leaf-default-default-None}

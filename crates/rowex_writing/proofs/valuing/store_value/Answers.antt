@@ -1,9 +1,9 @@
 -- The store, and what is unlocked after it.
-use Rattle.std.proofs.Common.{◌≡◌, ◌<◌, ◌^◌, None, Some, refl, sym, ap, subst, ◌∙◌, arith, [], ℕ, Option}
+use Rattle.std.proofs.Common.{◌≡◌, ◌<◌, ◌^◌, None, Some, refl, sym, subst, arith, [], ℕ, Option}
 use Rattle.std.specs.Prelude.{slice_range}
 use Rattle.rowex_core.specs.declared.event.Act.TheVariants.{Publish}
 use Rattle.rowex_core.specs.declared.event.Spot.TheVariants.{Value}
-use Rattle.rowex_core.specs.Having.{AreKept, IsUnlinked}
+use Rattle.rowex_core.specs.Having.{IsUnlinked}
 use Rattle.rowex_core.proofs.Having.{owns_none}
 use Rattle.rowex_table.specs.Publishes.{HasPublished, Publishes}
 use Rattle.rowex_table.proofs.ActsLeave.{act_leaves}

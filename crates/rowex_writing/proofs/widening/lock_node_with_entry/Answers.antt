@@ -1,5 +1,5 @@
 -- A node of the way is locked, and its entry is looked at.
-use Rattle.std.proofs.Common.{true, false, sym, ◌∙◌}
+use Rattle.std.proofs.Common.{sym, ◌∙◌}
 use Rattle.publish_laws.proofs.Acting.{led_may_lock}
 use Rattle.rowex_writing.proofs.Locking.{seat_of}
 use Rattle.rowex_writing.proofs.Onward.{back_later, back_tries, locked_later, locked_tries, run_possible}

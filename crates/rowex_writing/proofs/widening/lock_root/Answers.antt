@@ -1,5 +1,5 @@
 -- The anchor is locked, and the root is looked at.
-use Rattle.std.proofs.Common.{true, false, sym, subst, ◌∙◌, arith}
+use Rattle.std.proofs.Common.{sym, subst, ◌∙◌, arith}
 use Rattle.std.specs.Prelude.{IsSome}
 use Rattle.rowex_core.specs.declared.event.Act.TheVariants.{Unlock}
 use Rattle.rowex_core.specs.declared.event.Target.TheVariants.{Anchor}

@@ -1,5 +1,10 @@
--- The change of a copy of the key.
+-- The change of a copy of the key, which takes no record.
+use Rattle.finite_map.specs.declared.Call.TheVariants.{Add}
+use Rattle.hot_index.proofs.Held.{is_busy}
 use Rattle.hot_index.proofs.index.Index.try_add_with.Goals as goal
 
-pub returns : goal.returns
-returns g c = rw c.copy.ensures.same at c.try_change_with.ensures
+pub returns-clause-call : goal.returns-clause-call
+returns-clause-call g c = rw c.copy.ensures.same at c.try_change_with.ensures
+
+pub returns-clause-busy : goal.returns-clause-busy
+returns-clause-busy g c = is_busy (Add c.copy.result c.args.delta) (λ may. may) c.try_change_with.result c.try_change_with.ensures.call

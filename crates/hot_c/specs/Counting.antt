@@ -1,0 +1,14 @@
+-- What a count of a range by a program in C says.
+use Rattle.std.specs.Prelude.{◌≡◌, ℕ, ◌-◌, ◌^◌, List, Option, None, IsSome}
+use Rattle.hot_index_calls.specs.Answers.{range_from}
+use Rattle.hot_index_calls.specs.Calls.{IsCountRead}
+use Rattle.hot_c.specs.Calls.{FitsInKey, StaysOpen}
+use Rattle.hot_c.specs.declared.opened.Opened.{Opened}
+use Rattle.hot_c.specs.declared.status.TheConstants.{CLOSED, DONE, KEY_TOO_LONG}
+
+-- A count through a handle, which finds `before` where C wants the number and leaves `after`. A closed handle and a key that is too long
+-- are told as such, and nothing has changed; else the range is counted.
+pub record CountsRange (from upto : List ℕ) (old new : Option Opened) (before after status : ℕ) : Type 0 where
+  pub closed : old ≡ None → (status ≡ CLOSED) × (new ≡ old) × (after ≡ before)
+  pub long : IsSome old → ¬ (FitsInKey from × FitsInKey upto) → (status ≡ KEY_TOO_LONG) × (new ≡ old) × (after ≡ before)
+  pub made : IsSome old → FitsInKey from → FitsInKey upto → (status ≡ DONE) × StaysOpen (IsCountRead (range_from from upto (2 ^ 63 - 1)) after) old new

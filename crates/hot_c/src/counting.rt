@@ -1,0 +1,27 @@
+//! The number of the keys of a range, for programs in C.
+
+ghost use Rattle.std.specs.Prelude.{◌≡◌};
+ghost use Rattle.hot_c.specs.Counting.{CountsRange};
+
+use crate::handle::Handle;
+use crate::status::{CLOSED, DONE, KEY_TOO_LONG};
+use key_bits::Key;
+
+/// Counts the keys from `from` to `upto`, both included: `DONE`, with their number in `count`, at most 2^63 - 1. `CLOSED` if `handle` is
+/// closed, `KEY_TOO_LONG` if an end has more than 240 bytes: then `count` stays. No other status is returned.
+#[unsafe(no_mangle)]
+pub extern "C" fn hot_count(handle: &mut Handle, from: &[u8], upto: &[u8], count: &mut usize) -> u32
+    ensures call { CountsRange from.now upto.now handle.old.slot.opened handle.new.slot.opened count.old count.new result }
+    ensures place { handle.new.place ≡ handle.old.place }
+{
+    if !handle.is_open() {
+        return CLOSED;
+    }
+    let mut first = Key::empty();
+    let mut last = Key::empty();
+    let (Ok(()), Ok(())) = (first.set_bytes(from), last.set_bytes(upto)) else {
+        return KEY_TOO_LONG;
+    };
+    *count = handle.slot.lend().handle.count_range(&first, &last);
+    DONE
+}

@@ -1,0 +1,84 @@
+-- A new value of a held key is never refused as full.
+use Rattle.std.proofs.Common.{◌≡◌, ◌≢◌, ℕ, ◌+◌, ◌<◌, ◌≤◌, List, [], ◌++◌, length, take, None, Result, Ok, Err, IsOk, refl, sym, ap, subst, ◌∙◌, arith, length-append}
+use Rattle.std.specs.Prelude.{All, IfErr, MatchResult}
+use Rattle.std.proofs.Math.Seq.{take-length}
+use Rattle.finite_map.specs.declared.Call.{Call}
+use Rattle.finite_map.specs.declared.Call.TheVariants.{Add, Exchange, Get, Insert, Remove, RemoveIf, Upsert}
+use Rattle.finite_map.specs.declared.Change.{Change}
+use Rattle.finite_map.specs.declared.Reply.{Reply}
+use Rattle.finite_map.specs.Calls.{LegalCalls, changes_of, own_changes}
+use Rattle.finite_map.specs.Fronts.{map_of}
+use Rattle.finite_map.specs.Maps.{key_of, value_at}
+use Rattle.finite_map.proofs.Alone.{own_changes-all}
+use Rattle.record_words.specs.declared.layout.Layout.{Layout}
+use Rattle.rowex_writing.specs.Attempts.{IsFullFault}
+use Rattle.rowex_writing.specs.declared.attempts.TryFault.{TryFault}
+use Rattle.rowex_writing.specs.declared.attempts.TryFault.TheVariants.{Busy, FullLeaves, FullNodes}
+use Rattle.rowex_writing.specs.declared.plan.Full.{Full}
+use Rattle.rowex_writing.specs.declared.plan.Full.TheVariants.{Nodes, Leaves}
+use Rattle.hot_index_calls.specs.Answers.{IsNoted, IsRefused, MayTake, WasAbsent, fault_of}
+use Rattle.hot_index_calls.specs.Passes.{AreByPasses, PassView}
+use Rattle.hot_index_calls.proofs.Noting.{All-part}
+use Rattle.hot_index.specs.Statements.{GivesValue, HeldIsNeverFull, OnePassRefusesNewAlone}
+use Rattle.hot_index.proofs.Alone.{one_pass_is_never_busy}
+
+-- a refusal that can't be as full is a busy one
+busy_unless_full : (fault : TryFault) → (IsFullFault fault → ⊥) → fault ≡ Busy
+busy_unless_full Busy never = refl
+busy_unless_full FullNodes never = absurd (never tt)
+busy_unless_full FullLeaves never = absurd (never tt)
+
+-- one that may take a record, and is no removal, found its key absent
+takes_new : (call : Call) (k j : PassView) → GivesValue call → MayTake call k j → WasAbsent (key_of call) k j
+takes_new (Insert key value) k j gives was = was
+takes_new (Upsert key value) k j gives was = was
+takes_new (Exchange key expected value) k j gives was = absurd was
+takes_new (Add key delta) k j gives was = absurd was
+takes_new (Get key) k j gives was = absurd was
+takes_new (Remove key) k j gives was = absurd gives
+takes_new (RemoveIf key expected) k j gives was = absurd gives
+
+pub held_is_never_full : HeldIsNeverFull
+held_is_never_full layout call k j fault refused gives held =
+    busy_unless_full fault (λ full. let was = takes_new call k j gives (refused.full full) in held was.place was.begun was.upto was.absent)
+
+-- a refusal of an index of one pass is as full
+full_alone : (layout : Layout) (call : Call) (k j : PassView) (fault : TryFault) → layout.passes ≡ 1 → IsRefused layout call k j fault → IsFullFault fault
+full_alone layout call k j Busy one refused = absurd (one_pass_is_never_busy layout (key_of call) k j one refused.cause)
+full_alone layout call k j FullNodes one refused = tt
+full_alone layout call k j FullLeaves one refused = tt
+
+-- with one pass each change is its own
+all_own : (layout : Layout) (q : ℕ) (front : List Change) → layout.passes ≡ 1 → q < layout.passes → AreByPasses layout front → own_changes q front ≡ front
+all_own layout q front one mine by = own_changes-all q front (λ i d low. (let its = by i d low in omega (arith, its, one, mine)))
+
+-- so a call that is refused has seen no change
+none_seen : (layout : Layout) (call : Call) (k j : PassView) (fault : TryFault) → layout.passes ≡ 1 → j.number < layout.passes → LegalCalls k.front k.number k.notes → IsRefused layout call k j fault →
+    j.front ≡ k.front
+none_seen layout call k j fault one mine legal refused =
+    let unnoted = refused.unnoted in
+    let own : own_changes j.number j.front ≡ own_changes k.number k.front =
+    unnoted.legal.own ∙ ap (changes_of j.number) unnoted.notes ∙ ap (λ q. changes_of q k.notes) unnoted.number ∙ sym legal.own in
+    let (more, grown) = unnoted.front in
+    let by : AreByPasses layout k.front = All-part (λ (x : Change). x.pass < layout.passes) k.front more (subst (AreByPasses layout) grown unnoted.makers) in
+    sym (all_own layout j.number j.front one mine unnoted.makers) ∙ own ∙ all_own layout k.number k.front one (subst (λ q. q < layout.passes) unnoted.number mine) by
+
+pub one_pass_refuses_new_alone : OnePassRefusesNewAlone
+one_pass_refuses_new_alone layout call k j fault one mine legal refused gives =
+    let was = takes_new call k j gives (refused.full (full_alone layout call k j fault one refused)) in
+    let same : j.front ≡ k.front = none_seen layout call k j fault one mine legal refused in
+    let at : was.place ≡ length k.front = (let begun = was.begun in let upto = was.upto in omega (arith, begun, upto, ap length same)) in
+    sym (ap (λ (z : List Change). value_at (map_of z) (key_of call)) (ap (take was.place) same ∙ ap (λ n. take n k.front) at ∙ take-length k.front)) ∙ was.absent
+
+-- ---- calls that take no record
+module _ {layout : Layout} {k j : PassView} (call : Call) (never : MayTake call k j → ⊥) where
+  -- one that waits is made
+  pub is_made : (r : Result Reply Full) → MatchResult r (IsNoted layout k j call) (λ full. IsRefused layout call k j (fault_of full)) → IsOk r
+  is_made (Ok reply) made = refl
+  is_made (Err Nodes) made = absurd (never (made.full tt))
+  is_made (Err Leaves) made = absurd (never (made.full tt))
+
+  -- and one that doesn't wait is refused only as busy
+  pub is_busy : (r : Result Reply TryFault) → MatchResult r (IsNoted layout k j call) (IsRefused layout call k j) → IfErr r (λ fault. fault ≡ Busy)
+  is_busy (Ok reply) made = tt
+  is_busy (Err fault) made = busy_unless_full fault (λ full. never (made.full full))

@@ -1,0 +1,10 @@
+-- The change of a copy of the key, which takes no record.
+use Rattle.finite_map.specs.declared.Call.TheVariants.{Add}
+use Rattle.hot_index.proofs.Held.{is_made}
+use Rattle.hot_index.proofs.index.Index.add.Goals as goal
+
+pub returns-clause-call : goal.returns-clause-call
+returns-clause-call g c = rw c.copy.ensures.same at c.retry_change_with.ensures
+
+pub returns-clause-made : goal.returns-clause-made
+returns-clause-made g c = is_made (Add c.copy.result c.args.delta) (λ may. may) c.retry_change_with.result c.retry_change_with.ensures.call

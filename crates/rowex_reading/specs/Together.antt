@@ -1,0 +1,38 @@
+-- What several searches know that go down side by side, and the loads that they make.
+use Rattle.std.specs.Prelude.{◌≡◌, ℕ, ◌+◌, ◌*◌, ◌<◌, ◌≤◌, List, slice_get, Some}
+use Rattle.std.specs.List.{sum_by}
+use Rattle.compound_node.specs.declared.entries.Entry.{Entry}
+use Rattle.compound_node.specs.declared.entries.Entry.TheVariants.{Leaf}
+use Rattle.compound_node.specs.Nodes.{height_of}
+use Rattle.key_bits.specs.declared.TheConstants.{MAX_BYTES}
+use Rattle.tries.specs.Keys.{Key}
+use Rattle.versions.specs.State.{IsLed}
+use Rattle.rowex_core.specs.declared.event.Event.{Event}
+use Rattle.rowex_core.specs.declared.known.Known.{Known}
+use Rattle.rowex_core.specs.Knowing.{IsPinnedSince}
+use Rattle.rowex_table.specs.Seats.{SeatView, TableView}
+use Rattle.rowex_reading.specs.Reads.{Reads}
+use Rattle.rowex_reading.specs.Seen.{Sure, since}
+
+-- The search for the key has led the pass to the entry, by loads since its last one of the root.
+pub record IsOnWay (k : Known) (key : Key) (e : Entry) : Type 0 where
+  pub pinned : IsPinnedSince k (since k)
+  pub led : Sure k (λ s. IsLed s (since k) key e)
+
+-- each search has led to its entry
+abbrev pub AreOnWay : Known → List Key → List Entry → Type 0
+AreOnWay k keys tips = (i : ℕ) (key : Key) (e : Entry) → slice_get keys i ≡ Some key → slice_get tips i ≡ Some e → IsOnWay k key e
+
+-- the first of these entries are leaves
+abbrev pub AreLeaves : ℕ → List Entry → Type 0
+AreLeaves count tips = (i : ℕ) (e : Entry) → i < count → slice_get tips i ≡ Some e → (n : ℕ) × (e ≡ Leaf n)
+
+-- the heights of these entries, added up: each node that is entered lowers it
+abbrev pub heights_in : List Entry → ℕ
+heights_in tips = sum_by height_of tips
+
+-- The pass makes the loads of so many searches, from the root's entry on: at most 26 for each node on the way of a key, one of them an
+-- entry, and 32 for its leaf.
+abbrev pub ReadsForAll : {G : Type 0} → TableView → (G → Event → G → Type 0) → ℕ → SeatView × G → SeatView × G → Type 0
+ReadsForAll table becomes count a b =
+    (entries n : ℕ) × (entries ≤ count * (9 * MAX_BYTES)) × (n ≤ 32 * count + 26 * entries) × Reads table becomes entries n a b

@@ -1,0 +1,40 @@
+-- What a walk keeps of the pairs that it takes: all of them, or a part.
+use Rattle.std.specs.Prelude.{◌≡◌, ℕ, ◌+◌, List, [], ◌∷◌, length}
+use Rattle.tries.specs.Keys.{Key}
+use Rattle.versions.specs.State.{Past}
+use Rattle.version_laws.specs.Scan.{Pair, Range, Frame as Stage, in_order_taken}
+use Rattle.version_laws.specs.Directions.{IsScanBy}
+use Rattle.version_laws.specs.declared.direction.Direction.{Direction}
+
+-- How many pairs were taken, and what is said of them; the newest one stands first.
+pub record Tally : Type 1 where
+  pub size : ℕ
+  pub says : List Pair → Type 0
+
+-- these are such pairs
+abbrev pub AreTallied : Tally → List Pair → Type 0
+AreTallied t taken = (t.size ≡ length taken) × t.says taken
+
+-- no pair was taken,
+abbrev pub IsNone : Tally → Type 0
+IsNone t = (t.size ≡ 0) × t.says []
+
+-- none more,
+abbrev pub IsKept : Tally → Tally → Type 0
+IsKept t u = (u.size ≡ t.size) × ((taken : List Pair) → t.says taken → u.says taken)
+
+-- or one more
+abbrev pub IsOneMore : Tally → Key → ℕ → Tally → Type 0
+IsOneMore t key value u = (u.size ≡ t.size + 1) × ((taken : List Pair) → t.says taken → u.says (record { key = key; value = value } ∷ taken))
+
+-- nothing is said of these pairs but their number
+abbrev pub tally_of_number : ℕ → Tally
+tally_of_number n = record { size = n; says = λ taken. Unit {0} }
+
+-- these are the pairs, in the order in which they were taken
+abbrev pub tally_of_pairs : List (Key × ℕ) → Tally
+tally_of_pairs pairs = record { size = length pairs; says = λ taken. pairs ≡ in_order_taken taken }
+
+-- a scan has taken such pairs on this way
+abbrev pub IsTalliedScan : Direction → Past → ℕ → Range → List Stage → Tally → Type 0
+IsTalliedScan d s m g fs t = (taken : List Pair) × AreTallied t taken × IsScanBy d s m g fs taken
