@@ -237,9 +237,9 @@ typedef struct hot_lookup {
     hot_status status; /* HOT_FOUND or HOT_ABSENT */
 } hot_lookup;
 
-/* Looks up `count` keys, one after the other, and writes to each place what was found: a status, and the value if there is one.
- * No key's value is of an earlier moment than that of a key before it. It makes at most 4 steps, 34 for each key, and 29 for
- * each entry of a node that it loads, which are at most 2168 entries a key. Records that other calls retire meanwhile can't
+/* Looks up each of `count` keys once, and writes to its place what was found: a status, and the value if there is one. Each was so at
+ * a moment of its own within the call, in no stated order among the keys. It makes at most 4 steps, 32 for each key, and 26 for
+ * each node on the way to a key; there are at most 2160 such nodes for each. Records that other calls retire meanwhile can't
  * be used again until the call ends: so pass some hundred keys at a time, and not millions.
  * HOT_DONE; or HOT_KEY_TOO_LONG if any key is, HOT_CLOSED, HOT_NO_MEMORY, and then nothing was written. */
 hot_status hot_get_many(hot_handle *handle, hot_lookup *lookups, size_t count);

@@ -446,7 +446,7 @@ class handle {
     }
     [[nodiscard]] bool contains(key_view key) { return get(key).has_value(); }
 
-    /// Looks up many keys, in turn: hot_get_many. They lie in anything that can be iterated over, such as a span of strings.
+    /// Looks up many keys: hot_get_many. They lie in anything that can be iterated over, such as a span of strings.
     template <class Keys> [[nodiscard]] std::vector<std::optional<std::uint64_t>> get_many(const Keys &keys) {
         using key = decltype(*std::begin(keys));
         static_assert(std::is_lvalue_reference_v<key> || std::is_base_of_v<std::string_view, key>, "the keys would be gone");

@@ -210,7 +210,7 @@ impl Handle {
         self.get(key).is_some()
     }
 
-    /// The keys' values, in turn.
+    /// The value of each key, at its place. Each is of a moment of its own within the call.
     pub fn get_many<K: AsRef<[u8]>>(&self, keys: &[K]) -> Result<Vec<Option<u64>>, Error> {
         let (mut found, mut short) = (Vec::new(), Vec::new());
         short
