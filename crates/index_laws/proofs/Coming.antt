@@ -22,11 +22,10 @@ use Rattle.index_laws.proofs.Reaching.{before, before-new, before-old, traced_mo
 
 -- Lives, from a seat on
 
--- a call that a pass has begun: what it asks, its seat then, and what its seat was at some moment since
+-- a call that a pass has begun: what it asks, and its seat then
 pub record Begun : Type 0 where
   pub calls : List Call
   pub from : SeatView
-  pub mark : SeatView
 
 pub record MakesStep (table : TableView) (act : Act) (notes : List Note) (s e : SeatView) : Type 0 where
   pub said : Known → List Note
@@ -42,13 +41,12 @@ Shows table s m front = (IsShownAll table.layout s m × BeginsWith front s.known
 pub data Life (table : TableView) (q : ℕ) : SeatView → Option Begun → List Happening → SeatView → Type 0 where
   over : {s : SeatView} → Life table q s None [] s
   sees : {s m e : SeatView} {hs : List Happening} (front : List Change) → Shows table s m front → Life table q m None hs e → Life table q s None (shows q front ∷ hs) e
-  asks : {s e : SeatView} {hs : List Happening} (calls : List Call) → Life table q s (Some (record { calls = calls; from = s; mark = s })) hs e →
+  asks : {s e : SeatView} {hs : List Happening} (calls : List Call) → Life table q s (Some (record { calls = calls; from = s })) hs e →
       Life table q s None (invokes q calls ∷ hs) e
-  goes : {s m e : SeatView} {hs : List Happening} {o : Begun} (act : Act) (notes : List Note) (mark : SeatView) → MakesStep table act notes s m →
-      (mark ≡ o.mark) ⊎ (mark ≡ m) →
-      Life table q m (Some (record { calls = o.calls; from = o.from; mark = mark })) hs e → Life table q s (Some o) (steps q act notes ∷ hs) e
+  goes : {s m e : SeatView} {hs : List Happening} {o : Begun} (act : Act) (notes : List Note) → MakesStep table act notes s m → Life table q m (Some o) hs e →
+      Life table q s (Some o) (steps q act notes ∷ hs) e
   closes : {s m e : SeatView} {hs : List Happening} {o : Begun} (act : Act) (notes : List Note) (h : Happening) → MakesStep table act notes s m →
-      HasEndedAs table.layout q o.calls o.from o.mark m h → Life table q m None hs e → Life table q s (Some o) (steps q act notes ∷ h ∷ hs) e
+      HasEndedAs table.layout q o.calls o.from m h → Life table q m None hs e → Life table q s (Some o) (steps q act notes ∷ h ∷ hs) e
 
 step_begins : {table : TableView} {act : Act} {notes : List Note} {s m : SeatView} → MakesStep table act notes s m → RunBeginsWith m.trace s.trace
 step_begins x = next_begins x.step.next
@@ -60,7 +58,7 @@ life_begins (sees {s = s} {m = m} {e = e} front (inl x) l) = begins_on s.trace m
     (life_begins l)
 life_begins (sees {s = s} {m = m} {e = e} front (inr x) l) = subst (RunBeginsWith e.trace) x.1 (life_begins l)
 life_begins (asks calls l) = life_begins l
-life_begins (goes {s = s} {m = m} {e = e} act notes mark x is l) = begins_on s.trace m.trace e.trace (step_begins x) (life_begins l)
+life_begins (goes {s = s} {m = m} {e = e} act notes x l) = begins_on s.trace m.trace e.trace (step_begins x) (life_begins l)
 life_begins (closes {s = s} {m = m} {e = e} act notes h x is l) = begins_on s.trace m.trace e.trace (step_begins x) (life_begins l)
 
 -- What is left of a life
@@ -88,12 +86,9 @@ put_all P f q r own others p = ⊎_elim
 -- pass q's call has begun at moment `since`, and is pending at moment n
 pub record IsWaiting (at : ℕ → Instant) (n q : ℕ) (o : Begun) : Type 0 where
   pub since : ℕ
-  pub m : ℕ
-  pub low : since ≤ m
-  pub high : m ≤ n
+  pub low : since ≤ n
   pub pending : (at n).pending q ≡ Some (record { since = since; calls = o.calls })
   pub from : (at since).seat q ≡ o.from
-  pub mark : (at m).seat q ≡ o.mark
 
 abbrev pub Waits : (ℕ → Instant) → ℕ → ℕ → Option Begun → Type 0
 Waits at n q None = (at n).pending q ≡ None
@@ -101,16 +96,12 @@ Waits at n q (Some o) = IsWaiting at n q o
 
 waiting_on : (at : ℕ → Instant) (n q : ℕ) (b : Instant) (o : Begun) → IsWaiting at n q o → b.pending q ≡ (at n).pending q → IsWaiting (upto n at b) (suc n) q o
 waiting_on at n q b o w e =
-    let low : w.since ≤ w.m = w.low in
-    let high : w.m ≤ n = w.high in
+    let low : w.since ≤ n = w.low in
     record {
       since = w.since;
-      m = w.m;
-      low = w.low;
-      high = omega (arith, high);
+      low = omega (arith, low);
       pending = subst (λ (z : Instant). z.pending q ≡ Some (record { since = w.since; calls = o.calls })) (sym (upto-new n at b)) (e ∙ w.pending);
-      from = ap (λ (z : Instant). z.seat q) (upto-old n at b w.since (omega (arith, low, high))) ∙ w.from;
-      mark = ap (λ (z : Instant). z.seat q) (upto-old n at b w.m high) ∙ w.mark;
+      from = ap (λ (z : Instant). z.seat q) (upto-old n at b w.since low) ∙ w.from;
     }
 
 pub waits_on : (at : ℕ → Instant) (n q : ℕ) (b : Instant) (o : Option Begun) → Waits at n q o → b.pending q ≡ (at n).pending q → Waits (upto n at b) (suc n) q o

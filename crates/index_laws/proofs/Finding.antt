@@ -561,12 +561,11 @@ module _ (table : TableView) (two : table.layout.passes ≡ 2) (value : ℕ) (fi
   theirs = call_of 1 (Get [] ∷ []) looking ClearPin (found ∷ []) (responds 1 (found ∷ []))
 
   first_done : HasDone table 0 ours e0
-  first_done = called {f = s0} (new (refl, refl, refl, refl)) (Insert [] value ∷ []) [] changing ClearPin (λ k. inserted ∷ []) refl ends_so (answered
-      (Insert [] value) Inserted refl insert_noted)
+  first_done = called (new (refl, refl, refl, refl)) (Insert [] value ∷ []) changing ClearPin (λ k. inserted ∷ []) ends_so
+      (answered (Insert [] value) Inserted refl insert_noted)
 
   second_done : HasDone table 1 theirs e1
-  second_done = called {f = s1} (new (refl, refl, refl, refl)) (Get [] ∷ []) [] looking ClearPin (λ k. found ∷ []) refl found_so (answered (Get [])
-      (Value value) refl get_noted)
+  second_done = called (new (refl, refl, refl, refl)) (Get [] ∷ []) looking ClearPin (λ k. found ∷ []) found_so (answered (Get []) (Value value) refl get_noted)
 
   behind_get : OthersStepOn 0 w12.run w16.run
   behind_get =

@@ -74,25 +74,24 @@ module _ (table : TableView) (whole : ℕ → List Happening) (q : ℕ) (below :
   go_on : {s e : SeatView} {o : Begun} {hs : List Happening} → Life table q s (Some o) hs e → (left : ℕ → Rest) (tip : Happening) →
       Reached table whole done left tip → left q ≡ rest s (Some o) hs →
       ((act : Act) (notes : List Note) → IsNextTo tip (steps q act notes)) → OthersStepOn q e.trace (done ++ x ∷ todo) → Went table whole q left (done ++ x ∷ []) e
-  go_on {o = o} (goes {s = s} {m = m} {e = e} {hs = hs} act notes mark made marks l) left tip r is next all =
-      let f = is_next e made (pass_is table whole q below done left tip r s (Some o) (steps q act notes ∷ hs) is) (stands_is table whole q below done left tip r s
-      (Some o) (steps q act notes ∷ hs) is) (life_begins l) all in
-      let onward : Begun = record { calls = o.calls; from = o.from; mark = mark } in
-      let now : ℕ → Rest = put left q (rest m (Some onward) hs) in
+  go_on {o = o} (goes {s = s} {m = m} {e = e} {hs = hs} act notes made l) left tip r is next all =
+      let f = is_next e made (pass_is table whole q below done left tip r s (Some o) (steps q act notes ∷ hs) is)
+      (stands_is table whole q below done left tip r s (Some o) (steps q act notes ∷ hs) is) (life_begins l) all in
+      let now : ℕ → Rest = put left q (rest m (Some o) hs) in
       record {
         now = now;
         tip = steps q act notes;
         reached = subst (λ z. Reached table whole (done ++ z ∷ []) now (steps q act notes)) f.1
-            (step_more table whole q below done left tip r s m o act notes mark hs is made f.0 marks (next act notes));
-        mine = there table q left m e (Some onward) hs l;
-        others = λ p ne. put-other left q (rest m (Some onward) hs) p ne;
+            (step_more table whole q below done left tip r s m o act notes hs is made f.0 (next act notes));
+        mine = there table q left m e (Some o) hs l;
+        others = λ p ne. put-other left q (rest m (Some o) hs) p ne;
         calm = tt;
       }
   go_on {o = o} (closes {s = s} {m = m} {e = e} {hs = hs} act notes h made ends l) left tip r is next all =
       let f = is_next e made (pass_is table whole q below done left tip r s (Some o) (steps q act notes ∷ h ∷ hs) is)
       (stands_is table whole q below done left tip r s (Some o) (steps q act notes ∷ h ∷ hs) is) (life_begins l) all in
       let between : ℕ → Rest = put left q (rest m (Some o) (h ∷ hs)) in
-      let made_it = step_more table whole q below done left tip r s m o act notes o.mark (h ∷ hs) is made f.0 (inl refl) (next act notes) in
+      let made_it = step_more table whole q below done left tip r s m o act notes (h ∷ hs) is made f.0 (next act notes) in
       let event : Event = record { pass = q; act = act } in
       let now : ℕ → Rest = put between q (rest m None hs) in
       let at_end = end_more table whole q below (done ++ event ∷ []) between (steps q act notes) made_it m o h hs (put-own left q (rest m (Some o) (h ∷ hs))) ends
@@ -125,7 +124,7 @@ module _ (table : TableView) (whole : ℕ → List Happening) (q : ℕ) (below :
       (go l (put left q (rest m None hs)) (shows q front) (show_more table whole q below done left tip r s m front hs is so calm now) (put-own left q
       (rest m None hs)) tt all)
   go (asks {s = s} {e = e} {hs = hs} calls l) left tip r is calm all =
-      let o : Begun = record { calls = calls; from = s; mark = s } in
+      let o : Begun = record { calls = calls; from = s } in
       went_on table whole q left (rest s (Some o) hs) (done ++ x ∷ []) e
       (go_on l (put left q (rest s (Some o) hs)) (invokes q calls) (invoke_more table whole q below done left tip r s calls hs is calm) (put-own left q (rest s
       (Some o) hs)) (λ act notes. refl) all)
@@ -159,7 +158,7 @@ module _ (table : TableView) (whole : ℕ → List Happening) (q : ℕ) (below :
 
   none_begun : {s e : SeatView} {o : Begun} {hs : List Happening} → Life table q s (Some o) hs e → s.known.pass ≡ q → OthersStepOn q s.trace done →
       OthersStepOn q e.trace done → ⊥
-  none_begun (goes {s = s} {m = m} {e = e} act notes mark made marks l) named stands all = step_left e made named stands (life_begins l) all
+  none_begun (goes {s = s} {m = m} {e = e} act notes made l) named stands all = step_left e made named stands (life_begins l) all
   none_begun (closes {s = s} {m = m} {e = e} act notes h made ends l) named stands all = step_left e made named stands (life_begins l) all
 
   shown_then : (s m : SeatView) (front : List Change) → Shows table s m front → s.known.pass ≡ q → OthersStepOn q s.trace done → RunBeginsWith done m.trace →
@@ -258,44 +257,25 @@ module _ (table : TableView) (whole : ℕ → List Happening) (end : ℕ → Sea
 silent_step : {table : TableView} {act : Act} {s m : SeatView} → StepsWith table untold act silent (s, tt) (m, tt) → MakesStep table act [] s m
 silent_step x = record { said = silent; step = x; notes_are = refl }
 
--- steps, where the call's mark goes along,
-through : (table : TableView) (q : ℕ) (acts : List Act) (s f e : SeatView) (calls : List Call) (from : SeatView) (hs : List Happening) →
-    Runs table untold acts (s, tt) (f, tt) →
-    Life table q f (Some (record { calls = calls; from = from; mark = f })) hs e → Life table q s (Some (record { calls = calls; from = from; mark = s }))
-    (steps_of q acts ++ hs) e
-through table q [] s f e calls from hs runs l =
-    subst (λ (z : SeatView). Life table q z (Some (record { calls = calls; from = from; mark = z })) hs e) (ap (λ (z : SeatView × Unit {0}). z.0) runs) l
-through table q (act ∷ acts) s f e calls from hs (m, x, runs) l = goes act [] m.0 (silent_step x) (inr refl) (through table q acts m.0 f e calls from hs runs l)
-
--- and where it stays
 along : (table : TableView) (q : ℕ) (acts : List Act) (s f e : SeatView) (o : Begun) (hs : List Happening) → Runs table untold acts (s, tt) (f, tt) →
     Life table q f (Some o) hs e → Life table q s (Some o) (steps_of q acts ++ hs) e
 along table q [] s f e o hs runs l = subst (λ (z : SeatView). Life table q z (Some o) hs e) (ap (λ (z : SeatView × Unit {0}). z.0) runs) l
-along table q (act ∷ acts) s f e o hs (m, x, runs) l = goes act [] o.mark (silent_step x) (inl refl) (along table q acts m.0 f e o hs runs l)
+along table q (act ∷ acts) s f e o hs (m, x, runs) l = goes act [] (silent_step x) (along table q acts m.0 f e o hs runs l)
 
-steps_of-append : (q : ℕ) (xs ys : List Act) (zs : List Happening) → steps_of q (xs ++ ys) ++ zs ≡ steps_of q xs ++ (steps_of q ys ++ zs)
-steps_of-append q [] ys zs = refl
-steps_of-append q (x ∷ xs) ys zs = ap (λ l. steps q x [] ∷ l) (steps_of-append q xs ys zs)
+call_of-rest : (q : ℕ) (calls : List Call) (acts : List Act) (last : Act) (notes : List Note) (h : Happening) (hs : List Happening) →
+    call_of q calls acts last notes h ++ hs ≡ invokes q calls ∷ (steps_of q acts ++ steps q last notes ∷ h ∷ hs)
+call_of-rest q calls acts last notes h hs = ap (λ l. invokes q calls ∷ l) (append_assoc (steps_of q acts) (steps q last notes ∷ h ∷ []) hs)
 
-call_of-rest : (q : ℕ) (calls : List Call) (before acts : List Act) (last : Act) (notes : List Note) (h : Happening) (hs : List Happening) →
-    call_of q calls (before ++ acts) last notes h ++ hs ≡ invokes q calls ∷ (steps_of q before ++ (steps_of q acts ++ steps q last notes ∷ h ∷ hs))
-call_of-rest q calls before acts last notes h hs =
-    ap (λ l. invokes q calls ∷ l) (append_assoc (steps_of q (before ++ acts)) (steps q last notes ∷ h ∷ []) hs ∙
-    steps_of-append q before acts (steps q last notes ∷ h ∷ hs))
-
-one_call : (table : TableView) (q : ℕ) (s f m e : SeatView) (hs : List Happening) (calls : List Call) (before acts : List Act) (last : Act) (said : Known →
-    List Note) → Runs table untold before (s, tt) (f, tt) →
-    (ends : Ends table untold acts last said (f, tt) (m, tt)) → (h : Happening) → HasEndedAs table.layout q calls s f m h → Life table q m None hs e →
-    Life table q s None (call_of q calls (before ++ acts) last (notes_of_end table acts last said f m ends) h ++ hs) e
-one_call table q s f m e hs calls before acts last said runs ends h so l =
-    let notes : List Note = notes_of_end table acts last said f m ends in
-    let o : Begun = record { calls = calls; from = s; mark = f } in
+one_call : (table : TableView) (q : ℕ) (s m e : SeatView) (hs : List Happening) (calls : List Call) (acts : List Act) (last : Act) (said : Known → List Note) →
+    (ends : Ends table untold acts last said (s, tt) (m, tt)) → (h : Happening) → HasEndedAs table.layout q calls s m h → Life table q m None hs e →
+    Life table q s None (call_of q calls acts last (notes_of_end table acts last said s m ends) h ++ hs) e
+one_call table q s m e hs calls acts last said ends h so l =
+    let notes : List Note = notes_of_end table acts last said s m ends in
+    let o : Begun = record { calls = calls; from = s } in
     let made : MakesStep table last notes ends.0.0 m = record { said = said; step = ends.2; notes_are = refl } in
     let ended : Life table q ends.0.0 (Some o) (steps q last notes ∷ h ∷ hs) e = closes last notes h made so l in
-    let onward : Life table q f (Some o) (steps_of q acts ++ steps q last notes ∷ h ∷ hs) e = along table q acts f ends.0.0 e o
-    (steps q last notes ∷ h ∷ hs) ends.1 ended in
-    subst (λ z. Life table q s None z e) (sym (call_of-rest q calls before acts last notes h hs))
-    (asks calls (through table q before s f e calls s (steps_of q acts ++ steps q last notes ∷ h ∷ hs) runs onward))
+    subst (λ z. Life table q s None z e) (sym (call_of-rest q calls acts last notes h hs))
+    (asks calls (along table q acts s ends.0.0 e o (steps q last notes ∷ h ∷ hs) ends.1 ended))
 
 -- a life from the new seat on
 record IsLife (table : TableView) (q : ℕ) (hs : List Happening) (e : SeatView) : Type 0 where
@@ -306,10 +286,9 @@ record IsLife (table : TableView) (q : ℕ) (hs : List Happening) (e : SeatView)
 life_of : {table : TableView} {q : ℕ} {done : List Happening} {s : SeatView} → HasDone table q done s → (hs : List Happening) (e : SeatView) →
     Life table q s None hs e → IsLife table q (done ++ hs) e
 life_of (new {s = s} is) hs e l = record { start = s; fresh = is; life = l }
-life_of {table} {q} (called {done = done} {s = s} {f = f} {e = m} before_it calls before acts last said runs ends {ended = h} so) hs e l =
-    let this : List Happening = call_of q calls (before ++ acts) last (notes_of_end table acts last said f m ends) h in
-    subst (λ z. IsLife table q z e) (sym (append_assoc done this hs)) (life_of before_it (this ++ hs) e
-    (one_call table q s f m e hs calls before acts last said runs ends h so l))
+life_of {table} {q} (called {done = done} {s = s} {e = m} before_it calls acts last said ends {ended = h} so) hs e l =
+    let this : List Happening = call_of q calls acts last (notes_of_end table acts last said s m ends) h in
+    subst (λ z. IsLife table q z e) (sym (append_assoc done this hs)) (life_of before_it (this ++ hs) e (one_call table q s m e hs calls acts last said ends h so l))
 life_of {table} {q} (shown {done = done} {s = s} {e = m} before_it all more known) hs e l =
     subst (λ z. IsLife table q z e) (sym (append_assoc done (shows q m.known.front ∷ []) hs)) (life_of before_it (shows q m.known.front ∷ hs) e (sees m.known.front
     (inl (all, more, known)) l))
@@ -323,8 +302,7 @@ runs_named table acts s e runs = (runs_same table untold acts (s, tt) (e, tt) ru
 
 pub named_by : {table : TableView} {q : ℕ} {done : List Happening} {s : SeatView} → HasDone table q done s → s.known.pass ≡ q
 named_by (new is) = ap (λ (k : Known). k.pass) is.1
-named_by {table} (called {s = s} {f = f} before_it calls before acts last said runs ends so) =
-    ends.2.seat.2 ∙ (runs_named table acts f ends.0.0 ends.1 ∙ (runs_named table before s f runs ∙ named_by before_it))
+named_by {table} (called {s = s} before_it calls acts last said ends so) = ends.2.seat.2 ∙ (runs_named table acts s ends.0.0 ends.1 ∙ named_by before_it)
 named_by (shown before_it all more known) = all.pass ∙ named_by before_it
 named_by (stamped before_it is) = ap (λ (z : SeatView). z.known.pass) is ∙ named_by before_it
 

@@ -1,5 +1,5 @@
 -- The moves of an execution: a pass is shown something, invokes a call, makes a step, or its call ends.
-use Rattle.std.proofs.Common.{◌≡◌, ◌≢◌, ◌⊎◌, inl, inr, ℕ, suc, ◌<◌, ◌≤◌, List, [], ◌∷◌, ◌++◌, cond, nat_eq, Option, Some, None, refl, sym, ap, subst, ◌∙◌, arith, le_refl, le_trans}
+use Rattle.std.proofs.Common.{◌≡◌, ◌≢◌, ◌⊎◌, inl, inr, ℕ, suc, ◌<◌, ◌≤◌, List, [], ◌∷◌, ◌++◌, cond, nat_eq, Option, Some, None, refl, sym, ap, subst, ◌∙◌, arith, le_refl}
 use Rattle.std.proofs.lemmas.Bool.{eq-eqb, ne_eqb}
 use Rattle.finite_map.specs.declared.Call.{Call}
 use Rattle.finite_map.specs.declared.Change.{Change}
@@ -49,22 +49,22 @@ calm_step (invokes p calls) q act notes c = absurd c
 calm_step (responds p told) q act notes c = tt
 calm_step (refuses p) q act notes c = tt
 
-pub ends_next : {layout : Layout} {q : ℕ} {calls : List Call} {s f e : SeatView} {h : Happening} (act : Act) (notes : List Note) →
-    HasEndedAs layout q calls s f e h → IsNextTo (steps q act notes) h
+pub ends_next : {layout : Layout} {q : ℕ} {calls : List Call} {s e : SeatView} {h : Happening} (act : Act) (notes : List Note) →
+    HasEndedAs layout q calls s e h → IsNextTo (steps q act notes) h
 ends_next act notes (answered asked reply is noted) = refl
-ends_next act notes (looked_up asked are noted sees fresh) = refl
+ends_next act notes (looked_up asked are noted) = refl
 ends_next act notes (quiet is same legal) = refl
 ends_next act notes (refused asked fault is denied may) = refl
 
-pub ends_calm : {layout : Layout} {q : ℕ} {calls : List Call} {s f e : SeatView} {h : Happening} → HasEndedAs layout q calls s f e h → Calm h
+pub ends_calm : {layout : Layout} {q : ℕ} {calls : List Call} {s e : SeatView} {h : Happening} → HasEndedAs layout q calls s e h → Calm h
 ends_calm (answered asked reply is noted) = tt
-ends_calm (looked_up asked are noted sees fresh) = tt
+ends_calm (looked_up asked are noted) = tt
 ends_calm (quiet is same legal) = tt
 ends_calm (refused asked fault is denied may) = tt
 
-ends_own : {layout : Layout} {q : ℕ} {calls : List Call} {s f e : SeatView} {h : Happening} → HasEndedAs layout q calls s f e h → pass_in h ≡ q
+ends_own : {layout : Layout} {q : ℕ} {calls : List Call} {s e : SeatView} {h : Happening} → HasEndedAs layout q calls s e h → pass_in h ≡ q
 ends_own (answered asked reply is noted) = refl
-ends_own (looked_up asked are noted sees fresh) = refl
+ends_own (looked_up asked are noted) = refl
 ends_own (quiet is same legal) = refl
 ends_own (refused asked fault is denied may) = refl
 
@@ -163,7 +163,7 @@ module _ (table : TableView) (whole : ℕ → List Happening) (q : ℕ) (below :
 
   module _ (s : SeatView) (calls : List Call) (hs : List Happening) (is : left q ≡ rest s None (invokes q calls ∷ hs)) (calm : Calm tip) where
     abbrev begun : Begun
-    begun = record { calls = calls; from = s; mark = s }
+    begun = record { calls = calls; from = s }
 
     abbrev asks : Option Pending
     asks = Some (record { since = n; calls = calls })
@@ -181,12 +181,9 @@ module _ (table : TableView) (whole : ℕ → List Happening) (q : ℕ) (below :
       seats = λ p ne. refl;
       waits = record {
         since = n;
-        m = n;
-        low = le_refl n;
-        high = omega arith;
+        low = omega arith;
         pending = ap (λ (z : Instant). z.pending q) (upto-new n x.at after_invoke) ∙ turned-own a.pending q asks;
         from = seat_there;
-        mark = seat_there;
       };
       pending = λ p ne. turned-other a.pending q asks p ne;
       whose = refl;
@@ -204,14 +201,10 @@ module _ (table : TableView) (whole : ℕ → List Happening) (q : ℕ) (below :
 
   -- a step is made
 
-  module _ (s m : SeatView) (o : Begun) (act : Act) (notes : List Note) (mark : SeatView) (hs : List Happening) (is : left q ≡ rest s (Some o) (steps q act notes ∷ hs))
-      (made : MakesStep table act notes s m) (behind : made.step.next.before ≡ done) (marks : (mark ≡ o.mark) ⊎ (mark ≡ m)) (next : IsNextTo tip
-      (steps q act notes)) where
+  module _ (s m : SeatView) (o : Begun) (act : Act) (notes : List Note) (hs : List Happening) (is : left q ≡ rest s (Some o) (steps q act notes ∷ hs))
+      (made : MakesStep table act notes s m) (behind : made.step.next.before ≡ done) (next : IsNextTo tip (steps q act notes)) where
     abbrev event : Event
     event = record { pass = q; act = act }
-
-    abbrev onward : Begun
-    onward = record { calls = o.calls; from = o.from; mark = mark }
 
     abbrev after_step : Instant
     after_step = record { run = done ++ event ∷ []; seat = turned a.seat q m; pending = a.pending }
@@ -249,28 +242,12 @@ module _ (table : TableView) (whole : ℕ → List Happening) (q : ℕ) (below :
     trace_is = made.step.next.next_is ∙ ap (λ l. l ++ record { pass = s.known.pass; act = act } ∷ []) behind ∙
         ap (λ p. done ++ record { pass = p; act = act } ∷ []) (pass_is s (Some o) (steps q act notes ∷ hs) is)
 
-    waits_at : (mark ≡ o.mark) ⊎ (mark ≡ m) → IsWaiting (upto n x.at after_step) (suc n) q onward
-    waits_at (inl e) =
-        let w = waits_on x.at n q after_step (Some o) waiting refl in
-        record { since = w.since; m = w.m; low = w.low; high = w.high; pending = w.pending; from = w.from; mark = w.mark ∙ sym e }
-    waits_at (inr e) =
-        let w = waits_on x.at n q after_step (Some o) waiting refl in
-        record {
-          since = w.since;
-          m = suc n;
-          low = le_trans w.low w.high;
-          high = le_refl (suc n);
-          pending = w.pending;
-          from = w.from;
-          mark = ap (λ (z : Instant). z.seat q) (upto-new n x.at after_step) ∙ (now_is ∙ sym e);
-        }
-
-    pub step_more : Reached table whole (done ++ event ∷ []) (put left q (rest m (Some onward) hs)) (steps q act notes)
-    step_more = reached_more table whole done (done ++ event ∷ []) left tip (steps q act notes) q (rest m (Some onward) hs) after_step x (record {
+    pub step_more : Reached table whole (done ++ event ∷ []) (put left q (rest m (Some o) hs)) (steps q act notes)
+    step_more = reached_more table whole done (done ++ event ∷ []) left tip (steps q act notes) q (rest m (Some o) hs) after_step x (record {
       run = refl;
       seat = now_is;
       seats = λ p ne. turned-other a.seat q m p ne;
-      waits = waits_at marks;
+      waits = waits_on x.at n q after_step (Some o) waiting refl;
       pending = λ p ne. refl;
       whose = refl;
       ahead = ap (λ (z : Rest). z.ahead) is;
@@ -284,7 +261,7 @@ module _ (table : TableView) (whole : ℕ → List Happening) (q : ℕ) (below :
   -- a call ends
 
   module _ (m : SeatView) (o : Begun) (h : Happening) (hs : List Happening) (is : left q ≡ rest m (Some o) (h ∷ hs))
-      (ends : HasEndedAs table.layout q o.calls o.from o.mark m h)
+      (ends : HasEndedAs table.layout q o.calls o.from m h)
       (next : IsNextTo tip h) where
     abbrev after_end : Instant
     after_end = record { run = a.run; seat = a.seat; pending = turned a.pending q None }
@@ -303,51 +280,24 @@ module _ (table : TableView) (whole : ℕ → List Happening) (q : ℕ) (below :
 
     returning : IsReturning (λ i. moment_of table.layout (at_end i)) q n call o.from m
     returning =
-        let low : w.since ≤ w.m = w.low in
-        let high : w.m ≤ n = w.high in
+        let low : w.since ≤ n = w.low in
         record {
           pending = ap (λ (z : Instant). z.pending q) here ∙ w.pending;
-          before = sym (ap (λ (z : Instant). (z.seat q).known) (upto-old n x.at after_end w.since (omega (arith, low, high))) ∙ ap (λ (z : SeatView). z.known) w.from);
+          before = sym (ap (λ (z : Instant). (z.seat q).known) (upto-old n x.at after_end w.since low) ∙ ap (λ (z : SeatView). z.known) w.from);
           now = sym (ap (λ (z : Instant). (z.seat q).known) here ∙ ap (λ (z : SeatView). z.known) (seat_is m (Some o) (h ∷ hs) is));
           pass = pass_is m (Some o) (h ∷ hs) is;
-          later = omega (arith, low, high);
+          later = low;
         }
 
     turn : IsSeatTurn table.layout (at_end n) (at_end (suc n)) q None
     turn = at_both (λ u v. IsSeatTurn table.layout u v q None) n x.at after_end
         (record { pass = below; run = refl; seats = refl; own = turned-own a.pending q None; others = λ p ne. turned-other a.pending q None p ne })
 
-    marked : o.mark.known ≡ ((at_end w.m).seat q).known
-    marked = sym (ap (λ (z : Instant). (z.seat q).known) (upto-old n x.at after_end w.m w.high) ∙ ap (λ (z : SeatView). z.known) w.mark)
-
-    leads_on : {z : Happening} → HasEndedAs table.layout q o.calls o.from o.mark m z → ContractsLeadOn table at_end n z
+    leads_on : {z : Happening} → HasEndedAs table.layout q o.calls o.from m z → ContractsLeadOn table at_end n z
     leads_on (answered asked reply calls noted) =
         (call, (o.from, m, returning, inl (record { asked = asked; reply = reply; calls = calls; noted = noted; notes_are = refl })), turn)
-    leads_on (looked_up asked are noted sees fresh) = (
-      call,
-      (
-        o.from,
-        m,
-        returning,
-        inr (inl (
-          record {
-            asked = asked;
-            calls = are;
-            noted = noted;
-            m = w.m;
-            since = w.low;
-            until = w.high;
-            f = o.mark;
-            first =
-                marked;
-            sees = sees;
-            fresh = fresh;
-          },
-          refl,
-        )),
-      ),
-      turn,
-    )
+    leads_on (looked_up asked are noted) =
+        (call, (o.from, m, returning, inr (inl (record { asked = asked; calls = are; noted = noted; notes_are = refl }))), turn)
     leads_on (quiet calls same legal) = (call, (o.from, m, returning, inr (inr (record { calls = calls; same = same; legal = legal; notes_are = refl }))), turn)
     leads_on (refused asked fault calls denied may) = (call, (o.from, m, asked, fault, returning, calls, denied, may), turn)
 

@@ -1,10 +1,10 @@
 -- An execution that is reached by the lives of passes, one happening after the other.
-use Rattle.std.proofs.Common.{◌≡◌, inl, inr, ⊎_elim, ℕ, suc, ◌<◌, ◌≤◌, List, [], cond, nat_le, nat_lt, Some, None, sym, ap, subst, ◌∙◌, arith, le_refl}
+use Rattle.std.proofs.Common.{◌≡◌, ⊎_elim, ℕ, suc, ◌<◌, ◌≤◌, List, [], cond, nat_le, nat_lt, Some, None, sym, ap, subst, ◌∙◌, arith, le_refl}
 use Rattle.std.proofs.lemmas.Bool.{cases_lt, le-leb, lt-leb, lt-ltb, le-ltb}
 use Rattle.finite_map.specs.declared.Note.{Note}
 use Rattle.rowex_table.specs.Seats.{IsNewSeatOf, SeatView, TableView}
 use Rattle.real_time.specs.Moments.{Happening, Moment, Pending, invokes, refuses, responds, shows, steps}
-use Rattle.index_laws.specs.Executions.{HasAnsweredMany, HasReturned, IsReturning}
+use Rattle.index_laws.specs.Executions.{HasReturned, IsReturning}
 use Rattle.index_laws.specs.Traced.{ContractsLeadOn, Instant, IsSeatShowing, IsSeatStep, IsSeatTurn, IsTracedExecution, moment_of}
 
 -- Lists that go on at one place
@@ -55,27 +55,8 @@ module _ (table : TableView) (at to : ℕ → Instant) (t : ℕ) (same : (s : �
         later = x.later;
       }
 
-  abbrev many_so : (q : ℕ) (call : Pending) (s e : SeatView) → HasAnsweredMany table.layout (moments at) q t call s e →
-      HasAnsweredMany table.layout (moments to) q t call s e
-  many_so q call s e x =
-      let low : x.m ≤ t = x.until in
-      record {
-        asked = x.asked;
-        calls = x.calls;
-        noted = x.noted;
-        m = x.m;
-        since = x.since;
-        until = x.until;
-        f = x.f;
-        first = x.first ∙ ap (λ (z : Instant). (z.seat q).known) (sym (same x.m (omega (arith, low))));
-        sees = x.sees;
-        fresh = x.fresh;
-      }
-
   returned : (q : ℕ) (call : Pending) (notes : List Note) → HasReturned table.layout (moments at) q t call notes → HasReturned table.layout (moments to) q t call notes
-  returned q call notes (s, e, x, inl y) = (s, e, returning q call s e x, inl y)
-  returned q call notes (s, e, x, inr (inl (y, is))) = (s, e, returning q call s e x, inr (inl (many_so q call s e y, is)))
-  returned q call notes (s, e, x, inr (inr y)) = (s, e, returning q call s e x, inr (inr y))
+  returned q call notes (s, e, x, how) = (s, e, returning q call s e x, how)
 
   pub leads_same : (h : Happening) → ContractsLeadOn table at t h → ContractsLeadOn table to t h
   leads_same (steps q act notes) x = both (λ a b. IsSeatStep table a b q act notes) x

@@ -1,6 +1,6 @@
 -- Passes whose traces have ended in one run of the table: what each has done, as the contracts of its calls say one after the other, and the
 -- execution that they make together.
-use Rattle.std.specs.Prelude.{◌≡◌, ℕ, zero, suc, ◌<◌, ◌≤◌, ◌^◌, All, List, [], ◌∷◌, ◌++◌, None, if◌then◌else◌, length, map, nat_eq}
+use Rattle.std.specs.Prelude.{◌≡◌, ℕ, zero, suc, ◌<◌, ◌^◌, List, [], ◌∷◌, ◌++◌, None, if◌then◌else◌, map, nat_eq}
 use Rattle.finite_map.specs.declared.Call.{Call}
 use Rattle.finite_map.specs.declared.Call.TheVariants.{Get, Insert}
 use Rattle.finite_map.specs.declared.Note.{Note}
@@ -12,7 +12,7 @@ use Rattle.record_words.specs.declared.layout.Layout.{Layout}
 use Rattle.rowex_core.specs.declared.event.Act.{Act}
 use Rattle.rowex_core.specs.declared.event.Event.{Event}
 use Rattle.rowex_core.specs.declared.known.Known.{Known}
-use Rattle.rowex_core.specs.Knowing.{SeesAllAtRoot, learned}
+use Rattle.rowex_core.specs.Knowing.{learned}
 use Rattle.rowex_table.specs.Rule.{with_front}
 use Rattle.rowex_table.specs.Runs.{Ends, Runs, silent}
 use Rattle.rowex_table.specs.Seats.{IsNewSeatOf, IsShownAll, SeatView, TableView}
@@ -28,16 +28,16 @@ use Rattle.index_laws.specs.Traced.{Instant, IsTracedExecution, moment_of}
 
 -- What one pass has done
 
--- How pass q's call, which asks these calls of the map, ended: the seat was s when it began, f at some moment in between, and is e now. It was
--- answered as one call, or as look-ups, with the notes that were added; it asked nothing of the map; or it was refused.
-pub data HasEndedAs (layout : Layout) (q : ℕ) (calls : List Call) (s f e : SeatView) : Happening → Type 0 where
+-- How pass q's call, which asks these calls of the map, ended: the seat was s when it began, and is e now. It was answered as one call, or as
+-- look-ups, with the notes that were added; it asked nothing of the map; or it was refused.
+pub data HasEndedAs (layout : Layout) (q : ℕ) (calls : List Call) (s e : SeatView) : Happening → Type 0 where
   answered : (asked : Call) (reply : Reply) → calls ≡ asked ∷ [] → (noted : IsNoted layout (pass_of s) (pass_of e) asked reply) →
-      HasEndedAs layout q calls s f e (responds q (record { place = noted.place; call = asked; reply = reply } ∷ []))
+      HasEndedAs layout q calls s e (responds q (record { place = noted.place; call = asked; reply = reply } ∷ []))
   looked_up : (asked : List (Call × Reply)) → map (λ x. x.0) asked ≡ calls → (noted : AreNoted layout (pass_of s) (pass_of e) asked) →
-      SeesAllAtRoot layout s.known f.known → All (λ n. length f.known.front ≤ n.place) noted.added → HasEndedAs layout q calls s f e (responds q noted.added)
-  quiet : calls ≡ [] → e.known.notes ≡ s.known.notes → LegalCalls e.known.front e.known.pass e.known.notes → HasEndedAs layout q calls s f e (responds q [])
+      HasEndedAs layout q calls s e (responds q noted.added)
+  quiet : calls ≡ [] → e.known.notes ≡ s.known.notes → LegalCalls e.known.front e.known.pass e.known.notes → HasEndedAs layout q calls s e (responds q [])
   refused : (asked : Call) (fault : TryFault) → calls ≡ asked ∷ [] → IsRefused layout asked (pass_of s) (pass_of e) fault → MayRefuse asked fault →
-      HasEndedAs layout q calls s f e (refuses q)
+      HasEndedAs layout q calls s e (refuses q)
 
 -- these steps of pass q, with no notes
 abbrev pub steps_of : ℕ → List Act → List Happening
@@ -56,10 +56,9 @@ call_of q calls acts last notes ended = invokes q calls ∷ (steps_of q acts ++ 
 -- its contract says; and where it met another pass (`IsShownAll`, `HasSeenMore`), followed a stamp (`HasCaughtUp`) or made one (`HasStamped`).
 pub data HasDone (table : TableView) (q : ℕ) : List Happening → SeatView → Type 0 where
   new : {s : SeatView} → IsNewSeatOf table q s → HasDone table q [] s
-  called : {done : List Happening} {s f e : SeatView} → HasDone table q done s →
-      (calls : List Call) (before acts : List Act) (last : Act) (said : Known → List Note) → Runs table untold before (s, tt) (f, tt) →
-      (ends : Ends table untold acts last said (f, tt) (e, tt)) → {ended : Happening} → HasEndedAs table.layout q calls s f e ended →
-      HasDone table q (done ++ call_of q calls (before ++ acts) last (notes_of_end table acts last said f e ends) ended) e
+  called : {done : List Happening} {s e : SeatView} → HasDone table q done s → (calls : List Call) (acts : List Act) (last : Act) (said : Known → List Note) →
+      (ends : Ends table untold acts last said (s, tt) (e, tt)) → {ended : Happening} → HasEndedAs table.layout q calls s e ended →
+      HasDone table q (done ++ call_of q calls acts last (notes_of_end table acts last said s e ends) ended) e
   shown : {done : List Happening} {s e : SeatView} → HasDone table q done s → IsShownAll table.layout s e → BeginsWith e.known.front s.known.front →
       e.known ≡ with_front e.known.front s.known → HasDone table q (done ++ shows q e.known.front ∷ []) e
   stamped : {done : List Happening} {s e : SeatView} → HasDone table q done s → e ≡ record s { asides = suc s.asides } →
