@@ -1,14 +1,17 @@
 -- Where passes have ended in one run, and that their calls are linearizable then.
 use Rattle.std.proofs.Common.{◌≡◌, ◌≢◌, ⊎_elim, ℕ, ◌<◌, List, [], ◌∷◌, None, Some, refl, sym, ap, subst, ◌∙◌, arith, le_refl}
 use Rattle.std.proofs.lemmas.Bool.{cases_eq}
+use Rattle.rowex_core.specs.declared.event.Act.{Act}
 use Rattle.rowex_core.specs.declared.event.Event.{Event}
-use Rattle.rowex_table.specs.Runs.{StepsWith, silent}
+use Rattle.rowex_core.specs.declared.known.Known.{Known}
+use Rattle.finite_map.specs.declared.Note.{Note}
+use Rattle.rowex_table.specs.Runs.{Runs, StepsWith, silent}
 use Rattle.rowex_table.specs.Seats.{SeatView, TableView}
 use Rattle.rowex_table.specs.Traces.{OthersStepOn}
 use Rattle.hot_index_calls.specs.Traces.{untold}
 use Rattle.real_time.specs.Histories.{PendingEndOrChangeAsAsked}
 use Rattle.real_time.specs.Moments.{Happening, Moment, Pending}
-use Rattle.index_laws.specs.Joined.{HasDone, OneRunIsAnExecution, ShownHaveEnded, SilentStepsEnd, TwoThatMeetHaveEnded, of_two}
+use Rattle.index_laws.specs.Joined.{HasDone, OneRunIsAnExecution, ShownHaveEnded, SilentStepsEnd, StepsNeedNoGate, TwoThatMeetHaveEnded, of_two}
 use Rattle.index_laws.specs.Traced.{moment_of}
 use Rattle.index_laws.proofs.Interleaving.{named_by, one_execution}
 use Rattle.index_laws.proofs.Placing.{others_between}
@@ -66,3 +69,20 @@ silent_steps_end table act [] s e (m, step, is) =
 silent_steps_end table act (next ∷ acts) s e (m, step, runs) =
     let h = silent_steps_end table next acts m.0 e runs in
     (act ∷ h.0, h.1, ap (λ l. act ∷ l) h.2, (h.3.0, (m, step, h.3.1), h.3.2))
+
+-- Steps with a gate
+
+module _ {G : Type 0} (becomes : G → Event → G → Type 0) (table : TableView) where
+  untell : (act : Act) (said : Known → List Note) (a b : SeatView × G) → StepsWith table becomes act said a b → StepsWith table untold act said (a.0, tt) (b.0, tt)
+  untell act said a b x = record { seat = x.seat; event = x.event; next = x.next; told = tt }
+
+  untell_each : (acts : List Act) (a b : SeatView × G) → Runs table becomes acts a b → Runs table untold acts (a.0, tt) (b.0, tt)
+  untell_each [] a b runs = ap (λ (z : SeatView × G). let y : SeatView × Unit {0} = (z.0, tt) in y) runs
+  untell_each (act ∷ acts) a b (m, step, runs) = ((m.0, tt), untell act silent a m step, untell_each acts m b runs)
+
+pub steps_need_no_gate : {G : Type 0} (becomes : G → Event → G → Type 0) → StepsNeedNoGate becomes
+steps_need_no_gate becomes table acts a b = (
+  untell_each becomes table acts a b,
+  λ last said ends.
+      ((ends.0.0, tt), untell_each becomes table acts a ends.0 ends.1, untell becomes table last said ends.0 b ends.2),
+)

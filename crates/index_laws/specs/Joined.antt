@@ -152,3 +152,9 @@ AnInsertIsFound =
     (run : List Event) × (done : ℕ → List Happening) × (seat : ℕ → SeatView) × HaveEndedInOneRun table run done seat ×
     ((seat 0).known.notes ≡ record { place = 0; call = Insert [] value; reply = Inserted } ∷ []) ×
     ((seat 1).known.notes ≡ record { place = 1; call = Get []; reply = Value value } ∷ [])
+
+-- Steps of which a gate is told are steps with no gate, too: so what contracts say of calls with a gate is what `HasDone` asks.
+abbrev pub StepsNeedNoGate : {G : Type 0} → (G → Event → G → Type 0) → Type 0
+StepsNeedNoGate {G = G} becomes =
+    (table : TableView) (acts : List Act) (a b : SeatView × G) → (Runs table becomes acts a b → Runs table untold acts (a.0, tt) (b.0, tt)) ×
+    ((last : Act) (said : Known → List Note) → Ends table becomes acts last said a b → Ends table untold acts last said (a.0, tt) (b.0, tt))

@@ -1,9 +1,11 @@
 //! Laws of the index over whole runs. The functions do nothing: their contracts are the laws.
 ghost use Rattle.index_laws.specs.Headline.{Headline};
-ghost use Rattle.index_laws.specs.Joined.{AnInsertIsFound, OneRunIsAnExecution, ShownHaveEnded, SilentStepsEnd, TwoThatMeetHaveEnded};
+ghost use Rattle.index_laws.specs.Joined.{AnInsertIsFound, OneRunIsAnExecution, ShownHaveEnded, SilentStepsEnd, StepsNeedNoGate, TwoThatMeetHaveEnded};
 ghost use Rattle.index_laws.specs.Statements.{AGetReturns, Responses};
 ghost use Rattle.index_laws.specs.Steps.{StepsAreMoments, StepsFollow};
 ghost use Rattle.index_laws.specs.Traced.{AGetIsTraced, CallsMakeNoAsides, EndedBeforeLoaded, EndedOrLoadedBefore, EndedOrShownBefore, LoadsAreMoments, LoadsSeeAll, MetAreOfOneRun, TracedAreExecutions};
+
+use rowex_core::Gate;
 
 /// A run may begin at a new index. A call that has ended as its contract says responds or is refused in it. So an execution is a run. Where
 /// a call that waits may be refused for want of records, one that doesn't wait may be, too.
@@ -58,6 +60,11 @@ pub fn two_that_meet_have_ended_in_one_run()
 /// In each index of two passes there are calls that have ended in one run: one pass inserts a key, with any value, and the other finds it.
 pub fn an_insert_is_found()
     ensures { AnInsertIsFound }
+{}
+
+/// Steps of which a gate is told are steps with no gate, too.
+pub fn steps_need_no_gate<G: Gate>()
+    ensures { StepsNeedNoGate G.becomes }
 {}
 
 /// The steps of a round of collection or of a count, which come with no notes, are the steps of a call.
