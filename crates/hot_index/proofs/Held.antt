@@ -71,7 +71,7 @@ one_pass_refuses_new_alone layout call k j fault one mine legal refused gives =
     sym (ap (λ (z : List Change). value_at (map_of z) (key_of call)) (ap (take was.place) same ∙ ap (λ n. take n k.front) at ∙ take-length k.front)) ∙ was.absent
 
 -- ---- calls that take no record
-module _ {layout : Layout} {k j : PassView} (call : Call) (never : MayTake call k j → ⊥) where
+module _ (layout : Layout) (k j : PassView) (call : Call) (never : MayTake call k j → ⊥) where
   -- one that waits is made
   pub is_made : (r : Result Reply Full) → MatchResult r (IsNoted layout k j call) (λ full. IsRefused layout call k j (fault_of full)) → IsOk r
   is_made (Ok reply) made = refl

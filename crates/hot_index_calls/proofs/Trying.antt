@@ -540,7 +540,7 @@ may (RemoveIf key expected) k j Busy change h full = tt
 may (RemoveIf key expected) k j FullNodes change h full = tt
 may (RemoveIf key expected) k j FullLeaves change h full = h refl
 
-module _ {layout : Layout} {k j : PassView} (call : Call) (change : (key : Key) → call ≢ Get key) where
+module _ (layout : Layout) (k j : PassView) (call : Call) (change : (key : Key) → call ≢ Get key) where
   pub may_refuse : (r : Result Reply TryFault) → IsLeafless FullLeaves call r → MatchResult r (IsNoted layout k j call) (IsRefused layout call k j) → IfErr r (MayRefuse call)
   may_refuse (Ok reply) h made = tt
   may_refuse (Err fault) h made = may call k j fault change h made.full

@@ -7,4 +7,4 @@ pub returns-clause-call : goal.returns-clause-call
 returns-clause-call g c = rw c.copy.ensures.same at c.retry_change_with.ensures
 
 pub returns-clause-made : goal.returns-clause-made
-returns-clause-made g c = is_made (Add c.copy.result c.args.delta) (λ may. may) c.retry_change_with.result c.retry_change_with.ensures.call
+returns-clause-made g c = is_made c.args.self.now.layout c.args.pass.now c.retry_change_with.new.pass (Add c.copy.result c.args.delta) (λ may. may) c.retry_change_with.result c.retry_change_with.ensures.call

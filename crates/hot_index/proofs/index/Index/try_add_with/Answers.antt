@@ -7,4 +7,4 @@ pub returns-clause-call : goal.returns-clause-call
 returns-clause-call g c = rw c.copy.ensures.same at c.try_change_with.ensures
 
 pub returns-clause-busy : goal.returns-clause-busy
-returns-clause-busy g c = is_busy (Add c.copy.result c.args.delta) (λ may. may) c.try_change_with.result c.try_change_with.ensures.call
+returns-clause-busy g c = is_busy c.args.self.now.layout c.args.pass.now c.try_change_with.new.pass (Add c.copy.result c.args.delta) (λ may. may) c.try_change_with.result c.try_change_with.ensures.call

@@ -10,10 +10,10 @@ pub returns-in-Get-clause-steps : goal.returns-in-Get-clause-steps
 returns-in-Get-clause-steps g c = let made = c.get_with.ensures.made in get_few c.args.call.now c.args.self.now.layout _ _ _ made.few made.depth
 
 pub returns-in_default-clause-lacks : goal.returns-in_default-clause-lacks
-returns-in_default-clause-lacks g c = may_lack c.args.call.now c.try_change_with.result (may_refuse c.args.call.now c.in_default.not-Get c.try_change_with.result c.try_change_with.ensures.leafless c.try_change_with.ensures.call)
+returns-in_default-clause-lacks g c = may_lack c.args.call.now c.try_change_with.result (may_refuse c.args.self.now.layout c.args.pass.now c.try_change_with.new.pass c.args.call.now c.in_default.not-Get c.try_change_with.result c.try_change_with.ensures.leafless c.try_change_with.ensures.call)
 
 pub returns-in_default-clause-may : goal.returns-in_default-clause-may
-returns-in_default-clause-may g c = may_refuse c.args.call.now c.in_default.not-Get c.try_change_with.result c.try_change_with.ensures.leafless c.try_change_with.ensures.call
+returns-in_default-clause-may g c = may_refuse c.args.self.now.layout c.args.pass.now c.try_change_with.new.pass c.args.call.now c.in_default.not-Get c.try_change_with.result c.try_change_with.ensures.leafless c.try_change_with.ensures.call
 
 pub returns-in_default-clause-made : goal.returns-in_default-clause-made
 returns-in_default-clause-made g c = unless_get c.args.call.now _ _ c.in_default.not-Get c.try_change_with.ensures.made

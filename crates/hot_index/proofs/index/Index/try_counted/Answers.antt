@@ -6,6 +6,6 @@ pub returns-in_default : goal.returns-in_default
 returns-in_default c = record {
   own = c.try_and_count_with.ensures.own;
   call = c.try_and_count_with.ensures.call;
-  may = may_count c.args.call.now c.in_default.not-Get c.try_and_count_with.result c.try_and_count_with.ensures.leafless c.try_and_count_with.ensures.call;
+  may = may_count c.args.self.now.layout c.args.pass.now c.try_and_count_with.new.pass c.args.call.now c.in_default.not-Get c.try_and_count_with.result c.try_and_count_with.ensures.leafless c.try_and_count_with.ensures.call;
   made = unless_get c.args.call.now _ _ c.in_default.not-Get c.try_and_count_with.ensures.made;
 }
