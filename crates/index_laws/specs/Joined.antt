@@ -52,8 +52,9 @@ notes_of_end table acts last said s e ends = said (learned ends.2.event.core las
 abbrev pub call_of : ℕ → List Call → List Act → Act → List Note → Happening → List Happening
 call_of q calls acts last notes ended = invokes q calls ∷ (steps_of q acts ++ steps q last notes ∷ ended ∷ [])
 
--- What pass q of the table has done since it was new, up to this seat: calls, each by its steps (`HasRead`, `HasMade`, `HasTold`) and ended as
--- its contract says; and where it met another pass (`IsShownAll`, `HasSeenMore`), followed a stamp (`HasCaughtUp`) or made one (`HasStamped`).
+-- What pass q of the table has done since it was new, up to this seat. Its calls are made by their steps (`HasRead`, `HasMade`, `HasTold`), and
+-- ended as their contracts say. It may have met another pass (`IsShownAll`, `HasSeenMore`), followed a stamp (`HasCaughtUp`) or made one
+-- (`HasStamped`).
 pub data HasDone (table : TableView) (q : ℕ) : List Happening → SeatView → Type 0 where
   new : {s : SeatView} → IsNewSeatOf table q s → HasDone table q [] s
   called : {done : List Happening} {s e : SeatView} → HasDone table q done s → (calls : List Call) (acts : List Act) (last : Act) (said : Known → List Note) →
@@ -99,7 +100,7 @@ IsNextTo x (refuses q) = IsStepOf q x
 IsNextTo x y = Unit {0}
 
 -- The execution is of this run. In it each pass has done just this, up to this seat, and no call is pending at last. Each call is invoked right
--- before its first step, and ends right after its last one: so the order of calls in time is that of their steps in the run.
+-- before its first step, and ends right after its last one. So the order of calls in time is that of their steps in the run.
 pub record IsExecutionOf (table : TableView) (run : List Event) (done : ℕ → List Happening) (seat : ℕ → SeatView)
     (last : ℕ) (at : ℕ → Instant) (happens : ℕ → Happening) : Type 0 where
   pub traced : IsTracedExecution table last at happens
@@ -119,8 +120,8 @@ OneRunIsAnExecution =
 -- Where passes have ended in one run
 
 -- Each pass has done this, up to this seat. A run of the table begins with the steps of which each knew there. And then each was shown steps
--- that begin with the run, as where it met another pass or followed a stamp. So they have ended in this run. Passes come to that in two rounds:
--- in the first, each follows a stamp of the one before it, and the last one's steps are the run; in the second, each follows a stamp of these.
+-- that begin with the run, as where it met another pass or followed a stamp. So they have ended in this run. Passes come to that in two rounds.
+-- In the first, each follows a stamp of the one before it; the last one's steps are the run. In the second, each follows a stamp of these.
 abbrev pub ShownHaveEnded : Type 0
 ShownHaveEnded =
     (table : TableView) (run : List Event) (done : ℕ → List Happening) (seat shown : ℕ → SeatView) → IsTableRun table.layout run →
@@ -145,7 +146,7 @@ SilentStepsEnd =
     (table : TableView) (act : Act) (acts : List Act) (s e : SeatView) → Runs table untold (act ∷ acts) (s, tt) (e, tt) →
     (before : List Act) × (last : Act) × (act ∷ acts ≡ before ++ last ∷ []) × Ends table untold before last silent (s, tt) (e, tt)
 
--- Passes do end in one run: in an index of two, pass 0 inserts the key of no bytes, with any value, and pass 1 finds it there.
+-- So two passes may end in one run: pass 0 inserts the key of no bytes, with any value, and pass 1 finds it.
 abbrev pub AnInsertIsFound : Type 0
 AnInsertIsFound =
     (table : TableView) → table.layout.passes ≡ 2 → (value : ℕ) → value < 2 ^ 64 →
