@@ -16,8 +16,8 @@ ghost use Rattle.hot_index.specs.Stamps.{HasSeenMore};
 use epochs::{Given, collect_round, pin, unpin};
 use finite_map::{Call, Reply};
 use hot_index_calls::{
-    RecordCounts, Refusal, Scratch, count_records, end_get, end_gets, retry_change,
-    try_and_count, try_change,
+    RecordCounts, Refusal, Scratch, count_records, end_get, end_gets, retry_change, try_and_count,
+    try_change,
 };
 use key_bits::Key;
 use key_counts::KeyCount;

@@ -173,7 +173,7 @@ IsListRead range pairs result index k j = IsListReadWith range pairs result inde
 -- A range was counted, which needs no memory, by its steps, of which the gate was told.
 abbrev pub IsCountReadWith : {G : Type 0} → Range → ℕ → TableView → (G → Event → G → Type 0) → PassView × G → PassView × G → Type 0
 IsCountReadWith range number index becomes a b =
-    IsRangeReadWith (λ layout k j. IsRangeCounted layout k j range) no_part range (Ok {E = Unit {0}} number) index becomes a b
+    IsRangeReadWith (λ layout k j. IsRangeCounted layout k j range) no_part range (let counted : Result ℕ (Unit {0}) = Ok number in counted) index becomes a b
 
 -- the same, where nobody is told of its steps
 abbrev pub IsCountRead : Range → ℕ → TableView → PassView → PassView → Type 0

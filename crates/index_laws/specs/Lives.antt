@@ -13,7 +13,8 @@ use Rattle.hot_index_calls.specs.Many.{AreNoted}
 use Rattle.hot_index_calls.specs.Passes.{IsNewPass, PassView}
 
 -- A new pass has lived through no calls; one whose call was answered, through it besides, and one whose many look-ups were, through these in
--- the order of their notes; and one that was refused, collected, met another or followed a stamp (`IsUnnoted`) or scanned (`IsScannedBy`, `IsListedBy`), through the same as before.
+-- the order of their notes; and one that was refused, collected, met another or followed a stamp (`IsUnnoted`) or scanned (`IsScannedBy`,
+-- `IsListedBy`), through the same as before.
 pub data HasLived : Layout → List (Call × Reply) → PassView → Type 0 where
   new : {layout : Layout} {q : ℕ} {j : PassView} → IsNewPass q j → HasLived layout [] j
   called : {layout : Layout} {calls : List (Call × Reply)} {k j : PassView} {call : Call} {reply : Reply} →
