@@ -29,6 +29,7 @@ use Rattle.real_time.specs.Scanning.{IsScanInTime}
 use Rattle.real_time.proofs.Replies.{behind, effect, replies_in_time}
 use Rattle.real_time.proofs.Scanning.{scans_in_time}
 use Rattle.index_laws.specs.Headline.{BoundedSteps, Freshness, FreshnessOfMany, Headline, History, NeverRefused, OneHistory, Refusals, ScansShow}
+use Rattle.index_laws.proofs.Joining.{one_run_is_an_execution}
 use Rattle.index_laws.proofs.Living.{one_history_of_all}
 use Rattle.index_laws.proofs.Traced.{ended_before_loaded, traced_are_executions}
 use Rattle.index_laws.proofs.Timed.{executions_are_linearizable, legal_now, noted_placed, responses, returned_responds}
@@ -138,6 +139,7 @@ headline = record {
   one_history = one_history;
   one_history_of_all = one_history_of_all;
   traced = traced_are_executions;
+  one_run = one_run_is_an_execution;
   linearizable = executions_are_linearizable;
   responses = responses;
   freshness = freshness;

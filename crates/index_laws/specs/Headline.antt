@@ -39,6 +39,7 @@ use Rattle.real_time.specs.Moments.{Happening, IsWholeRun, Moment, Pending}
 use Rattle.real_time.specs.Scanning.{IsScanInTime, map_at}
 use Rattle.index_laws.specs.Lives.{OneHistoryOfAll}
 use Rattle.index_laws.specs.Executions.{HasAnsweredMany, IsReturning}
+use Rattle.index_laws.specs.Joined.{OneRunIsAnExecution}
 use Rattle.index_laws.specs.Statements.{ExecutionsAreLinearizable, Responses}
 use Rattle.index_laws.specs.Traced.{EndedBeforeLoaded, TracedAreExecutions}
 
@@ -127,6 +128,8 @@ pub record Headline : Type 0 where
   pub one_history_of_all : OneHistoryOfAll
   -- contracts of steps, of meetings and stamps and of calls make an execution, if each step's trace is what came before it in one order
   pub traced : TracedAreExecutions
+  -- the calls of passes whose traces have ended in one run, as those of two that have met, are such an execution, and linearizable
+  pub one_run : OneRunIsAnExecution
   -- the look-ups and changes of an execution are linearizable; and what contracts say of calls that have ended makes an execution a run
   pub linearizable : ExecutionsAreLinearizable
   pub responses : Responses
