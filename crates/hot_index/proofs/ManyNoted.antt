@@ -8,6 +8,7 @@ use Rattle.std.proofs.lemmas.List.Elements.{All-append, All-cons, All-head, All-
 use Rattle.std.proofs.lemmas.Option.{slice_get_within}
 use Rattle.std.proofs.lemmas.List.Sorted.{All-permutation, IsPermutation-cons, IsPermutation-map, IsPermutation-middle, IsPermutation-refl, IsPermutation-trans}
 use Rattle.finite_map.specs.declared.Call.{Call}
+use Rattle.finite_map.specs.declared.Call.TheVariants.{Get}
 use Rattle.finite_map.specs.declared.Change.{Change}
 use Rattle.finite_map.specs.declared.Note.{Note}
 use Rattle.finite_map.specs.declared.Reply.{Reply}
@@ -27,6 +28,7 @@ use Rattle.epochs.specs.Runs.{Pins}
 use Rattle.rowex_reading.specs.Lookups.{HasFound, HaveFound, HaveSearched}
 use Rattle.rowex_reading.specs.Seen.{since}
 use Rattle.tries.specs.Keys.{Key}
+use Rattle.hot_index_calls.specs.Answers.{got}
 use Rattle.hot_index_calls.specs.Many.{AreNoted, gets}
 use Rattle.hot_index_calls.specs.Noting.{place_of}
 use Rattle.hot_index_calls.specs.Passes.{IsSettled, pass_of}
@@ -57,11 +59,11 @@ gets_said keys found k = in_order (map (note_of_call k) (gets keys found))
 
 put_shuffles : (n : Note) (ms : List Note) → IsPermutation (n ∷ ms) (put_note n ms)
 put_shuffles n [] = IsPermutation-refl (n ∷ [])
-put_shuffles n (m ∷ ms) = go (nat_le n.place m.place)
+put_shuffles n (m ∷ ms) = go (put_shuffles n ms) (nat_le n.place m.place)
   where
-    go : (b : Bool) → IsPermutation (n ∷ m ∷ ms) (if b then n ∷ m ∷ ms else m ∷ put_note n ms)
-    go true = IsPermutation-refl (n ∷ m ∷ ms)
-    go false = IsPermutation-trans (n ∷ m ∷ ms) (m ∷ n ∷ ms) (m ∷ put_note n ms) (IsPermutation-middle (n ∷ []) m ms) (IsPermutation-cons m (n ∷ ms) (put_note n ms) (put_shuffles n ms))
+    go : IsPermutation (n ∷ ms) (put_note n ms) → (b : Bool) → IsPermutation (n ∷ m ∷ ms) (if b then n ∷ m ∷ ms else m ∷ put_note n ms)
+    go rest true = IsPermutation-refl (n ∷ m ∷ ms)
+    go rest false = IsPermutation-trans (n ∷ m ∷ ms) (m ∷ n ∷ ms) (m ∷ put_note n ms) (IsPermutation-middle (n ∷ []) m ms) (IsPermutation-cons m (n ∷ ms) (put_note n ms) rest)
 
 order_shuffles : (ns : List Note) → IsPermutation ns (in_order ns)
 order_shuffles [] = IsPermutation-refl []
@@ -78,16 +80,17 @@ quiet_place n quiet = ap (λ b. if b then n.place + 1 else n.place) quiet
 module _ (front : List Change) (low : ℕ) where
   put_rises : (n : Note) (ms : List Note) (p : ℕ) → is_change n ≡ false → All (IsQuietIn front low) ms → p ≤ n.place → RisesFrom p ms → RisesFrom p (put_note n ms)
   put_rises n [] p quiet all le rises = (le, tt)
-  put_rises n (m ∷ ms) p quiet all le rises = go (nat_le n.place m.place) refl
+  put_rises n (m ∷ ms) p quiet all le rises =
+      go (λ more. put_rises n ms (place_after m) quiet (All-tail (IsQuietIn front low) m ms all) more rises.1) (nat_le n.place m.place) refl
     where
       head : IsQuietIn front low m
       head = All-head (IsQuietIn front low) m ms all
 
-      go : (b : Bool) → nat_le n.place m.place ≡ b → RisesFrom p (if b then n ∷ m ∷ ms else m ∷ put_note n ms)
-      go true is = (le, subst (λ o. o ≤ m.place) (sym (quiet_place n quiet)) (grind (arith, nat_tests)), rises.1)
-      go false is = (
+      go : (place_after m ≤ n.place → RisesFrom (place_after m) (put_note n ms)) → (b : Bool) → nat_le n.place m.place ≡ b → RisesFrom p (if b then n ∷ m ∷ ms else m ∷ put_note n ms)
+      go rest true is = (le, (subst (λ o. o ≤ m.place) (sym (quiet_place n quiet)) (grind (arith, nat_tests)), rises.1))
+      go rest false is = (
         rises.0,
-        put_rises n ms (place_after m) quiet (All-tail (IsQuietIn front low) m ms all) (subst (λ o. o ≤ n.place) (sym (quiet_place m head.quiet)) (let more : m.place < n.place = grind (arith, nat_tests) in omega (arith, more))) rises.1,
+        rest (subst (λ o. o ≤ n.place) (sym (quiet_place m head.quiet)) (let more : m.place < n.place = grind (arith, nat_tests) in omega (arith, more))),
       )
 
   all_in_order : (ns : List Note) → All (IsQuietIn front low) ns → All (IsQuietIn front low) (in_order ns)
@@ -119,8 +122,11 @@ gets_right : (k : Known) (c : Core) → IsLawful c → Recalls c k → (keys : L
 gets_right k c lawful known [] found has = All-nil (IsQuietIn k.front (since k))
 gets_right k c lawful known (key ∷ keys) [] has = All-nil (IsQuietIn k.front (since k))
 gets_right k c lawful known (key ∷ keys) (o ∷ found) has =
-    All-cons (IsQuietIn k.front (since k)) _ (map (note_of_call k) (gets keys found))
-    (record { quiet = get_changes_nothing key o _; at = right_place k _ _ (found_right k key o (has 0 key o refl refl) c lawful known) })
+    All-cons (IsQuietIn k.front (since k)) (note_of_call k (Get key, got o)) (map (note_of_call k) (gets keys found))
+    (record {
+      quiet = get_changes_nothing key o (place_of k.front (since k) (Get key) (got o));
+      at = right_place k (Get key) (got o) (found_right k key o (has 0 key o refl refl) c lawful known);
+    })
     (gets_right k c lawful known keys found (λ i other p is at. has (suc i) other p is at))
 
 -- the calls of the notes are the gets
