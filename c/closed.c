@@ -18,6 +18,7 @@ typedef struct room {
     hot_lookup lookup;
     hot_counts counts;
     hot_moment moment;
+    hot_retirement retirement;
     int visits;
 } room;
 
@@ -80,7 +81,11 @@ static hot_handle open_handle = HOT_HANDLE;
     CALL(hot_last(closed, key, 1, &to->pair))                                                  \
     CALL(hot_collect(closed, &to->nodes, &to->leaves))                                         \
     CALL(hot_census(closed, &to->counts))                                                      \
-    CALL(hot_len(closed, &to->count))
+    CALL(hot_len(closed, &to->count))                                                          \
+    CALL(hot_enter(closed))                                                                    \
+    CALL(hot_leave(closed))                                                                    \
+    CALL(hot_retired(closed, &to->retirement))                                                 \
+    CALL(hot_is_past(closed, &to->retirement))
 
 /* Makes the call of this number, and writes its text; NULL, if there is none. */
 static hot_status make(size_t number, hot_handle *closed, room *to, const char **text) {

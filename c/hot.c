@@ -29,6 +29,24 @@ hot_status proved_stock_bytes(const hot_stock *stock, size_t handles, size_t *by
 /* Lets a handle see all that another has seen; both are of one index. */
 hot_status proved_see(hot_handle *handle, hot_handle *leader);
 
+/* A handle of a section. Zeroed bytes are a closed one. */
+typedef struct section_handle {
+    uint32_t tag;
+    struct {
+        void *at;
+    } slot;
+} section_handle;
+
+/* The proved calls of sections. The first makes a table and opens a handle that keeps its sections, and the second opens the next of these. */
+hot_status proved_make_sections(size_t count, section_handle *keeper);
+hot_status proved_open_section(section_handle *keeper, section_handle *section);
+hot_status proved_close_section(section_handle *section);
+hot_status proved_is_inside(section_handle *section);
+hot_status proved_enter_section(section_handle *section);
+hot_status proved_leave_section(section_handle *section);
+hot_status proved_take_moment(section_handle *section, uint64_t *moment);
+hot_status proved_is_moment_past(section_handle *section, uint64_t moment);
+
 uint32_t hot_version(void) {
     return HOT_VERSION_MAJOR << 16 | HOT_VERSION_MINOR << 8 | HOT_VERSION_PATCH;
 }
@@ -61,6 +79,9 @@ const char *hot_status_text(hot_status status) {
     case HOT_NO_HANDLE: return "no handle is free";
     case HOT_OTHER_INDEX: return "it is of another index";
     case HOT_OLD_PROCESSOR: return "the processor is too old for this library";
+    case HOT_INSIDE: return "the handle's section is open";
+    case HOT_OUTSIDE: return "the handle's section is not open";
+    case HOT_NOT_PAST: return "a section that was open then may still be open";
     default: return "not a status";
     }
 }
@@ -166,9 +187,10 @@ hot_status hot_each(hot_handle *handle, const uint8_t *from, size_t from_length,
 typedef struct hot_place {
     hot_index *index;
     hot_handle closed; /* the handle, while it is given back */
-    int64_t keys;      /* how many keys its calls have put in, less those that they have taken out */
+    section_handle section;
+    int64_t keys; /* how many keys its calls have put in, less those that they have taken out */
     uint32_t state;
-    uint8_t rest[64 - sizeof(void *) - sizeof(hot_handle) - sizeof(int64_t) - sizeof(uint32_t)];
+    uint8_t rest[64 - sizeof(void *) - sizeof(hot_handle) - sizeof(section_handle) - sizeof(int64_t) - sizeof(uint32_t)];
 } hot_place;
 
 /* A place's state: no program has its handle, which is there; one has it, or another call looks after it; or it is still to be opened. */
@@ -179,6 +201,7 @@ enum { GIVEN_BACK, TAKEN, UNOPENED };
 struct hot_index {
     size_t count;
     hot_place *places;
+    section_handle sections; /* keeps the sections, until each handle has its own */
     size_t left;       /* how many handles are open that were opened with it, or 0 */
     hot_handle keeper; /* it is the last one to be opened itself */
     uint32_t opening;  /* locked while a call opens a handle that the keeper keeps, or closes the index */
@@ -425,18 +448,33 @@ hot_status hot_get_packed(hot_handle *handle, const uint8_t *bytes, const size_t
 }
 
 static void free_index(hot_index *index) {
+    size_t place;
+    for (place = 0; place < index->count; place++)
+        proved_close_section(&index->places[place].section);
+    proved_close_section(&index->sections);
     free(index->places);
     free(index);
+}
+
+/* Makes the sections of an index, one for each handle. Returns whether there was memory. */
+static int make_sections(hot_index *index) {
+    size_t place;
+    hot_status status = proved_make_sections(index->count, &index->sections);
+    for (place = 0; status == HOT_DONE && place < index->count; place++)
+        status = proved_open_section(&index->sections, &index->places[place].section);
+    return status == HOT_DONE;
 }
 
 /* An index with so many places, none of which has a handle; or NULL where memory is refused. */
 static hot_index *new_index(size_t count) {
     static const hot_handle closed = HOT_HANDLE;
+    static const section_handle none = {0, {NULL}};
     hot_index *index = malloc(sizeof *index);
     size_t place;
     if (index == NULL)
         return NULL;
     index->count = count;
+    index->sections = none;
     index->left = 0;
     index->keeper = index->teller = closed;
     index->opening = index->telling = 0;
@@ -448,6 +486,10 @@ static hot_index *new_index(size_t count) {
     for (place = 0; place < count; place++) {
         index->places[place].index = index;
         index->places[place].state = UNOPENED;
+    }
+    if (!make_sections(index)) {
+        free_index(index);
+        return NULL;
     }
     return index;
 }
@@ -588,6 +630,8 @@ hot_status hot_close(hot_handle *handle) {
     hot_status status = hot_number(handle, &number);
     if (status != HOT_DONE)
         return status;
+    if (proved_is_inside(&place->section) == HOT_INSIDE)
+        return HOT_INSIDE;
     if (__atomic_load_n(&place->index->left, __ATOMIC_SEQ_CST) > 0) {
         proved_destroy(handle);
         handle->place = NULL;
@@ -680,4 +724,35 @@ hot_status hot_follow(hot_handle *handle, const hot_moment *moment) {
     status = proved_see(handle, &index->teller);
     unlock(&index->telling);
     return status;
+}
+
+/* The section of a handle; NULL if the handle is closed. */
+static section_handle *section_of(hot_handle *handle) {
+    uint16_t number;
+    return hot_number(handle, &number) == HOT_DONE ? &handle->place->section : NULL;
+}
+
+hot_status hot_enter(hot_handle *handle) {
+    section_handle *section = section_of(handle);
+    return section == NULL ? HOT_CLOSED : proved_enter_section(section);
+}
+
+hot_status hot_leave(hot_handle *handle) {
+    section_handle *section = section_of(handle);
+    return section == NULL ? HOT_CLOSED : proved_leave_section(section);
+}
+
+hot_status hot_retired(hot_handle *handle, hot_retirement *moment) {
+    section_handle *section = section_of(handle);
+    if (section == NULL)
+        return HOT_CLOSED;
+    moment->index = handle->place->index;
+    return proved_take_moment(section, &moment->number);
+}
+
+hot_status hot_is_past(hot_handle *handle, const hot_retirement *moment) {
+    section_handle *section = section_of(handle);
+    if (section == NULL)
+        return HOT_CLOSED;
+    return handle->place->index == moment->index ? proved_is_moment_past(section, moment->number) : HOT_OTHER_INDEX;
 }

@@ -104,7 +104,10 @@ enum {
     HOT_HELD_BACK = 18,    /* too few records were free, but by a count some may come back: try again */
     HOT_NO_HANDLE = 19,    /* all handles of the index are open */
     HOT_OTHER_INDEX = 20,  /* the handle, or the moment, is of another index */
-    HOT_OLD_PROCESSOR = 21 /* the library was compiled for newer processors */
+    HOT_OLD_PROCESSOR = 21, /* the library was compiled for newer processors */
+    HOT_INSIDE = 22,       /* the handle's section is open */
+    HOT_OUTSIDE = 23,      /* the handle's section is not open */
+    HOT_NOT_PAST = 24      /* a section that was open at the moment may still be open: ask again */
 };
 
 /* A few words of English for a status. The text is static; a number that is no status has a text too. */
@@ -177,7 +180,7 @@ void hot_stock_for_lengths(const uint32_t *keys, hot_stock *stock);
  * HOT_DONE; or HOT_OUT_OF_RANGE or HOT_OLD_PROCESSOR, where hot_create_with would return that. */
 hot_status hot_stock_bytes(const hot_stock *stock, size_t handles, size_t *bytes);
 
-/* Makes an empty index with this stock and room for so many handles, 1 to 1024, and writes it to `index`. Room for a handle takes some 220
+/* Makes an empty index with this stock and room for so many handles, 1 to 1024, and writes it to `index`. Room for a handle takes some 380
  * bytes; the handle's lists are made when hot_open first opens it, and those of the last one at once.
  * HOT_DONE; or HOT_OUT_OF_RANGE, HOT_NO_MEMORY or HOT_OLD_PROCESSOR, and then nothing is written. */
 hot_status hot_open_index(const hot_stock *stock, size_t handles, hot_index **index);
@@ -189,7 +192,7 @@ hot_status hot_open(hot_index *index, hot_handle *handle);
 
 /* Gives a handle of hot_open back to its index, from any thread: hot_open may then give it out again, with the memory that it keeps.
  * It closes a handle of hot_create as hot_destroy does.
- * HOT_DONE; or HOT_CLOSED if it is closed already. */
+ * HOT_DONE; or HOT_CLOSED if it is closed already, or HOT_INSIDE if its section is open. */
 hot_status hot_close(hot_handle *handle);
 
 /* Frees an index of hot_open_index. No other call with it or a moment of it may be under way, or follow.
@@ -229,6 +232,36 @@ hot_status hot_number(hot_handle *handle, uint16_t *number);
  * HOT_FOUND, HOT_ABSENT; or HOT_KEY_TOO_LONG, HOT_CLOSED. */
 hot_status hot_get(hot_handle *handle, const uint8_t *key, size_t length, uint64_t *value);
 
+/* What values point to. A reader may still follow a value that another thread has just taken out of the index. So readers look up, and use
+ * what they found, inside a section of their handle. Who takes a value out, or replaces it, notes a moment behind that, and frees what the
+ * value points to once the moment is past. Sections hold no records of the index back, and calls inside one are as any other. A handle that
+ * never enters a section costs nothing then. These calls wait for none; their loads and stores count as no steps. */
+
+/* Enters the handle's section. It makes one load and one store, and one exchange more at the first time.
+ * HOT_DONE; or HOT_INSIDE if it is open already, or HOT_CLOSED. */
+hot_status hot_enter(hot_handle *handle);
+
+/* Leaves the handle's section. It makes one store. A handle can't be closed inside its section: hot_close and hot_destroy return HOT_INSIDE.
+ * HOT_DONE; or HOT_OUTSIDE if it is not open, or HOT_CLOSED. */
+hot_status hot_leave(hot_handle *handle);
+
+/* A moment by which something was out of the index: bytes that may be copied, kept, and sent to any thread. They hold nothing that must be
+ * given back. */
+typedef struct hot_retirement {
+    hot_index *index;
+    uint64_t number;
+} hot_retirement;
+
+/* Writes the moment of the call, which a program makes behind the change that took a value out. It may stand for any number of values.
+ * HOT_DONE; or HOT_CLOSED. */
+hot_status hot_retired(hot_handle *handle, hot_retirement *moment);
+
+/* Whether each section that was open at the moment has been left since: then no reader has what was out of the index by then. A section that is
+ * entered later doesn't count; one of the same handle does, so leave it before. A section that was open holds later moments back, too. It
+ * makes 2 loads, and one for each handle up to the last that ever entered a section.
+ * HOT_DONE, HOT_NOT_PAST; or HOT_CLOSED, HOT_OTHER_INDEX. */
+hot_status hot_is_past(hot_handle *handle, const hot_retirement *moment);
+
 /* A key to look up, and what was found. */
 typedef struct hot_lookup {
     const uint8_t *key;
@@ -237,9 +270,9 @@ typedef struct hot_lookup {
     hot_status status; /* HOT_FOUND or HOT_ABSENT */
 } hot_lookup;
 
-/* Looks up `count` keys, one after the other, and writes to each place what was found: a status, and the value if there is one.
- * No key's value is of an earlier moment than that of a key before it. It makes at most 4 steps, 34 for each key, and 29 for
- * each entry of a node that it loads, which are at most 2168 entries a key. Records that other calls retire meanwhile can't
+/* Looks up each of `count` keys once, and writes to its place what was found: a status, and the value if there is one. Each was so at
+ * a moment of its own within the call, in no stated order among the keys. It makes at most 4 steps, 32 for each key, and 26 for
+ * each node on the way to a key; there are at most 2160 such nodes for each. Records that other calls retire meanwhile can't
  * be used again until the call ends: so pass some hundred keys at a time, and not millions.
  * HOT_DONE; or HOT_KEY_TOO_LONG if any key is, HOT_CLOSED, HOT_NO_MEMORY, and then nothing was written. */
 hot_status hot_get_many(hot_handle *handle, hot_lookup *lookups, size_t count);
@@ -447,7 +480,7 @@ hot_status hot_len(hot_handle *handle, size_t *count);
 
 /* Closes a handle of hot_create or hot_create_with, from any thread and in any order. Closing the last one frees the index. A closed
  * handle may be given to hot_create again. It gives a handle of hot_open back, as hot_close does.
- * HOT_DONE; or HOT_CLOSED if it is closed already. */
+ * HOT_DONE; or HOT_CLOSED if it is closed already, or HOT_INSIDE if its section is open. */
 hot_status hot_destroy(hot_handle *handle);
 
 #ifdef __cplusplus

@@ -90,15 +90,40 @@ struct pair {
 /// What a handle had seen: hot_moment.
 using moment = hot_moment;
 
+/// A moment by which something was out of an index: hot_retirement.
+using retirement = hot_retirement;
+
 /// How many records a collection gave back.
 struct collected {
     std::uint32_t nodes, leaves;
 };
 
+namespace detail {
+// ThreadSanitizer sees nothing of the library. It is told that a call that ends comes after what threads did before they began theirs.
+#if defined(__SANITIZE_THREAD__)
+#define HOT_TELLS_SANITIZER
+#elif defined(__has_feature)
+#if __has_feature(thread_sanitizer)
+#define HOT_TELLS_SANITIZER
+#endif
+#endif
+#ifdef HOT_TELLS_SANITIZER
+extern "C" void __tsan_acquire(void *);
+extern "C" void __tsan_release(void *);
+inline char calls;
+inline void call_begins() { __tsan_release(&calls); }
+inline void call_ends() { __tsan_acquire(&calls); }
+#else
+inline void call_begins() {}
+inline void call_ends() {}
+#endif
+} // namespace detail
+
 /// Throws for each status that isn't an answer: std::length_error for a key of more than HOT_MAX_KEY bytes, or one for which no leaf
 /// record has room; std::bad_alloc; std::invalid_argument for numbers out of range, and for what is of another index; std::logic_error for
-/// handles that are closed or open; std::runtime_error where no handle is free, or the processor is too old.
+/// handles that are closed or open, and sections that are open; std::runtime_error where no handle is free, or the processor is too old.
 inline void check(hot_status status) {
+    detail::call_ends();
     switch (status) {
     case HOT_KEY_TOO_LONG: throw std::length_error(hot_status_text(status));
     case HOT_OTHER_INDEX:
@@ -107,6 +132,7 @@ inline void check(hot_status status) {
     case HOT_OLD_PROCESSOR:
     case HOT_NO_HANDLE: throw std::runtime_error(hot_status_text(status));
     case HOT_CLOSED:
+    case HOT_INSIDE:
     case HOT_OPEN: throw std::logic_error(hot_status_text(status));
     default: break;
     }
@@ -435,8 +461,12 @@ class handle {
     /// Whether it is open.
     explicit operator bool() const { return it_ != nullptr; }
     /// Gives the handle back to its index, whose next `open` may have it, and keeps nothing of the index. It does nothing if the handle is
-    /// closed.
-    void close() { it_ = std::unique_ptr<hot_handle, closer>(); }
+    /// closed, and throws std::logic_error inside the handle's section.
+    void close() {
+        if (it_)
+            check(hot_close(it_.get()));
+        it_ = std::unique_ptr<hot_handle, closer>();
+    }
 
     [[nodiscard]] std::optional<std::uint64_t> get(key_view key) {
         std::uint64_t value = 0;
@@ -446,7 +476,7 @@ class handle {
     }
     [[nodiscard]] bool contains(key_view key) { return get(key).has_value(); }
 
-    /// Looks up many keys, in turn: hot_get_many. They lie in anything that can be iterated over, such as a span of strings.
+    /// Looks up many keys: hot_get_many. They lie in anything that can be iterated over, such as a span of strings.
     template <class Keys> [[nodiscard]] std::vector<std::optional<std::uint64_t>> get_many(const Keys &keys) {
         using key = decltype(*std::begin(keys));
         static_assert(std::is_lvalue_reference_v<key> || std::is_base_of_v<std::string_view, key>, "the keys would be gone");
@@ -614,6 +644,19 @@ class handle {
     }
     void follow(const moment &told) { check(hot_follow(it(), &told)); }
 
+    /// The moment of the call, behind a change that took a value out; and whether each section that was open at a moment has been left:
+    /// hot_retired, hot_is_past.
+    [[nodiscard]] retirement retired() {
+        retirement made{};
+        check(hot_retired(it(), &made));
+        return made;
+    }
+    [[nodiscard]] bool is_past(const retirement &moment) {
+        const hot_status status = hot_is_past(it(), &moment);
+        check(status);
+        return status == HOT_DONE;
+    }
+
     collected collect() {
         collected given{};
         check(hot_collect(it(), &given.nodes, &given.leaves));
@@ -629,13 +672,14 @@ class handle {
 
   private:
     friend class index;
+    friend class section;
 
-    // A hot_handle must not move. The index is there as long as each of its handles.
+    // A hot_handle must not move. The index is there as long as each of its handles. One that is inside its section stays open for good.
     struct closer {
         std::shared_ptr<hot_index> of;
         void operator()(hot_handle *it) const {
-            hot_close(it);
-            delete it;
+            if (hot_close(it) != HOT_INSIDE)
+                delete it;
         }
     };
     handle(hot_handle *it, std::shared_ptr<hot_index> of) : it_(it, closer{std::move(of)}) {}
@@ -643,6 +687,7 @@ class handle {
     hot_handle *it() const {
         if (!it_)
             check(HOT_CLOSED);
+        detail::call_begins();
         return it_.get();
     }
     // The greatest key that begins with the prefix.
@@ -708,6 +753,23 @@ class handle {
     }
 
     std::unique_ptr<hot_handle, closer> it_;
+};
+
+/// A section of a handle, from when it is made until it goes: what values point to may be followed there, since hot::handle::is_past holds back who
+/// would free it. The handle may be used and moved meanwhile, and must not go before its section.
+class section {
+  public:
+    /// Enters the section. Throws std::logic_error if the handle is inside it already, or closed.
+    explicit section(handle &of) : it_(of.it()) { check(hot_enter(it_)); }
+    ~section() {
+        detail::call_begins();
+        hot_leave(it_);
+    }
+    section(const section &) = delete;
+    section &operator=(const section &) = delete;
+
+  private:
+    hot_handle *it_;
 };
 
 /// A stock for `keys` keys of at most `longest` bytes each; hot.h says what it has to spare.
@@ -806,6 +868,8 @@ class growing {
         /// of it. Where the larger one can't be made it throws as the constructor of `index`, and all stays as it was.
         template <class Call> hot::change change(Call call) {
             for (;;) {
+                if (of_->is_copied_)
+                    const std::lock_guard<std::mutex> wait(of_->copying_);
                 std::shared_lock<std::shared_mutex> lock(of_->changing_);
                 follow();
                 const hot::change made = call(handle_);
@@ -833,8 +897,16 @@ class growing {
     };
 
   private:
-    // Makes a larger index, unless another user has done so since this turn.
+    struct raised {
+        explicit raised(std::atomic<bool> &flag) : flag_(flag) { flag_ = true; }
+        ~raised() { flag_ = false; }
+        std::atomic<bool> &flag_;
+    };
+
+    // Makes a larger index, unless another user has done so since this turn. No change begins while it waits for those that run.
     void grow(std::uint64_t turn) {
+        const std::lock_guard<std::mutex> copying(copying_);
+        const raised flag(is_copied_);
         const std::lock_guard<std::shared_mutex> lock(changing_);
         if (turn != turn_)
             return;
@@ -857,6 +929,8 @@ class growing {
     index now_;
     handle copier_;
     std::atomic<std::uint64_t> turn_{0};
+    std::atomic<bool> is_copied_{false};
+    std::mutex copying_;         // held by who copies the index, or waits to do so
     std::mutex opening_;         // held by who opens a handle, and by who takes another index
     std::shared_mutex changing_; // shared by who changes the index, and held by who copies it
 };

@@ -381,6 +381,28 @@ static void test_growing() {
     CHECK(throws<std::invalid_argument>([] { return hot::growing(hot_stock{4, 20, 0, 0, 0, 0}, 1024); }));
 }
 
+// A section holds back the moments of its time, and its handle can't be closed in it.
+static void test_sections() {
+    hot::index index(10, 8, 2), elsewhere(10, 8, 1);
+    hot::handle one = index.open(), other = index.open(), foreign = elsewhere.open();
+    hot::retirement moment = one.retired();
+    CHECK(one.is_past(moment) && other.is_past(moment));
+    CHECK(throws<std::invalid_argument>([&] { (void)foreign.is_past(moment); }));
+    {
+        const hot::section inside(one);
+        CHECK(throws<std::logic_error>([&] { hot::section again(one); }));
+        CHECK(throws<std::logic_error>([&] { one.close(); }));
+        hot::handle moved = std::move(one);
+        CHECK(moved.insert("a", 1).what == hot::status::inserted && other.is_past(moment));
+        moment = other.retired();
+        CHECK(!moved.is_past(moment) && !other.is_past(moment));
+        one = std::move(moved);
+    }
+    CHECK(one.is_past(moment) && other.is_past(moment));
+    one.close();
+    CHECK(throws<std::logic_error>([&] { hot::section inside(one); }));
+}
+
 int main() {
     test_calls();
     test_index();
@@ -393,6 +415,7 @@ int main() {
     test_ends();
     test_containers();
     test_handles();
+    test_sections();
     test_threads();
     test_counting();
     test_growing();

@@ -397,7 +397,7 @@ static void test_filling(void) {
  * the others retire, so that they find no record free; they wait, and none is refused. */
 #define CROWDED 8
 #define FEW_KEYS 800
-#define FEW_LEAVES 3887
+#define FEW_LEAVES 1600
 
 typedef struct setter {
     hot_handle *handle;

@@ -1,6 +1,6 @@
 /* A map that grows while threads read it. Where it is full it is copied into an index with twice the records; look-ups go on in the old one
  * meanwhile, and changes wait. Few programs need that: a stock takes no memory until it is used. */
-#define _POSIX_C_SOURCE 200809L
+#define _GNU_SOURCE
 #include <hot.h>
 #include <pthread.h>
 #include <sched.h>
@@ -18,10 +18,11 @@ typedef struct table {
     unsigned users;
 } table;
 
-/* The table of now. The first lock is held by who opens or closes handles, the second by who changes the table, or alone by who copies it. */
+/* The table of now. The first lock is held by who opens or closes handles, the second by who changes the table, or alone by who copies
+ * it, who goes first. */
 static _Atomic(table *) now;
 static pthread_mutex_t opening = PTHREAD_MUTEX_INITIALIZER;
-static pthread_rwlock_t changing = PTHREAD_RWLOCK_INITIALIZER;
+static pthread_rwlock_t changing = PTHREAD_RWLOCK_WRITER_NONRECURSIVE_INITIALIZER_NP;
 
 /* What a thread has: a handle of a table, which stays as long as it. */
 typedef struct user {

@@ -18,6 +18,8 @@ pub enum Error {
     OtherIndex,
     /// The library was compiled for newer processors.
     OldProcessor,
+    /// The handle is inside its section already.
+    Inside,
     /// The number of keys, records or handles is out of range.
     OutOfRange,
     /// There is no memory.
@@ -38,7 +40,8 @@ impl Error {
             ffi::NO_HANDLE => Error::NoHandle,
             ffi::OTHER_INDEX => Error::OtherIndex,
             ffi::OLD_PROCESSOR => Error::OldProcessor,
-            0..=7 | ffi::EXCHANGED | ffi::DIFFERS => return Ok(status),
+            ffi::INSIDE => Error::Inside,
+            0..=7 | ffi::EXCHANGED | ffi::DIFFERS | ffi::NOT_PAST => return Ok(status),
             _ => Error::Unexpected(status),
         })
     }
@@ -58,6 +61,7 @@ impl fmt::Display for Error {
             Error::NoHandle => ffi::text(ffi::NO_HANDLE),
             Error::OtherIndex => ffi::text(ffi::OTHER_INDEX),
             Error::OldProcessor => ffi::text(ffi::OLD_PROCESSOR),
+            Error::Inside => ffi::text(ffi::INSIDE),
             Error::OutOfRange => ffi::text(ffi::OUT_OF_RANGE),
             Error::NoMemory => ffi::text(ffi::NO_MEMORY),
             Error::Unexpected(status) => ffi::text(status),

@@ -25,6 +25,8 @@ pub(crate) const DIFFERS: Status = 17;
 pub(crate) const NO_HANDLE: Status = 19;
 pub(crate) const OTHER_INDEX: Status = 20;
 pub(crate) const OLD_PROCESSOR: Status = 21;
+pub(crate) const INSIDE: Status = 22;
+pub(crate) const NOT_PAST: Status = 24;
 
 /// What only the library sees.
 #[repr(C)]
@@ -50,6 +52,12 @@ impl RawHandle {
 #[repr(C)]
 struct RawMoment {
     index: *mut RawIndex,
+}
+
+#[repr(C)]
+struct RawRetirement {
+    index: *mut RawIndex,
+    number: u64,
 }
 
 #[repr(C)]
@@ -185,6 +193,10 @@ extern "C" {
     fn hot_meet(one: *mut RawHandle, other: *mut RawHandle) -> Status;
     fn hot_stamp(handle: *mut RawHandle, moment: *mut RawMoment) -> Status;
     fn hot_follow(handle: *mut RawHandle, moment: *const RawMoment) -> Status;
+    fn hot_enter(handle: *mut RawHandle) -> Status;
+    fn hot_leave(handle: *mut RawHandle) -> Status;
+    fn hot_retired(handle: *mut RawHandle, moment: *mut RawRetirement) -> Status;
+    fn hot_is_past(handle: *mut RawHandle, moment: *const RawRetirement) -> Status;
 }
 
 /// A status in words.
@@ -268,6 +280,13 @@ pub(crate) struct Seen {
     index: Arc<Index>,
 }
 
+/// The number of a moment, of an index that is there as long as it.
+#[derive(Clone)]
+pub(crate) struct Taken {
+    index: Arc<Index>,
+    number: u64,
+}
+
 /// An open handle, of one thread at a time: it is not `Sync`, since it has cells.
 pub(crate) struct Lease {
     index: Arc<Index>,
@@ -279,8 +298,11 @@ unsafe impl Send for Lease {}
 
 impl Drop for Lease {
     fn drop(&mut self) {
-        // SAFETY: the handle is open, and no call with it is under way.
-        unsafe { hot_close(self.raw()) };
+        // SAFETY: the handle is open, and no call with it is under way. A section that was forgotten ends with its handle, which it borrows.
+        unsafe {
+            hot_leave(self.raw());
+            hot_close(self.raw());
+        }
     }
 }
 
@@ -499,6 +521,34 @@ impl Lease {
     pub(crate) fn follow(&self, seen: &Seen) -> Status {
         let moment = RawMoment { index: seen.index.at };
         unsafe { hot_follow(self.raw(), &moment) }
+    }
+
+    pub(crate) fn enter(&self) -> Status {
+        unsafe { hot_enter(self.raw()) }
+    }
+
+    pub(crate) fn leave(&self) -> Status {
+        unsafe { hot_leave(self.raw()) }
+    }
+
+    pub(crate) fn retired(&self) -> Taken {
+        let mut moment = RawRetirement {
+            index: ptr::null_mut(),
+            number: 0,
+        };
+        unsafe { hot_retired(self.raw(), &mut moment) };
+        Taken {
+            index: Arc::clone(&self.index),
+            number: moment.number,
+        }
+    }
+
+    pub(crate) fn is_past(&self, taken: &Taken) -> Status {
+        let moment = RawRetirement {
+            index: taken.index.at,
+            number: taken.number,
+        };
+        unsafe { hot_is_past(self.raw(), &moment) }
     }
 
     pub(crate) fn census(&self) -> Census {

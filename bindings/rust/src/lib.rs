@@ -31,7 +31,7 @@ pub use growing::{Growing, User};
 pub use key::{key_of, values_of, FromKey, ToKey};
 pub use range::{KeyRange, Range};
 
-use ffi::{Index, Lease, Seen};
+use ffi::{Index, Lease, Seen, Taken};
 use std::fmt;
 use std::sync::Arc;
 
@@ -164,6 +164,36 @@ impl fmt::Debug for Moment {
     }
 }
 
+/// A moment by which something was out of the index, when [`Handle::retired`] made it. Any thread may have it, and clones of it.
+#[derive(Clone)]
+pub struct Retirement {
+    taken: Taken,
+}
+
+impl fmt::Debug for Retirement {
+    fn fmt(&self, to: &mut fmt::Formatter<'_>) -> fmt::Result {
+        to.debug_struct("Retirement").finish_non_exhaustive()
+    }
+}
+
+/// A handle's section, until it is dropped: [`Handle::enter`].
+#[must_use = "the section is left when this is dropped"]
+pub struct Section<'a> {
+    handle: &'a Handle,
+}
+
+impl Drop for Section<'_> {
+    fn drop(&mut self) {
+        self.handle.lease.leave();
+    }
+}
+
+impl fmt::Debug for Section<'_> {
+    fn fmt(&self, to: &mut fmt::Formatter<'_>) -> fmt::Result {
+        to.debug_struct("Section").finish_non_exhaustive()
+    }
+}
+
 impl fmt::Debug for Hot {
     fn fmt(&self, to: &mut fmt::Formatter<'_>) -> fmt::Result {
         to.debug_struct("Hot")
@@ -210,7 +240,7 @@ impl Handle {
         self.get(key).is_some()
     }
 
-    /// The keys' values, in turn.
+    /// The value of each key, at its place. Each is of a moment of its own within the call.
     pub fn get_many<K: AsRef<[u8]>>(&self, keys: &[K]) -> Result<Vec<Option<u64>>, Error> {
         let (mut found, mut short) = (Vec::new(), Vec::new());
         short
@@ -417,6 +447,42 @@ impl Handle {
     /// Lets both handles see all that either has seen. A handle of another index is refused with [`Error::OtherIndex`].
     pub fn meet(&self, other: &Handle) -> Result<(), Error> {
         Error::check(self.lease.meet(&other.lease)).map(|_| ())
+    }
+
+    /// Enters the handle's section. What its calls find there may be followed until the section is dropped, where all who take values out
+    /// wait for [`Handle::is_past`] before they free what these stand for. The section borrows the handle, whose calls go on as ever.
+    /// A second one at a time is refused with [`Error::Inside`].
+    ///
+    /// ```
+    /// let index = hot::Hot::with_capacity(100, 8, 2)?;
+    /// let (reader, writer) = (index.handle()?, index.handle()?);
+    /// let rows = std::sync::Mutex::new(vec![Some("a row")]);
+    /// writer.insert("key", 0)?;
+    /// let section = reader.enter()?;
+    /// assert_eq!(reader.get("key"), Some(0)); // row 0 stays while the section is there
+    /// writer.remove("key")?;
+    /// let moment = writer.retired();
+    /// assert!(!writer.is_past(&moment)?);
+    /// drop(section);
+    /// assert!(writer.is_past(&moment)?);
+    /// rows.lock().unwrap()[0] = None;
+    /// # Ok::<(), hot::Error>(())
+    /// ```
+    pub fn enter(&self) -> Result<Section<'_>, Error> {
+        Error::check(self.lease.enter()).map(|_| Section { handle: self })
+    }
+
+    /// The moment of the call, which is made behind the change that took a value out.
+    pub fn retired(&self) -> Retirement {
+        Retirement {
+            taken: self.lease.retired(),
+        }
+    }
+
+    /// Whether each section that was open at the moment has been left since. It waits for none. A moment of another index is refused with
+    /// [`Error::OtherIndex`].
+    pub fn is_past(&self, moment: &Retirement) -> Result<bool, Error> {
+        Error::check(self.lease.is_past(&moment.taken)).map(|status| status != ffi::NOT_PAST)
     }
 
     /// The pairs whose keys are in a range, in order from either end, fetched page by page. The handle may be used meanwhile. Each pair

@@ -11,4 +11,5 @@ pub mod Written
 pub mod Answered
 pub mod LookedUp
 pub mod Keepers
+pub mod Sectioned
 pub mod Numbered

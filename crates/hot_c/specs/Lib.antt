@@ -15,3 +15,4 @@ pub mod Ends
 pub mod Stocks
 pub mod Lookups
 pub mod Following
+pub mod Sections

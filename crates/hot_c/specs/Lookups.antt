@@ -23,8 +23,8 @@ are_answered (it ∷ rest) [] = it ∷ rest
 are_answered (it ∷ rest) (value ∷ found) = answer it value ∷ are_answered rest found
 
 -- Look-ups through a handle. A closed handle and a key that is too long are told as such, and nothing has changed; else each key is
--- looked up, in turn and by one call of the index, with as many steps at most, and what was found is told; or there is no memory,
--- and nothing has changed.
+-- looked up, all by one call of the index, with as many steps at most, and what was found is told; or there is no memory, and nothing
+-- has changed.
 pub record LooksUpAll (old new : Option Opened) (before after : List Lookup) (status : ℕ) : Type 0 where
   pub closed : old ≡ None → (status ≡ CLOSED) × (new ≡ old) × (after ≡ before)
   pub long : IsSome old → ¬ All (λ it. FitsInKey (key_in it)) before → (status ≡ KEY_TOO_LONG) × (new ≡ old) × (after ≡ before)

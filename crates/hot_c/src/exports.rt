@@ -214,7 +214,7 @@ pub extern "C" fn hot_get(handle: &mut Handle, key: &[u8], value: &mut u64) -> u
     }
 }
 
-/// Looks up the keys of `lookups`, in their order, and returns `DONE`. It writes to each `FOUND` with the value, or `ABSENT` alone. With
+/// Looks up each key of `lookups` once, and returns `DONE`. It writes to each `FOUND` with the value, or `ABSENT` alone. With
 /// `CLOSED`, `KEY_TOO_LONG` (one has more than 240 bytes) or `NO_MEMORY` it looks up none, and writes nothing.
 #[unsafe(no_mangle)]
 pub extern "C" fn hot_get_many(

@@ -15,6 +15,7 @@ mod packs;
 mod pairs;
 mod refusals;
 mod scans;
+mod sections;
 mod slot;
 mod status;
 mod stock;

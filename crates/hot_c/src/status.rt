@@ -46,6 +46,12 @@ pub const DIFFERS: u32 = 17;
 pub const HELD_BACK: u32 = 18;
 /// No handle is kept that could be opened.
 pub const NO_HANDLE: u32 = 19;
+/// The section is open.
+pub const INSIDE: u32 = 22;
+/// The section isn't open.
+pub const OUTSIDE: u32 = 23;
+/// A section that was open at the moment may still be open.
+pub const NOT_PAST: u32 = 24;
 
 /// The status of `reply`. If the reply has a value, it is written to `value`; else `value` stays.
 pub fn write_reply(reply: Reply, value: &mut u64) -> u32

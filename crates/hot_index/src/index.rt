@@ -16,13 +16,13 @@ ghost use Rattle.hot_index.specs.Stamps.{HasSeenMore};
 use epochs::{Given, collect_round, pin, unpin};
 use finite_map::{Call, Reply};
 use hot_index_calls::{
-    RecordCounts, Refusal, Scratch, count_records, end_get, end_gets, look_up_each, retry_change,
-    try_and_count, try_change,
+    RecordCounts, Refusal, Scratch, count_records, end_get, end_gets, retry_change, try_and_count,
+    try_change,
 };
 use key_bits::Key;
 use key_counts::KeyCount;
 use rowex_core::{Gate, NoGate};
-use rowex_reading::look_up;
+use rowex_reading::{look_up, look_up_all};
 use rowex_table::{HotTable, TableSeat};
 use rowex_writing::{Full, TryFault};
 use std::marker::Model;
@@ -94,13 +94,13 @@ impl Index {
         self.get_with(pass, key, &mut NoGate)
     }
 
-    /// Looks up `keys`, in their order, and writes to `found`, at each key's place, what `get` would return. `found` must have as many
-    /// places as there are keys.
+    /// Looks up each of `keys` once, and writes to `found`, at its place, what `get` would return. `found` must have as many places as there
+    /// are keys.
     ///
-    /// It takes no lock, allocates nothing and never blocks. It makes at most 4 atomic steps, 34 for each key, and 29 for each entry
-    /// of a node that it loads. In all it loads at most 2,168 entries a key.
+    /// It takes no lock, allocates nothing and never blocks. It makes at most 4 atomic steps, 32 for each key, and 26 for each node on
+    /// the path to a key. A path has at most 2,160 nodes.
     ///
-    /// The values need not be of one moment. But a value is never older than those of the keys before it.
+    /// Each value is of a moment of its own within the call, in no stated order among the keys. A change whose call had returned before is seen.
     ///
     /// The pass stays pinned until the last key has been looked up. Records that are retired meanwhile are reused only after that. So
     /// look up some hundred keys by one call, not millions.
@@ -295,7 +295,7 @@ impl Index {
         ensures made { HasGotMany self.now G.becomes (length keys.now) (pass.old, gate.old) (pass.new, gate.new) }
     {
         pin(&self.table, &mut pass.seat, gate);
-        look_up_each(&self.table, &mut pass.seat, gate, keys, found);
+        look_up_all(&self.table, &mut pass.seat, gate, keys, found);
         end_gets(&self.table, &mut pass.seat, gate, keys, found);
     }
 

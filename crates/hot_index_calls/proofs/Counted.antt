@@ -1,8 +1,8 @@
 -- What a count of records comes to.
-use Rattle.std.proofs.Common.{◌≡◌, ℕ, suc, ◌+◌, ◌*◌, ◌<◌, ◌≤◌, List, [], ◌∷◌, ◌++◌, Bool, true, false, if◌then◌else◌, Option, Some, None, refl, sym, ap, subst, ◌∙◌, arith, length, length-append}
+use Rattle.std.proofs.Common.{◌≡◌, ℕ, suc, ◌+◌, ◌*◌, ◌≤◌, List, [], ◌∷◌, ◌++◌, Bool, true, false, if◌then◌else◌, None, refl, sym, ap, subst, ◌∙◌, arith, length, length-append}
 use Rattle.std.specs.Prelude.{count_by}
 use Rattle.std.proofs.lemmas.List.Sums.{sum_by-append}
-use Rattle.record_words.specs.declared.TheConstants.{EPOCHS, WORD_BYTES}
+use Rattle.record_words.specs.declared.TheConstants.{WORD_BYTES}
 use Rattle.record_words.specs.declared.state.Tag.{Tag}
 use Rattle.record_words.specs.declared.state.Tag.TheVariants.{Free, Held, Live, Locked, Obsolete}
 use Rattle.record_words.specs.Layout.{word_count}
@@ -10,7 +10,6 @@ use Rattle.record_words.specs.Reading.{IsSpelling}
 use Rattle.record_words.specs.State.{HasStateWord, state_word}
 use Rattle.versions.specs.declared.Rec.{Rec}
 use Rattle.versions.specs.declared.Rec.TheVariants.{Node as a_node, Leaf as a_leaf}
-use Rattle.versions.specs.Core.{Fate, Free as FreeFate, Held as HeldFate, Ready, InTree, Unlinked, Marked}
 use Rattle.rowex_core.proofs.States.{has_state_word}
 use Rattle.rowex_core.specs.declared.event.Act.{Act}
 use Rattle.rowex_core.specs.declared.event.Act.TheVariants.{LoadState}

@@ -1,9 +1,6 @@
 -- A count of all records, after a try that found none free.
-use Rattle.std.proofs.Common.{◌≡◌, ◌≢◌, ℕ, zero, suc, take, get_or, ◌+◌, ◌<◌, ◌≤◌, List, [], ◌∷◌, ◌++◌, length, Result, Ok, Err, inl, inr, ⊎_elim, true, refl, sym, ap, subst, ◌∙◌, arith, le_trans}
-use Rattle.std.specs.Prelude.{Contains}
-use Rattle.std.proofs.lemmas.Bool.{false≢true}
+use Rattle.std.proofs.Common.{◌≡◌, ℕ, zero, suc, take, get_or, ◌+◌, ◌<◌, ◌≤◌, List, [], ◌∷◌, ◌++◌, length, Err, inl, ⊎_elim, refl, sym, ap, subst, ◌∙◌, arith}
 use Rattle.finite_map.specs.declared.Call.{Call}
-use Rattle.finite_map.specs.declared.Reply.{Reply}
 use Rattle.finite_map.specs.Maps.{key_of}
 use Rattle.record_words.specs.declared.layout.Layout.{Layout}
 use Rattle.tries.specs.Keys.{Key}
@@ -21,8 +18,6 @@ use Rattle.rowex_table.proofs.Running.{runs_append, runs_one}
 use Rattle.epochs.specs.Runs.{collecting}
 use Rattle.rowex_records.specs.Claims.{HasMissedSince, IsAnothers}
 use Rattle.rowex_writing.specs.Changes.{LacksLeaves, LacksNodes}
-use Rattle.rowex_writing.specs.declared.attempts.TryFault.{TryFault}
-use Rattle.rowex_writing.specs.declared.attempts.TryFault.TheVariants.{Busy, FullNodes, FullLeaves}
 use Rattle.rowex_writing.specs.declared.plan.Full.{Full}
 use Rattle.rowex_writing.specs.declared.plan.Full.TheVariants.{Nodes, Leaves}
 use Rattle.rowex_writing.specs.Walks.{nodes_among}
@@ -30,17 +25,16 @@ use Rattle.rowex_writing.proofs.Keeping.{lacks_so, run_failed}
 use Rattle.rowex_writing.specs.Locks.{HasMetTaken}
 use Rattle.hot_index_calls.specs.Answers.{HasConflict, IsCause, IsOvertaken, fault_of}
 use Rattle.hot_index_calls.specs.Asked.{HasLacked, HasReplied}
-use Rattle.hot_index_calls.specs.Calls.{IsTriedAndCounted, IsTriedWith}
-use Rattle.hot_index_calls.specs.Census.{CountsAll, HasCounted, loads_in}
+use Rattle.hot_index_calls.specs.Calls.{IsTriedAndCounted}
+use Rattle.hot_index_calls.specs.Census.{CountsAll}
 use Rattle.hot_index_calls.specs.Passes.{PassView, pass_of}
-use Rattle.hot_index_calls.specs.Refusals.{IsPassing, IsCountTold, IsToldAfter, Judges, NeedsBeside, as_tried, fault_in}
-use Rattle.hot_index_calls.specs.Traces.{HasEnded, HasStepped}
+use Rattle.hot_index_calls.specs.Refusals.{IsPassing, IsToldAfter, Judges, NeedsBeside, fault_in}
+use Rattle.hot_index_calls.specs.Traces.{HasStepped}
 use Rattle.hot_index_calls.specs.declared.census.RecordCounts.{RecordCounts}
 use Rattle.hot_index_calls.specs.declared.refusals.Refusal.{Refusal}
 use Rattle.hot_index_calls.specs.declared.refusals.Refusal.TheVariants.{Busy as IsBusy, HeldBack, Full as IsFull}
 use Rattle.hot_index_calls.proofs.Conflicts.{may_take_from_before, no_further}
 use Rattle.hot_index_calls.proofs.Counted.{counts_settled, counts_unnoted, has_counted}
-use Rattle.hot_index_calls.proofs.Resting.{lacked_full}
 use Rattle.hot_index_calls.proofs.Tracing.{HasSteps}
 use Rattle.hot_index_calls.proofs.Trying.{unnoted_then}
 

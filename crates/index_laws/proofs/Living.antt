@@ -50,7 +50,7 @@ lived (called {calls = calls} {k = k} {j = j} {call = call} {reply = reply} h no
   legal = noted.legal;
 }
 lived (looked_up {calls = calls} {asked = asked} {k = k} {j = j} h noted) = record {
-  same = ap asked_in noted.notes ∙ asked-append k.notes noted.added ∙ ap₂ (λ (y z : List (Call × Reply)). y ++ z) (lived h).same (sym (asked-map noted.added) ∙ noted.calls_are);
+  same = ap asked_in noted.notes ∙ asked-append k.notes noted.added ∙ ap₂ (λ (y z : List (Call × Reply)). y ++ z) (lived h).same (sym (asked-map noted.added));
   legal = noted.legal;
 }
 lived (went_on {calls = calls} {k = k} {j = j} h unnoted) = stays calls k j (lived h) unnoted.notes unnoted.legal

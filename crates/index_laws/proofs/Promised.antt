@@ -20,7 +20,6 @@ use Rattle.rowex_writing.specs.declared.attempts.TryFault.{TryFault}
 use Rattle.rowex_writing.specs.declared.attempts.TryFault.TheVariants.{Busy, FullLeaves, FullNodes}
 use Rattle.version_laws.specs.Directions.{ScanLaw}
 use Rattle.hot_index_calls.specs.Answers.{IsCause, MayRefuse}
-use Rattle.hot_index_calls.specs.Many.{most_entries}
 use Rattle.hot_index.proofs.Alone.{one_pass_full_is_full, one_pass_is_never_busy}
 use Rattle.hot_index.proofs.Counted.{counts_add_up}
 use Rattle.hot_index.proofs.Held.{held_is_never_full, one_pass_refuses_new_alone}
@@ -30,6 +29,7 @@ use Rattle.real_time.specs.Scanning.{IsScanInTime}
 use Rattle.real_time.proofs.Replies.{behind, effect, replies_in_time}
 use Rattle.real_time.proofs.Scanning.{scans_in_time}
 use Rattle.index_laws.specs.Headline.{BoundedSteps, Freshness, FreshnessOfMany, Headline, History, NeverRefused, OneHistory, Refusals, ScansShow}
+use Rattle.index_laws.proofs.Joining.{one_run_is_an_execution}
 use Rattle.index_laws.proofs.Living.{one_history_of_all}
 use Rattle.index_laws.proofs.Traced.{ended_before_loaded, traced_are_executions}
 use Rattle.index_laws.proofs.Timed.{executions_are_linearizable, legal_now, noted_placed, responses, returned_responds}
@@ -64,9 +64,8 @@ loaded_in : (k l : Known) (i j : Known) → i ≡ k → j ≡ l → i.steps ≤ 
 loaded_in k l i j before now h = subst (λ (z : Known). z.steps ≤ l.fresh.step) before (subst (λ (z : Known). i.steps ≤ z.fresh.step) now h)
 
 freshness_of_many : FreshnessOfMany
-freshness_of_many layout last at happens run q t below within call s e ends x =
-    let notes : List Note = x.noted.added in
-    replies_in_time layout last at happens run q t call notes below within (returned_responds layout last at happens run q t below within call notes (s, e, ends, inr (inl (x, refl))))
+freshness_of_many layout last at happens run q t below within call s e ends notes x =
+    replies_in_time layout last at happens run q t call notes below within (returned_responds layout last at happens run q t below within call notes (s, e, ends, inr (inl x)))
 
 -- what is lawful by one of the two laws shows the maps of the run
 module _ (IsLawful : ScanLaw) (IsReached : Map → List ℕ → Type 0)
@@ -121,13 +120,13 @@ refusals layout call k j fault refused legal =
       λ alone busy. one_pass_is_never_busy layout (key_of call) k j alone (subst (IsCause layout (key_of call) k j) busy refused.cause),
     )
 
-few_entries : (j k count entries most : ℕ) → j ≤ k + 4 + 34 * count + 29 * entries → entries ≤ most → j ≤ k + 4 + 34 * count + 29 * most
+few_entries : (j k count entries most : ℕ) → j ≤ k + 4 + 32 * count + 26 * entries → entries ≤ most → j ≤ k + 4 + 32 * count + 26 * most
 few_entries j k count entries most few depth = omega (arith, few, depth)
 
 steps : BoundedSteps
 steps = record {
   get = λ index k j h. (let depth = h.depth in let few = h.few in omega (arith, depth, few));
-  get_many = λ index count k j h. few_entries j.steps k.steps count _ (count * most_entries) h.few h.depth;
+  get_many = λ index count k j h. few_entries j.steps k.steps count _ (count * (9 * MAX_BYTES)) h.few h.depth;
   change = λ index call result k j h. h.few;
   scan = λ index limit k j h. (let most = h.most in let few = h.few in omega (arith, most, few));
   collect = λ index nodes leaves k j h. h.few;
@@ -140,6 +139,7 @@ headline = record {
   one_history = one_history;
   one_history_of_all = one_history_of_all;
   traced = traced_are_executions;
+  one_run = one_run_is_an_execution;
   linearizable = executions_are_linearizable;
   responses = responses;
   freshness = freshness;

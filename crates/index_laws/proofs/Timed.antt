@@ -2,7 +2,9 @@
 use Rattle.std.proofs.Common.{◌≡◌, inl, inr, ℕ, zero, suc, ◌<◌, ◌≤◌, List, [], ◌∷◌, ◌++◌, length, map, refl, sym, ap, subst, ◌∙◌, arith, ⊎_elim, le_refl, le_trans, append-nil}
 use Rattle.std.specs.Prelude.{get_or}
 use Rattle.std.proofs.lemmas.Bool.{cases_eq}
-use Rattle.std.proofs.lemmas.List.Elements.{All-cons, All-from_recursion, All-nil}
+use Rattle.std.specs.List.Sorted.{IsPermutation}
+use Rattle.std.proofs.lemmas.List.Elements.{All-cons, All-from_recursion, All-nil, All-weaker}
+use Rattle.std.proofs.lemmas.List.Sorted.{IsPermutation-map, IsPermutation-refl}
 use Rattle.finite_map.specs.declared.Call.{Call}
 use Rattle.finite_map.specs.declared.Note.{Note}
 use Rattle.finite_map.specs.declared.Reply.{Reply}
@@ -53,16 +55,20 @@ legal_now q k j is pass h = subst (λ (z : Known). LegalCalls z.front q z.notes)
 noted_now : (k l j i : Known) (notes : List Note) → j ≡ k → i ≡ l → j.notes ≡ i.notes ++ notes → k.notes ≡ l.notes ++ notes
 noted_now k l j i notes now before h = sym (ap (λ (z : Known). z.notes) now) ∙ h ∙ ap (λ (z : Known). z.notes ++ notes) before
 
--- a noted call's place is no lower than what a load of the root showed in the call
-pub noted_placed : (layout : Layout) (at : ℕ → Moment) (q t : ℕ) (call : Pending) (s e : SeatView) → IsReturning at q t call s e → (asked : Call) (reply : Reply) →
-    (noted : IsNoted layout (pass_of s) (pass_of e) asked reply) → IsPlacedSince at q call.since t (record { place = noted.place; call = asked; reply = reply })
-noted_placed layout at q t call s e ends asked reply noted = record {
+-- a note's place is no lower than what a load of the root showed in the call
+placed_since : (at : ℕ → Moment) (q t : ℕ) (call : Pending) (s e : SeatView) → IsReturning at q t call s e → s.known.steps ≤ e.known.fresh.step → (n : Note) → length e.known.fresh.front ≤ n.place →
+    IsPlacedSince at q call.since t n
+placed_since at q t call s e ends loaded n low = record {
   shown = t;
   from = ends.later;
   upto = le_refl t;
-  loaded = subst (λ (z : Known). z.steps ≤ ((at t).known q).fresh.step) ends.before (subst (λ (z : Known). s.known.steps ≤ z.fresh.step) ends.now noted.on.now.0);
-  low = subst (λ (z : Known). length z.fresh.front ≤ noted.place) ends.now noted.low;
+  loaded = subst (λ (z : Known). z.steps ≤ ((at t).known q).fresh.step) ends.before (subst (λ (z : Known). s.known.steps ≤ z.fresh.step) ends.now loaded);
+  low = subst (λ (z : Known). length z.fresh.front ≤ n.place) ends.now low;
 }
+
+pub noted_placed : (layout : Layout) (at : ℕ → Moment) (q t : ℕ) (call : Pending) (s e : SeatView) → IsReturning at q t call s e → (asked : Call) (reply : Reply) →
+    (noted : IsNoted layout (pass_of s) (pass_of e) asked reply) → IsPlacedSince at q call.since t (record { place = noted.place; call = asked; reply = reply })
+noted_placed layout at q t call s e ends asked reply noted = placed_since at q t call s e ends noted.on.now.0 (record { place = noted.place; call = asked; reply = reply }) noted.low
 
 noted_is_response : (layout : Layout) (at : ℕ → Moment) (q t : ℕ) (call : Pending) (s e : SeatView) → IsReturning at q t call s e → (asked : Call) (reply : Reply) → call.calls ≡ asked ∷ [] →
     (noted : IsNoted layout (pass_of s) (pass_of e) asked reply) → IsResponse at t q call (record { place = noted.place; call = asked; reply = reply } ∷ [])
@@ -71,58 +77,35 @@ noted_is_response layout at q t call s e ends asked reply calls noted =
     let since : ℕ = call.since in
     record {
       called = ends.pending;
-      calls = sym calls;
+      calls = subst (λ z. IsPermutation z (asked ∷ [])) (sym calls) (IsPermutation-refl (asked ∷ []));
       noted = noted_now ((at t).known q) ((at since).known q) e.known s.known (n ∷ []) ends.now ends.before noted.notes;
       placed = All-cons (IsPlacedSince at q since t) n [] (noted_placed layout at q t call s e ends asked reply noted) (All-nil (IsPlacedSince at q since t));
       legal = legal_now q ((at t).known q) e.known ends.now ends.pass noted.legal;
     }
 
-calls_same : (added : List Note) (asked : List (Call × Reply)) → map (λ n. (n.call, n.reply)) added ≡ asked → map (λ n. n.call) added ≡ map (λ x. x.0) asked
-calls_same added asked e = firsts added ∙ ap (λ xs. map (λ (x : Call × Reply). x.0) xs) e
-  where
-    firsts : (ns : List Note) → map (λ (n : Note). n.call) ns ≡ map (λ (x : Call × Reply). x.0) (map (λ (n : Note). (n.call, n.reply)) ns)
-    firsts [] = refl
-    firsts (n ∷ ns) = ap (λ z. n.call ∷ z) (firsts ns)
+calls_of : (ns : List Note) → map (λ (x : Call × Reply). x.0) (map (λ (n : Note). (n.call, n.reply)) ns) ≡ map (λ (n : Note). n.call) ns
+calls_of [] = refl
+calls_of (n ∷ ns) = ap (λ z. n.call ∷ z) (calls_of ns)
 
-many_are_response : (layout : Layout) (last : ℕ) (at : ℕ → Moment) (happens : ℕ → Happening) → IsWholeRun layout last at happens → (q t : ℕ) (call : Pending) (s e : SeatView) → q < layout.passes →
-    t ≤ last → IsReturning at q t call s e → (x : HasAnsweredMany layout at q t call s e) → IsResponse at t q call x.noted.added
-many_are_response layout last at happens run q t call s e low within ends x =
-    let m : ℕ = x.m in
-    let f : SeatView = x.f in
+many_are_response : (layout : Layout) (at : ℕ → Moment) (q t : ℕ) (call : Pending) (s e : SeatView) → IsReturning at q t call s e → (notes : List Note) →
+    HasAnsweredMany layout call (pass_of s) (pass_of e) notes → IsResponse at t q call notes
+many_are_response layout at q t call s e ends notes x =
     let noted = x.noted in
-    let from = x.since in
-    let upto = x.until in
-    let between = x.first in
-    let sees = x.sees in
-    let places = x.fresh in
-    let since : ℕ = call.since in
-    let sound = runs_stay_sound layout last at happens run m (omega (arith, upto, within)) in
-    let shown : BeginsWith ((at m).known q).front ((at m).known q).fresh.front = (sound.knows q low).seen.fresh in
-    let known : BeginsWith f.known.front f.known.fresh.front = subst (λ (z : Known). BeginsWith z.front z.fresh.front) (sym between) shown in
-    let least : length f.known.fresh.front ≤ length f.known.front = longer f.known.front f.known.fresh.front known in
-    let loaded : s.known.steps ≤ f.known.fresh.step = subst (λ (z : Fresh). s.known.steps ≤ z.step) (sym sees.fresh) sees.since in
-    record {
+    subst (IsResponse at t q call) (sym x.notes_are)
+    (record {
       called = ends.pending;
-      calls = calls_same noted.added x.asked noted.calls_are ∙ x.calls;
-      noted = noted_now ((at t).known q) ((at since).known q) e.known s.known noted.added ends.now ends.before noted.notes;
-      placed = λ k d inside.
-          (let place : length f.known.front ≤ (get_or noted.added k d).place = places k d inside in
-          let bound : length f.known.fresh.front ≤ (get_or noted.added k d).place = le_trans least place in
-          record {
-            shown = m;
-            from = from;
-            upto = upto;
-            loaded = subst (λ (z : Known). z.steps ≤ ((at m).known q).fresh.step) ends.before (subst (λ (z : Known). s.known.steps ≤ z.fresh.step) between loaded);
-            low = subst (λ (z : Known). length z.fresh.front ≤ (get_or noted.added k d).place) between bound;
-          });
+      calls = subst (λ (z : List Call × List Call). IsPermutation z.0 z.1) (λ i. (x.calls i, calls_of noted.added i))
+          (IsPermutation-map (λ (y : Call × Reply). y.0) x.asked (map (λ (n : Note). (n.call, n.reply)) noted.added) noted.calls_are);
+      noted = noted_now ((at t).known q) ((at call.since).known q) e.known s.known noted.added ends.now ends.before noted.notes;
+      placed = All-weaker (λ n. length e.known.fresh.front ≤ n.place) (IsPlacedSince at q call.since t) (λ n low. placed_since at q t call s e ends noted.on.now.0 n low) noted.added noted.low;
       legal = legal_now q ((at t).known q) e.known ends.now ends.pass noted.legal;
-    }
+    })
 
 quiet_is_response : (layout : Layout) (at : ℕ → Moment) (q t : ℕ) (call : Pending) (s e : SeatView) → IsReturning at q t call s e → (notes : List Note) →
     IsQuiet call (pass_of s) (pass_of e) notes → IsResponse at t q call []
 quiet_is_response layout at q t call s e ends notes x = record {
   called = ends.pending;
-  calls = sym x.calls;
+  calls = subst (λ z. IsPermutation z []) (sym x.calls) (IsPermutation-refl []);
   noted = noted_now ((at t).known q) ((at call.since).known q) e.known s.known [] ends.now ends.before (x.same ∙ sym (append-nil s.known.notes));
   placed = All-nil (IsPlacedSince at q call.since t);
   legal = legal_now q ((at t).known q) e.known ends.now ends.pass x.legal;
@@ -131,8 +114,8 @@ quiet_is_response layout at q t call s e ends notes x = record {
 pub returned_responds : ReturnedResponds
 returned_responds layout last at happens run q t below within call notes (s, e, ends, inl x) =
     subst (IsResponse at t q call) (sym x.notes_are) (noted_is_response layout at q t call s e ends x.asked x.reply x.calls x.noted)
-returned_responds layout last at happens run q t below within call notes (s, e, ends, inr (inl (x, are))) =
-    subst (IsResponse at t q call) (sym are) (many_are_response layout last at happens run q t call s e below within ends x)
+returned_responds layout last at happens run q t below within call notes (s, e, ends, inr (inl x)) =
+    many_are_response layout at q t call s e ends notes x
 returned_responds layout last at happens run q t below within call notes (s, e, ends, inr (inr x)) =
     subst (IsResponse at t q call) (sym x.notes_are) (quiet_is_response layout at q t call s e ends notes x)
 

@@ -1,11 +1,10 @@
 -- Executions of an index: runs in which calls end as their contracts say.
-use Rattle.std.specs.Prelude.{◌≡◌, ◌⊎◌, ℕ, suc, ◌<◌, ◌≤◌, All, List, [], ◌∷◌, None, Some, length, map}
+use Rattle.std.specs.Prelude.{◌≡◌, ◌⊎◌, ℕ, suc, ◌<◌, ◌≤◌, List, [], ◌∷◌, None, Some, map}
 use Rattle.finite_map.specs.declared.Call.{Call}
 use Rattle.finite_map.specs.declared.Note.{Note}
 use Rattle.finite_map.specs.declared.Reply.{Reply}
 use Rattle.finite_map.specs.Calls.{LegalCalls}
 use Rattle.record_words.specs.declared.layout.Layout.{Layout}
-use Rattle.rowex_core.specs.Knowing.{SeesAllAtRoot}
 use Rattle.rowex_table.specs.Seats.{SeatView}
 use Rattle.rowex_writing.specs.declared.attempts.TryFault.{TryFault}
 use Rattle.hot_index_calls.specs.Answers.{IsNoted, IsRefused, MayRefuse}
@@ -29,19 +28,12 @@ pub record IsAnswered (layout : Layout) (call : Pending) (k j : PassView) (notes
   pub noted : IsNoted layout k j asked reply
   pub notes_are : notes ≡ record { place = noted.place; call = asked; reply = reply } ∷ []
 
--- It asked look-ups, whose notes were added. As `HasGotMany` says, the pass saw all changes at the call's first load of the root, and none of
--- the look-ups stands before these: f knows what the pass knew then, at moment m.
-pub record HasAnsweredMany (layout : Layout) (at : ℕ → Moment) (q t : ℕ) (call : Pending) (s e : SeatView) : Type 0 where
+-- It asked look-ups, which were noted, in an order of theirs.
+pub record HasAnsweredMany (layout : Layout) (call : Pending) (k j : PassView) (notes : List Note) : Type 0 where
   pub asked : List (Call × Reply)
   pub calls : map (λ x. x.0) asked ≡ call.calls
-  pub noted : AreNoted layout (pass_of s) (pass_of e) asked
-  pub m : ℕ
-  pub since : call.since ≤ m
-  pub until : m ≤ t
-  pub f : SeatView
-  pub first : f.known ≡ (at m).known q
-  pub sees : SeesAllAtRoot layout s.known f.known
-  pub fresh : All (λ n. length f.known.front ≤ n.place) noted.added
+  pub noted : AreNoted layout k j asked
+  pub notes_are : notes ≡ noted.added
 
 -- It asked nothing of the map, and added no note: so `IsScannedBy` and `IsListedBy` say of scans, and `IsUnnoted` of collections and counts.
 pub record IsQuiet (call : Pending) (k j : PassView) (notes : List Note) : Type 0 where
@@ -55,7 +47,7 @@ abbrev pub HasReturned : Layout → (ℕ → Moment) → ℕ → ℕ → Pending
 HasReturned layout at q t call notes =
     (s : SeatView) × (e : SeatView) × IsReturning at q t call s e ×
     (IsAnswered layout call (pass_of s) (pass_of e) notes ⊎
-    (((many : HasAnsweredMany layout at q t call s e) × (notes ≡ many.noted.added)) ⊎ IsQuiet call (pass_of s) (pass_of e) notes))
+    (HasAnsweredMany layout call (pass_of s) (pass_of e) notes ⊎ IsQuiet call (pass_of s) (pass_of e) notes))
 
 -- The call asked one of the map, and is refused at moment t.
 abbrev pub HasBeenRefused : Layout → (ℕ → Moment) → ℕ → ℕ → Pending → Type 0

@@ -10,6 +10,7 @@
 use Rattle.std.specs.Prelude.{◌≡◌, ◌≢◌, ◌⊎◌, ℕ, ◌+◌, ◌*◌, ◌<◌, ◌≤◌, All, List, [], ◌∷◌, ◌++◌, Result}
 use Rattle.key_bits.specs.declared.TheConstants.{MAX_BYTES}
 use Rattle.finite_map.specs.declared.Call.{Call}
+use Rattle.finite_map.specs.declared.Note.{Note}
 use Rattle.finite_map.specs.declared.Call.TheVariants.{Add, Exchange, Get, Remove, RemoveIf}
 use Rattle.finite_map.specs.declared.Reply.{Reply}
 use Rattle.finite_map.specs.declared.Scan.{Scan}
@@ -30,7 +31,7 @@ use Rattle.hot_index_calls.specs.Answers.{HaveMet, IsCause, IsListedBy, IsNoted,
 use Rattle.hot_index_calls.specs.declared.census.RecordCounts.{RecordCounts}
 use Rattle.hot_index_calls.specs.Census.{HasCounted}
 use Rattle.hot_index_calls.specs.Counts.{round_steps, try_steps}
-use Rattle.hot_index_calls.specs.Many.{HasGotMany, most_entries}
+use Rattle.hot_index_calls.specs.Many.{HasGotMany}
 use Rattle.hot_index_calls.specs.Passes.{PassView, pass_of}
 use Rattle.hot_index_calls.specs.Traces.{HasCollected, HasGot, HasGotRange, HasMade, untold}
 use Rattle.hot_index.specs.Statements.{CountsAddUp, HeldIsNeverFull, OnePassFullIsFull, OnePassRefusesNewAlone, ReturnedBeforeBegun}
@@ -38,6 +39,7 @@ use Rattle.real_time.specs.Moments.{Happening, IsWholeRun, Moment, Pending}
 use Rattle.real_time.specs.Scanning.{IsScanInTime, map_at}
 use Rattle.index_laws.specs.Lives.{OneHistoryOfAll}
 use Rattle.index_laws.specs.Executions.{HasAnsweredMany, IsReturning}
+use Rattle.index_laws.specs.Joined.{OneRunIsAnExecution}
 use Rattle.index_laws.specs.Statements.{ExecutionsAreLinearizable, Responses}
 use Rattle.index_laws.specs.Traced.{EndedBeforeLoaded, TracedAreExecutions}
 
@@ -68,8 +70,8 @@ abbrev pub FreshnessOfMany : Type 0
 FreshnessOfMany =
     (layout : Layout) (last : ℕ) (at : ℕ → Moment) (happens : ℕ → Happening) → IsWholeRun layout last at happens →
     (q t : ℕ) → q < layout.passes → t ≤ last → (call : Pending) (s e : SeatView) → IsReturning at q t call s e →
-    (many : HasAnsweredMany layout at q t call s e) →
-    All (λ n. (m : ℕ) × (call.since ≤ m) × (m ≤ t) × (n.reply ≡ reply_of (map_at at m) n.call)) many.noted.added
+    (notes : List Note) → HasAnsweredMany layout call (pass_of s) (pass_of e) notes →
+    All (λ n. (m : ℕ) × (call.since ≤ m) × (m ≤ t) × (n.reply ≡ reply_of (map_at at m) n.call)) notes
 
 -- A scan that a pass made from its invocation to moment t of a run is lawful from what the pass saw at its last load of the root to what it
 -- has seen by its end. And it shows the maps of moments from the one to the other: each pair was in one of them, and no key of its range is
@@ -109,7 +111,7 @@ NeverRefused =
 pub record BoundedSteps : Type 0 where
   pub get : (index : TableView) (k j : PassView) → HasGot index untold (k, tt) (j, tt) → j.steps ≤ k.steps + 36 + 26 * (9 * MAX_BYTES)
   pub get_many : (index : TableView) (count : ℕ) (k j : PassView) → HasGotMany index untold count (k, tt) (j, tt) →
-      j.steps ≤ k.steps + 4 + 34 * count + 29 * (count * most_entries)
+      j.steps ≤ k.steps + 4 + 32 * count + 26 * (count * (9 * MAX_BYTES))
   pub change : (index : TableView) (call : Call) (result : Result Reply TryFault) (k j : PassView) → HasMade index untold call result (k, tt) (j, tt) →
       j.steps ≤ k.steps + try_steps call index.layout
   pub scan : (index : TableView) (limit : ℕ) (k j : PassView) → HasGotRange index untold limit (k, tt) (j, tt) →
@@ -126,6 +128,8 @@ pub record Headline : Type 0 where
   pub one_history_of_all : OneHistoryOfAll
   -- contracts of steps, of meetings and stamps and of calls make an execution, if each step's trace is what came before it in one order
   pub traced : TracedAreExecutions
+  -- the calls of passes whose traces have ended in one run, as those of two that have met, are such an execution, and linearizable
+  pub one_run : OneRunIsAnExecution
   -- the look-ups and changes of an execution are linearizable; and what contracts say of calls that have ended makes an execution a run
   pub linearizable : ExecutionsAreLinearizable
   pub responses : Responses

@@ -4,4 +4,5 @@ pub mod Steps
 pub mod Traced
 pub mod Statements
 pub mod Lives
+pub mod Joined
 pub mod Headline

@@ -12,14 +12,15 @@ use Rattle.hot_index_calls.specs.Answers.{GoesOn, IsNoted, IsUnnoted}
 use Rattle.hot_index_calls.specs.Many.{AreNoted}
 use Rattle.hot_index_calls.specs.Passes.{IsNewPass, PassView}
 
--- A new pass has lived through no calls; one whose call was answered, or whose many look-ups were, through these besides; and one that was
--- refused, collected, met another or followed a stamp (`IsUnnoted`) or scanned (`IsScannedBy`, `IsListedBy`), through the same as before.
+-- A new pass has lived through no calls; one whose call was answered, through it besides, and one whose many look-ups were, through these in
+-- the order of their notes; and one that was refused, collected, met another or followed a stamp (`IsUnnoted`) or scanned (`IsScannedBy`,
+-- `IsListedBy`), through the same as before.
 pub data HasLived : Layout → List (Call × Reply) → PassView → Type 0 where
   new : {layout : Layout} {q : ℕ} {j : PassView} → IsNewPass q j → HasLived layout [] j
   called : {layout : Layout} {calls : List (Call × Reply)} {k j : PassView} {call : Call} {reply : Reply} →
       HasLived layout calls k → IsNoted layout k j call reply → HasLived layout (calls ++ (call, reply) ∷ []) j
   looked_up : {layout : Layout} {calls asked : List (Call × Reply)} {k j : PassView} →
-      HasLived layout calls k → AreNoted layout k j asked → HasLived layout (calls ++ asked) j
+      HasLived layout calls k → (noted : AreNoted layout k j asked) → HasLived layout (calls ++ map (λ n. (n.call, n.reply)) noted.added) j
   went_on : {layout : Layout} {calls : List (Call × Reply)} {k j : PassView} → HasLived layout calls k → IsUnnoted layout k j → HasLived layout calls j
   scanned : {layout : Layout} {calls : List (Call × Reply)} {k j : PassView} → HasLived layout calls k → GoesOn layout k j → j.notes ≡ k.notes →
       LegalCalls j.front j.number j.notes → HasLived layout calls j

@@ -1,8 +1,11 @@
 //! Laws of the index over whole runs. The functions do nothing: their contracts are the laws.
 ghost use Rattle.index_laws.specs.Headline.{Headline};
+ghost use Rattle.index_laws.specs.Joined.{AnInsertIsFound, OneRunIsAnExecution, ShownHaveEnded, SilentStepsEnd, StepsNeedNoGate, TwoThatMeetHaveEnded};
 ghost use Rattle.index_laws.specs.Statements.{AGetReturns, Responses};
 ghost use Rattle.index_laws.specs.Steps.{StepsAreMoments, StepsFollow};
 ghost use Rattle.index_laws.specs.Traced.{AGetIsTraced, CallsMakeNoAsides, EndedBeforeLoaded, EndedOrLoadedBefore, EndedOrShownBefore, LoadsAreMoments, LoadsSeeAll, MetAreOfOneRun, TracedAreExecutions};
+
+use rowex_core::Gate;
 
 /// A run may begin at a new index. A call that has ended as its contract says responds or is refused in it. So an execution is a run. Where
 /// a call that waits may be refused for want of records, one that doesn't wait may be, too.
@@ -35,6 +38,38 @@ pub fn allowed_steps_are_steps_of_the_run()
 /// in which each step's trace is what came before it.
 pub fn contracts_make_an_execution()
     ensures { TracedAreExecutions }
+{}
+
+/// Let the traces of all passes of an index have ended in one run. The calls that they made are an execution by contracts alone, and
+/// linearizable. No premise speaks of executions.
+pub fn calls_of_one_run_are_an_execution()
+    ensures { OneRunIsAnExecution }
+{}
+
+/// Let a run begin with the steps of which each pass of an index knew, and let each then be shown steps that begin with this run. Their
+/// traces have ended in it.
+pub fn shown_passes_have_ended_in_one_run()
+    ensures { ShownHaveEnded }
+{}
+
+/// Let the two passes of an index meet that has no other. Their traces have ended in the run of which both know then.
+pub fn two_that_meet_have_ended_in_one_run()
+    ensures { TwoThatMeetHaveEnded }
+{}
+
+/// In each index of two passes there are calls that have ended in one run: one pass inserts a key, with any value, and the other finds it.
+pub fn an_insert_is_found()
+    ensures { AnInsertIsFound }
+{}
+
+/// Steps of which a gate is told are steps with no gate, too.
+pub fn steps_need_no_gate<G: Gate>()
+    ensures { StepsNeedNoGate G.becomes }
+{}
+
+/// The steps of a round of collection or of a count, which come with no notes, are the steps of a call.
+pub fn silent_steps_are_of_a_call()
+    ensures { SilentStepsEnd }
 {}
 
 /// For each layout with a pass, and each key, there is an execution by contracts alone. In it a get in a new index finds its key absent.

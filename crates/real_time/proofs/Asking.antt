@@ -3,6 +3,8 @@ use Rattle.std.proofs.Common.{◌≡◌, ◌≢◌, ◌⊎◌, inl, inr, ℕ, ze
 use Rattle.std.specs.List.{All, slice_get, cons_option}
 use Rattle.std.proofs.Math.Seq.{take-append_seam}
 use Rattle.std.proofs.lemmas.Bool.{cases_eq, eq-eqb, ne_eqb}
+use Rattle.std.specs.List.Sorted.{IsPermutation}
+use Rattle.std.proofs.lemmas.List.Sorted.{All-permutation, length_permutation}
 use Rattle.std.proofs.lemmas.List.Elements.{All-append, All-cons, All-head, All-nil, All-tail, filter-append, filter_map-append}
 use Rattle.finite_map.specs.declared.Call.{Call}
 use Rattle.finite_map.specs.declared.Change.{Change}
@@ -19,6 +21,14 @@ use Rattle.real_time.specs.Statements.{RefusedChangeNothing, RespondersChangeAsA
 use Rattle.real_time.proofs.Calling.{LegalUpTo, calls_legal}
 use Rattle.real_time.proofs.Growing.{all_behind, cancelled, grown, loaded_since, longer, runs_stay_sound, parts_none}
 
+-- another order of one thing is that thing alone
+one_alone : {X : Type 0} (x : X) (ys : List X) → IsPermutation (x ∷ []) ys → ys ≡ x ∷ []
+one_alone x [] h = absurd (let e = length_permutation (x ∷ []) [] h in omega (arith, e))
+one_alone x (y ∷ z ∷ zs) h = absurd (let e = length_permutation (x ∷ []) (y ∷ z ∷ zs) h in omega (arith, e))
+one_alone {X} x (y ∷ []) h =
+    let same : (λ (z : X). z ≡ x) y = All-head (λ (z : X). z ≡ x) y [] (All-permutation (λ (z : X). z ≡ x) (x ∷ []) (y ∷ []) h (All-cons (λ (z : X). z ≡ x) x [] refl (All-nil (λ (z : X). z ≡ x)))) in
+    ap (λ z. z ∷ []) same
+
 -- A pass's own changes
 
 abbrev Others : ℕ → List Change → Type 0
@@ -33,10 +43,10 @@ own_takes q c cs e = ap (λ b. cond b (c ∷ own_changes q cs) (own_changes q cs
 not_none : (c : Change) (cs : List Change) (P : Type 0) → c ∷ cs ≡ [] → P
 not_none c cs P e = cc
 
-pub head_is : {X : Type 0} (c d : X) (cs ds : List X) → c ∷ cs ≡ d ∷ ds → c ≡ d
+head_is : {X : Type 0} (c d : X) (cs ds : List X) → c ∷ cs ≡ d ∷ ds → c ≡ d
 head_is c d cs ds e = cc
 
-pub tail_is : {X : Type 0} (c d : X) (cs ds : List X) → c ∷ cs ≡ d ∷ ds → cs ≡ ds
+tail_is : {X : Type 0} (c d : X) (cs ds : List X) → c ∷ cs ≡ d ∷ ds → cs ≡ ds
 tail_is c d cs ds e = cc
 
 -- where none is its own, all are others'
@@ -208,7 +218,7 @@ module _ (layout : Layout) (last : ℕ) (at : ℕ → Moment) (happens : ℕ →
               (ap (changes_of q) e ∙ ap (λ o. cons_option o []) made) asked asked_is)
 
       pub responds : ((asked : Call) × (call.calls ≡ asked ∷ [])) ⊎ (changes_of q notes ≡ []) → ChangesAsAsked q call.calls (at s).core.changes (at m).core.changes
-      responds (inl (asked, is)) = one_asked asked is notes refl (x.calls ∙ is)
+      responds (inl (asked, is)) = one_asked asked is notes refl (one_alone asked (map (λ n. n.call) notes) (subst (λ z. IsPermutation z (map (λ n. n.call) notes)) is x.calls))
       responds (inr none) = inl (looked_up none)
 
 pub answered_calls_change_as_asked : RespondersChangeAsAsked

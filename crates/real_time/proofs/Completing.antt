@@ -1,10 +1,11 @@
 -- Responses that complete the pending calls of a run.
 use Rattle.std.proofs.Common.{◌≡◌, ◌⊎◌, inl, inr, ℕ, ◌<◌, ◌≤◌, List, [], ◌∷◌, ◌++◌, length, drop, map, Option, Some, None, refl, sym, ap, subst, ◌∙◌, arith, ⊎_elim, le_refl, append-nil}
 use Rattle.std.specs.List.{cons_option}
-use Rattle.std.specs.Prelude.{All, option_map}
+use Rattle.std.specs.Prelude.{All, IsPermutation, option_map}
 use Rattle.std.proofs.Math.Seq.{drop-append_seam}
 use Rattle.std.proofs.lemmas.Bool.{cases_lt}
-use Rattle.std.proofs.lemmas.List.Elements.{All-cons, All-nil}
+use Rattle.std.proofs.lemmas.List.Elements.{All-cons, All-head, All-nil, All-tail}
+use Rattle.std.proofs.lemmas.List.Sorted.{All-permutation}
 use Rattle.finite_map.specs.declared.Call.{Call}
 use Rattle.finite_map.specs.declared.Change.{Change}
 use Rattle.finite_map.specs.declared.Note.{Note}
@@ -21,7 +22,7 @@ use Rattle.real_time.specs.Effects.{completion_of, completions}
 use Rattle.real_time.specs.Histories.{ChangesAsAsked, HasChangedOnce, IsAppended, AsksOneOrLooksUp, EndsWithin, PendingEndOrChangeAsAsked, replied}
 use Rattle.real_time.specs.Moments.{Happening, IsSoundMoment, IsWholeRun, Moment, Pending}
 use Rattle.real_time.specs.Statements.{IsLinearizable, Linearizable, OrderedByEffect}
-use Rattle.real_time.proofs.Asking.{head_is, tail_is, refused_change_nothing, answered_calls_change_as_asked}
+use Rattle.real_time.proofs.Asking.{refused_change_nothing, answered_calls_change_as_asked}
 use Rattle.real_time.proofs.Calling.{LegalUpTo, calls_legal}
 use Rattle.real_time.proofs.Growing.{grown, longer, runs_stay_sound}
 use Rattle.real_time.proofs.Makers.{legal_on, makers_behind, makers_legal}
@@ -164,20 +165,28 @@ pub no_change : (q : ℕ) (n : Note) (key : List ℕ) → n.call ≡ Get key →
 no_change q n key e = ap (λ (o : Option (Kind × ℕ)). option_map (λ effect. record { pass = q; key = key_of n.call; value = effect.1; kind = effect.0 }) o)
     (ap (λ (c : Call). effect_of c n.reply) e ∙ no_effect key n.reply)
 
-look_ups : (q : ℕ) (notes : List Note) (keys : List (List ℕ)) → map (λ n. n.call) notes ≡ map Get keys → changes_of q notes ≡ []
-look_ups q [] keys e = refl
-look_ups q (n ∷ notes) [] e = cc
-look_ups q (n ∷ notes) (key ∷ keys) e =
-    ap (λ o. cons_option o (changes_of q notes)) (no_change q n key (head_is n.call (Get key) (map (λ n. n.call) notes) (map Get keys) e))
-    ∙ look_ups q notes keys (tail_is n.call (Get key) (map (λ n. n.call) notes) (map Get keys) e)
+-- a call looks up
+abbrev LooksUp : Call → Type 0
+LooksUp call = (key : List ℕ) × (call ≡ Get key)
+
+all_look_up : (keys : List (List ℕ)) → All LooksUp (map Get keys)
+all_look_up [] = All-nil LooksUp
+all_look_up (key ∷ keys) = All-cons LooksUp (Get key) (map Get keys) (key, refl) (all_look_up keys)
+
+look_ups : (q : ℕ) (notes : List Note) → All LooksUp (map (λ n. n.call) notes) → changes_of q notes ≡ []
+look_ups q [] all = refl
+look_ups q (n ∷ notes) all =
+    let (key, is) = All-head LooksUp n.call (map (λ n. n.call) notes) all in
+    ap (λ o. cons_option o (changes_of q notes)) (no_change q n key is) ∙ look_ups q notes (All-tail LooksUp n.call (map (λ n. n.call) notes) all)
 
 module _ (layout : Layout) (last later : ℕ) (at : ℕ → Moment) (happens : ℕ → Happening) (low : last ≤ later) (run : IsWholeRun layout later at happens) where
   until : IsWholeRun layout last at happens
   until = record { new = run.new; next = λ t lower. run.next t (omega (arith, low, lower)) }
 
-  one_or_quiet : (q : ℕ) (calls : List Call) (notes : List Note) → map (λ n. n.call) notes ≡ calls → AsksOneOrLooksUp calls → ((asked : Call) × (calls ≡ asked ∷ [])) ⊎ (changes_of q notes ≡ [])
-  one_or_quiet q calls notes e (inl one) = inl one
-  one_or_quiet q calls notes e (inr (keys, is)) = inr (look_ups q notes keys (e ∙ is))
+  one_or_quiet : (q : ℕ) (calls : List Call) (notes : List Note) → IsPermutation calls (map (λ n. n.call) notes) → AsksOneOrLooksUp calls →
+      ((asked : Call) × (calls ≡ asked ∷ [])) ⊎ (changes_of q notes ≡ [])
+  one_or_quiet q calls notes same (inl one) = inl one
+  one_or_quiet q calls notes same (inr (keys, is)) = inr (look_ups q notes (All-permutation LooksUp calls (map (λ n. n.call) notes) same (subst (All LooksUp) (sym is) (all_look_up keys))))
 
   module _ (q : ℕ) (below : q < layout.passes) (call : Pending) (is : (at last).pending q ≡ Some call) where
     since : call.since ≤ last

@@ -1,5 +1,5 @@
 -- Runs of an index, moment by moment: the steps of passes, and the calls that they invoke and that respond.
-use Rattle.std.specs.Prelude.{◌≡◌, ◌≢◌, ℕ, suc, ◌<◌, ◌≤◌, All, List, [], ◌++◌, Option, None, Some, length, map}
+use Rattle.std.specs.Prelude.{◌≡◌, ◌≢◌, ℕ, suc, ◌<◌, ◌≤◌, All, IsPermutation, List, [], ◌++◌, Option, None, Some, length, map}
 use Rattle.finite_map.specs.declared.Call.{Call}
 use Rattle.finite_map.specs.declared.Change.{Change}
 use Rattle.finite_map.specs.declared.Note.{Note}
@@ -70,10 +70,10 @@ pub record IsPlacedSince (at : ℕ → Moment) (q since until : ℕ) (n : Note) 
   pub loaded : ((at since).known q).steps ≤ ((at shown).known q).fresh.step
   pub low : length ((at shown).known q).fresh.front ≤ n.place
 
--- Pass q's call, pending since then, responds at moment t with these notes: one for each call of the map that it asks, in their order.
+-- Pass q's call, pending since then, responds at moment t with these notes: one for each call of the map that it asks, in an order of theirs.
 pub record IsResponse (at : ℕ → Moment) (t q : ℕ) (call : Pending) (notes : List Note) : Type 0 where
   pub called : (at t).pending q ≡ Some call
-  pub calls : map (λ n. n.call) notes ≡ call.calls
+  pub calls : IsPermutation call.calls (map (λ n. n.call) notes)
   pub noted : ((at t).known q).notes ≡ ((at call.since).known q).notes ++ notes
   pub placed : All (IsPlacedSince at q call.since t) notes
   pub legal : LegalCalls ((at t).known q).front q ((at t).known q).notes

@@ -1,5 +1,5 @@
 -- The tries before were refused; what the last one leaves is what the whole call leaves.
-use Rattle.std.proofs.Common.{◌≡◌, [], ◌∷◌, ◌++◌, inl, Ok, Err, refl, subst}
+use Rattle.std.proofs.Common.{[], ◌∷◌, ◌++◌, inl, Ok, Err, refl, subst}
 use Rattle.hot_index_calls.specs.Answers.{fault_of}
 use Rattle.hot_index_calls.specs.Asked.{HasReplied}
 use Rattle.hot_index_calls.specs.Calls.{IsTriedAndCounted}

@@ -1,21 +1,20 @@
 -- The try, and the count after it.
-use Rattle.std.proofs.Common.{◌≡◌, ◌+◌, ◌∙◌, ℕ, List, Ok, Err, Result, length, ap, refl, sym, subst, arith}
+use Rattle.std.proofs.Common.{◌≡◌, ◌+◌, ◌∙◌, ℕ, List, Err, length, ap, refl, sym, subst, arith}
 use Rattle.finite_map.specs.Maps.{key_of}
 use Rattle.record_words.specs.declared.layout.Layout.{Layout}
 use Rattle.versions.specs.declared.Rec.{Rec}
 use Rattle.rowex_core.specs.declared.event.Act.TheVariants.{ClearPin}
 use Rattle.rowex_core.specs.declared.known.Known.{Known}
 use Rattle.rowex_writing.specs.declared.attempts.TryFault.{TryFault}
-use Rattle.rowex_writing.specs.declared.attempts.TryFault.TheVariants.{Busy}
 use Rattle.rowex_writing.specs.Walks.{nodes_among}
 use Rattle.hot_index_calls.specs.Answers.{fault_of}
 use Rattle.hot_index_calls.specs.Asked.{HasAsked, HasLacked, HasReplied}
 use Rattle.hot_index_calls.specs.Calls.{IsTriedWith}
 use Rattle.hot_index_calls.specs.Census.{loads_in}
 use Rattle.hot_index_calls.specs.Passes.{pass_of}
-use Rattle.hot_index_calls.specs.Refusals.{Judges, fault_in}
+use Rattle.hot_index_calls.specs.Refusals.{Judges}
 use Rattle.hot_index_calls.specs.Traces.{AreAttempts}
-use Rattle.hot_index_calls.proofs.Refusing.{counted_later, counted_replied, judged_fault, nodes_most, stepped_on, told_after}
+use Rattle.hot_index_calls.proofs.Refusing.{counted_replied, judged_fault, nodes_most, stepped_on, told_after}
 use Rattle.hot_index_calls.proofs.Trying.{tried_seen}
 use Rattle.hot_index_calls.proofs.changing.try_and_count.Goals as goal
 

@@ -1,0 +1,152 @@
+//! The calls of sections, for programs in C: whether each that was open at a moment has been left.
+
+ghost use Rattle.std.specs.Prelude.{◌≡◌, ◌≤◌, ◌<◌, ◌⊎◌, IsSome, None, Some};
+ghost use Rattle.section_handles.specs.declared.opened.Opened.{Opened as OpenSection};
+ghost use Rattle.hot_c.specs.Sections.{EntersSection, HasOpenedSections, LeavesSection, OpensSection, TellsInside, TellsMoment, TellsPast};
+
+use crate::status::{
+    CLOSED, DONE, INSIDE, NO_HANDLE, NO_MEMORY, NOT_PAST, OPEN, OUT_OF_RANGE, OUTSIDE,
+};
+use section_handles::{SectionHandle, make_keeper};
+use std::alloc::Global;
+
+/// Makes a table of `count` sections and one more, and opens `handle` with the first of them: `DONE`. The handle keeps the others. Else it
+/// stays as it was: `OUT_OF_RANGE` if there are more than 65,534, `OPEN` if it is open, or `NO_MEMORY`.
+#[unsafe(no_mangle)]
+pub extern "C" fn hot_make_sections(alloc: Global, count: usize, handle: &mut SectionHandle) -> u32
+    ensures range { 65_535 ≤ count → (result ≡ OUT_OF_RANGE) × (handle.new ≡ handle.old) }
+    ensures open { count < 65_535 → IsSome handle.old.slot.opened → (result ≡ OPEN) × (handle.new ≡ handle.old) }
+    ensures made { count < 65_535 → handle.old.slot.opened ≡ None →
+        ((result ≡ DONE) × HasOpenedSections count handle.new.slot.opened) ⊎ ((result ≡ NO_MEMORY) × (handle.new ≡ handle.old)) }
+{
+    if count >= u16::MAX as usize {
+        return OUT_OF_RANGE;
+    }
+    if handle.is_open() {
+        return OPEN;
+    }
+    match make_keeper(alloc, count as u16) {
+        Ok(keeper) => {
+            handle.open(keeper);
+            DONE
+        }
+        Err(_) => NO_MEMORY,
+    }
+}
+
+/// Takes the section of the least number out of those that `keeper` keeps, and opens `handle` with it: `DONE`. Else both stay as they were:
+/// `CLOSED` if `keeper` is closed, `OPEN` if `handle` is open, `NO_HANDLE` if no section is kept, or `NO_MEMORY`.
+#[unsafe(no_mangle)]
+pub extern "C" fn hot_open_section(
+    alloc: Global,
+    keeper: &mut SectionHandle,
+    handle: &mut SectionHandle,
+) -> u32
+    ensures closed { keeper.old.slot.opened ≡ None → (result ≡ CLOSED) × (keeper.new.slot.opened ≡ None) × (handle.new ≡ handle.old) }
+    ensures open { IsSome keeper.old.slot.opened → IsSome handle.old.slot.opened → (result ≡ OPEN) × (keeper.new ≡ keeper.old) × (handle.new ≡ handle.old) }
+    ensures opened { (was : OpenSection) → keeper.old.slot.opened ≡ Some was → handle.old.slot.opened ≡ None →
+        OpensSection was keeper.new.slot.opened handle.new.slot.opened result }
+{
+    if !keeper.is_open() {
+        return CLOSED;
+    }
+    if handle.is_open() {
+        return OPEN;
+    }
+    match keeper.slot.lend().open_next(alloc) {
+        Ok(Some(opened)) => {
+            handle.open(opened);
+            DONE
+        }
+        Ok(None) => NO_HANDLE,
+        Err(_) => NO_MEMORY,
+    }
+}
+
+/// Closes `handle`, and frees what it held: `DONE`; or `CLOSED` if it is closed already. The last handle of a table frees it. A section
+/// that is open stays so for those that look.
+#[unsafe(no_mangle)]
+pub extern "C" fn hot_close_section(alloc: Global, handle: &mut SectionHandle) -> u32
+    ensures closed { handle.old.slot.opened ≡ None → result ≡ CLOSED }
+    ensures done { IsSome handle.old.slot.opened → result ≡ DONE }
+    ensures gone { handle.new.slot.opened ≡ None }
+{
+    if !handle.is_open() {
+        return CLOSED;
+    }
+    drop(handle.close(alloc));
+    DONE
+}
+
+/// Whether the section is open: `INSIDE` or `OUTSIDE`; or `CLOSED` if the handle is closed.
+#[unsafe(no_mangle)]
+pub extern "C" fn hot_is_inside(handle: &mut SectionHandle) -> u32
+    ensures { TellsInside handle.old.slot.opened handle.new.slot.opened result }
+{
+    if !handle.is_open() {
+        return CLOSED;
+    }
+    if handle.slot.lend().is_inside() {
+        INSIDE
+    } else {
+        OUTSIDE
+    }
+}
+
+/// Enters the section: `DONE`. `INSIDE` if it is open already, or `CLOSED` if the handle is closed, and then nothing changes.
+#[unsafe(no_mangle)]
+pub extern "C" fn hot_enter_section(handle: &mut SectionHandle) -> u32
+    ensures { EntersSection handle.old.slot.opened handle.new.slot.opened result }
+{
+    if !handle.is_open() {
+        return CLOSED;
+    }
+    if handle.slot.lend().enter() {
+        DONE
+    } else {
+        INSIDE
+    }
+}
+
+/// Leaves the section: `DONE`. `OUTSIDE` if it isn't open, or `CLOSED` if the handle is closed, and then nothing changes.
+#[unsafe(no_mangle)]
+pub extern "C" fn hot_leave_section(handle: &mut SectionHandle) -> u32
+    ensures { LeavesSection handle.old.slot.opened handle.new.slot.opened result }
+{
+    if !handle.is_open() {
+        return CLOSED;
+    }
+    if handle.slot.lend().leave() {
+        DONE
+    } else {
+        OUTSIDE
+    }
+}
+
+/// Takes a moment, and writes its number to `moment`: `DONE`; or `CLOSED` if the handle is closed, and then `moment` stays.
+#[unsafe(no_mangle)]
+pub extern "C" fn hot_take_moment(handle: &mut SectionHandle, moment: &mut u64) -> u32
+    ensures { TellsMoment handle.old.slot.opened handle.new.slot.opened moment.old moment.new result }
+{
+    if !handle.is_open() {
+        return CLOSED;
+    }
+    *moment = handle.slot.lend().take_moment();
+    DONE
+}
+
+/// Whether each section that was open before the moment of this number has been left since: `DONE`, or `NOT_PAST`. `CLOSED` if the handle
+/// is closed. It waits for none.
+#[unsafe(no_mangle)]
+pub extern "C" fn hot_is_moment_past(handle: &mut SectionHandle, moment: u64) -> u32
+    ensures { TellsPast moment handle.old.slot.opened handle.new.slot.opened result }
+{
+    if !handle.is_open() {
+        return CLOSED;
+    }
+    if handle.slot.lend().is_past(moment) {
+        DONE
+    } else {
+        NOT_PAST
+    }
+}

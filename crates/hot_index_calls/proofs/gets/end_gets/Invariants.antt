@@ -1,0 +1,5 @@
+-- The notes are the caller's.
+use Rattle.hot_index_calls.proofs.gets.end_gets.Given as goal
+
+abbrev pub ghost-unpin : goal.ghost-unpin
+ghost-unpin g a = g.said

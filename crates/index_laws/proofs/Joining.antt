@@ -1,0 +1,88 @@
+-- Where passes have ended in one run, and that their calls are linearizable then.
+use Rattle.std.proofs.Common.{◌≡◌, ◌≢◌, ⊎_elim, ℕ, ◌<◌, List, [], ◌∷◌, None, Some, refl, sym, ap, subst, ◌∙◌, arith, le_refl}
+use Rattle.std.proofs.lemmas.Bool.{cases_eq}
+use Rattle.rowex_core.specs.declared.event.Act.{Act}
+use Rattle.rowex_core.specs.declared.event.Event.{Event}
+use Rattle.rowex_core.specs.declared.known.Known.{Known}
+use Rattle.finite_map.specs.declared.Note.{Note}
+use Rattle.rowex_table.specs.Runs.{Runs, StepsWith, silent}
+use Rattle.rowex_table.specs.Seats.{SeatView, TableView}
+use Rattle.rowex_table.specs.Traces.{OthersStepOn}
+use Rattle.hot_index_calls.specs.Traces.{untold}
+use Rattle.real_time.specs.Histories.{PendingEndOrChangeAsAsked}
+use Rattle.real_time.specs.Moments.{Happening, Moment, Pending}
+use Rattle.index_laws.specs.Joined.{HasDone, OneRunIsAnExecution, ShownHaveEnded, SilentStepsEnd, StepsNeedNoGate, TwoThatMeetHaveEnded, of_two}
+use Rattle.index_laws.specs.Traced.{moment_of}
+use Rattle.index_laws.proofs.Interleaving.{named_by, one_execution}
+use Rattle.index_laws.proofs.Placing.{others_between}
+use Rattle.index_laws.proofs.Timed.{executions_are_linearizable}
+use Rattle.index_laws.proofs.Traced.{traced_are_executions}
+
+none_some : (call : Pending) (P : Type 0) → None ≡ Some call → P
+none_some call P e = cc
+
+pub one_run_is_an_execution : OneRunIsAnExecution
+one_run_is_an_execution table run done seat x =
+    let r = one_execution table run done seat x in
+    let last : ℕ = r.0 in
+    let moments : ℕ → Moment = λ t. moment_of table.layout (r.1 t) in
+    let ends : PendingEndOrChangeAsAsked table.layout last last moments = λ q low call is. none_some call _ (sym (r.3.idle q low) ∙ is) in
+    (last, r.1, r.2, r.3, executions_are_linearizable table.layout last last moments r.2 (le_refl last) (traced_are_executions table last r.1 r.2 r.3.traced) ends)
+
+pub shown_have_ended : ShownHaveEnded
+shown_have_ended table run done seat shown led each begun later begins = record {
+  led = led;
+  each = each;
+  others = λ q low. others_between q (seat q).trace run (shown q).trace
+      (subst (λ p. OthersStepOn p (seat q).trace (shown q).trace) (named_by (each q low)) (later q low).run.others) (begun q low) (begins q low);
+}
+
+-- what is so of pass 0 and pass 1
+pub of_both : {A : Type 0} (P : ℕ → A → Type 0) (x y : A) → P 0 x → P 1 y → (passes : ℕ) → passes ≡ 2 → (q : ℕ) → q < passes → P q (of_two x y q)
+of_both P x y here there passes two q low = ⊎_elim
+    (λ (e : q ≡ 0). subst (λ k. P k (of_two x y k)) (sym e) here)
+    (λ (ne : q ≢ 0). let e : 1 ≡ q = omega (arith, two, low, ne) in subst (λ k. P k (of_two x y k)) e there)
+    (cases_eq q 0)
+
+pub both_done : (table : TableView) (ours theirs : List Happening) (s t : SeatView) → HasDone table 0 ours s → HasDone table 1 theirs t → (passes : ℕ) → passes ≡ 2 →
+    (q : ℕ) → q < passes → HasDone table q (of_two ours theirs q) (of_two s t q)
+both_done table ours theirs s t first second passes is q low = ⊎_elim
+    (λ (e : q ≡ 0). subst (λ k. HasDone table k (of_two ours theirs k) (of_two s t k)) (sym e) first)
+    (λ (ne : q ≢ 0). let e : 1 ≡ q = omega (arith, is, low, ne) in subst (λ k. HasDone table k (of_two ours theirs k) (of_two s t k)) e second)
+    (cases_eq q 0)
+
+pub two_that_meet_have_ended : TwoThatMeetHaveEnded
+two_that_meet_have_ended table ours theirs s t u v two first second shown other same =
+    let n : ℕ = table.layout.passes in
+    let run : List Event = u.trace in
+    record {
+      led = (shown.run.core, shown.run.led);
+      each = both_done table ours theirs s t first second n two;
+      others = of_both (λ q (z : SeatView). OthersStepOn q z.trace run) s t
+          (subst (λ p. OthersStepOn p s.trace run) (named_by first) shown.run.others)
+          (subst (λ l. OthersStepOn 1 t.trace l) (sym same) (subst (λ p. OthersStepOn p t.trace v.trace) (named_by second) other.run.others)) n two;
+    }
+
+pub silent_steps_end : SilentStepsEnd
+silent_steps_end table act [] s e (m, step, is) =
+    ([], act, refl, ((s, tt), refl, subst (λ (z : SeatView × Unit {0}). StepsWith table untold act silent (s, tt) z) (sym is) step))
+silent_steps_end table act (next ∷ acts) s e (m, step, runs) =
+    let h = silent_steps_end table next acts m.0 e runs in
+    (act ∷ h.0, h.1, ap (λ l. act ∷ l) h.2, (h.3.0, (m, step, h.3.1), h.3.2))
+
+-- Steps with a gate
+
+module _ {G : Type 0} (becomes : G → Event → G → Type 0) (table : TableView) where
+  untell : (act : Act) (said : Known → List Note) (a b : SeatView × G) → StepsWith table becomes act said a b → StepsWith table untold act said (a.0, tt) (b.0, tt)
+  untell act said a b x = record { seat = x.seat; event = x.event; next = x.next; told = tt }
+
+  untell_each : (acts : List Act) (a b : SeatView × G) → Runs table becomes acts a b → Runs table untold acts (a.0, tt) (b.0, tt)
+  untell_each [] a b runs = ap (λ (z : SeatView × G). let y : SeatView × Unit {0} = (z.0, tt) in y) runs
+  untell_each (act ∷ acts) a b (m, step, runs) = ((m.0, tt), untell act silent a m step, untell_each acts m b runs)
+
+pub steps_need_no_gate : {G : Type 0} (becomes : G → Event → G → Type 0) → StepsNeedNoGate becomes
+steps_need_no_gate becomes table acts a b = (
+  untell_each becomes table acts a b,
+  λ last said ends.
+      ((ends.0.0, tt), untell_each becomes table acts a ends.0 ends.1, untell becomes table last said ends.0 b ends.2),
+)

@@ -1,0 +1,161 @@
+-- Passes whose traces have ended in one run of the table: what each has done, as the contracts of its calls say one after the other, and the
+-- execution that they make together.
+use Rattle.std.specs.Prelude.{◌≡◌, ℕ, zero, suc, ◌<◌, ◌^◌, List, [], ◌∷◌, ◌++◌, None, if◌then◌else◌, map, nat_eq}
+use Rattle.finite_map.specs.declared.Call.{Call}
+use Rattle.finite_map.specs.declared.Call.TheVariants.{Get, Insert}
+use Rattle.finite_map.specs.declared.Note.{Note}
+use Rattle.finite_map.specs.declared.Reply.{Reply}
+use Rattle.finite_map.specs.declared.Reply.TheVariants.{Inserted, Value}
+use Rattle.finite_map.specs.Calls.{LegalCalls}
+use Rattle.finite_map.specs.Fronts.{BeginsWith}
+use Rattle.record_words.specs.declared.layout.Layout.{Layout}
+use Rattle.rowex_core.specs.declared.event.Act.{Act}
+use Rattle.rowex_core.specs.declared.event.Event.{Event}
+use Rattle.rowex_core.specs.declared.known.Known.{Known}
+use Rattle.rowex_core.specs.Knowing.{learned}
+use Rattle.rowex_table.specs.Rule.{with_front}
+use Rattle.rowex_table.specs.Runs.{Ends, Runs, silent}
+use Rattle.rowex_table.specs.Seats.{IsNewSeatOf, IsShownAll, SeatView, TableView}
+use Rattle.rowex_table.specs.Traces.{IsTableRun, OthersStepOn, RunBeginsWith}
+use Rattle.rowex_writing.specs.declared.attempts.TryFault.{TryFault}
+use Rattle.hot_index_calls.specs.Answers.{IsNoted, IsRefused, MayRefuse}
+use Rattle.hot_index_calls.specs.Many.{AreNoted}
+use Rattle.hot_index_calls.specs.Passes.{pass_of}
+use Rattle.hot_index_calls.specs.Traces.{untold}
+use Rattle.real_time.specs.Moments.{Happening, invokes, refuses, responds, shows, steps}
+use Rattle.real_time.specs.Statements.{IsLinearizable}
+use Rattle.index_laws.specs.Traced.{Instant, IsTracedExecution, moment_of}
+
+-- What one pass has done
+
+-- How pass q's call, which asks these calls of the map, ended: the seat was s when it began, and is e now. It was answered as one call, or as
+-- look-ups, with the notes that were added; it asked nothing of the map; or it was refused.
+pub data HasEndedAs (layout : Layout) (q : ℕ) (calls : List Call) (s e : SeatView) : Happening → Type 0 where
+  answered : (asked : Call) (reply : Reply) → calls ≡ asked ∷ [] → (noted : IsNoted layout (pass_of s) (pass_of e) asked reply) →
+      HasEndedAs layout q calls s e (responds q (record { place = noted.place; call = asked; reply = reply } ∷ []))
+  looked_up : (asked : List (Call × Reply)) → map (λ x. x.0) asked ≡ calls → (noted : AreNoted layout (pass_of s) (pass_of e) asked) →
+      HasEndedAs layout q calls s e (responds q noted.added)
+  quiet : calls ≡ [] → e.known.notes ≡ s.known.notes → LegalCalls e.known.front e.known.pass e.known.notes → HasEndedAs layout q calls s e (responds q [])
+  refused : (asked : Call) (fault : TryFault) → calls ≡ asked ∷ [] → IsRefused layout asked (pass_of s) (pass_of e) fault → MayRefuse asked fault →
+      HasEndedAs layout q calls s e (refuses q)
+
+-- these steps of pass q, with no notes
+abbrev pub steps_of : ℕ → List Act → List Happening
+steps_of q acts = map (λ act. steps q act []) acts
+
+-- the notes with which a call's last step comes
+abbrev pub notes_of_end : (table : TableView) (acts : List Act) (last : Act) (said : Known → List Note) (s e : SeatView) →
+    Ends table untold acts last said (s, tt) (e, tt) → List Note
+notes_of_end table acts last said s e ends = said (learned ends.2.event.core last ends.0.0.known)
+
+-- a call of pass q: it is invoked, makes these steps, the last one with these notes, and ends
+abbrev pub call_of : ℕ → List Call → List Act → Act → List Note → Happening → List Happening
+call_of q calls acts last notes ended = invokes q calls ∷ (steps_of q acts ++ steps q last notes ∷ ended ∷ [])
+
+-- What pass q of the table has done since it was new, up to this seat. Its calls are made by their steps (`HasRead`, `HasMade`, `HasTold`), and
+-- ended as their contracts say. It may have met another pass (`IsShownAll`, `HasSeenMore`), followed a stamp (`HasCaughtUp`) or made one
+-- (`HasStamped`).
+pub data HasDone (table : TableView) (q : ℕ) : List Happening → SeatView → Type 0 where
+  new : {s : SeatView} → IsNewSeatOf table q s → HasDone table q [] s
+  called : {done : List Happening} {s e : SeatView} → HasDone table q done s → (calls : List Call) (acts : List Act) (last : Act) (said : Known → List Note) →
+      (ends : Ends table untold acts last said (s, tt) (e, tt)) → {ended : Happening} → HasEndedAs table.layout q calls s e ended →
+      HasDone table q (done ++ call_of q calls acts last (notes_of_end table acts last said s e ends) ended) e
+  shown : {done : List Happening} {s e : SeatView} → HasDone table q done s → IsShownAll table.layout s e → BeginsWith e.known.front s.known.front →
+      e.known ≡ with_front e.known.front s.known → HasDone table q (done ++ shows q e.known.front ∷ []) e
+  stamped : {done : List Happening} {s e : SeatView} → HasDone table q done s → e ≡ record s { asides = suc s.asides } →
+      HasDone table q (done ++ shows q s.known.front ∷ []) e
+
+-- What all have done
+
+-- Each pass of the table has done this, up to this seat. These steps are a run of the table; and it begins with those of which each pass knows
+-- there, and goes on by steps of others. So all steps of the passes stand in it.
+pub record HaveEndedInOneRun (table : TableView) (run : List Event) (done : ℕ → List Happening) (seat : ℕ → SeatView) : Type 0 where
+  pub led : IsTableRun table.layout run
+  pub each : (q : ℕ) → q < table.layout.passes → HasDone table q (done q) (seat q)
+  pub others : (q : ℕ) → q < table.layout.passes → OthersStepOn q (seat q).trace run
+
+-- whose happening it is
+abbrev pub pass_in : Happening → ℕ
+pass_in (steps q act notes) = q
+pass_in (shows q front) = q
+pass_in (invokes q calls) = q
+pass_in (responds q notes) = q
+pass_in (refuses q) = q
+
+-- the happenings of pass q before moment t, in their order
+abbrev pub happenings_of : ℕ → (ℕ → Happening) → ℕ → List Happening
+happenings_of q happens zero = []
+happenings_of q happens (suc t) = if nat_eq (pass_in (happens t)) q then happenings_of q happens t ++ happens t ∷ [] else happenings_of q happens t
+
+-- a step of pass q
+abbrev pub IsStepOf : ℕ → Happening → Type 0
+IsStepOf q (steps p act notes) = p ≡ q
+IsStepOf q _ = ⊥
+
+-- If the first invokes a call, the second is a step of its pass. If the second ends a call, the first is a step of its pass.
+abbrev pub IsNextTo : Happening → Happening → Type 0
+IsNextTo (invokes q calls) y = IsStepOf q y
+IsNextTo x (responds q notes) = IsStepOf q x
+IsNextTo x (refuses q) = IsStepOf q x
+IsNextTo x y = Unit {0}
+
+-- The execution is of this run. In it each pass has done just this, up to this seat, and no call is pending at last. Each call is invoked right
+-- before its first step, and ends right after its last one. So the order of calls in time is that of their steps in the run.
+pub record IsExecutionOf (table : TableView) (run : List Event) (done : ℕ → List Happening) (seat : ℕ → SeatView)
+    (last : ℕ) (at : ℕ → Instant) (happens : ℕ → Happening) : Type 0 where
+  pub traced : IsTracedExecution table last at happens
+  pub run_is : (at last).run ≡ run
+  pub does : (q : ℕ) → q < table.layout.passes → happenings_of q happens last ≡ done q
+  pub seats : (q : ℕ) → q < table.layout.passes → (at last).seat q ≡ seat q
+  pub idle : (q : ℕ) → q < table.layout.passes → (at last).pending q ≡ None
+  pub next_to : (t : ℕ) → suc t < last → IsNextTo (happens t) (happens (suc t))
+
+-- So calls of passes whose traces have ended in one run are an execution, and linearizable, with no premise about executions.
+abbrev pub OneRunIsAnExecution : Type 0
+OneRunIsAnExecution =
+    (table : TableView) (run : List Event) (done : ℕ → List Happening) (seat : ℕ → SeatView) → HaveEndedInOneRun table run done seat →
+    (last : ℕ) × (at : ℕ → Instant) × (happens : ℕ → Happening) ×
+    IsExecutionOf table run done seat last at happens × IsLinearizable table.layout last (λ t. moment_of table.layout (at t)) happens
+
+-- Where passes have ended in one run
+
+-- Each pass has done this, up to this seat. A run of the table begins with the steps of which each knew there. And then each was shown steps
+-- that begin with the run, as where it met another pass or followed a stamp. So they have ended in this run. Passes come to that in two rounds.
+-- In the first, each follows a stamp of the one before it; the last one's steps are the run. In the second, each follows a stamp of these.
+abbrev pub ShownHaveEnded : Type 0
+ShownHaveEnded =
+    (table : TableView) (run : List Event) (done : ℕ → List Happening) (seat shown : ℕ → SeatView) → IsTableRun table.layout run →
+    ((q : ℕ) → q < table.layout.passes → HasDone table q (done q) (seat q)) → ((q : ℕ) → q < table.layout.passes → RunBeginsWith run (seat q).trace) →
+    ((q : ℕ) → q < table.layout.passes → IsShownAll table.layout (seat q) (shown q)) → ((q : ℕ) → q < table.layout.passes → RunBeginsWith (shown q).trace run) →
+    HaveEndedInOneRun table run done seat
+
+-- what is said of pass 0, and of the others
+abbrev pub of_two : {A : Type 0} → A → A → ℕ → A
+of_two x y q = if nat_eq q 0 then x else y
+
+-- Two passes of a table that has no other meet, as the clauses `shown` and `traces` of a meeting say. So they have ended in the run of which both
+-- know then.
+abbrev pub TwoThatMeetHaveEnded : Type 0
+TwoThatMeetHaveEnded =
+    (table : TableView) (ours theirs : List Happening) (s t u v : SeatView) → table.layout.passes ≡ 2 → HasDone table 0 ours s → HasDone table 1 theirs t →
+    IsShownAll table.layout s u → IsShownAll table.layout t v → u.trace ≡ v.trace → HaveEndedInOneRun table u.trace (of_two ours theirs) (of_two s t)
+
+-- Steps with no notes, as those of a round of collection and of a count, are the steps of a call: the last one is its end.
+abbrev pub SilentStepsEnd : Type 0
+SilentStepsEnd =
+    (table : TableView) (act : Act) (acts : List Act) (s e : SeatView) → Runs table untold (act ∷ acts) (s, tt) (e, tt) →
+    (before : List Act) × (last : Act) × (act ∷ acts ≡ before ++ last ∷ []) × Ends table untold before last silent (s, tt) (e, tt)
+
+-- So two passes may end in one run: pass 0 inserts the key of no bytes, with any value, and pass 1 finds it.
+abbrev pub AnInsertIsFound : Type 0
+AnInsertIsFound =
+    (table : TableView) → table.layout.passes ≡ 2 → (value : ℕ) → value < 2 ^ 64 →
+    (run : List Event) × (done : ℕ → List Happening) × (seat : ℕ → SeatView) × HaveEndedInOneRun table run done seat ×
+    ((seat 0).known.notes ≡ record { place = 0; call = Insert [] value; reply = Inserted } ∷ []) ×
+    ((seat 1).known.notes ≡ record { place = 1; call = Get []; reply = Value value } ∷ [])
+
+-- Steps of which a gate is told are steps with no gate, too: so what contracts say of calls with a gate is what `HasDone` asks.
+abbrev pub StepsNeedNoGate : {G : Type 0} → (G → Event → G → Type 0) → Type 0
+StepsNeedNoGate {G = G} becomes =
+    (table : TableView) (acts : List Act) (a b : SeatView × G) → (Runs table becomes acts a b → Runs table untold acts (a.0, tt) (b.0, tt)) ×
+    ((last : Act) (said : Known → List Note) → Ends table becomes acts last said a b → Ends table untold acts last said (a.0, tt) (b.0, tt))

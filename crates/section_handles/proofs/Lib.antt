@@ -1,0 +1,5 @@
+-- The lemmas of the crate.
+pub mod Steps
+pub mod Content
+pub mod Boxes
+pub mod Kept

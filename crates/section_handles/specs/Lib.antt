@@ -1,0 +1,4 @@
+-- The definitions of the crate.
+pub mod Owning
+pub mod Lending
+pub mod Handles

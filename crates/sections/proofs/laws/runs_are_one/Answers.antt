@@ -1,0 +1,6 @@
+-- The law runs_are_one.
+use Rattle.sections.proofs.Dealing.{runs_are_one}
+use Rattle.sections.proofs.laws.runs_are_one.Goals as goal
+
+pub returns : goal.returns
+returns c = runs_are_one

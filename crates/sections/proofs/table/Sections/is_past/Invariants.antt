@@ -1,0 +1,6 @@
+-- The words below `of` have been looked at.
+use Rattle.sections.proofs.Past.{HasLooked}
+use Rattle.sections.proofs.table.Sections.is_past.Given as goal
+
+abbrev pub invariant-loop-of : goal.invariant-loop-of
+invariant-loop-of l = HasLooked l.moment l.of l.reach l.fn.section l.section

@@ -1,0 +1,81 @@
+-- Tables of sections, and the sections, as contracts see them; and what their calls do.
+use Rattle.std.specs.Prelude.{◌≡◌, ◌+◌, ◌<◌, ◌≤◌, ◌⊎◌, ℕ, true, List, ◌∷◌}
+use Rattle.atomic_table.specs.Seated.{TableId}
+use Rattle.sections.specs.declared.events.Event.{Event}
+use Rattle.sections.specs.declared.events.Event.TheVariants.{Entered, Left}
+use Rattle.sections.specs.declared.events.Known.{Known}
+use Rattle.sections.specs.declared.table.TheConstants.{MOST_MOMENTS}
+use Rattle.sections.specs.Rule.{new_section}
+use Rattle.sections.specs.Runs.{IsLawfulRun, IsOpen, OthersRunOn, moments_in}
+
+-- a table: which one it is, and how many sections it has
+pub record SectionsView : Type 0 where
+  pub id : TableId
+  pub count : ℕ
+
+-- a section: its table, and what its owner knows
+pub record SectionView : Type 0 where
+  pub table : TableId
+  pub known : Known
+
+-- the section is one of this table
+abbrev pub IsSectionOf : SectionsView → SectionView → Type 0
+IsSectionOf table s = (s.table ≡ table.id) × (s.known.count ≡ table.count)
+
+-- the section of this number, which was never entered
+abbrev pub IsNewSection : SectionsView → ℕ → SectionView → Type 0
+IsNewSection table q s = (s.table ≡ table.id) × (s.known ≡ new_section q table.count)
+
+-- the section is open
+abbrev pub IsInside : SectionView → Type 0
+IsInside s = IsOpen s.known.number s.known.run
+
+-- one section, before and after
+abbrev pub IsOneSection : SectionView → SectionView → Type 0
+IsOneSection s t = (t.table ≡ s.table) × (t.known.number ≡ s.known.number) × (t.known.count ≡ s.known.count)
+
+-- Its owner has made no event, and knows of those of others up to now, which make a lawful run. Nothing else has changed.
+pub record SeesOthers (s t : SectionView) : Type 0 where
+  pub table : t.table ≡ s.table
+  pub known : t.known ≡ record s.known { run = t.known.run }
+  pub others : OthersRunOn s.known.number s.known.run t.known.run
+  pub lawful : IsLawfulRun t.known.run
+
+-- The section is entered: the last event of the run is this one. It comes with the number of moments that had been taken when the call loaded it.
+pub record Enters (s t : SectionView) : Type 0 where
+  pub one : IsOneSection s t
+  pub before : List Event
+  pub others : OthersRunOn s.known.number s.known.run before
+  pub moments : ℕ
+  pub fresh : moments_in s.known.run ≤ moments
+  pub run : t.known.run ≡ Entered s.known.number moments ∷ before
+
+-- The section is left: the last event of the run is this one.
+pub record Leaves (s t : SectionView) : Type 0 where
+  pub one : IsOneSection s t
+  pub before : List Event
+  pub others : OthersRunOn s.known.number s.known.run before
+  pub run : t.known.run ≡ Left s.known.number ∷ before
+
+-- The number is that of a moment: there was a run during the call in which fewer had been taken. It has been taken when the call ends, unless it is
+-- beyond the most that a table tells apart.
+pub record TakesMoment (moment : ℕ) (s t : SectionView) : Type 0 where
+  pub one : IsOneSection s t
+  pub before : List Event
+  pub others : OthersRunOn s.known.number s.known.run before
+  pub fewer : moments_in before < moment
+  pub until : OthersRunOn s.known.number before t.known.run
+  pub taken : (moment ≤ moments_in t.known.run) ⊎ (moment ≡ MOST_MOMENTS + 1)
+
+-- Looks take the section in from now on. Its owner has made no event.
+pub record StartsCounting (s t : SectionView) : Type 0 where
+  pub table : t.table ≡ s.table
+  pub known : t.known ≡ record s.known { counted = true; run = t.known.run }
+  pub others : OthersRunOn s.known.number s.known.run t.known.run
+
+-- One moment more than expected has been taken. Nothing of the section has changed.
+pub record TakesNext (expected : ℕ) (s t : SectionView) : Type 0 where
+  pub table : t.table ≡ s.table
+  pub known : t.known ≡ record s.known { run = t.known.run }
+  pub others : OthersRunOn s.known.number s.known.run t.known.run
+  pub taken : expected < moments_in t.known.run

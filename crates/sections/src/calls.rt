@@ -1,0 +1,91 @@
+//! The calls of sections.
+
+ghost use Rattle.std.specs.Prelude.{◌≡◌, ◌<◌, ◌≤◌, true, false};
+ghost use Rattle.sections.specs.Runs.{IsHeld, IsNewer, IsPast};
+ghost use Rattle.sections.specs.Sections.{Enters, IsInside, IsSectionOf, Leaves, SeesOthers, TakesMoment};
+
+use crate::table::{MOST_MOMENTS, Section, Sections};
+
+impl Section {
+    /// Whether the section is open: it has been entered, and not been left since.
+    pub fn is_inside(&self) -> bool
+        ensures inside { IsInside self.now → result ≡ true }
+        ensures outside { ¬ IsInside self.now → result ≡ false }
+    {
+        self.word != 0
+    }
+}
+
+impl Sections {
+    /// Enters the section, and returns true. If it is open already, it stays so, and the call returns false. It makes two atomic steps, and one
+    /// more at the first time.
+    pub fn enter(&self, section: &mut Section) -> bool
+        requires { IsSectionOf self.now section.old }
+        ensures inside { IsInside section.old → (result ≡ false) × (section.new ≡ section.old) }
+        ensures entered { ¬ IsInside section.old → (result ≡ true) × Enters section.old section.new }
+    {
+        if section.is_inside() {
+            return false;
+        }
+        self.count_section(section);
+        let moments = self.load_moments(section);
+        self.store_entered(section, moments);
+        true
+    }
+
+    /// Leaves the section, and returns true. If it isn't open, nothing changes, and the call returns false. It makes one atomic step.
+    pub fn leave(&self, section: &mut Section) -> bool
+        requires { IsSectionOf self.now section.old }
+        ensures outside { ¬ IsInside section.old → (result ≡ false) × (section.new ≡ section.old) }
+        ensures left { IsInside section.old → (result ≡ true) × Leaves section.old section.new }
+    {
+        if !section.is_inside() {
+            return false;
+        }
+        self.store_left(section);
+        true
+    }
+
+    /// Takes a moment, and returns its number, from 1 on. Sections that are open at the call are entered before it. It makes two atomic
+    /// steps at most. The section may be open or not.
+    pub fn take_moment(&self, section: &mut Section) -> u64
+        requires { IsSectionOf self.now section.old }
+        ensures { TakesMoment result section.old section.new }
+    {
+        let taken = self.load_moments(section);
+        if taken < MOST_MOMENTS {
+            self.take_next(section, taken);
+        }
+        taken + 1
+    }
+
+    /// Whether each section that was open before the moment of this number has been left since. It waits for none. It makes two atomic
+    /// steps, and one for each section up to the last that was ever entered. It may return false for a section that was entered as the
+    /// moment was taken.
+    pub fn is_past(&self, section: &mut Section, moment: u64) -> bool
+        requires { IsSectionOf self.now section.old }
+        ensures looks { SeesOthers section.old section.new }
+        ensures past { result ≡ true → IsPast moment section.new.known.run }
+        ensures held { result ≡ false → IsHeld moment section.new.known.run }
+    {
+        if self.load_moments(section) < moment {
+            return false;
+        }
+        let reach = self.load_reach(section);
+        for of in 0..reach {
+            let word = self.load_word(section, of);
+            if !is_newer(word, moment) {
+                return false;
+            }
+        }
+        true
+    }
+}
+
+/// Whether a section with this word isn't open, or was entered when the moment of this number had been taken.
+fn is_newer(word: u64, moment: u64) -> bool
+    ensures newer { result ≡ true → IsNewer moment word }
+    ensures older { result ≡ false → (0 < word) × (word ≤ moment) }
+{
+    word == 0 || word > moment
+}

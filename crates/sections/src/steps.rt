@@ -1,0 +1,104 @@
+//! The atomic steps that sections make, each on one word of the table. Its owner makes each with its section.
+
+ghost use Rattle.std.specs.Prelude.{◌≡◌, ◌≤◌, ◌<◌, ℕ, true};
+ghost use Rattle.sections.specs.Runs.{HasNoneOf, moments_in, word_in};
+ghost use Rattle.sections.specs.Sections.{Enters, IsInside, IsSectionOf, Leaves, SeesOthers, StartsCounting, TakesNext};
+
+use crate::plays::{Counts, Entering, FindsMoments, FindsReach, FindsWord, Leaving, Taking};
+use crate::table::{FIRST_SECTION, MOMENTS, MOST_MOMENTS, REACH, Section, Sections};
+
+impl Sections {
+    /// Loads how many moments have been taken, and returns it.
+    pub(crate) fn load_moments(&self, section: &mut Section) -> u64
+        requires { IsSectionOf self.now section.old }
+        ensures looks { SeesOthers section.old section.new }
+        ensures found { result ≡ moments_in section.new.known.run }
+        ensures most { result ≤ MOST_MOMENTS }
+    {
+        self.table
+            .shared
+            .load::<FindsMoments>(&mut section.seat, MOMENTS)
+    }
+
+    /// Loads the reach and returns it: all sections that were ever entered have numbers below it.
+    pub(crate) fn load_reach(&self, section: &mut Section) -> u16
+        requires { IsSectionOf self.now section.old }
+        ensures looks { SeesOthers section.old section.new }
+        ensures within { result ≤ self.now.count }
+        ensures beyond { (q : ℕ) → result ≤ q → HasNoneOf q section.new.known.run }
+    {
+        let reach = self
+            .table
+            .shared
+            .load::<FindsReach>(&mut section.seat, REACH);
+        reach.min(self.count as u64) as u16
+    }
+
+    /// Loads the word of section number `of` and returns it.
+    pub(crate) fn load_word(&self, section: &mut Section, of: u16) -> u64
+        requires own { IsSectionOf self.now section.old }
+        requires range { of < self.now.count }
+        ensures looks { SeesOthers section.old section.new }
+        ensures found { result ≡ word_in of section.new.known.run }
+    {
+        let place = FIRST_SECTION + 8 * of as usize;
+        self.table
+            .shared
+            .load::<FindsWord>(&mut section.seat, place)
+    }
+
+    /// Makes the reach take in `section`, if it doesn't yet.
+    pub(crate) fn count_section(&self, section: &mut Section)
+        requires { IsSectionOf self.now section.old }
+        ensures { StartsCounting section.old section.new }
+    {
+        if section.counted {
+            return;
+        }
+        let next = section.number as u64 + 1;
+        self.table
+            .shared
+            .fetch_max::<Counts>(&mut section.seat, REACH, next);
+        section.counted = true;
+    }
+
+    /// Stores that `section`, which isn't open and which looks take in, is entered with so many moments. The owner knows of as many.
+    pub(crate) fn store_entered(&self, section: &mut Section, moments: u64)
+        requires own { IsSectionOf self.now section.old }
+        requires outside { ¬ IsInside section.old }
+        requires counted { section.old.known.counted ≡ true }
+        requires moments { (moments ≤ MOST_MOMENTS) × (moments ≡ moments_in section.old.known.run) }
+        ensures { Enters section.old section.new }
+    {
+        let place = FIRST_SECTION + 8 * section.number as usize;
+        let word = moments + 1;
+        self.table
+            .shared
+            .store::<Entering>(&mut section.seat, place, word);
+        section.word = word;
+    }
+
+    /// Stores that `section`, which is open, is left.
+    pub(crate) fn store_left(&self, section: &mut Section)
+        requires own { IsSectionOf self.now section.old }
+        requires inside { IsInside section.old }
+        ensures { Leaves section.old section.new }
+    {
+        let place = FIRST_SECTION + 8 * section.number as usize;
+        self.table
+            .shared
+            .store::<Leaving>(&mut section.seat, place, 0);
+        section.word = 0;
+    }
+
+    /// Takes a moment if `expected` have been taken up to now, which are fewer than `MOST_MOMENTS`. Else more had been taken.
+    pub(crate) fn take_next(&self, section: &mut Section, expected: u64)
+        requires own { IsSectionOf self.now section.old }
+        requires fewer { (expected < MOST_MOMENTS) × (expected ≡ moments_in section.old.known.run) }
+        ensures { TakesNext expected section.old section.new }
+    {
+        self.table
+            .shared
+            .compare_exchange::<Taking>(&mut section.seat, MOMENTS, expected, expected + 1);
+    }
+}
