@@ -784,6 +784,7 @@ int main(void) {
     test_waves();
     test_values();
     if (!failures)
-        puts("passed: threads that read while others change keys of all lengths, or make nodes merge, threads where few records are to spare, and threads that are stopped");
+        puts("passed: threads that read while others change keys of all lengths, or make nodes merge, threads where few records are to spare, and "
+             "threads that are stopped");
     return failures;
 }

@@ -15,7 +15,7 @@ mod packs;
 mod pairs;
 mod refusals;
 mod scans;
-mod sections;
+mod sectioning;
 mod slot;
 mod status;
 mod stock;

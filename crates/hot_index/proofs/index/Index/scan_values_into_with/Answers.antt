@@ -11,7 +11,7 @@ use Rattle.hot_index_calls.proofs.Noting.{fits_then, looked}
 use Rattle.hot_index.proofs.Counted.{settled_on}
 use Rattle.hot_index.proofs.Reading.{values_read}
 use Rattle.hot_index_calls.proofs.Scanned.{scan_refused, scan_settled}
-use Rattle.hot_index.proofs.range_values.Index.scan_values_into_with.Goals as goal
+use Rattle.hot_index.proofs.index.Index.scan_values_into_with.Goals as goal
 
 pub unpin-requires : goal.unpin-requires
 unpin-requires g c =

@@ -1,6 +1,6 @@
 -- The next section was opened, or none.
 use Rattle.hot_c.proofs.Sectioned.{none_kept, none_of, none_opened, opened_next, some_of}
-use Rattle.hot_c.proofs.sections.hot_open_section.Goals as goal
+use Rattle.hot_c.proofs.sectioning.hot_open_section.Goals as goal
 
 pub returns-in-Ok-Some-clause-opened : goal.returns-in-Ok-Some-clause-opened
 returns-in-Ok-Some-clause-opened c was has none =

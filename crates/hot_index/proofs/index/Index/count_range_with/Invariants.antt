@@ -1,6 +1,6 @@
--- A scan adds no note.
+-- A count adds no note.
 use Rattle.rowex_table.specs.Runs.{silent}
-use Rattle.hot_index.proofs.range_values.Index.scan_values_into_with.Given as goal
+use Rattle.hot_index.proofs.index.Index.count_range_with.Given as goal
 
 abbrev pub ghost-unpin : goal.ghost-unpin
 ghost-unpin g a = silent
