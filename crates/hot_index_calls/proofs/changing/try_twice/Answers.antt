@@ -61,10 +61,10 @@ returns-then-may_find_free_record g c =
       lacks = λ is. lacks_from_before table.layout c.make_attempt.new.seat.known.pass c.make_attempt.new.seat.known.pass c.make_attempt.new.seat.known.failed c.make_attempt.new.seat.known.failed c.args.seat.now.known.steps c.collect_round-round.new.seat.known.steps
           (nodes_among c.make_attempt.new.scratch.build.made.items) later refl refl (c.make_attempt.ensures.lacks is);
       few = (
-        let count = round_few round in
-        let twice = twice_few call table.layout k (pass_of c.make_attempt-first.new.seat) (first.replied.refused.full (full_fault c.in-Some.lacks)) in
-        omega (arith, c.make_attempt-first.ensures.few, count, c.make_attempt.ensures.few, twice)
-      );
+          let count = round_few round in
+          let twice = twice_few call table.layout k (pass_of c.make_attempt-first.new.seat) (first.replied.refused.full (full_fault c.in-Some.lacks)) in
+          omega (arith, c.make_attempt-first.ensures.few, count, c.make_attempt.ensures.few, twice)
+          );
     }
 
 pub returns : goal.returns
@@ -103,9 +103,9 @@ returns g c =
           (lacks_still (key_of call) k (c.make_attempt-first.new.seat, c.make_attempt-first.new.gate) (c.collect_round-round.new.seat, c.collect_round-round.new.gate) (c.pin_and_unpin.new.seat, c.pin_and_unpin.new.gate) round again.failed again.unnoted.number _
           (c.make_attempt-first.ensures.lacks is));
       few = (
-        let count = round_few round in
-        let twice = twice_few call table.layout k (pass_of c.make_attempt-first.new.seat) (first.replied.refused.full (full_fault c.in-Some.lacks)) in
-        omega (arith, c.make_attempt-first.ensures.few, count, again.steps, twice)
-      );
+          let count = round_few round in
+          let twice = twice_few call table.layout k (pass_of c.make_attempt-first.new.seat) (first.replied.refused.full (full_fault c.in-Some.lacks)) in
+          omega (arith, c.make_attempt-first.ensures.few, count, again.steps, twice)
+          );
       asked = subst (λ (z : Result Reply TryFault). HasAsked table g.G.Gate.becomes (AreTries table g.G.Gate.becomes call z) call z (c.args.seat.now, c.args.gate.now) (c.pin_and_unpin.new.seat, c.pin_and_unpin.new.gate)) (sym c.in-Some.ensures.some) whole;
     }
