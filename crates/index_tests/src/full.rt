@@ -184,7 +184,7 @@ pub fn fill_twice<R: Abort + Wait>(rt: &R, alloc: Global, nodes: u32) -> u32 {
 fn a_full_index_can_be_emptied(rt: HostRuntime) {
     assert!(rt; fill_twice(&rt, rt.alloc(), 1) == 2);
     assert!(rt; fill_twice(&rt, rt.alloc(), 2) == 32);
-    for nodes in 3..=100 {
+    for nodes in [3, 4, 5, 6, 7, 8, 9, 10, 12, 15, 20, 50, 100] {
         let _ = fill_twice(&rt, rt.alloc(), nodes);
     }
 }
