@@ -62,16 +62,6 @@ module _ (c : BareCore) (q : ℕ) where
     ];
   }
 
-  -- a leaf that is the pass's and ready, for another leaf, or for none
-  pub hand_leaf : (n m : ℕ) (k l : Key) (v u : ℕ) → c.fate (a_leaf m) ≡ Ready q → c.heap.leaves m ≡ record { key = l; value = u } →
-      IsAtHand c q (leaf n k v) (leaf m l u)
-  hand_leaf n m k l v u f w = record {
-    built = tt;
-    shown = w;
-    comes = λ i e. inr (ap c.fate e ∙ f);
-    goes = λ o e. absurd (leaf_node e);
-  }
-
   -- the new leaf beside the part
   pub hand_grown : (u : Bool) (p : ℕ) (s r : Tree) (x : Item) → IsAtHand c q s r → c.fate (a_leaf x.number) ≡ Ready q →
       c.heap.leaves x.number ≡ record { key = x.key; value = x.value } → IsAtHand c q s (grown u p r x)

@@ -108,13 +108,6 @@ module _ (c : BareCore) (q : ℕ) (law : IsLawfulState (view c)) (t : Tree) (now
       let (u, at) = stands_at k (Leaf j) s in
       subst (StandsAt k (Leaf j) s) (leaf_of c u (shown_within c.heap at.place (shown_now c law t now)) at.shows) at
 
-  -- A leaf may stand at each spot.
-  pub leaf_low : (k : Key) (d : Entry) (s : HoldsSpot c q k d) (n : ℕ) → IsLowAt s (Leaf n)
-  leaf_low k d (by_anchor lock root) n = tt
-  leaf_low k d (by_node o locked names) n =
-      let (b, v, pg) = stands_now c law t now o locked.linked locked.fate in
-      lower_positive (c.heap.nodes o).fixed.height b (built_within v (built_now c law t now)).1
-
   -- The publish, with what it trades.
   pub published_at : (k : Key) (d : Entry) (s : HoldsSpot c q k d) (u : Tree) (at : StandsAt k d s u) (r : Tree) (e : Entry) → subtrie r ≡ Place e → IsLowAt s e → IsAtHand c q u r →
       (n : ℕ) (new gone : List Rec) → IsTrade c q u r new gone → IsOneOf (a_leaf n) new ⊎ IsOneOf (a_leaf n) gone → IsTrie (put at.place r) →

@@ -1,4 +1,4 @@
--- What a writer has in words makes its publish legal: a pair of leaves, an upsert, and the first key.
+-- What a writer has in words makes its publish legal: a pair of leaves, and the first key.
 use Rattle.std.proofs.Common.{◌≡◌, ◌≢◌, inl, inr, ℕ, [], ◌∷◌, Bool, true, false, refl, ap, sym, subst, Some, None}
 use Rattle.key_bits.specs.Key.{IsKey}
 use Rattle.tries.specs.Keys.{Key, bit, AgreeBelow}
@@ -9,22 +9,22 @@ use Rattle.tries.specs.Content.{Item, item}
 use Rattle.tries.specs.Changes.{IsAdded}
 use Rattle.tries.specs.Affected.{subtrie_forked}
 use Rattle.versions.specs.declared.Rec.TheVariants.{Node as a_node, Leaf as a_leaf}
-use Rattle.version_laws.specs.Writer.{added_change, replaced_change}
+use Rattle.version_laws.specs.Writer.{added_change}
 use Rattle.tries.proofs.Tries.{trie_within}
 use Rattle.tries.proofs.Affected.{grown_subtrie, differ_first_through}
 use Rattle.tries.proofs.Places.{grown}
-use Rattle.tries.proofs.Adding.{added_here, added_in_whole, exchanged_leaf, exchanged_in_whole}
+use Rattle.tries.proofs.Adding.{added_here, added_in_whole}
 use Rattle.versions.proofs.Heaps.{shown_within}
 use Rattle.version_laws.proofs.Now.{shown_now, trie_now}
-use Rattle.version_laws.proofs.Hands.{hand_around, hand_grown, hand_leaf, hand_stay, added_around}
-use Rattle.version_laws.proofs.Holding.{StandsAt, newest_tree_if_spot_held, leaf_at, leaf_low, published_at}
+use Rattle.version_laws.proofs.Hands.{hand_around, hand_grown, hand_stay, added_around}
+use Rattle.version_laws.proofs.Holding.{newest_tree_if_spot_held, leaf_at, published_at}
 use Rattle.version_laws.proofs.Insertions.{first_key}
 use Rattle.version_laws.proofs.Standing.{now_empty}
 use Rattle.versions.specs.Trades.{HasTraded}
-use Rattle.version_laws.proofs.Trading.{grown_trade, around_trade, leaf_trade}
+use Rattle.version_laws.proofs.Trading.{grown_trade, around_trade}
 use Rattle.version_laws.proofs.Differing.{trade_differs}
 use Rattle.version_laws.proofs.Rising.{new_node}
-use Rattle.version_laws.specs.Statements.{PairAtSpot, UpsertAtSpot, FirstKey}
+use Rattle.version_laws.specs.Statements.{PairAtSpot, FirstKey}
 
 -- A leaf with a new one beside it, from whose key its own differs first at `p`.
 pair_added : (x : Item) (p j a : ℕ) (k : Key) → IsKey x.key → IsKey k → AgreeBelow p x.key k → bit x.key p ≢ bit k p → IsAdded x p (leaf j k a) (grown (bit x.key p) p (leaf j k a) x)
@@ -62,17 +62,6 @@ pair_at_spot c q law x p new j m g s alone agree differ subtrie_made low heap ro
     let whole = added_in_whole at.place (node m g both) x p (trie_now c law t now) (at.path p (λ h. absurd h) alone) adds in
     published_at c q law t now x.key (Leaf j) s u at (node m g both) (Node m g.height) refl low hand x.number (a_node m ∷ a_leaf x.number ∷ []) [] trade (inl (inr (inl refl)))
     whole.trie (added_change q x) refl (x.number, whole.more) heap root st
-
--- Another leaf of the key, at the leaf's spot.
-pub upsert_at_spot : UpsertAtSpot
-upsert_at_spot c q law x new j s same heap root st =
-    let (t, now) = newest_tree_if_spot_held c q law s in
-    let a : ℕ = (c.heap.leaves j).value in
-    let at : StandsAt c q law t now x.key (Leaf j) s (leaf j x.key a) = subst (λ k. StandsAt c q law t now x.key (Leaf j) s (leaf j k a)) same (leaf_at c q law t now x.key j s) in
-    let r : Tree = leaf x.number x.key x.value in
-    let whole = exchanged_in_whole at.place r (item j x.key a) x (trie_now c law t now) (exchanged_leaf j x.number x.key a x.value new.key) in
-    published_at c q law t now x.key (Leaf j) s (leaf j x.key a) at r (Leaf x.number) refl (leaf_low c q law t now x.key (Leaf j) s x.number) (hand_leaf c q j x.number x.key x.key a x.value new.fate new.words) x.number
-    (a_leaf x.number ∷ []) (a_leaf j ∷ []) (leaf_trade c q law t now j x.key a x at.place new) (inl (inl refl)) whole.trie (replaced_change q x) refl (x.number, (item j x.key a, refl, whole.exchange)) heap root st
 
 -- The first key.
 pub first_root : FirstKey

@@ -121,15 +121,3 @@ module _ (c : BareCore) (q : ℕ) (law : IsLawfulState (view c)) (t : Tree) (now
     apart = a.apart;
   }
 
-  -- one leaf for another
-  pub leaf_trade : (j : ℕ) (k : Key) (a : ℕ) (x : Item) → Within (leaf j k a) t → IsNewLeaf c q x → IsTrade c q (leaf j k a) (leaf x.number x.key x.value) (a_leaf x.number ∷ []) (a_leaf j ∷ [])
-  leaf_trade j k a x v new = record {
-    trade = record {
-      comes = λ i h. inr (inl h);
-      came = λ i h. elim h [ inl e ↦ e | inr y ↦ absurd y ];
-      goes = λ i h. inr (inl h);
-      went = λ i h. elim h [ inl e ↦ (e, λ o. old_now v i e (ap c.fate o ∙ new.fate)) | inr y ↦ absurd y ];
-    };
-    ready = λ i h. elim h [ inl e ↦ ap c.fate e ∙ new.fate | inr y ↦ absurd y ];
-    apart = ((λ h. absurd h), tt);
-  }

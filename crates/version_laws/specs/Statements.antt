@@ -20,7 +20,7 @@ use Rattle.versions.specs.Core.{BareCore, view}
 use Rattle.versions.specs.declared.Pin.{Pin}
 use Rattle.versions.specs.Told.{TellChanges, items_of}
 use Rattle.versions.specs.Steps.{IsVersionPublish}
-use Rattle.version_laws.specs.Writer.{added_change, replaced_change, removed_change, IsFoundBelow, IsNewLeaf, Newcomer}
+use Rattle.version_laws.specs.Writer.{added_change, removed_change, IsFoundBelow, IsNewLeaf, Newcomer}
 use Rattle.version_laws.specs.Spots.{HoldsSpot, IsLowAt, AffectsSpotAloneInCore, IsStoredAt}
 use Rattle.version_laws.specs.Rise.{IsNewSubtrie, IsEntryFor, IsUpper, IsLeafOf, IsBesideNode, subtrie_merged, entry, IsRise, linked_for_entry, linked_by_rise, unlinked_by_rise}
 use Rattle.version_laws.specs.Scan.{Pair, Range, in_order_taken, IsRooted, IsPlaced, IsShaped, IsRead, EntryStoodSince}
@@ -64,13 +64,6 @@ abbrev pub FirstKey : Type 0
 FirstKey =
     (c : BareCore) (q : ℕ) → IsLawfulState (view c) → (x : Item) → c.anchor ≡ Some q → c.root ≡ None → IsNewLeaf c q x →
     IsPublished c c.heap (Some (Leaf x.number)) (added_change q x) (a_leaf x.number ∷ []) []
-
--- Upsert of a held key: a new leaf in the place of the old one.
-abbrev pub UpsertAtSpot : Type 0
-UpsertAtSpot =
-    (c : BareCore) (q : ℕ) → IsLawfulState (view c) → (x : Item) → IsNewLeaf c q x → (j : ℕ) (s : HoldsSpot c q x.key (Leaf j)) → (c.heap.leaves j).key ≡ x.key →
-    (heap : Heap) (root : Option Entry) → IsStoredAt s heap root (Leaf x.number) →
-    IsPublished c heap root (replaced_change q x) (a_leaf x.number ∷ []) (a_leaf j ∷ [])
 
 -- Removal of an entry: what is left of its node, one entry or a new node, takes the node's place.
 abbrev pub RemoveAtSpot : Type 0

@@ -1,7 +1,7 @@
 //! The laws of versions for writers, searches and scans. The functions do nothing: their contracts are the laws.
 
 ghost use Rattle.version_laws.specs.Ways.{FoundSame, OneBody, PlacedSame, RootedSame, StillGrows, StillPlaced, StillRooted, WayBegins, WayEnds, WayGoesOn, WayIsBelow, WayOfLeaf};
-ghost use Rattle.version_laws.specs.Statements.{FirstKey, FoundIsKept, GetEnds, InsertAtSpot, LedPlaced, LoadsLeaf, LoadsNone, LoadsPlace, LoadsRoot, LoadsShape, MergeAtSpot, PairAtSpot, RemoveAtSpot, RemoveLast, ScanIsLawful, UpperGoesOn, UpsertAtSpot};
+ghost use Rattle.version_laws.specs.Statements.{FirstKey, FoundIsKept, GetEnds, InsertAtSpot, LedPlaced, LoadsLeaf, LoadsNone, LoadsPlace, LoadsRoot, LoadsShape, MergeAtSpot, PairAtSpot, RemoveAtSpot, RemoveLast, ScanIsLawful, UpperGoesOn};
 
 /// The store of the entry that has risen from a locked node, at the locked spot that names it, is a legal publish that adds the key.
 /// If the spot is in a node, no other entry there is affected, and the new one is lower than that node.
@@ -23,11 +23,6 @@ pub fn pair_at_spot_adds_key()
 /// The publish of a new leaf at an empty root, by the pass that has locked the anchor, is legal and adds the key.
 pub fn first_leaf_adds_key()
     ensures { FirstKey }
-{}
-
-/// The publish of a new leaf in the place of one with the same key, at a locked spot, is legal and replaces its value.
-pub fn upsert_at_spot_replaces_value()
-    ensures { UpsertAtSpot }
 {}
 
 /// The publish of what is left of a leaf's locked node, at the locked spot that names this node, is legal and removes the key.
