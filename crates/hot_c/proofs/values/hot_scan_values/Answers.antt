@@ -19,8 +19,8 @@ returns-in-Ok-clause-call c = values_listed c.args.from.now c.args.upto.now _ _ 
       more = search rules;
     })
 
-pub returns-in-Err-clause-call : goal.returns-in-Err-clause-call
-returns-in-Err-clause-call c = values_refused c.args.from.now c.args.upto.now _ _ (length c.args.room.now) _ _ _ _ c.lend-opened.ensures.value refl
+pub returns-clause-call : goal.returns-clause-call
+returns-clause-call c = values_refused c.args.from.now c.args.upto.now _ _ (length c.args.room.now) _ _ _ _ c.lend-opened.ensures.value refl
     (of_key c.args.from.now _ _ c.in-Ok-Ok.is-0 c.set_bytes.ensures.fits c.set_bytes.ensures.ok)
     (of_key c.args.upto.now _ _ c.in-Ok-Ok.is-1 c.set_bytes-2.ensures.fits c.set_bytes-2.ensures.ok)
     refl _ _ _ refl _ _ c.in-Err.ensures.call refl refl
