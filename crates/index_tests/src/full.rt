@@ -130,7 +130,8 @@ fn scan_map(rt: &impl Abort, alloc: Global, map: &PlainIndex) -> Result<Scan, Al
     map.scan(alloc, &from, &upto, usize::MAX)
 }
 
-/// Asserts that scans of the index and of the map have the same pairs, and that the index counts as many. Each is made again where memory is refused once.
+/// Asserts that scans of the index and of the map have the same pairs, and that the index counts as many. Each scan is made again where
+/// memory is refused once.
 fn expect_same_pairs(rt: &impl Abort, alloc: Global, guest: &mut Guest, map: &PlainIndex) {
     let ours = match scan_all(rt, alloc, guest) {
         Ok(scan) => Ok(scan),
