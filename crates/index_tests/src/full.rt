@@ -1,12 +1,11 @@
 //! Indexes that are filled to the last record, beside a map: held keys take new values there, all can be removed, and as many go in again.
 //! What is refused memory is asked for again.
 
-ghost use Rattle.std.specs.Prelude.{◌<◌, ◌≤◌, All};
-ghost use Rattle.hot_index_calls.specs.Passes.{Owns};
+ghost use Rattle.std.specs.Prelude.{◌<◌, ◌≤◌};
 
 use crate::shared::*;
 use finite_map::Scan;
-use hot_index::{Call, Handle, Index, Key, NoGate, Pass, Reply, create};
+use hot_index::{Call, Handle, Index, Key, NoGate, Reply};
 use plain_index::PlainIndex;
 use std::alloc::{AllocError, Global};
 use std::process::Abort;
@@ -45,26 +44,6 @@ fn numbered_key(rt: &impl Abort, number: u32) -> Key
     requires { number < 1000 }
 {
     key(rt, &[(number * 37 % 256) as u8, (number / 256) as u8])
-}
-
-/// An index of `nodes` node records and a leaf record less than `MANY`, and its one pass. Where memory is refused once, the next call makes it.
-fn make_small_index(rt: &impl Abort, alloc: Global, nodes: u32) -> (Index, Vec<Pass>)
-    ensures { All (Owns result.0) result.1.items }
-{
-    match create(alloc, 1, nodes, MANY - 1) {
-        Ok(made) => made,
-        Err(_) => make_small_index_again(rt, alloc, nodes),
-    }
-}
-
-/// Makes the index of `make_small_index` at a second try. Panics if that is refused too.
-fn make_small_index_again(rt: &impl Abort, alloc: Global, nodes: u32) -> (Index, Vec<Pass>)
-    ensures { All (Owns result.0) result.1.items }
-{
-    match create(alloc, 1, nodes, MANY - 1) {
-        Ok(made) => made,
-        Err(_) => panic!(rt; "no index"),
-    }
 }
 
 /// The reply of `map` to the call of `deed` with `key`, made again where memory is refused once.
@@ -168,7 +147,7 @@ fn fill<R: Abort + Wait>(rt: &R, alloc: Global, guest: &mut Guest, map: &mut Pla
 
 /// Fills an index of `nodes` node records, removes all keys, and fills it again. Asserts that as many keys go in. Returns how many.
 pub fn fill_twice<R: Abort + Wait>(rt: &R, alloc: Global, nodes: u32) -> u32 {
-    let (index, mut passes) = make_small_index(rt, alloc, nodes);
+    let (index, mut passes) = make_index_of_size(rt, alloc, 1, nodes, MANY - 1);
     let mut guest = Handle::new(&index, pop_pass(rt, &index, &mut passes));
     let mut map = PlainIndex::new(alloc);
     let count = fill(rt, alloc, &mut guest, &mut map);

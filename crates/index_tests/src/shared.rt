@@ -24,20 +24,40 @@ pub fn ends(rt: &impl Abort) -> (Key, Key) {
 pub fn make_index(rt: &impl Abort, alloc: Global, passes: u32) -> (Index, Vec<Pass>)
     ensures { All (Owns result.0) result.1.items }
 {
-    match create(alloc, passes, 2, 8) {
+    make_index_of_size(rt, alloc, passes, 2, 8)
+}
+
+/// An index of these numbers of passes, node and leaf records, and its passes. Where memory is refused once, the next call makes it. Panics
+/// if a number is out of range.
+pub fn make_index_of_size(
+    rt: &impl Abort,
+    alloc: Global,
+    passes: u32,
+    nodes: u32,
+    leaves: u32,
+) -> (Index, Vec<Pass>)
+    ensures { All (Owns result.0) result.1.items }
+{
+    match create(alloc, passes, nodes, leaves) {
         Ok(made) => made,
         Err(fault) => {
             assert!(rt; matches!(fault, IndexFault::Memory));
-            make_index_again(rt, alloc, passes)
+            make_index_again(rt, alloc, passes, nodes, leaves)
         }
     }
 }
 
-/// Creates the index of `make_index` at a second try. Panics if that is refused too.
-fn make_index_again(rt: &impl Abort, alloc: Global, passes: u32) -> (Index, Vec<Pass>)
+/// Creates the index of `make_index_of_size` at a second try. Panics if that is refused too.
+fn make_index_again(
+    rt: &impl Abort,
+    alloc: Global,
+    passes: u32,
+    nodes: u32,
+    leaves: u32,
+) -> (Index, Vec<Pass>)
     ensures { All (Owns result.0) result.1.items }
 {
-    match create(alloc, passes, 2, 8) {
+    match create(alloc, passes, nodes, leaves) {
         Ok(made) => made,
         Err(_) => panic!(rt; "no index"),
     }
