@@ -1,0 +1,4 @@
+-- The lemmas of the crate.
+pub mod Fates
+pub mod Lone
+pub mod Published
