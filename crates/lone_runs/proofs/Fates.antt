@@ -18,13 +18,25 @@ pub record IsClosed (P : Fate → Type 0) : Type 0 where
   pub free : P Free
   pub held : (q : ℕ) → P (Held q)
   pub ready : (q : ℕ) → P (Ready q)
-  pub marked : (since last q epoch : ℕ) → P (Unlinked since last q) → P (Marked since last epoch)
+
+-- and of what a mark makes of it, if the step is one
+abbrev pub MarksWell : (Fate → Type 0) → Act → Type 0
+MarksWell P (Mark r epoch) = (since last q : ℕ) → P (Unlinked since last q) → P (Marked since last epoch)
+MarksWell P act = Unit {0}
 
 pub out_closed : IsClosed IsOut
-out_closed = record { free = tt; held = λ q. tt; ready = λ q. tt; marked = λ since last q epoch h. tt }
+out_closed = record { free = tt; held = λ q. tt; ready = λ q. tt }
+
+pub out_marks : (act : Act) → MarksWell IsOut act
+out_marks (Mark r epoch) = λ since last q h. tt
+out_marks _ = tt
 
 pub unused_closed : IsClosed IsUnused
-unused_closed = record { free = tt; held = λ q. tt; ready = λ q. tt; marked = λ since last q epoch h. absurd h }
+unused_closed = record { free = tt; held = λ q. tt; ready = λ q. tt }
+
+pub unused_marks : (act : Act) → MarksWell IsUnused act
+unused_marks (Mark r epoch) = λ since last q h. absurd h
+unused_marks _ = tt
 
 module _ (P : Fate → Type 0) (closed : IsClosed P) where
   -- one record gets another fate
@@ -39,13 +51,13 @@ module _ (P : Fate → Type 0) (closed : IsClosed P) where
   claim_kept s q r (Unlinked since last p) i = λ was. was
   claim_kept s q r (Marked since last epoch) i = λ was. was
 
-  mark_kept : (s : Shared) (r : Rec) (epoch : ℕ) (f : Fate) → s.fate r ≡ f → (i : Rec) → P (s.fate i) → P ((marked s r epoch f).fate i)
-  mark_kept s r epoch (Unlinked since last p) is i = given (unlocked s r) r (Marked since last epoch) (λ was. closed.marked since last p epoch (subst P is was)) i
-  mark_kept s r epoch Free is i = λ was. was
-  mark_kept s r epoch (Held p) is i = λ was. was
-  mark_kept s r epoch (Ready p) is i = λ was. was
-  mark_kept s r epoch (InTree since) is i = λ was. was
-  mark_kept s r epoch (Marked since last m) is i = λ was. was
+  mark_kept : (s : Shared) (r : Rec) (epoch : ℕ) → ((since last q : ℕ) → P (Unlinked since last q) → P (Marked since last epoch)) → (f : Fate) → s.fate r ≡ f → (i : Rec) → P (s.fate i) → P ((marked s r epoch f).fate i)
+  mark_kept s r epoch well (Unlinked since last p) is i = given (unlocked s r) r (Marked since last epoch) (λ was. well since last p (subst P is was)) i
+  mark_kept s r epoch well Free is i = λ was. was
+  mark_kept s r epoch well (Held p) is i = λ was. was
+  mark_kept s r epoch well (Ready p) is i = λ was. was
+  mark_kept s r epoch well (InTree since) is i = λ was. was
+  mark_kept s r epoch well (Marked since last m) is i = λ was. was
 
   either : (b : Bool) (s t : Shared) (i : Rec) → P (s.fate i) → P (t.fate i) → P ((if b then s else t).fate i)
   either true s t i one other = one
@@ -64,26 +76,26 @@ module _ (P : Fate → Type 0) (closed : IsClosed P) where
   anchor_kept s q (Some p) i = λ was. was
 
   -- a step that is no publish
-  pub fate_kept : (c : Core) (q : ℕ) (act : Act) → IsUnpublished act → (i : Rec) → P (c.fate i) → P ((after c q act).fate i)
-  fate_kept c q (Claim r found) plain i = claim_kept c.shared q r (c.fate r) i
-  fate_kept c q (Fill r offset w) plain i = λ was. was
-  fate_kept c q (MakeReady r) plain i = given c.shared r (Ready q) (λ was. closed.ready q) i
-  fate_kept c q (Release r) plain i = given c.shared r Free (λ was. closed.free) i
-  fate_kept c q (LoadRef spot w) plain i = λ was. was
-  fate_kept c q (LoadFixed r offset w) plain i = λ was. was
-  fate_kept c q (Lock Anchor found) plain i = anchor_kept c.shared q c.anchor i
-  fate_kept c q (Lock (NodeTarget n) found) plain i = λ was. either (nat_eq found (state_word Live)) (with_lock c.shared n (Some q)) c.shared i was was
-  fate_kept c q (Unlock Anchor) plain i = λ was. was
-  fate_kept c q (Unlock (NodeTarget n)) plain i = λ was. was
-  fate_kept c q (Publish spot w) plain i = absurd plain
-  fate_kept c q (Mark r epoch) plain i = mark_kept c.shared r epoch (c.fate r) refl i
-  fate_kept c q (LoadEpoch w) plain i = λ was. was
-  fate_kept c q (Advance expected found) plain i = λ was. either (nat_eq c.epoch expected) (with_epoch c.shared (suc c.epoch)) c.shared i was was
-  fate_kept c q (SetPin w) plain i = λ was. was
-  fate_kept c q ClearPin plain i = λ was. was
-  fate_kept c q (LoadPin o w) plain i = λ was. was
-  fate_kept c q (LoadState r w) plain i = λ was. was
-  fate_kept c q (GiveBack r epoch found) plain i = given_back_kept c.shared r epoch (c.fate r) i
+  pub fate_kept : (c : Core) (q : ℕ) (act : Act) → IsUnpublished act → MarksWell P act → (i : Rec) → P (c.fate i) → P ((after c q act).fate i)
+  fate_kept c q (Claim r found) plain well i = claim_kept c.shared q r (c.fate r) i
+  fate_kept c q (Fill r offset w) plain well i = λ was. was
+  fate_kept c q (MakeReady r) plain well i = given c.shared r (Ready q) (λ was. closed.ready q) i
+  fate_kept c q (Release r) plain well i = given c.shared r Free (λ was. closed.free) i
+  fate_kept c q (LoadRef spot w) plain well i = λ was. was
+  fate_kept c q (LoadFixed r offset w) plain well i = λ was. was
+  fate_kept c q (Lock Anchor found) plain well i = anchor_kept c.shared q c.anchor i
+  fate_kept c q (Lock (NodeTarget n) found) plain well i = λ was. either (nat_eq found (state_word Live)) (with_lock c.shared n (Some q)) c.shared i was was
+  fate_kept c q (Unlock Anchor) plain well i = λ was. was
+  fate_kept c q (Unlock (NodeTarget n)) plain well i = λ was. was
+  fate_kept c q (Publish spot w) plain well i = absurd plain
+  fate_kept c q (Mark r epoch) plain well i = mark_kept c.shared r epoch well (c.fate r) refl i
+  fate_kept c q (LoadEpoch w) plain well i = λ was. was
+  fate_kept c q (Advance expected found) plain well i = λ was. either (nat_eq c.epoch expected) (with_epoch c.shared (suc c.epoch)) c.shared i was was
+  fate_kept c q (SetPin w) plain well i = λ was. was
+  fate_kept c q ClearPin plain well i = λ was. was
+  fate_kept c q (LoadPin o w) plain well i = λ was. was
+  fate_kept c q (LoadState r w) plain well i = λ was. was
+  fate_kept c q (GiveBack r epoch found) plain well i = given_back_kept c.shared r epoch (c.fate r) i
 
 -- A publish links no record that was not in the tree and not made ready.
 pub next_out : (now q : ℕ) (linked : Bool) (f : Fate) → IsOut f → ((p : ℕ) → f ≢ Ready p) → IsOut (next_fate now q linked f)

@@ -2,3 +2,4 @@
 pub mod Fates
 pub mod Lone
 pub mod Published
+pub mod Timely

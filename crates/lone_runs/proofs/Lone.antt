@@ -31,7 +31,7 @@ use Rattle.rowex_table.specs.Runs.{Runs, Steps, StepsWith, silent}
 use Rattle.rowex_table.specs.Seats.{TableView, SeatView}
 use Rattle.rowex_table.proofs.Linking.{lead_rest}
 use Rattle.lone_runs.specs.Lone.{IsFreeAt, IsLone, IsOut, IsUnpublished, IsUnused, KeepsSpare}
-use Rattle.lone_runs.proofs.Fates.{fate_kept, out_closed, unused_closed}
+use Rattle.lone_runs.proofs.Fates.{fate_kept, out_closed, out_marks, unused_closed, unused_marks}
 
 -- ---- steps that lead from core to core
 pub lead_same : (c : Core) (xs : List Event) (d e : Core) → EventsLead c xs d → EventsLead c xs e → e ≡ d
@@ -109,8 +109,8 @@ module _ {G : Type 0} (table : TableView) (becomes : G → Event → G → Type 
       record {
         core = c;
         lone = there;
-        out = λ r was. subst (λ (z : Core). IsOut (z.fate r)) (sym is) (fate_kept IsOut out_closed c q act plain r was);
-        unused = λ r was. subst (λ (z : Core). IsUnused (z.fate r)) (sym is) (fate_kept IsUnused unused_closed c q act plain r was);
+        out = λ r was. subst (λ (z : Core). IsOut (z.fate r)) (sym is) (fate_kept IsOut out_closed c q act plain (out_marks act) r was);
+        unused = λ r was. subst (λ (z : Core). IsUnused (z.fate r)) (sym is) (fate_kept IsUnused unused_closed c q act plain (unused_marks act) r was);
         known = inr (step.event.knows, subst (λ z. Knows z b.0.known) (sym is) (step_knows act said a b step), subst IsLawful (sym is) (step_lawful act said a b step));
       }
 

@@ -1,14 +1,16 @@
 -- In a table with one pass: steps of a change leave a spare node record, and what is free, and a walk finds what is free.
-use Rattle.std.proofs.Common.{◌≡◌, ◌≢◌, ℕ, zero, suc, ◌+◌, ◌<◌, ◌≤◌, List, [], ◌∷◌, ◌++◌, Option, None, Some, inl, inr, ◌⊎◌, ⊎_elim, refl, sym, ap, subst, ◌∙◌, arith, map}
-use Rattle.std.specs.Prelude.{All, Contains}
+use Rattle.std.proofs.Common.{◌≡◌, ◌≢◌, ℕ, zero, suc, ◌+◌, ◌<◌, ◌≤◌, List, [], ◌∷◌, ◌++◌, Option, None, Some, inl, inr, ◌⊎◌, ⊎_elim, refl, sym, ap, subst, ◌∙◌, arith, map, ◌-◌, drop, get_or, length, Result, Ok, Err}
+use Rattle.std.specs.Prelude.{All, Contains, slice_get, slice_range, IfOk}
 use Rattle.std.proofs.lemmas.Bool.{cases_lt}
-use Rattle.std.proofs.lemmas.List.Elements.{All-weaker}
+use Rattle.std.proofs.lemmas.List.Elements.{All-cons, All-weaker}
+use Rattle.std.proofs.lemmas.Option.{slice_get-get_or}
+use Rattle.insert_cases.specs.declared.choice.PathNode.{PathNode}
 use Rattle.record_words.specs.declared.layout.Layout.{Layout}
 use Rattle.versions.specs.Core.{Fate, Free, Held, Ready, InTree, Unlinked, Marked}
 use Rattle.versions.specs.Trades.{IsOneOf}
 use Rattle.versions.specs.declared.Rec.{Rec}
 use Rattle.versions.specs.declared.Rec.TheVariants.{Node as a_node, Leaf as a_leaf}
-use Rattle.versions.proofs.Members.{all_of, map_of, of_map}
+use Rattle.versions.proofs.Members.{all_of, map_of, of_left, of_map}
 use Rattle.rowex_core.specs.declared.event.Act.{Act}
 use Rattle.rowex_core.specs.declared.event.Act.TheVariants.{Claim, LoadRef, LoadState, Publish}
 use Rattle.rowex_core.specs.declared.event.Event.{Event}
@@ -36,11 +38,18 @@ use Rattle.lone_runs.specs.Lone.{HasFree, HasRoom, HasSpare, IsFreeAt, IsLone, I
 use Rattle.lone_runs.proofs.Lone.{look_free, one_of, runs_free, runs_out, runs_spare, step_back}
 use Rattle.lone_runs.proofs.Published.{gone_out, publish_free, publish_spare}
 use Rattle.rowex_writing.specs.Building.{IsBuilding}
+use Rattle.rowex_writing.specs.Deeds.{gone_of_span, leaf_gone}
 use Rattle.rowex_writing.specs.Going.{TriesNoLock, WorksOn}
 use Rattle.rowex_writing.specs.Locks.{LoadsNoRoot, Tries}
+use Rattle.rowex_writing.specs.Merging.{no_step}
 use Rattle.rowex_writing.specs.Retiring.{AreInTable}
-use Rattle.rowex_writing.specs.Spare.{WillSpare, by_free, by_gone, by_kept}
+use Rattle.rowex_writing.specs.Spare.{WillSpare, WillSpareOne, by_free, by_gone, by_kept}
 use Rattle.rowex_writing.specs.Walks.{nodes_among}
+use Rattle.rowex_writing.specs.declared.deeds.Job.{Job}
+use Rattle.rowex_writing.specs.declared.deeds.Raised.{Raised}
+use Rattle.rowex_writing.specs.declared.plan.Full.{Full}
+use Rattle.rowex_writing.specs.declared.plan.Span.{Span}
+use Rattle.rowex_writing.proofs.Confirming.{drop_has, take_has}
 use Rattle.rowex_writing.proofs.Keeping.{reversed_has}
 use Rattle.rowex_writing.proofs.Runs.{plain_recalls, quiet_recalls}
 
@@ -73,17 +82,22 @@ module _ {G : Type 0} (table : TableView) (becomes : G → Event → G → Type 
   pub reads_spare : {entries n : ℕ} (a b : SeatView × G) → Reads table becomes entries n a b → KeepsSpare table.layout a.0 b.0
   reads_spare a b reads = runs_spare table becomes reads.acts a b (reads_plain reads.acts reads.below) reads.steps
 
+  looks_plain : (w : ℕ) (acts : List Act) → All IsBelowRoot acts → All IsUnpublished (LoadRef Root w ∷ acts)
+  looks_plain w acts below = All-cons IsUnpublished (LoadRef Root w) acts tt (reads_plain acts below)
+
   pub looks_spare : {entries n : ℕ} (a b : SeatView × G) → Looks table becomes entries n a b → KeepsSpare table.layout a.0 b.0
-  looks_spare a b looks was =
-      reads_spare looks.at b looks.rest (runs_spare table becomes (LoadRef Root looks.root.0 ∷ []) a looks.at (one_plain looks.root.0) (looks.at, looks.root.1, refl) was)
+  looks_spare a b looks = runs_spare table becomes (LoadRef Root looks.root.0 ∷ looks.rest.acts) a b (looks_plain looks.root.0 looks.rest.acts looks.rest.below) (looks.at, looks.root.1, looks.rest.steps)
+
+  pub act_spare : (act : Act) (a b : SeatView × G) → IsUnpublished act → Steps table becomes act a b → KeepsSpare table.layout a.0 b.0
+  act_spare act a b plain step = runs_spare table becomes (act ∷ []) a b (one plain) (b, step, refl)
     where
-      one_plain : (w : ℕ) → All IsUnpublished (LoadRef Root w ∷ [])
-      one_plain w zero d low = tt
-      one_plain w (suc i) d low = absurd (omega arith)
+      one : IsUnpublished act → All IsUnpublished (act ∷ [])
+      one plain zero d low = plain
+      one plain (suc i) d low = absurd (omega arith)
 
   -- what is free, if the pass has no record
   runs_room : (acts : List Act) (a b : SeatView × G) → All IsUnpublished acts → Runs table becomes acts a b → b.0.known.own ≡ [] → HasRoom table.layout a.0 → HasRoom table.layout b.0
-  runs_room acts a b plain run none (one, n, low, free) = (one, n, low, runs_free table becomes acts a b n plain run (λ o has is. absurd (subst (IsOneOf o) none has)) free)
+  runs_room acts a b plain run none (one, (n, low, free)) = (one, (n, low, runs_free table becomes acts a b n plain run (λ o has is. absurd (subst (IsOneOf o) none has)) free))
 
   pub goes_room : (a b : SeatView × G) → WorksOn table becomes a b → b.0.known.own ≡ [] → HasRoom table.layout a.0 → HasRoom table.layout b.0
   goes_room a b goes none room = runs_room goes.acts a b (goes_plain goes.acts goes.plain) goes.steps none room
@@ -94,9 +108,17 @@ module _ {G : Type 0} (table : TableView) (becomes : G → Event → G → Type 
   pub reads_room : {entries n : ℕ} (a b : SeatView × G) → Reads table becomes entries n a b → b.0.known.own ≡ [] → HasRoom table.layout a.0 → HasRoom table.layout b.0
   reads_room a b reads none room = runs_room reads.acts a b (reads_plain reads.acts reads.below) reads.steps none room
 
+  pub looks_room : {entries n : ℕ} (a b : SeatView × G) → Looks table becomes entries n a b → b.0.known.own ≡ [] → HasRoom table.layout a.0 → HasRoom table.layout b.0
+  looks_room a b looks none room = runs_room (LoadRef Root looks.root.0 ∷ looks.rest.acts) a b (looks_plain looks.root.0 looks.rest.acts looks.rest.below) (looks.at, looks.root.1, looks.rest.steps) none room
+
   -- ---- what a look finds
   pub look_finds : (n : ℕ) (a b : SeatView × G) → n < table.layout.nodes → Steps table becomes (LoadState (a_node n) 0) a b → HasFree table.layout b.0
   look_finds n a b low step = (n, low, look_free table becomes n a b step)
+
+  pub look_found : (n w : ℕ) (a b : SeatView × G) → w ≡ 0 → Steps table becomes (LoadState (a_node n) w) a b → HasFree table.layout b.0
+  look_found n w a b is step =
+      let free = subst (λ z. Steps table becomes (LoadState (a_node n) z) a b) is step in
+      look_finds n a b (subst (λ (l : Layout). n < l.nodes) free.event.layout_is free.event.legal.1.0) free
 
   pub free_found : (from m number : ℕ) (a b : SeatView × G) → FindsFree table becomes a_node table.layout.nodes from m number a b → HasFree table.layout b.0
   free_found from m number a b found =
@@ -122,7 +144,7 @@ module _ {G : Type 0} (table : TableView) (becomes : G → Event → G → Type 
       let (o, has, is) = owns.each (a_node n) at in
       let (since, last, unlinked) = (owns.only o has).1 in
       (n, all_of (HasRecord table.layout) (a_node n) gone records at, runs_out table becomes works.acts p b n (works_plain works.acts works.each) works.steps (gone_out table becomes spot w m p step n o has is since last unlinked) d lone)
-  store_spares spot w a m p b made gone news goes building readied step owns records works (by_kept was none) =
+  store_spares spot w a m p b made gone news goes building readied step owns records works (by_kept was none) d lone =
       works_spare p b works
       (publish_spare table becomes spot w m p step
       (λ o has n is.
@@ -130,7 +152,7 @@ module _ {G : Type 0} (table : TableView) (becomes : G → Event → G → Type 
       let rec : a_node n ≡ y.rec = sym is ∙ ap (λ (z : Owned). z.rec) same in
       let listed = one_of made (a_node n) (subst (λ (z : List Rec). Contains z (a_node n)) (sym building.listed) (reversed_has (a_node n) (recs_of news) (subst (λ r. IsOneOf r (recs_of news)) (sym rec) (map_of (λ (z : Made). z.rec) y news at)))) in
       node_among n made listed none)
-      (goes_spare a m goes was))
+      (goes_spare a m goes was)) d lone
 
   -- a store of a value
   pub value_spares : (spot : Spot) (w : ℕ) (a p b : SeatView × G) → a.0.known.own ≡ [] → Steps table becomes (Publish spot w) a p → Tries table becomes [] p b → KeepsSpare table.layout a.0 b.0
@@ -149,7 +171,7 @@ claim_leaves c q r (Unlinked since last p) busy = refl
 claim_leaves c q r (Marked since last epoch) busy = refl
 
 module _ {G : Type 0} (table : TableView) (becomes : G → Event → G → Type 0) where
-  runs_split : (acts more : List Act) (a b : SeatView × G) → Runs table becomes (acts ++ more) a b → (m : SeatView × G) × Runs table becomes acts a m × Runs table becomes more m b
+  pub runs_split : (acts more : List Act) (a b : SeatView × G) → Runs table becomes (acts ++ more) a b → (m : SeatView × G) × Runs table becomes acts a m × Runs table becomes more m b
   runs_split [] more a b run = (a, refl, run)
   runs_split (act ∷ acts) more a b (m, step, rest) = let (o, first, second) = runs_split acts more m b rest in (o, (m, step, first), second)
 
@@ -171,7 +193,7 @@ module _ {G : Type 0} (table : TableView) (becomes : G → Event → G → Type 
         none = λ s at. subst (λ z. step.event.core.fate z ≢ Free) (sym at) (not_free (lock_of step.event.core r) (step.event.core.fate r) word some step.event.legal.1.1);
       }
   miss_taken r acts a b (word, some, inr is) run d lone =
-      let (m, look, i, claim, end) = subst (λ l. Runs table becomes l a b) is run in
+      let (m, look, (i, claim, end)) = subst (λ l. Runs table becomes l a b) is run in
       let (before, now) = step_back table becomes (Claim r word) silent m i claim d (subst (λ (z : SeatView × G). IsLone table.layout z.0 d) end lone) in
       let (there, then) = step_back table becomes (LoadState r 0) silent a m look claim.event.core before in
       let c = claim.event.core in
@@ -202,13 +224,13 @@ module _ {G : Type 0} (table : TableView) (becomes : G → Event → G → Type 
       }
 
   -- after a step there is a core, where the table has one pass
-  step_lone : (act : Act) (a b : SeatView × G) → table.layout.passes ≡ 1 → Steps table becomes act a b → (d : Core) × IsLone table.layout b.0 d
+  pub step_lone : (act : Act) (a b : SeatView × G) → table.layout.passes ≡ 1 → Steps table becomes act a b → (d : Core) × IsLone table.layout b.0 d
   step_lone act a b one step =
       let q = a.0.known.pass in
       let c = step.event.core in
       (after c q act, record { passes = one; led = subst (λ l. EventsLead (opening table.layout) l (after c q act)) (sym step.next.next_is) (led_more (opening table.layout) step.next.before c q act step.next.led step.event.legal) })
 
-  runs_lone : (act : Act) (acts : List Act) (a b : SeatView × G) → table.layout.passes ≡ 1 → Runs table becomes (act ∷ acts) a b → (d : Core) × IsLone table.layout b.0 d
+  pub runs_lone : (act : Act) (acts : List Act) (a b : SeatView × G) → table.layout.passes ≡ 1 → Runs table becomes (act ∷ acts) a b → (d : Core) × IsLone table.layout b.0 d
   runs_lone act [] a b one (m, step, end) = subst (λ (z : SeatView × G). (d : Core) × IsLone table.layout z.0 d) (sym end) (step_lone act a m one step)
   runs_lone act (x ∷ acts) a b one (m, step, rest) = runs_lone x acts m b one rest
 
@@ -223,7 +245,7 @@ module _ {G : Type 0} (table : TableView) (becomes : G → Event → G → Type 
 
   -- so a walk over all of them finds one that is free
   pub walk_finds : (from m : ℕ) (a b : SeatView × G) → m ≡ table.layout.nodes → HasRoom table.layout a.0 → FindsNone table becomes a_node table.layout.nodes (begin_of table.layout.nodes from) m a b → ⊥
-  walk_finds from m a b whole (one, n, low, free) finds =
+  walk_finds from m a b whole (one, (n, low, free)) finds =
       let nodes = table.layout.nodes in
       let begin = begin_of nodes from in
       let turn : ℕ → Rec = λ i. a_node (wrapped nodes begin i) in
@@ -231,3 +253,28 @@ module _ {G : Type 0} (table : TableView) (becomes : G → Event → G → Type 
       let (d, lone) = some_lone turn m finds.tries a b (omega (arith, whole, low)) finds.in_turn one finds.does.steps in
       let was = none_taken turn m finds.tries a b finds.in_turn finds.does.steps d lone in
       was.none (a_node n) (i, omega (arith, whole, under), ap a_node (sym at)) (free was.core was.lone)
+
+-- a node of the span goes
+pub gone_node : (way : List PathNode) (span : Span) (raised : Raised) → span.end < raised.low → raised.low ≤ span.len → span.len ≤ length way → (n : ℕ) × IsOneOf (a_node n) (gone_of_span way span raised)
+gone_node way span raised some upto within =
+    let s = get_or way span.end no_step in
+    let there : slice_get way span.end ≡ Some s = slice_get-get_or way span.end no_step (omega (arith, some, upto, within)) in
+    let has = take_has (drop span.end way) (raised.low - span.end) (span.end - span.end) s (omega (arith, some)) (drop_has way span.end span.end s (omega arith) there) in
+    (s.number, of_left (a_node s.number) (map (λ (z : PathNode). a_node z.number) (slice_range way span.end raised.low)) (leaf_gone raised.leaf) (map_of (λ (z : PathNode). a_node z.number) s (slice_range way span.end raised.low) has))
+
+-- so where what is raised comes in the place of a whole span that has a node
+pub low_spares : (layout : Layout) (s : SeatView) (made : List Rec) (job : Job) (result : Result Raised Full) → job.span.end < job.span.len → job.span.len ≤ length job.way.now →
+    IfOk result (λ raised. raised.low ≡ job.span.len) → IfOk result (WillSpareOne layout s made job)
+low_spares layout s made job (Ok raised) some within low =
+    let (n, at) = gone_node job.way.now job.span raised (omega (arith, some, low)) (omega (arith, low)) within in by_gone n at
+low_spares layout s made job (Err full) some within low = tt
+
+-- and where one is free
+pub free_spares : (layout : Layout) (s : SeatView) (made : List Rec) (job : Job) (result : Result Raised Full) → IfOk result (λ raised. HasFree layout s) → IfOk result (WillSpareOne layout s made job)
+free_spares layout s made job (Ok raised) free = by_free free
+free_spares layout s made job (Err full) free = tt
+
+-- a list of none
+pub no_list : {X : Type 0} (xs : List X) → length xs ≡ 0 → xs ≡ []
+no_list [] none = refl
+no_list (x ∷ xs) none = absurd (omega arith)

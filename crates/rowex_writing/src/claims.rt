@@ -1,6 +1,6 @@
 //! Claims of the records that a change makes: first of one that the pass has given back, and else on from the last claim.
 
-ghost use Rattle.std.specs.Prelude.{◌≡◌, false, ◌<◌, ◌≤◌, ◌+◌, ◌-◌, ◌*◌, MatchOption, ◌++◌, ◌∷◌, [], List, ℕ, Contains, length};
+ghost use Rattle.std.specs.Prelude.{◌≡◌, false, true, ◌<◌, ◌≤◌, ◌+◌, ◌-◌, ◌*◌, MatchOption, ◌++◌, ◌∷◌, [], List, ℕ, Contains, length};
 ghost use Rattle.record_words.specs.Layout.{leaf_size};
 ghost use Rattle.record_words.specs.declared.TheConstants.{LEAF_WORDS};
 ghost use Rattle.versions.specs.declared.Rec.TheVariants.{Leaf as a_leaf, Node as a_node};

@@ -33,7 +33,7 @@ pub(crate) fn make_without_leaf<G: Gate>(
     ensures done { CarriesOut table.now G.becomes ((seat.old, gate.old), build.old) ((seat.new, gate.new), build.new) job.now Take result }
     ensures leafless { result ≢ Err Full.Leaves }
     ensures walk { 0 < job.now.span.len → seat.new.known.steps + 2 * build.new.left_nodes ≤ seat.old.known.steps + 2 * table.now.layout.nodes + level_steps + 1 }
-    ensures goes { 0 < job.now.span.len → IfOk result (λ raised. raised.low ≡ job.now.span.len) }
+    ensures lowest { 0 < job.now.span.len → IfOk result (λ raised. raised.low ≡ job.now.span.len) }
     ensures spares { HasSpare table.now.layout seat.old → IfOk result (WillSpareOne table.now.layout seat.new build.new.made.items job.now) }
     ensures finds { HasRoom table.now.layout seat.old → result ≢ Err Full.Nodes }
 {
@@ -69,7 +69,7 @@ fn remake_without_leaf<G: Gate>(
         (removed_change seat.old.known.pass (item number job.now.key.now value)) (Some value)) }
     ensures full { IfErr result (λ full. (full ≡ Full.Nodes) × HasNoneFree table.now seat.old.known seat.new build.new.made.items job.now full) }
     ensures walk { seat.new.known.steps + 2 * build.new.left_nodes ≤ seat.old.known.steps + 2 * table.now.layout.nodes + level_steps + 1 }
-    ensures goes { IfOk result (λ raised. raised.low ≡ job.now.span.len) }
+    ensures lowest { IfOk result (λ raised. raised.low ≡ job.now.span.len) }
     ensures finds { HasRoom table.now.layout seat.old → result ≢ Err Full.Nodes }
 {
     build.nodes.next = build.nodes.stretch.start();
