@@ -1,16 +1,20 @@
 -- In a table with one pass a round of collection leaves a node record free, if one stood in no tree.
-use Rattle.std.proofs.Common.{◌≡◌, ◌≢◌, ◌⊎◌, inl, inr, ⊎_elim, ℕ, zero, suc, ◌+◌, ◌*◌, ◌<◌, ◌≤◌, List, [], ◌∷◌, ◌++◌, Bool, true, false, nat_eq, nat_lt, if◌then◌else◌, Option, Some, None, length, refl, sym, ap, subst, ◌∙◌, arith, ap₂}
+use Rattle.std.proofs.Common.{◌≡◌, ◌≢◌, ◌⊎◌, inl, inr, ⊎_elim, ℕ, zero, suc, ◌+◌, ◌*◌, ◌<◌, ◌≤◌, List, [], ◌∷◌, ◌++◌, Bool, true, false, nat_eq, nat_lt, if◌then◌else◌, Option, Some, None, length, refl, sym, ap, subst, ◌∙◌, arith, ap₂, length-append}
 use Rattle.std.proofs.lemmas.Bool.{cases_lt, eq-eqb, lt-ltb}
 use Rattle.std.proofs.lemmas.List.Elements.{All-append, All-cons, All-head, All-nil, All-tail}
 use Rattle.std.specs.Prelude.{All}
-use Rattle.epochs.specs.Rounds.{IsRound, LoadsPin, Visits, advance_steps}
-use Rattle.lone_runs.proofs.Fates.{IsClosed, MarksWell, fate_kept}
-use Rattle.lone_runs.proofs.Lone.{IsBack, lead_layout, lead_same, one_of, runs_back, step_back, step_knows, step_lawful, unused_free}
+use Rattle.epochs.specs.Rounds.{IsRound, IsSmallRound, LoadsPin, VisitEach, Visits, advance_steps}
+use Rattle.epochs.specs.Runs.{Pins}
+use Rattle.finite_map.specs.declared.Note.{Note}
+use Rattle.hot_index_calls.specs.Census.{FoundTags, loads_in, loads_of}
+use Rattle.lone_runs.proofs.Fates.{IsClosed, MarksWell, fate_kept, out_closed, out_marks}
+use Rattle.lone_runs.proofs.Lone.{IsBack, lead_layout, lead_same, one_of, runs_back, runs_free, runs_spare, step_back, step_knows, step_lawful, unused_free}
 use Rattle.lone_runs.proofs.Timely.{IsMarkedBy, run_timely}
-use Rattle.lone_runs.specs.Lone.{HasRoom, HasSpare, IsLone, IsOut, IsUnpublished, IsUnused}
+use Rattle.lone_runs.specs.Lone.{HasRoom, HasSpare, KeepsSpare, IsLone, IsOut, IsUnpublished, IsUnused}
 use Rattle.record_words.specs.State.{state_word}
 use Rattle.record_words.specs.declared.TheConstants.{EPOCHS}
 use Rattle.record_words.specs.declared.layout.Layout.{Layout}
+use Rattle.record_words.specs.declared.state.Tag.{Tag}
 use Rattle.record_words.specs.declared.state.Tag.TheVariants.{Obsolete}
 use Rattle.rowex_core.proofs.Owning.{knows_all}
 use Rattle.rowex_core.proofs.Promises.{opening_is_lawful}
@@ -20,13 +24,13 @@ use Rattle.rowex_core.specs.Knowing.{Knows}
 use Rattle.rowex_core.specs.Opening.{opening}
 use Rattle.rowex_core.specs.Sharing.{Share}
 use Rattle.rowex_core.specs.Words.{lock_of, tag_of}
-use Rattle.rowex_core.specs.declared.event.Act.TheVariants.{Advance, GiveBack, LoadEpoch, LoadPin, LoadState, Mark}
+use Rattle.rowex_core.specs.declared.event.Act.TheVariants.{Advance, GiveBack, LoadEpoch, LoadPin, LoadState, Mark, SetPin}
 use Rattle.rowex_core.specs.declared.event.Act.{Act}
 use Rattle.rowex_core.specs.declared.event.Event.{Event}
 use Rattle.rowex_core.specs.declared.known.Holding.TheVariants.{Unlinked as UnlinkedBy}
 use Rattle.rowex_core.specs.declared.known.Known.{Known}
 use Rattle.rowex_table.proofs.ActsLeave.{act_leaves}
-use Rattle.rowex_table.specs.Runs.{InTurn, Runs, Steps, silent}
+use Rattle.rowex_table.specs.Runs.{InTurn, Runs, Steps, StepsWith, silent}
 use Rattle.rowex_table.specs.Seats.{SeatView, TableView}
 use Rattle.rowex_table.specs.Stays.{LeavesRound}
 use Rattle.rowex_writing.proofs.Spare.{runs_split, step_lone}
@@ -108,8 +112,8 @@ module _ {G : Type 0} (table : TableView) (becomes : G → Event → G → Type 
       let c = step.event.core in
       (c, first, λ was. subst (λ (z : Core). IsUnused (z.fate r)) (sym is) (passes_by c r e word (c.fate r) refl step.event.legal.1.1 (not e some low) was))
   visit_frees e bound r _ a b some low (Visits.tries epoch found above below) (m, look, (i, give, end)) d lone =
-      let (then, now) = step_back table becomes (GiveBack r epoch found) silent m i give d (subst (λ (z : SeatView × G). IsLone table.layout z.0 d) end lone) in
-      let (first, is) = step_back table becomes (LoadState r (state_word (Obsolete epoch))) silent a m look give.event.core then in
+      let (behind, now) = step_back table becomes (GiveBack r epoch found) silent m i give d (subst (λ (z : SeatView × G). IsLone table.layout z.0 d) end lone) in
+      let (first, is) = step_back table becomes (LoadState r (state_word (Obsolete epoch))) silent a m look give.event.core behind in
       let c = look.event.core in
       let o = give.event.core in
       let same : o.fate ≡ c.fate = ap (λ (z : Core). z.fate) is in (
@@ -134,8 +138,8 @@ module _ {G : Type 0} (table : TableView) (becomes : G → Event → G → Type 
             (c, there, λ was. back.unused (a_node n) (frees was))
         | inr newest ↦
             let same : m ≡ n = omega arith in
-            let (i, then, frees) = visit_frees e bound (a_node m) last o b some low visit two d lone in
-            let (c, there, waits) = runs_wait e before a o (visits_plain bound a_node m before first) one i then in
+            let (i, behind, frees) = visit_frees e bound (a_node m) last o b some low visit two d lone in
+            let (c, there, waits) = runs_wait e before a o (visits_plain bound a_node m before first) one i behind in
             (c, there, λ was. subst (λ z. IsUnused (d.fate (a_node z))) same (frees (subst (λ z. IsWaiting e (i.fate (a_node z))) (sym same) (waits (a_node n) was))))
       ]
 
@@ -195,6 +199,11 @@ module _ {G : Type 0} (table : TableView) (becomes : G → Event → G → Type 
     abbrev four : List Act
     four = LoadEpoch r.epoch ∷ Advance r.epoch r.found ∷ LoadEpoch r.next ∷ LoadPin 0 word ∷ []
 
+    four_plain : All IsUnpublished four
+    four_plain =
+        All-cons IsUnpublished (LoadEpoch r.epoch) (Advance r.epoch r.found ∷ LoadEpoch r.next ∷ LoadPin 0 word ∷ []) tt (All-cons IsUnpublished (Advance r.epoch r.found) (LoadEpoch r.next ∷ LoadPin 0 word ∷ []) tt
+        (All-cons IsUnpublished (LoadEpoch r.next) (LoadPin 0 word ∷ []) tt (All-cons IsUnpublished (LoadPin 0 word) [] tt (All-nil IsUnpublished))))
+
     -- the bound of the round is the next epoch
     bound_is : (s : SeatView × G) → Runs table becomes four a s → (c : Core) → IsLone table.layout a.0 c → s.0.known.round.bound ≡ c.epoch + 1
     bound_is s (s1, st1, (s2, st2, (s3, st3, (s4, st4, end)))) c lone =
@@ -225,10 +234,11 @@ module _ {G : Type 0} (table : TableView) (becomes : G → Event → G → Type 
         let (s4, begin, nodes) = runs_split table becomes beginning r.nodes a s5 top in
         let as_four : beginning ≡ four = ap₂ (λ xs ys. (LoadEpoch r.epoch ∷ xs) ++ LoadEpoch r.next ∷ ys) again pins_are in
         let bound : b.0.known.round.bound ≡ c.epoch + 1 =
-        runs_round table becomes r.leaves s5 b (visits_leave b.0.known.round.bound a_leaf table.layout.leaves r.leaves r.visits_leaves) leaves ∙
-        (runs_round table becomes r.nodes s4 s5 (visits_leave b.0.known.round.bound a_node table.layout.nodes r.nodes r.visits_nodes) nodes ∙
-        bound_is s4 (subst (λ l. Runs table becomes l a s4) as_four begin) c lone) in
-        let begin_plain : All IsUnpublished beginning = subst (All IsUnpublished) (sym as_four) (All-cons IsUnpublished (LoadEpoch r.epoch) _ tt (All-cons IsUnpublished (Advance r.epoch r.found) _ tt (All-cons IsUnpublished (LoadEpoch r.next) _ tt (All-cons IsUnpublished (LoadPin 0 word) [] tt (All-nil IsUnpublished))))) in
+        ap (λ (z : Round). z.bound)
+        (runs_round table becomes r.leaves s5 b (visits_leave b.0.known.round.bound a_leaf table.layout.leaves r.leaves r.visits_leaves) leaves ∙
+        runs_round table becomes r.nodes s4 s5 (visits_leave b.0.known.round.bound a_node table.layout.nodes r.nodes r.visits_nodes) nodes) ∙
+        bound_is s4 (subst (λ l. Runs table becomes l a s4) as_four begin) c lone in
+        let begin_plain : All IsUnpublished beginning = subst (All IsUnpublished) (sym as_four) four_plain in
         let unlinked : (since last q : ℕ) → c.fate (a_node n) ≢ Unlinked since last q = λ since last q is.
         (let p : q ≡ a.0.known.pass = (let there = st1.event.lawful.records.holders (a_node n) q (ap holder_of is) in let mine = st1.event.knows.pass in let lay = ap (λ (l : Layout). l.passes) st1.event.layout_is in omega (arith, there, mine, lay, one)) in
         let has = one_of a.0.known.own _ ((knows_all c a.0.known st1.event.knows).all_own (a_node n) (UnlinkedBy since last) (is ∙ ap (Unlinked since last) p)) in subst (IsOneOf _) own has) in
@@ -253,3 +263,86 @@ module _ {G : Type 0} (table : TableView) (becomes : G → Event → G → Type 
               (λ x has at. absurd (subst (IsOneOf x) (ap (λ (z : Known). z.own) r.does.rest ∙ own) has)) (unused d there)),
           ),
         )
+
+-- ---- what is spare, and how long a trace is
+advance_plain : (epoch found : ℕ) → All IsUnpublished (advance_steps epoch found)
+advance_plain epoch found = cases (nat_lt (epoch + 1) EPOCHS)
+  where
+    cases : (t : Bool) → All IsUnpublished (if t then Advance epoch found ∷ [] else [])
+    cases true = All-cons IsUnpublished (Advance epoch found) [] tt (All-nil IsUnpublished)
+    cases false = All-nil IsUnpublished
+
+pins_plain : (n : ℕ) (acts : List Act) → InTurn LoadsPin n acts → All IsUnpublished acts
+pins_plain zero acts none = subst (All IsUnpublished) (sym none) (All-nil IsUnpublished)
+pins_plain (suc n) acts (before, last, first, (w, is), all) =
+    subst (All IsUnpublished) (sym all) (All-append IsUnpublished before last (pins_plain n before first) (subst (All IsUnpublished) (sym is) (All-cons IsUnpublished (LoadPin n w) [] tt (All-nil IsUnpublished))))
+
+each_plain : (bound : ℕ) (recs : List Rec) (acts : List Act) → VisitEach bound recs acts → All IsUnpublished acts
+each_plain bound [] acts none = subst (All IsUnpublished) (sym none) (All-nil IsUnpublished)
+each_plain bound (r ∷ recs) acts (first, rest, visit, visits, all) = subst (All IsUnpublished) (sym all) (All-append IsUnpublished first rest (visit_plain bound r first visit) (each_plain bound recs rest visits))
+
+begin_plain : (epoch found next : ℕ) (n : ℕ) (pins : List Act) → InTurn LoadsPin n pins → All IsUnpublished ((LoadEpoch epoch ∷ advance_steps epoch found) ++ LoadEpoch next ∷ pins)
+begin_plain epoch found next n pins loads =
+    All-append IsUnpublished (LoadEpoch epoch ∷ advance_steps epoch found) (LoadEpoch next ∷ pins) (All-cons IsUnpublished (LoadEpoch epoch) (advance_steps epoch found) tt (advance_plain epoch found))
+    (All-cons IsUnpublished (LoadEpoch next) pins tt (pins_plain n pins loads))
+
+loads_plain : (kind : ℕ → Rec) (first : ℕ) (tags : List Tag) → All IsUnpublished (loads_of kind first tags)
+loads_plain kind first [] = All-nil IsUnpublished
+loads_plain kind first (tag ∷ tags) = All-cons IsUnpublished _ _ tt (loads_plain kind (suc first) tags)
+
+module _ {G : Type 0} (table : TableView) (becomes : G → Event → G → Type 0) where
+  abbrev pub round_acts : {given_nodes given_leaves : ℕ} {a b : SeatView × G} → IsRound table becomes a b given_nodes given_leaves → List Act
+  round_acts r = LoadEpoch r.epoch ∷ advance_steps r.epoch r.found ++ LoadEpoch r.next ∷ r.pins ++ r.nodes ++ r.leaves
+
+  pub round_spare : {given_nodes given_leaves : ℕ} (a b : SeatView × G) → IsRound table becomes a b given_nodes given_leaves → KeepsSpare table.layout a.0 b.0
+  round_spare a b r =
+      let bound = b.0.known.round.bound in
+      let front = (LoadEpoch r.epoch ∷ advance_steps r.epoch r.found) ++ LoadEpoch r.next ∷ r.pins in
+      runs_spare table becomes ((front ++ r.nodes) ++ r.leaves) a b
+      (All-append IsUnpublished (front ++ r.nodes) r.leaves (All-append IsUnpublished front r.nodes (begin_plain r.epoch r.found r.next table.layout.passes r.pins r.loads_pins) (visits_plain bound a_node table.layout.nodes r.nodes r.visits_nodes))
+      (visits_plain bound a_leaf table.layout.leaves r.leaves r.visits_leaves)) r.does.steps
+
+  pub small_spare : {most : ℕ} (a b : SeatView × G) → IsSmallRound table becomes most a b → KeepsSpare table.layout a.0 b.0
+  small_spare a b r =
+      let front = (LoadEpoch r.epoch ∷ advance_steps r.epoch r.found) ++ LoadEpoch r.next ∷ r.pins in
+      runs_spare table becomes (front ++ r.visits) a b (All-append IsUnpublished front r.visits (begin_plain r.epoch r.found r.next table.layout.passes r.pins r.loads_pins) (each_plain b.0.known.round.bound r.recs r.visits r.visits_each)) r.does.steps
+
+  pin_plain : (epoch : ℕ) → All IsUnpublished (LoadEpoch epoch ∷ SetPin epoch ∷ [])
+  pin_plain epoch = All-cons IsUnpublished (LoadEpoch epoch) (SetPin epoch ∷ []) tt (All-cons IsUnpublished (SetPin epoch) [] tt (All-nil IsUnpublished))
+
+  pub pin_spare : (a b : SeatView × G) → Pins table becomes a b → KeepsSpare table.layout a.0 b.0
+  pin_spare a b (epoch, does) = runs_spare table becomes (LoadEpoch epoch ∷ SetPin epoch ∷ []) a b (pin_plain epoch) does.steps
+
+  pub pin_room : (a b : SeatView × G) → Pins table becomes a b → a.0.known.own ≡ [] → HasRoom table.layout a.0 → HasRoom table.layout b.0
+  pin_room a b (epoch, does) own (one, (n, low, free)) =
+      (one, (n, low, runs_free table becomes (LoadEpoch epoch ∷ SetPin epoch ∷ []) a b n (pin_plain epoch) does.steps (λ o has is. absurd (subst (IsOneOf o) (ap (λ (z : Known). z.own) does.rest ∙ own) has)) free))
+
+  pub noted_spare : (act : Act) (said : Known → List Note) (a b : SeatView × G) → IsUnpublished act → StepsWith table becomes act said a b → KeepsSpare table.layout a.0 b.0
+  noted_spare act said a b plain step was d lone =
+      let (there, is) = step_back table becomes act said a b step d lone in
+      let c = step.event.core in
+      let (n, low, out) = was c there in
+      (n, low, subst (λ (z : Core). IsOut (z.fate (a_node n))) (sym is) (fate_kept IsOut out_closed c a.0.known.pass act plain (out_marks act) (a_node n) out))
+
+  pub step_longer : (act : Act) (said : Known → List Note) (a b : SeatView × G) → StepsWith table becomes act said a b → length a.0.trace ≤ length b.0.trace
+  step_longer act said a b step =
+      let last = ap (λ (l : List Event). length l) step.next.next_is in
+      let more = ap (λ (l : List Event). length l) step.next.others.1 in
+      omega (arith, last, more, length-append step.next.before (record { pass = a.0.known.pass; act = act } ∷ []), length-append a.0.trace step.next.others.0)
+
+  pub runs_longer : (acts : List Act) (a b : SeatView × G) → Runs table becomes acts a b → length a.0.trace ≤ length b.0.trace
+  runs_longer [] a b run = let same = ap (λ (z : SeatView × G). length z.0.trace) run in omega (arith, same)
+  runs_longer (act ∷ acts) a b (m, step, rest) = let first = step_longer act silent a m step in let later = runs_longer acts m b rest in omega (arith, first, later)
+
+  pub counts_spare : (tags : FoundTags) (a b : SeatView × G) → Runs table becomes (loads_in table.layout tags) a b → KeepsSpare table.layout a.0 b.0
+  counts_spare tags a b run =
+      let layout = table.layout in
+      runs_spare table becomes (loads_in layout tags) a b
+      (All-append IsUnpublished _ _ (All-append IsUnpublished _ _ (All-append IsUnpublished _ _ (All-append IsUnpublished _ _ (All-append IsUnpublished _ _ (loads_plain a_node 0 tags.nodes) (loads_plain a_leaf 0 tags.short)) (loads_plain a_leaf layout.medium_from tags.medium))
+      (loads_plain a_leaf layout.large_from tags.large)) (loads_plain a_leaf layout.wide_from tags.wide)) (loads_plain a_leaf layout.long_from tags.long)) run
+
+  -- a round of a pass that is between two calls leaves a record free
+  pub collects_room : {given_nodes given_leaves : ℕ} (a b : SeatView × G) → IsRound table becomes a b given_nodes given_leaves → table.layout.passes ≡ 1 → a.0.known.pin ≡ None → a.0.known.own ≡ [] →
+      length a.0.trace + 2 < EPOCHS → HasSpare table.layout a.0 → HasRoom table.layout b.0
+  collects_room a b r one pin own early spare =
+      let (word, pins_are) = one_pin table.layout.passes r.pins one r.loads_pins in round_room table becomes one a b r pin own early word pins_are spare

@@ -1,12 +1,16 @@
 //! A call that may change the index, made with a pass's seat and scratch lists: its attempts, and the note of an answer.
 
-ghost use Rattle.std.specs.Prelude.{◌≡◌, ◌⊎◌, ◌+◌, ◌<◌, ◌≤◌, ◌↔◌, List, Err, None, IfSome, IsSome, IsTrue, false};
+ghost use Rattle.std.specs.Prelude.{◌≡◌, ◌⊎◌, ◌+◌, ◌<◌, ◌≤◌, ◌↔◌, List, Err, None, IfSome, IsSome, IsTrue, false, ◌≢◌, length};
 ghost use Rattle.finite_map.specs.declared.Note.{Note};
 ghost use Rattle.rowex_core.specs.declared.event.Act.TheVariants.{ClearPin};
 ghost use Rattle.rowex_core.specs.declared.known.Known.{Known};
 ghost use Rattle.rowex_table.specs.Runs.{StepsWith};
 ghost use Rattle.rowex_table.specs.Seats.{IsPassOf};
 ghost use Rattle.rowex_writing.specs.declared.plan.Full.TheVariants.{Nodes, Leaves};
+ghost use Rattle.lone_runs.specs.Lone.{HasRoom, KeepsSpare};
+ghost use Rattle.rowex_writing.specs.Spare.{IsRemoval};
+ghost use Rattle.rowex_writing.specs.declared.attempts.TryFault.TheVariants.{FullNodes};
+ghost use Rattle.hot_index_calls.specs.Rooms.{FindsRoom};
 ghost use Rattle.hot_index_calls.specs.Answers.{fault_of};
 ghost use Rattle.hot_index_calls.specs.Asked.{HasAsked, HasLacked, HasReplied, HasRested, IsIdle, last_try};
 ghost use Rattle.hot_index_calls.specs.Calls.{IsTriedAndCounted, MakesTries};
@@ -40,6 +44,8 @@ pub fn try_change<G: Gate>(
     ensures asked { HasAsked table.now G.becomes (AreAttempts table.now G.becomes call.now result) call.now result (seat.old, gate.old) (seat.new, gate.new) }
     ensures lacks { HasLacked table.now scratch.new.build.made.items result seat.old seat.new }
     ensures few { seat.new.known.steps ≤ seat.old.known.steps + try_steps call.now table.now.layout }
+    ensures spares { KeepsSpare table.now.layout seat.old seat.new }
+    ensures room { FindsRoom table.now.layout call.now result seat.old seat.new }
 {
     collect_due(table, seat, gate, scratch);
     try_twice(table, seat, gate, scratch, call)
@@ -50,6 +56,7 @@ fn collect_due<G: Gate>(table: &HotTable, seat: &mut TableSeat, gate: &mut G, sc
     requires idle { IsIdle table.now seat.old }
     ensures idle { IsIdle table.now seat.new }
     ensures tidied { Tidies table.now G.becomes (seat.old, gate.old) (seat.new, gate.new) }
+    ensures spares { KeepsSpare table.now.layout seat.old seat.new }
 {
     if scratch.limbo.is_due() {
         collect_small_round(table, seat, gate, &mut scratch.limbo);
@@ -71,6 +78,8 @@ fn try_twice<G: Gate>(
     ensures asked { HasAsked table.now G.becomes (AreTries table.now G.becomes call.now result) call.now result (seat.old, gate.old) (seat.new, gate.new) }
     ensures lacks { HasLacked table.now scratch.new.build.made.items result seat.old seat.new }
     ensures few { seat.new.known.steps ≤ seat.old.known.steps + twice_steps call.now table.now.layout }
+    ensures spares { KeepsSpare table.now.layout seat.old seat.new }
+    ensures room { FindsRoom table.now.layout call.now result seat.old seat.new }
 {
     let first = make_attempt(table, seat, gate, scratch, call);
     let Some(lacks) = full_kind(first) else {
@@ -80,7 +89,7 @@ fn try_twice<G: Gate>(
     let passes = table.layout().passes;
     let count = given_count(round.given, lacks);
     scratch.reset_skips();
-    if may_find_free_record(passes, count) {
+    if may_find_free_record(passes, count, is_removal(call)) {
         return make_attempt(table, seat, gate, scratch, call);
     }
     pin_and_unpin(table, seat, gate);
@@ -111,11 +120,26 @@ fn given_count(given: Given, kind: Full) -> u32
 }
 
 /// Whether a record of a kind may be free after a round that gave back `given` of it, in an index of `passes` passes. It may be one of
-/// these, or one that another pass gave back meanwhile.
-fn may_find_free_record(passes: u32, given: u32) -> bool
-    ensures { IsTrue result ↔ ((1 < passes) ⊎ (0 < given)) }
+/// these, or one that another pass gave back meanwhile; or the one that is left for removals, if the call `removes` a key.
+fn may_find_free_record(passes: u32, given: u32, removes: bool) -> bool
+    ensures may { IsTrue result ↔ ((1 < passes) ⊎ (0 < given) ⊎ IsTrue removes) }
+    ensures not { result ≡ false → removes ≡ false }
 {
-    passes > 1 || given > 0
+    passes > 1 || given > 0 || removes
+}
+
+/// Whether `call` removes a key.
+fn is_removal(call: &Call) -> bool
+    ensures { result ≡ false → ¬ (IsRemoval call.now) }
+{
+    match call {
+        Call::Remove(_) | Call::RemoveIf(_, _) => true,
+        Call::Insert(_, _)
+        | Call::Upsert(_, _)
+        | Call::Exchange(_, _, _)
+        | Call::Add(_, _)
+        | Call::Get(_) => false,
+    }
 }
 
 /// Pins the pass and clears the pin: an attempt of three steps that does nothing. It is made in place of a second try that could find no
@@ -123,6 +147,7 @@ fn may_find_free_record(passes: u32, given: u32) -> bool
 fn pin_and_unpin<G: Gate>(table: &HotTable, seat: &mut TableSeat, gate: &mut G)
     requires idle { IsIdle table.now seat.old }
     ensures rested { HasRested table.now G.becomes (seat.old, gate.old) (seat.new, gate.new) }
+    ensures spares { KeepsSpare table.now.layout seat.old seat.new }
 {
     pin(table, seat, gate);
     unpin(table, seat, gate);
@@ -142,6 +167,8 @@ pub fn try_and_count<G: Gate>(
     ensures stepped { HasStepped table.now G.becomes (change_notes call.now (as_tried result)) (seat.old, gate.old) (seat.new, gate.new) }
     ensures later { seat.old.known.steps ≤ seat.new.known.steps }
     ensures tried { IsTriedAndCounted call.now result table.now G.becomes (pass_of seat.old, gate.old) (pass_of seat.new, gate.new) }
+    ensures spares { KeepsSpare table.now.layout seat.old seat.new }
+    ensures room { FindsRoom table.now.layout call.now (as_tried result) seat.old seat.new }
 {
     match try_change(table, seat, gate, scratch, call) {
         Ok(reply) => Ok(reply),
@@ -172,6 +199,8 @@ pub fn retry_change<R: Wait, G: Gate>(
     ensures replied { HasReplied table.now call.now (last_try result) seat.old seat.new }
     ensures stepped { HasStepped table.now G.becomes (change_notes call.now (last_try result)) (seat.old, gate.old) (seat.new, gate.new) }
     ensures tries { MakesTries call.now result table.now G.becomes (pass_of seat.old, gate.old) (pass_of seat.new, gate.new) }
+    ensures spares { KeepsSpare table.now.layout seat.old seat.new }
+    ensures room { FindsRoom table.now.layout call.now (last_try result) seat.old seat.new }
 {
     for _ in rt.forever() {
         match try_and_count(table, seat, gate, scratch, call) {
@@ -200,6 +229,9 @@ fn make_attempt<G: Gate>(
     ensures asked { HasAsked table.now G.becomes (IsOneAttempt table.now) call.now result (seat.old, gate.old) (seat.new, gate.new) }
     ensures lacks { HasLacked table.now scratch.new.build.made.items result seat.old seat.new }
     ensures few { seat.new.known.steps ≤ seat.old.known.steps + once_steps call.now table.now.layout }
+    ensures spares { KeepsSpare table.now.layout seat.old seat.new }
+    ensures room { IsRemoval call.now → HasRoom table.now.layout seat.old → result ≢ Err FullNodes }
+    ensures longer { length seat.old.trace ≤ length seat.new.trace }
 {
     pin(table, seat, gate);
     let outcome = attempt(

@@ -1,5 +1,5 @@
 -- In a table with one pass: steps of a change leave a spare node record, and what is free, and a walk finds what is free.
-use Rattle.std.proofs.Common.{◌≡◌, ◌≢◌, ℕ, zero, suc, ◌+◌, ◌<◌, ◌≤◌, List, [], ◌∷◌, ◌++◌, Option, None, Some, inl, inr, ◌⊎◌, ⊎_elim, refl, sym, ap, subst, ◌∙◌, arith, map, ◌-◌, drop, get_or, length, Result, Ok, Err}
+use Rattle.std.proofs.Common.{◌≡◌, ◌≢◌, ℕ, zero, suc, ◌<◌, ◌≤◌, List, [], ◌∷◌, ◌++◌, Option, Some, inl, inr, ⊎_elim, refl, sym, ap, subst, ◌∙◌, arith, map, ◌-◌, drop, get_or, length, Result, Ok, Err}
 use Rattle.std.specs.Prelude.{All, Contains, slice_get, slice_range, IfOk}
 use Rattle.std.proofs.lemmas.Bool.{cases_lt}
 use Rattle.std.proofs.lemmas.List.Elements.{All-cons, All-weaker}
@@ -34,7 +34,7 @@ use Rattle.rowex_table.proofs.Onward.{led_more}
 use Rattle.rowex_reading.specs.Reads.{IsBelowRoot, Looks, Reads}
 use Rattle.rowex_records.specs.Claims.{FindsFree, FindsNone, Misses, begin_of, wrapped}
 use Rattle.rowex_records.proofs.Claimed.{begins_low, turned_to}
-use Rattle.lone_runs.specs.Lone.{HasFree, HasRoom, HasSpare, IsFreeAt, IsLone, IsOut, IsOutAt, IsUnpublished, KeepsSpare}
+use Rattle.lone_runs.specs.Lone.{HasFree, HasRoom, HasSpare, IsLone, IsUnpublished, KeepsSpare}
 use Rattle.lone_runs.proofs.Lone.{look_free, one_of, runs_free, runs_out, runs_spare, step_back}
 use Rattle.lone_runs.proofs.Published.{gone_out, publish_free, publish_spare}
 use Rattle.rowex_writing.specs.Building.{IsBuilding}

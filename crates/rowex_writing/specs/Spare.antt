@@ -1,5 +1,5 @@
 -- That a change leaves a node record outside the tree, in a table with one pass, and finds one for a removal.
-use Rattle.std.specs.Prelude.{◌≡◌, ◌≢◌, ◌⊎◌, ℕ, List, [], Option, None, Result, Err}
+use Rattle.std.specs.Prelude.{◌≡◌, ◌≢◌, ℕ, List, [], Option, None}
 use Rattle.finite_map.specs.declared.Call.{Call}
 use Rattle.finite_map.specs.declared.Call.TheVariants.{Remove, RemoveIf}
 use Rattle.record_words.specs.declared.layout.Layout.{Layout}
