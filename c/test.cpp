@@ -403,6 +403,30 @@ static void test_sections() {
     CHECK(throws<std::logic_error>([&] { hot::section inside(one); }));
 }
 
+// A handle that goes inside its section, or is assigned to there, is closed when the section goes. So is one whose index has gone.
+static void test_handles_inside() {
+    hot::index index(10, 8, 2);
+    hot::handle one = index.open(), other = index.open();
+    auto inside = std::make_unique<hot::section>(one);
+    const hot::retirement moment = other.retired();
+    { const hot::handle gone = std::move(one); }
+    CHECK(!other.is_past(moment) && !index.try_open());
+    inside.reset();
+    CHECK(other.is_past(moment));
+    one = index.open();
+    CHECK(one.insert("a", 1).what == hot::status::inserted);
+    inside = std::make_unique<hot::section>(one);
+    one = hot::handle();
+    CHECK(!one && !index.try_open());
+    inside.reset();
+    CHECK(index.try_open());
+    inside = std::make_unique<hot::section>(other);
+    index = hot::index(10, 8, 1);
+    other = index.open();
+    inside.reset();
+    CHECK(other.empty());
+}
+
 int main() {
     test_calls();
     test_index();
@@ -416,6 +440,7 @@ int main() {
     test_containers();
     test_handles();
     test_sections();
+    test_handles_inside();
     test_threads();
     test_counting();
     test_growing();
