@@ -182,15 +182,17 @@ hot_status hot_each(hot_handle *handle, const uint8_t *from, size_t from_length,
     return status;
 }
 
-/* What an index keeps of each handle, by its number. Each `keys` is 64 bytes behind the one before, so that no two are in one line of a
+/* What an index keeps of each handle, by its number. Two `keys` are more than 64 bytes apart, so that they are never in one line of a
  * processor's cache. */
 typedef struct hot_place {
     hot_index *index;
-    hot_handle closed; /* the handle, while it is given back */
-    section_handle section;
-    int64_t keys; /* how many keys its calls have put in, less those that they have taken out */
+    hot_handle closed;        /* the handle, while it is given back */
+    section_handle section;   /* from when the handle is first opened */
+    uint64_t keys;            /* how many keys its calls have put in, less those that they have taken out */
+    hot_refusals refusals;    /* of its calls */
+    void *room;               /* for keys that are looked up by one call; NULL before the first such call */
+    size_t room_size;         /* in bytes */
     uint32_t state;
-    uint8_t rest[64 - sizeof(void *) - sizeof(hot_handle) - sizeof(section_handle) - sizeof(int64_t) - sizeof(uint32_t)];
 } hot_place;
 
 /* A place's state: no program has its handle, which is there; one has it, or another call looks after it; or it is still to be opened. */
@@ -218,14 +220,35 @@ static hot_status find_index(hot_handle *handle, hot_index **index) {
     return status;
 }
 
-/* Notes what a change has done with the number of keys, by its status. Only the calls of one handle write its count. */
-static hot_status counted(hot_handle *handle, hot_status status) {
-    int64_t *keys, more = status == HOT_INSERTED || status == HOT_NEW ? 1 : status == HOT_REMOVED ? -1 : 0;
-    if (more != 0) {
-        keys = &handle->place->keys;
-        __atomic_store_n(keys, __atomic_load_n(keys, __ATOMIC_RELAXED) + more, __ATOMIC_RELAXED);
+/* Adds to a word that only the calls of one handle write, while others may load it. */
+static void add_to(uint64_t *word, uint64_t more) {
+    __atomic_store_n(word, __atomic_load_n(word, __ATOMIC_RELAXED) + more, __ATOMIC_RELAXED);
+}
+
+/* Notes why a try was refused. */
+static __attribute__((cold, noinline)) void note_refusal(hot_refusals *to, hot_status status) {
+    switch (status) {
+    case HOT_BUSY: add_to(&to->busy, 1); break;
+    case HOT_HELD_BACK: add_to(&to->held_back, 1); break;
+    default: add_to(&to->full, 1); break;
     }
+}
+
+/* Notes that a try was refused, if it was. */
+static __inline__ hot_status noted(hot_handle *handle, hot_status status) {
+    static const uint32_t refused = 1u << HOT_BUSY | 1u << HOT_HELD_BACK | 1u << HOT_FULL_NODES | 1u << HOT_FULL_LEAVES;
+    if (refused >> status & 1)
+        note_refusal(&handle->place->refusals, status);
     return status;
+}
+
+/* Notes what a try has done with the number of keys, too. */
+static __inline__ hot_status counted(hot_handle *handle, hot_status status) {
+    if (status == HOT_INSERTED || status == HOT_NEW)
+        add_to(&handle->place->keys, 1);
+    else if (status == HOT_REMOVED)
+        add_to(&handle->place->keys, (uint64_t)-1);
+    return noted(handle, status);
 }
 
 hot_status hot_try_insert(hot_handle *handle, const uint8_t *key, size_t length, uint64_t value, uint64_t *had) {
@@ -245,12 +268,12 @@ hot_status hot_try_remove(hot_handle *handle, const uint8_t *key, size_t length,
 
 hot_status hot_try_exchange(hot_handle *handle, const uint8_t *key, size_t length, uint64_t expected, uint64_t value, uint64_t *had) {
     uint64_t unread;
-    return proved_try_exchange(handle, key, length, expected, value, had ? had : &unread);
+    return noted(handle, proved_try_exchange(handle, key, length, expected, value, had ? had : &unread));
 }
 
 hot_status hot_try_add(hot_handle *handle, const uint8_t *key, size_t length, uint64_t delta, uint64_t *had) {
     uint64_t unread;
-    return proved_try_add(handle, key, length, delta, had ? had : &unread);
+    return noted(handle, proved_try_add(handle, key, length, delta, had ? had : &unread));
 }
 
 hot_status hot_try_remove_if(hot_handle *handle, const uint8_t *key, size_t length, uint64_t expected, uint64_t *had) {
@@ -390,14 +413,25 @@ hot_status hot_pop_last(hot_handle *handle, const uint8_t *from, size_t from_len
 hot_status hot_len(hot_handle *handle, size_t *count) {
     hot_index *index;
     size_t place;
-    int64_t keys = 0;
+    uint64_t keys = 0;
     hot_status status = find_index(handle, &index);
     if (status != HOT_DONE)
         return status;
     for (place = 0; place < index->count; place++)
         keys += __atomic_load_n(&index->places[place].keys, __ATOMIC_RELAXED);
-    *count = keys > 0 ? (size_t)keys : 0;
+    *count = keys <= INT64_MAX ? (size_t)keys : 0;
     return HOT_DONE;
+}
+
+void hot_stats(const hot_index *index, hot_refusals *stats) {
+    size_t place;
+    memset(stats, 0, sizeof *stats);
+    for (place = 0; place < index->count; place++) {
+        const hot_refusals *its = &index->places[place].refusals;
+        stats->busy += __atomic_load_n(&its->busy, __ATOMIC_RELAXED);
+        stats->held_back += __atomic_load_n(&its->held_back, __ATOMIC_RELAXED);
+        stats->full += __atomic_load_n(&its->full, __ATOMIC_RELAXED);
+    }
 }
 
 void hot_stock_for_lengths(const uint32_t *keys, hot_stock *stock) {

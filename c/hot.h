@@ -478,6 +478,20 @@ hot_status hot_census(hot_handle *handle, hot_counts *counts);
  * HOT_DONE; or HOT_CLOSED. */
 hot_status hot_len(hot_handle *handle, size_t *count);
 
+/* How often tries to change an index were refused. A call hot_try_.. makes one try. A call that waits makes tries until one isn't refused
+ * as busy or held back, and each counts. */
+typedef struct hot_refusals {
+    uint64_t busy;      /* HOT_BUSY: another call was in the way */
+    uint64_t held_back; /* HOT_HELD_BACK: too few records were free, but by a count some may come back */
+    uint64_t full;      /* HOT_FULL_NODES or HOT_FULL_LEAVES: too few records were free, and by a count none comes back */
+} hot_refusals;
+
+/* Writes how often tries were refused since the index was made, through any of its handles, open or closed. Each that was held back or
+ * full has counted all records. One that found a record free after it had collected counts nowhere. Each handle keeps numbers of its own,
+ * and this adds them up; it makes no steps. The sums are exact if no change runs meanwhile. Else they are of no single moment. Any thread
+ * may make this call until the index is closed. */
+void hot_stats(const hot_index *index, hot_refusals *stats);
+
 /* Closes a handle of hot_create or hot_create_with, from any thread and in any order. Closing the last one frees the index. A closed
  * handle may be given to hot_create again. It gives a handle of hot_open back, as hot_close does.
  * HOT_DONE; or HOT_CLOSED if it is closed already, or HOT_INSIDE if its section is open. */

@@ -831,6 +831,15 @@ class index {
         return one;
     }
 
+    /// How often tries to change the index were refused: hot_stats. Throws std::logic_error if the index was moved from.
+    [[nodiscard]] hot_refusals stats() const {
+        if (!at_)
+            throw std::logic_error("the index was moved away");
+        hot_refusals told{};
+        hot_stats(at_.get(), &told);
+        return told;
+    }
+
   private:
     std::shared_ptr<hot_index> at_;
 };

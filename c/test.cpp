@@ -124,6 +124,12 @@ static void test_full() {
     CHECK(change.what == hot::status::full_leaves && change.is_refused() && !change.had);
     CHECK(std::string(change.text()) == hot_status_text(HOT_FULL_LEAVES));
     CHECK(handles[0].upsert("a", 2).had == 1 && handles[0].exchange("a", 2, 3).had == 2 && handles[0].try_add("a", 4).had == 3);
+    hot::index index(hot_stock{10, 1, 0, 0, 0, 0}, 1);
+    hot::handle handle = index.open();
+    CHECK(index.stats().full == 0 && !handle.insert("a", 1).is_refused() && handle.insert("b", 2).is_refused());
+    const hot::index moved = std::move(index);
+    CHECK(moved.stats().full == 1 && moved.stats().busy == 0 && moved.stats().held_back == 0);
+    CHECK(throws<std::logic_error>([&] { return index.stats(); }));
 }
 
 // Small indexes are filled to their last node record, and emptied again.

@@ -1,6 +1,6 @@
 //! `hot.h`, and over it calls that are safe: no other module has unsafe code.
 #![allow(unsafe_code)]
-use crate::{Census, Error, Stock, MAX_KEY};
+use crate::{Census, Error, Stats, Stock, MAX_KEY};
 use std::cell::UnsafeCell;
 use std::collections::VecDeque;
 use std::ffi::CStr;
@@ -190,6 +190,7 @@ extern "C" {
     fn hot_copy(from: *mut RawHandle, to: *mut RawHandle) -> Status;
     fn hot_census(handle: *mut RawHandle, counts: *mut Census) -> Status;
     fn hot_len(handle: *mut RawHandle, count: *mut usize) -> Status;
+    fn hot_stats(index: *const RawIndex, stats: *mut Stats);
     fn hot_meet(one: *mut RawHandle, other: *mut RawHandle) -> Status;
     fn hot_stamp(handle: *mut RawHandle, moment: *mut RawMoment) -> Status;
     fn hot_follow(handle: *mut RawHandle, moment: *const RawMoment) -> Status;
@@ -250,6 +251,14 @@ impl Index {
     /// How many handles may be open at a time.
     pub(crate) fn handles(&self) -> usize {
         self.handles
+    }
+
+    /// How often tries were refused.
+    pub(crate) fn stats(&self) -> Stats {
+        let mut stats = Stats::default();
+        // SAFETY: the index is there, and it writes three numbers.
+        unsafe { hot_stats(self.at, &mut stats) };
+        stats
     }
 
     /// Opens a handle.

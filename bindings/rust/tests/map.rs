@@ -1,5 +1,5 @@
 //! The index beside a `BTreeMap`: random calls, also by threads at once, random ranges from both ends, and the edges of keys.
-use hot::{CompareExchangeError, Error, Handle, Hot, KeyRange, Stock, TryInsertError, MAX_KEY};
+use hot::{CompareExchangeError, Error, Handle, Hot, KeyRange, Stats, Stock, TryInsertError, MAX_KEY};
 use std::collections::BTreeMap;
 use std::ops::Bound;
 use std::thread;
@@ -266,6 +266,11 @@ fn a_full_index_says_so_and_goes_on_when_a_key_is_gone() {
         .count();
     assert_eq!((held, handle.insert("another", 0)), (10, Err(Error::FullLeaves)));
     assert_eq!(handle.insert("longer than any of them", 0), Err(Error::KeyTooLong));
+    let full_alone = Stats {
+        full: 2,
+        ..Stats::default()
+    };
+    assert_eq!(handle.index().stats(), full_alone);
     assert_eq!(handle.remove(3u64.to_be_bytes()), Ok(Some(3)));
     assert_eq!(handle.insert("another", 99), Ok(None));
     assert_eq!((handle.len(), handle.census().short_leaves.live), (10, 10));
