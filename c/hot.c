@@ -204,11 +204,12 @@ struct hot_index {
     size_t count;
     hot_place *places;
     section_handle sections; /* keeps the sections, until each handle has its own */
-    size_t left;       /* how many handles are open that were opened with it, or 0 */
-    hot_handle keeper; /* it is the last one to be opened itself */
-    uint32_t opening;  /* locked while a call opens a handle that the keeper keeps, or closes the index */
-    hot_handle teller; /* once there is a moment of the index: it has seen all that any moment tells of */
-    uint32_t telling;  /* locked while a call uses the teller */
+    section_handle next;     /* that of the handle that is opened next, once there is one */
+    size_t left;             /* how many handles are open that were opened with it, or 0 */
+    hot_handle keeper;       /* it is the last one to be opened itself */
+    uint32_t opening;        /* locked while a call opens a handle that the keeper keeps, or closes the index */
+    hot_handle teller;       /* once there is a moment of the index: it has seen all that any moment tells of */
+    uint32_t telling;        /* locked while a call uses the teller */
 };
 
 /* Writes the index of a handle. HOT_DONE; or HOT_CLOSED, and then nothing is written: a closed handle has none. */
@@ -483,20 +484,28 @@ hot_status hot_get_packed(hot_handle *handle, const uint8_t *bytes, const size_t
 
 static void free_index(hot_index *index) {
     size_t place;
-    for (place = 0; place < index->count; place++)
+    for (place = 0; place < index->count; place++) {
         proved_close_section(&index->places[place].section);
+        free(index->places[place].room);
+    }
+    proved_close_section(&index->next);
     proved_close_section(&index->sections);
     free(index->places);
     free(index);
 }
 
-/* Makes the sections of an index, one for each handle. Returns whether there was memory. */
-static int make_sections(hot_index *index) {
-    size_t place;
-    hot_status status = proved_make_sections(index->count, &index->sections);
-    for (place = 0; status == HOT_DONE && place < index->count; place++)
-        status = proved_open_section(&index->sections, &index->places[place].section);
-    return status == HOT_DONE;
+/* Opens the section of the handle that is opened next, if none is kept open for it. HOT_DONE; or HOT_NO_HANDLE if all handles have one, or
+ * HOT_NO_MEMORY. */
+static hot_status open_next_section(hot_index *index) {
+    hot_status status = proved_open_section(&index->sections, &index->next);
+    return status == HOT_OPEN ? HOT_DONE : status;
+}
+
+/* Has a handle that is opened for the first time have that section. */
+static void give_section(hot_place *place) {
+    static const section_handle none = {0, {NULL}};
+    place->section = place->index->next;
+    place->index->next = none;
 }
 
 /* An index with so many places, none of which has a handle; or NULL where memory is refused. */
@@ -508,7 +517,7 @@ static hot_index *new_index(size_t count) {
     if (index == NULL)
         return NULL;
     index->count = count;
-    index->sections = none;
+    index->sections = index->next = none;
     index->left = 0;
     index->keeper = index->teller = closed;
     index->opening = index->telling = 0;
@@ -521,10 +530,24 @@ static hot_index *new_index(size_t count) {
         index->places[place].index = index;
         index->places[place].state = UNOPENED;
     }
-    if (!make_sections(index)) {
+    if (proved_make_sections(count, &index->sections) != HOT_DONE) {
         free_index(index);
         return NULL;
     }
+    return index;
+}
+
+/* An index whose handles are opened with it, so that each has its section; or NULL where memory is refused. */
+static hot_index *new_opened_index(size_t count) {
+    hot_index *index = new_index(count);
+    size_t place;
+    for (place = 0; index != NULL && place < count; place++)
+        if (open_next_section(index) == HOT_DONE) {
+            give_section(&index->places[place]);
+        } else {
+            free_index(index);
+            index = NULL;
+        }
     return index;
 }
 
@@ -534,7 +557,7 @@ static hot_status placed(hot_status status, hot_handle *handles, size_t count) {
     size_t place;
     if (status != HOT_DONE)
         return status;
-    index = new_index(count);
+    index = new_opened_index(count);
     for (place = 0; place < count; place++)
         if (index == NULL)
             proved_destroy(&handles[place]);
@@ -630,15 +653,19 @@ static hot_status open_kept(hot_index *index, hot_handle *handle) {
     uint16_t number;
     hot_status status;
     lock(&index->opening);
-    heap_begin(0);
-    status = proved_open_kept(&index->keeper, handle);
-    heap_end();
-    if (status == HOT_NO_HANDLE) {
+    status = open_next_section(index);
+    if (status == HOT_DONE) {
+        heap_begin(0);
+        status = proved_open_kept(&index->keeper, handle);
+        heap_end();
+    }
+    if (status == HOT_NO_HANDLE && hot_number(&index->keeper, &number) == HOT_DONE) {
         move_handle(handle, &index->keeper);
         status = HOT_DONE;
     }
     if (status == HOT_DONE && hot_number(handle, &number) == HOT_DONE) {
         handle->place = &index->places[number];
+        give_section(handle->place);
         set_state(handle->place, TAKEN);
     }
     unlock(&index->opening);

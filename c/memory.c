@@ -125,7 +125,7 @@ static void test_light(void) {
     one = in_use;
     CHECK(one - none <= 150000);
     /* The last handle is open to the library, and 128 bytes of each are in the table. */
-    CHECK((none - bytes - (one - none)) / HANDLES + 128 <= 390);
+    CHECK((none - bytes - (one - none)) / HANDLES + 128 <= 360);
     for (turn = 0; turn < 10000; turn++) {
         CHECK(hot_close(&handle) == HOT_DONE && hot_open(index, &handle) == HOT_DONE);
         CHECK(hot_upsert(&handle, (const uint8_t *)"key", 3, turn, NULL) == (turn ? HOT_WAS : HOT_NEW));
