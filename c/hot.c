@@ -20,6 +20,7 @@ hot_status proved_try_add(hot_handle *handle, const uint8_t *key, size_t length,
 hot_status proved_try_remove(hot_handle *handle, const uint8_t *key, size_t length, uint64_t *had);
 hot_status proved_try_remove_if(hot_handle *handle, const uint8_t *key, size_t length, uint64_t expected, uint64_t *had);
 hot_status proved_destroy(hot_handle *handle);
+hot_status proved_get_many(hot_handle *handle, hot_lookup *lookups, size_t count);
 
 /* And those that a program may call before it has a handle: there the processor is known to be one for which they were compiled. */
 void proved_stock_for_keys(uint32_t keys, size_t longest, hot_stock *stock);
@@ -453,6 +454,36 @@ void hot_stock_for_lengths(const uint32_t *keys, hot_stock *stock) {
     stock->large_leaves = each[2].large_leaves;
     stock->wide_leaves = each[3].wide_leaves;
     stock->long_leaves = each[4].long_leaves;
+}
+
+/* Has a handle's room take so many keys, and what is found, unless they are many: those of such a call have memory of their own. Returns
+ * whether memory was refused. */
+static int lacks_room(hot_place *place, size_t count) {
+    enum { FOR_A_KEY = 272, MOST_KEYS = 256 };
+    size_t size = count * FOR_A_KEY;
+    void *room;
+    if (count > MOST_KEYS || size <= place->room_size)
+        return 0;
+    room = malloc(size);
+    if (room == NULL)
+        return 1;
+    free(place->room);
+    place->room = room;
+    place->room_size = size;
+    return 0;
+}
+
+hot_status hot_get_many(hot_handle *handle, hot_lookup *lookups, size_t count) {
+    uint16_t number;
+    hot_status status = hot_number(handle, &number);
+    if (status != HOT_DONE)
+        return status;
+    if (lacks_room(handle->place, count))
+        return HOT_NO_MEMORY;
+    heap_lend(handle->place->room, handle->place->room_size);
+    status = proved_get_many(handle, lookups, count);
+    heap_take_back();
+    return status;
 }
 
 hot_status hot_get_packed(hot_handle *handle, const uint8_t *bytes, const size_t *lengths, size_t count, uint64_t *values,

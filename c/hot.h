@@ -45,7 +45,8 @@
  * memory comes from malloc, and an index takes all of it at once.
  *
  * Each handle has memory for the pairs of its scans, too, which the next scan uses again. After a scan it goes if the keys have more than
- * 32 KiB of it, or the rest has. So a handle keeps 64 KiB of it at most between its calls.
+ * 32 KiB of it, or the rest has. So a handle keeps 64 KiB of it at most between its calls. After a hot_get_many of up to 256 keys it keeps
+ * 272 bytes for each, too, and the next one for no more keys asks for no memory.
  *
  * The library starts no threads and keeps no data outside its indexes. It needs Linux, and an x86-64 processor of the level for which it
  * was compiled: x86-64-v3, which has AVX2, unless the machine that compiled it had not, or x86-64-v2 was asked for. On an older one
