@@ -162,6 +162,17 @@ extern "C" {
         upto_length: usize,
         count: *mut usize,
     ) -> Status;
+    fn hot_scan_values(
+        handle: *mut RawHandle,
+        from: *const u8,
+        from_length: usize,
+        upto: *const u8,
+        upto_length: usize,
+        values: *mut u64,
+        limit: usize,
+        count: *mut usize,
+        more: *mut u32,
+    ) -> Status;
     fn hot_first(handle: *mut RawHandle, from: *const u8, length: usize, pair: *mut RawPair) -> Status;
     fn hot_last(handle: *mut RawHandle, upto: *const u8, length: usize, pair: *mut RawPair) -> Status;
     fn hot_pop_first(
@@ -444,6 +455,27 @@ impl Lease {
             )
         };
         count
+    }
+
+    /// The first values from one key to another, at most `limit`, and whether there are more.
+    pub(crate) fn values(&self, from: &[u8], upto: &[u8], limit: usize) -> Result<(Vec<u64>, bool), Error> {
+        let mut values = room(limit, 0)?;
+        let (mut count, mut more) = (0, 0);
+        Error::check(unsafe {
+            hot_scan_values(
+                self.raw(),
+                from.as_ptr(),
+                from.len(),
+                upto.as_ptr(),
+                upto.len(),
+                values.as_mut_ptr(),
+                values.len(),
+                &mut count,
+                &mut more,
+            )
+        })?;
+        values.truncate(count);
+        Ok((values, more != 0))
     }
 
     /// The first pair from a key on.

@@ -545,6 +545,19 @@ impl Handle {
         self.iter().map(|(_, value)| value)
     }
 
+    /// The values of the keys of a range, in the order of the keys: those of [`range`](Handle::range) by one scan, which copies no key. Each
+    /// is of a moment of its own. Records that other threads retire meanwhile can't be used again until it ends.
+    ///
+    /// ```
+    /// let handle = hot::Hot::with_capacity(10, 8, 1)?.handle()?;
+    /// handle.extend([("a", 1), ("b", 2), ("c", 3)])?;
+    /// assert_eq!(handle.values_range("b"..)?, [2, 3]);
+    /// # Ok::<(), hot::Error>(())
+    /// ```
+    pub fn values_range(&self, keys: impl KeyRange) -> Result<Vec<u64>, Error> {
+        range::values(self, &keys)
+    }
+
     /// The pair with the least key.
     pub fn first_key_value(&self) -> Option<(Vec<u8>, u64)> {
         self.lease

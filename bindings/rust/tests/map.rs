@@ -123,6 +123,8 @@ fn check_range(handle: &Handle, model: &Model, random: &mut Random) {
     let keys = (random.bound(), random.bound());
     let wanted = listed(model, |key| within(key, &keys));
     assert_eq!(handle.count_range(keys.clone()), wanted.len());
+    let values: Vec<_> = wanted.iter().map(|(_, value)| *value).collect();
+    assert_eq!(handle.values_range(keys.clone()), Ok(values));
     let (mut range, mut front, mut back) = (handle.range(keys), Vec::new(), Vec::new());
     loop {
         let is_forward = random.below(3) > 0;
