@@ -51,9 +51,10 @@ fn collect_due<G: Gate>(table: &HotTable, seat: &mut TableSeat, gate: &mut G, sc
     ensures idle { IsIdle table.now seat.new }
     ensures tidied { Tidies table.now G.becomes (seat.old, gate.old) (seat.new, gate.new) }
 {
-    if scratch.limbo.is_due() {
+    let layout = table.layout();
+    if scratch.limbo.is_due(layout) {
         collect_small_round(table, seat, gate, &mut scratch.limbo);
-        scratch.reuse_given_records(table.layout());
+        scratch.reuse_given_records(layout);
     }
 }
 
