@@ -55,6 +55,9 @@ struct Tally {
     found_free: bool,
 }
 
+/// The least state word of a retired record, that of epoch 1.
+const LEAST_OBSOLETE: u64 = 12;
+
 /// The tally of no visits.
 const NO_VISITS: Tally = Tally {
     given: 0,
@@ -358,11 +361,15 @@ fn outcome_of_state(word: u64) -> Visited
     }
 }
 
-/// The epoch in which a record with the state `word` was retired, if it is below `bound`. `None` if it isn't, or the state is another.
+/// The epoch in which a record with the state `word` was retired, if it is below `bound`. `None` if it isn't, or the state is another. Most
+/// records are in another, which the first comparison tells.
 fn epoch_below(word: u64, bound: u64) -> Option<u64>
     ensures { MatchOption result ((epoch : ℕ) → 1 ≤ epoch → epoch < EPOCHS → epoch < bound → word ≢ state_word (Obsolete epoch))
         (λ epoch. (1 ≤ epoch) × (epoch < EPOCHS) × (epoch < bound) × (word ≡ state_word (Obsolete epoch))) }
 {
+    if word < LEAST_OBSOLETE {
+        return None;
+    }
     match read_obsolete_epoch(word) {
         Some(epoch) if epoch < bound => Some(epoch),
         _ => None,
