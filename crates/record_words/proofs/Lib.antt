@@ -1,6 +1,7 @@
 -- The lemmas of the crate.
 pub mod Bytes
 pub mod Closed
+mod Digits
 pub mod Dropping
 pub mod Entries
 pub mod Fixing
@@ -8,10 +9,14 @@ pub mod Forking
 pub mod Fronts
 pub mod Growing
 pub mod Heads
+mod HeadsByKind
+mod Kinds
+mod LaneWords
 pub mod Lanes
 pub mod Lawful
 pub mod Leaves
 pub mod Locations
+mod NearLanes
 pub mod Nodes
 pub mod Offsets
 pub mod Packings
@@ -21,4 +26,5 @@ pub mod Spelled
 pub mod Spellings
 pub mod Unused
 pub mod UpToKey
+mod Worked
 pub mod Written

@@ -46,7 +46,7 @@ row_words Middle rows = lane_words 16 8 (row_lanes 16 rows)
 -- the words of a head of this kind, and all ones behind them
 abbrev pub kind_words : Kind → ℕ → ℕ → List ℕ → List ℕ → List ℕ
 kind_words kind count height columns rows =
-    (meta_word count (length columns) height + kind_part kind columns) ∷ column_words kind columns ++ row_words kind rows ++ replicate (HEAD_WORDS - head_size kind) (2 ^ 64 - 1)
+    (meta_word count (length columns) height + kind_part kind columns) ∷ (column_words kind columns ++ (row_words kind rows ++ replicate (HEAD_WORDS - head_size kind) (2 ^ 64 - 1)))
 
 -- the words at offsets 1 to HEAD_WORDS of a node record, in the kind that the columns take
 unfoldable pub fixed_words : ℕ → ℕ → List ℕ → List ℕ → List ℕ

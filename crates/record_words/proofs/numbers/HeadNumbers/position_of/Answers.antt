@@ -5,7 +5,7 @@ use Rattle.record_words.specs.Node.{head_words}
 use Rattle.record_words.proofs.Fixing.{fixed_words_parts}
 use Rattle.record_words.proofs.Lawful.{column-lt}
 use Rattle.record_words.proofs.Parts.{part_read, position_in_word}
-use Rattle.record_words.proofs.numbers.position_of.Goals as goal
+use Rattle.record_words.proofs.numbers.HeadNumbers.position_of.Goals as goal
 
 pub returns : goal.returns
 returns c = λ node lawful same.

@@ -6,7 +6,7 @@ use Rattle.compound_node.specs.Nodes.{head_of}
 use Rattle.record_words.specs.Node.{head_words}
 use Rattle.record_words.proofs.Lanes.{rows_joined}
 use Rattle.record_words.proofs.Spelled.{rows_read}
-use Rattle.record_words.proofs.search.rows_in.Goals as goal
+use Rattle.record_words.proofs.search.wide_rows_in.Goals as goal
 
 pub returns : goal.returns
 returns c = λ node lawful same.
