@@ -1,6 +1,7 @@
 -- The lemmas of the crate.
 pub mod Bytes
 pub mod Closed
+mod Complying
 mod Digits
 pub mod Dropping
 pub mod Entries
@@ -22,6 +23,7 @@ pub mod Offsets
 pub mod Packings
 pub mod Parts
 pub mod Runs
+mod Searched
 pub mod Spelled
 pub mod Spellings
 pub mod Unused

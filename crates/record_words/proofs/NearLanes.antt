@@ -1,8 +1,16 @@
 -- Near columns read back of their lanes.
-use Rattle.std.proofs.Common.{ℕ, ◌≡◌, ◌≢◌, ◌+◌, ◌-◌, ◌*◌, ◌/◌, ◌%◌, ◌^◌, ◌<◌, ◌≤◌, cond, eqb, List, [], ◌∷◌, get_or, bit_and, refl, sym, ap, ◌∙◌, arith, below_more}
+use Rattle.std.proofs.Common.{ℕ, zero, suc, ◌≡◌, ◌≢◌, ◌+◌, ◌-◌, ◌*◌, ◌/◌, ◌%◌, ◌^◌, ◌<◌, ◌≤◌, ⊎_elim, cond, eqb, List, [], ◌∷◌, map, length, get_or, bit_and, refl, sym, ap, ap₂, ◌∙◌, arith, below_more, lit<}
 use borrow.Author.Count.{below_none}
-use Rattle.std.proofs.lemmas.Bool.{ne_eqb}
-use Rattle.record_words.specs.Kinds.{bit_mask}
+use Rattle.std.specs.List.{range_with_len}
+use Rattle.std.proofs.lemmas.Bool.{cases_lt, ne_eqb}
+use Rattle.std.proofs.lemmas.List.{get_or-map, get_or_default, get_or_past}
+use Rattle.std.proofs.lemmas.List.FromFn.{get_or-range_with_len}
+use Rattle.pieces.specs.Positions.{Ascends}
+use Rattle.partial_keys.specs.Columns.{IsColumns}
+use Rattle.partial_keys.proofs.Windows.{rise_low}
+use Rattle.record_words.specs.Kinds.{bit_mask, first_byte, index_lanes, mask_lanes, near_position}
+use Rattle.record_words.proofs.Kinds.{AreNear}
+use Rattle.record_words.proofs.Lawful.{small_below}
 
 -- ---- a bit of a byte, and its mask
 abbrev pub low_table : List ℕ
@@ -38,3 +46,31 @@ used_lane first p from small there =
 
 pub unused_lane : (first index p : ℕ) → p % 9 ≡ 0 → lane_read first index (bit_mask p) ≡ 65535
 unused_lane first index p none = rw none refl
+
+-- ---- all lanes of near columns
+-- a lane that is computed from its place
+lane_is : (f : ℕ → ℕ) (i : ℕ) → i < 16 → get_or (map f (range_with_len 0 16)) i 0 ≡ f i
+lane_is f i low = get_or-map f (range_with_len 0 16) i 0 0 low ∙ ap f (get_or-range_with_len 0 16 i 0 low ∙ omega arith)
+
+-- no column is before the first one's byte
+first_lowest : (columns : List ℕ) (i : ℕ) → Ascends 0 columns → i < length columns → first_byte columns ≤ get_or columns i 0 / 9
+first_lowest [] i rise l = absurd (omega (arith, l))
+first_lowest (c ∷ cs) zero rise l = omega arith
+first_lowest (c ∷ cs) (suc i) rise l = let low = rise_low (c + 1) cs i rise.1 (omega (arith, l)) in omega (arith, low)
+
+module _ (columns : List ℕ) (most : ℕ) (positions : IsColumns columns) (near : AreNear columns most) where
+  pub position_read : (i : ℕ) → i < 16 → lane_read (first_byte columns) (get_or (index_lanes columns) i 0) (get_or (mask_lanes columns) i 0) ≡ get_or columns (15 - i) 65535
+  position_read i low =
+      let p : ℕ = near_position columns i in
+      ap₂ (lane_read (first_byte columns)) (lane_is (λ k. near_position columns k / 9 - first_byte columns) i low) (lane_is (λ k. bit_mask (near_position columns k)) i low)
+      ∙ ⊎_elim
+      (λ (used : 15 - i < length columns).
+      let same : p ≡ get_or columns (15 - i) 0 = get_or_default columns (15 - i) (9 * first_byte columns) 0 used in
+      let its = near.each (15 - i) used in
+      let small = small_below 65535 columns (lit< tt) positions.below (15 - i) in
+      used_lane (first_byte columns) p (rw same (first_lowest columns (15 - i) positions.rise used)) (omega (arith, same, small)) (λ none. its.a_bit (ap (λ n. n % 9) (sym same) ∙ none))
+      ∙ (same ∙ sym (get_or_default columns (15 - i) 65535 0 used)))
+      (λ (past : length columns ≤ 15 - i).
+      let none : p ≡ 9 * first_byte columns = get_or_past columns (15 - i) (9 * first_byte columns) past in
+      unused_lane (first_byte columns) (p / 9 - first_byte columns) p (omega (arith, none)) ∙ sym (get_or_past columns (15 - i) 65535 past))
+      (cases_lt (15 - i) (length columns))

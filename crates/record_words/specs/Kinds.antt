@@ -1,8 +1,9 @@
 -- The kinds of a node's head: which one its columns take, and the lanes of bytes in which a near one spells them.
-use Rattle.std.specs.Prelude.{ℕ, ◌+◌, ◌-◌, ◌*◌, ◌/◌, ◌%◌, ◌^◌, ◌&&◌, Bool, cond, eqb, nat_le, nat_lt, not, List, length, map, slice_index, slice_index_or}
+use Rattle.std.specs.Prelude.{ℕ, ◌≡◌, ◌≤◌, ◌++◌, ◌+◌, ◌-◌, ◌*◌, ◌/◌, ◌%◌, ◌^◌, ◌&&◌, Bool, cond, eqb, nat_le, nat_lt, not, true, List, length, map, replicate, slice_index, slice_index_or}
 use Rattle.std.specs.List.{range_with_len}
 use lib.Lanes.{digits_l, number_l}
 use Rattle.key_bits.specs.declared.TheConstants.{MAX_BYTES}
+use Rattle.partial_keys.specs.Columns.{IsColumns}
 use Rattle.pieces.specs.Positions.{all}
 use Rattle.record_words.specs.declared.kind.Kind.{Kind}
 use Rattle.record_words.specs.declared.kind.Kind.TheVariants.{Wide, Narrow, Middle}
@@ -89,3 +90,24 @@ index_lanes columns = map (λ i. near_position columns i / 9 - first_byte column
 -- the bit of each lane in its byte; 0 past the last column
 abbrev pub mask_lanes : List ℕ → List ℕ
 mask_lanes columns = map (λ i. bit_mask (near_position columns i)) (range_with_len 0 16)
+
+-- how far a position is behind the first of the nine bits of a byte, in 16 bits; 0 for 65,535, which stands for no column
+abbrev pub distance_from : ℕ → ℕ → ℕ
+distance_from first p = cond (eqb p 65535) 0 ((p + (2 ^ 16 - 9 * first % 2 ^ 16)) % 2 ^ 16)
+
+-- columns that a near head can spell
+pub record HasNearLanes (columns : List ℕ) : Type 0 where
+  pub positions : IsColumns columns
+  pub few : length columns ≤ MIDDLE_COLUMNS
+  pub near : are_near columns ≡ true
+
+-- lanes that spell such columns, counted from this byte on
+pub record AreNearLanes (columns indexes masks : List ℕ) (first : ℕ) : Type 0 where
+  pub has : HasNearLanes columns
+  pub indexes_are : indexes ≡ index_lanes columns
+  pub masks_are : masks ≡ mask_lanes columns
+  pub first_is : first ≡ first_byte columns
+
+-- sixteen positions, those of the columns and 65,535 behind them
+abbrev pub with_free_to_16 : List ℕ → List ℕ
+with_free_to_16 columns = columns ++ replicate (16 - length columns) 65535

@@ -32,6 +32,29 @@
 //!         3 ..   the key's bytes, eight a word, the first in the highest eight bits; other bytes of
 //!                the last word are 0, and the words behind it may be anything
 //! ```
+//!
+//! ## Heads by kind: where what stands
+//!
+//! `specs/Kinds` says which kind columns take, and what the lanes of near ones are. `specs/Packed` has the words: `column_words`, `row_words`,
+//! `kind_words`, and `fixed_words`, which takes the kind of the columns. So the words of a head stay a function of the head.
+//! `specs/HeadParts` has the parts that a search loads, and `AreNumbersOf`, what the first word tells.
+//!
+//! | function | its contract |
+//! |---|---|
+//! | `kind_of` | the definition `kind_of` |
+//! | `read_numbers` | numbers, kind and first byte of each node with this word |
+//! | `HeadNumbers::row_of`, `position_of` | the row, the position, as read of the words at `index_of_row`, `index_of_position`, `index_of_mask` |
+//! | `first_position_of` | the first position, as read of the word at `index_of_first_position` |
+//! | `positions_in`, `rows_in` | all columns, all rows of each node with these words, as lanes: whatever reads a whole head goes through these two |
+//! | `near_lanes_of`, `near_positions` | near columns to lanes, and back |
+//! | `extract_near` | the dense key for near columns |
+//! | `search_narrow`, `search_middle` | the slot to which a key's bits lead; wide heads have `extract_dense_key` and `search_row_words` |
+//! | `put_columns`, `put_rows`, `put_head` | the words are `column_words`, `row_words`, those of the head |
+//! | `affected_slots`, `add_leaf`, `drop_entry`, `close_fork`, `read_node` | as of words of one kind |
+//!
+//! No function of this list is proved over kinds yet, nor is a reader of words above this crate changed. The files `Digits`, `LaneWords`, `Kinds`,
+//! `HeadsByKind`, `NearLanes`, `Complying`, `Searched` and `Worked` of proofs/ are written for it, and no check has read them. `Fixing`,
+//! and what cites it, speaks of wide heads alone: `HeadsByKind::head_parts` takes its place. `value_tests/src/kinds.rt` tries each kind by value.
 #![tactic(auto)]
 
 mod affected;

@@ -1,11 +1,9 @@
 //! Near columns: lanes of bytes with the index of each column's byte and with a mask of its bit, made and read.
 
-ghost use Rattle.std.specs.Prelude.{ℕ, ◌≡◌, ◌+◌, ◌-◌, ◌*◌, ◌/◌, ◌^◌, ◌<◌, ◌≤◌, ◌++◌, [], ◌∷◌, List, length, replicate, slice_index, true};
+ghost use Rattle.std.specs.Prelude.{ℕ, ◌≡◌, ◌-◌, ◌^◌, ◌<◌, [], ◌∷◌, List, length, slice_index};
 ghost use Rattle.key_bits.specs.Bits.{bit_of};
-ghost use Rattle.key_bits.specs.declared.TheConstants.{MAX_BYTES};
-ghost use Rattle.partial_keys.specs.Columns.{IsColumns};
 ghost use Rattle.partial_keys.specs.Rows.{dense_of};
-ghost use Rattle.record_words.specs.Kinds.{are_near, first_byte, index_lanes, lane_words, mask_lanes};
+ghost use Rattle.record_words.specs.Kinds.{AreNearLanes, HasNearLanes, distance_from, index_lanes, lane_words, mask_lanes, with_free_to_16};
 
 use key_bits::Key;
 use std::simd::prelude::*;
@@ -41,6 +39,8 @@ pub(crate) fn words_of_bytes(lanes: u8x16) -> u64x2
 /// for no column.
 #[inline(always)]
 fn distances_of(positions: u16x16, first: u16) -> u16x16
+    ensures whole { length result ≡ 16 }
+    ensures each { (i : ℕ) → i < 16 → slice_index result i ≡ distance_from first (slice_index positions (15 - i)) }
 {
     let distances = positions - u16x16::splat(9 * first);
     positions
@@ -53,9 +53,8 @@ fn distances_of(positions: u16x16, first: u16) -> u16x16
 /// those of the columns, and 65,535 behind them.
 #[inline(always)]
 pub(crate) fn near_lanes_of(positions: u16x16) -> (u8x16, u8x16)
-    requires { (columns : List ℕ) × IsColumns columns × (length columns ≤ 16) × (are_near columns ≡ true) × (positions ≡ columns ++ replicate (16 - length columns) 65535) }
-    ensures { (columns : List ℕ) → IsColumns columns → length columns ≤ 16 → positions ≡ columns ++ replicate (16 - length columns) 65535 →
-        (result.0 ≡ index_lanes columns) × (result.1 ≡ mask_lanes columns) }
+    requires { (columns : List ℕ) × HasNearLanes columns × (positions ≡ with_free_to_16 columns) }
+    ensures { (columns : List ℕ) → HasNearLanes columns → positions ≡ with_free_to_16 columns → (result.0 ≡ index_lanes columns) × (result.1 ≡ mask_lanes columns) }
 {
     let first = positions.to_array()[0] / 9;
     let distances = distances_of(positions, first);
@@ -69,8 +68,7 @@ pub(crate) fn near_lanes_of(positions: u16x16) -> (u8x16, u8x16)
 /// first.
 #[inline(always)]
 pub(crate) fn near_positions(indexes: u8x16, masks: u8x16, first: u8) -> u16x16
-    ensures { (columns : List ℕ) → IsColumns columns → length columns ≤ 16 → are_near columns ≡ true → indexes ≡ index_lanes columns → masks ≡ mask_lanes columns →
-        first ≡ first_byte columns → result ≡ columns ++ replicate (16 - length columns) 65535 }
+    ensures { (columns : List ℕ) → AreNearLanes columns indexes masks first → result ≡ with_free_to_16 columns }
 {
     let bytes = indexes.cast::<u16>() + u16x16::splat(first as u16);
     let low = u8x16::from_array(BIT_OF_LOW_MASK).swizzle_dyn_within::<16>(masks & u8x16::splat(15));
@@ -87,9 +85,8 @@ pub(crate) fn near_positions(indexes: u8x16, masks: u8x16, first: u8) -> u16x16
 /// bytes from there on are read at once. Places behind the key's end are 0, as its bits there.
 #[inline(always)]
 pub(crate) fn extract_near(indexes: u8x16, masks: u8x16, first: u8, key: &Key) -> u32
-    requires { (columns : List ℕ) × IsColumns columns × (are_near columns ≡ true) × (indexes ≡ index_lanes columns) × (masks ≡ mask_lanes columns) × (first ≡ first_byte columns) }
-    ensures { (columns : List ℕ) → IsColumns columns → length columns ≤ 16 → are_near columns ≡ true → indexes ≡ index_lanes columns → masks ≡ mask_lanes columns →
-        first ≡ first_byte columns → result ≡ dense_of columns (bit_of key.now) }
+    requires { (columns : List ℕ) × AreNearLanes columns indexes masks first }
+    ensures { (columns : List ℕ) → AreNearLanes columns indexes masks first → result ≡ dense_of columns (bit_of key.now) }
 {
     let window = u8x16::from_slice(&key.padded_bytes()[first as usize..]);
     let there = window.swizzle_dyn_within::<16>(indexes) & masks;
