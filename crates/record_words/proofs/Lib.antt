@@ -17,9 +17,11 @@ pub mod Lanes
 pub mod Lawful
 pub mod Leaves
 pub mod Locations
+mod NearDense
 mod NearLanes
 pub mod Nodes
 pub mod Offsets
+mod OneHead
 pub mod Packings
 pub mod Parts
 pub mod Runs

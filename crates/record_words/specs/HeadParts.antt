@@ -1,6 +1,6 @@
 -- Parts of a head's words.
-use Rattle.std.specs.Prelude.{ℕ, ◌≡◌, ◌≢◌, List, drop, length, take}
-use Rattle.compound_node.specs.Nodes.{HeadView, NodeView}
+use Rattle.std.specs.Prelude.{ℕ, ◌≡◌, ◌≢◌, List, drop, length, slice_index, take}
+use Rattle.compound_node.specs.Nodes.{HeadView, IsLawfulNode, NodeView, head_of}
 use Rattle.record_words.specs.Kinds.{first_byte, kind_of}
 use Rattle.record_words.specs.Node.{HasHeadWords, head_words}
 use Rattle.record_words.specs.declared.kind.Kind.{Kind}
@@ -11,6 +11,10 @@ use Rattle.record_words.specs.declared.TheConstants.{FIRST_ROWS, MIDDLE_HEAD_WOR
 -- some node has the head, and it is of this kind
 abbrev pub HasHeadOf : Kind → HeadView → Type 0
 HasHeadOf kind head = HasHeadWords head × (kind_of head.columns ≡ kind)
+
+-- each node whose head is of this kind, and has these words in this part, is so
+abbrev pub InNodesOfKind : Kind → (HeadView → List ℕ) → List ℕ → (NodeView → Type 0) → Type 0
+InNodesOfKind kind part words IsSo = (node : NodeView) → IsLawfulNode node → kind_of node.columns ≡ kind → part (head_of node) ≡ words → IsSo node
 
 -- the words of a wide head with the numbers and the positions
 abbrev pub front_words : HeadView → List ℕ
@@ -34,3 +38,7 @@ pub record AreNumbersOf (numbers : HeadNumbers) (node : NodeView) : Type 0 where
   pub height_is : numbers.height ≡ node.height
   pub kind_is : numbers.kind ≡ kind_of node.columns
   pub first_is : numbers.kind ≢ Wide → numbers.first_byte ≡ first_byte node.columns
+
+-- each node whose head has these numbers, and this word at this index, is so
+abbrev pub InNodesWith : HeadNumbers → ℕ → ℕ → (NodeView → Type 0) → Type 0
+InNodesWith numbers index word IsSo = (node : NodeView) → IsLawfulNode node → AreNumbersOf numbers node → slice_index (head_words (head_of node)) index ≡ word → IsSo node

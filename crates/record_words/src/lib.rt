@@ -52,9 +52,14 @@
 //! | `put_columns`, `put_rows`, `put_head` | the words are `column_words`, `row_words`, those of the head |
 //! | `affected_slots`, `add_leaf`, `drop_entry`, `close_fork`, `read_node` | as of words of one kind |
 //!
-//! No function of this list is proved over kinds yet, nor is a reader of words above this crate changed. The files `Digits`, `LaneWords`, `Kinds`,
-//! `HeadsByKind`, `NearLanes`, `Complying`, `Searched` and `Worked` of proofs/ are written for it, and no check has read them. `Fixing`,
-//! and what cites it, speaks of wide heads alone: `HeadsByKind::head_parts` takes its place. `value_tests/src/kinds.rt` tries each kind by value.
+//! No function of this list is proved over kinds yet. The files `Digits`, `LaneWords`, `Kinds`, `HeadsByKind`, `NearLanes`, `NearDense`,
+//! `OneHead`, `Complying`, `Searched` and `Worked` of proofs/ are written for it, and no check has read them. `Fixing`, and what cites it,
+//! speaks of wide heads alone: `HeadsByKind::head_parts` takes its place. `value_tests/src/kinds.rt` tries each kind by value.
+//!
+//! Readers and writers above this crate still take each head for a wide one. A search loads the first word, and then as many as its kind says.
+//! Whoever reads one row or position of a locked node loads the first word before. A used word of rows can be all ones, where its first row
+//! is, and all behind it are unused: whoever stores only used words counts it to the unused ones. A replay decodes by the kind, makes the
+//! words anew and compares all of them.
 #![tactic(auto)]
 
 mod affected;

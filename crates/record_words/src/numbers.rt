@@ -2,7 +2,7 @@
 
 ghost use Rattle.std.specs.Prelude.{◌≡◌, ◌+◌, ◌-◌, ◌/◌, ◌%◌, ◌^◌, ◌<◌, ℕ, slice_index};
 ghost use Rattle.compound_node.specs.Nodes.{IsLawfulNode, NodeView, head_of};
-ghost use Rattle.record_words.specs.HeadParts.{AreNumbersOf};
+ghost use Rattle.record_words.specs.HeadParts.{AreNumbersOf, InNodesWith};
 ghost use Rattle.record_words.specs.Kinds.{bit_mask, kind_in, mask_index};
 ghost use Rattle.record_words.specs.Node.{head_words};
 
@@ -26,8 +26,8 @@ pub struct HeadNumbers {
 
 impl HeadNumbers {
     ghost use Rattle.std.specs.Prelude.{◌≡◌, ◌+◌, ◌-◌, ◌/◌, slice_index};
-    ghost use Rattle.compound_node.specs.Nodes.{IsLawfulNode, NodeView, head_of};
-    ghost use Rattle.record_words.specs.HeadParts.{AreNumbersOf};
+    ghost use Rattle.compound_node.specs.Nodes.{head_of};
+    ghost use Rattle.record_words.specs.HeadParts.{InNodesWith};
     ghost use Rattle.record_words.specs.Kinds.{columns_end, mask_index, position_index, rows_a_word, rows_from};
     ghost use Rattle.record_words.specs.Node.{head_words};
     ghost use Rattle.record_words.specs.Packed.{position_at, row_at};
@@ -100,8 +100,7 @@ impl HeadNumbers {
     /// past the last entry.
     #[inline(always)]
     pub fn row_of(self, word: u64, slot: u8) -> u32
-        ensures { (node : NodeView) → IsLawfulNode node → AreNumbersOf self node → slice_index (head_words (head_of node)) (rows_from self.kind + slot / rows_a_word self.kind) ≡ word →
-            result ≡ row_at node.rows slot }
+        ensures { InNodesWith self (rows_from self.kind + slot / rows_a_word self.kind) word (λ node. result ≡ row_at node.rows slot) }
     {
         if slot >= self.count {
             return u32::MAX;
@@ -117,8 +116,8 @@ impl HeadNumbers {
     /// at [`HeadNumbers::index_of_mask`]. It is 65,535 past the last column.
     #[inline(always)]
     pub fn position_of(self, word: u64, masks: u64, column: u8) -> u16
-        ensures { (node : NodeView) → IsLawfulNode node → AreNumbersOf self node → slice_index (head_words (head_of node)) (position_index self.kind column) ≡ word →
-            slice_index (head_words (head_of node)) (mask_index self.kind column) ≡ masks → result ≡ position_at node.columns column }
+        ensures { InNodesWith self (position_index self.kind column) word (λ node. slice_index (head_words (head_of node)) (mask_index self.kind column) ≡ masks →
+            result ≡ position_at node.columns column) }
     {
         if column >= self.columns {
             return u16::MAX;
@@ -184,8 +183,7 @@ pub fn index_of_first_position(kind: Kind) -> usize
 /// The position of the first column, in each node whose head has `numbers` and `word` at [`index_of_first_position`].
 #[inline(always)]
 pub fn first_position_of(numbers: HeadNumbers, word: u64) -> u16
-    ensures { (node : NodeView) → IsLawfulNode node → AreNumbersOf numbers node → slice_index (head_words (head_of node)) (mask_index numbers.kind 0) ≡ word →
-        result ≡ slice_index node.columns 0 }
+    ensures { InNodesWith numbers (mask_index numbers.kind 0) word (λ node. result ≡ slice_index node.columns 0) }
 {
     if numbers.kind == Kind::Wide {
         return (word % 65_536) as u16;

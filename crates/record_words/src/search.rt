@@ -1,14 +1,14 @@
 //! Searching in the words of a head as they were loaded.
 
 ghost use Rattle.std.specs.Prelude.{◌≡◌, ◌+◌, ◌-◌, ◌*◌, ◌/◌, ◌%◌, ◌^◌, ◌<◌, ◌≤◌, ◌++◌, Bool, ℕ, length, replicate, slice_index};
+ghost use lib.Count.{count_leading_zeros};
 ghost use lib.Lanes.{digits_l, number_l};
-ghost use Rattle.compound_node.specs.Nodes.{NodeView, IsLawfulNode, head_of, piece};
+ghost use Rattle.compound_node.specs.Nodes.{piece};
 ghost use Rattle.key_bits.specs.Bits.{bit_of};
 ghost use Rattle.partial_keys.specs.Rows.{dense_of, with_unused};
 ghost use Rattle.pieces.specs.Piece.{leads_to};
 ghost use Rattle.pieces.specs.Positions.{has};
-ghost use Rattle.record_words.specs.HeadParts.{HasHeadOf, back_words, front_words, middle_words, narrow_words};
-ghost use Rattle.record_words.specs.Kinds.{kind_of};
+ghost use Rattle.record_words.specs.HeadParts.{HasHeadOf, InNodesOfKind, back_words, front_words, middle_words, narrow_words};
 ghost use Rattle.record_words.specs.Node.{InNodesOf};
 ghost use Rattle.record_words.specs.Reading.{IsSpelling};
 ghost use Rattle.record_words.specs.declared.kind.Kind.TheVariants.{Middle, Narrow, Wide};
@@ -31,24 +31,24 @@ const PLACES: [u32; 32] = [
     26, 27, 28, 29, 30, 31,
 ];
 
-/// The dense key of `key` for each node whose head is wide and begins with `words`: the bit of column j is bit 31-j. The positions are read as a vector
-/// as they stand. `search_row_words` needs the words behind these alone, so a caller can load those later.
+/// The dense key of `key` for each node whose head is wide and begins with `words`: the bit of column j is bit 31-j. The positions are
+/// read as a vector as they stand. `search_row_words` needs the words behind these alone, so a caller can load those later.
 #[inline(always)]
 pub fn extract_dense_key(words: &[u64; FIRST_ROWS], key: &Key) -> u32
     requires { IsSpelling (HasHeadOf Wide) front_words words.now }
-    ensures { (node : NodeView) → IsLawfulNode node → kind_of node.columns ≡ Wide → front_words (head_of node) ≡ words.now → result ≡ dense_of node.columns (bit_of key.now) }
+    ensures { InNodesOfKind Wide front_words words.now (λ node. result ≡ dense_of node.columns (bit_of key.now)) }
 {
     let positions = split_into_quarters(u64x8::from_slice(&words[FIRST_POSITIONS..]));
     extract_dense_key_by_lanes(positions, read_numbers(words[0]).columns, key)
 }
 
-/// The slot to which the forks lead by the dense key `dense`, in each node whose head is wide and ends with `words`. As `Head::search`, but no head is
-/// made: the rows are searched as a vector as they stand.
+/// The slot to which the forks lead by the dense key `dense`, in each node whose head is wide and ends with `words`. As `Head::search`, but
+/// no head is made: the rows are searched as a vector as they stand.
 #[inline(always)]
 pub fn search_row_words(words: &[u64; ROW_WORDS], dense: u32) -> u8
     requires { IsSpelling (HasHeadOf Wide) back_words words.now }
-    ensures { (node : NodeView) → IsLawfulNode node → kind_of node.columns ≡ Wide → back_words (head_of node) ≡ words.now →
-        (bit : ℕ → Bool) → dense ≡ dense_of node.columns bit → result ≡ leads_to bit (piece node) }
+    ensures { InNodesOfKind Wide back_words words.now (λ node.
+        (bit : ℕ → Bool) → dense ≡ dense_of node.columns bit → result ≡ leads_to bit (piece node)) }
 {
     search_rows(wide_rows_in(words), dense)
 }
@@ -57,7 +57,7 @@ pub fn search_row_words(words: &[u64; ROW_WORDS], dense: u32) -> u8
 #[inline(always)]
 pub fn search_narrow(words: &[u64; NARROW_HEAD_WORDS], key: &Key) -> u8
     requires { IsSpelling (HasHeadOf Narrow) narrow_words words.now }
-    ensures { (node : NodeView) → IsLawfulNode node → kind_of node.columns ≡ Narrow → narrow_words (head_of node) ≡ words.now → result ≡ leads_to (bit_of key.now) (piece node) }
+    ensures { InNodesOfKind Narrow narrow_words words.now (λ node. result ≡ leads_to (bit_of key.now) (piece node)) }
 {
     let numbers = read_numbers(words[0]);
     let (indexes, masks) = (bytes_of_words(0, words[1]), bytes_of_words(0, words[2]));
@@ -71,7 +71,7 @@ pub fn search_narrow(words: &[u64; NARROW_HEAD_WORDS], key: &Key) -> u8
 #[inline(always)]
 pub fn search_middle(words: &[u64; MIDDLE_HEAD_WORDS], key: &Key) -> u8
     requires { IsSpelling (HasHeadOf Middle) middle_words words.now }
-    ensures { (node : NodeView) → IsLawfulNode node → kind_of node.columns ≡ Middle → middle_words (head_of node) ≡ words.now → result ≡ leads_to (bit_of key.now) (piece node) }
+    ensures { InNodesOfKind Middle middle_words words.now (λ node. result ≡ leads_to (bit_of key.now) (piece node)) }
 {
     let numbers = read_numbers(words[0]);
     let indexes = bytes_of_words(words[1], words[2]);
@@ -90,6 +90,7 @@ pub fn search_middle(words: &[u64; MIDDLE_HEAD_WORDS], key: &Key) -> u8
 fn last_of(mask: u64, count: u8) -> u8
     requires some { mask % 2 ≡ 1 }
     requires few { (1 ≤ count) × (count ≤ 32) }
+    ensures { result ≡ 63 - count_leading_zeros 64 (mask % 2 ^ count) }
 {
     (63 - (mask & ((1 << count) - 1)).leading_zeros()) as u8
 }
@@ -162,7 +163,7 @@ fn with_unused_from(rows: u32x32, count: u8) -> u32x32
 #[inline(always)]
 fn wide_rows_in(words: &[u64]) -> u32x32
     requires { length words.now ≡ ROW_WORDS }
-    ensures { (node : NodeView) → IsLawfulNode node → kind_of node.columns ≡ Wide → back_words (head_of node) ≡ words.now → result ≡ with_unused node.rows }
+    ensures { InNodesOfKind Wide back_words words.now (λ node. result ≡ with_unused node.rows) }
 {
     let low = split_into_halves(u64x8::from_slice(words));
     let high = split_into_halves(u64x8::from_slice(&words[8..]));
