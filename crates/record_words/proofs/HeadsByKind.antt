@@ -1,6 +1,6 @@
 -- The parts of a head's words, by its kind.
 use Rattle.std.proofs.Common.{ℕ, zero, suc, ◌≡◌, ◌≢◌, ◌+◌, ◌-◌, ◌*◌, ◌/◌, ◌%◌, ◌^◌, ◌<◌, ◌≤◌, ◌++◌, List, [], ◌∷◌, arith, cond, eqb, get_or, length, length-append, drop, take, replicate, refl, sym, ap, subst, ◌∙◌}
-use Rattle.std.proofs.lemmas.List.{append_assoc, drop_at, take_at}
+use Rattle.std.proofs.lemmas.List.{append_assoc, drop_at, length-replicate, take_at}
 use Rattle.std.proofs.lemmas.List.FromFn.{length-map-range_with_len}
 use lib.Lanes.{chunk, digits_l, number_l}
 use Rattle.record_words.specs.Kinds.{first_byte, head_size, kind_in, kind_of, kind_part, lane_words, rows_from}
@@ -30,10 +30,16 @@ length-row_words Middle rows = ap (λ n. 5 + n) (length-lane_words 16 8 _)
 
 -- ---- the parts
 pub record HasParts (kind : Kind) (count height : ℕ) (columns rows words : List ℕ) : Type 0 where
+  pub whole : length words ≡ 25
   pub numbers : get_or words 0 0 ≡ meta_word count (length columns) height + kind_part kind columns
   pub columns_are : chunk 1 (rows_from kind - 1) words ≡ column_words kind columns
   pub rows_are : chunk (rows_from kind) (head_size kind - rows_from kind) words ≡ row_words kind rows
   pub rest : drop (head_size kind) words ≡ replicate (25 - head_size kind) (2 ^ 64 - 1)
+
+most : (kind : Kind) → head_size kind ≤ 25
+most Wide = omega arith
+most Narrow = omega arith
+most Middle = omega arith
 
 pub parts_of_kind : (kind : Kind) (count height : ℕ) (columns rows : List ℕ) → HasParts kind count height columns rows (kind_words kind count height columns rows)
 parts_of_kind kind count height columns rows =
@@ -45,6 +51,7 @@ parts_of_kind kind count height columns rows =
     let longer : rows_from kind + length rs ≡ head_size kind = length-row_words kind rows in
     let behind : drop (rows_from kind) (n ∷ (cs ++ (rs ++ us))) ≡ rs ++ us = drop_at (n ∷ cs) (rs ++ us) (rows_from kind) long in
     record {
+      whole = ap suc (length-append cs (rs ++ us) ∙ omega (arith, length-append rs us, long, longer, length-replicate {A = ℕ} (25 - head_size kind) (2 ^ 64 - 1), most kind));
       numbers = refl;
       columns_are = take_at cs (rs ++ us) (rows_from kind - 1) (omega (arith, long));
       rows_are = ap (take (head_size kind - rows_from kind)) behind ∙ take_at rs us (head_size kind - rows_from kind) (omega (arith, longer));

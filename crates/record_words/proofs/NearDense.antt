@@ -37,7 +37,7 @@ mask_of_bits (suc n) ms (b ∷ bs) long few each =
     let last : get_or ms n false ≡ b = each n (omega arith) ∙ ap (λ k. get_or (b ∷ bs) k false) (let e : suc n - 1 - n ≡ 0 = omega arith in e) in
     let whole : ms ≡ front ++ get_or ms n false ∷ [] = sym (take_all (suc n) ms (omega (arith, long))) ∙ take-suc ms n false (omega (arith, long)) in
     let rest : mask_l front ≡ code n bs = mask_of_bits n front bs front_long (omega (arith, few))
-        (λ i l. get_or-take n ms i false l ∙ (each i (omega (arith, l)) ∙ ap (λ k. get_or (b ∷ bs) k false) (let e : suc n - 1 - i ≡ suc (n - 1 - i) = omega (arith, l) in e))) in
+    (λ i l. get_or-take n ms i false l ∙ (each i (omega (arith, l)) ∙ ap (λ k. get_or (b ∷ bs) k false) (let e : suc n - 1 - i ≡ suc (n - 1 - i) = omega (arith, l) in e))) in
     let top : cond (get_or ms n false) (2 ^ length front) 0 ≡ cond b (2 ^ n) 0 = ap₂ (λ t k. cond t (2 ^ k) 0) last front_long in
     ap mask_l whole ∙ (mask_snoc front (get_or ms n false) ∙ omega (arith, rest, top))
 
@@ -91,7 +91,7 @@ module _ (key : List ℕ) (bytes : (k : ℕ) → get_or key k 0 < 256) where
       ∙ sym (ap₂ (λ s t. s && (t || eqb (bit_at (get_or key (p / 9) 0) (8 - p % 9)) 1)) (lt-ltb (p / 9) (length key) held) (ne_eqb (p % 9) 0 there))))))
       (λ (past : length key ≤ p / 9).
       let zeros : get_or (with_zeros key) (p / 9) 0 ≡ 0 = get_or-append_right key (replicate (240 - length key) 0) (length key) (p / 9) 0 refl past
-          ∙ get_or-replicate {A = ℕ} (240 - length key) (p / 9 - length key) 0 0 (omega (arith, past, inside)) in
+      ∙ get_or-replicate {A = ℕ} (240 - length key) (p / 9 - length key) 0 0 (omega (arith, past, inside)) in
       ap (λ byte. not (eqb (bit_and byte (bit_mask p)) 0)) zeros
       ∙ sym (ap (λ s. s && (eqb (p % 9) 0 || eqb (bit_at (get_or key (p / 9) 0) (8 - p % 9)) 1)) (le-ltb (p / 9) (length key) past)))
       (cases_lt (p / 9) (length key))

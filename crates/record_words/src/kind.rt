@@ -87,8 +87,5 @@ fn are_near(columns: &Columns) -> bool
         return false;
     }
     let end = first + WINDOW_BYTES;
-    columns
-        .as_slice()
-        .iter()
-        .all(|position| *position % 9 != 0 && (*position as usize) / 9 < end)
+    columns.as_slice().iter().all(|position| *position % 9 != 0 && (*position as usize) / 9 < end)
 }

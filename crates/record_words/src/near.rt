@@ -72,7 +72,9 @@ pub(crate) fn near_positions(indexes: u8x16, masks: u8x16, first: u8) -> u16x16
 {
     let bytes = indexes.cast::<u16>() + u16x16::splat(first as u16);
     let low = u8x16::from_array(BIT_OF_LOW_MASK).swizzle_dyn_within::<16>(masks & u8x16::splat(15));
-    let high = u8x16::from_array(BIT_OF_HIGH_MASK).swizzle_dyn_within::<16>(masks >> u8x16::splat(4));
+    let high = u8x16::from_array(BIT_OF_HIGH_MASK).swizzle_dyn_within::<16>(
+        masks >> u8x16::splat(4),
+    );
     let positions = bytes * u16x16::splat(9) + (low + high).cast::<u16>();
     masks
         .cast::<u16>()

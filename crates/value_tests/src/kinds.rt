@@ -18,8 +18,18 @@ const KINDS: [(&[u16], Kind); 13] = [
     (&[7, 8], Kind::Narrow),
     (&[1, 2, 10, 20, 35, 71, 100, 143], Kind::Narrow),
     (&[1, 2, 10, 20, 35, 71, 100, 142, 143], Kind::Middle),
-    (&[28, 29, 30, 31, 32, 33, 34, 35, 37, 38, 39, 40, 41, 42, 169, 170], Kind::Middle),
-    (&[28, 29, 30, 31, 32, 33, 34, 35, 37, 38, 39, 40, 41, 42, 43, 169, 170], Kind::Wide),
+    (
+        &[
+            28, 29, 30, 31, 32, 33, 34, 35, 37, 38, 39, 40, 41, 42, 169, 170,
+        ],
+        Kind::Middle,
+    ),
+    (
+        &[
+            28, 29, 30, 31, 32, 33, 34, 35, 37, 38, 39, 40, 41, 42, 43, 169, 170,
+        ],
+        Kind::Wide,
+    ),
     (&[1, 144], Kind::Wide),
     (&[1, 145], Kind::Wide),
     (&[10, 145], Kind::Narrow),
@@ -102,15 +112,24 @@ fn expect_words(rt: &impl Abort, words: &[u64; NODE_FIELDS], node: &Node, want: 
     assert!(rt; numbers.height == node.height());
     for j in 0..columns.count() {
         let position = columns.position(j);
-        assert!(rt; plain_position(words, want, j as usize) == position, "column {j}");
+        assert!(rt;
+            plain_position(words, want, j as usize) == position,
+            "column {j}"
+        );
         let word = words[numbers.index_of_position(j)];
         let masks = words[numbers.index_of_mask(j)];
-        assert!(rt; numbers.position_of(word, masks, j) == position, "column {j}");
+        assert!(rt;
+            numbers.position_of(word, masks, j) == position,
+            "column {j}"
+        );
     }
     let first = first_position_of(numbers, words[index_of_first_position(want)]);
     assert!(rt; first == columns.first());
     for i in 0..node.count() {
-        assert!(rt; plain_row(words, want, i as usize) == node.sparse(i), "row {i}");
+        assert!(rt;
+            plain_row(words, want, i as usize) == node.sparse(i),
+            "row {i}"
+        );
         let row = numbers.row_of(words[numbers.index_of_row(i)], i);
         assert!(rt; row == node.sparse(i), "row {i}");
     }
@@ -142,15 +161,22 @@ fn heads_take_the_kind_of_their_columns(rt: HostRuntime) {
         let mut head = [0; HEAD_WORDS];
         head.copy_from_slice(&words[..HEAD_WORDS]);
         expect_words(&rt, &words, &node, want);
-        for length in [0, 1, 2, 3, 7, 15, 16, 17, 18, 19, 25, 200, 224, 225, 239, 240] {
+        for length in [
+            0, 1, 2, 3, 7, 15, 16, 17, 18, 19, 25, 200, 224, 225, 239, 240,
+        ] {
             for seed in 1..9 {
                 let key = long_key(&rt, seed, length);
-                assert!(rt; search_words(&words, &key) == node.search(&key), "key {seed} of {length}");
+                assert!(rt;
+                    search_words(&words, &key) == node.search(&key),
+                    "key {seed} of {length}"
+                );
             }
         }
         for found in 0..node.count() {
             for position in [0, 1, 2, 8, 10, 30, 40, 144, 170, 2018, 2159, 65_534] {
-                assert!(rt; affected_slots(&head, found, position) == node.affected(found, position));
+                assert!(rt;
+                    affected_slots(&head, found, position) == node.affected(found, position)
+                );
             }
         }
     }
@@ -169,7 +195,9 @@ fn leaves_are_added_to_each_kind(rt: HostRuntime) {
                         let mut taken = false;
                         for slot in first..last + 1 {
                             for j in 0..node.columns().count() {
-                                if node.columns().position(j) == position && node.sparse(slot) >> (31 - j) & 1 == 1 {
+                                if node.columns().position(j) == position
+                                    && node.sparse(slot) >> (31 - j) & 1 == 1
+                                {
                                     taken = true;
                                 }
                             }
