@@ -11,6 +11,7 @@ pub mod Fronts
 pub mod Growing
 pub mod Heads
 mod HeadsByKind
+mod Highs
 mod Kinds
 mod LaneWords
 pub mod Lanes

@@ -53,7 +53,7 @@
 //! | `affected_slots`, `add_leaf`, `drop_entry`, `close_fork`, `read_node` | as of words of one kind |
 //!
 //! No function of this list is proved over kinds yet. The files `Digits`, `LaneWords`, `Kinds`, `HeadsByKind`, `NearLanes`, `NearDense`,
-//! `OneHead`, `Complying`, `Searched` and `Worked` of proofs/ are written for it, and no check has read them. `Fixing::fixed_words_parts`
+//! `OneHead`, `Highs`, `Complying`, `Searched` and `Worked` of proofs/ are written for it, and no check has read them. `Fixing::fixed_words_parts`
 //! now asks for a wide head; what cites it is to go by `HeadsByKind::head_parts` or by the two decoders. `value_tests/src/kinds.rt` tries each kind by value.
 //!
 //! Readers and writers above this crate still take each head for a wide one. A search loads the first word, and then as many as its kind says.
