@@ -7,7 +7,7 @@ use Rattle.record_words.specs.Kinds.{first_byte, head_size, kind_in, kind_of, ki
 use Rattle.record_words.specs.Packed.{column_words, fixed_words, kind_words, meta_word, position_word, row_word, row_words}
 use Rattle.record_words.specs.declared.kind.Kind.{Kind}
 use Rattle.record_words.specs.declared.kind.Kind.TheVariants.{Middle, Narrow, Wide}
-use Rattle.record_words.proofs.Kinds.{AreNear, OfKind, of_kind, is_wide, is_narrow, is_middle}
+use Rattle.record_words.proofs.OfKinds.{AreNear, OfKind, of_kind, is_wide, is_narrow, is_middle}
 
 -- ---- how many words there are
 length-digits : (p n x : ℕ) → length (digits_l p n x) ≡ n
