@@ -12,7 +12,6 @@ pub mod Growing
 pub mod Heads
 mod HeadsByKind
 mod Highs
-mod Kinds
 mod LaneWords
 pub mod Lanes
 pub mod Lawful
@@ -21,6 +20,7 @@ pub mod Locations
 mod NearDense
 mod NearLanes
 pub mod Nodes
+mod OfKinds
 pub mod Offsets
 mod OneHead
 pub mod Packings

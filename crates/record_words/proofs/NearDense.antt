@@ -11,7 +11,7 @@ use Rattle.key_bits.specs.Bits.{bit_of}
 use Rattle.key_bits.specs.Gather.{code}
 use Rattle.key_bits.specs.Key.{with_zeros}
 use Rattle.record_words.specs.Kinds.{bit_mask}
-use Rattle.record_words.proofs.Kinds.{IsNear}
+use Rattle.record_words.proofs.OfKinds.{IsNear}
 use lib.Lanes.{mask_l}
 
 -- ---- lanes as the highest bits, the last one as the highest

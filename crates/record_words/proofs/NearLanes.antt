@@ -9,7 +9,7 @@ use Rattle.pieces.specs.Positions.{Ascends}
 use Rattle.partial_keys.specs.Columns.{IsColumns}
 use Rattle.partial_keys.proofs.Windows.{rise_low}
 use Rattle.record_words.specs.Kinds.{bit_mask, first_byte, index_lanes, mask_lanes, near_position}
-use Rattle.record_words.proofs.Kinds.{AreNear}
+use Rattle.record_words.proofs.OfKinds.{AreNear}
 use Rattle.record_words.proofs.Lawful.{small_below}
 
 -- ---- a bit of a byte, and its mask

@@ -8,7 +8,7 @@ use Rattle.compound_node.proofs.Lawful.{same_count}
 use Rattle.partial_keys.specs.Columns.{IsColumns}
 use Rattle.record_words.specs.Kinds.{first_byte, index_lanes, mask_lanes}
 use Rattle.record_words.specs.Packed.{row_at, row_lanes}
-use Rattle.record_words.proofs.Kinds.{AreNear}
+use Rattle.record_words.proofs.OfKinds.{AreNear}
 use Rattle.record_words.proofs.NearLanes.{lane_read, position_read}
 use Rattle.record_words.proofs.Searched.{row_by_high}
 

@@ -52,7 +52,7 @@
 //! | `put_columns`, `put_rows`, `put_head` | the words are `column_words`, `row_words`, those of the head |
 //! | `affected_slots`, `add_leaf`, `drop_entry`, `close_fork`, `read_node` | as of words of one kind |
 //!
-//! No function of this list is proved over kinds yet. The files `Digits`, `LaneWords`, `Kinds`, `HeadsByKind`, `NearLanes`, `NearDense`,
+//! No function of this list is proved over kinds yet. The files `Digits`, `LaneWords`, `OfKinds`, `HeadsByKind`, `NearLanes`, `NearDense`,
 //! `OneHead`, `Highs`, `Complying`, `Searched` and `Worked` of proofs/ are written for it, and no check has read them. `Fixing::fixed_words_parts`
 //! now asks for a wide head; what cites it is to go by `HeadsByKind::head_parts` or by the two decoders. `value_tests/src/kinds.rt` tries each kind by value.
 //!
