@@ -53,7 +53,7 @@ lane_is : (f : ℕ → ℕ) (i : ℕ) → i < 16 → get_or (map f (range_with_l
 lane_is f i low = get_or-map f (range_with_len 0 16) i 0 0 low ∙ ap f (get_or-range_with_len 0 16 i 0 low ∙ omega arith)
 
 -- no column is before the first one's byte
-first_lowest : (columns : List ℕ) (i : ℕ) → Ascends 0 columns → i < length columns → first_byte columns ≤ get_or columns i 0 / 9
+pub first_lowest : (columns : List ℕ) (i : ℕ) → Ascends 0 columns → i < length columns → first_byte columns ≤ get_or columns i 0 / 9
 first_lowest [] i rise l = absurd (omega (arith, l))
 first_lowest (c ∷ cs) zero rise l = omega arith
 first_lowest (c ∷ cs) (suc i) rise l = let low = rise_low (c + 1) cs i rise.1 (omega (arith, l)) in omega (arith, low)

@@ -1,9 +1,9 @@
 -- What the columns of each kind are.
 use Rattle.std.proofs.Common.{ℕ, zero, suc, ◌≡◌, ◌≢◌, ◌+◌, ◌/◌, ◌%◌, ◌^◌, ◌<◌, ◌≤◌, ◌⊎◌, inl, inr, Bool, true, false, cond, ◌&&◌, not, eqb, leb, nat_lt, List, [], ◌∷◌, length, get_or, refl, sym, ap, ◌∙◌, arith}
 use Rattle.std.specs.Prelude.{nat_le}
-use Rattle.std.proofs.lemmas.Bool.{eqb-false, false≢true, leb-true, ltb-true}
+use Rattle.std.proofs.lemmas.Bool.{eqb-false, false≢true, le-leb, leb-true, ltb-true}
 use Rattle.pieces.specs.Positions.{all}
-use Rattle.record_words.specs.Kinds.{are_near, first_byte, is_near, kind_of}
+use Rattle.record_words.specs.Kinds.{HasNearLanes, are_near, first_byte, is_near, kind_of}
 use Rattle.record_words.specs.declared.kind.Kind.{Kind}
 use Rattle.record_words.specs.declared.kind.Kind.TheVariants.{Middle, Narrow, Wide}
 
@@ -65,3 +65,6 @@ of_kind columns = go (are_near columns) refl (nat_le (length columns) 16) refl (
     go true a true b false c = is_middle (rw (a, b, c) refl) (near_all columns 16 a b)
     go true a false b few c = is_wide (rw (a, b) refl)
     go false a some b few c = is_wide (rw a refl)
+
+pub near_of : (columns : List ℕ) → HasNearLanes columns → AreNear columns 16
+near_of columns has = near_all columns 16 has.near (le-leb (length columns) 16 has.few)
