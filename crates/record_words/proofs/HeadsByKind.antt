@@ -1,10 +1,10 @@
 -- The parts of a head's words, by its kind.
-use Rattle.std.proofs.Common.{ℕ, zero, suc, ◌≡◌, ◌≢◌, ◌+◌, ◌-◌, ◌*◌, ◌/◌, ◌%◌, ◌^◌, ◌<◌, ◌≤◌, ◌++◌, List, [], ◌∷◌, arith, cond, eqb, get_or, length, length-append, drop, take, replicate, refl, sym, ap, subst, ◌∙◌}
+use Rattle.std.proofs.Common.{ℕ, zero, suc, ◌≡◌, ◌≢◌, ◌+◌, ◌-◌, ◌*◌, ◌/◌, ◌%◌, ◌^◌, ◌<◌, ◌≤◌, ◌++◌, List, [], ◌∷◌, arith, cond, eqb, get_or, length, length-append, drop, take, replicate, refl, sym, ap, ap₂, subst, ◌∙◌}
 use Rattle.std.proofs.lemmas.List.{append_assoc, drop_at, length-replicate, take_at}
 use Rattle.std.proofs.lemmas.List.FromFn.{length-map-range_with_len}
 use lib.Lanes.{chunk, digits_l, number_l}
-use Rattle.record_words.specs.Kinds.{first_byte, head_size, kind_in, kind_of, kind_part, lane_words, rows_from}
-use Rattle.record_words.specs.Packed.{column_words, fixed_words, kind_words, meta_word, position_word, row_word, row_words}
+use Rattle.record_words.specs.Kinds.{first_byte, head_size, index_lanes, kind_in, kind_of, kind_part, lane_words, mask_lanes, rows_from}
+use Rattle.record_words.specs.Packed.{column_words, fixed_words, kind_words, meta_word, position_word, row_lanes, row_word, row_words}
 use Rattle.record_words.specs.declared.kind.Kind.{Kind}
 use Rattle.record_words.specs.declared.kind.Kind.TheVariants.{Middle, Narrow, Wide}
 use Rattle.record_words.proofs.OfKinds.{AreNear, OfKind, of_kind, is_wide, is_narrow, is_middle}
@@ -18,15 +18,18 @@ pub length-lane_words : (w n : ℕ) (lanes : List ℕ) → length (lane_words w 
 unfolding lane_words
 length-lane_words w n lanes = length-digits (2 ^ 64) n (number_l (2 ^ w) lanes)
 
+two_parts : (n : ℕ) (xs ys : List ℕ) → length (lane_words 8 n xs ++ lane_words 8 n ys) ≡ n + n
+two_parts n xs ys = length-append (lane_words 8 n xs) (lane_words 8 n ys) ∙ ap₂ (λ a b. a + b) (length-lane_words 8 n xs) (length-lane_words 8 n ys)
+
 pub length-column_words : (kind : Kind) (columns : List ℕ) → 1 + length (column_words kind columns) ≡ rows_from kind
 length-column_words Wide columns = ap suc (length-map-range_with_len (position_word columns) 0 8)
-length-column_words Narrow columns = ap suc (length-append (lane_words 8 1 _) (lane_words 8 1 _) ∙ omega (arith, length-lane_words 8 1 _, length-lane_words 8 1 _))
-length-column_words Middle columns = ap suc (length-append (lane_words 8 2 _) (lane_words 8 2 _) ∙ omega (arith, length-lane_words 8 2 _, length-lane_words 8 2 _))
+length-column_words Narrow columns = ap (λ n. 1 + n) (two_parts 1 (drop 8 (index_lanes columns)) (drop 8 (mask_lanes columns)))
+length-column_words Middle columns = ap (λ n. 1 + n) (two_parts 2 (index_lanes columns) (mask_lanes columns))
 
 pub length-row_words : (kind : Kind) (rows : List ℕ) → rows_from kind + length (row_words kind rows) ≡ head_size kind
 length-row_words Wide rows = ap (λ n. 9 + n) (length-map-range_with_len (row_word rows) 0 16)
-length-row_words Narrow rows = ap (λ n. 3 + n) (length-lane_words 8 4 _)
-length-row_words Middle rows = ap (λ n. 5 + n) (length-lane_words 16 8 _)
+length-row_words Narrow rows = ap (λ n. 3 + n) (length-lane_words 8 4 (row_lanes 24 rows))
+length-row_words Middle rows = ap (λ n. 5 + n) (length-lane_words 16 8 (row_lanes 16 rows))
 
 -- ---- the parts
 pub record HasParts (kind : Kind) (count height : ℕ) (columns rows words : List ℕ) : Type 0 where
@@ -49,9 +52,9 @@ parts_of_kind kind count height columns rows =
     let us : List ℕ = replicate (25 - head_size kind) (2 ^ 64 - 1) in
     let long : 1 + length cs ≡ rows_from kind = length-column_words kind columns in
     let longer : rows_from kind + length rs ≡ head_size kind = length-row_words kind rows in
-    let behind : drop (rows_from kind) (n ∷ (cs ++ (rs ++ us))) ≡ rs ++ us = drop_at (n ∷ cs) (rs ++ us) (rows_from kind) long in
+    let behind : drop (rows_from kind) (n ∷ (cs ++ (rs ++ us))) ≡ rs ++ us = drop_at (n ∷ cs) (rs ++ us) (rows_from kind) (omega (arith, long)) in
     record {
-      whole = ap suc (length-append cs (rs ++ us) ∙ omega (arith, length-append rs us, long, longer, length-replicate {A = ℕ} (25 - head_size kind) (2 ^ 64 - 1), most kind));
+      whole = omega (arith, length-append cs (rs ++ us), length-append rs us, long, longer, length-replicate {A = ℕ} (25 - head_size kind) (2 ^ 64 - 1), most kind);
       numbers = refl;
       columns_are = take_at cs (rs ++ us) (rows_from kind - 1) (omega (arith, long));
       rows_are = ap (take (head_size kind - rows_from kind)) behind ∙ take_at rs us (head_size kind - rows_from kind) (omega (arith, longer));

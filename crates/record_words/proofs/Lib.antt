@@ -2,7 +2,7 @@
 pub mod Bytes
 pub mod Closed
 mod Complying
-mod Digits
+pub mod Digits
 pub mod Dropping
 pub mod Entries
 pub mod Fixing
@@ -10,25 +10,26 @@ pub mod Forking
 pub mod Fronts
 pub mod Growing
 pub mod Heads
-mod HeadsByKind
+pub mod HeadsByKind
 mod Highs
-mod LaneWords
+pub mod LaneWords
 pub mod Lanes
 pub mod Lawful
 pub mod Leaves
 pub mod Locations
 mod NearDense
-mod NearLanes
+pub mod NearLanes
 pub mod Nodes
-mod OfKinds
+pub mod OfKinds
 pub mod Offsets
-mod OneHead
+pub mod OneHead
 pub mod Packings
 pub mod Parts
 pub mod Runs
 mod Searched
 pub mod Spelled
 pub mod Spellings
+pub mod TellingHead
 pub mod Unused
 pub mod UpToKey
 mod Worked

@@ -91,6 +91,6 @@ module _ (node : NodeView) (lawful : IsLawfulNode node) (n : ℕ) (few : length 
   row_by_high i inside =
       let size : length (paths (piece node)) ≡ length node.rows = sym (ap length lawful.shows.rows_are ∙ length-map (paths (piece node)) (row_of node.columns)) in
       let path : List ℕ = get_or (paths (piece node)) i [] in
-      let is : get_or node.rows i 0 ≡ row_of node.columns path = rw lawful.shows.rows_are (get_or-map (row_of node.columns) (paths (piece node)) i [] 0 (omega (arith, inside, size))) in
+      let is : get_or node.rows i 0 ≡ row_of node.columns path = ap (λ rs. get_or rs i 0) lawful.shows.rows_are ∙ get_or-map (row_of node.columns) (paths (piece node)) i [] 0 (omega (arith, inside, size)) in
       let high : get_or node.rows i 0 ≡ code n (map (has path) node.columns) * 2 ^ (32 - n) = is ∙ sym (code-shifted n (32 - n) 32 (map (has path) node.columns) (omega (arith, room)) (rw length-map few)) in
       ap (λ m. m / 2 ^ (32 - n) * 2 ^ (32 - n)) high ∙ (ap (λ m. m * 2 ^ (32 - n)) (shl-shr (code n (map (has path) node.columns)) (32 - n)) ∙ sym high)
