@@ -19,6 +19,7 @@ pub mod Leaves
 pub mod Locations
 mod NearDense
 pub mod NearLanes
+mod NearPositions
 pub mod Nodes
 pub mod OfKinds
 pub mod Offsets

@@ -65,3 +65,12 @@ of_kind columns = go (are_near columns) refl (nat_le (length columns) 16) refl (
     go true a true b false c = is_middle (rw (a, b, c) refl) (near_all columns 16 a b)
     go true a false b few c = is_wide (rw (a, b) refl)
     go false a some b few c = is_wide (rw a refl)
+
+-- columns of another kind than wide can have lanes
+pub few_and_near : (columns : List ℕ) → kind_of columns ≢ Wide → (length columns ≤ 16) × (are_near columns ≡ true)
+few_and_near columns other = go (are_near columns) refl (nat_le (length columns) 16) refl
+  where
+    go : (near : Bool) → are_near columns ≡ near → (some : Bool) → nat_le (length columns) 16 ≡ some → (length columns ≤ 16) × (are_near columns ≡ true)
+    go true a true b = (leb-true (length columns) 16 b, a)
+    go true a false b = absurd (other (rw (a, b) refl))
+    go false a some b = absurd (other (rw a refl))
