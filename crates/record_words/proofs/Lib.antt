@@ -18,7 +18,9 @@ pub mod Lawful
 pub mod Leaves
 pub mod Locations
 mod NearDense
+mod NearHeads
 pub mod NearLanes
+mod NearPositions
 pub mod Nodes
 pub mod OfKinds
 pub mod Offsets

@@ -33,14 +33,26 @@ bit_told =
 abbrev pub lane_read : ℕ → ℕ → ℕ → ℕ
 lane_read first index mask = cond (eqb mask 0) 65535 ((((index + first) % 2 ^ 16) * 9 % 2 ^ 16 + bit_read mask) % 2 ^ 16)
 
+pub mask_of_bit : (p : ℕ) → p % 9 ≢ 0 → bit_mask p ≡ 2 ^ (8 - ((p % 9 - 1) + 1))
+mask_of_bit p there =
+    let is : p % 9 ≡ (p % 9 - 1) + 1 = omega (arith, there) in
+    ap (λ t. cond t 0 (2 ^ (8 - p % 9))) (ne_eqb (p % 9) 0 there) ∙ ap (λ k. 2 ^ (8 - k)) is
+
+pub mask_some : (p : ℕ) → p % 9 ≢ 0 → 0 < bit_mask p
+mask_some p there =
+    let o : ℕ = p % 9 - 1 in
+    let told = bit_told o (omega (arith, there)) in
+    let some : bit_mask p ≢ 0 = λ none. (let zero_bit : bit_read (2 ^ (8 - (o + 1))) ≡ 0 = ap bit_read (sym (mask_of_bit p there) ∙ none) in omega (arith, told.0, zero_bit)) in
+    omega (arith, some)
+
 pub used_lane : (first p : ℕ) → first ≤ p / 9 → p < 2 ^ 16 → p % 9 ≢ 0 → lane_read first (p / 9 - first) (bit_mask p) ≡ p
 used_lane first p from small there =
     let o : ℕ = p % 9 - 1 in
     let is : o + 1 ≡ p % 9 = omega (arith, there) in
     let told = bit_told o (omega (arith, there)) in
-    let mask_is : bit_mask p ≡ 2 ^ (8 - (o + 1)) = ap (λ t. cond t 0 (2 ^ (8 - p % 9))) (ne_eqb (p % 9) 0 there) ∙ ap (λ k. 2 ^ (8 - k)) (sym is) in
+    let mask_is : bit_mask p ≡ 2 ^ (8 - (o + 1)) = mask_of_bit p there in
     let bit : bit_read (bit_mask p) ≡ p % 9 = ap bit_read mask_is ∙ (told.0 ∙ is) in
-    let some : bit_mask p ≢ 0 = λ none. (let zero_bit : bit_read (bit_mask p) ≡ 0 = ap bit_read none in omega (arith, bit, zero_bit, there)) in
+    let some : bit_mask p ≢ 0 = (let s = mask_some p there in λ none. omega (arith, s, none)) in
     ap (λ t. cond t 65535 ((((p / 9 - first + first) % 2 ^ 16) * 9 % 2 ^ 16 + bit_read (bit_mask p)) % 2 ^ 16)) (ne_eqb (bit_mask p) 0 some)
     ∙ (ap (λ b. (((p / 9 - first + first) % 2 ^ 16) * 9 % 2 ^ 16 + b) % 2 ^ 16) bit ∙ omega (arith, from, small))
 

@@ -1,9 +1,10 @@
 -- What the columns of each kind are.
 use Rattle.std.proofs.Common.{ℕ, zero, suc, ◌≡◌, ◌≢◌, ◌+◌, ◌/◌, ◌%◌, ◌^◌, ◌<◌, ◌≤◌, ◌⊎◌, inl, inr, Bool, true, false, cond, ◌&&◌, not, eqb, leb, nat_lt, List, [], ◌∷◌, length, get_or, refl, sym, ap, ◌∙◌, arith}
 use Rattle.std.specs.Prelude.{nat_le}
-use Rattle.std.proofs.lemmas.Bool.{eqb-false, false≢true, leb-true, ltb-true}
+use Rattle.std.proofs.lemmas.Bool.{eqb-false, false≢true, le-leb, leb-true, ltb-true}
+use Rattle.partial_keys.specs.Columns.{IsColumns}
 use Rattle.pieces.specs.Positions.{all}
-use Rattle.record_words.specs.Kinds.{are_near, first_byte, is_near, kind_of}
+use Rattle.record_words.specs.Kinds.{HasNearLanes, are_near, first_byte, is_near, kind_of}
 use Rattle.record_words.specs.declared.kind.Kind.{Kind}
 use Rattle.record_words.specs.declared.kind.Kind.TheVariants.{Middle, Narrow, Wide}
 
@@ -65,3 +66,46 @@ of_kind columns = go (are_near columns) refl (nat_le (length columns) 16) refl (
     go true a true b false c = is_middle (rw (a, b, c) refl) (near_all columns 16 a b)
     go true a false b few c = is_wide (rw (a, b) refl)
     go false a some b few c = is_wide (rw a refl)
+
+pub near_of : (columns : List ℕ) → HasNearLanes columns → AreNear columns 16
+near_of columns has = near_all columns 16 has.near (le-leb (length columns) 16 has.few)
+
+-- columns of another kind than wide can have lanes
+pub few_and_near : (columns : List ℕ) → kind_of columns ≢ Wide → (length columns ≤ 16) × (are_near columns ≡ true)
+few_and_near columns other = go (are_near columns) refl (nat_le (length columns) 16) refl
+  where
+    go : (near : Bool) → are_near columns ≡ near → (some : Bool) → nat_le (length columns) 16 ≡ some → (length columns ≤ 16) × (are_near columns ≡ true)
+    go true a true b = (leb-true (length columns) 16 b, a)
+    go true a false b = absurd (other (rw (a, b) refl))
+    go false a some b = absurd (other (rw a refl))
+
+-- all but wide ones are near
+pub are_near_unless_wide : (columns : List ℕ) → kind_of columns ≢ Wide → AreNear columns 16
+are_near_unless_wide columns other = go (of_kind columns)
+  where
+    go : OfKind columns → AreNear columns 16
+    go (is_wide e) = absurd (other e)
+    go (is_narrow e near) = record { few = omega (arith, near.few); within = near.within; each = near.each }
+    go (is_middle e near) = near
+
+pub has_near_lanes : (columns : List ℕ) → IsColumns columns → kind_of columns ≢ Wide → HasNearLanes columns
+has_near_lanes columns positions other = record {
+  positions = positions;
+  few = (are_near_unless_wide columns other).few;
+  near = (few_and_near columns other).1;
+}
+
+-- no kind is another
+pub narrow-not-wide : (kind : Kind) → kind ≡ Narrow → kind ≢ Wide
+narrow-not-wide kind e wide = cc
+
+pub middle-not-wide : (kind : Kind) → kind ≡ Middle → kind ≢ Wide
+middle-not-wide kind e wide = cc
+
+pub narrow_few : (columns : List ℕ) → kind_of columns ≡ Narrow → length columns ≤ 8
+narrow_few columns e = go (of_kind columns)
+  where
+    go : OfKind columns → length columns ≤ 8
+    go (is_wide f) = cc
+    go (is_narrow f near) = near.few
+    go (is_middle f near) = cc

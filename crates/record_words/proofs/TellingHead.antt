@@ -97,10 +97,10 @@ module _ (columns : List ℕ) (most : ℕ) (near : AreNear columns most) (few : 
   lane_mask : ℕ → ℕ
   lane_mask i = bit_mask (near_position columns i)
 
-  indexes_long : length (index_lanes columns) ≡ 16
+  pub indexes_long : length (index_lanes columns) ≡ 16
   indexes_long = length-map-range_with_len (λ i. near_position columns i / 9 - first_byte columns) 0 16
 
-  masks_long : length (mask_lanes columns) ≡ 16
+  pub masks_long : length (mask_lanes columns) ≡ 16
   masks_long = length-map-range_with_len (λ i. bit_mask (near_position columns i)) 0 16
 
   index_is : (i : ℕ) → i < 16 → get_or (index_lanes columns) i 0 ≡ near_position columns i / 9 - first_byte columns
@@ -126,10 +126,10 @@ module _ (columns : List ℕ) (most : ℕ) (near : AreNear columns most) (few : 
   mask_low : (i : ℕ) → i < 16 → get_or (mask_lanes columns) i 0 ≤ 128
   mask_low i low = subst (λ x. x ≤ 128) (sym (mask_is i low)) (bit_mask-le (near_position columns i))
 
-  index_small : (i : ℕ) → i < 16 → get_or (index_lanes columns) i 0 < 2 ^ 8
+  pub index_small : (i : ℕ) → i < 16 → get_or (index_lanes columns) i 0 < 2 ^ 8
   index_small i low = omega (arith, index_low i low)
 
-  mask_small : (i : ℕ) → i < 16 → get_or (mask_lanes columns) i 0 < 2 ^ 8
+  pub mask_small : (i : ℕ) → i < 16 → get_or (mask_lanes columns) i 0 < 2 ^ 8
   mask_small i low = omega (arith, mask_low i low)
 
   -- no word of them is all ones
@@ -175,14 +175,14 @@ module _ (columns : List ℕ) (most : ℕ) (near : AreNear columns most) (few : 
       ap (λ w. w / 2 ^ (8 * (7 - j % 8)) % 2 ^ 8) is ∙ (two_words (mask_lanes columns) masks_long mask_small k (7 - j % 8) (omega arith) (omega (arith, place)) ∙ column_mask j (8 * k + (7 - j % 8)) used (omega (arith, used, few, place)))
 
 -- ---- the lanes of rows
-row_lane_is : (low : ℕ) (rows : List ℕ) (i : ℕ) → i < 32 → get_or (row_lanes low rows) i 0 ≡ row_at rows i / 2 ^ low
+pub row_lane_is : (low : ℕ) (rows : List ℕ) (i : ℕ) → i < 32 → get_or (row_lanes low rows) i 0 ≡ row_at rows i / 2 ^ low
 row_lane_is low rows i inside = get_or-map-range_with_len (λ k. row_at rows k / 2 ^ low) 0 32 i i 0 inside (omega arith)
 
-rows_long : (low : ℕ) (rows : List ℕ) → length (row_lanes low rows) ≡ 32
+pub rows_long : (low : ℕ) (rows : List ℕ) → length (row_lanes low rows) ≡ 32
 rows_long low rows = length-map-range_with_len (λ k. row_at rows k / 2 ^ low) 0 32
 
 module _ (rows : List ℕ) (small : (i : ℕ) → get_or rows i 0 < 2 ^ 32) where
-  bytes_small : Each1 (λ x. x < 2 ^ 8) (row_lanes 24 rows)
+  pub bytes_small : Each1 (λ x. x < 2 ^ 8) (row_lanes 24 rows)
   bytes_small = Each1-from_get_or (λ x. x < 2 ^ 8) (row_lanes 24 rows) 0
       (λ i h. subst (λ x. x < 2 ^ 8) (sym (row_lane_is 24 rows i (omega (arith, h, rows_long 24 rows)))) (let b = row_at-lt rows i small in omega (arith, b)))
 
@@ -231,17 +231,17 @@ module _ (node : NodeView) (lawful : IsLawfulNode node) (words : List ℕ) (same
   pub whole : length words ≡ 25
   whole = parts.whole
 
-  room : length node.rows ≤ 32
+  pub room : length node.rows ≤ 32
   room = omega (arith, same_count node lawful, lawful.room)
 
   -- the first word
   pub told : Tells (length node.rows) node.height node.columns (get_or words 0 0)
   told = first_tells (length node.rows) node.height node.columns (get_or words 0 0) (omega (arith, room)) (let few = lawful.positions.few in omega (arith, few)) (let bound = lawful.bound in omega (arith, bound)) parts.numbers
 
-  of_this : (kind : Kind) → kind_of node.columns ≡ kind → HasParts kind (length node.rows) node.height node.columns node.rows words
+  pub of_this : (kind : Kind) → kind_of node.columns ≡ kind → HasParts kind (length node.rows) node.height node.columns node.rows words
   of_this kind e = subst (λ k. HasParts k (length node.rows) node.height node.columns node.rows words) e parts
 
-  wide : kind_of node.columns ≡ Wide → AreFixed (length node.rows) node.height node.columns node.rows words
+  pub wide : kind_of node.columns ≡ Wide → AreFixed (length node.rows) node.height node.columns node.rows words
   wide e = fixed_words_parts (length node.rows) node.height node.columns node.rows words e same
 
   -- a position of a wide head
@@ -267,7 +267,7 @@ module _ (node : NodeView) (lawful : IsLawfulNode node) (words : List ℕ) (same
       ∙ half_of_row node.rows (row-lt node lawful) i low
 
   -- the words of near columns
-  word_of : (from n k : ℕ) (ws : List ℕ) → k < n → chunk from n words ≡ ws → get_or words (from + k) 0 ≡ get_or ws k 0
+  pub word_of : (from n k : ℕ) (ws : List ℕ) → k < n → chunk from n words ≡ ws → get_or words (from + k) 0 ≡ get_or ws k 0
   word_of from n k ws low is = sym (get_or-chunk from n words k 0 low) ∙ ap (λ (xs : List ℕ). get_or xs k 0) is
 
   -- how far the byte of a column is behind the first, and the mask of its bit

@@ -1,6 +1,6 @@
 //! The words of a node record.
 
-ghost use Rattle.std.specs.Prelude.{ℕ, ◌≡◌, ◌↔◌, ◌+◌, ◌<◌, ◌≤◌, ◌/◌, ◌%◌, ◌++◌, ◌-◌, ◌⊎◌, IsTrue, List, drop, length, slice_get, slice_index, take};
+ghost use Rattle.std.specs.Prelude.{ℕ, ◌≡◌, ◌↔◌, ◌+◌, ◌<◌, ◌≤◌, ◌/◌, ◌%◌, ◌++◌, ◌-◌, ◌⊎◌, ◌≢◌, IsTrue, List, drop, length, slice_get, slice_index, take};
 ghost use Rattle.compound_node.specs.Forking.{forked_head};
 ghost use Rattle.compound_node.specs.Nodes.{NodeView, greatest_height, head_of, piece};
 ghost use Rattle.compound_node.specs.declared.entries.Entry.TheVariants.{Leaf as LeafEntry};
@@ -8,9 +8,10 @@ ghost use Rattle.pieces.specs.Changes.{collapsed, without};
 ghost use Rattle.pieces.specs.Growth.{grown};
 ghost use Rattle.record_words.specs.Entry.{HasEntryWord, entry_word};
 ghost use Rattle.record_words.specs.Node.{CanCloseAt, CanTakeLeaf, HasHeadWords, HasNodeWords, CanGrowAt, HasHead, SpellBuilt, SpellEntries, SpellLeft, head_words, node_words};
-ghost use Rattle.record_words.specs.Kinds.{head_size, kind_of, rows_from};
-ghost use Rattle.record_words.specs.Packed.{column_words, row_words};
+ghost use Rattle.record_words.specs.Kinds.{head_size, index_lanes, kind_of, lane_words, mask_lanes, rows_from};
+ghost use Rattle.record_words.specs.Packed.{column_words, position_word, row_words};
 ghost use Rattle.record_words.specs.Reading.{IsSpelledBy, IsSpelling};
+ghost use Rattle.record_words.specs.declared.kind.Kind.TheVariants.{Wide};
 
 use crate::entry::{pack_entry, read_some_entry};
 use crate::fixed::{
@@ -73,22 +74,40 @@ fn put_columns(words: &mut [u64; NODE_FIELDS], kind: Kind, columns: &Columns)
     ensures columns { take (rows_from kind - FIRST_POSITIONS) (drop FIRST_POSITIONS words.new) ≡ column_words kind columns.now }
     ensures others { (k : ℕ) → (k < FIRST_POSITIONS) ⊎ (rows_from kind ≤ k) → slice_index words.new k ≡ slice_index words.old k }
 {
-    let positions = columns.padded_positions();
-    if kind == Kind::Wide {
-        for j in 0..8 {
-            words[FIRST_POSITIONS + j] = word_of_positions(positions, j);
+    match kind {
+        Kind::Wide => put_positions(words, columns.padded_positions()),
+        Kind::Narrow => {
+            let (indexes, masks) = near_words_of(columns);
+            words[FIRST_POSITIONS] = indexes.to_array()[1];
+            words[FIRST_POSITIONS + 1] = masks.to_array()[1];
         }
-        return;
+        Kind::Middle => {
+            let (indexes, masks) = near_words_of(columns);
+            indexes.copy_to_slice(&mut words[FIRST_POSITIONS..]);
+            masks.copy_to_slice(&mut words[FIRST_POSITIONS + 2..]);
+        }
     }
-    let (indexes, masks) = near_lanes_of(u16x16::from_slice(positions));
-    let (indexes, masks) = (words_of_bytes(indexes), words_of_bytes(masks));
-    if kind == Kind::Narrow {
-        words[FIRST_POSITIONS] = indexes.to_array()[1];
-        words[FIRST_POSITIONS + 1] = masks.to_array()[1];
-    } else {
-        indexes.copy_to_slice(&mut words[FIRST_POSITIONS..]);
-        masks.copy_to_slice(&mut words[FIRST_POSITIONS + 2..]);
+}
+
+/// Writes the words of `positions` to `words`, those of a node whose head is wide. All other words stay.
+#[inline(always)]
+fn put_positions(words: &mut [u64; NODE_FIELDS], positions: &[u16; 31])
+    ensures columns { (j : ℕ) → j < 8 → slice_index words.new (FIRST_POSITIONS + j) ≡ position_word positions.now j }
+    ensures others { (k : ℕ) → (k < FIRST_POSITIONS) ⊎ (FIRST_ROWS ≤ k) → slice_index words.new k ≡ slice_index words.old k }
+{
+    for j in 0..8 {
+        words[FIRST_POSITIONS + j] = word_of_positions(positions, j);
     }
+}
+
+/// The words of near columns: two with the indexes of their bytes, and two with the masks of their bits.
+#[inline(always)]
+fn near_words_of(columns: &Columns) -> (u64x2, u64x2)
+    requires { kind_of columns.now ≢ Wide }
+    ensures { (result.0 ≡ lane_words 8 2 (index_lanes columns.now)) × (result.1 ≡ lane_words 8 2 (mask_lanes columns.now)) }
+{
+    let (indexes, masks) = near_lanes_of(u16x16::from_slice(columns.padded_positions()));
+    (words_of_bytes(indexes), words_of_bytes(masks))
 }
 
 /// Writes the words of `rows` to `words`, those of a node whose head is of the kind `kind`. All other words stay.

@@ -122,12 +122,15 @@ impl HeadNumbers {
         if column >= self.columns {
             return u16::MAX;
         }
-        if self.kind == Kind::Wide {
-            return (word >> (16 * (column % 4)) & 0xffff) as u16;
-        }
         let low = 8 * (7 - column % 8);
-        let (index, mask) = (word >> low & 0xff, masks >> low & 0xff);
-        near_position(self.first_byte, index as u8, mask as u8)
+        match self.kind {
+            Kind::Wide => (word >> (16 * (column % 4)) & 0xffff) as u16,
+            _ => near_position(
+                self.first_byte,
+                (word >> low & 0xff) as u8,
+                (masks >> low & 0xff) as u8,
+            ),
+        }
     }
 }
 
@@ -185,8 +188,8 @@ pub fn index_of_first_position(kind: Kind) -> usize
 pub fn first_position_of(numbers: HeadNumbers, word: u64) -> u16
     ensures { InNodesWith numbers (mask_index numbers.kind 0) word (λ node. result ≡ slice_index node.columns 0) }
 {
-    if numbers.kind == Kind::Wide {
-        return (word % 65_536) as u16;
+    match numbers.kind {
+        Kind::Wide => (word % 65_536) as u16,
+        _ => near_position(numbers.first_byte, 0, (word >> 56) as u8),
     }
-    near_position(numbers.first_byte, 0, (word >> 56) as u8)
 }
