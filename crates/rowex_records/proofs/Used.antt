@@ -1,5 +1,5 @@
 -- In which of its words a node has something.
-use Rattle.std.proofs.Common.{◌≡◌, ◌≢◌, ℕ, zero, suc, ◌+◌, ◌-◌, ◌*◌, ◌/◌, ◌%◌, ◌^◌, ◌<◌, ◌≤◌, ◌⊎◌, inl, inr, Bool, true, false, List, [], ◌∷◌, Option, Some, get_or, get_or-take, length, take, refl, sym, ap, subst, ◌∙◌, arith, ⊎_elim, lit<}
+use Rattle.std.proofs.Common.{◌≡◌, ◌≢◌, ℕ, zero, suc, ◌+◌, ◌-◌, ◌*◌, ◌/◌, ◌%◌, ◌^◌, ◌<◌, ◌≤◌, ◌⊎◌, inl, inr, Bool, true, false, List, [], ◌∷◌, Option, Some, get_or, get_or-take, length, take, refl, sym, ap, ap₂, subst, ◌∙◌, arith, ⊎_elim, lit<}
 use Rattle.std.specs.Prelude.{slice_get}
 use Rattle.std.proofs.Math.Nat.{pow-suc}
 use Rattle.std.proofs.lemmas.Nat.{pow_pos}
@@ -16,7 +16,9 @@ use Rattle.compound_node.specs.Nodes.{NodeView, IsLawfulNode, head_of, piece}
 use Rattle.compound_node.proofs.Lawful.{same_count}
 use Rattle.record_words.specs.declared.TheConstants.{FIRST_ENTRY}
 use Rattle.record_words.specs.Entry.{entry_word}
-use Rattle.record_words.specs.Kinds.{head_size, kind_of, rows_from}
+use Rattle.record_words.specs.Kinds.{columns_end, head_size, kind_of, rows_a_word, rows_from}
+use Rattle.record_words.specs.HeadParts.{AreNumbersOf}
+use Rattle.record_words.specs.declared.numbers.HeadNumbers.{HeadNumbers}
 use Rattle.record_words.specs.declared.kind.Kind.{Kind}
 use Rattle.record_words.specs.declared.kind.Kind.TheVariants.{Middle, Narrow, Wide}
 use Rattle.record_words.specs.Node.{HasNodeWords, head_words, node_words}
@@ -216,6 +218,44 @@ module _ (node : NodeView) (words : List ℕ) (is_node : HasNodeWords node) (sam
           (λ (rest : 13 ≤ i). past_used i (subst (λ k. head_size k ≤ i) (sym e) rest) top)
           (cases_lt i 13) in
       ends all end front behind (omega (arith, is_all, some)) (omega (arith, is_all, few)) last
+
+  -- ---- by the numbers that the first word tells
+  -- up to the last word of rows, or to the one before it, where that is all ones
+  abbrev pub EndsAt : (all end : ℕ) → Type 0
+  EndsAt all end = (end ≡ all × (get_or words (all - 1) 0 ≢ 2 ^ 64 - 1)) ⊎ (end ≡ all - 1 × (get_or words (all - 1) 0 ≡ 2 ^ 64 - 1))
+
+  module _ (numbers : HeadNumbers) (its : AreNumbersOf numbers node) (all : ℕ) (is_all : all ≡ rows_from numbers.kind + (numbers.count + rows_a_word numbers.kind - 1) / rows_a_word numbers.kind) where
+    all_of : (kind : Kind) → numbers.kind ≡ kind → all ≡ rows_from kind + (length node.rows + rows_a_word kind - 1) / rows_a_word kind
+    all_of kind e = is_all ∙ ap₂ (λ k n. rows_from k + (n + rows_a_word k - 1) / rows_a_word k) e (its.count_is ∙ sym (same_count node lawful))
+
+    pub last_within : all - 1 < 57
+    last_within = go numbers.kind refl
+      where
+        go : (kind : Kind) → numbers.kind ≡ kind → all - 1 < 57
+        go Wide e = let is : all ≡ 9 + (length node.rows + 2 - 1) / 2 = all_of Wide e in let few : length node.rows ≤ 32 = room in omega (arith, is, few)
+        go Narrow e = let is : all ≡ 3 + (length node.rows + 8 - 1) / 8 = all_of Narrow e in let few : length node.rows ≤ 32 = room in omega (arith, is, few)
+        go Middle e = let is : all ≡ 5 + (length node.rows + 4 - 1) / 4 = all_of Middle e in let few : length node.rows ≤ 32 = room in omega (arith, is, few)
+
+    pub ends_wide : numbers.kind ≡ Wide → (columns end : ℕ) → columns ≡ columns_end numbers.kind numbers.columns → EndsAt all end → HaveBelow words 1 columns × (HaveBelow words 9 end × HaveBelow words 17 end)
+    ends_wide e columns end is_columns last =
+        let is : all ≡ 9 + (length node.rows + 1) / 2 = all_of Wide e ∙ omega arith in
+        let kind : kind_of node.columns ≡ Wide = sym its.kind_is ∙ e in
+        let end_is : end ≡ 9 + (length node.rows + 1) / 2 = ⊎_elim (λ (used : end ≡ all × (get_or words (all - 1) 0 ≢ 2 ^ 64 - 1)). used.0 ∙ is) (λ (none : end ≡ all - 1 × (get_or words (all - 1) 0 ≡ 2 ^ 64 - 1)). absurd (wide_last kind all is none.1)) last in (
+          wide_columns kind columns (is_columns ∙ ap₂ columns_end e its.columns_are),
+          (wide_rows kind 9 end (omega arith) (omega arith) end_is, wide_rows kind 17 end (omega arith) (omega arith) end_is),
+        )
+
+    pub ends_near : numbers.kind ≢ Wide → (end : ℕ) → EndsAt all end → HaveBelow words 1 end × (HaveBelow words 9 end × HaveBelow words 17 end)
+    ends_near other end last =
+        let to : IsUsedTo end = go numbers.kind refl in (
+          near_below 1 end (omega arith) (omega arith) to,
+          (near_below 9 end (omega arith) (omega arith) to, near_below 17 end (omega arith) (omega arith) to),
+        )
+      where
+        go : (kind : Kind) → numbers.kind ≡ kind → IsUsedTo end
+        go Wide e = absurd (other e)
+        go Narrow e = narrow_ends (sym its.kind_is ∙ e) end all (all_of Narrow e) last
+        go Middle e = middle_ends (sym its.kind_is ∙ e) end all (all_of Middle e) last
 
   pub entries_below : (first : ℕ) → 25 ≤ first → first + 8 ≤ 57 → HaveBelow words first (25 + get_or words 0 0 % 256)
   entries_below first from to =

@@ -112,10 +112,9 @@ fn used_ends(words: &[u64; NODE_FIELDS]) -> (usize, usize)
     } else {
         all
     };
-    if numbers.kind == Kind::Wide {
-        (numbers.columns_end(), rows)
-    } else {
-        (rows, rows)
+    match numbers.kind {
+        Kind::Wide => (numbers.columns_end(), rows),
+        _ => (rows, rows),
     }
 }
 
