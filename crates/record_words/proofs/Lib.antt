@@ -10,6 +10,7 @@ pub mod Forking
 pub mod Fronts
 pub mod Growing
 pub mod Heads
+mod HeadPut
 pub mod HeadsByKind
 mod Highs
 pub mod LaneWords
