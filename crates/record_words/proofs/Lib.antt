@@ -21,6 +21,7 @@ mod NearDense
 mod NearHeads
 pub mod NearLanes
 mod NearPositions
+mod NearRows
 pub mod Nodes
 pub mod OfKinds
 pub mod Offsets
