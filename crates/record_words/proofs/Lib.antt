@@ -9,6 +9,7 @@ pub mod Fixing
 pub mod Forking
 pub mod Fronts
 pub mod Growing
+mod HeadPut
 pub mod Heads
 pub mod HeadsByKind
 mod Highs
@@ -22,6 +23,7 @@ mod NearHeads
 pub mod NearLanes
 mod NearPositions
 mod NearRows
+mod NearSpelling
 pub mod Nodes
 pub mod OfKinds
 pub mod Offsets
