@@ -42,6 +42,11 @@ all_within Wide k past = past
 all_within Narrow k past = omega (arith, past)
 all_within Middle k past = omega (arith, past)
 
+pub some_before_rows : (kind : Kind) → 0 < rows_from kind
+some_before_rows Wide = omega arith
+some_before_rows Narrow = omega arith
+some_before_rows Middle = omega arith
+
 -- the kind and the first byte take less than 2 ^ 42
 few_part : (columns : List ℕ) → kind_part (kind_of columns) columns < 2 ^ 42
 few_part columns = go (of_kind columns)

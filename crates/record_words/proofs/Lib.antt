@@ -9,8 +9,8 @@ pub mod Fixing
 pub mod Forking
 pub mod Fronts
 pub mod Growing
-pub mod Heads
 mod HeadPut
+pub mod Heads
 pub mod HeadsByKind
 mod Highs
 pub mod LaneWords
@@ -22,6 +22,7 @@ mod NearDense
 mod NearHeads
 pub mod NearLanes
 mod NearPositions
+mod NearRows
 mod NearSpelling
 pub mod Nodes
 pub mod OfKinds
