@@ -1,13 +1,13 @@
 -- The words of a head, written part by part.
-use Rattle.std.proofs.Common.{ℕ, ◌≡◌, ◌+◌, ◌-◌, ◌*◌, ◌^◌, ◌<◌, ◌≤◌, ◌++◌, ◌⊎◌, inl, inr, ⊎_elim, List, [], ◌∷◌, arith, drop, get_or, length, length-append, replicate, take, refl, sym, ap, ap₂, ◌∙◌}
+use Rattle.std.proofs.Common.{ℕ, ◌≡◌, ◌+◌, ◌-◌, ◌*◌, ◌^◌, ◌<◌, ◌≤◌, ◌++◌, ◌⊎◌, inl, inr, ⊎_elim, List, [], ◌∷◌, arith, drop, get_or, get_or-set_other, get_or-set_same, length, length-append, replicate, set, take, refl, sym, ap, ap₂, ◌∙◌}
 use Rattle.std.proofs.lemmas.Bool.{cases_lt}
-use Rattle.std.proofs.lemmas.List.{append_assoc, ext_get_or, get_or-append_right, get_or-drop, get_or-replicate, get_or_append_left, length-drop, length-replicate, replicate-append-replicate, take_at}
+use Rattle.std.proofs.lemmas.List.{append_assoc, ext_get_or, get_or-append_right, get_or-drop, get_or-replicate, get_or_append_left, length-drop, length-replicate, length-set, replicate-append-replicate, take_at}
 use Rattle.std.proofs.lemmas.List.FromFn.{get_or-map-range_with_len, length-map-range_with_len}
 use Rattle.std.proofs.lemmas.Simd.{chunk-drop, get_or-chunk, length-chunk}
 use lib.Lanes.{chunk}
 use Rattle.partial_keys.specs.Columns.{with_free}
 use Rattle.record_words.specs.Kinds.{head_size, index_lanes, kind_of, kind_part, lane_words, mask_lanes, rows_from, with_free_to_16}
-use Rattle.record_words.specs.Packed.{column_words, kind_words, meta_word, position_word, row_words}
+use Rattle.record_words.specs.Packed.{column_words, fixed_words, kind_words, meta_word, position_word, row_words}
 use Rattle.record_words.specs.declared.kind.Kind.{Kind}
 use Rattle.record_words.specs.declared.kind.Kind.TheVariants.{Middle, Narrow, Wide}
 use Rattle.record_words.proofs.HeadsByKind.{length-lane_words}
@@ -133,3 +133,34 @@ module _ (kind : Kind) (n : ℕ) (columns rows old start middle words : List ℕ
         behind = ext_get_or 0 (drop 25 words) (drop 25 old) (count ∙ sym (omega (arith, length-drop 25 old, old_whole)))
             (λ k h. get_or-drop 25 words k 0 ∙ (rest (25 + k) (inr (omega (arith, room))) ∙ (others (25 + k) (inr (omega (arith, before, room))) ∙ (behind (25 + k) (omega arith) ∙ sym (get_or-drop 25 old k 0)))));
       }
+
+-- all words of a head are ones before, but for the first
+module _ (filled old : List ℕ) (n : ℕ) (full : filled ≡ replicate 25 (2 ^ 64 - 1)) (whole : length old ≡ 57) where
+  abbrev pub start : List ℕ
+  start = set (filled ++ drop 25 old) 0 n
+
+  long : length filled ≡ 25
+  long = ap length full ∙ length-replicate {A = ℕ} 25 (2 ^ 64 - 1)
+
+  before : length (filled ++ drop 25 old) ≡ 57
+  before = length-append filled (drop 25 old) ∙ omega (arith, long, length-drop 25 old, whole)
+
+  pub start_whole : length start ≡ 57
+  start_whole = length-set (filled ++ drop 25 old) 0 n ∙ before
+
+  pub start_first : get_or start 0 0 ≡ n
+  start_first = get_or-set_same (filled ++ drop 25 old) 0 n 0 (omega (arith, before))
+
+  pub start_ones : (k : ℕ) → 0 < k → k < 25 → get_or start k 0 ≡ 2 ^ 64 - 1
+  start_ones k some low =
+      get_or-set_other (filled ++ drop 25 old) 0 k n 0 (omega (arith, some))
+      ∙ (get_or_append_left filled (drop 25 old) 0 k (omega (arith, low, long)) ∙ (ap (λ (xs : List ℕ). get_or xs k 0) full ∙ get_or-replicate {A = ℕ} 25 k (2 ^ 64 - 1) 0 low))
+
+  pub start_behind : (k : ℕ) → 25 ≤ k → get_or start k 0 ≡ get_or old k 0
+  start_behind k past =
+      get_or-set_other (filled ++ drop 25 old) 0 k n 0 (omega (arith, past))
+      ∙ (get_or-append_right filled (drop 25 old) 25 k 0 long past ∙ (get_or-drop 25 old (k - 25) 0 ∙ ap (λ i. get_or old i 0) (let e : 25 + (k - 25) ≡ k = omega (arith, past) in e)))
+
+pub as_fixed : (kind : Kind) (count height : ℕ) (columns rows : List ℕ) → kind ≡ kind_of columns → kind_words kind count height columns rows ≡ fixed_words count height columns rows
+unfolding fixed_words
+as_fixed kind count height columns rows is = ap (λ k. kind_words k count height columns rows) is
