@@ -27,7 +27,6 @@ mod NearSpelling
 pub mod Nodes
 pub mod OfKinds
 pub mod Offsets
-pub mod OneHead
 pub mod Packings
 pub mod Parts
 pub mod Runs

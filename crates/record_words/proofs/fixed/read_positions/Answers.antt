@@ -5,10 +5,10 @@ use Rattle.record_words.proofs.Spelled.{places_taken}
 use Rattle.record_words.proofs.fixed.read_positions.Goals as goal
 
 pub slice_bounds-copy_from_slice-end-3 : goal.slice_bounds-copy_from_slice-end-3
-slice_bounds-copy_from_slice-end-3 c = sym (length-take-le 31 c.positions_in.result (omega (arith, c.positions_in.auto.0)))
+slice_bounds-copy_from_slice-end-3 c = sym (length-take-le 31 c.positions_in.result (omega arith))
 
 pub copy_from_slice-requires : goal.copy_from_slice-requires
-copy_from_slice-requires c = sym (length-take-le 31 c.positions_in.result (omega (arith, c.positions_in.auto.0)))
+copy_from_slice-requires c = sym (length-take-le 31 c.positions_in.result (omega arith))
 
 pub returns : goal.returns
 returns c = λ node lawful same. c.copy_from_slice.ensures.after ∙ (ap (take 31) (c.positions_in.ensures node lawful same) ∙ places_taken node.columns lawful.positions.few)
