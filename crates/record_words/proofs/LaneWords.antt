@@ -18,7 +18,7 @@ module _ (w m n count : ℕ) (base : IsBase (2 ^ w)) (lanes : List ℕ) (long : 
       ap (digits_l (2 ^ w) count) (number_of_digits (2 ^ 64) base_64 n (number_l (2 ^ w) lanes) (subst (λ k. number_l (2 ^ w) lanes < k) room (number-lt (2 ^ w) base count lanes long small)))
       ∙ digits_of_number (2 ^ w) base count lanes long small
 
-  words_small : Each1 (λ x. x < 2 ^ 64) (lane_words w n lanes)
+  pub words_small : Each1 (λ x. x < 2 ^ 64) (lane_words w n lanes)
   unfolding lane_words
   words_small = digits_small n (number_l (2 ^ w) lanes)
 

@@ -45,6 +45,17 @@ pub fn pack_node(node: &Node) -> [u64; NODE_FIELDS]
     words
 }
 
+/// The words of `head` in a node record, from offset 1 on.
+pub fn pack_head(head: &Head) -> [u64; HEAD_WORDS]
+    ensures { result ≡ head_words head.now }
+{
+    let mut words = [0; NODE_FIELDS];
+    put_head(&mut words, head);
+    let mut front = [0; HEAD_WORDS];
+    front.copy_from_slice(&words[..HEAD_WORDS]);
+    front
+}
+
 /// Writes the words of `head` to the front of `words`, those of a node. The words of the entries stay.
 fn put_head(words: &mut [u64; NODE_FIELDS], head: &Head)
     ensures { HasHead words.old words.new head.now }
