@@ -1,16 +1,15 @@
 -- The lanes of columns, and of rows, that the words of a narrow and of a middle head spell.
-use Rattle.std.proofs.Common.{ℕ, ◌≡◌, ◌≢◌, ◌+◌, ◌-◌, ◌*◌, ◌/◌, ◌%◌, ◌^◌, ◌<◌, ◌≤◌, ◌++◌, ⊎_elim, arith, cond, List, [], ◌∷◌, drop, get_or, get_or-drop, length, length-drop, map, refl, replicate, sym, ap, ap₂, subst, ◌∙◌}
+use Rattle.std.proofs.Common.{ℕ, ◌≡◌, ◌+◌, ◌-◌, ◌*◌, ◌/◌, ◌%◌, ◌^◌, ◌<◌, ◌≤◌, ◌++◌, ⊎_elim, arith, cond, List, [], ◌∷◌, drop, get_or, get_or-drop, length, length-drop, refl, replicate, sym, ap, ap₂, ◌∙◌}
 use Rattle.std.proofs.lemmas.Bool.{cases_lt, eq-eqb}
 use Rattle.std.proofs.lemmas.List.{ext_get_or, get_or-append_right, get_or-replicate, get_or_append_left, get_or_past, length-replicate}
 use Rattle.std.proofs.lemmas.List.FromFn.{get_or-map-range_with_len}
-use Rattle.std.proofs.lemmas.Simd.{get_or-chunk}
 use Rattle.std.proofs.Common.{length-append}
-use lib.Lanes.{chunk, digits_l, number_l}
+use lib.Lanes.{digits_l, number_l}
 use Rattle.compound_node.specs.Nodes.{IsLawfulNode, NodeView, head_of}
 use Rattle.record_words.specs.Kinds.{AreNearLanes, bit_mask, first_byte, index_lanes, kind_of, lane_words, mask_lanes, near_position}
 use Rattle.record_words.specs.Node.{head_words}
-use Rattle.record_words.specs.Packed.{row_at, row_lanes}
-use Rattle.record_words.specs.declared.kind.Kind.TheVariants.{Middle, Narrow, Wide}
+use Rattle.record_words.specs.Packed.{row_lanes}
+use Rattle.record_words.specs.declared.kind.Kind.TheVariants.{Middle, Narrow}
 use Rattle.record_words.proofs.Digits.{base_8}
 use Rattle.record_words.proofs.HeadsByKind.{length-lane_words}
 use Rattle.record_words.proofs.LaneWords.{lanes_back}

@@ -1,5 +1,5 @@
 -- The rows of near heads as lanes of fewer bits: where a dense key leads by them, and the rows of 32 bits that they stand for.
-use Rattle.std.proofs.Common.{ℕ, ◌≡◌, ◌+◌, ◌-◌, ◌*◌, ◌/◌, ◌%◌, ◌^◌, ◌<◌, ◌≤◌, ⊎_elim, arith, Bool, true, false, bit_and, cond, eqb, List, get_or, length, map, nat_lt, refl, replicate, sym, ap, ap₂, subst, ◌∙◌, w32}
+use Rattle.std.proofs.Common.{ℕ, ◌≡◌, ◌-◌, ◌*◌, ◌/◌, ◌%◌, ◌^◌, ◌<◌, ◌≤◌, ⊎_elim, arith, Bool, true, false, bit_and, cond, List, get_or, length, map, nat_lt, refl, replicate, sym, ap, ap₂, ◌∙◌, w32}
 use Rattle.std.specs.Int.Bits.{and_zero_r}
 use Rattle.std.specs.List.{range_with_len}
 use Rattle.std.proofs.lemmas.Bool.{cases_lt, eq-eqb, le-ltb, lt-ltb}
@@ -13,7 +13,7 @@ use Rattle.compound_node.specs.Nodes.{IsLawfulNode, NodeView, piece}
 use Rattle.partial_keys.specs.Rows.{complies, dense_of, with_unused}
 use Rattle.pieces.specs.Piece.{leads_to}
 use Rattle.record_words.specs.Kinds.{kind_of}
-use Rattle.record_words.specs.Packed.{row_at, row_lanes}
+use Rattle.record_words.specs.Packed.{row_lanes}
 use Rattle.record_words.specs.declared.kind.Kind.TheVariants.{Middle, Narrow}
 use Rattle.record_words.proofs.Complying.{half_lacks_none, half_lacks_none-complies, lacks_none, lacks_none-complies}
 use Rattle.record_words.proofs.Lanes.{row_lanes_read}

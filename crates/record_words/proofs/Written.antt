@@ -1,5 +1,5 @@
 -- A node's words, written one after another.
-use Rattle.std.proofs.Common.{ℕ, ◌≡◌, ◌+◌, ◌-◌, ◌*◌, ◌^◌, ◌<◌, ◌≤◌, ◌++◌, arith, List, drop, get_or, get_or-take, set, take, replicate, length, length-append, sym, ap, ap₂, refl, ◌∙◌, ⊎_elim, below_more, get_or-set_other, get_or-set_same, inl, inr, subst, ◌⊎◌}
+use Rattle.std.proofs.Common.{ℕ, ◌≡◌, ◌+◌, ◌-◌, ◌*◌, ◌^◌, ◌<◌, ◌≤◌, ◌++◌, arith, List, drop, get_or, get_or-take, set, take, replicate, length, length-append, sym, ap, ap₂, refl, ◌∙◌, ⊎_elim, below_more, get_or-set_other, get_or-set_same, ◌⊎◌}
 use Rattle.std.specs.Prelude.{slice_get, Option}
 use Rattle.std.proofs.lemmas.Bool.{cases_lt}
 use Rattle.std.proofs.lemmas.List.{ext_get_or, get_or-append_right, get_or-drop, get_or_append_left, get_or_past, length-drop, length-replicate, length-set, length-take-le}

@@ -1,5 +1,5 @@
 -- The rows that agree with one in the columns below a position stand side by side: they are counted from both sides.
-use Rattle.std.proofs.Common.{◌≡◌, ◌∙◌, ◌+◌, ◌-◌, ◌*◌, ◌/◌, ◌%◌, ◌^◌, ◌<◌, ◌≤◌, List, ℕ, ap, ap₂, arith, bit_and, bit_or, count_by, drop, get_or, length, length-drop, min, nat_lt, sym}
+use Rattle.std.proofs.Common.{◌≡◌, ◌∙◌, ◌+◌, ◌-◌, ◌*◌, ◌/◌, ◌^◌, ◌<◌, ◌≤◌, ℕ, ap, ap₂, arith, bit_and, bit_or, count_by, get_or, length, min, nat_lt}
 use Rattle.std.proofs.lemmas.List.{get_or_default}
 use Rattle.std.proofs.lemmas.Nat.{and_mask, pow_pos, shr_split}
 use Rattle.std.proofs.lemmas.Nat.Bits.{and_high_mask, ones_shr}

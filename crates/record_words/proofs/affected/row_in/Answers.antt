@@ -1,5 +1,5 @@
 -- It is read of its word.
-use Rattle.std.proofs.Common.{ℕ, ◌≡◌, ◌+◌, ◌/◌, ◌<◌, ◌∙◌, ap, arith, get_or, sym}
+use Rattle.std.proofs.Common.{ℕ, ◌+◌, ◌/◌, ◌<◌, ◌∙◌, ap, arith, get_or, sym}
 use Rattle.record_words.specs.Kinds.{rows_a_word, rows_from}
 use Rattle.record_words.specs.declared.kind.Kind.{Kind}
 use Rattle.record_words.specs.declared.kind.Kind.TheVariants.{Middle, Narrow, Wide}

@@ -1,12 +1,11 @@
 -- Each column is tested.
 use Rattle.std.proofs.Common.{Bool, List, [], ◌∷◌, ◌≡◌, ◌∙◌, ◌&&◌, ◌+◌, ap, ap₂, arith, refl, rules, sym, tests}
-use Rattle.std.specs.Prelude.{nat_le}
 use Rattle.std.proofs.lemmas.Bool.{le-leb}
 use Rattle.std.proofs.lemmas.Iterator.{YieldsList-from_slice}
 use Rattle.std.proofs.lemmas.Iterator.Search.{all_from_yields_List}
 use Rattle.std.specs.List.{list_all}
 use Rattle.pieces.specs.Positions.{all}
-use Rattle.record_words.specs.Kinds.{are_near, first_byte, is_near}
+use Rattle.record_words.specs.Kinds.{first_byte, is_near}
 use Rattle.record_words.proofs.kind.are_near.Goals as goal
 
 same_all : {X : Type 0} (t : X → Bool) (xs : List X) → list_all t xs ≡ all t xs

@@ -1,5 +1,5 @@
 -- Where the position is a column, the rows alone change.
-use Rattle.std.proofs.Common.{ℕ, ◌≡◌, ◌*◌, ◌+◌, ◌/◌, ◌%◌, ◌^◌, ◌<◌, ◌≤◌, ◌∙◌, ap, arith, get_or, get_or-set_other, get_or-set_same, length, rules, sym, true, inl}
+use Rattle.std.proofs.Common.{◌≡◌, ◌≤◌, ◌∙◌, ap, arith, get_or-set_other, get_or-set_same, length, rules, sym, true, inl}
 use Rattle.compound_node.specs.Nodes.{NodeView}
 use Rattle.partial_keys.proofs.Reaching.{front_below-le}
 use Rattle.pieces.specs.Positions.{front_below, has}

@@ -1,12 +1,11 @@
 -- The columns' words are written by kind.
-use Rattle.std.proofs.Common.{ℕ, List, ◌≡◌, ◌∙◌, ◌+◌, ◌-◌, ◌<◌, ◌≤◌, ◌⊎◌, ap, arith, drop, get_or, get_or-set_other, get_or-set_same, inl, inr, length, length-set, rules, set, subst, sym, take, ⊎_elim}
-use Rattle.record_words.specs.Kinds.{index_lanes, kind_of, lane_words, mask_lanes, rows_from}
+use Rattle.std.proofs.Common.{ℕ, List, ◌≡◌, ◌∙◌, ◌+◌, ◌-◌, ◌<◌, ◌≤◌, ◌⊎◌, ap, arith, get_or, get_or-set_other, get_or-set_same, inl, inr, length, length-set, rules, set, subst, sym, ⊎_elim}
+use Rattle.record_words.specs.Kinds.{index_lanes, lane_words, mask_lanes, rows_from}
 use Rattle.record_words.specs.Packed.{column_words, position_word}
 use Rattle.record_words.specs.declared.kind.Kind.{Kind}
 use Rattle.record_words.specs.declared.kind.Kind.TheVariants.{Middle, Narrow, Wide}
 use Rattle.record_words.proofs.HeadPut.{middle_columns, narrow_columns, wide_columns}
 use Rattle.record_words.proofs.HeadsByKind.{length-lane_words}
-use Rattle.record_words.proofs.OfKinds.{middle-not-wide, narrow-not-wide}
 use Rattle.record_words.proofs.Written.{at_stored, before_stored, length-stored, other_stored, stored}
 use lib.Lanes.{chunk}
 use Rattle.record_words.proofs.node.put_columns.Goals as goal

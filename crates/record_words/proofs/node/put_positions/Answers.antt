@@ -1,5 +1,5 @@
 -- One word more is written.
-use Rattle.std.proofs.Common.{◌≡◌, ◌+◌, ◌<◌, ◌∙◌, arith, below_more, get_or-set_other, get_or-set_same, length, rules, ⊎_elim}
+use Rattle.std.proofs.Common.{◌≡◌, ◌+◌, ◌∙◌, arith, below_more, get_or-set_other, get_or-set_same, length, rules, ⊎_elim}
 use Rattle.record_words.proofs.node.put_positions.Goals as goal
 
 pub loop-j-preserved : goal.loop-j-preserved

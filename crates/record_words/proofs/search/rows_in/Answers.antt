@@ -1,5 +1,5 @@
 -- By the kind: halves of words, or lanes of fewer bits that are moved up.
-use Rattle.std.proofs.Common.{ℕ, ◌≡◌, ◌+◌, ◌-◌, ◌*◌, ◌/◌, ◌%◌, ◌^◌, ◌<◌, ◌∙◌, List, ap, arith, drop, get_or, length, length-drop, map, refl, replicate, sym}
+use Rattle.std.proofs.Common.{ℕ, ◌≡◌, ◌-◌, ◌*◌, ◌/◌, ◌%◌, ◌^◌, ◌<◌, ◌∙◌, ap, arith, drop, get_or, length, length-drop, map, replicate, sym}
 use Rattle.std.proofs.lemmas.List.{take_all}
 use Rattle.std.proofs.lemmas.Simd.{get_or-chunk, length-chunk}
 use lib.Lanes.{zip2}

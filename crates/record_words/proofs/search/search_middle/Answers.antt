@@ -1,5 +1,5 @@
 -- The last lane of the entries that complies with the key's highest bits is where the forks lead.
-use Rattle.std.proofs.Common.{ℕ, ◌≡◌, ◌+◌, ◌-◌, ◌*◌, ◌/◌, ◌%◌, ◌^◌, ◌<◌, ◌≤◌, ◌∙◌, List, ap, arith, drop, get_or, get_or-take, refl, sym, take}
+use Rattle.std.proofs.Common.{ℕ, ◌≡◌, ◌+◌, ◌-◌, ◌*◌, ◌/◌, ◌%◌, ◌^◌, ◌<◌, ◌∙◌, List, ap, arith, drop, get_or, get_or-take, sym, take}
 use lib.Count.{count_leading_zeros}
 use lib.Lanes.{chunk}
 use Rattle.std.proofs.lemmas.List.{get_or-drop}
