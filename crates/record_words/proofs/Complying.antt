@@ -1,5 +1,5 @@
 -- Lanes of fewer bits that comply with a dense key, and the highest of the first of them.
-use Rattle.std.proofs.Common.{Bool, true, false, cond, eqb, map, ℕ, zero, suc, ◌≡◌, inl, inr, ⊎_elim, ◌+◌, ◌-◌, ◌*◌, ◌/◌, ◌%◌, ◌^◌, ◌<◌, ◌≤◌, List, [], ◌∷◌, arith, bit_and, get_or, length, replicate, take, refl, sym, ap, ap₂, ◌∙◌, w8, w16}
+use Rattle.std.proofs.Common.{Bool, true, false, cond, eqb, map, ℕ, zero, suc, ◌≡◌, ⊎_elim, ◌+◌, ◌-◌, ◌*◌, ◌/◌, ◌%◌, ◌^◌, ◌<◌, ◌≤◌, List, [], ◌∷◌, arith, bit_and, get_or, length, replicate, take, refl, sym, ap, ap₂, ◌∙◌, w8, w16}
 use Rattle.std.proofs.Math.Nat.{pow-suc}
 use Rattle.std.proofs.Math.Pow.{pow_mono}
 use Rattle.std.proofs.lemmas.Bool.{cases_lt, eq-eqb, eqb-false, eqb-true, ne_eqb}

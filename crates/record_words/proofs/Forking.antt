@@ -1,5 +1,5 @@
 -- The words of a head with a new fork at a column that it has.
-use Rattle.std.proofs.Common.{ℕ, ◌≡◌, ◌+◌, ◌-◌, ◌*◌, ◌/◌, ◌%◌, ◌^◌, ◌<◌, ◌≤◌, ◌++◌, ◌⊎◌, ⊎_elim, inl, inr, arith, Bool, true, cond, List, drop, get_or, get_or-take, length, replicate, take, map, ap, refl, subst, sym, lit<, ◌∙◌}
+use Rattle.std.proofs.Common.{ℕ, ◌≡◌, ◌+◌, ◌-◌, ◌*◌, ◌%◌, ◌^◌, ◌<◌, ◌≤◌, ◌++◌, ◌⊎◌, ⊎_elim, inl, inr, arith, Bool, true, cond, List, drop, get_or, get_or-take, length, replicate, take, map, ap, refl, subst, sym, lit<, ◌∙◌}
 use Rattle.std.specs.List.{insert}
 use Rattle.std.proofs.lemmas.Bool.{cases_lt}
 use Rattle.std.proofs.lemmas.List.{ext_get_or, get_or-drop}
@@ -41,6 +41,11 @@ all_within : (kind : Kind) (k : ℕ) → 25 ≤ k → head_size kind ≤ k
 all_within Wide k past = past
 all_within Narrow k past = omega (arith, past)
 all_within Middle k past = omega (arith, past)
+
+pub some_before_rows : (kind : Kind) → 0 < rows_from kind
+some_before_rows Wide = omega arith
+some_before_rows Narrow = omega arith
+some_before_rows Middle = omega arith
 
 -- the kind and the first byte take less than 2 ^ 42
 few_part : (columns : List ℕ) → kind_part (kind_of columns) columns < 2 ^ 42

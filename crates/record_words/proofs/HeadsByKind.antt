@@ -1,5 +1,5 @@
 -- The parts of a head's words, by its kind.
-use Rattle.std.proofs.Common.{ℕ, zero, suc, ◌≡◌, ◌≢◌, ◌+◌, ◌-◌, ◌*◌, ◌/◌, ◌%◌, ◌^◌, ◌<◌, ◌≤◌, ◌++◌, List, [], ◌∷◌, arith, cond, eqb, get_or, length, length-append, drop, take, replicate, refl, sym, ap, ap₂, subst, ◌∙◌}
+use Rattle.std.proofs.Common.{ℕ, zero, suc, ◌≡◌, ◌≢◌, ◌+◌, ◌-◌, ◌*◌, ◌/◌, ◌%◌, ◌^◌, ◌<◌, ◌≤◌, ◌++◌, List, ◌∷◌, arith, get_or, length, length-append, drop, take, replicate, refl, sym, ap, ap₂, subst, ◌∙◌}
 use Rattle.std.proofs.lemmas.List.{append_assoc, drop_at, length-replicate, take_at}
 use Rattle.std.proofs.lemmas.List.FromFn.{length-map-range_with_len}
 use lib.Lanes.{chunk, digits_l, number_l}
@@ -7,7 +7,7 @@ use Rattle.record_words.specs.Kinds.{first_byte, head_size, index_lanes, kind_in
 use Rattle.record_words.specs.Packed.{column_words, fixed_words, kind_words, meta_word, position_word, row_lanes, row_word, row_words}
 use Rattle.record_words.specs.declared.kind.Kind.{Kind}
 use Rattle.record_words.specs.declared.kind.Kind.TheVariants.{Middle, Narrow, Wide}
-use Rattle.record_words.proofs.OfKinds.{AreNear, OfKind, of_kind, is_wide, is_narrow, is_middle}
+use Rattle.record_words.proofs.OfKinds.{OfKind, of_kind, is_wide, is_narrow, is_middle}
 
 -- ---- how many words there are
 length-digits : (p n x : ℕ) → length (digits_l p n x) ≡ n

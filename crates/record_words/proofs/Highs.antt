@@ -1,6 +1,5 @@
 -- The highest bits of rows as lanes, and the words of them.
-use Rattle.std.proofs.Common.{ℕ, zero, suc, ◌≡◌, ◌+◌, ◌*◌, ◌/◌, ◌^◌, ◌<◌, List, [], ◌∷◌, arith, get_or, length, map, replicate, refl, sym, ap, subst, ◌∙◌, w8, w16, w32, Fits}
-use Rattle.std.specs.List.{range_with_len}
+use Rattle.std.proofs.Common.{ℕ, zero, suc, ◌≡◌, ◌/◌, ◌^◌, ◌<◌, List, [], ◌∷◌, arith, get_or, length, map, replicate, sym, ap, subst, ◌∙◌, w8, w16, w32, Fits}
 use Rattle.std.proofs.lemmas.List.{ext_get_or, get_or-map, get_or_default, length-map}
 use Rattle.std.proofs.lemmas.List.FromFn.{get_or-map-range_with_len, length-map-range_with_len}
 use Rattle.std.proofs.lemmas.Simd.{Each1-from_get_or, Each1-get_or, below_from_Fits, map-map, zip2_splat}

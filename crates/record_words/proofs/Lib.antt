@@ -9,6 +9,7 @@ pub mod Fixing
 pub mod Forking
 pub mod Fronts
 pub mod Growing
+mod HeadPut
 pub mod Heads
 pub mod HeadsByKind
 mod Highs
@@ -21,10 +22,11 @@ mod NearDense
 mod NearHeads
 pub mod NearLanes
 mod NearPositions
+mod NearRows
+mod NearSpelling
 pub mod Nodes
 pub mod OfKinds
 pub mod Offsets
-pub mod OneHead
 pub mod Packings
 pub mod Parts
 pub mod Runs

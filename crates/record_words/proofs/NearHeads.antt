@@ -1,16 +1,15 @@
 -- The lanes of columns, and of rows, that the words of a narrow and of a middle head spell.
-use Rattle.std.proofs.Common.{ℕ, ◌≡◌, ◌≢◌, ◌+◌, ◌-◌, ◌*◌, ◌/◌, ◌%◌, ◌^◌, ◌<◌, ◌≤◌, ◌++◌, ⊎_elim, arith, cond, List, [], ◌∷◌, drop, get_or, get_or-drop, length, length-drop, map, refl, replicate, sym, ap, ap₂, subst, ◌∙◌}
+use Rattle.std.proofs.Common.{ℕ, ◌≡◌, ◌+◌, ◌-◌, ◌*◌, ◌/◌, ◌%◌, ◌^◌, ◌<◌, ◌≤◌, ◌++◌, ⊎_elim, arith, cond, List, [], ◌∷◌, drop, get_or, get_or-drop, length, length-drop, refl, replicate, sym, ap, ap₂, ◌∙◌}
 use Rattle.std.proofs.lemmas.Bool.{cases_lt, eq-eqb}
 use Rattle.std.proofs.lemmas.List.{ext_get_or, get_or-append_right, get_or-replicate, get_or_append_left, get_or_past, length-replicate}
 use Rattle.std.proofs.lemmas.List.FromFn.{get_or-map-range_with_len}
-use Rattle.std.proofs.lemmas.Simd.{get_or-chunk}
 use Rattle.std.proofs.Common.{length-append}
-use lib.Lanes.{chunk, digits_l, number_l}
+use lib.Lanes.{digits_l, number_l}
 use Rattle.compound_node.specs.Nodes.{IsLawfulNode, NodeView, head_of}
 use Rattle.record_words.specs.Kinds.{AreNearLanes, bit_mask, first_byte, index_lanes, kind_of, lane_words, mask_lanes, near_position}
 use Rattle.record_words.specs.Node.{head_words}
-use Rattle.record_words.specs.Packed.{row_at, row_lanes}
-use Rattle.record_words.specs.declared.kind.Kind.TheVariants.{Middle, Narrow, Wide}
+use Rattle.record_words.specs.Packed.{row_lanes}
+use Rattle.record_words.specs.declared.kind.Kind.TheVariants.{Middle, Narrow}
 use Rattle.record_words.proofs.Digits.{base_8}
 use Rattle.record_words.proofs.HeadsByKind.{length-lane_words}
 use Rattle.record_words.proofs.LaneWords.{lanes_back}
@@ -41,7 +40,7 @@ zeros_in_front rest =
     let n : ℕ = number_l (2 ^ 8) rest in
     ap₂ (λ (low high : ℕ). low ∷ high ∷ []) {x = number_l (2 ^ 8) (0 ∷ 0 ∷ 0 ∷ 0 ∷ 0 ∷ 0 ∷ 0 ∷ 0 ∷ rest) % 2 ^ 64} {y = 0} {u = number_l (2 ^ 8) (0 ∷ 0 ∷ 0 ∷ 0 ∷ 0 ∷ 0 ∷ 0 ∷ 0 ∷ rest) / 2 ^ 64 % 2 ^ 64} {v = n % 2 ^ 64} (omega arith) (omega arith)
 
-zeros_in_lanes : (lanes : List ℕ) → length lanes ≡ 16 → ((i : ℕ) → i < 8 → get_or lanes i 0 ≡ 0) → lane_words 8 2 lanes ≡ 0 ∷ lane_words 8 1 (drop 8 lanes)
+pub zeros_in_lanes : (lanes : List ℕ) → length lanes ≡ 16 → ((i : ℕ) → i < 8 → get_or lanes i 0 ≡ 0) → lane_words 8 2 lanes ≡ 0 ∷ lane_words 8 1 (drop 8 lanes)
 zeros_in_lanes lanes long none =
     let is : lanes ≡ replicate 8 0 ++ drop 8 lanes =
     ext_get_or 0 lanes (replicate 8 0 ++ drop 8 lanes) (omega (arith, long, length-append (replicate {A = ℕ} 8 0) (drop 8 lanes), length-replicate {A = ℕ} 8 0, length-drop 8 lanes))
@@ -57,11 +56,11 @@ module _ (columns : List ℕ) (few : length columns ≤ 8) where
   none : (i : ℕ) → i < 8 → near_position columns i ≡ 9 * first_byte columns
   none i low = get_or_past columns (15 - i) (9 * first_byte columns) (omega (arith, low, few))
 
-  index_none : (i : ℕ) → i < 8 → get_or (index_lanes columns) i 0 ≡ 0
+  pub index_none : (i : ℕ) → i < 8 → get_or (index_lanes columns) i 0 ≡ 0
   index_none i low =
       get_or-map-range_with_len (λ k. near_position columns k / 9 - first_byte columns) 0 16 i i 0 (omega (arith, low)) (omega arith) ∙ (ap (λ p. p / 9 - first_byte columns) (none i low) ∙ omega arith)
 
-  mask_none : (i : ℕ) → i < 8 → get_or (mask_lanes columns) i 0 ≡ 0
+  pub mask_none : (i : ℕ) → i < 8 → get_or (mask_lanes columns) i 0 ≡ 0
   mask_none i low =
       get_or-map-range_with_len (λ k. bit_mask (near_position columns k)) 0 16 i i 0 (omega (arith, low)) (omega arith)
       ∙ (ap bit_mask (none i low) ∙ ap (λ t. cond t 0 (2 ^ (8 - 9 * first_byte columns % 9))) (eq-eqb (9 * first_byte columns % 9) 0 (omega arith)))

@@ -61,7 +61,7 @@ unused_lane first index p none = rw none refl
 
 -- ---- all lanes of near columns
 -- a lane that is computed from its place
-lane_is : (f : ℕ → ℕ) (i : ℕ) → i < 16 → get_or (map f (range_with_len 0 16)) i 0 ≡ f i
+pub lane_is : (f : ℕ → ℕ) (i : ℕ) → i < 16 → get_or (map f (range_with_len 0 16)) i 0 ≡ f i
 lane_is f i low = get_or-map f (range_with_len 0 16) i 0 0 low ∙ ap f (get_or-range_with_len 0 16 i 0 low ∙ omega arith)
 
 -- no column is before the first one's byte

@@ -1,5 +1,5 @@
 -- What is read of words that spell a value.
-use Rattle.std.proofs.Common.{ℕ, ◌≡◌, ◌+◌, ◌-◌, ◌*◌, ◌/◌, ◌%◌, ◌^◌, ◌<◌, ◌≤◌, ◌++◌, List, [], ◌∷◌, Option, Some, suc, arith, get_or, length, replicate, take, refl, sym, ap, ◌∙◌, length-append, get_or-take, lit<}
+use Rattle.std.proofs.Common.{ℕ, ◌≡◌, ◌+◌, ◌-◌, ◌/◌, ◌%◌, ◌<◌, ◌≤◌, ◌++◌, List, [], ◌∷◌, Option, Some, suc, arith, get_or, length, replicate, take, refl, sym, ap, ◌∙◌, length-append, get_or-take, lit<}
 use Rattle.std.proofs.Math.Seq.{take-suc}
 use Rattle.std.proofs.lemmas.Option.{slice_get-get_or}
 use Rattle.compound_node.specs.declared.entries.Entry.{Entry}

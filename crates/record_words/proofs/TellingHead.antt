@@ -1,7 +1,6 @@
 -- What the parts of the words of a node's head tell, by the kind of its columns.
-use Rattle.std.proofs.Common.{ℕ, ◌≡◌, ◌≢◌, ◌+◌, ◌-◌, ◌*◌, ◌/◌, ◌%◌, ◌^◌, ◌<◌, ◌≤◌, ◌++◌, inl, inr, ⊎_elim, arith, cond, List, drop, get_or, length, map, refl, sym, ap, ap₂, subst, ◌∙◌, below_more, nat_lt, get_or-drop, length-drop}
+use Rattle.std.proofs.Common.{ℕ, ◌≡◌, ◌≢◌, ◌+◌, ◌-◌, ◌*◌, ◌/◌, ◌%◌, ◌^◌, ◌<◌, ◌≤◌, ◌++◌, inl, inr, ⊎_elim, arith, cond, List, drop, get_or, length, refl, sym, ap, ap₂, subst, ◌∙◌, below_more, get_or-drop, length-drop}
 use borrow.Author.Count.{below_none}
-use Rattle.std.specs.List.{range_with_len}
 use Rattle.std.proofs.lemmas.Bool.{cases_eq, cases_lt, eq-eqb, le-ltb, lt-ltb, ne_eqb}
 use Rattle.std.proofs.lemmas.List.{get_or-append_right, get_or-replicate, get_or_append_left, get_or_default, get_or_past}
 use Rattle.std.proofs.lemmas.List.FromFn.{get_or-map-range_with_len, length-map-range_with_len}
@@ -12,9 +11,9 @@ use lib.Lanes.{Each1, chunk}
 use Rattle.compound_node.specs.Nodes.{IsLawfulNode, NodeView, head_of, piece}
 use Rattle.compound_node.proofs.Ladders.{shown-sparse_keys}
 use Rattle.compound_node.proofs.Lawful.{same_count}
-use Rattle.record_words.specs.Kinds.{bit_mask, first_byte, head_size, index_lanes, kind_in, kind_of, lane_words, mask_index, mask_lanes, near_position, position_index, rows_from}
+use Rattle.record_words.specs.Kinds.{bit_mask, first_byte, head_size, index_lanes, kind_of, lane_words, mask_index, mask_lanes, near_position, position_index, rows_from}
 use Rattle.record_words.specs.Node.{head_words}
-use Rattle.record_words.specs.Packed.{position_at, position_word, row_at, row_lanes, row_word}
+use Rattle.record_words.specs.Packed.{position_at, row_at, row_lanes}
 use Rattle.record_words.specs.declared.kind.Kind.{Kind}
 use Rattle.record_words.specs.declared.kind.Kind.TheVariants.{Middle, Narrow, Wide}
 use Rattle.record_words.proofs.Digits.{base_8, base_16}

@@ -1,8 +1,8 @@
 -- The words of the head of the keys a, b and c (97, 98, 99) in each kind, by computation. Its columns are near, so it is narrow.
-use Rattle.std.proofs.Common.{◌≡◌, ◌++◌, ◌^◌, ◌-◌, List, ℕ, [], ◌∷◌, refl, replicate}
+use Rattle.std.proofs.Common.{◌≡◌, List, ℕ, [], ◌∷◌, refl, replicate}
 use Rattle.record_words.specs.Kinds.{kind_of, lane_words}
-use Rattle.record_words.specs.Packed.{fixed_words, kind_words, position_word, row_word}
-use Rattle.record_words.specs.declared.kind.Kind.TheVariants.{Middle, Narrow, Wide}
+use Rattle.record_words.specs.Packed.{kind_words, position_word, row_word}
+use Rattle.record_words.specs.declared.kind.Kind.TheVariants.{Middle, Narrow}
 
 abbrev columns : List ℕ
 columns = 7 ∷ 8 ∷ []

@@ -1,10 +1,10 @@
 -- A node's words, written one after another.
-use Rattle.std.proofs.Common.{ℕ, ◌≡◌, ◌+◌, ◌-◌, ◌*◌, ◌^◌, ◌<◌, ◌≤◌, ◌++◌, arith, List, drop, get_or, get_or-take, set, take, replicate, length, length-append, sym, ap, ap₂, refl, ◌∙◌, ⊎_elim, below_more, get_or-set_other, get_or-set_same, inl, inr, subst, ◌⊎◌}
+use Rattle.std.proofs.Common.{ℕ, ◌≡◌, ◌+◌, ◌-◌, ◌*◌, ◌^◌, ◌<◌, ◌≤◌, ◌++◌, arith, List, drop, get_or, get_or-take, set, take, replicate, length, length-append, sym, ap, ap₂, refl, ◌∙◌, ⊎_elim, below_more, get_or-set_other, get_or-set_same, ◌⊎◌}
 use Rattle.std.specs.Prelude.{slice_get, Option}
 use Rattle.std.proofs.lemmas.Bool.{cases_lt}
-use Rattle.std.proofs.lemmas.List.{ext_get_or, get_or-append_right, get_or-drop, get_or_append_left, length-drop, length-replicate, length-set, length-take-le}
+use Rattle.std.proofs.lemmas.List.{ext_get_or, get_or-append_right, get_or-drop, get_or_append_left, get_or_past, length-drop, length-replicate, length-set, length-take-le}
 use Rattle.std.proofs.lemmas.Option.{slice_get_past}
-use Rattle.std.proofs.lemmas.Simd.{get_or-chunk, get_or-put_chunk_above, get_or-put_chunk_at, length-put_chunk}
+use Rattle.std.proofs.lemmas.Simd.{get_or-chunk, length-chunk, get_or-put_chunk_above, get_or-put_chunk_at, length-put_chunk}
 use Rattle.compound_node.specs.declared.entries.Entry.{Entry}
 use Rattle.compound_node.specs.Nodes.{HeadView, NodeView, head_of}
 use Rattle.partial_keys.specs.Rows.{with_unused}
@@ -76,6 +76,13 @@ module _ (a k : ℕ) (xs ys : List ℕ) (whole : length xs ≡ a + k) (few : len
       in_part j (omega (arith, low, few))
       ∙ (ap (λ i. get_or (put_chunk 0 (mid_of a k xs) ys) i 0) (let e : j ≡ 0 + j = omega arith in e) ∙ get_or-put_chunk_at 0 (mid_of a k xs) ys j 0 low (omega (arith, few, middle)))
 
+  -- what was stored stands there
+  pub chunk_stored : (n : ℕ) → length ys ≡ n → chunk a n stored ≡ ys
+  chunk_stored n long =
+      let room : a + n ≤ length stored = omega (arith, length-stored, long, few) in
+      ext_get_or 0 (chunk a n stored) ys (length-chunk a n stored room ∙ sym long)
+      (λ j h. let low : j < n = omega (arith, h, length-chunk a n stored room) in get_or-chunk a n stored j 0 low ∙ at_stored j (omega (arith, low, long)))
+
   pub behind_stored : (i : ℕ) → a + length ys ≤ i → i < a + k → get_or stored i 0 ≡ get_or xs i 0
   behind_stored i past inside =
       let j : ℕ = i - a in
@@ -83,6 +90,14 @@ module _ (a k : ℕ) (xs ys : List ℕ) (whole : length xs ≡ a + k) (few : len
       ap (λ n. get_or stored n 0) (sym e)
       ∙ (in_part j (omega (arith, past, inside)) ∙ (get_or-put_chunk_above 0 (mid_of a k xs) ys j 0 (omega (arith, past))
       ∙ (get_or-take k (drop a xs) j 0 (omega (arith, past, inside)) ∙ (get_or-drop a xs j 0 ∙ ap (λ n. get_or xs n 0) e))))
+
+  -- and nothing else changes
+  pub other_stored : (i : ℕ) → (i < a) ⊎ (a + length ys ≤ i) → get_or stored i 0 ≡ get_or xs i 0
+  other_stored i out =
+      ⊎_elim (before_stored i)
+      (λ (past : a + length ys ≤ i). ⊎_elim (behind_stored i past)
+      (λ (outside : a + k ≤ i). get_or_past stored i 0 (omega (arith, outside, length-stored)) ∙ sym (get_or_past xs i 0 (omega (arith, outside, whole)))) (cases_lt i (a + k)))
+      out
 
 -- the words of sixteen rows of 32 are eight of the words of all
 pub half_words : (rows : List ℕ) (h k : ℕ) → k < 8 → row_word (chunk (2 * h) 16 rows) k ≡ row_word rows (h + k)

@@ -82,9 +82,7 @@ use key_bits::MAX_BYTES;
 pub use kind::{Kind, kind_of};
 pub use layout::{Layout, LayoutFault, LeafClass, Location, Stock};
 pub use leaf::{count_key_words, count_leaf_words, key_word_at, pack_leaf, write_key_word};
-pub use node::{
-    add_leaf, can_take_leaf, close_fork, drop_entry, pack_head, pack_node, read_node,
-};
+pub use node::{add_leaf, can_take_leaf, close_fork, drop_entry, pack_head, pack_node, read_node};
 pub use numbers::{HeadNumbers, first_position_of, index_of_first_position, read_numbers};
 pub use origins::Origins;
 pub use search::{extract_dense_key, search_middle, search_narrow, search_row_words};

@@ -39,6 +39,7 @@ pub(crate) fn words_of_bytes(lanes: u8x16) -> u64x2
 /// for no column.
 #[inline(always)]
 fn distances_of(positions: u16x16, first: u16) -> u16x16
+    requires { first < 7282 }
     ensures whole { length result ≡ 16 }
     ensures each { (i : ℕ) → i < 16 → slice_index result i ≡ distance_from first (slice_index positions (15 - i)) }
 {

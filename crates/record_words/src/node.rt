@@ -4,6 +4,7 @@ ghost use Rattle.std.specs.Prelude.{ℕ, ◌≡◌, ◌↔◌, ◌+◌, ◌<◌,
 ghost use Rattle.compound_node.specs.Forking.{forked_head};
 ghost use Rattle.compound_node.specs.Nodes.{NodeView, greatest_height, head_of, piece};
 ghost use Rattle.compound_node.specs.declared.entries.Entry.TheVariants.{Leaf as LeafEntry};
+ghost use Rattle.partial_keys.specs.Columns.{IsColumns};
 ghost use Rattle.pieces.specs.Changes.{collapsed, without};
 ghost use Rattle.pieces.specs.Growth.{grown};
 ghost use Rattle.record_words.specs.Entry.{HasEntryWord, entry_word};
@@ -70,7 +71,8 @@ fn put_head(words: &mut [u64; NODE_FIELDS], head: &Head)
 /// Writes the words of `columns` to `words`, those of a node whose head is of the kind `kind`. All other words stay.
 #[inline(always)]
 fn put_columns(words: &mut [u64; NODE_FIELDS], kind: Kind, columns: &Columns)
-    requires { kind ≡ kind_of columns.now }
+    requires kind { kind ≡ kind_of columns.now }
+    requires columns { IsColumns columns.now }
     ensures columns { take (rows_from kind - FIRST_POSITIONS) (drop FIRST_POSITIONS words.new) ≡ column_words kind columns.now }
     ensures others { (k : ℕ) → (k < FIRST_POSITIONS) ⊎ (rows_from kind ≤ k) → slice_index words.new k ≡ slice_index words.old k }
 {
@@ -103,7 +105,7 @@ fn put_positions(words: &mut [u64; NODE_FIELDS], positions: &[u16; 31])
 /// The words of near columns: two with the indexes of their bytes, and two with the masks of their bits.
 #[inline(always)]
 fn near_words_of(columns: &Columns) -> (u64x2, u64x2)
-    requires { kind_of columns.now ≢ Wide }
+    requires { (kind_of columns.now ≢ Wide) × IsColumns columns.now }
     ensures { (result.0 ≡ lane_words 8 2 (index_lanes columns.now)) × (result.1 ≡ lane_words 8 2 (mask_lanes columns.now)) }
 {
     let (indexes, masks) = near_lanes_of(u16x16::from_slice(columns.padded_positions()));

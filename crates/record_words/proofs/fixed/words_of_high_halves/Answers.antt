@@ -1,5 +1,5 @@
 -- The words are made of the higher halves.
-use Rattle.std.proofs.Common.{ap, arith, subst, sym, ◌/◌, ◌^◌, ◌∙◌, ◌<◌}
+use Rattle.std.proofs.Common.{ap, arith, ◌/◌, ◌^◌, ◌∙◌}
 use Rattle.std.proofs.lemmas.List.FromFn.{length-map-range_with_len}
 use Rattle.record_words.specs.Packed.{row_at, row_lanes}
 use Rattle.record_words.proofs.Highs.{halves_fit, highs_are, lanes_small, words_by_bytes}

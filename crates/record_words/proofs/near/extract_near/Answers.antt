@@ -21,8 +21,10 @@ pub overflow_cast-result : goal.overflow_cast-result
 overflow_cast-result c =
     let (columns, lanes) = c.requires in
     let bytes = c.padded_bytes.ensures in
-    record { fits = told_fits columns c.args.indexes c.args.masks c.args.key.now c.args.first lanes bytes.key _
-        (window_at c.padded_bytes.result.now (with_zeros c.args.key.now) c.args.first bytes.bytes (window_within columns c.args.indexes c.args.masks c.args.key.now c.args.first lanes bytes.key)) }
+    record {
+      fits = told_fits columns c.args.indexes c.args.masks c.args.key.now c.args.first lanes bytes.key _
+          (window_at c.padded_bytes.result.now (with_zeros c.args.key.now) c.args.first bytes.bytes (window_within columns c.args.indexes c.args.masks c.args.key.now c.args.first lanes bytes.key));
+    }
 
 pub returns : goal.returns
 returns c = λ columns lanes.

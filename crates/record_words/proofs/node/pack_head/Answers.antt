@@ -1,10 +1,20 @@
 -- They are the first words of a node with this head.
-use Rattle.std.proofs.Common.{◌≡◌, ◌∙◌, ◌++◌, ap, drop, length, refl, take}
-use Rattle.std.proofs.lemmas.List.{take_at}
+use Rattle.std.proofs.Common.{List, ℕ, ◌≡◌, ◌∙◌, ap, arith, length, refl, sym, take}
+use Rattle.std.proofs.lemmas.List.{length-take-le, take_at}
 use Rattle.compound_node.specs.Nodes.{HeadView}
-use Rattle.record_words.proofs.HeadsByKind.{HasParts, head_parts}
+use Rattle.record_words.proofs.HeadsByKind.{head_parts}
 use Rattle.record_words.specs.Node.{head_words}
 use Rattle.record_words.proofs.node.pack_head.Goals as goal
+
+-- the words of the head are the first
+few : (words : List ℕ) → length words ≡ 57 → 25 ≡ length (take 25 words)
+few words whole = sym (length-take-le 25 words (omega (arith, whole)))
+
+pub slice_bounds-copy_from_slice-end-2 : goal.slice_bounds-copy_from_slice-end-2
+slice_bounds-copy_from_slice-end-2 c = few c.put_head.new.words c.put_head.array_long
+
+pub copy_from_slice-requires : goal.copy_from_slice-requires
+copy_from_slice-requires c = few c.put_head.new.words c.put_head.array_long
 
 pub returns : goal.returns
 returns c =

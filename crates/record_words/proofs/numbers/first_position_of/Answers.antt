@@ -1,10 +1,10 @@
 -- The first position is the lowest part of its word, or the first mask is the highest.
-use Rattle.std.proofs.Common.{◌≡◌, ◌+◌, ◌-◌, ◌*◌, ◌∙◌, ◌/◌, ◌%◌, ◌<◌, ◌^◌, ap, arith, get_or, length, refl, sym}
+use Rattle.std.proofs.Common.{◌≡◌, ◌∙◌, ◌%◌, ap, arith, get_or, refl, sym}
 use Rattle.std.proofs.lemmas.List.{get_or_default}
 use Rattle.compound_node.specs.Nodes.{head_of}
 use Rattle.record_words.proofs.NearPositions.{near_is}
 use Rattle.record_words.proofs.TellingHead.{near_mask, wide_position}
-use Rattle.record_words.specs.Kinds.{first_byte, mask_index}
+use Rattle.record_words.specs.Kinds.{mask_index}
 use Rattle.record_words.specs.Node.{head_words}
 use Rattle.record_words.proofs.numbers.first_position_of.Goals as goal
 

@@ -1,5 +1,5 @@
 -- The mask has one bit, and the zeros above it tell which.
-use Rattle.std.proofs.Common.{ℕ, ◌≡◌, ◌≢◌, ◌+◌, ◌-◌, ◌*◌, ◌/◌, ◌%◌, ◌^◌, ◌<◌, ◌∙◌, arith, below_more, refl, sym, ap}
+use Rattle.std.proofs.Common.{ℕ, ◌≡◌, ◌≢◌, ◌+◌, ◌-◌, ◌%◌, ◌^◌, ◌<◌, ◌∙◌, arith, below_more, refl, sym, ap}
 use borrow.Author.Count.{below_none}
 use lib.Count.{count_leading_zeros}
 use Rattle.record_words.specs.Kinds.{bit_mask}

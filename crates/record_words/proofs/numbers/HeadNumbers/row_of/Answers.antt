@@ -1,5 +1,5 @@
 -- A row is a part of its word, and past the last entry there is none.
-use Rattle.std.proofs.Common.{ℕ, ◌≡◌, ◌+◌, ◌*◌, ◌/◌, ◌%◌, ◌^◌, ◌<◌, ◌-◌, ◌∙◌, List, ap, arith, bit_and, get_or, length, lit<, refl, sym}
+use Rattle.std.proofs.Common.{ℕ, ◌≡◌, ◌+◌, ◌*◌, ◌/◌, ◌%◌, ◌^◌, ◌<◌, ◌-◌, ◌∙◌, ap, arith, bit_and, get_or, length, refl, sym}
 use Rattle.std.proofs.lemmas.List.{get_or_default, get_or_past}
 use Rattle.std.proofs.lemmas.Nat.{and_mask}
 use Rattle.compound_node.proofs.Lawful.{same_count}
