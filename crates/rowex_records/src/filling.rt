@@ -18,7 +18,8 @@ ghost use Rattle.rowex_records.specs.Records.{HaveBelow, IsBehindValue, IsFilled
 use key_bits::Key;
 use record_words::{
     FIELDS_OFFSET, FIRST_ENTRY, FIRST_POSITIONS, FIRST_ROWS, HEAD_WORDS, KEY_OFFSET, Kind,
-    LENGTH_OFFSET, NODE_FIELDS, NUMBERS_OFFSET, VALUE_OFFSET, count_key_words, key_word_at, read_numbers,
+    LENGTH_OFFSET, NODE_FIELDS, NUMBERS_OFFSET, VALUE_OFFSET, count_key_words, key_word_at,
+    read_numbers,
 };
 use rowex_core::{Gate, Rec};
 use rowex_table::{HotTable, NodeAt, RecordAt, TableSeat};
