@@ -78,10 +78,6 @@ place_is (Fork q a b) j = go (place_is a j) (place_is b (j - size a)) (cases_lt 
 
 -- Nodes
 
-small_at : (words : List ℕ) → All (λ w. w < 2 ^ 64) words → (i : ℕ) → get_or words i 0 < 2 ^ 64
-small_at words small i = ⊎_elim (λ (inside : i < length words). All-get_or (λ w. w < 2 ^ 64) words i 0 inside small)
-    (λ (past : length words ≤ i). rw (get_or_past words i 0 past) (lit< tt)) (cases_lt i (length words))
-
 module _ (view : NodeView) (words : List ℕ) (small : All (λ w. w < 2 ^ 64) words) (has : HasNodeWords view) (same : node_words view ≡ words) where
   head_long : length (head_words (head_of view)) ≡ 25
   head_long = whole view has.lawful (head_words (head_of view)) refl
