@@ -52,14 +52,12 @@
 //! | `put_columns`, `put_rows`, `put_head` | the words are `column_words`, `row_words`, those of the head |
 //! | `affected_slots`, `add_leaf`, `drop_entry`, `close_fork`, `read_node` | as of words of one kind |
 //!
-//! No function of this list is proved over kinds yet. The files `Digits`, `LaneWords`, `OfKinds`, `HeadsByKind`, `NearLanes`, `NearDense`,
-//! `OneHead`, `Highs`, `Complying`, `Searched` and `Worked` of proofs/ are written for it, and no check has read them. `Fixing::fixed_words_parts`
-//! now asks for a wide head; what cites it is to go by `HeadsByKind::head_parts` or by the two decoders. `value_tests/src/kinds.rt` tries each kind by value.
+//! Near columns and their lanes are in the lemma files `NearLanes`, `NearSpelling` and `NearDense`. `HeadsByKind` and `TellingHead` say what each
+//! part of a head's words tells, and `HeadPut` how they are written.
 //!
-//! Readers and writers above this crate still take each head for a wide one. A search loads the first word, and then as many as its kind says.
-//! Whoever reads one row or position of a locked node loads the first word before. A used word of rows can be all ones, where its first row
-//! is, and all behind it are unused: whoever stores only used words counts it to the unused ones. A replay decodes by the kind, makes the
-//! words anew and compares all of them.
+//! A search loads the first word, and then as many as its kind says. Whoever reads one row or position of a locked node loads the first word
+//! before. A word of rows can be all ones although it has a row: that row is, and all behind it are unused. So whoever stores only the words
+//! that say something may leave it out, too. A replay decodes by the kind, makes the words anew and compares all of them.
 #![tactic(auto)]
 
 mod affected;

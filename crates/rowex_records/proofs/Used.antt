@@ -1,5 +1,5 @@
 -- In which of its words a node has something.
-use Rattle.std.proofs.Common.{◌≡◌, ◌≢◌, ℕ, zero, suc, ◌+◌, ◌-◌, ◌*◌, ◌/◌, ◌%◌, ◌^◌, ◌<◌, ◌≤◌, ◌⊎◌, inl, inr, Bool, true, false, List, [], ◌∷◌, Option, Some, get_or, get_or-take, length, take, refl, sym, ap, subst, ◌∙◌, arith, ⊎_elim, lit<}
+use Rattle.std.proofs.Common.{◌≡◌, ◌≢◌, ℕ, zero, suc, ◌+◌, ◌-◌, ◌*◌, ◌/◌, ◌%◌, ◌^◌, ◌<◌, ◌≤◌, ◌⊎◌, inl, inr, Bool, true, false, List, [], ◌∷◌, Option, Some, get_or, get_or-take, length, take, refl, sym, ap, ap₂, subst, ◌∙◌, arith, ⊎_elim, lit<}
 use Rattle.std.specs.Prelude.{slice_get}
 use Rattle.std.proofs.Math.Nat.{pow-suc}
 use Rattle.std.proofs.lemmas.Nat.{pow_pos}
@@ -16,9 +16,11 @@ use Rattle.compound_node.specs.Nodes.{NodeView, IsLawfulNode, head_of, piece}
 use Rattle.compound_node.proofs.Lawful.{same_count}
 use Rattle.record_words.specs.declared.TheConstants.{FIRST_ENTRY}
 use Rattle.record_words.specs.Entry.{entry_word}
-use Rattle.record_words.specs.Kinds.{head_size, kind_of, rows_from}
+use Rattle.record_words.specs.Kinds.{columns_end, head_size, kind_of, rows_a_word, rows_from}
 use Rattle.record_words.specs.declared.kind.Kind.{Kind}
 use Rattle.record_words.specs.declared.kind.Kind.TheVariants.{Middle, Narrow, Wide}
+use Rattle.record_words.specs.declared.numbers.HeadNumbers.{HeadNumbers}
+use Rattle.record_words.specs.HeadParts.{AreNumbersOf}
 use Rattle.record_words.specs.Node.{HasNodeWords, head_words, node_words}
 use Rattle.record_words.specs.Reading.{IsSpelling}
 use Rattle.record_words.specs.Packed.{position_at, position_word, row_at, row_word}
@@ -26,6 +28,7 @@ use Rattle.record_words.proofs.Fixing.{AreFixed, fixed_words_parts}
 use Rattle.record_words.proofs.Lawful.{small_below}
 use Rattle.record_words.proofs.Nodes.{head_part, node_words-entry}
 use Rattle.record_words.proofs.HeadsByKind.{Tells}
+use Rattle.record_words.proofs.OfKinds.{OfKind, is_middle, is_narrow, is_wide, of_kind}
 use Rattle.record_words.proofs.Spelled.{entries_counted}
 use Rattle.record_words.proofs.TellingHead.{middle_rows_unused, middle_rows_used, narrow_rows_unused, narrow_rows_used, near_word_used, past_kind, told}
 use Rattle.rowex_records.specs.Records.{HaveBelow, unused_word}
@@ -77,6 +80,19 @@ row_short node lawful i =
 entry_used : (o : Option Entry) (e : Entry) → o ≡ Some e → entry_word o ≢ 0
 entry_used o (Leaf n) is none = omega (arith, ap (λ (z : Option Entry). entry_word z) is)
 entry_used o (Node n h) is none = omega (arith, ap (λ (z : Option Entry). entry_word z) is)
+
+-- behind the last word of rows, or before it, where that is all ones
+abbrev pub EndsAt : List ℕ → ℕ → ℕ → Type 0
+EndsAt words all end = (end ≡ all × (get_or words (all - 1) 0 ≢ 2 ^ 64 - 1)) ⊎ (end ≡ all - 1 × (get_or words (all - 1) 0 ≡ 2 ^ 64 - 1))
+
+-- the index behind the last word of so many rows
+abbrev pub rows_end : Kind → ℕ → ℕ
+rows_end kind n = rows_from kind + (n + rows_a_word kind - 1) / rows_a_word kind
+
+few_words : (kind : Kind) (n : ℕ) → n ≤ 32 → rows_end kind n ≤ 25
+few_words Wide n few = omega (arith, few)
+few_words Narrow n few = omega (arith, few)
+few_words Middle n few = omega (arith, few)
 
 -- The words of a head in which a node has something are those up to an end: the first one, those of columns, and those of rows up to the
 -- last one that is not all ones.
@@ -168,7 +184,7 @@ module _ (node : NodeView) (words : List ℕ) (is_node : HasNodeWords node) (sam
 
   -- up to the last word of rows, or to the one before it, where that is all ones
   ends : (all end : ℕ) → ((i : ℕ) → 1 ≤ i → i < 25 → i < all - 1 → get_or words i 0 ≢ 2 ^ 64 - 1) → ((i : ℕ) → 1 ≤ i → i < 25 → all ≤ i → get_or words i 0 ≡ 2 ^ 64 - 1) → 1 < all → all ≤ 25 →
-      (end ≡ all × (get_or words (all - 1) 0 ≢ 2 ^ 64 - 1)) ⊎ (end ≡ all - 1 × (get_or words (all - 1) 0 ≡ 2 ^ 64 - 1)) → IsUsedTo end
+      EndsAt words all end → IsUsedTo end
   ends all end front behind some few (inl (is, used)) = record {
     used = λ i low top inside. ⊎_elim (λ (before : i < all - 1). front i low top before)
         (λ (last : all - 1 ≤ i). subst (λ k. get_or words k 0 ≢ 2 ^ 64 - 1) (let at : all - 1 ≡ i = omega (arith, last, inside, is) in at) used) (cases_lt i (all - 1));
@@ -179,43 +195,89 @@ module _ (node : NodeView) (words : List ℕ) (is_node : HasNodeWords node) (sam
     unused = λ i low top past. ⊎_elim (λ (last : i < all). ap (λ k. get_or words k 0) (let at : i ≡ all - 1 = omega (arith, past, last, is) in at) ∙ ones) (λ (after : all ≤ i). behind i low top after) (cases_lt i all);
   }
 
-  narrow_ends : kind_of node.columns ≡ Narrow → (end all : ℕ) → all ≡ 3 + (length node.rows + 8 - 1) / 8 → (end ≡ all × (get_or words (all - 1) 0 ≢ 2 ^ 64 - 1)) ⊎ (end ≡ all - 1 × (get_or words (all - 1) 0 ≡ 2 ^ 64 - 1)) → IsUsedTo end
+  narrow_ends : kind_of node.columns ≡ Narrow → (end all : ℕ) → all ≡ 3 + (length node.rows + 8 - 1) / 8 → EndsAt words all end → IsUsedTo end
   narrow_ends e end all is_all last =
       let some : 1 ≤ length node.rows = rows_some in
       let few : length node.rows ≤ 32 = room in
       let other : kind_of node.columns ≢ Wide = λ w. cc in
       let front : (i : ℕ) → 1 ≤ i → i < 25 → i < all - 1 → get_or words i 0 ≢ 2 ^ 64 - 1 = λ i low top inside. ⊎_elim
-          (λ (column : i < 3). column_used other i low (subst (λ k. i < rows_from k) (sym e) column) top)
-          (λ (row : 3 ≤ i).
-          let at : 3 + (i - 3) ≡ i = omega (arith, row) in
-          word_used i top (subst (λ k. get_or (take 25 words) k 0 ≢ 2 ^ 64 - 1) at (narrow_rows_used node lawful (take 25 words) head_words_are e (i - 3) (omega (arith, row, inside, is_all)))))
-          (cases_lt i 3) in
+      (λ (column : i < 3). column_used other i low (subst (λ k. i < rows_from k) (sym e) column) top)
+      (λ (row : 3 ≤ i).
+      let at : 3 + (i - 3) ≡ i = omega (arith, row) in
+      word_used i top (subst (λ k. get_or (take 25 words) k 0 ≢ 2 ^ 64 - 1) at (narrow_rows_used node lawful (take 25 words) head_words_are e (i - 3) (omega (arith, row, inside, is_all)))))
+      (cases_lt i 3) in
       let behind : (i : ℕ) → 1 ≤ i → i < 25 → all ≤ i → get_or words i 0 ≡ 2 ^ 64 - 1 = λ i low top past. ⊎_elim
-          (λ (row : i < 7).
-          let at : 3 + (i - 3) ≡ i = omega (arith, past, is_all, some) in
-          sym (in_head i top) ∙ (ap (λ k. get_or (take 25 words) k 0) (sym at) ∙ narrow_rows_unused node lawful (take 25 words) head_words_are e (i - 3) (omega (arith, row)) (omega (arith, past, is_all))))
-          (λ (rest : 7 ≤ i). past_used i (subst (λ k. head_size k ≤ i) (sym e) rest) top)
-          (cases_lt i 7) in
+      (λ (row : i < 7).
+      let at : 3 + (i - 3) ≡ i = omega (arith, past, is_all, some) in
+      sym (in_head i top) ∙ (ap (λ k. get_or (take 25 words) k 0) (sym at) ∙ narrow_rows_unused node lawful (take 25 words) head_words_are e (i - 3) (omega (arith, row)) (omega (arith, past, is_all))))
+      (λ (rest : 7 ≤ i). past_used i (subst (λ k. head_size k ≤ i) (sym e) rest) top)
+      (cases_lt i 7) in
       ends all end front behind (omega (arith, is_all, some)) (omega (arith, is_all, few)) last
 
-  middle_ends : kind_of node.columns ≡ Middle → (end all : ℕ) → all ≡ 5 + (length node.rows + 4 - 1) / 4 → (end ≡ all × (get_or words (all - 1) 0 ≢ 2 ^ 64 - 1)) ⊎ (end ≡ all - 1 × (get_or words (all - 1) 0 ≡ 2 ^ 64 - 1)) → IsUsedTo end
+  middle_ends : kind_of node.columns ≡ Middle → (end all : ℕ) → all ≡ 5 + (length node.rows + 4 - 1) / 4 → EndsAt words all end → IsUsedTo end
   middle_ends e end all is_all last =
       let some : 1 ≤ length node.rows = rows_some in
       let few : length node.rows ≤ 32 = room in
       let other : kind_of node.columns ≢ Wide = λ w. cc in
       let front : (i : ℕ) → 1 ≤ i → i < 25 → i < all - 1 → get_or words i 0 ≢ 2 ^ 64 - 1 = λ i low top inside. ⊎_elim
-          (λ (column : i < 5). column_used other i low (subst (λ k. i < rows_from k) (sym e) column) top)
-          (λ (row : 5 ≤ i).
-          let at : 5 + (i - 5) ≡ i = omega (arith, row) in
-          word_used i top (subst (λ k. get_or (take 25 words) k 0 ≢ 2 ^ 64 - 1) at (middle_rows_used node lawful (take 25 words) head_words_are e (i - 5) (omega (arith, row, inside, is_all)))))
-          (cases_lt i 5) in
+      (λ (column : i < 5). column_used other i low (subst (λ k. i < rows_from k) (sym e) column) top)
+      (λ (row : 5 ≤ i).
+      let at : 5 + (i - 5) ≡ i = omega (arith, row) in
+      word_used i top (subst (λ k. get_or (take 25 words) k 0 ≢ 2 ^ 64 - 1) at (middle_rows_used node lawful (take 25 words) head_words_are e (i - 5) (omega (arith, row, inside, is_all)))))
+      (cases_lt i 5) in
       let behind : (i : ℕ) → 1 ≤ i → i < 25 → all ≤ i → get_or words i 0 ≡ 2 ^ 64 - 1 = λ i low top past. ⊎_elim
-          (λ (row : i < 13).
-          let at : 5 + (i - 5) ≡ i = omega (arith, past, is_all, some) in
-          sym (in_head i top) ∙ (ap (λ k. get_or (take 25 words) k 0) (sym at) ∙ middle_rows_unused node lawful (take 25 words) head_words_are e (i - 5) (omega (arith, row)) (omega (arith, past, is_all))))
-          (λ (rest : 13 ≤ i). past_used i (subst (λ k. head_size k ≤ i) (sym e) rest) top)
-          (cases_lt i 13) in
+      (λ (row : i < 13).
+      let at : 5 + (i - 5) ≡ i = omega (arith, past, is_all, some) in
+      sym (in_head i top) ∙ (ap (λ k. get_or (take 25 words) k 0) (sym at) ∙ middle_rows_unused node lawful (take 25 words) head_words_are e (i - 5) (omega (arith, row)) (omega (arith, past, is_all))))
+      (λ (rest : 13 ≤ i). past_used i (subst (λ k. head_size k ≤ i) (sym e) rest) top)
+      (cases_lt i 13) in
       ends all end front behind (omega (arith, is_all, some)) (omega (arith, is_all, few)) last
+
+  -- ---- a head of any kind
+  first_is : get_or (head_words (head_of node)) 0 0 ≡ get_or words 0 0
+  first_is = ap (λ (ws : List ℕ). get_or ws 0 0) head_words_are ∙ in_head 0 (lit< tt)
+
+  module _ (numbers : HeadNumbers) (read : (other : NodeView) → IsLawfulNode other → get_or (head_words (head_of other)) 0 0 ≡ get_or words 0 0 → AreNumbersOf numbers other) (all : ℕ)
+      (is_all : all ≡ rows_from numbers.kind + (numbers.count + rows_a_word numbers.kind - 1) / rows_a_word numbers.kind) where
+    numbers_are : AreNumbersOf numbers node
+    numbers_are = read node lawful first_is
+
+    all_of : all ≡ rows_end (kind_of node.columns) (length node.rows)
+    all_of = is_all ∙ ap₂ rows_end numbers_are.kind_is (numbers_are.count_is ∙ sym (same_count node lawful))
+
+    pub all_few : all ≤ 25
+    all_few = omega (arith, all_of, few_words (kind_of node.columns) (length node.rows) room)
+
+    all_at : (kind : Kind) → kind_of node.columns ≡ kind → all ≡ rows_end kind (length node.rows)
+    all_at kind e = subst (λ k. all ≡ rows_end k (length node.rows)) e all_of
+
+    wide_here : numbers.kind ≡ Wide → kind_of node.columns ≡ Wide
+    wide_here e = sym numbers_are.kind_is ∙ e
+
+    pub columns_below : numbers.kind ≡ Wide → (end : ℕ) → end ≡ columns_end numbers.kind numbers.columns → HaveBelow words 1 end
+    columns_below e end is = wide_columns (wide_here e) end (is ∙ ap₂ columns_end e numbers_are.columns_are)
+
+    module _ (end : ℕ) (last : EndsAt words all end) where
+      pub wide_rows_below : numbers.kind ≡ Wide → (begin : ℕ) → 9 ≤ begin → begin + 8 ≤ 25 → HaveBelow words begin end
+      wide_rows_below e begin from to = go last
+        where
+          at : all ≡ 9 + (length node.rows + 1) / 2
+          at = all_at Wide (wide_here e) ∙ ap (λ n. 9 + n / 2) (let f : length node.rows + 2 - 1 ≡ length node.rows + 1 = omega arith in f)
+
+          go : EndsAt words all end → HaveBelow words begin end
+          go (inl (is, used)) = wide_rows (wide_here e) begin end from to (is ∙ at)
+          go (inr (is, ones)) = absurd (wide_last (wide_here e) all at ones)
+
+      near_ends : numbers.kind ≢ Wide → IsUsedTo end
+      near_ends other = go (of_kind node.columns)
+        where
+          go : OfKind node.columns → IsUsedTo end
+          go (is_wide e) = absurd (other (numbers_are.kind_is ∙ e))
+          go (is_narrow e near) = narrow_ends e end all (all_at Narrow e) last
+          go (is_middle e near) = middle_ends e end all (all_at Middle e) last
+
+      pub near_words_below : numbers.kind ≢ Wide → (begin : ℕ) → 1 ≤ begin → begin + 8 ≤ 25 → HaveBelow words begin end
+      near_words_below other begin from to = near_below begin end from to (near_ends other)
 
   pub entries_below : (first : ℕ) → 25 ≤ first → first + 8 ≤ 57 → HaveBelow words first (25 + get_or words 0 0 % 256)
   entries_below first from to =

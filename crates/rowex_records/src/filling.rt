@@ -18,7 +18,8 @@ ghost use Rattle.rowex_records.specs.Records.{HaveBelow, IsBehindValue, IsFilled
 use key_bits::Key;
 use record_words::{
     FIELDS_OFFSET, FIRST_ENTRY, FIRST_POSITIONS, FIRST_ROWS, HEAD_WORDS, KEY_OFFSET, Kind,
-    LENGTH_OFFSET, NODE_FIELDS, NUMBERS_OFFSET, VALUE_OFFSET, count_key_words, key_word_at, read_numbers,
+    LENGTH_OFFSET, NODE_FIELDS, NUMBERS_OFFSET, VALUE_OFFSET, count_key_words, key_word_at,
+    read_numbers,
 };
 use rowex_core::{Gate, Rec};
 use rowex_table::{HotTable, NodeAt, RecordAt, TableSeat};
@@ -112,10 +113,9 @@ fn used_ends(words: &[u64; NODE_FIELDS]) -> (usize, usize)
     } else {
         all
     };
-    if numbers.kind == Kind::Wide {
-        (numbers.columns_end(), rows)
-    } else {
-        (rows, rows)
+    match numbers.kind {
+        Kind::Wide => (numbers.columns_end(), rows),
+        _ => (rows, rows),
     }
 }
 

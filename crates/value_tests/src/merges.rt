@@ -4,7 +4,7 @@ ghost use Rattle.std.specs.Prelude.{◌≡◌};
 
 use crate::nodes::{comb_node, expect_node, node_of_three};
 use compound_node::{Entry, Node};
-use record_words::{FIRST_ROWS, NODE_FIELDS, close_fork, pack_node, position_of, row_of};
+use record_words::{NODE_FIELDS, close_fork, pack_node, read_numbers};
 use std::process::Abort;
 
 /// The node of height 2 of children 10 and 11 and leaf 12, with these rows and forks at the positions 4 and 6. Panics if there is none.
@@ -159,18 +159,20 @@ fn one_entry_takes_the_place_of_two(rt: HostRuntime) {
     }
 }
 
-/// `row_of` reads the half of a word by the slot, and `position_of` the quarter by the column.
+/// In a wide head `row_of` reads the half of a word by the slot, and `position_of` the quarter by the column.
 #[test]
 fn rows_and_positions_are_read(rt: HostRuntime) {
     let words = pack_node(&comb_node(&rt, &POSITIONS));
+    let numbers = read_numbers(words[0]);
     for at in 0..32u8 {
-        let row = row_of(words[FIRST_ROWS + at as usize / 2], at);
+        let row = numbers.row_of(words[numbers.index_of_row(at)], at);
         assert!(rt; row == !(u32::MAX >> at), "{at}");
     }
     for column in 0..31u8 {
-        let position = position_of(words[1 + column as usize / 4], column);
+        let word = words[numbers.index_of_position(column)];
+        let position = numbers.position_of(word, words[numbers.index_of_mask(column)], column);
         assert!(rt; position == u16::from(column), "{column}");
     }
-    assert!(rt; row_of(0xc000_0000_8000_0000, 7) == 0xc000_0000);
-    assert!(rt; position_of(0xffff_0008_0006_0004, 9) == 6);
+    assert!(rt; numbers.row_of(0xc000_0000_8000_0000, 7) == 0xc000_0000);
+    assert!(rt; numbers.position_of(0xffff_0008_0006_0004, 0, 9) == 6);
 }
