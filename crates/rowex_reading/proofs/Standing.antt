@@ -83,7 +83,7 @@ entry_spelled c n i (v, has, same) small = (
   has.entries.each i,
   sym (entry_words_at v.entries (entry_words v.entries) refl i small) ∙
       (sym (get_or-append-add (head_words (head_of v)) (entry_words v.entries) i 0) ∙
-      (ap (λ z. get_or (head_words (head_of v) ++ entry_words v.entries) (z + i) 0) length-head_words v ∙
+      (ap (λ z. get_or (head_words (head_of v) ++ entry_words v.entries) (z + i) 0) (length-head_words v) ∙
       (ap (λ z. get_or z (25 + i) 0) same ∙ ap (λ z. get_or (c.words (a_node n)) z 0) (let e : 25 + i ≡ 26 + i - 1 = omega arith in e) ∙ later))),
 )
   where

@@ -1,6 +1,6 @@
 -- A head's words, as many as its kind says, loaded in parts one after the other; and the step at their node.
-use Rattle.std.proofs.Common.{◌≡◌, Bool, ℕ, ◌+◌, ◌-◌, ◌^◌, ◌<◌, ◌≤◌, ◌++◌, List, [], length, length-append, get_or, get_or-take, replicate, take, drop, refl, ap, sym, ◌∙◌, arith, lit<, lit≤}
-use Rattle.std.proofs.lemmas.List.{drop_at, get_or_append_left, length-replicate, take-take, take_all, take_at}
+use Rattle.std.proofs.Common.{◌≡◌, Bool, ℕ, ◌+◌, ◌-◌, ◌^◌, ◌<◌, ◌≤◌, ◌++◌, List, [], ◌∷◌, length, length-append, get_or, get_or-take, replicate, take, drop, refl, ap, subst, sym, ◌∙◌, arith, lit<, lit≤}
+use Rattle.std.proofs.lemmas.List.{append-nil, drop_at, get_or_append_left, length-replicate, take-take, take_all, take_at}
 use Rattle.compound_node.proofs.Roots.{root_of_head}
 use Rattle.compound_node.specs.declared.entries.Entry.TheVariants.{Leaf, Node}
 use Rattle.compound_node.specs.Nodes.{NodeView, IsLawfulNode, head_of, leaves, node_of, piece}
@@ -54,19 +54,48 @@ front_spelled layout k j n front possible loaded long wide m h led =
     ∙ (ap kind_in (sym (get_or-take FIRST_ROWS (head_words (head_of packed.0)) 0 0 (lit< tt)) ∙ ap (λ (ws : List ℕ). get_or ws 0 0) same) ∙ wide) in
     (head_of packed.0, ((packed.0, packed.1.lawful, refl), kind), same)
 
--- a head of this kind has been loaded, as far as its words say something: the first one, and those behind it
-pub kind_read : (layout : Layout) (k j i : Known) (n : ℕ) (kind : Kind) (front back : List ℕ) → IsPossible layout i → AreLoaded k j (a_node n) 0 (λ o. o < length front) front →
-    AreLoaded j i (a_node n) (length front) (λ o. o < length back) back → kind_in (get_or (front ++ back) 0 0) ≡ kind → length front + length back ≡ head_size kind → (m h : ℕ) → IsLedTo k m (Node n h) →
-    AreHeadWords i m n h ((front ++ back) ++ replicate (HEAD_WORDS - head_size kind) (2 ^ 64 - 1))
-kind_read layout k j i n kind front back possible first second is long m h led =
-    let size : length (front ++ back) ≡ head_size kind = length-append front back ∙ long in
-    part_read layout k i n (front ++ back) ((front ++ back) ++ replicate (HEAD_WORDS - head_size kind) (2 ^ 64 - 1)) possible (both_loaded k j i (a_node n) front back first second)
-    (omega (arith, size, most kind)) (kind_tells kind (front ++ back) is size) m h led
+-- ---- the first word, and those behind it
+abbrev pub begun : List ℕ → List ℕ → List ℕ
+begun first more = get_or first 0 0 ∷ (more ++ [])
+
+one_word : (first : List ℕ) → length first ≡ 1 → first ≡ get_or first 0 0 ∷ []
+one_word [] long = absurd (omega (arith, long))
+one_word (w ∷ []) long = refl
+one_word (w ∷ v ∷ ws) long = absurd (omega (arith, long))
+
+pub begun_long : (first more : List ℕ) → length (begun first more) ≡ 1 + length more
+begun_long first more = omega (arith, ap (λ (ws : List ℕ). length ws) (append-nil more))
+
+pub begun_loaded : {k j i : Known} {n : ℕ} (first more : List ℕ) → length first ≡ 1 → AreLoaded k j (a_node n) 0 (λ o. o < length first) first → AreLoaded j i (a_node n) 1 (λ o. o < length more) more →
+    AreLoaded k i (a_node n) 0 (λ o. o < length (begun first more)) (begun first more)
+begun_loaded {k} {j} {i} {n} first more long loaded behind =
+    subst (λ (ws : List ℕ). AreLoaded k i (a_node n) 0 (λ o. o < length ws) ws) (ap (λ (ws : List ℕ). get_or first 0 0 ∷ ws) (sym (append-nil more)))
+    (both_loaded k j i (a_node n) (get_or first 0 0 ∷ []) more (subst (λ (ws : List ℕ). AreLoaded k j (a_node n) 0 (λ o. o < length ws) ws) (one_word first long) loaded) behind)
+
+-- a near head has been loaded, as far as its words say something
+pub near_read : (layout : Layout) (k j i : Known) (n : ℕ) (kind : Kind) (first more : List ℕ) → IsPossible layout i → AreLoaded k j (a_node n) 0 (λ o. o < length first) first →
+    AreLoaded j i (a_node n) 1 (λ o. o < length more) more → kind_in (get_or first 0 0) ≡ kind → length first ≡ 1 → 1 + length more ≡ head_size kind → (m h : ℕ) → IsLedTo k m (Node n h) →
+    AreHeadWords i m n h (begun first more ++ replicate (HEAD_WORDS - head_size kind) (2 ^ 64 - 1))
+near_read layout k j i n kind first more possible loaded behind is one long m h led =
+    let size : length (begun first more) ≡ head_size kind = begun_long first more ∙ long in
+    part_read layout k i n (begun first more) (begun first more ++ replicate (HEAD_WORDS - head_size kind) (2 ^ 64 - 1)) possible (begun_loaded first more one loaded behind)
+    (omega (arith, size, most kind)) (kind_tells kind (begun first more) is size) m h led
   where
     most : (kind : Kind) → head_size kind ≤ HEAD_WORDS
     most Wide = omega arith
     most Narrow = omega arith
     most Middle = omega arith
+
+-- a wide head has been loaded
+pub wide_read : (layout : Layout) (k j i : Known) (n : ℕ) (front back : List ℕ) → IsPossible layout i → AreLoaded k j (a_node n) 0 (λ o. o < length front) front →
+    AreLoaded j i (a_node n) FIRST_ROWS (λ o. o < length back) back → kind_in (get_or front 0 0) ≡ Wide → length front ≡ FIRST_ROWS → length back ≡ ROW_WORDS → (m h : ℕ) → IsLedTo k m (Node n h) →
+    AreHeadWords i m n h ((front ++ back) ++ [])
+wide_read layout k j i n front back possible loaded behind is long back_long m h led =
+    let size : length (front ++ back) ≡ HEAD_WORDS = length-append front back ∙ omega (arith, long, back_long) in
+    let first : get_or (front ++ back) 0 0 ≡ get_or front 0 0 = get_or_append_left front back 0 0 (omega (arith, long)) in
+    part_read layout k i n (front ++ back) ((front ++ back) ++ []) possible
+    (both_loaded k j i (a_node n) front back loaded (subst (λ from. AreLoaded j i (a_node n) from (λ o. o < length back) back) (sym long) behind))
+    (omega (arith, size)) (kind_tells Wide (front ++ back) (ap kind_in first ∙ is) size) m h led
 
 -- ---- the step at a node whose head has these words
 same_step : (n m height tall first other count many at place : ℕ) → n ≡ m → height ≡ tall → first ≡ other → count ≡ many → at ≡ place →
