@@ -47,7 +47,7 @@ lead_layout c [] d lead = ap (λ (z : Core). z.layout) lead
 lead_layout c (x ∷ xs) d lead = lead_layout (after c x.pass x.act) xs d lead.1
 
 -- where there is one pass, no other makes a step
-none_other : (q : ℕ) (c d : Core) (more : List Event) → EventsLead c more d → c.layout.passes ≡ 1 → q < 1 → All (λ x. x.pass ≢ q) more → more ≡ []
+pub none_other : (q : ℕ) (c d : Core) (more : List Event) → EventsLead c more d → c.layout.passes ≡ 1 → q < 1 → All (λ x. x.pass ≢ q) more → more ≡ []
 none_other q c d [] lead one low others = refl
 none_other q c d (x ∷ xs) lead one low others =
     let legal : x.pass < c.layout.passes = lead.0.0 in

@@ -68,7 +68,7 @@ goes_plain acts plain = All-weaker TriesNoLock IsUnpublished (λ act t. recalls_
 works_plain : (acts : List Act) → All LoadsNoRoot acts → All IsUnpublished acts
 works_plain acts plain = All-weaker LoadsNoRoot IsUnpublished (λ act t. recalls_unpublished act (plain_recalls act t)) acts plain
 
-reads_plain : (acts : List Act) → All IsBelowRoot acts → All IsUnpublished acts
+pub reads_plain : (acts : List Act) → All IsBelowRoot acts → All IsUnpublished acts
 reads_plain acts plain = All-weaker IsBelowRoot IsUnpublished below_unpublished acts plain
 
 -- ---- what stays
