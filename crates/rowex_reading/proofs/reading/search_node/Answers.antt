@@ -1,11 +1,9 @@
 -- What the loads of the words of a head tell.
-use Rattle.std.proofs.Common.{ℕ, ◌≡◌, ◌+◌, ◌-◌, ◌^◌, ◌<◌, ◌≤◌, ◌++◌, ◌∙◌, [], ap, arith, get_or, length, length-append, lit≤, replicate, sym}
+use Rattle.std.proofs.Common.{ℕ, ◌≡◌, ◌+◌, ◌-◌, ◌^◌, ◌++◌, ◌∙◌, [], ap, arith, get_or, length, length-append, lit≤, replicate, sym}
 use Rattle.std.proofs.lemmas.List.{get_or_append_left}
 use Rattle.compound_node.specs.declared.entries.Entry.TheVariants.{Node}
-use Rattle.record_words.specs.HeadParts.{HasHeadOf}
-use Rattle.record_words.specs.Kinds.{head_size, kind_in, mask_index}
+use Rattle.record_words.specs.Kinds.{kind_in, mask_index}
 use Rattle.record_words.specs.declared.kind.Kind.TheVariants.{Middle, Narrow, Wide}
-use Rattle.rowex_reading.specs.Reads.{Reads}
 use Rattle.rowex_reading.specs.Seen.{AreHeadWords, IsLedTo}
 use Rattle.rowex_reading.specs.Ways.{step_at}
 use Rattle.rowex_reading.proofs.Led.{led_on, reader_then, reads_trans}

@@ -1,7 +1,6 @@
 -- The root for each key, one node down, and the leaves.
-use Rattle.std.proofs.Common.{◌≡◌, ◌∙◌, ◌+◌, ◌*◌, arith, le_trans, length, length-take-le, subst}
+use Rattle.std.proofs.Common.{◌∙◌, ◌+◌, arith, le_trans, length, length-take-le}
 use Rattle.std.proofs.Math.Nat.{mul-le-mul_left}
-use Rattle.rowex_reading.specs.Reads.{Reads}
 use Rattle.rowex_reading.proofs.Led.{reader_then, reads_none, reads_trans}
 use Rattle.rowex_reading.proofs.SideBySide.{heights_first, ways_first}
 use Rattle.rowex_reading.proofs.together.look_up_group.Goals as goal
