@@ -141,7 +141,8 @@ fn close_fork_at(rt: &impl Abort, node: &Node, at: u8) -> (Option<Entry>, [u64; 
 fn one_entry_takes_the_place_of_two(rt: HostRuntime) {
     let last = node_of_two_children_and_leaf(&rt, [0, 0x4000_0000, 0x8000_0000]);
     let want = pack_node(&Node::pair(4, child_entry(20), Entry::Leaf(12)));
-    assert!(rt; want[0] == 131_330 && want[1] == 0xffff_ffff_ffff_0004 && want[9] == 1 << 63);
+    assert!(rt; want[0] == (1 << 40) + 131_330 && want[1] == 0);
+    assert!(rt; want[2] == 16 << 56 && want[3] == 0xffff_ffff_ffff_8000);
     for at in 0..2 {
         let (left, words) = close_fork_at(&rt, &last, at);
         assert!(rt; left.is_none() && words == want, "{at}");
