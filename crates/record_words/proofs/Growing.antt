@@ -177,8 +177,8 @@ module _ {words : List ℕ} {node : NodeView} {position first last : ℕ} (growi
       elim bit as (λ b. cond b (last + 1) first ≤ length node.entries) [ true ↦ omega (arith, inside, same_count node growing.has.lawful) | false ↦ omega (arith, ordered, inside, same_count node growing.has.lawful) ]
 
 -- the first word tells how many entries a node has, and its height
-pub first_told : (node : NodeView) (words : List ℕ) → HasNodeWords node → node_words node ≡ words → (get_or words 0 0 % 256 ≡ length node.entries) × (get_or words 0 0 / 65536 ≡ node.height)
+pub first_told : (node : NodeView) (words : List ℕ) → HasNodeWords node → node_words node ≡ words → (get_or words 0 0 % 256 ≡ length node.entries) × (get_or words 0 0 / 65536 % 65536 ≡ node.height)
 first_told node words has same = (
   entries_counted node words has same,
-  ap (λ word. word / 65536) (sym (get_or-take 25 words 0 0 (lit< tt))) ∙ height_read node has.lawful (take 25 words) (head_part node words same),
+  ap (λ word. word / 65536 % 65536) (sym (get_or-take 25 words 0 0 (lit< tt))) ∙ height_read node has.lawful (take 25 words) (head_part node words same),
 )

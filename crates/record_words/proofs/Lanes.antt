@@ -9,13 +9,13 @@ use Rattle.std.proofs.Common.{ap₂, inl, inr}
 use Rattle.std.proofs.Math.ListN.{get_or-append}
 use Rattle.std.proofs.lemmas.Bool.{cases_lt, eq-eqb, eqb-false, eqb-true, ne_eqb}
 use Rattle.pieces.specs.Positions.{has}
-use Rattle.compound_node.specs.Nodes.{NodeView, IsLawfulNode, head_of}
-use Rattle.record_words.specs.Node.{head_words}
-use Rattle.record_words.specs.Packed.{row_at, row_word}
-use Rattle.record_words.proofs.Fixing.{AreFixed, fixed_words_parts}
-use Rattle.record_words.proofs.Lawful.{column-lt, get_or-padded}
-use Rattle.record_words.proofs.Parts.{position_in_word}
+use Rattle.compound_node.specs.Nodes.{NodeView, IsLawfulNode}
+use Rattle.compound_node.proofs.Lawful.{same_count}
+use Rattle.record_words.specs.Kinds.{with_free_to_16}
+use Rattle.record_words.specs.Packed.{position_at, row_at, row_word}
+use Rattle.record_words.proofs.Lawful.{get_or-padded, length-with_unused}
 use Rattle.partial_keys.specs.Columns.{AreColumnLanes, IsColumns}
+use Rattle.partial_keys.specs.Rows.{with_unused}
 
 number_of_digits : (n x : ℕ) → x < 256 ^ n → number_l 256 (digits_l 256 n x) ≡ x
 number_of_digits zero x h = omega (arith, h, pow-zero 256)
@@ -76,16 +76,29 @@ module _ (xs : List ℕ) (long : length xs ≡ 8) (fits : Each1 (Fits w64) xs) w
       power = below_more (λ r. (2 ^ 32) ^ r ≡ 2 ^ (32 * r)) 1 (below_more (λ r. (2 ^ 32) ^ r ≡ 2 ^ (32 * r)) 0 (below_none (λ r. (2 ^ 32) ^ r ≡ 2 ^ (32 * r))) refl) refl
 
 -- the positions of a node, and the unused lanes
-pub place_lanes_read : (node : NodeView) → IsLawfulNode node → (words lanes : List ℕ) → head_words (head_of node) ≡ words → length lanes ≡ 32 →
-    ((i : ℕ) → i < 32 → get_or lanes i 0 ≡ get_or words (1 + i / 4) 0 / 2 ^ (16 * (i % 4)) % 2 ^ 16) → lanes ≡ node.columns ++ replicate (32 - length node.columns) 65535
-place_lanes_read node lawful words lanes same long each =
-    let parts : AreFixed (length node.rows) node.height node.columns node.rows words = fixed_words_parts (length node.rows) node.height node.columns node.rows words same in
+pub place_lanes_read : (node : NodeView) → IsLawfulNode node → (lanes : List ℕ) → length lanes ≡ 32 → ((i : ℕ) → i < 32 → get_or lanes i 0 ≡ position_at node.columns i) →
+    lanes ≡ node.columns ++ replicate (32 - length node.columns) 65535
+place_lanes_read node lawful lanes long each =
     let count : length (node.columns ++ replicate (32 - length node.columns) 65535) ≡ 32 =
     length-append node.columns _ ∙ omega (arith, length-replicate {A = ℕ} (32 - length node.columns) 65535, lawful.positions.few) in
     ext_get_or 65535 lanes (node.columns ++ replicate (32 - length node.columns) 65535) (long ∙ sym count)
-    (λ i h. get_or_default lanes i 65535 0 h
-    ∙ (each i (omega (arith, h, long)) ∙ (ap (λ word. word / 2 ^ (16 * (i % 4)) % 2 ^ 16) (sym (parts.positions (i / 4) (omega (arith, h, long)))) ∙ (sym (position_in_word node.columns i (column-lt node lawful))
-    ∙ sym (get_or-padded node.columns (32 - length node.columns) 65535 i)))))
+    (λ i h. get_or_default lanes i 65535 0 h ∙ (each i (omega (arith, h, long)) ∙ sym (get_or-padded node.columns (32 - length node.columns) 65535 i)))
+
+-- the rows of a node, and the unused lanes
+pub row_lanes_read : (node : NodeView) → IsLawfulNode node → (lanes : List ℕ) → length lanes ≡ 32 → ((i : ℕ) → i < 32 → get_or lanes i 0 ≡ row_at node.rows i) → lanes ≡ with_unused node.rows
+row_lanes_read node lawful lanes long each =
+    ext_get_or 4294967295 lanes (with_unused node.rows) (long ∙ sym (length-with_unused node.rows (omega (arith, same_count node lawful, lawful.room))))
+    (λ i h. get_or_default lanes i 4294967295 0 h ∙ (each i (omega (arith, h, long)) ∙ sym (get_or-padded node.rows (32 - length node.rows) 4294967295 i)))
+
+-- sixteen lanes and sixteen unused ones
+pub widened : (columns : List ℕ) → length columns ≤ 16 → with_free_to_16 columns ++ replicate 16 65535 ≡ columns ++ replicate (32 - length columns) 65535
+widened columns few =
+    let n : ℕ = 16 - length columns in
+    let long : length (with_free_to_16 columns) ≡ 16 = length-append columns (replicate n 65535) ∙ omega (arith, length-replicate {A = ℕ} n 65535, few) in
+    let left : length (with_free_to_16 columns ++ replicate 16 65535) ≡ 32 = length-append (with_free_to_16 columns) (replicate 16 65535) ∙ omega (arith, long, length-replicate {A = ℕ} 16 65535) in
+    let right : length (columns ++ replicate (32 - length columns) 65535) ≡ 32 = length-append columns _ ∙ omega (arith, length-replicate {A = ℕ} (32 - length columns) 65535, few) in
+    ext_get_or 65535 _ _ (left ∙ sym right)
+    (λ i h. get_or-padded (with_free_to_16 columns) 16 65535 i ∙ (get_or-padded columns n 65535 i ∙ sym (get_or-padded columns (32 - length columns) 65535 i)))
 
 -- the lanes of the low and of the high rows, one after the other
 pub rows_joined : (low high : List ℕ) → length low ≡ 16 → length high ≡ 16 → (words : List ℕ) →

@@ -1,32 +1,29 @@
 -- A node against its words.
-use Rattle.std.proofs.Common.{ℕ, ◌≡◌, ◌+◌, ◌<◌, ◌≤◌, arith, List, get_or, length, length-drop, take, drop, refl, sym, ap, ◌∙◌, length-append}
+use Rattle.std.proofs.Common.{ℕ, ◌≡◌, ◌≢◌, ◌+◌, ◌-◌, ◌*◌, ◌/◌, ◌%◌, ◌^◌, ◌<◌, arith, List, get_or, length, take, drop, refl, sym, ap, ap₂, ◌∙◌, length-append}
 use Rattle.std.specs.Prelude.{slice_get}
-use Rattle.std.proofs.lemmas.List.{take_at, drop-take, drop_at, take_all, take-take, get_or-append_right}
+use Rattle.std.proofs.lemmas.List.{ext_get_or, take_at, drop_at, take_all, get_or-append_right}
 use Rattle.compound_node.specs.Nodes.{NodeView, HeadView, IsLawfulNode, head_of, node_of}
 use Rattle.compound_node.proofs.Lawful.{same_count}
 use Rattle.record_words.specs.Entry.{entry_word}
-use Rattle.record_words.specs.HeadParts.{back_words}
+use Rattle.record_words.specs.Kinds.{bit_mask, first_byte, kind_of, mask_index, position_index}
 use Rattle.record_words.specs.Node.{HasNodeWords, head_words, entry_words, node_words}
+use Rattle.record_words.specs.declared.kind.Kind.{Kind}
+use Rattle.record_words.specs.declared.kind.Kind.TheVariants.{Middle, Narrow, Wide}
 use Rattle.record_words.proofs.Entries.{length-entry_words, entry_words_at, same_entries}
-use Rattle.record_words.proofs.Fixing.{AreFixed, columns_same, fixed_words_parts, rows_same, same_numbers}
+use Rattle.record_words.proofs.Fixing.{columns_same, rows_same}
 use Rattle.record_words.proofs.Heads.{same_fields}
+use Rattle.record_words.proofs.HeadsByKind.{Tells, head_parts}
 use Rattle.record_words.proofs.Lawful.{column-lt, row-lt}
+use Rattle.record_words.proofs.NearLanes.{first_lowest, lane_read, used_lane}
+use Rattle.record_words.proofs.OfKinds.{are_near_unless_wide, middle-not-wide, narrow-not-wide}
+use Rattle.record_words.proofs.TellingHead.{middle_row_is, narrow_row_is, near_index, near_mask, told, wide}
 
 -- ---- the two parts of a node's words
 pub length-head_words : (node : NodeView) → length (head_words (head_of node)) ≡ 25
-length-head_words node = (fixed_words_parts (length node.rows) node.height node.columns node.rows (head_words (head_of node)) refl).whole
+length-head_words node = (head_parts (length node.rows) node.height node.columns node.rows (head_words (head_of node)) refl).whole
 
 pub head_part : (node : NodeView) (words : List ℕ) → node_words node ≡ words → head_words (head_of node) ≡ take 25 words
 head_part node words same = sym (take_at (head_words (head_of node)) (entry_words node.entries) 25 (length-head_words node)) ∙ ap (take 25) same
-
--- the words of the sparse partial keys
-pub rows_of : (node : NodeView) (words : List ℕ) → head_words (head_of node) ≡ words → back_words (head_of node) ≡ take 16 (drop 9 words)
-rows_of node words same =
-    let long : length (drop 9 (head_words (head_of node))) ≤ 16 = omega (arith, length-drop 9 (head_words (head_of node)), length-head_words node) in
-    sym (take_all 16 (drop 9 (head_words (head_of node))) long) ∙ ap (λ ws. take 16 (drop 9 ws)) same
-
-pub rows_part : (node : NodeView) (words : List ℕ) → node_words node ≡ words → back_words (head_of node) ≡ take 16 (drop 9 words)
-rows_part node words same = rows_of node (take 25 words) (head_part node words same) ∙ ap (take 16) (drop-take 9 16 words) ∙ take-take 16 16 (drop 9 words) (omega arith)
 
 pub entry_part : (node : NodeView) (words : List ℕ) → node_words node ≡ words → entry_words node.entries ≡ take 32 (drop 25 words)
 entry_part node words same =
@@ -43,17 +40,67 @@ node_words-entry node i small =
     ∙ (ap (λ k. get_or (entry_words node.entries) k 0) (omega arith) ∙ entry_words_at node.entries (entry_words node.entries) refl i small)
 
 -- ---- no two nodes, and no two heads, have the same words
-pub same_head : (a b : NodeView) → IsLawfulNode a → IsLawfulNode b → head_words (head_of a) ≡ head_words (head_of b) → head_of a ≡ head_of b
-same_head a b lawful_a lawful_b same =
-    let words : List ℕ = head_words (head_of b) in
-    let of_a : AreFixed (length a.rows) a.height a.columns a.rows words = fixed_words_parts (length a.rows) a.height a.columns a.rows words same in
-    let of_b : AreFixed (length b.rows) b.height b.columns b.rows words = fixed_words_parts (length b.rows) b.height b.columns b.rows words refl in
-    let room_a : length a.rows ≤ 32 = omega (arith, same_count a lawful_a, lawful_a.room) in
-    let room_b : length b.rows ≤ 32 = omega (arith, same_count b lawful_b, lawful_b.room) in
-    let numbers = same_numbers (length a.rows) a.height (length a.columns) (length b.rows) b.height (length b.columns) (omega (arith, room_a)) lawful_a.positions.few (omega (arith, room_b)) lawful_b.positions.few
-    (sym of_a.numbers ∙ of_b.numbers) in
-    same_fields numbers.2 (columns_same a.columns b.columns words of_a.positions of_b.positions lawful_a.positions.few numbers.1 (column-lt a lawful_a) (column-lt b lawful_b))
-    (rows_same a.rows b.rows words of_a.rows_are of_b.rows_are room_a numbers.0 (row-lt a lawful_a) (row-lt b lawful_b))
+-- a column of a near head, by the index of its byte and its mask
+column_read : (node : NodeView) → IsLawfulNode node → kind_of node.columns ≢ Wide → (j : ℕ) → j < length node.columns →
+    lane_read (first_byte node.columns) (get_or node.columns j 0 / 9 - first_byte node.columns) (bit_mask (get_or node.columns j 0)) ≡ get_or node.columns j 0
+column_read node lawful other j used =
+    used_lane (first_byte node.columns) (get_or node.columns j 0) (first_lowest node.columns j lawful.positions.rise used) (column-lt node lawful j) ((are_near_unless_wide node.columns other).each j used).a_bit
+
+module _ (a b : NodeView) (lawful_a : IsLawfulNode a) (lawful_b : IsLawfulNode b) (same : head_words (head_of a) ≡ head_words (head_of b)) where
+  abbrev words : List ℕ
+  words = head_words (head_of b)
+
+  of_a : Tells (length a.rows) a.height a.columns (get_or words 0 0)
+  of_a = told a lawful_a words same
+
+  of_b : Tells (length b.rows) b.height b.columns (get_or words 0 0)
+  of_b = told b lawful_b words refl
+
+  kinds : kind_of a.columns ≡ kind_of b.columns
+  kinds = sym of_a.kind_told ∙ of_b.kind_told
+
+  counts : length a.rows ≡ length b.rows
+  counts = sym of_a.counted ∙ of_b.counted
+
+  as_many : length a.columns ≡ length b.columns
+  as_many = sym of_a.columns_counted ∙ of_b.columns_counted
+
+  near_column : kind_of b.columns ≢ Wide → (j : ℕ) → j < length a.columns → get_or a.columns j 0 ≡ get_or b.columns j 0
+  near_column other j used =
+      let other_a : kind_of a.columns ≢ Wide = λ wide. other (sym kinds ∙ wide) in
+      let used_b : j < length b.columns = omega (arith, used, as_many) in
+      let firsts : first_byte a.columns ≡ first_byte b.columns = sym (of_a.first_told other_a) ∙ of_b.first_told other in
+      let indexes : get_or a.columns j 0 / 9 - first_byte a.columns ≡ get_or b.columns j 0 / 9 - first_byte b.columns =
+      sym (near_index a lawful_a words same other_a j used)
+      ∙ (ap (λ kind. get_or words (position_index kind j) 0 / 2 ^ (8 * (7 - j % 8)) % 2 ^ 8) kinds ∙ near_index b lawful_b words refl other j used_b) in
+      let masks : bit_mask (get_or a.columns j 0) ≡ bit_mask (get_or b.columns j 0) =
+      sym (near_mask a lawful_a words same other_a j used)
+      ∙ (ap (λ kind. get_or words (mask_index kind j) 0 / 2 ^ (8 * (7 - j % 8)) % 2 ^ 8) kinds ∙ near_mask b lawful_b words refl other j used_b) in
+      sym (column_read a lawful_a other_a j used)
+      ∙ (ap (λ first. lane_read first (get_or a.columns j 0 / 9 - first_byte a.columns) (bit_mask (get_or a.columns j 0))) firsts
+      ∙ (ap₂ (lane_read (first_byte b.columns)) indexes masks ∙ column_read b lawful_b other j used_b))
+
+  near_columns : kind_of b.columns ≢ Wide → a.columns ≡ b.columns
+  near_columns other = ext_get_or 0 a.columns b.columns as_many (near_column other)
+
+  both : (kind : Kind) → kind_of b.columns ≡ kind → (a.columns ≡ b.columns) × (a.rows ≡ b.rows)
+  both Wide e =
+      let fixed_a = wide a lawful_a words same (kinds ∙ e) in
+      let fixed_b = wide b lawful_b words refl e in (
+        columns_same a.columns b.columns words fixed_a.positions fixed_b.positions lawful_a.positions.few as_many (column-lt a lawful_a) (column-lt b lawful_b),
+        rows_same a.rows b.rows words fixed_a.rows_are fixed_b.rows_are (omega (arith, same_count a lawful_a, lawful_a.room)) counts (row-lt a lawful_a) (row-lt b lawful_b),
+      )
+  both Narrow e = (
+    near_columns (narrow-not-wide (kind_of b.columns) e),
+    ext_get_or 0 a.rows b.rows counts (λ i h. sym (narrow_row_is a lawful_a words same (kinds ∙ e) i h) ∙ narrow_row_is b lawful_b words refl e i (omega (arith, h, counts))),
+  )
+  both Middle e = (
+    near_columns (middle-not-wide (kind_of b.columns) e),
+    ext_get_or 0 a.rows b.rows counts (λ i h. sym (middle_row_is a lawful_a words same (kinds ∙ e) i h) ∙ middle_row_is b lawful_b words refl e i (omega (arith, h, counts))),
+  )
+
+  pub same_head : head_of a ≡ head_of b
+  same_head = let parts = both (kind_of b.columns) refl in same_fields (sym of_a.height_told ∙ of_b.height_told) parts.0 parts.1
 
 pub same_node : (a b : NodeView) → HasNodeWords a → HasNodeWords b → node_words a ≡ node_words b → a ≡ b
 same_node a b has_a has_b same =

@@ -1,39 +1,55 @@
 -- What is read of words that spell a value.
-use Rattle.std.proofs.Common.{ℕ, ◌≡◌, ◌+◌, ◌-◌, ◌*◌, ◌/◌, ◌%◌, ◌^◌, ◌<◌, ◌≤◌, ◌++◌, List, [], ◌∷◌, Option, Some, suc, arith, get_or, length, take, refl, sym, ap, ◌∙◌, length-append, get_or-take, lit<, below_more, set, length-set, get_or-set_other, get_or-set_same}
+use Rattle.std.proofs.Common.{ℕ, ◌≡◌, ◌+◌, ◌-◌, ◌/◌, ◌%◌, ◌<◌, ◌≤◌, ◌++◌, List, [], ◌∷◌, Option, Some, suc, arith, get_or, length, replicate, take, refl, sym, ap, ◌∙◌, length-append, get_or-take, lit<}
 use Rattle.std.proofs.Math.Seq.{take-suc}
 use Rattle.std.proofs.lemmas.Option.{slice_get-get_or}
 use Rattle.compound_node.specs.declared.entries.Entry.{Entry}
 use Rattle.compound_node.specs.declared.entries.Entry.TheVariants.{Leaf}
 use Rattle.record_words.specs.Entry.{HasEntryWord, entry_word}
-use Rattle.std.proofs.lemmas.List.{ext_get_or, get_or_default, length-replicate, take_at}
+use Rattle.std.proofs.lemmas.List.{ext_get_or, length-replicate, length-take-le, take_at}
 use Rattle.partial_keys.specs.Columns.{with_free}
 use Rattle.partial_keys.specs.Rows.{with_unused}
 use Rattle.compound_node.specs.Nodes.{NodeView, HeadView, IsHead, IsLawfulNode, head_of, node_of}
 use Rattle.compound_node.proofs.Lawful.{same_count}
+use Rattle.record_words.specs.HeadParts.{HasHeadOf}
+use Rattle.record_words.specs.Kinds.{kind_of}
 use Rattle.record_words.specs.Node.{HasHeadWords, HasNodeWords, head_words, node_words}
 use Rattle.record_words.specs.Leaf.{HasLeafWords, leaf_words}
 use Rattle.record_words.specs.Reading.{IsSpelledBy, IsSpelling}
-use Rattle.record_words.proofs.Fixing.{AreFixed, fixed_words_parts}
+use Rattle.record_words.specs.declared.kind.Kind.{Kind}
 use Rattle.record_words.proofs.Heads.{head_used, is_head}
-use Rattle.record_words.proofs.Lawful.{column-lt, get_or-padded, length-with_unused, row-lt}
+use Rattle.record_words.proofs.HeadsByKind.{Tells, head_parts}
+use Rattle.record_words.proofs.Lawful.{get_or-padded}
 use Rattle.record_words.proofs.Leaves.{same_leaf}
 use Rattle.record_words.proofs.Nodes.{head_part, node_words-entry, same_head, same_node}
-use Rattle.record_words.proofs.Parts.{position_in_word, row_in_word}
-
--- the numbers of a list so far, and one more that is written
-pub one_more_written : (at : ℕ → ℕ) (count : ℕ) (xs : List ℕ) (n y : ℕ) → n < count → (length xs ≡ count) × ((k : ℕ) → k < n → get_or xs k 0 ≡ at k) → y ≡ at n →
-    (length (set xs n y) ≡ count) × ((k : ℕ) → k < n + 1 → get_or (set xs n y) k 0 ≡ at k)
-one_more_written at count xs n y within (long, so_far) here = (
-  length-set xs n y ∙ long,
-  below_more (λ k. get_or (set xs n y) k 0 ≡ at k) n (λ k before. get_or-set_other xs n k y 0 (λ e. omega (arith, e, before)) ∙ so_far k before)
-      (get_or-set_same xs n y 0 (omega (arith, within, long)) ∙ here),
-)
+use Rattle.record_words.proofs.TellingHead.{told}
 
 length-with_free : (columns : List ℕ) → length columns ≤ 31 → length (with_free columns) ≡ 31
 length-with_free columns few = length-append columns _ ∙ omega (arith, length-replicate {A = ℕ} (31 - length columns) 65535)
 
+pub places_taken : (columns : List ℕ) → length columns ≤ 31 → take 31 (columns ++ replicate (32 - length columns) 65535) ≡ with_free columns
+places_taken columns few =
+    let all : length (columns ++ replicate (32 - length columns) 65535) ≡ 32 = length-append columns _ ∙ omega (arith, length-replicate {A = ℕ} (32 - length columns) 65535, few) in
+    let long : length (take 31 (columns ++ replicate (32 - length columns) 65535)) ≡ 31 = length-take-le 31 (columns ++ replicate (32 - length columns) 65535) (omega (arith, all)) in
+    ext_get_or 65535 _ (with_free columns) (long ∙ sym (length-with_free columns few))
+    (λ i h. get_or-take 31 (columns ++ replicate (32 - length columns) 65535) i 65535 (omega (arith, h, long))
+    ∙ (get_or-padded columns (32 - length columns) 65535 i ∙ sym (get_or-padded columns (31 - length columns) 65535 i)))
+
 pub columns_in_front : (columns places : List ℕ) (count : ℕ) → places ≡ with_free columns → count ≡ length columns → take count places ≡ columns
 columns_in_front columns places count same counted = rw (same, counted) (take_at columns _ (length columns) refl)
+
+-- some node whose head has this kind, and the words in this part
+module _ (kind : Kind) (part : HeadView → List ℕ) (words : List ℕ) (given : IsSpelling (HasHeadOf kind) part words) where
+  abbrev pub one_of_kind : NodeView
+  one_of_kind = given.1.0.0
+
+  pub lawful_one : IsLawfulNode one_of_kind
+  lawful_one = given.1.0.1
+
+  pub kind_of_one : kind_of one_of_kind.columns ≡ kind
+  kind_of_one = ap (λ (head : HeadView). kind_of head.columns) given.1.0.2 ∙ given.1.1
+
+  pub part_of_one : part (head_of one_of_kind) ≡ words
+  part_of_one = ap part given.1.0.2 ∙ given.2
 
 -- some node whose head has the words
 module _ (words : List ℕ) (given : IsSpelling HasHeadWords head_words words) where
@@ -48,40 +64,20 @@ module _ (words : List ℕ) (given : IsSpelling HasHeadWords head_words words) w
 
 -- a node whose head has these words
 module _ (node : NodeView) (lawful : IsLawfulNode node) (words : List ℕ) (same : head_words (head_of node) ≡ words) where
-  parts : AreFixed (length node.rows) node.height node.columns node.rows words
-  parts = fixed_words_parts (length node.rows) node.height node.columns node.rows words same
-
   pub whole : length words ≡ 25
-  whole = parts.whole
+  whole = (head_parts (length node.rows) node.height node.columns node.rows words same).whole
+
+  its_told : Tells (length node.rows) node.height node.columns (get_or words 0 0)
+  its_told = told node lawful words same
 
   pub count_read : get_or words 0 0 % 256 ≡ length node.rows
-  count_read = omega (arith, parts.numbers, same_count node lawful, lawful.room, lawful.positions.few)
+  count_read = its_told.counted
 
   pub columns_counted : get_or words 0 0 / 256 % 256 ≡ length node.columns
-  columns_counted = omega (arith, parts.numbers, same_count node lawful, lawful.room, lawful.positions.few)
+  columns_counted = its_told.columns_counted
 
-  pub height_read : get_or words 0 0 / 65536 ≡ node.height
-  height_read = omega (arith, parts.numbers, same_count node lawful, lawful.room, lawful.positions.few)
-
-  pub height-lt : get_or words 0 0 / 65536 < 2 ^ 16
-  height-lt = omega (arith, height_read, lawful.bound)
-
-  pub first_read : get_or words 1 0 % 65536 ≡ get_or node.columns 0 0
-  first_read = omega (arith, parts.positions 0 (lit< tt), position_in_word node.columns 0 (column-lt node lawful), get_or_default node.columns 0 65535 0 lawful.positions.some)
-
-  pub places_read : (places : List ℕ) → length places ≡ 31 → ((k : ℕ) → k < 31 → get_or places k 0 ≡ get_or words (1 + k / 4) 0 / 2 ^ (16 * (k % 4)) % 2 ^ 16) → places ≡ with_free node.columns
-  places_read places long each =
-      ext_get_or 65535 places (with_free node.columns) (long ∙ sym (length-with_free node.columns lawful.positions.few))
-      (λ i h. get_or_default places i 65535 0 h
-      ∙ (each i (omega arith) ∙ (ap (λ word. word / 2 ^ (16 * (i % 4)) % 2 ^ 16) (sym (parts.positions (i / 4) (omega arith))) ∙ (sym (position_in_word node.columns i (column-lt node lawful))
-      ∙ sym (get_or-padded node.columns (31 - length node.columns) 65535 i)))))
-
-  pub rows_read : (rows : List ℕ) → length rows ≡ 32 → ((k : ℕ) → k < 32 → get_or rows k 0 ≡ get_or words (9 + k / 2) 0 / 2 ^ (32 * (k % 2)) % 2 ^ 32) → rows ≡ with_unused node.rows
-  rows_read rows long each =
-      ext_get_or 4294967295 rows (with_unused node.rows) (long ∙ sym (length-with_unused node.rows (omega (arith, same_count node lawful, lawful.room))))
-      (λ i h. get_or_default rows i 4294967295 0 h
-      ∙ (each i (omega arith) ∙ (ap (λ word. word / 2 ^ (32 * (i % 2)) % 2 ^ 32) (sym (parts.rows_are (i / 2) (omega arith))) ∙ (sym (row_in_word node.rows i (row-lt node lawful))
-      ∙ sym (get_or-padded node.rows (32 - length node.rows) 4294967295 i)))))
+  pub height_read : get_or words 0 0 / 65536 % 65536 ≡ node.height
+  height_read = its_told.height_told
 
   pub is_head_read : (count height : ℕ) (columns rows : List ℕ) → count ≡ length node.rows → height ≡ node.height → columns ≡ node.columns → rows ≡ with_unused node.rows → IsHead count height columns rows
   is_head_read count height columns rows counts heights columns_are rows_are = rw (counts, heights, columns_are, rows_are) (is_head node lawful)

@@ -1,21 +1,20 @@
 -- A node's words, written one after another.
-use Rattle.std.proofs.Common.{ℕ, ◌≡◌, ◌+◌, ◌-◌, ◌*◌, ◌^◌, ◌<◌, ◌≤◌, ◌++◌, arith, List, drop, get_or, get_or-take, set, take, replicate, length, length-append, sym, ap, ap₂, refl, ◌∙◌, ⊎_elim, below_more, get_or-set_other, get_or-set_same, inl, inr, subst, ◌⊎◌}
+use Rattle.std.proofs.Common.{ℕ, ◌≡◌, ◌+◌, ◌-◌, ◌*◌, ◌^◌, ◌<◌, ◌≤◌, ◌++◌, arith, List, drop, get_or, get_or-take, set, take, replicate, length, length-append, sym, ap, ap₂, refl, ◌∙◌, ⊎_elim, below_more, get_or-set_other, get_or-set_same, ◌⊎◌}
 use Rattle.std.specs.Prelude.{slice_get, Option}
 use Rattle.std.proofs.lemmas.Bool.{cases_lt}
-use Rattle.std.proofs.lemmas.List.{ext_get_or, get_or-append_right, get_or-drop, get_or_append_left, length-drop, length-replicate, length-set, length-take-le}
+use Rattle.std.proofs.lemmas.List.{ext_get_or, get_or-append_right, get_or-drop, get_or_append_left, get_or_past, length-drop, length-replicate, length-set, length-take-le}
 use Rattle.std.proofs.lemmas.Option.{slice_get_past}
-use Rattle.std.proofs.lemmas.Simd.{get_or-chunk, get_or-put_chunk_above, get_or-put_chunk_at, length-put_chunk}
+use Rattle.std.proofs.lemmas.Simd.{get_or-chunk, length-chunk, get_or-put_chunk_above, get_or-put_chunk_at, length-put_chunk}
 use Rattle.compound_node.specs.declared.entries.Entry.{Entry}
 use Rattle.compound_node.specs.Nodes.{HeadView, NodeView, head_of}
-use Rattle.partial_keys.specs.Columns.{with_free}
 use Rattle.partial_keys.specs.Rows.{with_unused}
 use Rattle.record_words.specs.Entry.{HasEntryWord, entry_word}
 use Rattle.record_words.specs.Node.{HaveEntryWords, head_words, entry_words, node_words}
-use Rattle.record_words.specs.Packed.{fixed_words, meta_word, position_word, row_at, row_word}
-use Rattle.record_words.proofs.Fixing.{AreFixed, fixed_words-same, fixed_words_parts}
-use Rattle.record_words.proofs.Lawful.{get_or-padded, row_at-with_unused}
+use Rattle.record_words.specs.Packed.{fixed_words, row_at, row_word}
+use Rattle.record_words.proofs.Fixing.{fixed_words-same}
+use Rattle.record_words.proofs.HeadsByKind.{head_parts}
+use Rattle.record_words.proofs.Lawful.{row_at-with_unused}
 use Rattle.record_words.proofs.Nodes.{length-head_words, node_words-entry}
-use Rattle.record_words.proofs.Packings.{position_word-same}
 use borrow.Rule.Slice.PartMut.{mid_of, put_mid}
 use lib.Lanes.{chunk, put_chunk}
 
@@ -77,6 +76,13 @@ module _ (a k : ℕ) (xs ys : List ℕ) (whole : length xs ≡ a + k) (few : len
       in_part j (omega (arith, low, few))
       ∙ (ap (λ i. get_or (put_chunk 0 (mid_of a k xs) ys) i 0) (let e : j ≡ 0 + j = omega arith in e) ∙ get_or-put_chunk_at 0 (mid_of a k xs) ys j 0 low (omega (arith, few, middle)))
 
+  -- what was stored stands there
+  pub chunk_stored : (n : ℕ) → length ys ≡ n → chunk a n stored ≡ ys
+  chunk_stored n long =
+      let room : a + n ≤ length stored = omega (arith, length-stored, long, few) in
+      ext_get_or 0 (chunk a n stored) ys (length-chunk a n stored room ∙ sym long)
+      (λ j h. let low : j < n = omega (arith, h, length-chunk a n stored room) in get_or-chunk a n stored j 0 low ∙ at_stored j (omega (arith, low, long)))
+
   pub behind_stored : (i : ℕ) → a + length ys ≤ i → i < a + k → get_or stored i 0 ≡ get_or xs i 0
   behind_stored i past inside =
       let j : ℕ = i - a in
@@ -84,6 +90,14 @@ module _ (a k : ℕ) (xs ys : List ℕ) (whole : length xs ≡ a + k) (few : len
       ap (λ n. get_or stored n 0) (sym e)
       ∙ (in_part j (omega (arith, past, inside)) ∙ (get_or-put_chunk_above 0 (mid_of a k xs) ys j 0 (omega (arith, past))
       ∙ (get_or-take k (drop a xs) j 0 (omega (arith, past, inside)) ∙ (get_or-drop a xs j 0 ∙ ap (λ n. get_or xs n 0) e))))
+
+  -- and nothing else changes
+  pub other_stored : (i : ℕ) → (i < a) ⊎ (a + length ys ≤ i) → get_or stored i 0 ≡ get_or xs i 0
+  other_stored i out =
+      ⊎_elim (before_stored i)
+      (λ (past : a + length ys ≤ i). ⊎_elim (behind_stored i past)
+      (λ (outside : a + k ≤ i). get_or_past stored i 0 (omega (arith, outside, length-stored)) ∙ sym (get_or_past xs i 0 (omega (arith, outside, whole)))) (cases_lt i (a + k)))
+      out
 
 -- the words of sixteen rows of 32 are eight of the words of all
 pub half_words : (rows : List ℕ) (h k : ℕ) → k < 8 → row_word (chunk (2 * h) 16 rows) k ≡ row_word rows (h + k)
@@ -97,43 +111,19 @@ abbrev pub with_head : (count height : ℕ) (columns rows old : List ℕ) → Li
 with_head count height columns rows old = fixed_words count height columns rows ++ drop 25 old
 
 module _ (count height : ℕ) (columns rows old : List ℕ) where
-  head : AreFixed count height columns rows (fixed_words count height columns rows)
-  head = fixed_words_parts count height columns rows (fixed_words count height columns rows) refl
+  head_whole : length (fixed_words count height columns rows) ≡ 25
+  head_whole = (head_parts count height columns rows (fixed_words count height columns rows) refl).whole
 
   pub head_word : (k : ℕ) → k < 25 → get_or (with_head count height columns rows old) k 0 ≡ get_or (fixed_words count height columns rows) k 0
-  head_word k small = get_or_append_left (fixed_words count height columns rows) (drop 25 old) 0 k (omega (arith, small, head.whole))
+  head_word k small = get_or_append_left (fixed_words count height columns rows) (drop 25 old) 0 k (omega (arith, small, head_whole))
 
   pub length-with_head : length old ≡ 57 → length (with_head count height columns rows old) ≡ 57
-  length-with_head whole = length-append (fixed_words count height columns rows) (drop 25 old) ∙ omega (arith, head.whole, length-drop 25 old, whole)
-
-  pub numbers_word : meta_word count (length columns) height ≡ get_or (with_head count height columns rows old) 0 0
-  numbers_word = sym head.numbers ∙ sym (head_word 0 (omega arith))
-
-  pub places_word : (places : List ℕ) (j : ℕ) → places ≡ with_free columns → j < 8 → position_word places j ≡ get_or (with_head count height columns rows old) (1 + j) 0
-  places_word places j are small =
-      ap (λ all. position_word all j) are ∙ (position_word-same (with_free columns) columns j (get_or-padded columns (31 - length columns) 65535)
-      ∙ (head.positions j small ∙ sym (head_word (1 + j) (omega arith))))
-
-  pub rows_word : (j : ℕ) → j < 16 → row_word rows j ≡ get_or (with_head count height columns rows old) (9 + j) 0
-  rows_word j small = head.rows_are j small ∙ sym (head_word (9 + j) (omega arith))
+  length-with_head whole = length-append (fixed_words count height columns rows) (drop 25 old) ∙ omega (arith, head_whole, length-drop 25 old, whole)
 
   pub behind_head : (k : ℕ) → 25 ≤ k → get_or (with_head count height columns rows old) k 0 ≡ get_or old k 0
   behind_head k past =
-      get_or-append_right (fixed_words count height columns rows) (drop 25 old) 25 k 0 head.whole past
+      get_or-append_right (fixed_words count height columns rows) (drop 25 old) 25 k 0 head_whole past
       ∙ (get_or-drop 25 old (k - 25) 0 ∙ ap (λ i. get_or old i 0) (let e : 25 + (k - 25) ≡ k = omega (arith, past) in e))
-
-  -- the words of the rows behind those of the numbers and the positions
-  pub rows_so_far : (before words : List ℕ) → AreSoFar (with_head count height columns rows old) old before 9 → length words ≡ 57 →
-      ((k : ℕ) → k < 16 → get_or words (9 + k) 0 ≡ row_word rows k) → ((k : ℕ) → (k < 9) ⊎ (25 ≤ k) → get_or words k 0 ≡ get_or before k 0) →
-      AreSoFar (with_head count height columns rows old) old words 25
-  rows_so_far before words so_far whole in_rows others = record {
-    whole = whole;
-    written = λ k small. ⊎_elim (λ (first : k < 9). others k (inl first) ∙ so_far.written k first)
-        (λ (past : 9 ≤ k). let e : 9 + (k - 9) ≡ k = omega (arith, past) in
-        subst (λ n. get_or words n 0 ≡ get_or (with_head count height columns rows old) n 0) e
-        (in_rows (k - 9) (omega (arith, past, small)) ∙ rows_word (k - 9) (omega (arith, past, small)))) (cases_lt k 9);
-    unwritten = λ k past. others k (inr past) ∙ so_far.unwritten k (omega (arith, past));
-  }
 
 -- the fields of a head give its words
 pub head_put : (head : HeadView) (count height : ℕ) (columns rows : List ℕ) → count ≡ length head.rows → height ≡ head.height → columns ≡ head.columns → rows ≡ with_unused head.rows →

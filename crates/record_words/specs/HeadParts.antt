@@ -1,13 +1,44 @@
--- The two parts of a head's words.
-use Rattle.std.specs.Prelude.{ℕ, List, drop, take}
-use Rattle.compound_node.specs.Nodes.{HeadView}
-use Rattle.record_words.specs.Node.{head_words}
-use Rattle.record_words.specs.declared.TheConstants.{FIRST_ROWS}
+-- Parts of a head's words.
+use Rattle.std.specs.Prelude.{ℕ, ◌≡◌, ◌≢◌, List, drop, length, slice_index, take}
+use Rattle.compound_node.specs.Nodes.{HeadView, IsLawfulNode, NodeView, head_of}
+use Rattle.record_words.specs.Kinds.{first_byte, kind_of}
+use Rattle.record_words.specs.Node.{HasHeadWords, head_words}
+use Rattle.record_words.specs.declared.kind.Kind.{Kind}
+use Rattle.record_words.specs.declared.kind.Kind.TheVariants.{Wide}
+use Rattle.record_words.specs.declared.numbers.HeadNumbers.{HeadNumbers}
+use Rattle.record_words.specs.declared.TheConstants.{FIRST_ROWS, MIDDLE_HEAD_WORDS, NARROW_HEAD_WORDS}
 
--- the words with the numbers and the positions
+-- some node has the head, and it is of this kind
+abbrev pub HasHeadOf : Kind → HeadView → Type 0
+HasHeadOf kind head = HasHeadWords head × (kind_of head.columns ≡ kind)
+
+-- each node whose head is of this kind, and has these words in this part, is so
+abbrev pub InNodesOfKind : Kind → (HeadView → List ℕ) → List ℕ → (NodeView → Type 0) → Type 0
+InNodesOfKind kind part words IsSo = (node : NodeView) → IsLawfulNode node → kind_of node.columns ≡ kind → part (head_of node) ≡ words → IsSo node
+
+-- the words of a wide head with the numbers and the positions
 abbrev pub front_words : HeadView → List ℕ
 front_words head = take FIRST_ROWS (head_words head)
 
--- the words with the sparse partial keys
+-- the words of a wide head with the sparse partial keys
 abbrev pub back_words : HeadView → List ℕ
 back_words head = drop FIRST_ROWS (head_words head)
+
+-- the words of a narrow, and of a middle head that say something
+abbrev pub narrow_words : HeadView → List ℕ
+narrow_words head = take NARROW_HEAD_WORDS (head_words head)
+
+abbrev pub middle_words : HeadView → List ℕ
+middle_words head = take MIDDLE_HEAD_WORDS (head_words head)
+
+-- the numbers in the first word of a node's head; a wide head doesn't tell its first byte
+pub record AreNumbersOf (numbers : HeadNumbers) (node : NodeView) : Type 0 where
+  pub count_is : numbers.count ≡ length node.entries
+  pub columns_are : numbers.columns ≡ length node.columns
+  pub height_is : numbers.height ≡ node.height
+  pub kind_is : numbers.kind ≡ kind_of node.columns
+  pub first_is : numbers.kind ≢ Wide → numbers.first_byte ≡ first_byte node.columns
+
+-- each node whose head has these numbers, and this word at this index, is so
+abbrev pub InNodesWith : HeadNumbers → ℕ → ℕ → (NodeView → Type 0) → Type 0
+InNodesWith numbers index word IsSo = (node : NodeView) → IsLawfulNode node → AreNumbersOf numbers node → slice_index (head_words (head_of node)) index ≡ word → IsSo node

@@ -1,6 +1,7 @@
 -- The definitions of the crate.
 pub mod Entry
 pub mod HeadParts
+pub mod Kinds
 pub mod Layout
 pub mod Leaf
 pub mod Limits

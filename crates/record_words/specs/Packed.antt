@@ -1,6 +1,9 @@
 -- What stands in the fixed words of a node: all but its state and its entries.
-use Rattle.std.specs.Prelude.{ℕ, ◌≡◌, ◌<◌, ◌+◌, ◌-◌, ◌*◌, ◌^◌, cond, nat_lt, List, length, map, slice_index, slice_index_or}
+use Rattle.std.specs.Prelude.{ℕ, ◌≡◌, ◌<◌, ◌+◌, ◌-◌, ◌*◌, ◌/◌, ◌^◌, ◌++◌, List, ◌∷◌, drop, length, map, replicate, slice_index, slice_index_or}
 use Rattle.std.specs.List.{range_with_len}
+use Rattle.record_words.specs.Kinds.{head_size, index_lanes, kind_of, kind_part, lane_words, mask_lanes}
+use Rattle.record_words.specs.declared.kind.Kind.{Kind}
+use Rattle.record_words.specs.declared.kind.Kind.TheVariants.{Wide, Narrow, Middle}
 use Rattle.record_words.specs.declared.TheConstants.{HEAD_WORDS, MAX_ENTRIES}
 
 -- the number of entries, the number of columns and the stored height
@@ -24,14 +27,30 @@ row_at rows i = slice_index_or rows i 4294967295
 unfoldable pub row_word : List ℕ → ℕ → ℕ
 row_word rows j = row_at rows (2 * j) + 2 ^ 32 * row_at rows (2 * j + 1)
 
--- the word at an offset of a node record: 1 has the numbers, 2 to 9 the positions, 10 to 25 the sparse partial keys
-abbrev pub fixed_word : ℕ → ℕ → List ℕ → List ℕ → ℕ → ℕ
-fixed_word count height columns rows offset =
-    cond (nat_lt offset 2) (meta_word count (length columns) height)
-    (cond (nat_lt offset 10) (position_word columns (offset - 2)) (row_word rows (offset - 10)))
+-- the words of the columns of a head. The first eight lanes of a narrow one are 0, and have no word
+abbrev pub column_words : Kind → List ℕ → List ℕ
+column_words Wide columns = map (position_word columns) (range_with_len 0 8)
+column_words Narrow columns = lane_words 8 1 (drop 8 (index_lanes columns)) ++ lane_words 8 1 (drop 8 (mask_lanes columns))
+column_words Middle columns = lane_words 8 2 (index_lanes columns) ++ lane_words 8 2 (mask_lanes columns)
 
+-- the bits of the sparse partial keys of all places above this one
+abbrev pub row_lanes : ℕ → List ℕ → List ℕ
+row_lanes low rows = map (λ i. row_at rows i / 2 ^ low) (range_with_len 0 MAX_ENTRIES)
+
+-- the words of the sparse partial keys of a head
+abbrev pub row_words : Kind → List ℕ → List ℕ
+row_words Wide rows = map (row_word rows) (range_with_len 0 16)
+row_words Narrow rows = lane_words 8 4 (row_lanes 24 rows)
+row_words Middle rows = lane_words 16 8 (row_lanes 16 rows)
+
+-- the words of a head of this kind, and all ones behind them
+abbrev pub kind_words : Kind → ℕ → ℕ → List ℕ → List ℕ → List ℕ
+kind_words kind count height columns rows =
+    (meta_word count (length columns) height + kind_part kind columns) ∷ (column_words kind columns ++ (row_words kind rows ++ replicate (HEAD_WORDS - head_size kind) (2 ^ 64 - 1)))
+
+-- the words at offsets 1 to HEAD_WORDS of a node record, in the kind that the columns take
 unfoldable pub fixed_words : ℕ → ℕ → List ℕ → List ℕ → List ℕ
-fixed_words count height columns rows = map (fixed_word count height columns rows) (range_with_len 1 HEAD_WORDS)
+fixed_words count height columns rows = kind_words (kind_of columns) count height columns rows
 
 -- 32 positions of these words
 pub record ArePositionsOf (positions words : List ℕ) : Type 0 where

@@ -7,9 +7,9 @@ ghost use Rattle.record_words.specs.Node.{HasHeadWords, InNodesOf, head_words};
 ghost use Rattle.record_words.specs.Packed.{row_at};
 ghost use Rattle.record_words.specs.Reading.{IsSpelling};
 
-use crate::numbers::{index_of_row, read_numbers, row_of};
-use crate::search::{rows_in, split_into_quarters};
-use crate::{FIRST_POSITIONS, FIRST_ROWS, HEAD_WORDS};
+use crate::HEAD_WORDS;
+use crate::numbers::read_numbers;
+use crate::search::{positions_in, rows_in};
 use partial_keys::count_below;
 use std::simd::prelude::*;
 
@@ -24,10 +24,10 @@ pub fn affected_slots(words: &[u64], found: u8, position: u16) -> (u8, u8)
     ensures from { InNodesOf words.now (λ node. affected_first position found (piece node) ≡ result.0) }
     ensures upto { InNodesOf words.now (λ node. affected_count position found (piece node) + result.0 ≡ result.1 + 1) }
 {
-    let positions = split_into_quarters(u64x8::from_slice(&words[FIRST_POSITIONS..]));
+    let positions = positions_in(words);
     let rest = u32::MAX >> count_below(positions, position);
     let row = row_in(words, found);
-    let rows = rows_in(&words[FIRST_ROWS..]);
+    let rows = rows_in(words);
     let first = count_rows_below(rows, row & !rest);
     let end = count_rows_upto(rows, row | rest).min(read_numbers(words[0]).count as u32);
     (first as u8, (end - 1) as u8)
@@ -39,7 +39,8 @@ fn row_in(words: &[u64], at: u8) -> u32
     requires { (length words.now ≡ HEAD_WORDS) × (at < 32) }
     ensures { InNodesOf words.now (λ node. result ≡ row_at node.rows at) }
 {
-    row_of(words[index_of_row(at)], at)
+    let numbers = read_numbers(words[0]);
+    numbers.row_of(words[numbers.index_of_row(at)], at)
 }
 
 /// How many of `rows` are below `bound`.

@@ -1,11 +1,16 @@
 //! The fixed words of a node: all but its state and its entries.
 
-ghost use Rattle.std.specs.Prelude.{ℕ, ◌≡◌, ◌<◌, length, slice_index};
-ghost use Rattle.record_words.specs.Packed.{meta_word, position_at, position_word, row_word};
+ghost use Rattle.std.specs.Prelude.{ℕ, ◌≡◌, ◌+◌, ◌<◌, length, slice_index};
+ghost use Rattle.record_words.specs.Kinds.{kind_of, kind_part};
+ghost use Rattle.record_words.specs.Packed.{meta_word, position_at, position_word, row_word, row_words};
+ghost use Rattle.record_words.specs.declared.kind.Kind.TheVariants.{Middle, Narrow};
 ghost use Rattle.record_words.specs.Node.{InNodesOf};
 ghost use Rattle.partial_keys.specs.Columns.{with_free};
 
-use crate::{FIRST_POSITIONS, HEAD_WORDS};
+use crate::HEAD_WORDS;
+use crate::kind::Kind;
+use crate::search::positions_in;
+use partial_keys::Columns;
 use std::simd::prelude::*;
 
 /// The positions of the columns of each node whose head has `words`, and 65,535 behind them up to 31.
@@ -14,20 +19,26 @@ pub(crate) fn read_positions(words: &[u64]) -> [u16; 31]
     ensures { InNodesOf words.now (λ node. result ≡ with_free node.columns) }
 {
     let mut positions = [0; 31];
-    for i in 0..31 {
-        positions[i] = (words[FIRST_POSITIONS + i / 4] >> (16 * (i % 4)) & 0xffff) as u16;
-    }
+    positions.copy_from_slice(&positions_in(words).to_array()[..31]);
     positions
 }
 
-/// The first word of a head: in its lowest byte the number of entries, in the next one that of columns, and above these the height.
-pub(crate) fn word_of_numbers(count: u8, columns: u8, height: u16) -> u64
-    ensures { result ≡ meta_word count columns height }
+/// The first word of a head of the kind `kind` over `columns`: in its lowest byte the number of entries, in the next one that of columns, and
+/// above these the height, the first column's byte and the kind. The byte is 0 if the kind is wide.
+pub(crate) fn word_of_numbers(count: u8, columns: &Columns, height: u16, kind: Kind) -> u64
+    requires { kind ≡ kind_of columns.now }
+    ensures { result ≡ meta_word count (length columns.now) height + kind_part kind columns.now }
 {
-    count as u64 + 256 * columns as u64 + 65_536 * height as u64
+    let numbers = count as u64 + 256 * columns.count() as u64 + 65_536 * height as u64;
+    let first = (columns.first() as u64 / 9) << 32;
+    match kind {
+        Kind::Wide => numbers,
+        Kind::Narrow => numbers + first + (1 << 40),
+        Kind::Middle => numbers + first + (2 << 40),
+    }
 }
 
-/// The word of the four positions from `positions[4 * j]` on, the first in its lowest bits; 65,535 stands for one past the last.
+/// The word of a wide head with the four positions from `positions[4 * j]` on, the first in its lowest bits; 65,535 stands for one past the last.
 pub(crate) fn word_of_positions(positions: &[u16; 31], j: usize) -> u64
     requires { j < 8 }
     ensures { result ≡ position_word positions.now j }
@@ -53,4 +64,20 @@ pub(crate) fn words_of_rows(rows: u32x16) -> u64x8
     ensures each { (j : ℕ) → j < 8 → slice_index result j ≡ row_word rows j }
 {
     u64x8::from_le_bytes(rows.to_le_bytes())
+}
+
+/// The four words of the highest bytes of the 32 `rows`: eight in each word, the first in its lowest bits.
+#[inline(always)]
+pub(crate) fn words_of_high_bytes(rows: u32x32) -> u64x4
+    ensures { result ≡ row_words Narrow rows }
+{
+    u64x4::from_le_bytes((rows >> u32x32::splat(24)).cast::<u8>())
+}
+
+/// The eight words of the higher halves of the 32 `rows`: four in each word, the first in its lowest bits.
+#[inline(always)]
+pub(crate) fn words_of_high_halves(rows: u32x32) -> u64x8
+    ensures { result ≡ row_words Middle rows }
+{
+    u64x8::from_le_bytes((rows >> u32x32::splat(16)).cast::<u16>().to_le_bytes())
 }

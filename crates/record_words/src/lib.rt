@@ -4,11 +4,24 @@
 //!
 //! ```text
 //! offset  0      state
-//!         1      count + 256 * columns + 65536 * height
-//!         2 ..9  column positions, four a word, the first in the lowest 16 bits; unused: 65535
-//!        10..25  rows, two a word, the even one in the low half; unused: 4294967295
+//!         1..25  its head
 //!        26..57  entry words of places 0 to 31; unused: 0
 //! ```
+//!
+//! The columns of a node decide the kind of its head ([`kind_of`]). Near columns have their bits in sixteen bytes of a key, from the first
+//! column's byte on, and none is the bit that says that there is a byte; these sixteen end at most at byte 240. A head is narrow if it has at
+//! most 8 near columns, middle if it has at most 16, and else wide. A word of a head in which it has nothing is all ones.
+//!
+//! ```text
+//! index   narrow (kind 1)            middle (kind 2)              wide (kind 0)
+//!  0      count + 2^8 * columns + 2^16 * height + 2^32 * first byte + 2^40 * kind; a wide head has first byte 0
+//!  columns 1 indexes, 2 masks        1, 2 indexes, 3, 4 masks     1 ..8  four positions a word; unused: 65535
+//!  rows    3 ..6 eight a word        5 ..12 four a word           9 ..24 two a word
+//! ```
+//!
+//! Parts of a word are counted from its lowest bits. An index is a column's byte less the first one, and a mask its bit in that byte, a byte
+//! each. Column j has lane 15-j of 16 lanes, and a narrow head has no word for the first eight: so the lanes in which a key has a 1 are its
+//! dense key. A lane without a column has 0 and 0. Rows have their highest 8, 16 or 32 bits, the others are 0; unused rows are all ones.
 //!
 //! And a leaf record these:
 //!
@@ -19,13 +32,41 @@
 //!         3 ..   the key's bytes, eight a word, the first in the highest eight bits; other bytes of
 //!                the last word are 0, and the words behind it may be anything
 //! ```
+//!
+//! ## Heads by kind: where what stands
+//!
+//! `specs/Kinds` says which kind columns take, and what the lanes of near ones are. `specs/Packed` has the words: `column_words`, `row_words`,
+//! `kind_words`, and `fixed_words`, which takes the kind of the columns. So the words of a head stay a function of the head.
+//! `specs/HeadParts` has the parts that a search loads, and `AreNumbersOf`, what the first word tells.
+//!
+//! | function | its contract |
+//! |---|---|
+//! | `kind_of` | the definition `kind_of` |
+//! | `read_numbers` | numbers, kind and first byte of each node with this word |
+//! | `HeadNumbers::row_of`, `position_of` | the row, the position, as read of the words at `index_of_row`, `index_of_position`, `index_of_mask` |
+//! | `first_position_of` | the first position, as read of the word at `index_of_first_position` |
+//! | `positions_in`, `rows_in` | all columns, all rows of each node with these words, as lanes: whatever reads a whole head goes through these two |
+//! | `near_lanes_of`, `near_positions` | near columns to lanes, and back |
+//! | `extract_near` | the dense key for near columns |
+//! | `search_narrow`, `search_middle` | the slot to which a key's bits lead; wide heads have `extract_dense_key` and `search_row_words` |
+//! | `put_columns`, `put_rows`, `put_head` | the words are `column_words`, `row_words`, those of the head |
+//! | `affected_slots`, `add_leaf`, `drop_entry`, `close_fork`, `read_node` | as of words of one kind |
+//!
+//! Near columns and their lanes are in the lemma files `NearLanes`, `NearSpelling` and `NearDense`. `HeadsByKind` and `TellingHead` say what each
+//! part of a head's words tells, and `HeadPut` how they are written.
+//!
+//! A search loads the first word, and then as many as its kind says. Whoever reads one row or position of a locked node loads the first word
+//! before. A word of rows can be all ones although it has a row: that row is, and all behind it are unused. So whoever stores only the words
+//! that say something may leave it out, too. A replay decodes by the kind, makes the words anew and compares all of them.
 #![tactic(auto)]
 
 mod affected;
 mod entry;
 mod fixed;
+mod kind;
 mod layout;
 mod leaf;
+mod near;
 mod node;
 mod numbers;
 mod origins;
@@ -36,15 +77,13 @@ mod stock;
 pub use affected::affected_slots;
 pub use entry::{pack_entry, read_entry, read_some_entry};
 use key_bits::MAX_BYTES;
+pub use kind::{Kind, kind_of};
 pub use layout::{Layout, LayoutFault, LeafClass, Location, Stock};
 pub use leaf::{count_key_words, count_leaf_words, key_word_at, pack_leaf, write_key_word};
-pub use node::{add_leaf, can_take_leaf, close_fork, drop_entry, pack_node, read_node};
-pub use numbers::{
-    HeadNumbers, first_position_of, index_of_position, index_of_row, position_of, read_numbers,
-    row_of,
-};
+pub use node::{add_leaf, can_take_leaf, close_fork, drop_entry, pack_head, pack_node, read_node};
+pub use numbers::{HeadNumbers, first_position_of, index_of_first_position, read_numbers};
 pub use origins::Origins;
-pub use search::{extract_dense_key, search_row_words};
+pub use search::{extract_dense_key, search_middle, search_narrow, search_row_words};
 pub use state::{Tag, obsolete_word, pack_state, read_obsolete_epoch, unpack_state};
 
 /// Epochs are below this number, and at least 1.
@@ -109,14 +148,35 @@ pub const FIRST_KEY_WORD: usize = 2;
 /// How many words a node's head has, from index 0 on: those of the numbers, the positions and the rows.
 pub const HEAD_WORDS: usize = 25;
 
-/// The index of the first word with positions of a node's columns, four each. The word of the numbers stands before it.
+/// The index of the first word with positions of a wide head's columns, four each. The word of the numbers stands before it.
 pub const FIRST_POSITIONS: usize = 1;
 
-/// The index of the first word with rows of a node, two each. The words of the numbers and the positions stand before it.
+/// The index of the first word with rows of a wide head, two each. The words of the numbers and the positions stand before it.
 pub const FIRST_ROWS: usize = 9;
 
-/// How many words of a head have rows, two each.
+/// How many words of a wide head have rows, two each.
 pub const ROW_WORDS: usize = HEAD_WORDS - FIRST_ROWS;
+
+/// How many bytes of a key have the bits at near columns.
+pub const WINDOW_BYTES: usize = 16;
+
+/// How many columns a narrow head has at most.
+pub const NARROW_COLUMNS: usize = 8;
+
+/// How many columns a middle head has at most.
+pub const MIDDLE_COLUMNS: usize = 16;
+
+/// How many words of a narrow head say something.
+pub const NARROW_HEAD_WORDS: usize = 7;
+
+/// How many words of a middle head say something.
+pub const MIDDLE_HEAD_WORDS: usize = 13;
+
+/// The index of the first word with rows of a narrow head, eight each.
+pub const FIRST_NARROW_ROWS: usize = 3;
+
+/// The index of the first word with rows of a middle head, four each.
+pub const FIRST_MIDDLE_ROWS: usize = 5;
 
 /// The offset at which a node record has its first entry: its state and its head stand before the entries.
 pub const FIRST_ENTRY: usize = 1 + HEAD_WORDS;

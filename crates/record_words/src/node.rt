@@ -1,21 +1,32 @@
 //! The words of a node record.
 
-ghost use Rattle.std.specs.Prelude.{ℕ, ◌≡◌, ◌↔◌, ◌+◌, ◌<◌, ◌≤◌, ◌/◌, ◌%◌, ◌++◌, ◌⊎◌, IsTrue, List, drop, length, slice_get, slice_index};
+ghost use Rattle.std.specs.Prelude.{ℕ, ◌≡◌, ◌↔◌, ◌+◌, ◌<◌, ◌≤◌, ◌/◌, ◌%◌, ◌++◌, ◌-◌, ◌⊎◌, ◌≢◌, IsTrue, List, drop, length, slice_get, slice_index, take};
 ghost use Rattle.compound_node.specs.Forking.{forked_head};
 ghost use Rattle.compound_node.specs.Nodes.{NodeView, greatest_height, head_of, piece};
 ghost use Rattle.compound_node.specs.declared.entries.Entry.TheVariants.{Leaf as LeafEntry};
+ghost use Rattle.partial_keys.specs.Columns.{IsColumns};
 ghost use Rattle.pieces.specs.Changes.{collapsed, without};
 ghost use Rattle.pieces.specs.Growth.{grown};
 ghost use Rattle.record_words.specs.Entry.{HasEntryWord, entry_word};
 ghost use Rattle.record_words.specs.Node.{CanCloseAt, CanTakeLeaf, HasHeadWords, HasNodeWords, CanGrowAt, HasHead, SpellBuilt, SpellEntries, SpellLeft, head_words, node_words};
-ghost use Rattle.record_words.specs.Packed.{row_word};
+ghost use Rattle.record_words.specs.Kinds.{head_size, index_lanes, kind_of, lane_words, mask_lanes, rows_from};
+ghost use Rattle.record_words.specs.Packed.{column_words, position_word, row_words};
 ghost use Rattle.record_words.specs.Reading.{IsSpelledBy, IsSpelling};
+ghost use Rattle.record_words.specs.declared.kind.Kind.TheVariants.{Wide};
 
 use crate::entry::{pack_entry, read_some_entry};
-use crate::fixed::{read_positions, word_of_numbers, word_of_positions, words_of_rows};
+use crate::fixed::{
+    read_positions, word_of_numbers, word_of_positions, words_of_high_bytes, words_of_high_halves,
+    words_of_rows,
+};
+use crate::kind::{Kind, kind_of};
+use crate::near::{near_lanes_of, words_of_bytes};
 use crate::numbers::read_numbers;
-use crate::search::{has_lane, rows_in, split_into_quarters};
-use crate::{FIRST_POSITIONS, FIRST_ROWS, HEAD_WORDS, HEIGHT_BIT, MAX_ENTRIES, NODE_FIELDS};
+use crate::search::{has_lane, positions_in, rows_in};
+use crate::{
+    FIRST_MIDDLE_ROWS, FIRST_NARROW_ROWS, FIRST_POSITIONS, FIRST_ROWS, HEAD_WORDS, HEIGHT_BIT,
+    MAX_ENTRIES, NODE_FIELDS,
+};
 use arrayvec::ArrayVec;
 use compound_node::{Entry, Head, Node, fork_rows};
 use partial_keys::{Columns, count_below, insert_element, remove_element};
@@ -34,27 +45,87 @@ pub fn pack_node(node: &Node) -> [u64; NODE_FIELDS]
     words
 }
 
+/// The words of `head` in a node record, from offset 1 on.
+pub fn pack_head(head: &Head) -> [u64; HEAD_WORDS]
+    ensures { result ≡ head_words head.now }
+{
+    let mut words = [0; NODE_FIELDS];
+    put_head(&mut words, head);
+    let mut front = [0; HEAD_WORDS];
+    front.copy_from_slice(&words[..HEAD_WORDS]);
+    front
+}
+
 /// Writes the words of `head` to the front of `words`, those of a node. The words of the entries stay.
 fn put_head(words: &mut [u64; NODE_FIELDS], head: &Head)
     ensures { HasHead words.old words.new head.now }
 {
     let columns = head.columns();
-    let positions = columns.padded_positions();
-    words[0] = word_of_numbers(head.count(), columns.count(), head.height());
+    let kind = kind_of(columns);
+    words[..HEAD_WORDS].fill(u64::MAX);
+    words[0] = word_of_numbers(head.count(), columns, head.height(), kind);
+    put_columns(words, kind, columns);
+    put_rows(words, kind, u32x32::from_array(*head.padded_rows()));
+}
+
+/// Writes the words of `columns` to `words`, those of a node whose head is of the kind `kind`. All other words stay.
+#[inline(always)]
+fn put_columns(words: &mut [u64; NODE_FIELDS], kind: Kind, columns: &Columns)
+    requires kind { kind ≡ kind_of columns.now }
+    requires columns { IsColumns columns.now }
+    ensures columns { take (rows_from kind - FIRST_POSITIONS) (drop FIRST_POSITIONS words.new) ≡ column_words kind columns.now }
+    ensures others { (k : ℕ) → (k < FIRST_POSITIONS) ⊎ (rows_from kind ≤ k) → slice_index words.new k ≡ slice_index words.old k }
+{
+    match kind {
+        Kind::Wide => put_positions(words, columns.padded_positions()),
+        Kind::Narrow => {
+            let (indexes, masks) = near_words_of(columns);
+            words[FIRST_POSITIONS] = indexes.to_array()[1];
+            words[FIRST_POSITIONS + 1] = masks.to_array()[1];
+        }
+        Kind::Middle => {
+            let (indexes, masks) = near_words_of(columns);
+            indexes.copy_to_slice(&mut words[FIRST_POSITIONS..]);
+            masks.copy_to_slice(&mut words[FIRST_POSITIONS + 2..]);
+        }
+    }
+}
+
+/// Writes the words of `positions` to `words`, those of a node whose head is wide. All other words stay.
+#[inline(always)]
+fn put_positions(words: &mut [u64; NODE_FIELDS], positions: &[u16; 31])
+    ensures columns { (j : ℕ) → j < 8 → slice_index words.new (FIRST_POSITIONS + j) ≡ position_word positions.now j }
+    ensures others { (k : ℕ) → (k < FIRST_POSITIONS) ⊎ (FIRST_ROWS ≤ k) → slice_index words.new k ≡ slice_index words.old k }
+{
     for j in 0..8 {
         words[FIRST_POSITIONS + j] = word_of_positions(positions, j);
     }
-    put_rows(words, u32x32::from_array(*head.padded_rows()));
 }
 
-/// Writes the words of `rows` to `words`, those of a node. All other words stay.
+/// The words of near columns: two with the indexes of their bytes, and two with the masks of their bits.
 #[inline(always)]
-fn put_rows(words: &mut [u64; NODE_FIELDS], rows: u32x32)
-    ensures rows { (k : ℕ) → k < 16 → slice_index words.new (FIRST_ROWS + k) ≡ row_word rows k }
-    ensures others { (k : ℕ) → (k < FIRST_ROWS) ⊎ (HEAD_WORDS ≤ k) → slice_index words.new k ≡ slice_index words.old k }
+fn near_words_of(columns: &Columns) -> (u64x2, u64x2)
+    requires { (kind_of columns.now ≢ Wide) × IsColumns columns.now }
+    ensures { (result.0 ≡ lane_words 8 2 (index_lanes columns.now)) × (result.1 ≡ lane_words 8 2 (mask_lanes columns.now)) }
 {
-    words_of_rows(rows.extract::<0, 16>()).copy_to_slice(&mut words[FIRST_ROWS..]);
-    words_of_rows(rows.extract::<16, 16>()).copy_to_slice(&mut words[FIRST_ROWS + 8..]);
+    let (indexes, masks) = near_lanes_of(u16x16::from_slice(columns.padded_positions()));
+    (words_of_bytes(indexes), words_of_bytes(masks))
+}
+
+/// Writes the words of `rows` to `words`, those of a node whose head is of the kind `kind`. All other words stay.
+#[inline(always)]
+fn put_rows(words: &mut [u64; NODE_FIELDS], kind: Kind, rows: u32x32)
+    ensures rows { take (head_size kind - rows_from kind) (drop (rows_from kind) words.new) ≡ row_words kind rows }
+    ensures others { (k : ℕ) → (k < rows_from kind) ⊎ (head_size kind ≤ k) → slice_index words.new k ≡ slice_index words.old k }
+{
+    match kind {
+        Kind::Wide => {
+            words_of_rows(rows.extract::<0, 16>()).copy_to_slice(&mut words[FIRST_ROWS..]);
+            words_of_rows(rows.extract::<16, 16>()).copy_to_slice(&mut words[FIRST_ROWS + 8..]);
+        }
+        Kind::Narrow => words_of_high_bytes(rows).copy_to_slice(&mut words[FIRST_NARROW_ROWS..]),
+        Kind::Middle => words_of_high_halves(rows).copy_to_slice(&mut words[FIRST_MIDDLE_ROWS..]),
+    }
 }
 
 /// Whether the node of `words` has leaves alone, and room for one more.
@@ -98,15 +169,16 @@ fn add_fork(words: &mut [u64; NODE_FIELDS], first: u8, last: u8, position: u16, 
     requires below { position < 65535 }
     ensures { (node : NodeView) → CanGrowAt words.old node position first last → HasHead words.old words.new (forked_head 1 position first last bit (head_of node)) }
 {
-    let positions = split_into_quarters(u64x8::from_slice(&words[FIRST_POSITIONS..]));
+    let positions = positions_in(&words[..HEAD_WORDS]);
     if !has_lane(positions, position) {
         return add_fork_by_head(words, first, last, position, bit);
     }
     let weight = 1 << (31 - count_below(positions, position));
-    let rows = rows_in(&words[FIRST_ROWS..HEAD_WORDS]);
+    let rows = rows_in(&words[..HEAD_WORDS]);
     let rows = fork_rows(rows, first as usize, last as usize, weight, bit);
     words[0] += 1;
-    put_rows(words, rows);
+    let kind = read_numbers(words[0]).kind;
+    put_rows(words, kind, rows);
 }
 
 /// Does what `add_fork` does, by the head, so that `position` need not be a column.
@@ -187,7 +259,7 @@ fn read_head(words: &[u64]) -> Head
         numbers.count,
         numbers.height,
         columns,
-        rows_in(&words[FIRST_ROWS..HEAD_WORDS]).to_array(),
+        rows_in(words).to_array(),
     )
 }
 

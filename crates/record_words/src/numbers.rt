@@ -1,12 +1,13 @@
 //! Numbers of a node's head, each read of the word that it shares with others.
 
-ghost use Rattle.std.specs.Prelude.{◌≡◌, ◌+◌, ◌/◌, ◌%◌, ◌<◌, length, slice_index};
+ghost use Rattle.std.specs.Prelude.{◌≡◌, ◌+◌, ◌-◌, ◌/◌, ◌%◌, ◌^◌, ◌<◌, ℕ, slice_index};
 ghost use Rattle.compound_node.specs.Nodes.{IsLawfulNode, NodeView, head_of};
+ghost use Rattle.record_words.specs.HeadParts.{AreNumbersOf, InNodesWith};
+ghost use Rattle.record_words.specs.Kinds.{bit_mask, kind_in, mask_index};
 ghost use Rattle.record_words.specs.Node.{head_words};
-ghost use Rattle.record_words.specs.Packed.{position_at, row_at};
-ghost use Rattle.record_words.specs.declared.TheConstants.{FIRST_POSITIONS, FIRST_ROWS, HEAD_WORDS};
 
-use crate::{FIRST_POSITIONS, FIRST_ROWS, HEAD_WORDS};
+use crate::kind::Kind;
+use crate::{FIRST_MIDDLE_ROWS, FIRST_NARROW_ROWS, FIRST_POSITIONS, HEAD_WORDS};
 
 /// The numbers in the first word of a head.
 #[derive(Clone, Copy)]
@@ -17,23 +18,40 @@ pub struct HeadNumbers {
     pub columns: u8,
     /// Its stored height.
     pub height: u16,
+    /// How its columns and rows are spelled.
+    pub kind: Kind,
+    /// The byte with the bit at the first column; 0 in a wide head.
+    pub first_byte: u8,
 }
 
 impl HeadNumbers {
-    /// The index behind the last word with a position of the node.
+    ghost use Rattle.std.specs.Prelude.{◌≡◌, ◌+◌, ◌-◌, ◌/◌, slice_index};
+    ghost use Rattle.compound_node.specs.Nodes.{head_of};
+    ghost use Rattle.record_words.specs.HeadParts.{InNodesWith};
+    ghost use Rattle.record_words.specs.Kinds.{columns_end, mask_index, position_index, rows_a_word, rows_from};
+    ghost use Rattle.record_words.specs.Node.{head_words};
+    ghost use Rattle.record_words.specs.Packed.{position_at, row_at};
+    ghost use Rattle.record_words.specs.declared.TheConstants.{HEAD_WORDS};
+
+    /// The index behind the last word in which the columns of the node have something.
     #[inline(always)]
-    pub fn positions_end(self) -> usize
-        ensures { result ≡ FIRST_POSITIONS + (self.columns + 3) / 4 }
+    pub fn columns_end(self) -> usize
+        ensures { result ≡ columns_end self.kind self.columns }
     {
-        FIRST_POSITIONS + (self.columns as usize + 3) / 4
+        match self.kind {
+            Kind::Wide => FIRST_POSITIONS + (self.columns as usize + 3) / 4,
+            Kind::Narrow => FIRST_NARROW_ROWS,
+            Kind::Middle => FIRST_MIDDLE_ROWS,
+        }
     }
 
     /// The index behind the last word with a row of the node.
     #[inline(always)]
     pub fn rows_end(self) -> usize
-        ensures { result ≡ FIRST_ROWS + (self.count + 1) / 2 }
+        ensures { result ≡ rows_from self.kind + (self.count + rows_a_word self.kind - 1) / rows_a_word self.kind }
     {
-        FIRST_ROWS + (self.count as usize + 1) / 2
+        let rows = self.kind.rows_a_word();
+        self.kind.first_rows() + (self.count as usize + rows - 1) / rows
     }
 
     /// The index behind the word of the node's last entry.
@@ -43,62 +61,135 @@ impl HeadNumbers {
     {
         HEAD_WORDS + self.count as usize
     }
+
+    /// The index of the word with the row of slot `slot`.
+    #[inline(always)]
+    pub fn index_of_row(self, slot: u8) -> usize
+        ensures { result ≡ rows_from self.kind + slot / rows_a_word self.kind }
+    {
+        self.kind.first_rows() + slot as usize / self.kind.rows_a_word()
+    }
+
+    /// The index of the word with the position of column `column`, or with the index of its byte.
+    #[inline(always)]
+    pub fn index_of_position(self, column: u8) -> usize
+        ensures { result ≡ position_index self.kind column }
+    {
+        match self.kind {
+            Kind::Wide => FIRST_POSITIONS + column as usize / 4,
+            Kind::Narrow => FIRST_POSITIONS,
+            Kind::Middle if column < 8 => FIRST_POSITIONS + 1,
+            Kind::Middle => FIRST_POSITIONS,
+        }
+    }
+
+    /// The index of the word with the mask of column `column`; the same as `index_of_position` in a wide head.
+    #[inline(always)]
+    pub fn index_of_mask(self, column: u8) -> usize
+        ensures { result ≡ mask_index self.kind column }
+    {
+        let index = self.index_of_position(column);
+        match self.kind {
+            Kind::Wide => index,
+            Kind::Narrow => index + 1,
+            Kind::Middle => index + 2,
+        }
+    }
+
+    /// The row of slot `slot`, in each node whose head has these numbers and `word` at [`HeadNumbers::index_of_row`]. It is 4,294,967,295
+    /// past the last entry.
+    #[inline(always)]
+    pub fn row_of(self, word: u64, slot: u8) -> u32
+        ensures { InNodesWith self (rows_from self.kind + slot / rows_a_word self.kind) word (λ node. result ≡ row_at node.rows slot) }
+    {
+        if slot >= self.count {
+            return u32::MAX;
+        }
+        match self.kind {
+            Kind::Wide => (word >> (32 * (slot % 2)) & 0xffff_ffff) as u32,
+            Kind::Narrow => ((word >> (8 * (slot % 8)) & 0xff) as u32) << 24,
+            Kind::Middle => ((word >> (16 * (slot % 4)) & 0xffff) as u32) << 16,
+        }
+    }
+
+    /// The position of column `column`, in each node whose head has these numbers, `word` at [`HeadNumbers::index_of_position`] and `masks`
+    /// at [`HeadNumbers::index_of_mask`]. It is 65,535 past the last column.
+    #[inline(always)]
+    pub fn position_of(self, word: u64, masks: u64, column: u8) -> u16
+        ensures { InNodesWith self (position_index self.kind column) word (λ node. slice_index (head_words (head_of node)) (mask_index self.kind column) ≡ masks →
+            result ≡ position_at node.columns column) }
+    {
+        if column >= self.columns {
+            return u16::MAX;
+        }
+        let low = 8 * (7 - column % 8);
+        match self.kind {
+            Kind::Wide => (word >> (16 * (column % 4)) & 0xffff) as u16,
+            _ => near_position(
+                self.first_byte,
+                (word >> low & 0xff) as u8,
+                (masks >> low & 0xff) as u8,
+            ),
+        }
+    }
 }
 
-/// The numbers of entries and of columns, and the height, of each node whose head begins with `word`.
+/// The numbers of entries and of columns, the height and the kind of each node whose head begins with `word`.
 #[inline(always)]
 pub fn read_numbers(word: u64) -> HeadNumbers
-    ensures parts { (result.count ≡ word % 256) × (result.columns ≡ word / 256 % 256) × (result.height ≡ word / 65536 % 65536) }
+    ensures parts { (result.count ≡ word % 256) × (result.columns ≡ word / 256 % 256) × (result.height ≡ word / 65536 % 65536) × (result.kind ≡ kind_in word) ×
+        (result.first_byte ≡ word / 2 ^ 32 % 2 ^ 8) }
     ensures node { (node : NodeView) → IsLawfulNode node → slice_index (head_words (head_of node)) 0 ≡ word →
-        (result.count ≡ length node.entries) × (result.columns ≡ length node.columns) × (result.height ≡ node.height) }
+        AreNumbersOf result node }
 {
     HeadNumbers {
         count: (word % 256) as u8,
         columns: (word / 256 % 256) as u8,
         height: (word / 65_536 % 65_536) as u16,
+        kind: read_kind(word),
+        first_byte: (word >> 32 & 0xff) as u8,
     }
 }
 
-/// The index of the word with the row of slot `slot`.
+/// The kind of each node whose head begins with `word`.
 #[inline(always)]
-pub fn index_of_row(slot: u8) -> usize
-    ensures { result ≡ FIRST_ROWS + slot / 2 }
+fn read_kind(word: u64) -> Kind
+    ensures { result ≡ kind_in word }
 {
-    FIRST_ROWS + slot as usize / 2
+    match word >> 40 {
+        1 => Kind::Narrow,
+        2 => Kind::Middle,
+        _ => Kind::Wide,
+    }
 }
 
-/// The index of the word with the position of column `column`.
+/// The position of a near column. Its byte is `index` behind byte `first_byte`, and its bit there is `mask`, which is not 0.
 #[inline(always)]
-pub fn index_of_position(column: u8) -> usize
-    ensures { result ≡ FIRST_POSITIONS + column / 4 }
+fn near_position(first_byte: u8, index: u8, mask: u8) -> u16
+    ensures { (p : ℕ) → bit_mask p ≡ mask → 0 < mask → p / 9 ≡ first_byte + index → result ≡ p }
 {
-    FIRST_POSITIONS + column as usize / 4
+    9 * (first_byte as u16 + index as u16) + 1 + mask.leading_zeros() as u16
 }
 
-/// The row of slot `at`, in each node whose head has `word` at [`index_of_row`]. It is 4,294,967,295 past the last entry.
+/// The index of the word that tells the first position of a head of these numbers: with it in a wide head, else with its mask.
 #[inline(always)]
-pub fn row_of(word: u64, at: u8) -> u32
-    requires { at < 32 }
-    ensures { (node : NodeView) → IsLawfulNode node → slice_index (head_words (head_of node)) (FIRST_ROWS + at / 2) ≡ word → result ≡ row_at node.rows at }
+pub fn index_of_first_position(kind: Kind) -> usize
+    ensures { result ≡ mask_index kind 0 }
 {
-    (word >> (32 * (at % 2)) & 0xffff_ffff) as u32
+    match kind {
+        Kind::Wide => FIRST_POSITIONS,
+        Kind::Narrow => FIRST_POSITIONS + 1,
+        Kind::Middle => FIRST_POSITIONS + 3,
+    }
 }
 
-/// The position of the first column, in each node whose head has `word` at index `FIRST_POSITIONS`.
+/// The position of the first column, in each node whose head has `numbers` and `word` at [`index_of_first_position`].
 #[inline(always)]
-pub fn first_position_of(word: u64) -> u16
-    ensures part { result ≡ word % 65536 }
-    ensures node { (node : NodeView) → IsLawfulNode node → slice_index (head_words (head_of node)) FIRST_POSITIONS ≡ word → result ≡ slice_index node.columns 0 }
+pub fn first_position_of(numbers: HeadNumbers, word: u64) -> u16
+    ensures { InNodesWith numbers (mask_index numbers.kind 0) word (λ node. result ≡ slice_index node.columns 0) }
 {
-    (word % 65_536) as u16
-}
-
-/// The position of column `column`, in each node whose head has `word` at [`index_of_position`]. It is 65,535 past the last column.
-#[inline(always)]
-pub fn position_of(word: u64, column: u8) -> u16
-    requires { column < 31 }
-    ensures { (node : NodeView) → IsLawfulNode node → slice_index (head_words (head_of node)) (FIRST_POSITIONS + column / 4) ≡ word →
-        result ≡ position_at node.columns column }
-{
-    (word >> (16 * (column % 4)) & 0xffff) as u16
+    match numbers.kind {
+        Kind::Wide => (word % 65_536) as u16,
+        _ => near_position(numbers.first_byte, 0, (word >> 56) as u8),
+    }
 }

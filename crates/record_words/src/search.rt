@@ -1,48 +1,169 @@
 //! Searching in the words of a head as they were loaded.
 
-ghost use Rattle.std.specs.Prelude.{◌≡◌, ◌*◌, ◌/◌, ◌%◌, ◌^◌, ◌<◌, Bool, ℕ, length, slice_index};
-ghost use Rattle.compound_node.specs.Nodes.{NodeView, IsLawfulNode, head_of, piece};
+ghost use Rattle.std.specs.Prelude.{◌≡◌, ◌+◌, ◌-◌, ◌*◌, ◌/◌, ◌%◌, ◌^◌, ◌<◌, ◌≤◌, ◌++◌, Bool, ℕ, length, replicate, slice_index};
+ghost use lib.Count.{count_leading_zeros};
+ghost use lib.Lanes.{digits_l, number_l};
+ghost use Rattle.compound_node.specs.Nodes.{piece};
 ghost use Rattle.key_bits.specs.Bits.{bit_of};
 ghost use Rattle.partial_keys.specs.Rows.{dense_of, with_unused};
 ghost use Rattle.pieces.specs.Piece.{leads_to};
 ghost use Rattle.pieces.specs.Positions.{has};
-ghost use Rattle.record_words.specs.HeadParts.{back_words, front_words};
-ghost use Rattle.record_words.specs.Node.{HasHeadWords};
+ghost use Rattle.record_words.specs.HeadParts.{HasHeadOf, InNodesOfKind, back_words, front_words, middle_words, narrow_words};
+ghost use Rattle.record_words.specs.Node.{InNodesOf};
 ghost use Rattle.record_words.specs.Reading.{IsSpelling};
+ghost use Rattle.record_words.specs.declared.kind.Kind.TheVariants.{Middle, Narrow, Wide};
+ghost use Rattle.record_words.specs.declared.TheConstants.{HEAD_WORDS};
 
+use crate::kind::Kind;
+use crate::near::{bytes_of_words, extract_near, near_positions};
 use crate::numbers::read_numbers;
-use crate::{FIRST_POSITIONS, FIRST_ROWS, ROW_WORDS};
+use crate::{
+    FIRST_MIDDLE_ROWS, FIRST_NARROW_ROWS, FIRST_POSITIONS, FIRST_ROWS, MIDDLE_HEAD_WORDS,
+    NARROW_HEAD_WORDS, ROW_WORDS,
+};
 use key_bits::Key;
 use partial_keys::{extract_dense_key_by_lanes, search_rows};
 use std::simd::prelude::*;
 
-/// The dense key of `key` for each node whose head begins with `words`: the bit of column j is bit 31-j. The positions are read as a vector
-/// as they stand. `search_row_words` needs the words behind these alone, so a caller can load those later.
+/// The lanes' own places.
+const PLACES: [u32; 32] = [
+    0, 1, 2, 3, 4, 5, 6, 7, 8, 9, 10, 11, 12, 13, 14, 15, 16, 17, 18, 19, 20, 21, 22, 23, 24, 25,
+    26, 27, 28, 29, 30, 31,
+];
+
+/// The dense key of `key` for each node whose head is wide and begins with `words`: the bit of column j is bit 31-j. The positions are
+/// read as a vector as they stand. `search_row_words` needs the words behind these alone, so a caller can load those later.
 #[inline(always)]
 pub fn extract_dense_key(words: &[u64; FIRST_ROWS], key: &Key) -> u32
-    requires { IsSpelling HasHeadWords front_words words.now }
-    ensures { (node : NodeView) → IsLawfulNode node → front_words (head_of node) ≡ words.now → result ≡ dense_of node.columns (bit_of key.now) }
+    requires { IsSpelling (HasHeadOf Wide) front_words words.now }
+    ensures { InNodesOfKind Wide front_words words.now (λ node. result ≡ dense_of node.columns (bit_of key.now)) }
 {
     let positions = split_into_quarters(u64x8::from_slice(&words[FIRST_POSITIONS..]));
     extract_dense_key_by_lanes(positions, read_numbers(words[0]).columns, key)
 }
 
-/// The slot to which the forks lead by the dense key `dense`, in each node whose head ends with `words`. As `Head::search`, but no head is
-/// made: the rows are searched as a vector as they stand.
+/// The slot to which the forks lead by the dense key `dense`, in each node whose head is wide and ends with `words`. As `Head::search`, but
+/// no head is made: the rows are searched as a vector as they stand.
 #[inline(always)]
 pub fn search_row_words(words: &[u64; ROW_WORDS], dense: u32) -> u8
-    requires { IsSpelling HasHeadWords back_words words.now }
-    ensures { (node : NodeView) → IsLawfulNode node → back_words (head_of node) ≡ words.now →
-        (bit : ℕ → Bool) → dense ≡ dense_of node.columns bit → result ≡ leads_to bit (piece node) }
+    requires { IsSpelling (HasHeadOf Wide) back_words words.now }
+    ensures { InNodesOfKind Wide back_words words.now (λ node.
+        (bit : ℕ → Bool) → dense ≡ dense_of node.columns bit → result ≡ leads_to bit (piece node)) }
 {
-    search_rows(rows_in(words), dense)
+    search_rows(wide_rows_in(words), dense)
 }
 
-/// The rows of each node whose head ends with `words`: lane `i` is that of slot `i`. Lanes past the last entry are 4,294,967,295.
+/// The slot to which the bits of `key` lead, in each node whose head is narrow and begins with `words`. Its rows are searched as they stand.
+#[inline(always)]
+pub fn search_narrow(words: &[u64; NARROW_HEAD_WORDS], key: &Key) -> u8
+    requires { IsSpelling (HasHeadOf Narrow) narrow_words words.now }
+    ensures { InNodesOfKind Narrow narrow_words words.now (λ node. result ≡ leads_to (bit_of key.now) (piece node)) }
+{
+    let numbers = read_numbers(words[0]);
+    let (indexes, masks) = (bytes_of_words(0, words[1]), bytes_of_words(0, words[2]));
+    let dense = extract_near(indexes, masks, numbers.first_byte, key);
+    let rows = bytes_in(u64x4::from_slice(&words[FIRST_NARROW_ROWS..]));
+    let lacking = u8x32::splat(!((dense >> 24) as u8)) & rows;
+    last_of(lacking.simd_eq(u8x32::splat(0)).to_bitmask(), numbers.count)
+}
+
+/// The slot to which the bits of `key` lead, in each node whose head is middle and begins with `words`. As `search_narrow`.
+#[inline(always)]
+pub fn search_middle(words: &[u64; MIDDLE_HEAD_WORDS], key: &Key) -> u8
+    requires { IsSpelling (HasHeadOf Middle) middle_words words.now }
+    ensures { InNodesOfKind Middle middle_words words.now (λ node. result ≡ leads_to (bit_of key.now) (piece node)) }
+{
+    let numbers = read_numbers(words[0]);
+    let indexes = bytes_of_words(words[1], words[2]);
+    let masks = bytes_of_words(words[3], words[4]);
+    let dense = extract_near(indexes, masks, numbers.first_byte, key);
+    let rows = split_into_quarters(u64x8::from_slice(&words[FIRST_MIDDLE_ROWS..]));
+    let lacking = u16x32::splat(!((dense >> 16) as u16)) & rows;
+    last_of(
+        lacking.simd_eq(u16x32::splat(0)).to_bitmask(),
+        numbers.count,
+    )
+}
+
+/// The place of the highest bit of `mask` below bit `count`. Bit 0 is set.
+#[inline(always)]
+fn last_of(mask: u64, count: u8) -> u8
+    requires some { mask % 2 ≡ 1 }
+    requires few { (1 ≤ count) × (count ≤ 32) }
+    ensures { result ≡ 63 - count_leading_zeros 64 (mask % 2 ^ count) }
+{
+    (63 - (mask & ((1 << count) - 1)).leading_zeros()) as u8
+}
+
+/// The positions of the columns of each node whose head has `words`, and 65,535 behind them up to 32.
+#[inline(always)]
+pub(crate) fn positions_in(words: &[u64]) -> u16x32
+    requires long { length words.now ≡ HEAD_WORDS }
+    ensures { InNodesOf words.now (λ node. result ≡ node.columns ++ replicate (32 - length node.columns) 65535) }
+{
+    let first = read_numbers(words[0]).first_byte;
+    match read_numbers(words[0]).kind {
+        Kind::Wide => split_into_quarters(u64x8::from_slice(&words[FIRST_POSITIONS..])),
+        Kind::Narrow => widen(near_positions(
+            bytes_of_words(0, words[1]),
+            bytes_of_words(0, words[2]),
+            first,
+        )),
+        Kind::Middle => widen(near_positions(
+            bytes_of_words(words[1], words[2]),
+            bytes_of_words(words[3], words[4]),
+            first,
+        )),
+    }
+}
+
+/// The sixteen `positions`, and 65,535 behind them up to 32.
+#[inline(always)]
+fn widen(positions: u16x16) -> u16x32
+    ensures { result ≡ positions ++ replicate 16 65535 }
+{
+    join_lanes(positions, u16x16::splat(u16::MAX))
+}
+
+/// The rows of each node whose head has `words`: lane `i` is that of slot `i`. Lanes past the last entry are 4,294,967,295.
 #[inline(always)]
 pub(crate) fn rows_in(words: &[u64]) -> u32x32
+    requires long { length words.now ≡ HEAD_WORDS }
+    ensures { InNodesOf words.now (λ node. result ≡ with_unused node.rows) }
+{
+    let count = read_numbers(words[0]).count;
+    match read_numbers(words[0]).kind {
+        Kind::Wide => wide_rows_in(&words[FIRST_ROWS..]),
+        Kind::Narrow => with_unused_from(
+            bytes_in(u64x4::from_slice(&words[FIRST_NARROW_ROWS..])).cast::<u32>()
+                << u32x32::splat(24),
+            count,
+        ),
+        Kind::Middle => with_unused_from(
+            split_into_quarters(u64x8::from_slice(&words[FIRST_MIDDLE_ROWS..])).cast::<u32>()
+                << u32x32::splat(16),
+            count,
+        ),
+    }
+}
+
+/// The first `count` of `rows`, and 4,294,967,295 behind them up to 32.
+#[inline(always)]
+fn with_unused_from(rows: u32x32, count: u8) -> u32x32
+    ensures whole { length result ≡ 32 }
+    ensures used { (i : ℕ) → i < count → slice_index result i ≡ slice_index rows i }
+    ensures unused { (i : ℕ) → i < 32 → count ≤ i → slice_index result i ≡ 4294967295 }
+{
+    u32x32::from_array(PLACES)
+        .simd_lt(u32x32::splat(count as u32))
+        .select(rows, u32x32::splat(u32::MAX))
+}
+
+/// The rows of each node whose head is wide and ends with `words`: lane `i` is that of slot `i`. Lanes past the last entry are 4,294,967,295.
+#[inline(always)]
+fn wide_rows_in(words: &[u64]) -> u32x32
     requires { length words.now ≡ ROW_WORDS }
-    ensures { (node : NodeView) → IsLawfulNode node → back_words (head_of node) ≡ words.now → result ≡ with_unused node.rows }
+    ensures { InNodesOfKind Wide back_words words.now (λ node. result ≡ with_unused node.rows) }
 {
     let low = split_into_halves(u64x8::from_slice(words));
     let high = split_into_halves(u64x8::from_slice(&words[8..]));
@@ -79,4 +200,26 @@ pub(crate) fn split_into_halves(words: u64x8) -> u32x16
     ensures each { (i : ℕ) → i < 16 → slice_index result i ≡ slice_index words (i / 2) / 2 ^ (32 * (i % 2)) % 2 ^ 32 }
 {
     u32x16::from_le_bytes(words.to_le_bytes())
+}
+
+/// The bytes of `words`, the lowest of each first.
+#[inline(always)]
+fn bytes_in(words: u64x4) -> u8x32
+    ensures { result ≡ digits_l (2 ^ 8) 32 (number_l (2 ^ 64) words) }
+{
+    words.to_le_bytes()
+}
+
+/// The lanes of `low`, and those of `high` behind them.
+#[inline(always)]
+pub(crate) fn join_lanes(low: u16x16, high: u16x16) -> u16x32
+    ensures { result ≡ low ++ high }
+{
+    low.shuffle::<32>(
+        high,
+        [
+            0, 1, 2, 3, 4, 5, 6, 7, 8, 9, 10, 11, 12, 13, 14, 15, 16, 17, 18, 19, 20, 21, 22, 23,
+            24, 25, 26, 27, 28, 29, 30, 31,
+        ],
+    )
 }

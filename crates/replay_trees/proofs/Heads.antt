@@ -1,97 +1,126 @@
--- A head against its words.
-use Rattle.std.proofs.Common.{ℕ, ◌≡◌, ◌-◌, ◌^◌, ◌<◌, ◌≤◌, ⊎_elim, arith, List, Ok, Err, get_or, length, take, replicate, refl, sym, ap, lit<, ◌∙◌}
-use Rattle.std.specs.Prelude.{Result, IsErr}
-use Rattle.std.proofs.lemmas.Bool.{cases_lt}
-use Rattle.std.proofs.lemmas.List.{length-replicate, get_or_append_left, get_or-append_right, get_or-replicate, get_or_past, length-take-le}
+-- What is read of the words of a head, by its kind, is its numbers, its columns and its rows; and those are of a head.
+use Rattle.std.proofs.Common.{ℕ, ◌≡◌, ◌+◌, ◌*◌, ◌/◌, ◌%◌, ◌^◌, ◌<◌, ◌≤◌, ◌++◌, ⊎_elim, arith, cond, List, [], ◌∷◌, Ok, Err, below_more, get_or, get_or-set_other, get_or-set_same, length, length-set, nat_lt, set, suc, take, refl, sym, ap, ◌∙◌}
+use Rattle.std.proofs.Math.Seq.{take-suc}
+use Rattle.std.proofs.lemmas.Bool.{cases_lt, le-ltb, lt-ltb}
+use Rattle.std.proofs.lemmas.List.{ext_get_or, get_or_default, take_all}
 use Rattle.partial_keys.specs.Rows.{with_unused}
-use Rattle.compound_node.specs.Nodes.{NodeView, HeadView, IsLawfulNode, IsHead, head_of, node_from}
+use Rattle.compound_node.specs.declared.entries.Entry.{Entry}
+use Rattle.compound_node.specs.Nodes.{HeadView, IsHead, IsLawfulNode, IsNode, NodeView, head_of, node_from}
 use Rattle.compound_node.proofs.Lawful.{same_count}
 use Rattle.record_words.specs.declared.WordFault.{WordFault}
 use Rattle.record_words.specs.declared.WordFault.TheVariants.{Bad}
-use Rattle.record_words.specs.Node.{HasHeadWords, head_words}
-use Rattle.record_words.specs.Packed.{fixed_words}
+use Rattle.record_words.specs.declared.kind.Kind.{Kind}
+use Rattle.record_words.specs.declared.kind.Kind.TheVariants.{Middle, Narrow, Wide}
+use Rattle.record_words.specs.declared.numbers.HeadNumbers.{HeadNumbers}
+use Rattle.record_words.specs.HeadParts.{AreNumbersOf}
+use Rattle.record_words.specs.Kinds.{mask_index, position_index, rows_a_word, rows_from}
+use Rattle.record_words.specs.Node.{HasHeadWords, InNodesOf, head_words}
+use Rattle.record_words.specs.Packed.{position_at, row_at}
 use Rattle.record_words.specs.Reading.{IsReading}
-use Rattle.record_words.proofs.Fixing.{fixed_words-same}
-use Rattle.record_words.proofs.Heads.{head_used, is_head}
-use Rattle.record_words.proofs.Lawful.{length-with_unused, column-lt, row-lt, row_at-with_unused}
-use Rattle.replay_trees.specs.declared.fixed.Fixed.{Fixed}
-use Rattle.replay_trees.specs.Fixed.{HasFixedWords, packed_words}
-use Rattle.replay_trees.proofs.Numbers.{fixed_of}
-use Rattle.replay_trees.proofs.Readings.{reads_none, reads_one, reads_fault}
+use Rattle.record_words.proofs.Heads.{head_used, is_head, is_node, used_rows}
+use Rattle.record_words.proofs.Lawful.{length-with_unused, row_at-with_unused}
+use Rattle.replay_trees.proofs.Readings.{reads_none, reads_one}
 
--- ---- the numbers of a node
-abbrev pub numbers_of : NodeView → Fixed
-numbers_of node = fixed_of (length node.rows) node.height node.columns (with_unused node.rows)
+-- ---- words of a head of each kind
+position_inside : (kind : Kind) (j : ℕ) → j < 31 → position_index kind j < 23
+position_inside Wide j low = omega arith
+position_inside Narrow j low = omega arith
+position_inside Middle j low = ⊎_elim (λ (few : j < 8). rw (lt-ltb j 8 few) (omega arith)) (λ (many : 8 ≤ j). rw (le-ltb j 8 many) (omega arith)) (cases_lt j 8)
 
-with_unused-lt : (rows : List ℕ) → ((i : ℕ) → get_or rows i 0 < 2 ^ 32) → (i : ℕ) → get_or (with_unused rows) i 0 < 2 ^ 32
-with_unused-lt rows small i =
-    ⊎_elim (λ (used : i < length rows). rw (get_or_append_left rows (replicate (32 - length rows) 4294967295) 0 i used) (small i))
-    (λ (past : length rows ≤ i). rw (get_or-append_right rows (replicate (32 - length rows) 4294967295) (length rows) i 0 refl past) (⊎_elim
-    (λ (inside : i - length rows < 32 - length rows). rw (get_or-replicate {A = ℕ} (32 - length rows) (i - length rows) 4294967295 0 inside) (lit< tt))
-    (λ (outside : 32 - length rows ≤ i - length rows).
-    rw (get_or_past {X = ℕ} (replicate (32 - length rows) 4294967295) (i - length rows) 0 (omega (arith, length-replicate {A = ℕ} (32 - length rows) 4294967295))) (lit< tt))
-    (cases_lt (i - length rows) (32 - length rows))))
-    (cases_lt i (length rows))
+pub position_within : (kind : Kind) (j : ℕ) → j < 31 → position_index kind j < 25
+position_within kind j low = omega (arith, position_inside kind j low)
 
-pub numbers_fit : (node : NodeView) → IsLawfulNode node → HasFixedWords (numbers_of node)
-numbers_fit node lawful =
-    let room : length node.rows ≤ 32 = omega (arith, same_count node lawful, lawful.room) in
-    record {
-      count = omega (arith, room);
-      height = omega (arith, lawful.bound);
-      few = lawful.positions.few;
-      columns = column-lt node lawful;
-      whole = length-with_unused node.rows room;
-      sparse = with_unused-lt node.rows (row-lt node lawful);
+pub mask_within : (kind : Kind) (j : ℕ) → j < 31 → mask_index kind j < 25
+mask_within Wide j low = position_within Wide j low
+mask_within Narrow j low = omega (arith, position_inside Narrow j low)
+mask_within Middle j low = omega (arith, position_inside Middle j low)
+
+pub row_within : (kind : Kind) (i : ℕ) → i < 32 → rows_from kind + i / rows_a_word kind < 25
+row_within Wide i low = omega arith
+row_within Narrow i low = omega arith
+row_within Middle i low = omega arith
+
+-- ---- the columns and the rows so far
+one_column : (node : NodeView) (before after : List ℕ) (j p : ℕ) → j < length node.columns → before ≡ take j node.columns → p ≡ position_at node.columns j → after ≡ before ++ p ∷ [] → after ≡ take (j + 1) node.columns
+one_column node before after j p inside so_far is pushed =
+    pushed ∙ (ap (λ front. front ++ p ∷ []) so_far ∙ (ap (λ x. take j node.columns ++ x ∷ []) (is ∙ get_or_default node.columns j 65535 0 inside)
+    ∙ (sym (take-suc node.columns j 0 inside) ∙ ap (λ n. take n node.columns) (let e : suc j ≡ j + 1 = omega arith in e))))
+
+pub next_column : (words : List ℕ) (numbers : HeadNumbers) (before after : List ℕ) (j p : ℕ) → j < numbers.columns → InNodesOf words (λ node. AreNumbersOf numbers node → before ≡ take j node.columns) →
+    InNodesOf words (λ node. AreNumbersOf numbers node → p ≡ position_at node.columns j) → after ≡ before ++ p ∷ [] → InNodesOf words (λ node. AreNumbersOf numbers node → after ≡ take (j + 1) node.columns)
+next_column words numbers before after j p inside so_far is pushed = λ node lawful same told.
+    one_column node before after j p (omega (arith, inside, told.columns_are)) (so_far node lawful same told) (is node lawful same told) pushed
+
+pub all_columns : (words : List ℕ) (numbers : HeadNumbers) (columns : List ℕ) (j : ℕ) → (numbers.columns ≤ 31 → numbers.columns ≤ j) → InNodesOf words (λ node. AreNumbersOf numbers node → columns ≡ take j node.columns) →
+    InNodesOf words (λ node. AreNumbersOf numbers node → columns ≡ node.columns)
+all_columns words numbers columns j all so_far = λ node lawful same told.
+    let few : length node.columns ≤ 31 = lawful.positions.few in
+    so_far node lawful same told ∙ take_all j node.columns (omega (arith, told.columns_are, all (omega (arith, few, told.columns_are))))
+
+abbrev pub AreRowsBelow : List ℕ → HeadNumbers → List ℕ → ℕ → Type 0
+AreRowsBelow words numbers rows n = (length rows ≡ 32) × InNodesOf words (λ node. AreNumbersOf numbers node → (k : ℕ) → k < n → get_or rows k 0 ≡ row_at node.rows k)
+
+pub next_row : (words : List ℕ) (numbers : HeadNumbers) (rows : List ℕ) (n row : ℕ) → n < 32 → AreRowsBelow words numbers rows n → InNodesOf words (λ node. AreNumbersOf numbers node → row ≡ row_at node.rows n) → AreRowsBelow words numbers (set rows n row) (n + 1)
+next_row words numbers rows n row low (long, so_far) is = (
+  length-set rows n row ∙ long,
+  λ node lawful same told. below_more (λ k. get_or (set rows n row) k 0 ≡ row_at node.rows k) n
+      (λ k before. get_or-set_other rows n k row 0 (λ e. omega (arith, e, before)) ∙ so_far node lawful same told k before)
+      (get_or-set_same rows n row 0 (omega (arith, low, long)) ∙ is node lawful same told),
+)
+
+pub all_rows : (words : List ℕ) (numbers : HeadNumbers) (rows : List ℕ) (n : ℕ) → 32 ≤ n → AreRowsBelow words numbers rows n → InNodesOf words (λ node. AreNumbersOf numbers node → rows ≡ with_unused node.rows)
+all_rows words numbers rows n all (long, so_far) = λ node lawful same told.
+    ext_get_or 4294967295 rows (with_unused node.rows) (long ∙ sym (length-with_unused node.rows (omega (arith, same_count node lawful, lawful.room))))
+    (λ i h. get_or_default rows i 4294967295 0 h ∙ (so_far node lawful same told i (omega (arith, h, long, all)) ∙ sym (row_at-with_unused node.rows i)))
+
+-- ---- what was read, if a node has the words
+pub record AreReadOf (count height : ℕ) (columns rows : List ℕ) (node : NodeView) : Type 0 where
+  pub count_is : count ≡ length node.rows
+  pub height_is : height ≡ node.height
+  pub columns_are : columns ≡ node.columns
+  pub rows_are : rows ≡ with_unused node.rows
+
+pub read_of : (words : List ℕ) (numbers : HeadNumbers) (columns rows : List ℕ) → ((node : NodeView) → IsLawfulNode node → get_or (head_words (head_of node)) 0 0 ≡ get_or words 0 0 → AreNumbersOf numbers node) →
+    InNodesOf words (λ node. AreNumbersOf numbers node → columns ≡ node.columns) → InNodesOf words (λ node. AreNumbersOf numbers node → rows ≡ with_unused node.rows) → InNodesOf words (AreReadOf numbers.count numbers.height columns rows)
+read_of words numbers columns rows told columns_are rows_are = λ node lawful same.
+    let its = told node lawful (ap (λ ws. get_or ws 0 0) same) in record {
+      count_is = its.count_is ∙ sym (same_count node lawful);
+      height_is = its.height_is;
+      columns_are = columns_are node lawful same its;
+      rows_are = rows_are node lawful same its;
     }
 
-pub packed_words-numbers : (node : NodeView) → packed_words (numbers_of node) ≡ head_words (head_of node)
-packed_words-numbers node = fixed_words-same (length node.rows) node.height node.columns (with_unused node.rows) node.rows (row_at-with_unused node.rows)
+module _ (count height : ℕ) (columns rows : List ℕ) (node : NodeView) (lawful : IsLawfulNode node) (read : AreReadOf count height columns rows node) where
+  pub is_head_of : IsHead count height columns rows
+  is_head_of = rw (read.count_is, read.height_is, read.columns_are, read.rows_are) (is_head node lawful)
+
+  pub head_is : ◌≡◌ {A = HeadView} (record { height = height; columns = columns; rows = take count rows }) (head_of node)
+  head_is = rw (read.count_is, read.height_is, read.columns_are, read.rows_are) (head_used node)
+
+  pub is_node_of : (entries : List Entry) → entries ≡ node.entries → IsNode height columns rows entries
+  is_node_of entries same = rw (read.height_is, read.columns_are, read.rows_are, same) (is_node node lawful)
+
+  pub node_is : (entries : List Entry) → entries ≡ node.entries → node_from height columns rows entries ≡ node
+  node_is entries same = rw (read.height_is, read.columns_are, read.rows_are, same, used_rows node lawful) refl
 
 -- ---- reading a head
--- where some node has the words, its numbers are those that were read
-pub numbers_read : (fixed : Fixed) (words : List ℕ) (node : NodeView) → IsReading {E = WordFault} HasFixedWords packed_words words (Ok fixed) → IsLawfulNode node → head_words (head_of node) ≡ words → fixed ≡ numbers_of node
-numbers_read fixed words node reading lawful same =
-    let read : ◌≡◌ {A = Result Fixed WordFault} (Ok fixed) (Ok (numbers_of node)) = reading.read (numbers_of node) (numbers_fit node lawful) (packed_words-numbers node ∙ same) in
-    cc
+module _ (count height : ℕ) (columns rows words : List ℕ) (read : InNodesOf words (AreReadOf count height columns rows)) where
+  -- it is of no head
+  pub no_head : ¬ IsHead count height columns rows → IsReading HasHeadWords head_words words (Err Bad)
+  no_head none = reads_none {IsValue = HasHeadWords} Bad (λ head has same.
+      none (is_head_of count height columns rows has.0 has.1 (read has.0 has.1 (ap head_words has.2 ∙ same))))
 
--- and there are some
-pub no_numbers : (fault : WordFault) (words : List ℕ) (node : NodeView) → IsReading {E = WordFault} HasFixedWords packed_words words (Err fault) → IsLawfulNode node → head_words (head_of node) ≡ words → ⊥
-no_numbers fault words node reading lawful same =
-    let read : ◌≡◌ {A = Result Fixed WordFault} (Err fault) (Ok (numbers_of node)) = reading.read (numbers_of node) (numbers_fit node lawful) (packed_words-numbers node ∙ same) in
-    cc
+  module _ (head : HeadView) (same_head : head ≡ record { height = height; columns = columns; rows = take count rows }) where
+    is_of : (other : HeadView) → HasHeadWords other → head_words other ≡ words → head ≡ other
+    is_of other has same = same_head ∙ (head_is count height columns rows has.0 has.1 (read has.0 has.1 (ap head_words has.2 ∙ same)) ∙ has.2)
 
--- the words of a head have no numbers
-pub head_unread : (fault : WordFault) (answer : Result HeadView WordFault) (words : List ℕ) → IsReading {E = WordFault} HasFixedWords packed_words words (Err fault) → IsErr answer → IsReading HasHeadWords head_words words answer
-head_unread fault answer words reading wrong =
-    reads_fault answer wrong (λ head has same. no_numbers fault words has.0 reading has.1 (ap head_words has.2 ∙ same))
+    -- it is of a head with other words
+    pub other_head : ¬ (head_words head ≡ words) → IsReading HasHeadWords head_words words (Err Bad)
+    other_head apart = reads_none {IsValue = HasHeadWords} Bad (λ other has same. apart (ap head_words (is_of other has same) ∙ same))
 
--- they have numbers, but of no head
-pub no_head : (fixed : Fixed) (words : List ℕ) → IsReading {E = WordFault} HasFixedWords packed_words words (Ok fixed) → ¬ IsHead fixed.count fixed.height fixed.columns.items fixed.sparse → IsReading HasHeadWords head_words words (Err Bad)
-no_head fixed words reading none =
-    reads_none {IsValue = HasHeadWords} Bad (λ head has same. none (rw (numbers_read fixed words has.0 reading has.1 (ap head_words has.2 ∙ same)) (is_head has.0 has.1)))
-
--- the head of the numbers
-abbrev pub head_from : Fixed → HeadView
-head_from fixed = record { height = fixed.height; columns = fixed.columns.items; rows = take fixed.count fixed.sparse }
-
-pub head_from-numbers : (node : NodeView) → head_from (numbers_of node) ≡ head_of node
-head_from-numbers node = head_used node
-
--- the words of the head are the words of the numbers
-pub words_from : (fixed : Fixed) → HasFixedWords fixed → IsHead fixed.count fixed.height fixed.columns.items fixed.sparse → head_words (head_from fixed) ≡ packed_words fixed
-words_from fixed has is =
-    let rows : List ℕ = take fixed.count fixed.sparse in
-    let counted : length rows ≡ fixed.count = length-take-le fixed.count fixed.sparse (omega (arith, has.whole, is.1, is.2.lawful.room)) in
-    let padded : fixed.sparse ≡ with_unused rows = rw is.1 at is.2.padded in
-    let count_is : head_words (head_from fixed) ≡ fixed_words fixed.count fixed.height fixed.columns.items rows = ap (λ n. fixed_words n fixed.height fixed.columns.items rows) counted in
-    count_is ∙ (sym (fixed_words-same fixed.count fixed.height fixed.columns.items (with_unused rows) rows (row_at-with_unused rows))
-    ∙ ap (λ sparse. fixed_words fixed.count fixed.height fixed.columns.items sparse) (sym padded))
-
--- they are those of a head
-pub head_read : (fixed : Fixed) (words : List ℕ) (head : HeadView) → IsReading {E = WordFault} HasFixedWords packed_words words (Ok fixed) → IsHead fixed.count fixed.height fixed.columns.items fixed.sparse → head ≡ head_from fixed → IsReading {E = WordFault} HasHeadWords head_words words (Ok head)
-head_read fixed words head reading is same_head =
-    let node : NodeView = node_from fixed.height fixed.columns.items fixed.sparse is.0 in
-    let its_head : head_of node ≡ head = ap (λ n. head_from (record fixed { count = n })) is.1 ∙ sym same_head in
-    reads_one head (node, is.2.lawful, its_head) (ap head_words same_head ∙ (words_from fixed reading.spelling.0 is ∙ reading.spelling.1))
-    (λ other has same. same_head ∙ (ap head_from (numbers_read fixed words has.0 reading has.1 (ap head_words has.2 ∙ same)) ∙ (head_from-numbers has.0 ∙ has.2)))
+    -- it is of the one with these
+    pub head_read : IsHead count height columns rows → head_words head ≡ words → IsReading {E = WordFault} HasHeadWords head_words words (Ok head)
+    head_read is same =
+        let node : NodeView = node_from height columns rows is.0 in
+        let its_head : head_of node ≡ head = ap (λ n. let h : HeadView = record { height = height; columns = columns; rows = take n rows } in h) is.1 ∙ sym same_head in
+        reads_one head (node, is.2.lawful, its_head) same (λ other has other_same. is_of other has other_same)

@@ -1,7 +1,6 @@
 -- The lemmas of the crate.
 mod Readings
 mod Entries
-mod Numbers
 mod Heads
 mod Nodes
 mod LeafBytes

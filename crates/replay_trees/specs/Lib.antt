@@ -1,5 +1,4 @@
 -- The definitions of the crate.
-pub mod Fixed
 pub mod Versions
 pub mod Parts
 pub mod Changed

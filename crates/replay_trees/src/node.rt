@@ -6,43 +6,55 @@ ghost use Rattle.record_words.specs.Node.{HasHeadWords, HasNodeWords, HaveEntryW
 ghost use Rattle.record_words.specs.Reading.{IsReading};
 
 use crate::entry::unpack_entry;
-use crate::fixed::Fixed;
+use crate::fixed::{are_same, read_columns, read_rows};
 use arrayvec::ArrayVec;
 use compound_node::{Entry, Head, Node};
-use record_words::{HEAD_WORDS, MAX_ENTRIES, NODE_FIELDS, WordFault};
+use record_words::{
+    HEAD_WORDS, MAX_ENTRIES, NODE_FIELDS, WordFault, pack_head, pack_node, read_numbers,
+};
 
-/// The node of a node record with `words` from offset 1 on; `WordFault::Bad` if no node has these words.
+/// The node of a node record with `words` from offset 1 on; `WordFault::Bad` if no node has these words. The node is read by the kind of its
+/// head. Its words are then made anew, and all are compared.
 pub fn unpack_node(words: &[u64; NODE_FIELDS]) -> Result<Node, WordFault>
     ensures { IsReading HasNodeWords node_words words.now result }
 {
-    let fixed = Fixed::unpack(&words[..HEAD_WORDS])?;
     let entries = unpack_entries(&words[HEAD_WORDS..])?;
-    if entries.len() != fixed.count as usize {
-        return Err(WordFault::Bad);
-    }
+    let numbers = read_numbers(words[0]);
+    let columns = read_columns(&words[..HEAD_WORDS], numbers);
+    let rows = read_rows(&words[..HEAD_WORDS], numbers);
     match Node::from_parts(
-        fixed.height,
-        fixed.columns.as_slice(),
-        &fixed.sparse,
+        numbers.height,
+        columns.as_slice(),
+        &rows,
         entries.as_slice(),
     ) {
-        Some(node) => Ok(node),
+        Some(node) => {
+            if are_same(&pack_node(&node), words) {
+                Ok(node)
+            } else {
+                Err(WordFault::Bad)
+            }
+        }
         None => Err(WordFault::Bad),
     }
 }
 
 /// The head of a node record with `words` from offset 1 up to its entries, whatever these are; `WordFault::Bad` if no head has these words.
+/// As `unpack_node`.
 pub fn unpack_head(words: &[u64; HEAD_WORDS]) -> Result<Head, WordFault>
     ensures { IsReading HasHeadWords head_words words.now result }
 {
-    let fixed = Fixed::unpack(words)?;
-    match Head::from_parts(
-        fixed.count,
-        fixed.height,
-        fixed.columns.as_slice(),
-        &fixed.sparse,
-    ) {
-        Some(head) => Ok(head),
+    let numbers = read_numbers(words[0]);
+    let columns = read_columns(words, numbers);
+    let rows = read_rows(words, numbers);
+    match Head::from_parts(numbers.count, numbers.height, columns.as_slice(), &rows) {
+        Some(head) => {
+            if are_same(&pack_head(&head), words) {
+                Ok(head)
+            } else {
+                Err(WordFault::Bad)
+            }
+        }
         None => Err(WordFault::Bad),
     }
 }

@@ -3,7 +3,7 @@ use Rattle.std.proofs.Common.{◌≡◌, ◌⊎◌, inl, inr, ⊎_elim, ℕ, zer
 use Rattle.std.specs.Prelude.{All, slice_get}
 use Rattle.std.specs.Option.{unwrap_or}
 use Rattle.std.proofs.lemmas.Bool.{eq-eqb, ne_eqb, cases_lt, lt-ltb, le-ltb}
-use Rattle.std.proofs.lemmas.List.{ext_get_or, get_or_past, take_at, drop_at, length-take-le, length-map, get_or-map}
+use Rattle.std.proofs.lemmas.List.{ext_get_or, get_or_default, take_at, drop_at, length-take-le, length-map, get_or-map}
 use Rattle.std.proofs.lemmas.List.FromFn.{length-map-range_with_len, get_or-map-range_with_len}
 use Rattle.std.proofs.lemmas.List.Elements.{All-get_or, All-take, All-drop}
 use Rattle.std.proofs.lemmas.Option.{unwrap_or-slice_get}
@@ -15,15 +15,17 @@ use Rattle.partial_keys.specs.Shown.{piece_of}
 use Rattle.pieces.specs.Piece.{Place, Fork, size, places}
 use Rattle.record_words.specs.Entry.{HasEntryWord, entry_word}
 use Rattle.record_words.specs.Node.{HasNodeWords, head_words, entry_words, node_words}
-use Rattle.record_words.specs.Packed.{fixed_words, ArePositionsOf, AreRowsOf}
+use Rattle.record_words.specs.Kinds.{kind_in, kind_of, mask_index, position_index}
+use Rattle.record_words.specs.Packed.{fixed_words}
+use Rattle.record_words.specs.declared.kind.Kind.{Kind}
+use Rattle.record_words.specs.declared.kind.Kind.TheVariants.{Middle, Narrow, Wide}
 use Rattle.record_words.proofs.Entries.{length-entry_words, entry_words_at}
-use Rattle.record_words.proofs.Fixing.{AreFixed, fixed_words_parts}
-use Rattle.record_words.proofs.Packings.{positions_from_parts, same_positions, rows_from_parts, same_rows}
-use Rattle.record_words.proofs.Lawful.{column-lt, row-lt}
+use Rattle.record_words.proofs.HeadsByKind.{Tells}
+use Rattle.record_words.proofs.TellingHead.{middle_row_is, narrow_row_is, near_column_is, told, whole, wide_position, wide_row}
 use Rattle.tries.specs.Tree.{Subtrie}
 use Rattle.tries.specs.Place.{entry_at}
 use Rattle.versions.specs.Heap.{NodeWords}
-use Rattle.rowex_core.specs.Reading.{entry_of, positions_in, rows_in, fixed_of, entries_of, node_words_of}
+use Rattle.rowex_core.specs.Reading.{column_byte, column_in, entry_of, entries_of, fixed_of, node_words_of, row_in}
 use Rattle.pieces.proofs.Paths.{length-places}
 
 -- Entries
@@ -76,13 +78,9 @@ place_is (Fork q a b) j = go (place_is a j) (place_is b (j - size a)) (cases_lt 
 
 -- Nodes
 
-small_at : (words : List ℕ) → All (λ w. w < 2 ^ 64) words → (i : ℕ) → get_or words i 0 < 2 ^ 64
-small_at words small i = ⊎_elim (λ (inside : i < length words). All-get_or (λ w. w < 2 ^ 64) words i 0 inside small)
-    (λ (past : length words ≤ i). rw (get_or_past words i 0 past) (lit< tt)) (cases_lt i (length words))
-
 module _ (view : NodeView) (words : List ℕ) (small : All (λ w. w < 2 ^ 64) words) (has : HasNodeWords view) (same : node_words view ≡ words) where
   head_long : length (head_words (head_of view)) ≡ 25
-  head_long = (fixed_words_parts (length view.rows) view.height view.columns view.rows (head_words (head_of view)) refl).whole
+  head_long = whole view has.lawful (head_words (head_of view)) refl
 
   pub head_is : head_words (head_of view) ≡ take 25 words
   head_is = sym (take_at (head_words (head_of view)) (entry_words view.entries) 25 head_long) ∙ ap (take 25) same
@@ -90,49 +88,46 @@ module _ (view : NodeView) (words : List ℕ) (small : All (λ w. w < 2 ^ 64) wo
   tail_is : entry_words view.entries ≡ drop 25 words
   tail_is = sym (drop_at (head_words (head_of view)) (entry_words view.entries) 25 head_long) ∙ ap (drop 25) same
 
-  parts : AreFixed (length view.rows) view.height view.columns view.rows (take 25 words)
-  parts = fixed_words_parts (length view.rows) view.height view.columns view.rows (take 25 words) head_is
-
   room : length view.rows ≤ 32
   room = omega (arith, same_count view has.lawful, has.lawful.room)
 
-  numbers : (get_or (take 25 words) 0 0 % 256 ≡ length view.rows) × (get_or (take 25 words) 0 0 / 256 % 256 ≡ length view.columns) × (get_or (take 25 words) 0 0 / 65536 ≡ view.height)
-  numbers = let m = parts.numbers in let f = has.lawful.positions.few in let r = room in (omega arith, omega arith, omega arith)
+  first : Tells (length view.rows) view.height view.columns (get_or (take 25 words) 0 0)
+  first = told view has.lawful (take 25 words) head_is
 
-  positions : ArePositionsOf (positions_in (drop 1 (take 25 words))) (drop 1 (take 25 words))
-  positions = positions_from_parts (positions_in (drop 1 (take 25 words))) (drop 1 (take 25 words))
-      (length-map-range_with_len (λ k. get_or (drop 1 (take 25 words)) (k / 4) 0 / 2 ^ (16 * (k % 4)) % 2 ^ 16) 0 32)
-      (small_at (drop 1 (take 25 words)) (All-drop (λ w. w < 2 ^ 64) 1 (take 25 words) (All-take (λ w. w < 2 ^ 64) 25 words small)))
-      (λ k h. get_or-map-range_with_len (λ k. get_or (drop 1 (take 25 words)) (k / 4) 0 / 2 ^ (16 * (k % 4)) % 2 ^ 16) 0 32 k k 0 h (omega arith))
+  -- a column and a row, by the kind that the columns take
+  column_is : (i : ℕ) → i < length view.columns → column_in (kind_in (get_or (take 25 words) 0 0)) (take 25 words) i ≡ get_or view.columns i 0
+  column_is i used = ap (λ kind. column_in kind (take 25 words) i) first.kind_told ∙ go (kind_of view.columns) refl
+    where
+      go : (kind : Kind) → kind_of view.columns ≡ kind → column_in kind (take 25 words) i ≡ get_or view.columns i 0
+      go Wide e = wide_position view has.lawful (take 25 words) head_is e i (omega (arith, used, has.lawful.positions.few)) ∙ get_or_default view.columns i 65535 0 used
+      go Narrow e = near_column_is view has.lawful (take 25 words) head_is (λ wide. cc) i _ _ _ used refl
+          (ap (λ kind. column_byte i (get_or (take 25 words) (position_index kind i) 0)) (sym e)) (ap (λ kind. column_byte i (get_or (take 25 words) (mask_index kind i) 0)) (sym e))
+      go Middle e = near_column_is view has.lawful (take 25 words) head_is (λ wide. cc) i _ _ _ used refl
+          (ap (λ kind. column_byte i (get_or (take 25 words) (position_index kind i) 0)) (sym e)) (ap (λ kind. column_byte i (get_or (take 25 words) (mask_index kind i) 0)) (sym e))
 
-  rows_read : AreRowsOf (rows_in (drop 9 (take 25 words))) (drop 9 (take 25 words))
-  rows_read = rows_from_parts (rows_in (drop 9 (take 25 words))) (drop 9 (take 25 words))
-      (length-map-range_with_len (λ k. get_or (drop 9 (take 25 words)) (k / 2) 0 / 2 ^ (32 * (k % 2)) % 2 ^ 32) 0 32)
-      (small_at (drop 9 (take 25 words)) (All-drop (λ w. w < 2 ^ 64) 9 (take 25 words) (All-take (λ w. w < 2 ^ 64) 25 words small)))
-      (λ k h. get_or-map-range_with_len (λ k. get_or (drop 9 (take 25 words)) (k / 2) 0 / 2 ^ (32 * (k % 2)) % 2 ^ 32) 0 32 k k 0 h (omega arith))
+  row_is : (i : ℕ) → i < length view.rows → row_in (kind_in (get_or (take 25 words) 0 0)) (take 25 words) i ≡ get_or view.rows i 0
+  row_is i used = ap (λ kind. row_in kind (take 25 words) i) first.kind_told ∙ go (kind_of view.columns) refl
+    where
+      go : (kind : Kind) → kind_of view.columns ≡ kind → row_in kind (take 25 words) i ≡ get_or view.rows i 0
+      go Wide e = wide_row view has.lawful (take 25 words) head_is e i (omega (arith, used, room)) ∙ get_or_default view.rows i 4294967295 0 used
+      go Narrow e = narrow_row_is view has.lawful (take 25 words) head_is e i used
+      go Middle e = middle_row_is view has.lawful (take 25 words) head_is e i used
 
   columns_are : (fixed_of (take 25 words)).columns ≡ view.columns
   columns_are =
-      let n = numbers.1 in
-      let w = positions.whole in
-      ext_get_or 65535 (fixed_of (take 25 words)).columns view.columns
-      (length-take-le (get_or (take 25 words) 0 0 / 256 % 256) (positions_in (drop 1 (take 25 words))) (omega (arith, has.lawful.positions.few)) ∙ n)
-      (λ i h. let low : i < length view.columns = omega (arith, length-take (get_or (take 25 words) 0 0 / 256 % 256) (positions_in (drop 1 (take 25 words)))) in
-      get_or-take (get_or (take 25 words) 0 0 / 256 % 256) (positions_in (drop 1 (take 25 words))) i 65535 (omega arith) ∙
-      same_positions (positions_in (drop 1 (take 25 words))) view.columns positions.small (column-lt view has.lawful)
-      (λ j s. positions.words_are j s ∙ (get_or-drop 1 (take 25 words) j 0 ∙ sym (parts.positions j s))) i (omega (arith, has.lawful.positions.few)))
+      let f = column_in (kind_in (get_or (take 25 words) 0 0)) (take 25 words) in
+      let n : ℕ = get_or (take 25 words) 0 0 / 256 % 256 in
+      let long = length-map-range_with_len f 0 n in
+      ext_get_or 0 (fixed_of (take 25 words)).columns view.columns (long ∙ first.columns_counted)
+      (λ i h. let low : i < n = omega (arith, h, long) in get_or-map-range_with_len f 0 n i i 0 low (omega arith) ∙ column_is i (omega (arith, low, first.columns_counted)))
 
   rows_are : (fixed_of (take 25 words)).rows ≡ view.rows
   rows_are =
-      let n = numbers.0 in
-      let w = rows_read.whole in
-      let r = room in
-      ext_get_or 4294967295 (fixed_of (take 25 words)).rows view.rows
-      (length-take-le (get_or (take 25 words) 0 0 % 256) (rows_in (drop 9 (take 25 words))) (omega arith) ∙ n)
-      (λ i h. let low : i < length view.rows = omega (arith, length-take (get_or (take 25 words) 0 0 % 256) (rows_in (drop 9 (take 25 words)))) in
-      get_or-take (get_or (take 25 words) 0 0 % 256) (rows_in (drop 9 (take 25 words))) i 4294967295 (omega arith) ∙
-      same_rows (rows_in (drop 9 (take 25 words))) view.rows rows_read.small (row-lt view has.lawful)
-      (λ j s. rows_read.words_are j s ∙ (get_or-drop 9 (take 25 words) j 0 ∙ sym (parts.rows_are j s))) i (omega arith))
+      let f = row_in (kind_in (get_or (take 25 words) 0 0)) (take 25 words) in
+      let n : ℕ = get_or (take 25 words) 0 0 % 256 in
+      let long = length-map-range_with_len f 0 n in
+      ext_get_or 0 (fixed_of (take 25 words)).rows view.rows (long ∙ first.counted)
+      (λ i h. let low : i < n = omega (arith, h, long) in get_or-map-range_with_len f 0 n i i 0 low (omega arith) ∙ row_is i (omega (arith, low, first.counted)))
 
   entry_word_at : (i : ℕ) → i < 32 → entry_of (get_or (drop 25 words) i 0) ≡ slice_get view.entries i
   entry_word_at i h = ap entry_of (entry_words_at view.entries (drop 25 words) tail_is i h) ∙ entry_of_word (slice_get view.entries i) (has.entries.each i)
@@ -142,7 +137,7 @@ module _ (view : NodeView) (words : List ℕ) (small : All (λ w. w < 2 ^ 64) wo
 
   entries_are : entries_of (get_or (take 25 words) 0 0 % 256) (drop 25 words) ≡ view.entries
   entries_are =
-      let n = numbers.0 in
+      let n = first.counted in
       let r = same_count view has.lawful in
       let l = has.lawful.room in
       let m = length-map (drop 25 words) (λ w. unwrap_or (entry_of w) (Leaf 0)) in
@@ -157,7 +152,7 @@ module _ (view : NodeView) (words : List ℕ) (small : All (λ w. w < 2 ^ 64) wo
   -- the words that a node has are read as that node
   pub node_is : node_words_of words ≡ record { fixed = record { height = view.height; columns = view.columns; rows = view.rows }; subtrie = piece view }
   unfolding node_words_of
-  node_is = same_node (numbers.2) columns_are rows_are entries_are
+  node_is = same_node first.height_told columns_are rows_are entries_are
     where
       same_node : {h i : ℕ} {c d r s : List ℕ} {e f : List Entry} → h ≡ i → c ≡ d → r ≡ s → e ≡ f →
           ◌≡◌ {A = NodeWords} (record { fixed = record { height = h; columns = c; rows = r }; subtrie = piece_of (Leaf 0) c r e }) (record { fixed = record { height = i; columns = d; rows = s }; subtrie = piece_of (Leaf 0) d s f })

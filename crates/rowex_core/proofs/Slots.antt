@@ -13,7 +13,7 @@ use Rattle.pieces.specs.Changes.{replaced}
 use Rattle.record_words.specs.Entry.{HasEntryWord, entry_word}
 use Rattle.record_words.specs.Node.{HasNodeWords, head_words, entry_words, node_words}
 use Rattle.record_words.proofs.Entries.{length-entry_words, entry_words_at, entry_words_made}
-use Rattle.record_words.proofs.Fixing.{fixed_words_parts}
+use Rattle.record_words.proofs.TellingHead.{whole}
 use Rattle.tries.specs.Tree.{Subtrie}
 use Rattle.tries.specs.Place.{with_entry}
 use Rattle.versions.specs.Heap.{NodeWords}
@@ -67,7 +67,7 @@ module _ (view : NodeView) (words : List ℕ) (has : HasNodeWords view) (same : 
 
   pub stored_same : node_words stored ≡ set words (25 + j) (entry_word (Some e))
   stored_same =
-      let long : length (head_words (head_of view)) ≡ 25 = (fixed_words_parts (length view.rows) view.height view.columns view.rows (head_words (head_of view)) refl).whole in
+      let long : length (head_words (head_of view)) ≡ 25 = whole view has.lawful (head_words (head_of view)) refl in
       let at : 25 + j - 25 ≡ j = omega arith in
       ap (λ z. head_words (head_of view) ++ z) (tail_words ∙ ap (λ n. set (entry_words view.entries) n (entry_word (Some e))) (sym at)) ∙
       (sym (set-append_right (head_words (head_of view)) (entry_words view.entries) 25 (25 + j) (entry_word (Some e)) long (omega arith)) ∙ ap (λ z. set z (25 + j) (entry_word (Some e))) same)

@@ -1,15 +1,19 @@
 -- What the words of a record say, and what words and entries a tree has. The words of a record are those from offset 1 on.
-use Rattle.std.specs.Prelude.{◌≡◌, ℕ, ◌-◌, ◌*◌, ◌/◌, ◌%◌, ◌^◌, ◌<◌, List, length, get_or, take, drop, map, Option, Some, None, nat_eq, nat_lt, if◌then◌else◌}
+use Rattle.std.specs.Prelude.{◌≡◌, ℕ, ◌+◌, ◌-◌, ◌*◌, ◌/◌, ◌%◌, ◌^◌, ◌<◌, List, length, get_or, take, drop, map, Option, Some, None, nat_eq, nat_lt, if◌then◌else◌}
 use Rattle.std.specs.List.{range_with_len}
 use Rattle.std.specs.Option.{unwrap_or}
 use Rattle.std.specs.Int.{to_be_bytes, w64}
+use Rattle.std.specs.Int.Count.{count_leading_zeros}
 use Rattle.compound_node.specs.declared.entries.Entry.{Entry}
 use Rattle.compound_node.specs.declared.entries.Entry.TheVariants.{Leaf, Node}
 use Rattle.compound_node.specs.Nodes.{NodeView}
 use Rattle.partial_keys.specs.Shown.{piece_of}
 use Rattle.pieces.specs.Piece.{size}
 use Rattle.key_bits.specs.declared.TheConstants.{MAX_BYTES}
-use Rattle.record_words.specs.declared.TheConstants.{HEAD_WORDS, MAX_ENTRIES}
+use Rattle.record_words.specs.declared.TheConstants.{FIRST_MIDDLE_ROWS, FIRST_NARROW_ROWS, FIRST_POSITIONS, FIRST_ROWS, HEAD_WORDS}
+use Rattle.record_words.specs.declared.kind.Kind.{Kind}
+use Rattle.record_words.specs.declared.kind.Kind.TheVariants.{Wide, Narrow, Middle}
+use Rattle.record_words.specs.Kinds.{kind_in, mask_index, position_index}
 use Rattle.record_words.specs.Packed.{fixed_words}
 use Rattle.record_words.specs.Entry.{entry_word}
 use Rattle.record_words.specs.Node.{HasNodeWords, node_words}
@@ -26,19 +30,33 @@ use Rattle.versions.specs.Heap.{NodeWords, LeafWords}
 unfoldable pub entry_of : ℕ → Option Entry
 entry_of w = if nat_eq w (entry_word None) then None else (if nat_eq (w % 4) 1 then Some (Leaf (w / 4)) else Some (Node (w / 4 % 2 ^ 32) (w / 2 ^ 34)))
 
--- 32 positions of 16 bits, and 32 sparse partial keys of 32 bits, from the lowest bits of the first word up
-abbrev pub positions_in : List ℕ → List ℕ
-positions_in words = map (λ k. get_or words (k / 4) 0 / 2 ^ (16 * (k % 4)) % 2 ^ 16) (range_with_len 0 MAX_ENTRIES)
+-- the byte for column j in a word of near columns
+abbrev pub column_byte : ℕ → ℕ → ℕ
+column_byte j word = word / 2 ^ (8 * (7 - j % 8)) % 2 ^ 8
 
-abbrev pub rows_in : List ℕ → List ℕ
-rows_in words = map (λ k. get_or words (k / 2) 0 / 2 ^ (32 * (k % 2)) % 2 ^ 32) (range_with_len 0 MAX_ENTRIES)
+-- a near column: how many bytes behind the first one its byte is, and the mask of its bit
+abbrev pub near_column_in : Kind → List ℕ → ℕ → ℕ
+near_column_in kind head j =
+    9 * (get_or head 0 0 / 2 ^ 32 % 2 ^ 8 + column_byte j (get_or head (position_index kind j) 0)) + 1 + count_leading_zeros 8 (column_byte j (get_or head (mask_index kind j) 0))
 
--- the words of a node's head: the first has the numbers of entries and columns and the height
+-- the position of column j in the words of a head of this kind; a wide one has it in 16 bits
+abbrev pub column_in : Kind → List ℕ → ℕ → ℕ
+column_in Wide head j = get_or head (FIRST_POSITIONS + j / 4) 0 / 2 ^ (16 * (j % 4)) % 2 ^ 16
+column_in Narrow head j = near_column_in Narrow head j
+column_in Middle head j = near_column_in Middle head j
+
+-- the sparse partial key of place i in the words of a head of this kind: its highest 8 or 16 bits, or all 32
+abbrev pub row_in : Kind → List ℕ → ℕ → ℕ
+row_in Wide head i = get_or head (FIRST_ROWS + i / 2) 0 / 2 ^ (32 * (i % 2)) % 2 ^ 32
+row_in Narrow head i = get_or head (FIRST_NARROW_ROWS + i / 8) 0 / 2 ^ (8 * (i % 8)) % 2 ^ 8 * 2 ^ 24
+row_in Middle head i = get_or head (FIRST_MIDDLE_ROWS + i / 4) 0 / 2 ^ (16 * (i % 4)) % 2 ^ 16 * 2 ^ 16
+
+-- the words of a node's head: the first has the numbers of entries and columns, the height and the kind
 abbrev pub fixed_of : List ℕ → Fixed
 fixed_of head = record {
-  height = get_or head 0 0 / 65536;
-  columns = take (get_or head 0 0 / 256 % 256) (positions_in (drop 1 head));
-  rows = take (get_or head 0 0 % 256) (rows_in (drop 9 head));
+  height = get_or head 0 0 / 65536 % 65536;
+  columns = map (column_in (kind_in (get_or head 0 0)) head) (range_with_len 0 (get_or head 0 0 / 256 % 256));
+  rows = map (row_in (kind_in (get_or head 0 0)) head) (range_with_len 0 (get_or head 0 0 % 256));
 }
 
 abbrev pub entries_of : ℕ → List ℕ → List Entry

@@ -151,13 +151,13 @@ module _ (head : HeadView) (lawful : IsLawfulNode (node_of head (leaves (length 
 module _ {G : Type 0} {table : TableView} {becomes : G → Event → G → Type 0} {a b c : SeatView × G} {key : Key} {d : Entry} (at : IsAt table becomes a b key d)
     (way : List PathNode) (going : IsGoing table.layout b.0.known (since b.0.known) key way d) where
   -- It is a node, of which the head was read, and so the step there: there is an entry at the key's place.
-  module _ (n height : ℕ) (step : PathNode) (head : HeadView) (is : d ≡ Node n height) (reads : Reads table becomes 0 HEAD_WORDS b c) (seen : IsHeadSeen c.0.known (since b.0.known) n height head)
+  module _ (n height : ℕ) (step : PathNode) (head : HeadView) (is : d ≡ Node n height) {loads : ℕ} (most : loads ≤ HEAD_WORDS) (reads : Reads table becomes 0 loads b c) (seen : IsHeadSeen c.0.known (since b.0.known) n height head)
       (stepped : step ≡ step_at head n (spot key (shape_of head))) where
     spot_is : step.at ≡ spot key (shape_of head)
     spot_is = ap (λ (s : PathNode). s.at) stepped
 
     pub there : HasPlace c.0.known (since b.0.known) n height step.at
-    there = place_of at n height (shape_of head) step.at is reads seen.shaped spot_is
+    there = place_of at n height (shape_of head) step.at is most reads seen.shaped spot_is
 
     -- The entry was read.
     module _ {i : SeatView × G} (e : Entry) (one : Reads table becomes 1 1 c i)
@@ -165,7 +165,7 @@ module _ {G : Type 0} {table : TableView} {becomes : G → Event → G → Type 
       stood : (height_of e < height) × Sure i.0.known (λ s. IsPlaced s (since b.0.known) n step.at e)
       stood = entry (since b.0.known) height there
 
-      both : Reads table becomes 1 (HEAD_WORDS + 1) b i
+      both : Reads table becomes 1 (loads + 1) b i
       both = reads_trans reads one
 
       -- it is lower
@@ -174,7 +174,7 @@ module _ {G : Type 0} {table : TableView} {becomes : G → Event → G → Type 
 
       -- the search has been led to it
       pub led_down : IsAt table becomes a i key e
-      led_down = next_of at n height (shape_of head) step.at is reads seen.shaped spot_is e one stood
+      led_down = next_of at n height (shape_of head) step.at is most reads seen.shaped spot_is e one stood
 
       -- the way has room for the node
       pub way_room : length way < 9 * MAX_BYTES

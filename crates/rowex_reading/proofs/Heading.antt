@@ -1,5 +1,6 @@
 -- What the loads of a node's head tell.
-use Rattle.std.proofs.Common.{◌≡◌, ℕ, ◌<◌, ◌≤◌, List, [], ◌∷◌, length, map, refl, ap, ap₂, sym, ◌∙◌, subst, arith, le_trans}
+use Rattle.std.proofs.Common.{◌≡◌, ℕ, ◌-◌, ◌^◌, ◌<◌, ◌≤◌, ◌++◌, List, [], ◌∷◌, drop, get_or, get_or-take, length, map, replicate, take, refl, ap, ap₂, sym, ◌∙◌, subst, arith, le_trans}
+use Rattle.std.proofs.lemmas.List.{take-append-drop, take-take, take_all}
 use Rattle.compound_node.specs.declared.entries.Entry.{Entry}
 use Rattle.compound_node.specs.declared.entries.Entry.TheVariants.{Leaf, Node}
 use Rattle.compound_node.specs.Nodes.{NodeView, HeadView, IsLawfulNode, head_of, leaves, node_of, piece}
@@ -14,7 +15,11 @@ use Rattle.record_words.specs.declared.layout.Layout.{Layout}
 use Rattle.record_words.specs.Node.{HasHeadWords, head_words}
 use Rattle.record_words.specs.Reading.{IsSpelling}
 use Rattle.record_words.specs.declared.TheConstants.{HEAD_WORDS}
-use Rattle.record_words.proofs.Nodes.{same_head}
+use Rattle.record_words.specs.Kinds.{head_size, kind_in, kind_of}
+use Rattle.record_words.specs.declared.kind.Kind.{Kind}
+use Rattle.record_words.specs.declared.kind.Kind.TheVariants.{Middle, Narrow, Wide}
+use Rattle.record_words.proofs.Nodes.{length-head_words, same_head}
+use Rattle.record_words.proofs.TellingHead.{parts, told}
 use Rattle.tries.specs.Tree.{Tree, leaf, node, fork, subtrie, Subtrie, Fixed}
 use Rattle.tries.specs.Place.{shape}
 use Rattle.versions.specs.declared.Rec.TheVariants.{Node as a_node}
@@ -75,9 +80,9 @@ same_fixed heap n x b (node m y d) r i f = ap (λ z. (heap.nodes z).fixed) (numb
     number : {a b : ℕ} → a_node a ≡ a_node b → a ≡ b
     number e = cc
 
--- All words of a node's head have been loaded.
-module _ (layout : Layout) (k j : Known) (n : ℕ) (words : List ℕ) (possible : IsPossible layout j) (loaded : AreLoaded k j (a_node n) 0 (λ o. o < length words) words)
-    (long : length words ≡ HEAD_WORDS) (m h : ℕ) (led : IsLedTo k m (Node n h)) where
+-- The first words of a node's head have been loaded, which tell all of them.
+module _ (layout : Layout) (k j : Known) (n : ℕ) (part words : List ℕ) (possible : IsPossible layout j) (loaded : AreLoaded k j (a_node n) 0 (λ o. o < length part) part)
+    (short : length part ≤ HEAD_WORDS) (tell : (v : NodeView) → IsLawfulNode v → take (length part) (head_words (head_of v)) ≡ part → head_words (head_of v) ≡ words) (m h : ℕ) (led : IsLedTo k m (Node n h)) where
   -- in each core of which j is true, the words are those of a node's head
   record HeadNow (c : Core) : Type 0 where
     view_now : NodeView
@@ -94,12 +99,13 @@ module _ (layout : Layout) (k j : Known) (n : ℕ) (words : List ℕ) (possible 
       go : IsPacked (a_node n) (c.words (a_node n)) → HeadNow c
       go (v, has, same) =
           let sized : IsSized (a_node n) (c.words (a_node n)) = lawful.records.sized (a_node n) in
-          let are = words_now HEAD_WORDS words (c.words (a_node n)) long (omega (arith, sized.0))
-          (λ o low. word_now k j (a_node n) (λ o. o < length words) words loaded m (led_stood k m (Node n h) led) c lawful known o (omega (arith, low, long)) (omega arith, omega (arith, low)) tt) in
+          let all : head_words (head_of v) ≡ take HEAD_WORDS (c.words (a_node n)) = head_is v (c.words (a_node n)) sized.1 has same in
+          let are : part ≡ take (length part) (c.words (a_node n)) = words_now (length part) part (c.words (a_node n)) refl (omega (arith, sized.0, short))
+          (λ o low. word_now k j (a_node n) (λ o. o < length part) part loaded m (led_stood k m (Node n h) led) c lawful known o low (omega arith, omega (arith, low, short)) tt) in
           record {
             view_now = v;
             lawful_now = has.lawful;
-            spelled = head_is v (c.words (a_node n)) sized.1 has same ∙ sym are;
+            spelled = tell v has.lawful (ap (take (length part)) all ∙ (take-take (length part) HEAD_WORDS (c.words (a_node n)) short ∙ sym are));
             nodes_are = node_is v (c.words (a_node n)) sized.1 has same;
           }
 
@@ -152,8 +158,8 @@ module _ (layout : Layout) (k j : Known) (n : ℕ) (words : List ℕ) (possible 
               same ∙ (ap (λ (z : NodeWords). shape z.subtrie) there.nodes_are ∙ (shape_is there.view_now there.lawful_now ∙ ap shape_of head_same)),
             )
 
-  pub head_read : AreHeadWords j m n h words
-  head_read = record {
+  pub part_read : AreHeadWords j m n h words
+  part_read = record {
     head = its;
     seen = record {
       height = head_height possible.core possible.lawful (recalls possible.core j possible.knows);
@@ -162,6 +168,27 @@ module _ (layout : Layout) (k j : Known) (n : ℕ) (words : List ℕ) (possible 
     };
     words_are = some_now.spelled;
   }
+
+-- All words of a node's head have been loaded.
+pub head_read : (layout : Layout) (k j : Known) (n : ℕ) (words : List ℕ) → IsPossible layout j → AreLoaded k j (a_node n) 0 (λ o. o < length words) words → length words ≡ HEAD_WORDS → (m h : ℕ) → IsLedTo k m (Node n h) → AreHeadWords j m n h words
+head_read layout k j n words possible loaded long m h led =
+    part_read layout k j n words words possible loaded (omega (arith, long))
+    (λ v lawful same. sym (take_all (length words) (head_words (head_of v)) (omega (arith, long, length-head_words v))) ∙ same) m h led
+
+-- Those that say something in its kind have been.
+pub kind_tells : (kind : Kind) (part : List ℕ) → kind_in (get_or part 0 0) ≡ kind → length part ≡ head_size kind → (v : NodeView) → IsLawfulNode v → take (length part) (head_words (head_of v)) ≡ part →
+    head_words (head_of v) ≡ part ++ replicate (HEAD_WORDS - head_size kind) (2 ^ 64 - 1)
+kind_tells kind part is long v lawful same =
+    let whole : List ℕ = head_words (head_of v) in
+    let some : 0 < length part = omega (arith, long, size_some kind) in
+    let its_kind : kind_of v.columns ≡ kind = sym (told v lawful whole refl).kind_told ∙ (ap kind_in (sym (get_or-take (length part) whole 0 0 some) ∙ ap (λ (ws : List ℕ). get_or ws 0 0) same) ∙ is) in
+    let rest : drop (head_size kind) whole ≡ replicate (HEAD_WORDS - head_size kind) (2 ^ 64 - 1) = subst (λ k. drop (head_size k) whole ≡ replicate (HEAD_WORDS - head_size k) (2 ^ 64 - 1)) its_kind (parts v lawful whole refl).rest in
+    sym (take-append-drop (head_size kind) whole) ∙ ap₂ (λ (xs ys : List ℕ). xs ++ ys) (ap (λ n. take n whole) (sym long) ∙ same) rest
+  where
+    size_some : (kind : Kind) → 0 < head_size kind
+    size_some Wide = omega arith
+    size_some Narrow = omega arith
+    size_some Middle = omega arith
 
 -- the words of a head spell it
 pub spelled_so : {k : Known} {m n h : ℕ} {words : List ℕ} → AreHeadWords k m n h words → IsSpelling HasHeadWords head_words words

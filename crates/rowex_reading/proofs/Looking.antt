@@ -167,7 +167,7 @@ module _ {G : Type 0} {table : TableView} {becomes : G → Event → G → Type 
     at_led e is = subst (IsLedTo b.0.known (since b.0.known)) is (way_led d at.way)
 
     -- It is a node, whose forks are known: there is an entry at the key's place.
-    module _ {c : SeatView × G} (n height : ℕ) (forks : Subtrie) (place : ℕ) (is : d ≡ Node n height) (reads : Reads table becomes 0 HEAD_WORDS b c)
+    module _ {c : SeatView × G} (n height : ℕ) (forks : Subtrie) (place : ℕ) (is : d ≡ Node n height) {loads : ℕ} (most : loads ≤ HEAD_WORDS) (reads : Reads table becomes 0 loads b c)
         (shaped : Sure c.0.known (λ s. IsShaped s (since b.0.known) n forks)) (leads : place ≡ spot key forks) where
       way : IsOnWay b.0.known key (Node n height)
       way = subst (IsOnWay b.0.known key) is at.way
@@ -180,10 +180,10 @@ module _ {G : Type 0} {table : TableView} {becomes : G → Event → G → Type 
       next_of {i} e one entry = record {
         height = at.height;
         passed = at.passed + 1;
-        loaded = at.loaded + (HEAD_WORDS + 1);
+        loaded = at.loaded + (loads + 1);
         falls = let f : at.passed + height ≤ at.height = subst (λ z. at.passed + height_of z ≤ at.height) is at.falls in let lower = entry.0 in omega arith;
         low = at.low;
-        few = let f = at.few in omega (arith, f);
+        few = let f = at.few in omega (arith, f, most);
         looks = looks_on at.looks (reads_trans reads one);
         way = way_next n height forks place way reads shaped leads e one entry.1;
       }

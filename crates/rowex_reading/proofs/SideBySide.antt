@@ -152,22 +152,26 @@ pub record HaveGone {G : Type 0} (table : TableView) (becomes : G → Event → 
   pub ways : AreOnWay b.0.known keys tips
   pub entries : ℕ
   pub falls : entries + heights_in tips ≤ heights_in before
-  pub reads : Reads table becomes entries (26 * entries) a b
+  pub loads : ℕ
+  pub few : loads ≤ 26 * entries
+  pub reads : Reads table becomes entries loads a b
   pub lower_is : lower ≡ true → heights_in tips < heights_in before
   pub leaves : lower ≡ false → AreLeaves i tips
 
 module _ {G : Type 0} {table : TableView} {becomes : G → Event → G → Type 0} {keys : List Key} {a b : SeatView × G} {before tips : List Entry} {i : ℕ} {lower : Bool}
     (gone : HaveGone table becomes keys a before i b tips lower) (low : i < length keys) where
   -- one more goes down
-  pub gone_down : {c : SeatView × G} (key : Key) (n h : ℕ) (e : Entry) → slice_get keys i ≡ Some key → get_or tips i (Leaf 0) ≡ Node n h → Reads table becomes 1 26 b c →
+  pub gone_down : {c : SeatView × G} (key : Key) (n h : ℕ) (e : Entry) → slice_get keys i ≡ Some key → get_or tips i (Leaf 0) ≡ Node n h → (m : ℕ) → m ≤ 26 → Reads table becomes 1 m b c →
       (height_of e < h) × IsOnWay c.0.known key e → HaveGone table becomes keys a before (i + 1) c (set tips i e) true
-  gone_down {c} key n h e here is reads entered = record {
+  gone_down {c} key n h e here is m most reads entered = record {
     reader = reader_then gone.reader reads;
     room = length-set tips i e ∙ gone.room;
     ways = ways_more keys tips i key e (ways_on reads keys tips gone.ways) here entered.1;
     entries = gone.entries + 1;
     falls = let f = gone.falls in omega (arith, f, down);
-    reads = subst (λ m. Reads table becomes (gone.entries + 1) m a c) (let z : 26 * gone.entries + 26 ≡ 26 * (gone.entries + 1) = omega arith in z) (reads_trans gone.reads reads);
+    loads = gone.loads + m;
+    few = let f = gone.few in omega (arith, f, most);
+    reads = reads_trans gone.reads reads;
     lower_is = λ _. (let f = gone.falls in omega (arith, f, down));
     leaves = λ no. absurd (let z : true ≡ false = no in cc);
   }
@@ -183,6 +187,8 @@ module _ {G : Type 0} {table : TableView} {becomes : G → Event → G → Type 
     ways = gone.ways;
     entries = gone.entries;
     falls = gone.falls;
+    loads = gone.loads;
+    few = gone.few;
     reads = gone.reads;
     lower_is = gone.lower_is;
     leaves = λ no. leaves_more i tips n (get_or tips i (Leaf 0)) (gone.leaves no) (slice_get-get_or tips i (Leaf 0) (let room = gone.room in omega (arith, low, room))) is;

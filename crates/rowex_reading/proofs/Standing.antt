@@ -1,5 +1,5 @@
 -- What a lawful core says of a record to which a pass was led.
-use Rattle.std.proofs.Common.{◌≡◌, ◌≢◌, inl, inr, ◌⊎◌, ℕ, suc, ◌+◌, ◌-◌, ◌<◌, ◌≤◌, ◌++◌, length, get_or, Option, refl, ap, sym, ◌∙◌, subst, arith, le_trans}
+use Rattle.std.proofs.Common.{◌≡◌, ◌≢◌, inl, inr, ◌⊎◌, ℕ, suc, ◌+◌, ◌-◌, ◌<◌, ◌≤◌, ◌++◌, get_or, Option, refl, ap, sym, ◌∙◌, subst, arith, le_trans}
 use Rattle.std.specs.Prelude.{slice_get}
 use Rattle.std.proofs.lemmas.List.{get_or-append-add}
 use Rattle.compound_node.specs.declared.entries.Entry.{Entry}
@@ -8,7 +8,7 @@ use Rattle.record_words.specs.declared.layout.Layout.{Layout}
 use Rattle.record_words.specs.Entry.{HasEntryWord, entry_word}
 use Rattle.record_words.specs.Node.{head_words, entry_words}
 use Rattle.record_words.proofs.Entries.{entry_words_at}
-use Rattle.record_words.proofs.Fixing.{fixed_words_parts}
+use Rattle.record_words.proofs.Nodes.{length-head_words}
 use Rattle.tries.specs.Tree.{Tree}
 use Rattle.versions.specs.declared.Rec.{Rec}
 use Rattle.versions.specs.declared.Rec.TheVariants.{Node as a_node}
@@ -83,7 +83,7 @@ entry_spelled c n i (v, has, same) small = (
   has.entries.each i,
   sym (entry_words_at v.entries (entry_words v.entries) refl i small) ∙
       (sym (get_or-append-add (head_words (head_of v)) (entry_words v.entries) i 0) ∙
-      (ap (λ z. get_or (head_words (head_of v) ++ entry_words v.entries) (z + i) 0) (fixed_words_parts (length v.rows) v.height v.columns v.rows (head_words (head_of v)) refl).whole ∙
+      (ap (λ z. get_or (head_words (head_of v) ++ entry_words v.entries) (z + i) 0) (length-head_words v) ∙
       (ap (λ z. get_or z (25 + i) 0) same ∙ ap (λ z. get_or (c.words (a_node n)) z 0) (let e : 25 + i ≡ 26 + i - 1 = omega arith in e) ∙ later))),
 )
   where

@@ -1,6 +1,6 @@
 //! The search for a key, from the root down to a leaf, which keeps nothing of its way.
 
-ghost use Rattle.std.specs.Prelude.{◌≡◌, ℕ, IsSome};
+ghost use Rattle.std.specs.Prelude.{◌≡◌, ◌≤◌, ℕ, IsSome};
 ghost use Rattle.compound_node.specs.declared.entries.Entry.TheVariants.{Node as NodeEntry};
 ghost use Rattle.record_words.specs.declared.TheConstants.{HEAD_WORDS};
 ghost use Rattle.version_laws.specs.Scan.{IsShaped};
@@ -58,7 +58,7 @@ pub(crate) fn find_slot<G: Gate>(
     requires reader { IsReader table.now seat.old }
     requires led { (m h : ℕ) × IsLedTo seat.old.known m (NodeEntry node.number h) }
     requires start { IsStartOf table.now.layout (a_node node.number) node.start }
-    ensures reads { Reads table.now G.becomes 0 HEAD_WORDS (seat.old, gate.old) (seat.new, gate.new) }
+    ensures reads { (n : ℕ) × (n ≤ HEAD_WORDS) × Reads table.now G.becomes 0 n (seat.old, gate.old) (seat.new, gate.new) }
     ensures place { (m h : ℕ) → IsLedTo seat.old.known m (NodeEntry node.number h) →
         (forks : Subtrie) × Sure seat.new.known (λ s. IsShaped s m node.number forks) × (result ≡ spot key.now forks) }
 {

@@ -1,11 +1,13 @@
 //! What a pinned pass reads of the tree: the root's entry, the head and the entries of a node, and a leaf.
 
-ghost use Rattle.std.specs.Prelude.{◌≡◌, ◌+◌, ◌*◌, ◌<◌, ◌≤◌, ℕ, length, replicate, take, IfSome, IsSome};
+ghost use Rattle.std.specs.Prelude.{◌≡◌, ◌+◌, ◌*◌, ◌<◌, ◌≤◌, ℕ, length, replicate, slice_index, take, IfSome, IsSome};
 ghost use Rattle.key_bits.specs.Key.{HoldsKey, IsKey};
 ghost use Rattle.key_bits.specs.declared.TheConstants.{MAX_BYTES};
 ghost use Rattle.compound_node.specs.Nodes.{HeadView, height_of};
 ghost use Rattle.compound_node.specs.declared.entries.Entry.TheVariants.{Leaf as LeafEntry, Node as NodeEntry};
 ghost use Rattle.record_words.specs.declared.TheConstants.{HEAD_WORDS, LEAF_FIELDS};
+ghost use Rattle.record_words.specs.HeadParts.{InNodesWith};
+ghost use Rattle.record_words.specs.Kinds.{mask_index};
 ghost use Rattle.version_laws.specs.Scan.{IsPlaced, IsRead};
 ghost use Rattle.rowex_reading.specs.Reads.{IsReader, Reads, ReadsRoot, leaf_loads};
 ghost use Rattle.rowex_reading.specs.Ways.{step_at};
@@ -19,9 +21,10 @@ use compound_node::Entry;
 use insert_cases::PathNode;
 use key_bits::{Key, MAX_BYTES};
 use record_words::{
-    CACHE_LINE_WORDS, FIELDS_OFFSET, FIRST_KEY_WORD, FIRST_POSITIONS, FIRST_ROWS, HEAD_WORDS,
-    KEY_OFFSET, LENGTH_OFFSET, NODE_WORDS, ROW_WORDS, count_key_words, extract_dense_key,
-    first_position_of, key_word_at, read_entry, read_numbers, read_some_entry, search_row_words,
+    CACHE_LINE_WORDS, FIELDS_OFFSET, FIRST_KEY_WORD, FIRST_ROWS, HEAD_WORDS, HeadNumbers,
+    KEY_OFFSET, Kind, LENGTH_OFFSET, MIDDLE_HEAD_WORDS, NARROW_HEAD_WORDS, NODE_WORDS, ROW_WORDS,
+    count_key_words, extract_dense_key, first_position_of, index_of_first_position, key_word_at,
+    read_entry, read_numbers, read_some_entry, search_middle, search_narrow, search_row_words,
     write_key_word,
 };
 use rowex_core::{Gate, Rec, Spot};
@@ -99,12 +102,23 @@ pub fn load_path_node<G: Gate>(
     let mut words = [0; HEAD_WORDS];
     load_head_words(table, seat, gate, number, &mut words);
     let numbers = read_numbers(words[0]);
+    let word = words[index_of_first_position(numbers.kind)];
+    path_node(number, numbers, word, 0)
+}
+
+/// Node `number` as one of a path that takes slot `at`. Its head has `numbers`, and `word` at [`index_of_first_position`].
+#[inline(always)]
+fn path_node(number: u32, numbers: HeadNumbers, word: u64, at: u8) -> PathNode
+    ensures same { (result.number ≡ number) × (result.at ≡ at) }
+    ensures node { InNodesWith numbers (mask_index numbers.kind 0) word (λ node.
+        (result.height ≡ node.height) × (result.count ≡ length node.entries) × (result.first_position ≡ slice_index node.columns 0)) }
+{
     PathNode {
         number,
         height: numbers.height,
-        first_position: first_position_of(words[FIRST_POSITIONS]),
+        first_position: first_position_of(numbers, word),
         count: numbers.count,
-        at: 0,
+        at,
     }
 }
 
@@ -124,8 +138,8 @@ pub(crate) fn touch_entries(table: &HotTable, node: NodeAt)
 
 /// Loads the head of `node` and searches it for `key`. Returns the node of the key's path, with the slot to which the bits of `key` lead.
 ///
-/// All 25 words are loaded, whatever the node's size, so no load waits for another. Nor does the load of an entry, whose line is asked for
-/// here. The rows are loaded last, and stay in registers.
+/// The first word tells the kind of the head. Then as many words are loaded as say something in that kind: 7, 13 or 25 in all, and none waits
+/// for another. Nor does the load of an entry, whose line is asked for here. The rows of a wide head are loaded last, and stay in registers.
 #[inline(always)]
 pub fn search_node<G: Gate>(
     table: &HotTable,
@@ -137,23 +151,51 @@ pub fn search_node<G: Gate>(
     requires reader { IsReader table.now seat.old }
     requires led { (m h : ℕ) × IsLedTo seat.old.known m (NodeEntry node.number h) }
     requires start { IsStartOf table.now.layout (a_node node.number) node.start }
-    ensures reads { Reads table.now G.becomes 0 HEAD_WORDS (seat.old, gate.old) (seat.new, gate.new) }
+    ensures reads { (n : ℕ) × (n ≤ HEAD_WORDS) × Reads table.now G.becomes 0 n (seat.old, gate.old) (seat.new, gate.new) }
     ensures step { (m h : ℕ) → IsLedTo seat.old.known m (NodeEntry node.number h) →
         (head : HeadView) × IsHeadSeen seat.new.known m node.number h head × (result ≡ step_at head node.number (spot key.now (shape_of head))) }
 {
-    let mut front = [0; FIRST_ROWS];
-    load_head_part(table, seat, gate, node, 0, &mut front);
+    let mut first = [0; 1];
+    load_head_part(table, seat, gate, node, 0, &mut first);
     touch_entries(table, node);
-    let dense = extract_dense_key(&front, key);
-    let mut back = [0; ROW_WORDS];
-    load_head_part(table, seat, gate, node, FIRST_ROWS, &mut back);
-    let numbers = read_numbers(front[0]);
-    PathNode {
-        number: node.number,
-        height: numbers.height,
-        first_position: first_position_of(front[FIRST_POSITIONS]),
-        count: numbers.count,
-        at: search_row_words(&back, dense),
+    let numbers = read_numbers(first[0]);
+    match numbers.kind {
+        Kind::Narrow => {
+            let mut words = [first[0]; NARROW_HEAD_WORDS];
+            load_head_part(table, seat, gate, node, 1, &mut words[1..]);
+            let at = search_narrow(&words, key);
+            path_node(
+                node.number,
+                numbers,
+                words[index_of_first_position(Kind::Narrow)],
+                at,
+            )
+        }
+        Kind::Middle => {
+            let mut words = [first[0]; MIDDLE_HEAD_WORDS];
+            load_head_part(table, seat, gate, node, 1, &mut words[1..]);
+            let at = search_middle(&words, key);
+            path_node(
+                node.number,
+                numbers,
+                words[index_of_first_position(Kind::Middle)],
+                at,
+            )
+        }
+        Kind::Wide => {
+            let mut front = [first[0]; FIRST_ROWS];
+            load_head_part(table, seat, gate, node, 1, &mut front[1..]);
+            let dense = extract_dense_key(&front, key);
+            let mut back = [0; ROW_WORDS];
+            load_head_part(table, seat, gate, node, FIRST_ROWS, &mut back);
+            let at = search_row_words(&back, dense);
+            path_node(
+                node.number,
+                numbers,
+                front[index_of_first_position(Kind::Wide)],
+                at,
+            )
+        }
     }
 }
 

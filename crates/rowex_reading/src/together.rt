@@ -95,8 +95,8 @@ fn go_down<G: Gate>(
     requires reader { IsReader table.now seat.old }
     requires room { length tips.old ≡ length keys.now }
     requires ways { AreOnWay seat.old.known keys.now tips.old }
-    ensures reads { (entries : ℕ) × (entries + heights_in tips.new ≤ heights_in tips.old)
-        × Reads table.now G.becomes entries (26 * entries) (seat.old, gate.old) (seat.new, gate.new) }
+    ensures reads { (entries loads : ℕ) × (entries + heights_in tips.new ≤ heights_in tips.old) × (loads ≤ 26 * entries)
+        × Reads table.now G.becomes entries loads (seat.old, gate.old) (seat.new, gate.new) }
     ensures ways { AreOnWay seat.new.known keys.now tips.new }
     ensures lower { result ≡ true → heights_in tips.new < heights_in tips.old }
     ensures leaves { result ≡ false → AreLeaves (length keys.now) tips.new }
@@ -123,7 +123,7 @@ fn enter_node<G: Gate>(
 ) -> Entry
     requires reader { IsReader table.now seat.old }
     requires way { (h : ℕ) × IsOnWay seat.old.known key.now (NodeEntry number h) }
-    ensures reads { Reads table.now G.becomes 1 26 (seat.old, gate.old) (seat.new, gate.new) }
+    ensures reads { (n : ℕ) × (n ≤ 26) × Reads table.now G.becomes 1 n (seat.old, gate.old) (seat.new, gate.new) }
     ensures entry { (h : ℕ) → IsOnWay seat.old.known key.now (NodeEntry number h) → (height_of result < h) × IsOnWay seat.new.known key.now result }
 {
     let start = table.start_of(Rec::Node(number));

@@ -6,7 +6,7 @@ ghost use Rattle.record_words.specs.Layout.{leaf_size};
 ghost use Rattle.record_words.specs.Leaf.{leaf_words, words_for};
 ghost use Rattle.record_words.specs.Node.{HasNodeWords, node_words};
 ghost use Rattle.record_words.specs.Reading.{IsSpelling};
-ghost use Rattle.record_words.specs.declared.TheConstants.{LEAF_FIELDS};
+ghost use Rattle.record_words.specs.declared.TheConstants.{FIRST_POSITIONS, FIRST_ROWS, LEAF_FIELDS};
 ghost use Rattle.rowex_core.specs.Cores.{FitsIn, HasRecord, HasWord};
 ghost use Rattle.rowex_core.specs.Events.{IsOffset};
 ghost use Rattle.rowex_table.specs.Rights.{IsClaimed};
@@ -17,8 +17,9 @@ ghost use Rattle.rowex_records.specs.Records.{HaveBelow, IsBehindValue, IsFilled
 
 use key_bits::Key;
 use record_words::{
-    FIELDS_OFFSET, FIRST_ENTRY, FIRST_POSITIONS, FIRST_ROWS, HEAD_WORDS, KEY_OFFSET, LENGTH_OFFSET,
-    NODE_FIELDS, NUMBERS_OFFSET, VALUE_OFFSET, count_key_words, key_word_at, read_numbers,
+    FIELDS_OFFSET, FIRST_ENTRY, FIRST_POSITIONS, FIRST_ROWS, HEAD_WORDS, KEY_OFFSET, Kind,
+    LENGTH_OFFSET, NODE_FIELDS, NUMBERS_OFFSET, VALUE_OFFSET, count_key_words, key_word_at,
+    read_numbers,
 };
 use rowex_core::{Gate, Rec};
 use rowex_table::{HotTable, NodeAt, RecordAt, TableSeat};
@@ -59,7 +60,7 @@ pub fn fill_leaf<G: Gate>(
 
 /// Fills the claimed node record `number` with `words`, those of a node but its state, in a step or two for each. A word in which the
 /// node has nothing is loaded, and stored only where another stands.
-#[tactic(auto, using(crate::proofs::Used::spelled_positions, crate::proofs::Used::spelled_rows, crate::proofs::Used::spelled_entries))]
+#[tactic(auto, using(crate::proofs::Used::spelled_entries))]
 pub fn fill_node<G: Gate>(
     table: &HotTable,
     seat: &mut TableSeat,
@@ -77,10 +78,8 @@ pub fn fill_node<G: Gate>(
 {
     let rec = Rec::Node(number);
     let start = table.start_of(rec);
-    let numbers = read_numbers(words[0]);
-    let positions = numbers.positions_end();
-    let rows = numbers.rows_end();
-    let leads = numbers.entries_end();
+    let (columns, rows) = used_ends(words);
+    let leads = read_numbers(words[0]).entries_end();
     store_word(
         table,
         seat,
@@ -90,13 +89,34 @@ pub fn fill_node<G: Gate>(
         words[0],
     );
     let node = NodeAt { number, start };
-    set_eight_words(table, seat, gate, node, words, FIRST_POSITIONS..positions);
+    set_eight_words(table, seat, gate, node, words, FIRST_POSITIONS..columns);
     set_eight_words(table, seat, gate, node, words, FIRST_ROWS..rows);
     set_eight_words(table, seat, gate, node, words, FIRST_ROWS + 8..rows);
     set_eight_words(table, seat, gate, node, words, HEAD_WORDS..leads);
     set_eight_words(table, seat, gate, node, words, HEAD_WORDS + 8..leads);
     set_eight_words(table, seat, gate, node, words, HEAD_WORDS + 16..leads);
     set_eight_words(table, seat, gate, node, words, HEAD_WORDS + 24..leads);
+}
+
+/// The index behind the last word with columns in which the node of `words` has something, and that behind the last such word with rows. In a
+/// near head the columns fill all their words, and the two are the same. A word of rows that is all ones counts to those with nothing.
+#[inline(always)]
+fn used_ends(words: &[u64; NODE_FIELDS]) -> (usize, usize)
+    requires { IsSpelling HasNodeWords node_words words.now }
+    ensures columns { HaveBelow words.now FIRST_POSITIONS result.0 }
+    ensures rows { HaveBelow words.now FIRST_ROWS result.1 × HaveBelow words.now (FIRST_ROWS + 8) result.1 }
+{
+    let numbers = read_numbers(words[0]);
+    let all = numbers.rows_end();
+    let rows = if words[all - 1] == u64::MAX {
+        all - 1
+    } else {
+        all
+    };
+    match numbers.kind {
+        Kind::Wide => (numbers.columns_end(), rows),
+        _ => (rows, rows),
+    }
 }
 
 /// Fills eight words of the claimed node record `node`, with those of `words` from index `used.start` on. The node has something in those

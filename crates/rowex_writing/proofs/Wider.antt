@@ -153,12 +153,12 @@ module _ {G : Type 0} (table : TableView) (becomes : G → Event → G → Type 
       let (locks, tried, least, most, few) = tries a (nodes_then table becomes nodes a b m h run) in (locks, tried, least, most, omega (arith, few, before))
 
   -- and then some more
-  pub few_then : (nodes : List ℕ) (left more : ℕ) (b c d : SeatView × G) → TriesFew table becomes nodes left 60 b c → HasTried table becomes [] c d → d.0.known.steps + 60 ≤ c.0.known.steps + more → TriesFew table becomes nodes left more b d
+  pub few_then : (nodes : List ℕ) (left more : ℕ) (b c d : SeatView × G) → TriesFew table becomes nodes left 63 b c → HasTried table becomes [] c d → d.0.known.steps + 63 ≤ c.0.known.steps + more → TriesFew table becomes nodes left more b d
   few_then nodes left more b c d tries rest few a h =
       let (locks, tried, least, most, spent) = tries a h in (locks, once_then table becomes a c d tried rest, least, most, omega (arith, few, spent))
 
   -- so for a removal, once what is left of the lower node is made
-  pub removal_changes : (job : Job) (t : IsTaking table job) (left more : ℕ) (b m c : SeatView × G) → more ≤ 81 → HasTried table becomes [] b m → m.0.known.steps + 2 * left ≤ b.0.known.steps + 2 * table.layout.nodes + level_steps + 1 →
+  pub removal_changes : (job : Job) (t : IsTaking table job) (left more : ℕ) (b m c : SeatView × G) → more ≤ 84 → HasTried table becomes [] b m → m.0.known.steps + 2 * left ≤ b.0.known.steps + 2 * table.layout.nodes + level_steps + 1 →
       TriesFew table becomes (span_numbers job.way.now job.span) left more m c → ChangesOn table becomes (span_numbers job.way.now job.span) 1 b c
   removal_changes job t left more b m c upto run walk tries a h =
       let (locks, tried, least, most, few) = tries a (nodes_then table becomes (span_numbers job.way.now job.span) a b m h run) in

@@ -3,6 +3,7 @@
 ghost use Rattle.std.specs.Prelude.{◌≡◌, ◌<◌, ℕ, List, get_or, length, replicate, ◌≤◌, ◌+◌};
 ghost use Rattle.compound_node.specs.Beside.{IsBesideIn};
 ghost use Rattle.compound_node.specs.Nodes.{NodeView};
+ghost use Rattle.record_words.specs.HeadParts.{AreNumbersOf};
 ghost use Rattle.record_words.specs.Packed.{position_at, row_at};
 ghost use Rattle.versions.specs.declared.Rec.TheVariants.{Node as a_node};
 ghost use Rattle.tries.specs.Place.{entry_at};
@@ -16,8 +17,8 @@ ghost use Rattle.rowex_writing.specs.Loads.{ReadsEight};
 
 use compound_node::{Entry, Node, find_sibling};
 use record_words::{
-    FIELDS_OFFSET, HEAD_WORDS, MAX_ENTRIES, NODE_FIELDS, index_of_position, index_of_row,
-    position_of, read_node, read_numbers, read_some_entry, row_of,
+    FIELDS_OFFSET, HEAD_WORDS, HeadNumbers, MAX_ENTRIES, NODE_FIELDS, read_node, read_numbers,
+    read_some_entry,
 };
 use rowex_core::{Gate, Rec, Spot};
 use rowex_table::{HotTable, NodeAt, TableSeat};
@@ -60,31 +61,51 @@ pub(crate) fn load_locked_node_words<G: Gate>(
     load_eight_words(table, seat, gate, loads, words, HEAD_WORDS + 24);
 }
 
-/// Loads the row of slot `at` of the locked node `node`; 4,294,967,295 for an unused slot, and past the last one.
+/// Loads the first word of the locked node `node`, and returns the numbers in it.
+#[inline(always)]
+fn load_numbers<G: Gate>(
+    table: &HotTable,
+    seat: &mut TableSeat,
+    gate: &mut G,
+    node: NodeAt,
+) -> HeadNumbers
+    requires own { IsSeatOf table.now seat.old }
+    requires start { IsStartOf table.now.layout (a_node node.number) node.start }
+    ensures own { IsSeatOf table.now seat.new }
+    ensures reads { ReadsOn table.now G.becomes (seat.old, gate.old) (seat.new, gate.new) }
+    ensures numbers { (view : NodeView) → HasLockedNode seat.old.known node.number view → AreNumbersOf result view }
+    ensures few { seat.new.known.steps ≤ seat.old.known.steps + 1 }
+{
+    read_numbers(load_locked_word(table, seat, gate, node, 0))
+}
+
+/// Loads the row of slot `at` of the locked node `node`, whose head has `numbers`; 4,294,967,295 for an unused slot, and past the last one.
 #[inline(always)]
 fn load_row<G: Gate>(
     table: &HotTable,
     seat: &mut TableSeat,
     gate: &mut G,
     node: NodeAt,
+    numbers: HeadNumbers,
     at: u8,
 ) -> u32
     requires own { IsSeatOf table.now seat.old }
     requires start { IsStartOf table.now.layout (a_node node.number) node.start }
     ensures own { IsSeatOf table.now seat.new }
     ensures reads { ReadsOn table.now G.becomes (seat.old, gate.old) (seat.new, gate.new) }
-    ensures row { (view : NodeView) → HasLockedNode seat.old.known node.number view → result ≡ row_at view.rows at }
+    ensures row { (view : NodeView) → HasLockedNode seat.old.known node.number view → AreNumbersOf numbers view → result ≡ row_at view.rows at }
     ensures few { seat.new.known.steps ≤ seat.old.known.steps + 1 }
 {
     if at as usize >= MAX_ENTRIES {
         return u32::MAX;
     }
-    let index = index_of_row(at);
-    row_of(load_locked_word(table, seat, gate, node, index), at)
+    let index = numbers.index_of_row(at);
+    let word = load_locked_word(table, seat, gate, node, index);
+    numbers.row_of(word, at)
 }
 
 /// Returns the slot beside slot `at` of the locked node `number`, and the column of the fork between the two. `None` if the other side
-/// of the last fork on the path to `at` has several slots. At most four rows are loaded.
+/// of the last fork on the path to `at` has several slots. The numbers and at most four rows are loaded.
 pub(crate) fn load_sibling<G: Gate>(
     table: &HotTable,
     seat: &mut TableSeat,
@@ -97,14 +118,15 @@ pub(crate) fn load_sibling<G: Gate>(
     requires place { at < 32 }
     ensures reads { ReadsOn table.now G.becomes (seat.old, gate.old) (seat.new, gate.new) }
     ensures beside { (node : NodeView) → HasLockedNode seat.old.known number node → at < length node.entries → IsBesideIn node at result }
-    ensures few { seat.new.known.steps ≤ seat.old.known.steps + 4 }
+    ensures few { seat.new.known.steps ≤ seat.old.known.steps + 5 }
 {
     let start = table.start_of(Rec::Node(number));
     let node = NodeAt { number, start };
-    let before = load_row(table, seat, gate, node, at.saturating_sub(1));
-    let own = load_row(table, seat, gate, node, at);
-    let after = load_row(table, seat, gate, node, at + 1);
-    let second = load_row(table, seat, gate, node, at + 2);
+    let numbers = load_numbers(table, seat, gate, node);
+    let before = load_row(table, seat, gate, node, numbers, at.saturating_sub(1));
+    let own = load_row(table, seat, gate, node, numbers, at);
+    let after = load_row(table, seat, gate, node, numbers, at + 1);
+    let second = load_row(table, seat, gate, node, numbers, at + 2);
     find_sibling(at, before, own, after, second)
 }
 
@@ -121,12 +143,16 @@ pub(crate) fn load_position<G: Gate>(
     requires column { column < 31 }
     ensures reads { ReadsOn table.now G.becomes (seat.old, gate.old) (seat.new, gate.new) }
     ensures position { (node : NodeView) → HasLockedNode seat.old.known number node → result ≡ position_at node.columns column }
-    ensures few { seat.new.known.steps ≤ seat.old.known.steps + 1 }
+    ensures few { seat.new.known.steps ≤ seat.old.known.steps + 3 }
 {
     let start = table.start_of(Rec::Node(number));
     let node = NodeAt { number, start };
-    let index = index_of_position(column);
-    position_of(load_locked_word(table, seat, gate, node, index), column)
+    let numbers = load_numbers(table, seat, gate, node);
+    let index = numbers.index_of_position(column);
+    let word = load_locked_word(table, seat, gate, node, index);
+    let mask = numbers.index_of_mask(column);
+    let masks = load_locked_word(table, seat, gate, node, mask);
+    numbers.position_of(word, masks, column)
 }
 
 /// Loads the entry in slot `place` of the locked node `number`, which has that slot.

@@ -76,7 +76,7 @@ pub(crate) fn plan_merge<G: Gate>(
     requires takes { TakesOn table.now seat.old job.now }
     ensures reads { ReadsOn table.now G.becomes (seat.old, gate.old) (seat.new, gate.new) }
     ensures beside { IfSome result (λ m. IsNeighbour seat.new.known job.now m × (build.now.made.items ≡ a_node m.made ∷ [])) }
-    ensures few { seat.new.known.steps ≤ seat.old.known.steps + 7 }
+    ensures few { seat.new.known.steps ≤ seat.old.known.steps + 10 }
 {
     let Some(number) = sole_node(build.made.as_slice()) else {
         return None;
@@ -143,7 +143,7 @@ fn find_merge<G: Gate>(
     requires takes { TakesOn table.now seat.old job.now }
     ensures reads { ReadsOn table.now G.becomes (seat.old, gate.old) (seat.new, gate.new) }
     ensures beside { IfSome result (λ m. IsNeighbour seat.new.known job.now m × (m.made ≡ made)) }
-    ensures few { seat.new.known.steps ≤ seat.old.known.steps + 7 }
+    ensures few { seat.new.known.steps ≤ seat.old.known.steps + 10 }
 {
     let (above, low) = (job.way[job.span.end - 1], job.way[job.span.end]);
     if low.count > 31 {

@@ -4,7 +4,7 @@ ghost use Rattle.std.specs.Prelude.{◌≡◌};
 
 use crate::nodes::{comb_node, expect_node, node_of_three};
 use compound_node::{Entry, Node};
-use record_words::{FIRST_ROWS, NODE_FIELDS, close_fork, pack_node, position_of, row_of};
+use record_words::{NODE_FIELDS, close_fork, pack_node, read_numbers};
 use std::process::Abort;
 
 /// The node of height 2 of children 10 and 11 and leaf 12, with these rows and forks at the positions 4 and 6. Panics if there is none.
@@ -141,7 +141,8 @@ fn close_fork_at(rt: &impl Abort, node: &Node, at: u8) -> (Option<Entry>, [u64; 
 fn one_entry_takes_the_place_of_two(rt: HostRuntime) {
     let last = node_of_two_children_and_leaf(&rt, [0, 0x4000_0000, 0x8000_0000]);
     let want = pack_node(&Node::pair(4, child_entry(20), Entry::Leaf(12)));
-    assert!(rt; want[0] == 131_330 && want[1] == 0xffff_ffff_ffff_0004 && want[9] == 1 << 63);
+    assert!(rt; want[0] == (1 << 40) + 131_330 && want[1] == 0);
+    assert!(rt; want[2] == 16 << 56 && want[3] == 0xffff_ffff_ffff_8000);
     for at in 0..2 {
         let (left, words) = close_fork_at(&rt, &last, at);
         assert!(rt; left.is_none() && words == want, "{at}");
@@ -159,18 +160,20 @@ fn one_entry_takes_the_place_of_two(rt: HostRuntime) {
     }
 }
 
-/// `row_of` reads the half of a word by the slot, and `position_of` the quarter by the column.
+/// In a wide head `row_of` reads the half of a word by the slot, and `position_of` the quarter by the column.
 #[test]
 fn rows_and_positions_are_read(rt: HostRuntime) {
     let words = pack_node(&comb_node(&rt, &POSITIONS));
+    let numbers = read_numbers(words[0]);
     for at in 0..32u8 {
-        let row = row_of(words[FIRST_ROWS + at as usize / 2], at);
+        let row = numbers.row_of(words[numbers.index_of_row(at)], at);
         assert!(rt; row == !(u32::MAX >> at), "{at}");
     }
     for column in 0..31u8 {
-        let position = position_of(words[1 + column as usize / 4], column);
+        let word = words[numbers.index_of_position(column)];
+        let position = numbers.position_of(word, words[numbers.index_of_mask(column)], column);
         assert!(rt; position == u16::from(column), "{column}");
     }
-    assert!(rt; row_of(0xc000_0000_8000_0000, 7) == 0xc000_0000);
-    assert!(rt; position_of(0xffff_0008_0006_0004, 9) == 6);
+    assert!(rt; numbers.row_of(0xc000_0000_8000_0000, 7) == 0xc000_0000);
+    assert!(rt; numbers.position_of(0xffff_0008_0006_0004, 0, 9) == 6);
 }

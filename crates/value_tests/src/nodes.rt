@@ -230,10 +230,10 @@ fn a_node_with_room_grows_whole(rt: HostRuntime) {
 /// The words of the node of the keys a, b and c over the leaves 0, 1 and 2, from offset 1 on.
 pub fn words_of_three() -> [u64; NODE_FIELDS] {
     let mut words = [u64::MAX; NODE_FIELDS];
-    words[0] = 0x1_0203;
-    words[1] = 0xffff_ffff_0008_0007;
-    words[9] = 0x8000_0000_0000_0000;
-    words[10] = 0xffff_ffff_c000_0000;
+    words[0] = 0x100_0001_0203;
+    words[1] = 0;
+    words[2] = 0x0201_0000_0000_0000;
+    words[3] = 0xffff_ffff_ffc0_8000;
     for i in 25..NODE_FIELDS {
         words[i] = 0;
     }
@@ -339,15 +339,19 @@ fn leaves_are_read_up_to_the_end_of_their_keys(rt: HostRuntime) {
     }
 }
 
-/// A node with a wrong count, unused position, row or entry, or low bit of a row is refused. So is a head of zeros; the node's own is read.
+/// A node with a wrong count, kind, mask, unused row or word, or entry, or with a low bit of a row, is refused. So is a head of zeros; the
+/// node's own is read.
 #[test]
 fn other_words_of_nodes_are_refused(rt: HostRuntime) {
     for (at, word) in [
-        (0, 0x1_0204),
+        (0, 0x100_0001_0204),
+        (0, 0x1_0203),
+        (0, 0x200_0001_0203),
         (2, 0),
+        (3, 0xfeff_ffff_ffc0_8000),
         (24, 0),
         (56, 1),
-        (9, 0x8000_0000_0000_0001),
+        (3, 0xffff_ffff_ffc0_8100),
     ] {
         let mut words = words_of_three();
         words[at] = word;

@@ -75,7 +75,7 @@ fn other_words_show_other_trees_or_none(rt: HostRuntime) {
     .enumerate()
     {
         let mut words = words_of_three();
-        words[0] = 0x203 | *below << 16;
+        words[0] = 0x100_0000_0203 | *below << 16;
         words[26] = *second;
         words[27] = *third;
         let (number, height) = (*number, *height);

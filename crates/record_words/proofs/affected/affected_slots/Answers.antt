@@ -1,8 +1,6 @@
 -- The rows that agree with one in the columns below a position stand side by side: they are counted from both sides.
-use Rattle.std.proofs.Common.{◌≡◌, ◌∙◌, ◌+◌, ◌-◌, ◌*◌, ◌/◌, ◌%◌, ◌^◌, ◌<◌, ◌≤◌, List, ℕ, ap, ap₂, arith, bit_and, bit_or, count_by, drop, get_or, length, length-drop, min, nat_lt, sym}
-use Rattle.std.proofs.lemmas.List.{get_or_default, take_all}
-use Rattle.std.proofs.lemmas.Simd.{get_or-chunk}
-use lib.Lanes.{chunk}
+use Rattle.std.proofs.Common.{◌≡◌, ◌∙◌, ◌+◌, ◌-◌, ◌*◌, ◌/◌, ◌^◌, ◌<◌, ◌≤◌, ℕ, ap, ap₂, arith, bit_and, bit_or, count_by, get_or, length, min, nat_lt}
+use Rattle.std.proofs.lemmas.List.{get_or_default}
 use Rattle.std.proofs.lemmas.Nat.{and_mask, pow_pos, shr_split}
 use Rattle.std.proofs.lemmas.Nat.Bits.{and_high_mask, ones_shr}
 use Rattle.std.specs.Int.Bits.{or_add_and}
@@ -13,19 +11,10 @@ use Rattle.pieces.specs.Growth.{affected_count, affected_first}
 use Rattle.pieces.specs.Positions.{front_below}
 use Rattle.record_words.specs.Node.{head_words}
 use Rattle.record_words.proofs.Fronts.{affected_by_counts, columns_below, end_some, few_below, rows_in_front}
-use Rattle.record_words.proofs.Lanes.{place_lanes_read}
 use Rattle.record_words.proofs.Lawful.{row-lt}
 use Rattle.record_words.proofs.Spelled.{count_read, its, lawful_its, same_its}
 use Rattle.record_words.proofs.affected.affected_slots.Goals as goal
 use Rattle.record_words.proofs.affected.affected_slots.Goals.{After-min-end}
-
--- how many of its columns are below the position
-columns_are : (words places : List ℕ) (position n : ℕ) → position < 2 ^ 16 → n ≡ front_below position places → length places ≡ 32 →
-    ((i : ℕ) → i < 32 → get_or places i 0 ≡ get_or (chunk 1 8 words) (i / 4) 0 / 2 ^ (16 * (i % 4)) % 2 ^ 16) →
-    (node : NodeView) → IsLawfulNode node → head_words (head_of node) ≡ words → n ≡ front_below position node.columns
-columns_are words places position n small counted long each node lawful same =
-    counted ∙ columns_below node lawful position places small
-    (place_lanes_read node lawful words places same long (λ i l. each i l ∙ ap (λ w. w / 2 ^ (16 * (i % 4)) % 2 ^ 16) (get_or-chunk 1 8 words (i / 4) 0 (omega (arith, l)))))
 
 -- the bounds of the run
 module _ (c : After-min-end) (node : NodeView) (lawful : IsLawfulNode node) (same : head_words (head_of node) ≡ c.args.words.now) where
@@ -36,8 +25,7 @@ module _ (c : After-min-end) (node : NodeView) (lawful : IsLawfulNode node) (sam
   row = get_or node.rows c.args.found 0
 
   below : n ≡ front_below c.args.position node.columns
-  below = columns_are c.args.words.now c.split_into_quarters-positions.result c.args.position n c.ranges.position.fits c.count_below.ensures c.split_into_quarters-positions.ensures.whole c.split_into_quarters-positions.ensures.each
-      node lawful same
+  below = c.count_below.ensures ∙ columns_below node lawful c.args.position c.positions_in-positions.result c.ranges.position.fits (c.positions_in-positions.ensures node lawful same)
 
   few : n ≤ 31
   few = omega (arith, below, few_below node lawful c.args.position)
@@ -63,9 +51,7 @@ module _ (c : After-min-end) (node : NodeView) (lawful : IsLawfulNode node) (sam
       omega (arith, same_or, sums, masked, parts, some)
 
   rows_are : c.rows_in-rows.result ≡ with_unused node.rows
-  rows_are =
-      let words = c.args.words.now in
-      c.rows_in-rows.ensures node lawful (ap (drop 9) same ∙ sym (take_all (length words - 9) (drop 9 words) (omega (arith, length-drop 9 words))))
+  rows_are = c.rows_in-rows.ensures node lawful same
 
   first_is : c.count_rows_below-first.result ≡ front_below (row / 2 ^ (32 - n) * 2 ^ (32 - n)) (with_unused node.rows)
   first_is =
@@ -86,9 +72,9 @@ module _ (c : After-min-end) (node : NodeView) (lawful : IsLawfulNode node) (sam
 pub overflow_shr-rest : goal.overflow_shr-rest
 overflow_shr-rest c =
     let words = c.args.words.now in let given = c.requires.spelling in
-    let below = columns_are words c.split_into_quarters-positions.result c.args.position c.count_below.result c.ranges.position.fits c.count_below.ensures
-    c.split_into_quarters-positions.ensures.whole c.split_into_quarters-positions.ensures.each (its words given) (lawful_its words given) (same_its words given) in
-    omega (arith, below, few_below (its words given) (lawful_its words given) c.args.position)
+    let node = its words given in let lawful = lawful_its words given in
+    let below = c.count_below.ensures ∙ columns_below node lawful c.args.position c.positions_in-positions.result c.ranges.position.fits (c.positions_in-positions.ensures node lawful (same_its words given)) in
+    omega (arith, below, few_below node lawful c.args.position)
 
 pub overflow_sub-result : goal.overflow_sub-result
 overflow_sub-result c =

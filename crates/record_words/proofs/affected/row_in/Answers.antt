@@ -1,6 +1,20 @@
 -- It is read of its word.
-use Rattle.std.proofs.Common.{◌+◌, ◌/◌, ◌∙◌, ap, get_or, sym}
+use Rattle.std.proofs.Common.{ℕ, ◌+◌, ◌/◌, ◌<◌, ◌∙◌, ap, arith, get_or, sym}
+use Rattle.record_words.specs.Kinds.{rows_a_word, rows_from}
+use Rattle.record_words.specs.declared.kind.Kind.{Kind}
+use Rattle.record_words.specs.declared.kind.Kind.TheVariants.{Middle, Narrow, Wide}
 use Rattle.record_words.proofs.affected.row_in.Goals as goal
 
+row_index-lt : (kind : Kind) (at : ℕ) → at < 32 → rows_from kind + at / rows_a_word kind < 25
+row_index-lt Wide at low = omega (arith, low)
+row_index-lt Narrow at low = omega (arith, low)
+row_index-lt Middle at low = omega (arith, low)
+
+pub bounds-words-index_of_row : goal.bounds-words-index_of_row
+bounds-words-index_of_row c = omega (arith, c.requires.0, c.index_of_row.ensures, row_index-lt c.read_numbers-numbers.result.kind c.args.at c.requires.1)
+
 pub returns : goal.returns
-returns c = λ node lawful same. c.row_of.ensures node lawful (ap (λ words. get_or words (9 + c.args.at / 2) 0) same ∙ ap (λ i. get_or c.args.words.now i 0) (sym c.index_of_row.ensures))
+returns c = λ node lawful same.
+    let numbers = c.read_numbers-numbers.result in
+    c.row_of.ensures node lawful (c.read_numbers-numbers.ensures.node node lawful (ap (λ words. get_or words 0 0) same))
+    (ap (λ words. get_or words (rows_from numbers.kind + c.args.at / rows_a_word numbers.kind) 0) same ∙ ap (λ i. get_or c.args.words.now i 0) (sym c.index_of_row.ensures))

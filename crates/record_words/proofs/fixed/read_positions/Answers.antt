@@ -1,12 +1,14 @@
 -- The places are those of the columns.
-use Rattle.std.proofs.Common.{arith}
-use Rattle.std.proofs.lemmas.Nat.{and_mask}
-use Rattle.record_words.proofs.Spelled.{one_more_written, places_read}
+use Rattle.std.proofs.Common.{◌∙◌, ap, arith, sym, take}
+use Rattle.std.proofs.lemmas.List.{length-take-le}
+use Rattle.record_words.proofs.Spelled.{places_taken}
 use Rattle.record_words.proofs.fixed.read_positions.Goals as goal
 
-pub loop-i-preserved : goal.loop-i-preserved
-loop-i-preserved c = one_more_written _ _ c.loop-i.positions c.loop-i.i _ c.loop-i-test.true c.loop-i.invariant (and_mask _ 16)
+pub slice_bounds-copy_from_slice-end-3 : goal.slice_bounds-copy_from_slice-end-3
+slice_bounds-copy_from_slice-end-3 c = sym (length-take-le 31 c.positions_in.result (omega arith))
+
+pub copy_from_slice-requires : goal.copy_from_slice-requires
+copy_from_slice-requires c = sym (length-take-le 31 c.positions_in.result (omega arith))
 
 pub returns : goal.returns
-returns c = λ node lawful same.
-    places_read node lawful c.args.words.now same c.loop-i.positions c.loop-i.invariant.0 (λ k few. c.loop-i.invariant.1 k (omega arith))
+returns c = λ node lawful same. c.copy_from_slice.ensures.after ∙ (ap (take 31) (c.positions_in.ensures node lawful same) ∙ places_taken node.columns lawful.positions.few)

@@ -1,20 +1,17 @@
 -- Where the position is a column, the rows alone change.
-use Rattle.std.proofs.Common.{ℕ, ◌≡◌, ◌*◌, ◌+◌, ◌/◌, ◌%◌, ◌^◌, ◌<◌, ◌≤◌, ◌∙◌, ap, arith, get_or, get_or-set_other, get_or-set_same, length, rules, sym, true, inl}
+use Rattle.std.proofs.Common.{◌≡◌, ◌≤◌, ◌∙◌, ap, arith, get_or-set_other, get_or-set_same, length, rules, sym, true, inl}
 use Rattle.compound_node.specs.Nodes.{NodeView}
 use Rattle.partial_keys.proofs.Reaching.{front_below-le}
 use Rattle.pieces.specs.Positions.{front_below, has}
+use Rattle.record_words.specs.Kinds.{kind_in}
 use Rattle.record_words.specs.Node.{CanGrowAt}
-use Rattle.record_words.proofs.Forking.{column_found, eight_of, few_numbers, front_is, has_fork, in_range, ordered, room}
-use Rattle.record_words.proofs.Nodes.{rows_part}
+use Rattle.record_words.proofs.Forking.{column_found, few_numbers, front_is, has_fork, in_range, kind_stays, ordered, room, some_before_rows}
+use Rattle.record_words.proofs.Nodes.{head_part}
 use Rattle.record_words.proofs.node.add_fork.Goals as goal
 use Rattle.record_words.proofs.node.add_fork.Goals.{After-count_below}
 
--- each lane has its part of its word
-part : (c : After-count_below) → (i : ℕ) → i < 32 → get_or c.split_into_quarters-positions.result i 0 ≡ get_or c.args.words.now (1 + i / 4) 0 / 2 ^ (16 * (i % 4)) % 2 ^ 16
-part c i low = c.split_into_quarters-positions.ensures.each i low ∙ ap (λ w. w / 2 ^ (16 * (i % 4)) % 2 ^ 16) (eight_of c.args.words.now 57 (i / 4) (omega arith) (omega (arith, low)))
-
 place : (c : After-count_below) → (node : NodeView) → CanGrowAt c.args.words.now node c.args.position c.args.first c.args.last → c.count_below.result ≡ front_below c.args.position node.columns
-place c node g = c.count_below.ensures ∙ front_is g c.requires.below c.split_into_quarters-positions.result c.split_into_quarters-positions.ensures.whole (part c)
+place c node g = c.count_below.ensures ∙ front_is g c.requires.below c.positions_in-positions.result (c.positions_in-positions.ensures node g.has.lawful (head_part node c.args.words.now g.spells))
 
 few : (c : After-count_below) → c.count_below.result ≤ 31
 few c = let (node, g) = c.requires.growing in omega (arith, place c node g, front_below-le c.args.position node.columns, g.has.lawful.positions.few)
@@ -39,10 +36,11 @@ returns c = λ node g.
     let at = c.count_below.result in
     let long : length words ≡ 57 = search rules in
     let whole : length out ≡ 57 = search rules in
+    let numbers = c.read_numbers-kind.result in
     let column : has node.columns c.args.position ≡ true =
-    column_found g c.requires.below c.split_into_quarters-positions.result c.split_into_quarters-positions.ensures.whole (part d) (sym c.has_lane.ensures ∙ c.if-not-has_lane.false) in
+    column_found g c.requires.below c.positions_in-positions.result (c.positions_in-positions.ensures node g.has.lawful (head_part node words g.spells)) (sym c.has_lane.ensures ∙ c.if-not-has_lane.false) in
     has_fork g c.requires.below c.args.bit column at c.rows_in-rows.result c.fork_rows-rows.result (few d) (place d node g)
-    (c.rows_in-rows.ensures node g.has.lawful (rows_part node words g.spells)) c.fork_rows-rows.ensures out whole
-    (c.put_rows.ensures.others 0 (inl (omega arith)) ∙ get_or-set_same words 0 _ 0 (omega (arith, long)))
+    (c.rows_in-rows.ensures node g.has.lawful (head_part node words g.spells)) c.fork_rows-rows.ensures numbers.kind (c.read_numbers-kind.ensures.parts.3 ∙ (ap kind_in (get_or-set_same words 0 _ 0 (omega (arith, long))) ∙ kind_stays g c.requires.below)) out whole
+    (c.put_rows.ensures.others 0 (inl (some_before_rows numbers.kind)) ∙ get_or-set_same words 0 _ 0 (omega (arith, long)))
     (λ k more outside. c.put_rows.ensures.others k outside ∙ get_or-set_other words 0 k _ 0 (λ e. omega (arith, e, more)))
     c.put_rows.ensures.rows

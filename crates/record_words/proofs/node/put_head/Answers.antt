@@ -1,36 +1,29 @@
--- The words are written in the order of their offsets.
-use Rattle.std.proofs.Common.{rules, ◌∙◌, ◌++◌, ◌+◌, ◌≡◌, arith, ap, drop, refl, subst, length}
+-- The first word and the unused ones are written, then the columns, then the rows.
+use Rattle.std.proofs.Common.{List, ℕ, ◌≡◌, ◌∙◌, ◌++◌, ◌^◌, ◌-◌, arith, ap, drop, length, replicate, rules}
+use Rattle.std.proofs.lemmas.List.{length-take-le}
 use Rattle.compound_node.specs.Nodes.{HeadView}
-use Rattle.partial_keys.specs.Rows.{with_unused}
-use Rattle.record_words.proofs.Written.{AreSoFar, with_head, none_so_far, one_more, all_so_far, head_put, length-with_head, numbers_word, places_word, rows_so_far, behind_head}
-use Rattle.record_words.specs.Packed.{row_word}
+use Rattle.record_words.proofs.HeadPut.{as_fixed, in_order, put_together, start, start_behind, start_first, start_ones, start_whole}
+use Rattle.record_words.proofs.Written.{head_put}
 use Rattle.record_words.proofs.node.put_head.Goals as goal
-
-pub loop-j-init : goal.loop-j-init
-loop-j-init c =
-    let h : HeadView = c.args.head.now in
-    let old = c.args.words.now in
-    let whole : length old ≡ 57 = search rules in
-    one_more _ old old 0 1 c.word_of_numbers.result (none_so_far _ old whole) (omega arith) refl
-    (c.word_of_numbers.ensures ∙ rw (c.count.ensures.count, c.count-2.ensures, c.columns-columns.ensures, c.height.ensures) (numbers_word (length h.rows) h.height h.columns (with_unused h.rows) old))
-
-pub loop-j-preserved : goal.loop-j-preserved
-loop-j-preserved c =
-    let h : HeadView = c.args.head.now in
-    one_more _ _ c.loop-j.words (1 + c.loop-j.j) _ c.word_of_positions.result c.loop-j.invariant (omega arith) (omega arith)
-    (c.word_of_positions.ensures ∙ places_word (length h.rows) h.height h.columns (with_unused h.rows) c.args.words.now _ c.loop-j.j (rw (← c.columns-columns.ensures) c.padded_positions-positions.ensures) c.loop-j-test.true)
 
 pub returns : goal.returns
 returns c =
     let h : HeadView = c.args.head.now in
-    let old = c.args.words.now in
-    let whole : length old ≡ 57 = search rules in
-    let longer : length c.put_rows.new.words ≡ 57 = search rules in
-    let eight : 1 + c.loop-j.j ≡ 9 = omega arith in
-    all_so_far _ old c.put_rows.new.words 25
-    (rows_so_far (length h.rows) h.height h.columns (with_unused h.rows) old c.loop-j.words c.put_rows.new.words
-    (subst (AreSoFar (with_head (length h.rows) h.height h.columns (with_unused h.rows) old) old c.loop-j.words) eight c.loop-j.invariant)
-    longer (λ k few. c.put_rows.ensures.rows k few ∙ ap (λ rows. row_word rows k) c.padded_rows.ensures) c.put_rows.ensures.others)
-    (length-with_head (length h.rows) h.height h.columns (with_unused h.rows) old whole)
-    (λ k past inside. behind_head (length h.rows) h.height h.columns (with_unused h.rows) old k past)
-    ∙ ap (λ front. front ++ drop 25 old) (head_put h _ _ _ _ refl refl refl refl)
+    let old : List ℕ = c.args.words.now in
+    let middle : List ℕ = c.put_columns.new.words in
+    let words : List ℕ = c.put_rows.new.words in
+    let columns : List ℕ = c.columns-columns.result.now in
+    let rows : List ℕ = c.padded_rows.result.now in
+    let filled : List ℕ = c.fill.new.self in
+    let n : ℕ = c.word_of_numbers.result in
+    let kind = c.kind_of-kind.result in
+    let old_whole : length old ≡ 57 = search rules in
+    let whole : length words ≡ 57 = search rules in
+    let middle_whole : length middle ≡ 57 = search rules in
+    let full : filled ≡ replicate 25 (2 ^ 64 - 1) = c.fill.ensures.after (λ y e. e) ∙ ap (λ k. replicate k (2 ^ 64 - 1)) (length-take-le 25 old (omega (arith, old_whole))) in
+    put_together kind c.count.result c.height.result columns rows old words whole
+    (in_order kind _ columns rows old (start filled old n full old_whole) middle words old_whole (start_whole filled old n full old_whole) middle_whole whole
+    (start_first filled old n full old_whole ∙ c.word_of_numbers.ensures) (start_ones filled old n full old_whole) (start_behind filled old n full old_whole)
+    c.put_columns.ensures.columns c.put_columns.ensures.others c.put_rows.ensures.rows c.put_rows.ensures.others)
+    ∙ ap (λ front. front ++ drop 25 old)
+    (as_fixed kind c.count.result c.height.result columns rows c.kind_of-kind.ensures ∙ head_put h c.count.result c.height.result columns rows c.count.ensures.count c.height.ensures c.columns-columns.ensures c.padded_rows.ensures)

@@ -1,22 +1,35 @@
--- The words of both halves of the rows are stored, one after the other.
-use Rattle.std.proofs.Common.{List, ℕ, ap, arith, get_or, length, rules, sym, ⊎_elim, ◌++◌, ◌+◌, ◌-◌, ◌<◌, ◌∙◌, ◌≡◌, ◌≤◌}
+-- The rows' words are stored by kind: those of both halves of wide ones, one after the other.
+use Rattle.std.proofs.Common.{List, ℕ, ap, arith, get_or, inl, inr, length, rules, subst, sym, ⊎_elim, ◌++◌, ◌+◌, ◌-◌, ◌<◌, ◌∙◌, ◌≡◌, ◌≤◌, ◌⊎◌}
 use Rattle.std.proofs.lemmas.Bool.{cases_lt}
-use Rattle.std.proofs.lemmas.List.{get_or_past}
-use Rattle.std.proofs.lemmas.Simd.{pick_l-range_with_len, pick_l_left}
+use Rattle.std.proofs.lemmas.List.{ext_get_or}
+use Rattle.std.proofs.lemmas.List.FromFn.{get_or-map-range_with_len, length-map-range_with_len}
+use Rattle.std.proofs.lemmas.Simd.{get_or-chunk, length-chunk, pick_l-range_with_len, pick_l_left}
 use Rattle.std.specs.List.{range_with_len}
-use Rattle.record_words.proofs.Written.{at_stored, before_stored, behind_stored, half_words, length-stored, stored}
-use Rattle.record_words.specs.Packed.{row_word}
+use Rattle.record_words.proofs.HeadsByKind.{length-lane_words}
+use Rattle.record_words.proofs.Written.{at_stored, before_stored, chunk_stored, half_words, length-stored, other_stored, stored}
+use Rattle.record_words.specs.Kinds.{head_size, rows_from}
+use Rattle.record_words.specs.Packed.{row_lanes, row_word, row_words}
+use Rattle.record_words.specs.declared.kind.Kind.{Kind}
+use Rattle.record_words.specs.declared.kind.Kind.TheVariants.{Middle, Narrow, Wide}
 use Rattle.record_words.proofs.node.put_rows.Goals as goal
 use lib.Lanes.{chunk, pick_l}
 
--- a half of the rows
+-- words that have the rows of a kind have those of this one
+for_kind : (kind this : Kind) (rows words : List ℕ) → kind ≡ this → chunk (rows_from this) (head_size this - rows_from this) words ≡ row_words this rows → chunk (rows_from kind) (head_size kind - rows_from kind) words ≡ row_words kind rows
+for_kind kind this rows words is = subst (λ k. chunk (rows_from k) (head_size k - rows_from k) words ≡ row_words k rows) (sym is)
+
+outside : (kind this : Kind) (k : ℕ) → kind ≡ this → (k < rows_from kind) ⊎ (head_size kind ≤ k) → (k < rows_from this) ⊎ (head_size this ≤ k)
+outside kind this k is = subst (λ t. (k < rows_from t) ⊎ (head_size t ≤ k)) is
+
+-- ---- a half of the rows
 low_half : (rows : List ℕ) → length rows ≡ 32 → pick_l 0 (rows ++ rows) (range_with_len 0 16) ≡ chunk 0 16 rows
 low_half rows long = pick_l_left 0 rows rows 32 (range_with_len 0 16) long tt ∙ pick_l-range_with_len 0 rows 0 16 (omega (arith, long))
 
 high_half : (rows : List ℕ) → length rows ≡ 32 → pick_l 0 (rows ++ rows) (range_with_len 16 16) ≡ chunk 16 16 rows
 high_half rows long = pick_l_left 0 rows rows 32 (range_with_len 16 16) long tt ∙ pick_l-range_with_len 0 rows 16 16 (omega (arith, long))
 
-module _ (words low high : List ℕ) (whole : length words ≡ 57) (eight : length low ≡ 8) (eight_more : length high ≡ 8) where
+module _ (rows words low high : List ℕ) (long : length rows ≡ 32) (whole : length words ≡ 57) (eight : length low ≡ 8) (eight_more : length high ≡ 8)
+    (of_low : (j : ℕ) → j < 8 → get_or low j 0 ≡ row_word (pick_l 0 (rows ++ rows) (range_with_len 0 16)) j) (of_high : (j : ℕ) → j < 8 → get_or high j 0 ≡ row_word (pick_l 0 (rows ++ rows) (range_with_len 16 16)) j) where
   abbrev once : List ℕ
   once = stored 9 48 words low whole (omega (arith, eight))
 
@@ -26,47 +39,78 @@ module _ (words low high : List ℕ) (whole : length words ≡ 57) (eight : leng
   abbrev twice : List ℕ
   twice = stored 17 40 once high once_whole (omega (arith, eight_more))
 
-  low_word : (k : ℕ) → k < 8 → get_or twice (9 + k) 0 ≡ get_or low k 0
-  low_word k small =
-      before_stored 17 40 once high once_whole (omega (arith, eight_more)) (9 + k) (omega (arith, small))
-      ∙ at_stored 9 48 words low whole (omega (arith, eight)) k (omega (arith, small, eight))
+  twice_whole : length twice ≡ 57
+  twice_whole = length-stored 17 40 once high once_whole (omega (arith, eight_more))
 
-  high_word : (k : ℕ) → 8 ≤ k → k < 16 → get_or twice (9 + k) 0 ≡ get_or high (k - 8) 0
-  high_word k past small =
-      ap (λ i. get_or twice i 0) (let e : 9 + k ≡ 17 + (k - 8) = omega (arith, past) in e)
-      ∙ at_stored 17 40 once high once_whole (omega (arith, eight_more)) (k - 8) (omega (arith, past, small, eight_more))
+  word_at : (k : ℕ) → k < 16 → get_or twice (9 + k) 0 ≡ row_word rows k
+  word_at k small =
+      ⊎_elim
+      (λ (l : k < 8).
+      before_stored 17 40 once high once_whole (omega (arith, eight_more)) (9 + k) (omega (arith, l))
+      ∙ (at_stored 9 48 words low whole (omega (arith, eight)) k (omega (arith, l, eight))
+      ∙ (of_low k l ∙ (ap (λ rs. row_word rs k) (low_half rows long) ∙ (half_words rows 0 k l ∙ ap (row_word rows) (omega arith))))))
+      (λ (h : 8 ≤ k).
+      ap (λ i. get_or twice i 0) (let e : 9 + k ≡ 17 + (k - 8) = omega (arith, h) in e)
+      ∙ (at_stored 17 40 once high once_whole (omega (arith, eight_more)) (k - 8) (omega (arith, h, small, eight_more))
+      ∙ (of_high (k - 8) (omega (arith, h, small)) ∙ (ap (λ rs. row_word rs (k - 8)) (high_half rows long) ∙ (half_words rows 8 (k - 8) (omega (arith, h, small)) ∙ ap (row_word rows) (omega (arith, h)))))))
+      (cases_lt k 8)
 
-  front_word : (k : ℕ) → k < 9 → get_or twice k 0 ≡ get_or words k 0
-  front_word k small =
-      before_stored 17 40 once high once_whole (omega (arith, eight_more)) k (omega (arith, small))
-      ∙ before_stored 9 48 words low whole (omega (arith, eight)) k small
+  rows_are : chunk 9 16 twice ≡ row_words Wide rows
+  rows_are =
+      let count : length (chunk 9 16 twice) ≡ 16 = length-chunk 9 16 twice (omega (arith, twice_whole)) in
+      ext_get_or 0 (chunk 9 16 twice) (row_words Wide rows) (count ∙ sym (length-map-range_with_len (row_word rows) 0 16))
+      (λ k h. let small : k < 16 = omega (arith, h, count) in get_or-chunk 9 16 twice k 0 small ∙ (word_at k small ∙ sym (get_or-map-range_with_len (row_word rows) 0 16 k k 0 small (omega arith))))
 
-  back_word : (k : ℕ) → 25 ≤ k → get_or twice k 0 ≡ get_or words k 0
-  back_word k past = ⊎_elim
-      (λ (inside : k < 57).
-      behind_stored 17 40 once high once_whole (omega (arith, eight_more)) k (omega (arith, past, eight_more)) (omega (arith, inside))
-      ∙ behind_stored 9 48 words low whole (omega (arith, eight)) k (omega (arith, past, eight)) (omega (arith, inside)))
-      (λ (outside : 57 ≤ k).
-      get_or_past twice k 0 (omega (arith, outside, length-stored 17 40 once high once_whole (omega (arith, eight_more)))) ∙ sym (get_or_past words k 0 (omega (arith, outside, whole))))
-      (cases_lt k 57)
+  others_stay : (k : ℕ) → (k < 9) ⊎ (25 ≤ k) → get_or twice k 0 ≡ get_or words k 0
+  others_stay k out =
+      other_stored 17 40 once high once_whole (omega (arith, eight_more)) k (⊎_elim (λ (h : k < 9). inl (omega (arith, h))) (λ (h : 25 ≤ k). inr (omega (arith, h, eight_more))) out)
+      ∙ other_stored 9 48 words low whole (omega (arith, eight)) k (⊎_elim (λ (h : k < 9). inl h) (λ (h : 25 ≤ k). inr (omega (arith, h, eight))) out)
 
-pub returns-clause-rows : goal.returns-clause-rows
-returns-clause-rows c k small =
-    let words = c.args.words.now in let rows = c.args.rows in
-    let low = c.words_of_rows in let high = c.words_of_rows-2 in
-    let whole : length words ≡ 57 = search rules in
-    ⊎_elim
-    (λ (l : k < 8).
-    low_word words low.result high.result whole low.ensures.whole high.ensures.whole k l
-    ∙ (low.ensures.each k l ∙ (ap (λ rs. row_word rs k) (low_half rows c.fits-rows.0) ∙ (half_words rows 0 k l ∙ ap (row_word rows) (omega arith)))))
-    (λ (h : 8 ≤ k).
-    high_word words low.result high.result whole low.ensures.whole high.ensures.whole k h small
-    ∙ (high.ensures.each (k - 8) (omega (arith, h, small)) ∙ (ap (λ rs. row_word rs (k - 8)) (high_half rows c.fits-rows.0) ∙ (half_words rows 8 (k - 8) (omega (arith, h, small)) ∙ ap (row_word rows) (omega (arith, h))))))
-    (cases_lt k 8)
+pub returns-in-Wide-clause-rows : goal.returns-in-Wide-clause-rows
+returns-in-Wide-clause-rows c =
+    let low = c.words_of_rows in let high = c.words_of_rows-in-Wide in
+    let whole : length c.args.words.now ≡ 57 = search rules in
+    for_kind c.args.kind Wide c.args.rows _ c.in-Wide.is (rows_are c.args.rows c.args.words.now low.result high.result c.fits-rows.0 whole low.ensures.whole high.ensures.whole low.ensures.each high.ensures.each)
 
-pub returns-clause-others : goal.returns-clause-others
-returns-clause-others c k outside =
-    let words = c.args.words.now in
-    let low = c.words_of_rows in let high = c.words_of_rows-2 in
-    let whole : length words ≡ 57 = search rules in
-    ⊎_elim (front_word words low.result high.result whole low.ensures.whole high.ensures.whole k) (back_word words low.result high.result whole low.ensures.whole high.ensures.whole k) outside
+pub returns-in-Wide-clause-others : goal.returns-in-Wide-clause-others
+returns-in-Wide-clause-others c = λ k out.
+    let low = c.words_of_rows in let high = c.words_of_rows-in-Wide in
+    let whole : length c.args.words.now ≡ 57 = search rules in
+    others_stay c.args.rows c.args.words.now low.result high.result c.fits-rows.0 whole low.ensures.whole high.ensures.whole low.ensures.each high.ensures.each k (outside c.args.kind Wide k c.in-Wide.is out)
+
+-- ---- the highest bits of rows
+four : (rows words : List ℕ) → words ≡ row_words Narrow rows → length words ≡ 4
+four rows words same = ap length same ∙ length-lane_words 8 4 (row_lanes 24 rows)
+
+eight_words : (rows words : List ℕ) → words ≡ row_words Middle rows → length words ≡ 8
+eight_words rows words same = ap length same ∙ length-lane_words 16 8 (row_lanes 16 rows)
+
+pub returns-in-Narrow-clause-rows : goal.returns-in-Narrow-clause-rows
+returns-in-Narrow-clause-rows c =
+    let made = c.words_of_high_bytes in
+    let long = four c.args.rows made.result made.ensures in
+    let whole : length c.args.words.now ≡ 57 = search rules in
+    for_kind c.args.kind Narrow c.args.rows _ c.in-Narrow.is (chunk_stored 3 54 c.args.words.now made.result whole (omega (arith, long)) 4 long ∙ made.ensures)
+
+pub returns-in-Narrow-clause-others : goal.returns-in-Narrow-clause-others
+returns-in-Narrow-clause-others c = λ k out.
+    let made = c.words_of_high_bytes in
+    let long = four c.args.rows made.result made.ensures in
+    let whole : length c.args.words.now ≡ 57 = search rules in
+    other_stored 3 54 c.args.words.now made.result whole (omega (arith, long)) k
+    (⊎_elim (λ (h : k < 3). inl h) (λ (h : 7 ≤ k). inr (omega (arith, h, long))) (outside c.args.kind Narrow k c.in-Narrow.is out))
+
+pub returns-in-Middle-clause-rows : goal.returns-in-Middle-clause-rows
+returns-in-Middle-clause-rows c =
+    let made = c.words_of_high_halves in
+    let long = eight_words c.args.rows made.result made.ensures in
+    let whole : length c.args.words.now ≡ 57 = search rules in
+    for_kind c.args.kind Middle c.args.rows _ c.in-Middle.is (chunk_stored 5 52 c.args.words.now made.result whole (omega (arith, long)) 8 long ∙ made.ensures)
+
+pub returns-in-Middle-clause-others : goal.returns-in-Middle-clause-others
+returns-in-Middle-clause-others c = λ k out.
+    let made = c.words_of_high_halves in
+    let long = eight_words c.args.rows made.result made.ensures in
+    let whole : length c.args.words.now ≡ 57 = search rules in
+    other_stored 5 52 c.args.words.now made.result whole (omega (arith, long)) k
+    (⊎_elim (λ (h : k < 5). inl h) (λ (h : 13 ≤ k). inr (omega (arith, h, long))) (outside c.args.kind Middle k c.in-Middle.is out))

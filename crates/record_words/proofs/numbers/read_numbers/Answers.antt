@@ -1,14 +1,25 @@
--- The three numbers are parts of the word.
-use Rattle.std.proofs.Common.{◌∙◌, arith, refl}
+-- The numbers are parts of the word.
+use Rattle.std.proofs.Common.{◌∙◌, ◌/◌, ◌^◌, arith, length, refl, sym}
+use Rattle.std.proofs.lemmas.Nat.{and_mask}
 use Rattle.compound_node.proofs.Lawful.{same_count}
 use Rattle.compound_node.specs.Nodes.{head_of}
 use Rattle.record_words.specs.Node.{head_words}
-use Rattle.record_words.proofs.Spelled.{columns_counted, count_read, height-lt, height_read}
+use Rattle.record_words.proofs.HeadsByKind.{first_tells, head_parts}
 use Rattle.record_words.proofs.numbers.read_numbers.Goals as goal
 
 pub returns-clause-node : goal.returns-clause-node
-returns-clause-node c = λ node lawful same. rw (← same) (
-  count_read node lawful (head_words (head_of node)) refl ∙ same_count node lawful,
-  columns_counted node lawful (head_words (head_of node)) refl,
-  omega (arith, height_read node lawful (head_words (head_of node)) refl, height-lt node lawful (head_words (head_of node)) refl),
-)
+returns-clause-node c = λ node lawful same.
+    let parts = head_parts (length node.rows) node.height node.columns node.rows (head_words (head_of node)) refl in
+    let room = lawful.room in
+    let told = first_tells (length node.rows) node.height node.columns c.args.word (omega (arith, same_count node lawful, room)) (let few = lawful.positions.few in omega (arith, few))
+    (let bound = lawful.bound in omega (arith, bound)) (sym same ∙ parts.numbers) in
+    record {
+      count_is = told.counted ∙ same_count node lawful;
+      columns_are = told.columns_counted;
+      height_is = told.height_told;
+      kind_is = c.read_kind.ensures ∙ told.kind_told;
+      first_is = λ other. and_mask (c.args.word / 2 ^ 32) 8 ∙ told.first_told (λ wide. other (c.read_kind.ensures ∙ (told.kind_told ∙ wide)));
+    }
+
+pub returns-clause-parts : goal.returns-clause-parts
+returns-clause-parts c = (refl, refl, refl, c.read_kind.ensures, and_mask (c.args.word / 2 ^ 32) 8)

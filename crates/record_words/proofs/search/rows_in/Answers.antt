@@ -1,20 +1,57 @@
--- The halves are the rows, one after the other.
-use Rattle.std.proofs.Common.{◌≡◌, ◌∙◌, ◌/◌, ◌%◌, ◌*◌, ◌^◌, ◌++◌, ◌+◌, ℕ, ap, arith, get_or, length, length-append, refl, sym}
-use Rattle.std.proofs.lemmas.List.{get_or-drop}
-use Rattle.std.proofs.lemmas.Simd.{get_or-chunk, pick_l_whole}
-use Rattle.compound_node.specs.Nodes.{head_of}
+-- By the kind: halves of words, or lanes of fewer bits that are moved up.
+use Rattle.std.proofs.Common.{ℕ, ◌≡◌, ◌-◌, ◌*◌, ◌/◌, ◌%◌, ◌^◌, ◌<◌, ◌∙◌, ap, arith, drop, get_or, length, length-drop, map, replicate, sym}
+use Rattle.std.proofs.lemmas.List.{take_all}
+use Rattle.std.proofs.lemmas.Simd.{get_or-chunk, length-chunk}
+use lib.Lanes.{zip2}
+use Rattle.compound_node.proofs.Lawful.{same_count}
+use Rattle.compound_node.specs.Nodes.{IsLawfulNode, NodeView, head_of}
+use Rattle.record_words.specs.HeadParts.{AreNumbersOf}
+use Rattle.record_words.specs.Kinds.{kind_of}
 use Rattle.record_words.specs.Node.{head_words}
-use Rattle.record_words.proofs.Lanes.{rows_joined}
-use Rattle.record_words.proofs.Spelled.{rows_read}
+use Rattle.record_words.specs.Packed.{row_lanes}
+use Rattle.record_words.specs.declared.kind.Kind.TheVariants.{Middle, Narrow, Wide}
+use Rattle.record_words.proofs.Lawful.{row-lt}
+use Rattle.record_words.proofs.NearHeads.{middle_rows, narrow_rows}
+use Rattle.record_words.proofs.NearRows.{bytes_long, halves_long, moved_up, near_rows_read, row_by_byte, row_by_half, up}
 use Rattle.record_words.proofs.search.rows_in.Goals as goal
+use Rattle.record_words.proofs.search.rows_in.Goals.{Joined-read_numbers, in-Wide, in-Narrow, in-Middle}
+
+module _ (c : Joined-read_numbers) (node : NodeView) (lawful : IsLawfulNode node) (same : head_words (head_of node) ≡ c.args.words.now) where
+  word : (n j : ℕ) → j < n → get_or c.args.words.now j 0 ≡ get_or (head_words (head_of node)) j 0
+  word n j low = ap (λ ws. get_or ws j 0) (sym same)
+
+  told : AreNumbersOf c.read_numbers.result node
+  told = c.read_numbers.ensures.node node lawful (sym (word 1 0 (omega arith)))
+
+  counted : c.read_numbers-count.result.count ≡ length node.entries
+  counted = (c.read_numbers-count.ensures.node node lawful (sym (word 1 0 (omega arith)))).count_is
+
+  inside : (i : ℕ) → i < length node.rows → i < 32
+  inside i low = omega (arith, low, same_count node lawful, lawful.room)
 
 pub returns : goal.returns
-returns c = λ node lawful same.
-    let words = c.args.words.now in let all = head_words (head_of node) in let l = c.split_into_halves-low in let h = c.split_into_halves-high in
-    let word : (j : ℕ) → get_or words j 0 ≡ get_or all (9 + j) 0 = λ j. ap (λ ws. get_or ws j 0) (sym same) ∙ get_or-drop 9 all j 0 in
-    let both : length (l.result ++ h.result) ≡ 32 = length-append l.result h.result ∙ omega (arith, l.ensures.whole, h.ensures.whole) in
-    pick_l_whole 0 (l.result ++ h.result) 32 both
-    ∙ rows_read node lawful all refl (l.result ++ h.result) both
-    (λ k few. rows_joined l.result h.result l.ensures.whole h.ensures.whole all
-    (λ i low. l.ensures.each i low ∙ ap (λ w. w / 2 ^ (32 * (i % 2)) % 2 ^ 32) (get_or-chunk 0 8 words (i / 2) 0 (omega (arith, low)) ∙ (word (0 + i / 2) ∙ ap (λ o. get_or all o 0) (omega arith))))
-    (λ i low. h.ensures.each i low ∙ ap (λ w. w / 2 ^ (32 * (i % 2)) % 2 ^ 32) (get_or-chunk 8 8 words (i / 2) 0 (omega (arith, low)) ∙ (word (8 + i / 2) ∙ ap (λ o. get_or all o 0) (omega arith)))) k few)
+returns c = λ node lawful same. elim c.match-read_numbers.branch [
+  | in-Wide w ↦
+      let words = c.args.words.now in
+      let kinded : kind_of node.columns ≡ Wide = sym (told c node lawful same).kind_is ∙ w.in-Wide.is in
+      w.result-is ∙ w.wide_rows_in.ensures node lawful kinded (ap (drop 9) same ∙ sym (take_all (length words - 9) (drop 9 words) (omega (arith, length-drop 9 words))))
+  | in-Narrow w ↦
+      let words = c.args.words.now in
+      let kinded : kind_of node.columns ≡ Narrow = sym (told c node lawful same).kind_is ∙ w.in-Narrow.is in
+      let bytes : w.bytes_in.result ≡ row_lanes 24 node.rows =
+      w.bytes_in.ensures ∙ narrow_rows node lawful kinded words (word c node lawful same 7) _ (length-chunk 3 4 words (omega (arith, c.requires.long))) (λ k low. get_or-chunk 3 4 words k 0 low) in
+      w.result-is ∙ near_rows_read node lawful w.with_unused_from.result (zip2 up (map (λ a. a) w.bytes_in.result) (replicate 32 24)) c.read_numbers-count.result.count
+      w.with_unused_from.ensures.whole (counted c node lawful same) w.with_unused_from.ensures.used w.with_unused_from.ensures.unused
+      (λ i low. moved_up 24 w.bytes_in.result i (get_or node.rows i 0) (bytes_long node lawful kinded w.bytes_in.result bytes) (inside c node lawful same i low)
+      (row_by_byte node lawful kinded w.bytes_in.result bytes i low) (row-lt node lawful i))
+  | in-Middle w ↦
+      let words = c.args.words.now in
+      let kinded : kind_of node.columns ≡ Middle = sym (told c node lawful same).kind_is ∙ w.in-Middle.is in
+      let halves : w.split_into_quarters.result ≡ row_lanes 16 node.rows =
+      middle_rows node lawful kinded words (word c node lawful same 13) w.split_into_quarters.result w.split_into_quarters.ensures.whole
+      (λ i low. w.split_into_quarters.ensures.each i low ∙ ap (λ v. v / 2 ^ (16 * (i % 4)) % 2 ^ 16) (get_or-chunk 5 8 words (i / 4) 0 (omega (arith, low)))) in
+      w.result-is ∙ near_rows_read node lawful w.with_unused_from-in-Middle.result (zip2 up (map (λ a. a) w.split_into_quarters.result) (replicate 32 16)) c.read_numbers-count.result.count
+      w.with_unused_from-in-Middle.ensures.whole (counted c node lawful same) w.with_unused_from-in-Middle.ensures.used w.with_unused_from-in-Middle.ensures.unused
+      (λ i low. moved_up 16 w.split_into_quarters.result i (get_or node.rows i 0) (halves_long node lawful kinded w.split_into_quarters.result halves) (inside c node lawful same i low)
+      (row_by_half node lawful kinded w.split_into_quarters.result halves i low) (row-lt node lawful i))
+]

@@ -4,13 +4,17 @@ use Rattle.compound_node.proofs.Lawful.{head_leads}
 use Rattle.compound_node.specs.Nodes.{head_of}
 use Rattle.partial_keys.proofs.Search.{first_is_zero}
 use Rattle.record_words.specs.HeadParts.{back_words}
+use Rattle.record_words.specs.declared.kind.Kind.TheVariants.{Wide}
+use Rattle.record_words.proofs.Spelled.{kind_of_one, lawful_one, one_of_kind, part_of_one}
 use Rattle.record_words.proofs.search.search_row_words.Goals as goal
 
 pub search_rows-requires : goal.search_rows-requires
 search_rows-requires c =
-    let given = c.requires.1 in
-    ap (λ rows. get_or rows 0 0) (c.rows_in.ensures given.0 given.1 (ap back_words given.2 ∙ c.requires.2)) ∙ first_is_zero _ _ _ _ given.1.shows
+    let words = c.args.words.now in
+    let lawful = lawful_one Wide back_words words c.requires in
+    ap (λ rows. get_or rows 0 0) (c.wide_rows_in.ensures (one_of_kind Wide back_words words c.requires) lawful (kind_of_one Wide back_words words c.requires) (part_of_one Wide back_words words c.requires))
+    ∙ first_is_zero _ _ _ _ lawful.shows
 
 pub returns : goal.returns
-returns c = λ node lawful same bit gathered.
-    head_leads (head_of node) c.rows_in.result bit c.args.dense c.search_rows.result (c.rows_in.ensures node lawful same) gathered c.search_rows.ensures.highest node lawful refl
+returns c = λ node lawful kinded same bit gathered.
+    head_leads (head_of node) c.wide_rows_in.result bit c.args.dense c.search_rows.result (c.wide_rows_in.ensures node lawful kinded same) gathered c.search_rows.ensures.highest node lawful refl

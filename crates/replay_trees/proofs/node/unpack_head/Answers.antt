@@ -1,18 +1,29 @@
--- The numbers that were read are those of a head, if there is one.
-use Rattle.std.proofs.Common.{refl}
-use Rattle.compound_node.specs.Nodes.{IsHead}
-use Rattle.replay_trees.proofs.Heads.{head_unread, no_head, head_read}
+-- The numbers that were read are those of a head with these words, if there is one.
+use Rattle.std.proofs.Common.{◌≡◌, ◌∙◌, List, ℕ, refl, sym, take}
+use Rattle.compound_node.specs.Nodes.{HeadView, IsHead}
+use Rattle.record_words.specs.Node.{InNodesOf}
+use Rattle.replay_trees.proofs.Heads.{AreReadOf, head_read, no_head, other_head, read_of}
 use Rattle.replay_trees.proofs.node.unpack_head.Goals as goal
+use Rattle.replay_trees.proofs.node.unpack_head.Goals.{After-read_rows-rows}
 
-pub returns-in_err-fixed : goal.returns-in_err-fixed
-returns-in_err-fixed c = head_unread _ _ c.args.words.now c.in_err-fixed.ensures c.from_residual.ensures.0
+read : (c : After-read_rows-rows) → InNodesOf c.args.words.now (AreReadOf c.read_numbers-numbers.result.count c.read_numbers-numbers.result.height c.read_columns-columns.result.items c.read_rows-rows.result)
+read c = read_of c.args.words.now c.read_numbers-numbers.result c.read_columns-columns.result.items c.read_rows-rows.result c.read_numbers-numbers.ensures.node c.read_columns-columns.ensures c.read_rows-rows.ensures
 
-pub returns-in-Some : goal.returns-in-Some
-returns-in-Some c =
-    let fixed = c.in_ok-fixed.fixed in
-    let is : IsHead fixed.count fixed.height fixed.columns.items fixed.sparse = rw c.as_slice.ensures.value at (c.in-Some.ensures.some.0 refl) in
-    head_read fixed c.args.words.now c.in-Some.head c.in_ok-fixed.ensures is (rw c.as_slice.ensures.value at c.in-Some.ensures.head)
+pub returns-then-are_same : goal.returns-then-are_same
+returns-then-are_same c =
+    let numbers = c.read_numbers-numbers.result in
+    let is : IsHead numbers.count numbers.height c.read_columns-columns.result.items c.read_rows-rows.result = rw c.as_slice.ensures.value at (c.in-Some.ensures.some.0 refl) in
+    head_read numbers.count numbers.height c.read_columns-columns.result.items c.read_rows-rows.result c.args.words.now (read (goal.at.returns-then-are_same c).After-read_rows-rows) c.in-Some.head
+    (rw c.as_slice.ensures.value at c.in-Some.ensures.head) is (sym c.pack_head.ensures ∙ c.are_same.ensures.0 c.if-are_same.true)
+
+pub returns-else-are_same : goal.returns-else-are_same
+returns-else-are_same c =
+    let numbers = c.read_numbers-numbers.result in
+    other_head numbers.count numbers.height c.read_columns-columns.result.items c.read_rows-rows.result c.args.words.now (read (goal.at.returns-else-are_same c).After-read_rows-rows) c.in-Some.head
+    (rw c.as_slice.ensures.value at c.in-Some.ensures.head) (λ same. absurd (cc (c.are_same.ensures.1 (c.pack_head.ensures ∙ same))))
 
 pub returns-in-None : goal.returns-in-None
 returns-in-None c =
-    no_head c.in_ok-fixed.fixed c.args.words.now c.in_ok-fixed.ensures (λ is. absurd (cc (c.in-None.ensures.some.1 (rw c.as_slice.ensures.value is))))
+    let numbers = c.read_numbers-numbers.result in
+    no_head numbers.count numbers.height c.read_columns-columns.result.items c.read_rows-rows.result c.args.words.now (read (goal.at.returns-in-None c).After-read_rows-rows)
+    (λ is. absurd (cc (c.in-None.ensures.some.1 (rw c.as_slice.ensures.value is))))

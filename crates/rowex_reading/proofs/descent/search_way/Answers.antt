@@ -75,25 +75,25 @@ pub search_node-step-requires-clause-led : goal.search_node-step-requires-clause
 search_node-step-requires-clause-led g c = (since c.loop-entry.seat.known, c.in-Node.height, at_led c.loop-entry.invariant.at _ c.in-Node.is)
 
 pub load_entry-entry-requires-clause-reader : goal.load_entry-entry-requires-clause-reader
-load_entry-entry-requires-clause-reader g c = reader_then c.loop-entry.invariant.reader c.search_node-step.ensures.reads
+load_entry-entry-requires-clause-reader g c = reader_then c.loop-entry.invariant.reader c.search_node-step.ensures.reads.2
 
 pub load_entry-entry-requires-clause-place : goal.load_entry-entry-requires-clause-place
 load_entry-entry-requires-clause-place g c =
     let i = c.loop-entry.invariant in let n = c.in-Node in let e = c.search_node-step.ensures in let m = since c.loop-entry.seat.known in
     let (head, seen, stepped) = e.step m n.height (at_led i.at _ n.is) in
-    (m, n.height, there i.at _ i.going n.number n.height c.search_node-step.result head n.is e.reads seen stepped)
+    (m, n.height, there i.at _ i.going n.number n.height c.search_node-step.result head n.is e.reads.1 e.reads.2 seen stepped)
 
 pub push-requires : goal.push-requires
 push-requires g c =
     let i = c.loop-entry.invariant in let n = c.in-Node in let e = c.search_node-step.ensures in let o = c.load_entry-entry.ensures in
     let (head, seen, stepped) = e.step (since c.loop-entry.seat.known) n.height (at_led i.at _ n.is) in
-    (omega arith, way_room i.at _ i.going n.number n.height c.search_node-step.result head n.is e.reads seen stepped _ o.reads o.entry)
+    (omega arith, way_room i.at _ i.going n.number n.height c.search_node-step.result head n.is e.reads.1 e.reads.2 seen stepped _ o.reads o.entry)
 
 pub loop-entry-smaller : goal.loop-entry-smaller
 loop-entry-smaller g c =
     let i = c.loop-entry.invariant in let n = c.in-Node in let e = c.search_node-step.ensures in let o = c.load_entry-entry.ensures in
     let (head, seen, stepped) = e.step (since c.loop-entry.seat.known) n.height (at_led i.at _ n.is) in
-    falls_on i.at _ i.going n.number n.height c.search_node-step.result head n.is e.reads seen stepped _ o.reads o.entry
+    falls_on i.at _ i.going n.number n.height c.search_node-step.result head n.is e.reads.1 e.reads.2 seen stepped _ o.reads o.entry
 
 pub loop-entry-preserved : goal.loop-entry-preserved
 loop-entry-preserved g c =
@@ -101,8 +101,8 @@ loop-entry-preserved g c =
     let known = c.load_entry-entry.new.seat.known in
     let (head, seen, stepped) = e.step (since c.loop-entry.seat.known) n.height (at_led i.at _ n.is) in
     record {
-      reader = reader_then (reader_then i.reader e.reads) o.reads;
-      at = led_down i.at _ i.going n.number n.height c.search_node-step.result head n.is e.reads seen stepped _ o.reads o.entry;
+      reader = reader_then (reader_then i.reader e.reads.2) o.reads;
+      at = led_down i.at _ i.going n.number n.height c.search_node-step.result head n.is e.reads.1 e.reads.2 seen stepped _ o.reads o.entry;
       going = subst (λ z. IsGoing c.args.table.now.layout known (since known) c.args.key.now z c.load_entry-entry.result) (sym c.push.ensures.items)
-          (way_on i.at _ i.going n.number n.height c.search_node-step.result head n.is e.reads seen stepped _ o.reads o.entry i.reader.1);
+          (way_on i.at _ i.going n.number n.height c.search_node-step.result head n.is e.reads.1 e.reads.2 seen stepped _ o.reads o.entry i.reader.1);
     }

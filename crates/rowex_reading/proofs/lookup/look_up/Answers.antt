@@ -32,13 +32,13 @@ pub find_slot-place-requires-clause-led : goal.find_slot-place-requires-clause-l
 find_slot-place-requires-clause-led g c = (since c.loop-entry.seat.known, c.in-Node.height, at_led c.loop-entry.invariant.at _ c.in-Node.is)
 
 pub load_entry-entry-requires-clause-reader : goal.load_entry-entry-requires-clause-reader
-load_entry-entry-requires-clause-reader g c = reader_then c.loop-entry.invariant.reader c.find_slot-place.ensures.reads
+load_entry-entry-requires-clause-reader g c = reader_then c.loop-entry.invariant.reader c.find_slot-place.ensures.reads.2
 
 pub load_entry-entry-requires-clause-place : goal.load_entry-entry-requires-clause-place
 load_entry-entry-requires-clause-place g c =
     let i = c.loop-entry.invariant in let e = c.find_slot-place.ensures in let m = since c.loop-entry.seat.known in
     let p = e.place m c.in-Node.height (at_led i.at _ c.in-Node.is) in
-    (m, c.in-Node.height, place_of i.at c.in-Node.number c.in-Node.height p.0 c.find_slot-place.result c.in-Node.is e.reads p.1 p.2)
+    (m, c.in-Node.height, place_of i.at c.in-Node.number c.in-Node.height p.0 c.find_slot-place.result c.in-Node.is e.reads.1 e.reads.2 p.1 p.2)
 
 -- the entry at the key's place is lower, and the search has been led to it
 entry : (g : given.Over) (c : After-load_entry-entry g) →
@@ -46,15 +46,15 @@ entry : (g : given.Over) (c : After-load_entry-entry g) →
 entry g c =
     let i = c.loop-entry.invariant in let n = c.in-Node in let e = c.find_slot-place.ensures in let m = since c.loop-entry.seat.known in
     let p = e.place m n.height (at_led i.at _ n.is) in
-    let lower = c.load_entry-entry.ensures.entry m n.height (place_of i.at n.number n.height p.0 c.find_slot-place.result n.is e.reads p.1 p.2) in
-    (lower.0, next_of i.at n.number n.height p.0 c.find_slot-place.result n.is e.reads p.1 p.2 c.load_entry-entry.result c.load_entry-entry.ensures.reads lower)
+    let lower = c.load_entry-entry.ensures.entry m n.height (place_of i.at n.number n.height p.0 c.find_slot-place.result n.is e.reads.1 e.reads.2 p.1 p.2) in
+    (lower.0, next_of i.at n.number n.height p.0 c.find_slot-place.result n.is e.reads.1 e.reads.2 p.1 p.2 c.load_entry-entry.result c.load_entry-entry.ensures.reads lower)
 
 pub loop-entry-smaller : goal.loop-entry-smaller
 loop-entry-smaller g c = subst (λ z. height_of c.load_entry-entry.result < height_of z) (sym c.in-Node.is) (entry g (goal.at.loop-entry-smaller g c).After-load_entry-entry).0
 
 pub loop-entry-preserved : goal.loop-entry-preserved
 loop-entry-preserved g c = record {
-  reader = reader_then (reader_then c.loop-entry.invariant.reader c.find_slot-place.ensures.reads) c.load_entry-entry.ensures.reads;
+  reader = reader_then (reader_then c.loop-entry.invariant.reader c.find_slot-place.ensures.reads.2) c.load_entry-entry.ensures.reads;
   at = (entry g (goal.at.loop-entry-preserved g c).After-load_entry-entry).1;
 }
 

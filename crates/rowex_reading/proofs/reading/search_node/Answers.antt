@@ -1,39 +1,169 @@
--- What the loads of all words of a head tell.
-use Rattle.std.proofs.Common.{ℕ, ◌++◌}
+-- What the loads of the words of a head tell.
+use Rattle.std.proofs.Common.{ℕ, ◌≡◌, ◌+◌, ◌-◌, ◌^◌, ◌++◌, ◌∙◌, [], ap, arith, get_or, length, length-append, lit≤, replicate, sym}
+use Rattle.std.proofs.lemmas.List.{get_or_append_left}
 use Rattle.compound_node.specs.declared.entries.Entry.TheVariants.{Node}
+use Rattle.record_words.specs.Kinds.{kind_in, mask_index}
+use Rattle.record_words.specs.declared.kind.Kind.TheVariants.{Middle, Narrow, Wide}
 use Rattle.rowex_reading.specs.Seen.{AreHeadWords, IsLedTo}
+use Rattle.rowex_reading.specs.Ways.{step_at}
 use Rattle.rowex_reading.proofs.Led.{led_on, reader_then, reads_trans}
-use Rattle.rowex_reading.proofs.Stepping.{back_spelled, both_read, front_spelled, step_read}
+use Rattle.rowex_reading.proofs.Stepping.{back_spelled, begun, begun_loaded, begun_long, front_spelled, near_read, part_spelled, part_spot, step_spelled, wide_read, wide_spot}
 use Rattle.rowex_reading.proofs.reading.search_node.Given as given
 use Rattle.rowex_reading.proofs.reading.search_node.Goals as goal
-use Rattle.rowex_reading.proofs.reading.search_node.Goals.{After-load_head_part-2}
+use Rattle.rowex_reading.proofs.reading.search_node.Goals.{After-load_head_part-in-Narrow, After-load_head_part-in-Middle, After-load_head_part-in-Wide-2}
 
--- both parts are the words of one head
-are_words : (g : given.Over) (c : After-load_head_part-2 g) (m h : ℕ) → IsLedTo c.args.seat.now.known m (Node c.args.node.number h) → AreHeadWords c.load_head_part-2.new.seat.known m c.args.node.number h (c.load_head_part.new.words ++ c.load_head_part-2.new.words)
-are_words g c m h led =
-    let e = c.load_head_part.ensures in let f = c.load_head_part-2.ensures in
-    both_read _ _ _ _ c.args.node.number c.load_head_part.new.words c.load_head_part-2.new.words (reader_then (reader_then c.requires.reader e.reads) f.reads).1 e.loaded f.loaded e.long f.long m h led
+-- ---- a narrow head
+pub load_head_part-requires-in-Narrow-clause-reader : goal.load_head_part-requires-in-Narrow-clause-reader
+load_head_part-requires-in-Narrow-clause-reader g c = reader_then c.requires.reader c.load_head_part.ensures.reads
+
+pub load_head_part-requires-in-Narrow-clause-led : goal.load_head_part-requires-in-Narrow-clause-led
+load_head_part-requires-in-Narrow-clause-led g c = let (m, h, led) = c.requires.led in (m, h, led_on m (Node c.args.node.number h) c.load_head_part.ensures.reads led)
+
+module _ (g : given.Over) (c : After-load_head_part-in-Narrow g) where
+  narrow_is : kind_in (get_or c.load_head_part.new.words 0 0) ≡ Narrow
+  narrow_is = sym c.read_numbers-numbers.ensures.parts.3 ∙ c.in-Narrow.is
+
+  narrow_size : length (begun c.load_head_part.new.words c.load_head_part-in-Narrow.new.words) ≡ 7
+  narrow_size = begun_long c.load_head_part.new.words c.load_head_part-in-Narrow.new.words ∙ ap (λ n. 1 + n) c.load_head_part-in-Narrow.ensures.long
+
+  narrow_words_are : (m h : ℕ) → IsLedTo c.args.seat.now.known m (Node c.args.node.number h) →
+      AreHeadWords c.load_head_part-in-Narrow.new.seat.known m c.args.node.number h (begun c.load_head_part.new.words c.load_head_part-in-Narrow.new.words ++ replicate 18 (2 ^ 64 - 1))
+  narrow_words_are m h led =
+      let e = c.load_head_part.ensures in let f = c.load_head_part-in-Narrow.ensures in
+      near_read _ _ _ _ c.args.node.number Narrow c.load_head_part.new.words c.load_head_part-in-Narrow.new.words (reader_then (reader_then c.requires.reader e.reads) f.reads).1 e.loaded f.loaded narrow_is e.long
+      (ap (λ n. 1 + n) f.long) m h led
+
+pub search_narrow-at-requires : goal.search_narrow-at-requires
+search_narrow-at-requires g c =
+    let d = (goal.at.search_narrow-at-requires g c).After-load_head_part-in-Narrow in
+    let (m, h, led) = c.requires.led in
+    part_spelled Narrow (begun c.load_head_part.new.words c.load_head_part-in-Narrow.new.words) (narrow_is g d) (narrow_size g d) (narrow_words_are g d m h led)
+
+pub returns-in-Narrow-clause-reads : goal.returns-in-Narrow-clause-reads
+returns-in-Narrow-clause-reads g c = (7, lit≤ tt, reads_trans c.load_head_part.ensures.reads c.load_head_part-in-Narrow.ensures.reads)
+
+pub returns-in-Narrow-clause-step : goal.returns-in-Narrow-clause-step
+returns-in-Narrow-clause-step g c = λ m h led.
+    let d = (goal.at.returns-in-Narrow-clause-step g c).After-load_head_part-in-Narrow in
+    let are = narrow_words_are g d m h led in
+    let part = begun c.load_head_part.new.words c.load_head_part-in-Narrow.new.words in
+    let numbers = c.read_numbers-numbers.result in (
+      are.head,
+      are.seen,
+      step_spelled (part ++ replicate 18 (2 ^ 64 - 1)) are numbers c.read_numbers-numbers.ensures.node _
+          (ap (λ i. get_or part i 0) c.index_of_first_position.ensures ∙ (sym (get_or_append_left part (replicate 18 (2 ^ 64 - 1)) 0 2 (omega (arith, narrow_size g d)))
+          ∙ ap (λ kind. get_or (part ++ replicate 18 (2 ^ 64 - 1)) (mask_index kind 0) 0) (sym c.in-Narrow.is)))
+          c.path_node.result c.args.node.number c.search_narrow-at.result c.path_node.ensures.same c.path_node.ensures.node
+          ∙ ap (step_at are.head c.args.node.number) (part_spot Narrow part (narrow_is g d) (narrow_size g d) are c.args.key.now c.search_narrow-at.result c.search_narrow-at.ensures),
+    )
+
+-- ---- a middle head
+pub load_head_part-requires-in-Middle-clause-reader : goal.load_head_part-requires-in-Middle-clause-reader
+load_head_part-requires-in-Middle-clause-reader g c = reader_then c.requires.reader c.load_head_part.ensures.reads
+
+pub load_head_part-requires-in-Middle-clause-led : goal.load_head_part-requires-in-Middle-clause-led
+load_head_part-requires-in-Middle-clause-led g c = let (m, h, led) = c.requires.led in (m, h, led_on m (Node c.args.node.number h) c.load_head_part.ensures.reads led)
+
+module _ (g : given.Over) (c : After-load_head_part-in-Middle g) where
+  middle_is : kind_in (get_or c.load_head_part.new.words 0 0) ≡ Middle
+  middle_is = sym c.read_numbers-numbers.ensures.parts.3 ∙ c.in-Middle.is
+
+  middle_size : length (begun c.load_head_part.new.words c.load_head_part-in-Middle.new.words) ≡ 13
+  middle_size = begun_long c.load_head_part.new.words c.load_head_part-in-Middle.new.words ∙ ap (λ n. 1 + n) c.load_head_part-in-Middle.ensures.long
+
+  middle_words_are : (m h : ℕ) → IsLedTo c.args.seat.now.known m (Node c.args.node.number h) →
+      AreHeadWords c.load_head_part-in-Middle.new.seat.known m c.args.node.number h (begun c.load_head_part.new.words c.load_head_part-in-Middle.new.words ++ replicate 12 (2 ^ 64 - 1))
+  middle_words_are m h led =
+      let e = c.load_head_part.ensures in let f = c.load_head_part-in-Middle.ensures in
+      near_read _ _ _ _ c.args.node.number Middle c.load_head_part.new.words c.load_head_part-in-Middle.new.words (reader_then (reader_then c.requires.reader e.reads) f.reads).1 e.loaded f.loaded middle_is e.long
+      (ap (λ n. 1 + n) f.long) m h led
+
+pub search_middle-at-requires : goal.search_middle-at-requires
+search_middle-at-requires g c =
+    let d = (goal.at.search_middle-at-requires g c).After-load_head_part-in-Middle in
+    let (m, h, led) = c.requires.led in
+    part_spelled Middle (begun c.load_head_part.new.words c.load_head_part-in-Middle.new.words) (middle_is g d) (middle_size g d) (middle_words_are g d m h led)
+
+pub returns-in-Middle-clause-reads : goal.returns-in-Middle-clause-reads
+returns-in-Middle-clause-reads g c = (13, lit≤ tt, reads_trans c.load_head_part.ensures.reads c.load_head_part-in-Middle.ensures.reads)
+
+pub returns-in-Middle-clause-step : goal.returns-in-Middle-clause-step
+returns-in-Middle-clause-step g c = λ m h led.
+    let d = (goal.at.returns-in-Middle-clause-step g c).After-load_head_part-in-Middle in
+    let are = middle_words_are g d m h led in
+    let part = begun c.load_head_part.new.words c.load_head_part-in-Middle.new.words in
+    let numbers = c.read_numbers-numbers.result in (
+      are.head,
+      are.seen,
+      step_spelled (part ++ replicate 12 (2 ^ 64 - 1)) are numbers c.read_numbers-numbers.ensures.node _
+          (ap (λ i. get_or part i 0) c.index_of_first_position-in-Middle.ensures ∙ (sym (get_or_append_left part (replicate 12 (2 ^ 64 - 1)) 0 4 (omega (arith, middle_size g d)))
+          ∙ ap (λ kind. get_or (part ++ replicate 12 (2 ^ 64 - 1)) (mask_index kind 0) 0) (sym c.in-Middle.is)))
+          c.path_node-in-Middle.result c.args.node.number c.search_middle-at.result c.path_node-in-Middle.ensures.same c.path_node-in-Middle.ensures.node
+          ∙ ap (step_at are.head c.args.node.number) (part_spot Middle part (middle_is g d) (middle_size g d) are c.args.key.now c.search_middle-at.result c.search_middle-at.ensures),
+    )
+
+-- ---- a wide head
+pub load_head_part-requires-in-Wide-clause-reader : goal.load_head_part-requires-in-Wide-clause-reader
+load_head_part-requires-in-Wide-clause-reader g c = reader_then c.requires.reader c.load_head_part.ensures.reads
+
+pub load_head_part-requires-in-Wide-clause-led : goal.load_head_part-requires-in-Wide-clause-led
+load_head_part-requires-in-Wide-clause-led g c = let (m, h, led) = c.requires.led in (m, h, led_on m (Node c.args.node.number h) c.load_head_part.ensures.reads led)
 
 pub extract_dense_key-dense-requires : goal.extract_dense_key-dense-requires
 extract_dense_key-dense-requires g c =
-    let (m, h, led) = c.requires.led in let e = c.load_head_part.ensures in
-    front_spelled _ _ _ c.args.node.number c.load_head_part.new.words (reader_then c.requires.reader e.reads).1 e.loaded e.long m h led
-
-pub load_head_part-requires-2-clause-reader : goal.load_head_part-requires-2-clause-reader
-load_head_part-requires-2-clause-reader g c = reader_then c.requires.reader c.load_head_part.ensures.reads
-
-pub load_head_part-requires-2-clause-led : goal.load_head_part-requires-2-clause-led
-load_head_part-requires-2-clause-led g c = let (m, h, led) = c.requires.led in (m, h, led_on m (Node c.args.node.number h) c.load_head_part.ensures.reads led)
-
-pub search_row_words-requires : goal.search_row_words-requires
-search_row_words-requires g c =
     let (m, h, led) = c.requires.led in
-    back_spelled c.load_head_part.new.words c.load_head_part-2.new.words c.load_head_part.ensures.long (are_words g (goal.at.search_row_words-requires g c).After-load_head_part-2 m h led)
+    let e = c.load_head_part.ensures in let f = c.load_head_part-in-Wide.ensures in
+    front_spelled _ _ _ c.args.node.number (begun c.load_head_part.new.words c.load_head_part-in-Wide.new.words) (reader_then (reader_then c.requires.reader e.reads) f.reads).1
+    (begun_loaded c.load_head_part.new.words c.load_head_part-in-Wide.new.words e.long e.loaded f.loaded)
+    (begun_long c.load_head_part.new.words c.load_head_part-in-Wide.new.words ∙ ap (λ n. 1 + n) f.long) (sym c.read_numbers-numbers.ensures.parts.3 ∙ c.in-Wide.is) m h led
 
-pub returns-clause-reads : goal.returns-clause-reads
-returns-clause-reads g c = reads_trans c.load_head_part.ensures.reads c.load_head_part-2.ensures.reads
+pub load_head_part-requires-in-Wide-2-clause-reader : goal.load_head_part-requires-in-Wide-2-clause-reader
+load_head_part-requires-in-Wide-2-clause-reader g c = reader_then (reader_then c.requires.reader c.load_head_part.ensures.reads) c.load_head_part-in-Wide.ensures.reads
 
-pub returns-clause-step : goal.returns-clause-step
-returns-clause-step g c = λ m h led.
-    let are = are_words g (goal.at.returns-clause-step g c).After-load_head_part-2 m h led in
-    (are.head, are.seen, step_read c.load_head_part.new.words c.load_head_part-2.new.words c.load_head_part.ensures.long are c.args.key.now c.extract_dense_key-dense.result c.search_row_words.result c.extract_dense_key-dense.ensures c.search_row_words.ensures c.args.node.number _ _ _ c.read_numbers-numbers.ensures.parts.0 c.read_numbers-numbers.ensures.parts.2 c.first_position_of.ensures.part)
+pub load_head_part-requires-in-Wide-2-clause-led : goal.load_head_part-requires-in-Wide-2-clause-led
+load_head_part-requires-in-Wide-2-clause-led g c =
+    let (m, h, led) = c.requires.led in
+    (m, h, led_on m (Node c.args.node.number h) (reads_trans c.load_head_part.ensures.reads c.load_head_part-in-Wide.ensures.reads) led)
+
+module _ (g : given.Over) (c : After-load_head_part-in-Wide-2 g) where
+  wide_is : kind_in (get_or c.load_head_part.new.words 0 0) ≡ Wide
+  wide_is = sym c.read_numbers-numbers.ensures.parts.3 ∙ c.in-Wide.is
+
+  front_size : length (begun c.load_head_part.new.words c.load_head_part-in-Wide.new.words) ≡ 9
+  front_size = begun_long c.load_head_part.new.words c.load_head_part-in-Wide.new.words ∙ ap (λ n. 1 + n) c.load_head_part-in-Wide.ensures.long
+
+  wide_words_are : (m h : ℕ) → IsLedTo c.args.seat.now.known m (Node c.args.node.number h) →
+      AreHeadWords c.load_head_part-in-Wide-2.new.seat.known m c.args.node.number h ((begun c.load_head_part.new.words c.load_head_part-in-Wide.new.words ++ c.load_head_part-in-Wide-2.new.words) ++ [])
+  wide_words_are m h led =
+      let e = c.load_head_part.ensures in let f = c.load_head_part-in-Wide.ensures in let b = c.load_head_part-in-Wide-2.ensures in
+      wide_read _ _ _ _ c.args.node.number (begun c.load_head_part.new.words c.load_head_part-in-Wide.new.words) c.load_head_part-in-Wide-2.new.words
+      (reader_then (reader_then (reader_then c.requires.reader e.reads) f.reads) b.reads).1
+      (begun_loaded c.load_head_part.new.words c.load_head_part-in-Wide.new.words e.long e.loaded f.loaded) b.loaded wide_is front_size b.long m h led
+
+pub search_row_words-at-requires : goal.search_row_words-at-requires
+search_row_words-at-requires g c =
+    let d = (goal.at.search_row_words-at-requires g c).After-load_head_part-in-Wide-2 in
+    let (m, h, led) = c.requires.led in
+    back_spelled (begun c.load_head_part.new.words c.load_head_part-in-Wide.new.words) c.load_head_part-in-Wide-2.new.words (wide_is g d) (front_size g d) c.load_head_part-in-Wide-2.ensures.long
+    (wide_words_are g d m h led)
+
+pub returns-in-Wide-clause-reads : goal.returns-in-Wide-clause-reads
+returns-in-Wide-clause-reads g c = (25, lit≤ tt, reads_trans (reads_trans c.load_head_part.ensures.reads c.load_head_part-in-Wide.ensures.reads) c.load_head_part-in-Wide-2.ensures.reads)
+
+pub returns-in-Wide-clause-step : goal.returns-in-Wide-clause-step
+returns-in-Wide-clause-step g c = λ m h led.
+    let d = (goal.at.returns-in-Wide-clause-step g c).After-load_head_part-in-Wide-2 in
+    let are = wide_words_are g d m h led in
+    let front = begun c.load_head_part.new.words c.load_head_part-in-Wide.new.words in
+    let back = c.load_head_part-in-Wide-2.new.words in
+    let numbers = c.read_numbers-numbers.result in (
+      are.head,
+      are.seen,
+      step_spelled ((front ++ back) ++ []) are numbers c.read_numbers-numbers.ensures.node _
+          (ap (λ i. get_or front i 0) c.index_of_first_position-in-Wide.ensures ∙ (sym (get_or_append_left front back 0 1 (omega (arith, front_size g d)))
+          ∙ (sym (get_or_append_left (front ++ back) [] 0 1 (omega (arith, front_size g d, length-append front back)))
+          ∙ ap (λ kind. get_or ((front ++ back) ++ []) (mask_index kind 0) 0) (sym c.in-Wide.is))))
+          c.path_node-in-Wide.result c.args.node.number c.search_row_words-at.result c.path_node-in-Wide.ensures.same c.path_node-in-Wide.ensures.node
+          ∙ ap (step_at are.head c.args.node.number)
+          (wide_spot front back (wide_is g d) (front_size g d) c.load_head_part-in-Wide-2.ensures.long are c.args.key.now c.extract_dense_key-dense.result c.search_row_words-at.result c.extract_dense_key-dense.ensures c.search_row_words-at.ensures),
+    )

@@ -1,5 +1,5 @@
 -- The node's head leads the key to the slot, and the entry there is of the table.
-use Rattle.std.proofs.Common.{◌<◌}
+use Rattle.std.proofs.Common.{◌+◌, ◌<◌, arith}
 use Rattle.compound_node.specs.Nodes.{height_of}
 use Rattle.compound_node.specs.declared.entries.Entry.TheVariants.{Node}
 use Rattle.rowex_reading.specs.Seen.{since}
@@ -21,13 +21,13 @@ find_slot-place-requires-clause-led g c =
     let way = c.requires.way in (since c.args.seat.now.known, way.0, way_led (Node c.args.number way.0) way.1)
 
 pub load_entry-entry-requires-clause-reader : goal.load_entry-entry-requires-clause-reader
-load_entry-entry-requires-clause-reader g c = reader_then c.requires.reader c.find_slot-place.ensures.reads
+load_entry-entry-requires-clause-reader g c = reader_then c.requires.reader c.find_slot-place.ensures.reads.2
 
 pub load_entry-entry-requires-clause-place : goal.load_entry-entry-requires-clause-place
 load_entry-entry-requires-clause-place g c =
     let way = c.requires.way in let e = c.find_slot-place.ensures in let m = since c.args.seat.now.known in
     let p = e.place m way.0 (way_led (Node c.args.number way.0) way.1) in
-    (m, way.0, way_place c.args.number way.0 p.0 c.find_slot-place.result way.1 e.reads p.1 p.2)
+    (m, way.0, way_place c.args.number way.0 p.0 c.find_slot-place.result way.1 e.reads.2 p.1 p.2)
 
 -- the entry is lower, and the way has led to it
 entered : (g : given.Over) (c : After-load_entry-entry g) → (h : _) → IsOnWay c.args.seat.now.known c.args.key.now (Node c.args.number h) →
@@ -35,18 +35,18 @@ entered : (g : given.Over) (c : After-load_entry-entry g) → (h : _) → IsOnWa
 entered g c h way =
     let e = c.find_slot-place.ensures in let m = since c.args.seat.now.known in
     let p = e.place m h (way_led (Node c.args.number h) way) in
-    let lower = c.load_entry-entry.ensures.entry m h (way_place c.args.number h p.0 c.find_slot-place.result way e.reads p.1 p.2) in
-    (lower.0, way_next c.args.number h p.0 c.find_slot-place.result way e.reads p.1 p.2 c.load_entry-entry.result c.load_entry-entry.ensures.reads lower.1)
+    let lower = c.load_entry-entry.ensures.entry m h (way_place c.args.number h p.0 c.find_slot-place.result way e.reads.2 p.1 p.2) in
+    (lower.0, way_next c.args.number h p.0 c.find_slot-place.result way e.reads.2 p.1 p.2 c.load_entry-entry.result c.load_entry-entry.ensures.reads lower.1)
 
 pub touch_record-requires : goal.touch_record-requires
 touch_record-requires g c =
     let way = c.requires.way in let d = entered g (goal.at.touch_record-requires g c).After-load_entry-entry way.0 way.1 in
     let k = c.load_entry-entry.new.seat.known in
-    let reader = reader_then (reader_then c.requires.reader c.find_slot-place.ensures.reads) c.load_entry-entry.ensures.reads in
+    let reader = reader_then (reader_then c.requires.reader c.find_slot-place.ensures.reads.2) c.load_entry-entry.ensures.reads in
     record { range = led_in_table c.args.table.now.layout k (since k) c.load_entry-entry.result reader.1 (way_led c.load_entry-entry.result d.1) }
 
 pub returns : goal.returns
 returns g c = record {
-  reads = reads_trans c.find_slot-place.ensures.reads c.load_entry-entry.ensures.reads;
+  reads = let r = c.find_slot-place.ensures.reads in (r.0 + 1, (let few = r.1 in omega (arith, few)), reads_trans r.2 c.load_entry-entry.ensures.reads);
   entry = entered g (goal.at.returns g c).After-load_entry-entry;
 }

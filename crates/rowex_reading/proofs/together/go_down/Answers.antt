@@ -20,6 +20,8 @@ loop-index-init g c = record {
     ways = c.requires.ways;
     entries = 0;
     falls = omega arith;
+    loads = 0;
+    few = omega arith;
     reads = reads_none (c.args.seat.now, c.args.gate.now);
     lower_is = λ no. absurd (let z : false ≡ true = no in cc);
     leaves = λ _ i e low. absurd (omega (arith, low));
@@ -53,7 +55,7 @@ loop-index-preserved g c =
             let entered = e.entry w.in-Node.height (gone.ways i key (Node w.in-Node.number w.in-Node.height) here there) in
             subst (λ (z : SeatView × g.row.G.Denot × List Entry × Bool). HaveGone c.args.table.now g.G.Gate.becomes keys (c.args.seat.now, c.args.gate.now) c.args.tips.now (i + 1) (z.0, z.1) z.2 z.3)
             (λ x. (sym w.seat-is x, sym w.gate-is x, sym w.tips-is x, sym w.lower-is x))
-            (gone_down gone low key w.in-Node.number w.in-Node.height w.enter_node.result here w.in-Node.is e.reads entered))
+            (gone_down gone low key w.in-Node.number w.in-Node.height w.enter_node.result here w.in-Node.is e.reads.0 e.reads.1 e.reads.2 entered))
         | in_default w ↦
             subst (λ (z : SeatView × g.row.G.Denot × List Entry × Bool). HaveGone c.args.table.now g.G.Gate.becomes keys (c.args.seat.now, c.args.gate.now) c.args.tips.now (i + 1) (z.0, z.1) z.2 z.3)
             (λ x. (sym w.seat-is x, sym w.gate-is x, sym w.tips-is x, sym w.lower-is x))
@@ -66,7 +68,7 @@ returns g c =
     let gone = c.loop-index.invariant.gone in
     let all : c.loop-index.index ≡ length c.args.keys.now = omega (arith, c.loop-index-test.false, c.loop-index.auto.index-end) in
     record {
-      reads = (gone.entries, gone.falls, gone.reads);
+      reads = (gone.entries, gone.loads, gone.falls, gone.few, gone.reads);
       ways = gone.ways;
       lower = gone.lower_is;
       leaves = λ no. subst (λ n. AreLeaves n c.loop-index.tips) all (gone.leaves no);

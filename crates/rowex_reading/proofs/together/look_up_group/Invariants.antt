@@ -10,7 +10,7 @@ invariant-loop g l = record {
   reader : IsReader l.table l.seat;
   room : length l.tips ≡ length l.keys;
   ways : AreOnWay l.seat.known l.keys l.tips;
-  reads : (entries : ℕ) × (entries + heights_in l.tips ≤ length l.keys * (9 * MAX_BYTES)) × Reads l.table g.G.Gate.becomes entries (26 * entries) (l.fn.seat, l.fn.gate) (l.seat, l.gate);
+  reads : (entries loads : ℕ) × (entries + heights_in l.tips ≤ length l.keys * (9 * MAX_BYTES)) × (loads ≤ 26 * entries) × Reads l.table g.G.Gate.becomes entries loads (l.fn.seat, l.fn.gate) (l.seat, l.gate);
 }
 
 abbrev pub decreases-loop : goal.decreases-loop

@@ -43,8 +43,8 @@ returns-in_default-clause-run g c =
     let table = c.args.table.now in
     let (t, same) = is_taking table c.args.seat.now c.args.job.now c.requires.taken c.requires.some in
     let (x, was, is, may) = c.in-Ok.ensures.done.raised in
-    removal_changes table g.G.Gate.becomes c.args.job.now t c.make_without_leaf.new.build.left_nodes 60 (c.args.seat.now, c.args.gate.now) (c.make_without_leaf.new.seat, c.make_without_leaf.new.gate) (c.publish_change.new.seat, c.publish_change.new.gate) (omega arith) (goes_run table g.G.Gate.becomes (c.args.seat.now, c.args.gate.now) (c.make_without_leaf.new.seat, c.make_without_leaf.new.gate) c.make_without_leaf.ensures.done.goes) (c.make_without_leaf.ensures.walk (omega (arith, t.below.last)))
-    (few_none table g.G.Gate.becomes (span_numbers c.args.job.now.way.now c.args.job.now.span) c.make_without_leaf.new.build.left_nodes 60 (c.make_without_leaf.new.seat, c.make_without_leaf.new.gate) (c.publish_change.new.seat, c.publish_change.new.gate)
+    removal_changes table g.G.Gate.becomes c.args.job.now t c.make_without_leaf.new.build.left_nodes 63 (c.args.seat.now, c.args.gate.now) (c.make_without_leaf.new.seat, c.make_without_leaf.new.gate) (c.publish_change.new.seat, c.publish_change.new.gate) (omega arith) (goes_run table g.G.Gate.becomes (c.args.seat.now, c.args.gate.now) (c.make_without_leaf.new.seat, c.make_without_leaf.new.gate) c.make_without_leaf.ensures.done.goes) (c.make_without_leaf.ensures.walk (omega (arith, t.below.last)))
+    (few_none table g.G.Gate.becomes (span_numbers c.args.job.now.way.now c.args.job.now.span) c.make_without_leaf.new.build.left_nodes 63 (c.make_without_leaf.new.seat, c.make_without_leaf.new.gate) (c.publish_change.new.seat, c.publish_change.new.gate)
     (runs_trans table g.G.Gate.becomes (c.make_without_leaf.new.seat, c.make_without_leaf.new.gate) (c.plan_merge.new.seat, c.plan_merge.new.gate) (c.publish_change.new.seat, c.publish_change.new.gate) (goes_run table g.G.Gate.becomes (c.make_without_leaf.new.seat, c.make_without_leaf.new.gate) (c.plan_merge.new.seat, c.plan_merge.new.gate) c.plan_merge.ensures.reads.goes) c.publish_change.ensures.run)
     (omega (arith, c.plan_merge.ensures.few, c.publish_change.ensures.few, may.few, t.below.last)))
 
@@ -75,8 +75,8 @@ pub returns-then-try_merge-clause-run : goal.returns-then-try_merge-clause-run
 returns-then-try_merge-clause-run g c =
     let table = c.args.table.now in
     let (t, same) = is_taking table c.args.seat.now c.args.job.now c.requires.taken c.requires.some in
-    removal_changes table g.G.Gate.becomes c.args.job.now t c.make_without_leaf.new.build.left_nodes 60 (c.args.seat.now, c.args.gate.now) (c.make_without_leaf.new.seat, c.make_without_leaf.new.gate) (c.try_merge.new.seat, c.try_merge.new.gate) (omega arith) (goes_run table g.G.Gate.becomes (c.args.seat.now, c.args.gate.now) (c.make_without_leaf.new.seat, c.make_without_leaf.new.gate) c.make_without_leaf.ensures.done.goes) (c.make_without_leaf.ensures.walk (omega (arith, t.below.last)))
-    (few_before table g.G.Gate.becomes (span_numbers c.args.job.now.way.now c.args.job.now.span) c.make_without_leaf.new.build.left_nodes 53 60 (c.make_without_leaf.new.seat, c.make_without_leaf.new.gate) (c.plan_merge.new.seat, c.plan_merge.new.gate) (c.try_merge.new.seat, c.try_merge.new.gate) (goes_run table g.G.Gate.becomes (c.make_without_leaf.new.seat, c.make_without_leaf.new.gate) (c.plan_merge.new.seat, c.plan_merge.new.gate) c.plan_merge.ensures.reads.goes) c.try_merge.ensures.tries (omega (arith, c.plan_merge.ensures.few)))
+    removal_changes table g.G.Gate.becomes c.args.job.now t c.make_without_leaf.new.build.left_nodes 63 (c.args.seat.now, c.args.gate.now) (c.make_without_leaf.new.seat, c.make_without_leaf.new.gate) (c.try_merge.new.seat, c.try_merge.new.gate) (omega arith) (goes_run table g.G.Gate.becomes (c.args.seat.now, c.args.gate.now) (c.make_without_leaf.new.seat, c.make_without_leaf.new.gate) c.make_without_leaf.ensures.done.goes) (c.make_without_leaf.ensures.walk (omega (arith, t.below.last)))
+    (few_before table g.G.Gate.becomes (span_numbers c.args.job.now.way.now c.args.job.now.span) c.make_without_leaf.new.build.left_nodes 53 63 (c.make_without_leaf.new.seat, c.make_without_leaf.new.gate) (c.plan_merge.new.seat, c.plan_merge.new.gate) (c.try_merge.new.seat, c.try_merge.new.gate) (goes_run table g.G.Gate.becomes (c.make_without_leaf.new.seat, c.make_without_leaf.new.gate) (c.plan_merge.new.seat, c.plan_merge.new.gate) c.plan_merge.ensures.reads.goes) c.try_merge.ensures.tries (omega (arith, c.plan_merge.ensures.few)))
 
 pub returns-then-try_merge-clause-done : goal.returns-then-try_merge-clause-done
 returns-then-try_merge-clause-done g c = λ ok.
@@ -106,9 +106,9 @@ returns-else-try_merge-clause-run g c =
     let (t, same) = is_taking table c.args.seat.now c.args.job.now c.requires.taken c.requires.some in
     let (x, was, is, may) = c.in-Ok.ensures.done.raised in
     let s = c.try_merge.ensures.same c.if-try_merge.false in
-    removal_changes table g.G.Gate.becomes c.args.job.now t c.make_without_leaf.new.build.left_nodes 81 (c.args.seat.now, c.args.gate.now) (c.make_without_leaf.new.seat, c.make_without_leaf.new.gate) (c.publish_or_undo.new.seat, c.publish_or_undo.new.gate) (omega arith) (goes_run table g.G.Gate.becomes (c.args.seat.now, c.args.gate.now) (c.make_without_leaf.new.seat, c.make_without_leaf.new.gate) c.make_without_leaf.ensures.done.goes) (c.make_without_leaf.ensures.walk (omega (arith, t.below.last)))
-    (few_then table g.G.Gate.becomes (span_numbers c.args.job.now.way.now c.args.job.now.span) c.make_without_leaf.new.build.left_nodes 81 (c.make_without_leaf.new.seat, c.make_without_leaf.new.gate) (c.try_merge.new.seat, c.try_merge.new.gate) (c.publish_or_undo.new.seat, c.publish_or_undo.new.gate)
-    (few_before table g.G.Gate.becomes (span_numbers c.args.job.now.way.now c.args.job.now.span) c.make_without_leaf.new.build.left_nodes 53 60 (c.make_without_leaf.new.seat, c.make_without_leaf.new.gate) (c.plan_merge.new.seat, c.plan_merge.new.gate) (c.try_merge.new.seat, c.try_merge.new.gate) (goes_run table g.G.Gate.becomes (c.make_without_leaf.new.seat, c.make_without_leaf.new.gate) (c.plan_merge.new.seat, c.plan_merge.new.gate) c.plan_merge.ensures.reads.goes) c.try_merge.ensures.tries (omega (arith, c.plan_merge.ensures.few)))
+    removal_changes table g.G.Gate.becomes c.args.job.now t c.make_without_leaf.new.build.left_nodes 84 (c.args.seat.now, c.args.gate.now) (c.make_without_leaf.new.seat, c.make_without_leaf.new.gate) (c.publish_or_undo.new.seat, c.publish_or_undo.new.gate) (omega arith) (goes_run table g.G.Gate.becomes (c.args.seat.now, c.args.gate.now) (c.make_without_leaf.new.seat, c.make_without_leaf.new.gate) c.make_without_leaf.ensures.done.goes) (c.make_without_leaf.ensures.walk (omega (arith, t.below.last)))
+    (few_then table g.G.Gate.becomes (span_numbers c.args.job.now.way.now c.args.job.now.span) c.make_without_leaf.new.build.left_nodes 84 (c.make_without_leaf.new.seat, c.make_without_leaf.new.gate) (c.try_merge.new.seat, c.try_merge.new.gate) (c.publish_or_undo.new.seat, c.publish_or_undo.new.gate)
+    (few_before table g.G.Gate.becomes (span_numbers c.args.job.now.way.now c.args.job.now.span) c.make_without_leaf.new.build.left_nodes 53 63 (c.make_without_leaf.new.seat, c.make_without_leaf.new.gate) (c.plan_merge.new.seat, c.plan_merge.new.gate) (c.try_merge.new.seat, c.try_merge.new.gate) (goes_run table g.G.Gate.becomes (c.make_without_leaf.new.seat, c.make_without_leaf.new.gate) (c.plan_merge.new.seat, c.plan_merge.new.gate) c.plan_merge.ensures.reads.goes) c.try_merge.ensures.tries (omega (arith, c.plan_merge.ensures.few)))
     c.publish_or_undo.ensures.run (omega (arith, c.publish_or_undo.ensures.few, may.few, ap length s.1, t.below.last, held_few c.args.job.now.found)))
 
 pub returns-else-try_merge-clause-done : goal.returns-else-try_merge-clause-done

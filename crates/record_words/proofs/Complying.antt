@@ -1,0 +1,161 @@
+-- Lanes of fewer bits that comply with a dense key, and the highest of the first of them.
+use Rattle.std.proofs.Common.{Bool, true, false, cond, eqb, map, ℕ, zero, suc, ◌≡◌, ⊎_elim, ◌+◌, ◌-◌, ◌*◌, ◌/◌, ◌%◌, ◌^◌, ◌<◌, ◌≤◌, List, [], ◌∷◌, arith, bit_and, get_or, length, replicate, take, refl, sym, ap, ap₂, ◌∙◌, w8, w16}
+use Rattle.std.proofs.Math.Nat.{pow-suc}
+use Rattle.std.proofs.Math.Pow.{pow_mono}
+use Rattle.std.proofs.lemmas.Bool.{cases_lt, eq-eqb, eqb-false, eqb-true, ne_eqb}
+use Rattle.std.proofs.lemmas.List.{get_or-map, get_or-take, length-map, length-take-le}
+use Rattle.std.proofs.lemmas.Nat.{and-not, and_le_r, and_shr, leading_top, mod-pow-add, shr_high}
+use Rattle.std.proofs.lemmas.Simd.{bit_mask_l, bitmask_splat, map-map, mask_l-lt, zip2_splat_left}
+use Rattle.std.proofs.Common.{subst}
+use Rattle.partial_keys.specs.Rows.{complies}
+use lib.Count.{count_leading_zeros}
+use lib.Lanes.{mask_l, top, zip2}
+
+-- the byte, and the half of 32 bits, has no bit that the dense one lacks
+abbrev pub lacks_none : ℕ → ℕ → Bool
+lacks_none dense byte = eqb (bit_and (255 - dense) byte) 0
+
+abbrev pub half_lacks_none : ℕ → ℕ → Bool
+half_lacks_none dense half = eqb (bit_and (65535 - dense) half) 0
+
+-- ---- bytes
+pub bytes_comply : (xs : List ℕ) (d : ℕ) → length xs ≡ 32 →
+    mask_l (map (top 7) (zip2 (λ a b. cond (eqb a b) (2 ^ 8 - 1) 0) (zip2 bit_and (replicate 32 (255 - d)) xs) (replicate 32 0))) % 2 ^ 64 ≡ mask_l (map (lacks_none d) xs)
+bytes_comply xs d long =
+    let n : ℕ = 255 - d in
+    let is : zip2 bit_and (replicate 32 n) xs ≡ map (bit_and n) xs = zip2_splat_left bit_and n 32 xs long in
+    bitmask_splat w8 eqb (zip2 bit_and (replicate 32 n) xs) 32 0 (ap length is ∙ (length-map xs (bit_and n) ∙ long)) (omega arith)
+    ∙ ap mask_l (ap (map (λ x. eqb x 0)) is ∙ map-map (λ x. eqb x 0) (bit_and n) xs)
+
+-- a byte that lacks none complies, in eight bits
+byte_complies : (d x : ℕ) → d < 2 ^ 8 → x < 2 ^ 8 → lacks_none d x ≡ complies d x
+byte_complies d x dense byte = go (eqb (bit_and (255 - d) x) 0) refl
+  where
+    both : bit_and (2 ^ 8 - 1 - d) x + bit_and d x ≡ x
+    both = and-not 8 d x dense byte
+
+    go : (t : Bool) → eqb (bit_and (255 - d) x) 0 ≡ t → eqb (bit_and (255 - d) x) 0 ≡ complies d x
+    go true e = e ∙ sym (eq-eqb (bit_and d x) x (omega (arith, both, eqb-true _ _ e)))
+    go false e = e ∙ sym (ne_eqb (bit_and d x) x (λ same. eqb-false _ _ e (omega (arith, both, same))))
+
+-- and so does the row that it is the highest byte of
+high_complies : (d x : ℕ) → complies (d / 2 ^ 24) x ≡ complies d (2 ^ 24 * x)
+high_complies d x = go (eqb (bit_and (d / 2 ^ 24) x) x) refl
+  where
+    shifted : bit_and d (2 ^ 24 * x) / 2 ^ 24 ≡ bit_and (d / 2 ^ 24) x
+    shifted = and_shr d (2 ^ 24 * x) 24 ∙ ap (bit_and (d / 2 ^ 24)) (let e : 2 ^ 24 * x / 2 ^ 24 ≡ x = omega arith in e)
+
+    most : bit_and d (2 ^ 24 * x) ≤ 2 ^ 24 * x
+    most = and_le_r d (2 ^ 24 * x)
+
+    go : (t : Bool) → eqb (bit_and (d / 2 ^ 24) x) x ≡ t → eqb (bit_and (d / 2 ^ 24) x) x ≡ complies d (2 ^ 24 * x)
+    go true e = e ∙ sym (eq-eqb (bit_and d (2 ^ 24 * x)) (2 ^ 24 * x) (let same = eqb-true _ _ e in omega (arith, shifted, most, same)))
+    go false e = e ∙ sym (ne_eqb (bit_and d (2 ^ 24 * x)) (2 ^ 24 * x) (λ same. eqb-false _ _ e (omega (arith, shifted, same))))
+
+pub lacks_none-complies : (d x : ℕ) → d < 2 ^ 32 → x < 2 ^ 8 → lacks_none (d / 2 ^ 24) x ≡ complies d (2 ^ 24 * x)
+lacks_none-complies d x dense byte = byte_complies (d / 2 ^ 24) x (omega (arith, dense)) byte ∙ high_complies d x
+
+-- ---- halves
+pub halves_comply : (xs : List ℕ) (d : ℕ) → length xs ≡ 32 →
+    mask_l (map (top 15) (zip2 (λ a b. cond (eqb a b) (2 ^ 16 - 1) 0) (zip2 bit_and (replicate 32 (65535 - d)) xs) (replicate 32 0))) % 2 ^ 64 ≡ mask_l (map (half_lacks_none d) xs)
+halves_comply xs d long =
+    let n : ℕ = 65535 - d in
+    let is : zip2 bit_and (replicate 32 n) xs ≡ map (bit_and n) xs = zip2_splat_left bit_and n 32 xs long in
+    bitmask_splat w16 eqb (zip2 bit_and (replicate 32 n) xs) 32 0 (ap length is ∙ (length-map xs (bit_and n) ∙ long)) (omega arith)
+    ∙ ap mask_l (ap (map (λ x. eqb x 0)) is ∙ map-map (λ x. eqb x 0) (bit_and n) xs)
+
+-- a half that lacks none complies, in sixteen bits
+half_complies : (d x : ℕ) → d < 2 ^ 16 → x < 2 ^ 16 → half_lacks_none d x ≡ complies d x
+half_complies d x dense half = go (eqb (bit_and (65535 - d) x) 0) refl
+  where
+    both : bit_and (2 ^ 16 - 1 - d) x + bit_and d x ≡ x
+    both = and-not 16 d x dense half
+
+    go : (t : Bool) → eqb (bit_and (65535 - d) x) 0 ≡ t → eqb (bit_and (65535 - d) x) 0 ≡ complies d x
+    go true e = e ∙ sym (eq-eqb (bit_and d x) x (omega (arith, both, eqb-true _ _ e)))
+    go false e = e ∙ sym (ne_eqb (bit_and d x) x (λ same. eqb-false _ _ e (omega (arith, both, same))))
+
+-- and so does the row that it is the higher half of
+high_half_complies : (d x : ℕ) → complies (d / 2 ^ 16) x ≡ complies d (2 ^ 16 * x)
+high_half_complies d x = go (eqb (bit_and (d / 2 ^ 16) x) x) refl
+  where
+    shifted : bit_and d (2 ^ 16 * x) / 2 ^ 16 ≡ bit_and (d / 2 ^ 16) x
+    shifted = and_shr d (2 ^ 16 * x) 16 ∙ ap (bit_and (d / 2 ^ 16)) (let e : 2 ^ 16 * x / 2 ^ 16 ≡ x = omega arith in e)
+
+    most : bit_and d (2 ^ 16 * x) ≤ 2 ^ 16 * x
+    most = and_le_r d (2 ^ 16 * x)
+
+    go : (t : Bool) → eqb (bit_and (d / 2 ^ 16) x) x ≡ t → eqb (bit_and (d / 2 ^ 16) x) x ≡ complies d (2 ^ 16 * x)
+    go true e = e ∙ sym (eq-eqb (bit_and d (2 ^ 16 * x)) (2 ^ 16 * x) (let same = eqb-true _ _ e in omega (arith, shifted, most, same)))
+    go false e = e ∙ sym (ne_eqb (bit_and d (2 ^ 16 * x)) (2 ^ 16 * x) (λ same. eqb-false _ _ e (omega (arith, shifted, same))))
+
+pub half_lacks_none-complies : (d x : ℕ) → d < 2 ^ 32 → x < 2 ^ 16 → half_lacks_none (d / 2 ^ 16) x ≡ complies d (2 ^ 16 * x)
+half_lacks_none-complies d x dense half = half_complies (d / 2 ^ 16) x (omega (arith, dense)) half ∙ high_half_complies d x
+
+-- ---- the highest set bit below a place
+top_digit : (m j : ℕ) → 2 ^ j ≤ m → m < 2 ^ suc j → m / 2 ^ j ≡ 1
+top_digit m j a b =
+    let is : m ≡ 1 * 2 ^ j + (m - 2 ^ j) = omega arith in
+    let low : m - 2 ^ j < 2 ^ j = omega (arith, pow-suc 2 j) in
+    ap (λ n. n / 2 ^ j) is ∙ shr_high 1 j (m - 2 ^ j) low
+
+above_top : (m j k : ℕ) → m < 2 ^ j → j ≤ k → m / 2 ^ k ≡ 0
+above_top m j k a b = let l : 2 ^ j ≤ 2 ^ k = pow_mono b in
+    let is : m ≡ 0 * 2 ^ k + m = omega arith in ap (λ n. n / 2 ^ k) is ∙ shr_high 0 k m (omega arith)
+
+one_from : (b : Bool) (n : ℕ) → n ≡ 1 → n % 2 ≡ cond b 1 0 → b ≡ true
+one_from true n e f = refl
+one_from false n e f = absurd (omega (arith, e, f))
+
+none_from : (b : Bool) (n : ℕ) → n ≡ 0 → n % 2 ≡ cond b 1 0 → b ≡ false
+none_from true n e f = absurd (omega (arith, e, f))
+none_from false n e f = refl
+
+-- the lanes below a place alone
+mask_take : (bs : List Bool) (n : ℕ) → mask_l bs % 2 ^ n ≡ mask_l (take n bs)
+mask_take [] zero = refl
+mask_take [] (suc n) = mod_zero (2 ^ suc n)
+  where
+    mod_zero : (m : ℕ) → 0 % m ≡ 0
+    mod_zero zero = refl
+    mod_zero (suc m) = omega arith
+mask_take (b ∷ bs) zero = omega arith
+mask_take (b ∷ bs) (suc n) =
+    let m : ℕ = mask_l bs in
+    let c : ℕ = cond b 1 0 in
+    let bit : c < 2 = bit-lt b in
+    ap (λ k. (c + 2 * m) % 2 ^ k) (let e : suc n ≡ n + 1 = omega arith in e)
+    ∙ (mod-pow-add (c + 2 * m) n 1
+    ∙ (ap₂ (λ x y. (x % 2 ^ n) * 2 + y) (let e : (c + 2 * m) / 2 ≡ m = omega (arith, bit) in e) (let e : (c + 2 * m) % 2 ≡ c = omega (arith, bit) in e)
+    ∙ (ap (λ x. x * 2 + c) (mask_take bs n) ∙ omega arith)))
+  where
+    bit-lt : (x : Bool) → cond x 1 0 < 2
+    bit-lt true = omega arith
+    bit-lt false = omega arith
+
+-- the highest set bit of the mask of the first lanes
+pub top_of_used : (t : ℕ → Bool) (xs : List ℕ) (n : ℕ) → 0 < n → n ≤ length xs → n ≤ 63 → t (get_or xs 0 0) ≡ true → let m = mask_l (map t xs) % 2 ^ n in
+    (j : ℕ) × (count_leading_zeros 64 m + suc j ≡ 64) × (j < n) × (t (get_or xs j 0) ≡ true) × ((k : ℕ) → j < k → k < n → t (get_or xs k 0) ≡ false)
+top_of_used t xs n some inside few first =
+    let m : ℕ = mask_l (map t xs) % 2 ^ n in
+    let is : m ≡ mask_l (take n (map t xs)) = mask_take (map t xs) n in
+    let below : m < 2 ^ n = under in
+    let bit : (i : ℕ) → i < n → m / 2 ^ i % 2 ≡ cond (t (get_or xs i 0)) 1 0 =
+    λ i l. ap (λ x. x / 2 ^ i % 2) is ∙ (bit_mask_l (take n (map t xs)) i ∙ ap (λ b. cond b 1 0) (get_or-take n (map t xs) i false l ∙ get_or-map t xs i 0 false (omega (arith, inside)))) in
+    let odd : m / 2 ^ 0 % 2 ≡ 1 = bit 0 some ∙ rw first refl in
+    let small : m < 2 ^ 64 = let p : 2 ^ n ≤ 2 ^ 63 = pow_mono few in omega (arith, below, p) in
+    let h : (j : ℕ) × (count_leading_zeros 64 m + suc j ≡ 64) × (2 ^ j ≤ m) × (m < 2 ^ suc j) = leading_top 64 m (omega (arith, odd)) small in
+    let j : ℕ = h.0 in
+    let within : j < n = ⊎_elim (λ a. a) (λ a. let b : 2 ^ n ≤ 2 ^ j = pow_mono a in absurd (omega (arith, b, h.2, below))) (cases_lt j n) in (
+      j,
+      h.1,
+      within,
+      one_from (t (get_or xs j 0)) (m / 2 ^ j) (top_digit m j h.2 h.3) (bit j within),
+      λ k a b. none_from (t (get_or xs k 0)) (m / 2 ^ k) (above_top m (suc j) k h.3 a) (bit k b),
+    )
+  where
+    under : mask_l (map t xs) % 2 ^ n < 2 ^ n
+    under =
+        let short : mask_l (take n (map t xs)) < 2 ^ length (take n (map t xs)) = mask_l-lt (take n (map t xs)) in
+        let long : length (take n (map t xs)) ≡ n = length-take-le n (map t xs) (omega (arith, inside, length-map xs t)) in
+        rw (mask_take (map t xs) n) (subst (λ k. mask_l (take n (map t xs)) < 2 ^ k) long short)

@@ -1,0 +1,16 @@
+-- The words are made of the higher halves.
+use Rattle.std.proofs.Common.{ap, arith, ◌/◌, ◌^◌, ◌∙◌}
+use Rattle.std.proofs.lemmas.List.FromFn.{length-map-range_with_len}
+use Rattle.record_words.specs.Packed.{row_at, row_lanes}
+use Rattle.record_words.proofs.Highs.{halves_fit, highs_are, lanes_small, words_by_bytes}
+use Rattle.record_words.proofs.fixed.words_of_high_halves.Goals as goal
+use lib.Lanes.{digits_l, number_l}
+
+pub overflow_cast-result : goal.overflow_cast-result
+overflow_cast-result c = halves_fit 32 c.args.rows c.fits-rows.1
+
+pub returns : goal.returns
+returns c =
+    let rows = c.args.rows in
+    ap (λ lanes. digits_l (2 ^ 64) 8 (number_l (2 ^ 8) (digits_l (2 ^ 8) 64 (number_l (2 ^ 16) lanes)))) (highs_are 16 rows c.fits-rows.0)
+    ∙ words_by_bytes (row_lanes 16 rows) (length-map-range_with_len (λ i. row_at rows i / 2 ^ 16) 0 32) (lanes_small 16 16 rows c.fits-rows.0 (λ x small. omega (arith, small)) c.fits-rows.1)

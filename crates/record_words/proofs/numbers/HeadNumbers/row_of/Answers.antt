@@ -1,0 +1,59 @@
+-- A row is a part of its word, and past the last entry there is none.
+use Rattle.std.proofs.Common.{ℕ, ◌≡◌, ◌+◌, ◌*◌, ◌/◌, ◌%◌, ◌^◌, ◌<◌, ◌-◌, ◌∙◌, ap, arith, bit_and, get_or, length, refl, sym}
+use Rattle.std.proofs.lemmas.List.{get_or_default, get_or_past}
+use Rattle.std.proofs.lemmas.Nat.{and_mask}
+use Rattle.compound_node.proofs.Lawful.{same_count}
+use Rattle.compound_node.specs.Nodes.{IsLawfulNode, NodeView, head_of}
+use Rattle.record_words.proofs.Lawful.{row-lt}
+use Rattle.record_words.proofs.TellingHead.{middle_row_is, narrow_row_is, wide_row}
+use Rattle.record_words.specs.HeadParts.{AreNumbersOf}
+use Rattle.record_words.specs.Kinds.{rows_a_word, rows_from}
+use Rattle.record_words.specs.Node.{head_words}
+use Rattle.record_words.specs.declared.kind.Kind.{Kind}
+use Rattle.record_words.specs.declared.kind.Kind.TheVariants.{Middle, Narrow, Wide}
+use Rattle.record_words.specs.declared.numbers.HeadNumbers.{HeadNumbers}
+use Rattle.record_words.proofs.numbers.HeadNumbers.row_of.Goals as goal
+
+pub returns-then-slot-self : goal.returns-then-slot-self
+returns-then-slot-self c = λ node lawful told same.
+    sym (get_or_past node.rows c.args.slot 4294967295 (omega (arith, c.if-slot-self.true, told.count_is, same_count node lawful)))
+
+-- an entry's row, whose word is that of a head
+module _ (node : NodeView) (lawful : IsLawfulNode node) (numbers : HeadNumbers) (told : AreNumbersOf numbers node) (slot word : ℕ) (before : slot < numbers.count)
+    (same : get_or (head_words (head_of node)) (rows_from numbers.kind + slot / rows_a_word numbers.kind) 0 ≡ word) where
+  inside : slot < length node.rows
+  inside = omega (arith, before, told.count_is, same_count node lawful)
+
+  at : get_or node.rows slot 0 ≡ get_or node.rows slot 4294967295
+  at = sym (get_or_default node.rows slot 4294967295 0 inside)
+
+  word_in : (kind : Kind) → numbers.kind ≡ kind → get_or (head_words (head_of node)) (rows_from kind + slot / rows_a_word kind) 0 ≡ word
+  word_in kind is = ap (λ k. get_or (head_words (head_of node)) (rows_from k + slot / rows_a_word k) 0) (sym is) ∙ same
+
+  narrow : numbers.kind ≡ Narrow → bit_and (word / 2 ^ (8 * (slot % 8))) 255 * 16777216 % 4294967296 ≡ get_or node.rows slot 4294967295
+  narrow is =
+      let part : bit_and (word / 2 ^ (8 * (slot % 8))) (2 ^ 8 - 1) ≡ word / 2 ^ (8 * (slot % 8)) % 2 ^ 8 = and_mask (word / 2 ^ (8 * (slot % 8))) 8 in
+      let row : word / 2 ^ (8 * (slot % 8)) % 2 ^ 8 * 2 ^ 24 ≡ get_or node.rows slot 0 =
+      ap (λ w. w / 2 ^ (8 * (slot % 8)) % 2 ^ 8 * 2 ^ 24) (sym (word_in Narrow is)) ∙ narrow_row_is node lawful (head_words (head_of node)) refl (sym told.kind_is ∙ is) slot inside in
+      omega (arith, part, row, at, row-lt node lawful slot)
+
+  middle : numbers.kind ≡ Middle → bit_and (word / 2 ^ (16 * (slot % 4))) 65535 * 65536 % 4294967296 ≡ get_or node.rows slot 4294967295
+  middle is =
+      let part : bit_and (word / 2 ^ (16 * (slot % 4))) (2 ^ 16 - 1) ≡ word / 2 ^ (16 * (slot % 4)) % 2 ^ 16 = and_mask (word / 2 ^ (16 * (slot % 4))) 16 in
+      let row : word / 2 ^ (16 * (slot % 4)) % 2 ^ 16 * 2 ^ 16 ≡ get_or node.rows slot 0 =
+      ap (λ w. w / 2 ^ (16 * (slot % 4)) % 2 ^ 16 * 2 ^ 16) (sym (word_in Middle is)) ∙ middle_row_is node lawful (head_words (head_of node)) refl (sym told.kind_is ∙ is) slot inside in
+      omega (arith, part, row, at, row-lt node lawful slot)
+
+  wide : numbers.kind ≡ Wide → bit_and (word / 2 ^ (32 * (slot % 2))) 4294967295 ≡ get_or node.rows slot 4294967295
+  wide is =
+      and_mask (word / 2 ^ (32 * (slot % 2))) 32 ∙ (ap (λ w. w / 2 ^ (32 * (slot % 2)) % 2 ^ 32) (sym (word_in Wide is))
+      ∙ wide_row node lawful (head_words (head_of node)) refl (sym told.kind_is ∙ is) slot (omega (arith, inside, same_count node lawful, lawful.room)))
+
+pub returns-in-Wide : goal.returns-in-Wide
+returns-in-Wide c = λ node lawful told same. wide node lawful c.args.self told c.args.slot c.args.word (omega (arith, c.if-slot-self.false)) same c.in-Wide.is
+
+pub returns-in-Narrow : goal.returns-in-Narrow
+returns-in-Narrow c = λ node lawful told same. narrow node lawful c.args.self told c.args.slot c.args.word (omega (arith, c.if-slot-self.false)) same c.in-Narrow.is
+
+pub returns-in-Middle : goal.returns-in-Middle
+returns-in-Middle c = λ node lawful told same. middle node lawful c.args.self told c.args.slot c.args.word (omega (arith, c.if-slot-self.false)) same c.in-Middle.is

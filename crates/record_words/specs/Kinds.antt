@@ -1,0 +1,113 @@
+-- The kinds of a node's head: which one its columns take, and the lanes of bytes in which a near one spells them.
+use Rattle.std.specs.Prelude.{ℕ, ◌≡◌, ◌≤◌, ◌++◌, ◌+◌, ◌-◌, ◌*◌, ◌/◌, ◌%◌, ◌^◌, ◌&&◌, Bool, cond, eqb, nat_le, nat_lt, not, true, List, length, map, replicate, slice_index, slice_index_or}
+use Rattle.std.specs.List.{range_with_len}
+use lib.Lanes.{digits_l, number_l}
+use Rattle.key_bits.specs.declared.TheConstants.{MAX_BYTES}
+use Rattle.partial_keys.specs.Columns.{IsColumns}
+use Rattle.pieces.specs.Positions.{all}
+use Rattle.record_words.specs.declared.kind.Kind.{Kind}
+use Rattle.record_words.specs.declared.kind.Kind.TheVariants.{Wide, Narrow, Middle}
+use Rattle.record_words.specs.declared.TheConstants.{FIRST_MIDDLE_ROWS, FIRST_NARROW_ROWS, FIRST_POSITIONS, FIRST_ROWS, HEAD_WORDS, MIDDLE_COLUMNS, MIDDLE_HEAD_WORDS, NARROW_COLUMNS, NARROW_HEAD_WORDS, WINDOW_BYTES}
+
+-- the byte of a key that has the bit at the first column
+abbrev pub first_byte : List ℕ → ℕ
+first_byte columns = slice_index columns 0 / 9
+
+-- a bit of one of the sixteen bytes from this one on, and not the bit that says that there is a byte
+abbrev pub is_near : ℕ → ℕ → Bool
+is_near first p = not (eqb (p % 9) 0) && nat_lt (p / 9) (first + WINDOW_BYTES)
+
+-- sixteen bytes, which the places of each key have, have all bits at the columns
+abbrev pub are_near : List ℕ → Bool
+are_near columns = nat_le (first_byte columns + WINDOW_BYTES) MAX_BYTES && all (is_near (first_byte columns)) columns
+
+-- the smallest kind that can spell the columns
+abbrev pub kind_of : List ℕ → Kind
+kind_of columns = cond (are_near columns && nat_le (length columns) MIDDLE_COLUMNS) (cond (nat_le (length columns) NARROW_COLUMNS) Narrow Middle) Wide
+
+-- how many words of a head say something
+abbrev pub head_size : Kind → ℕ
+head_size Wide = HEAD_WORDS
+head_size Narrow = NARROW_HEAD_WORDS
+head_size Middle = MIDDLE_HEAD_WORDS
+
+-- the index of the first word with rows, and how many rows a word has
+abbrev pub rows_from : Kind → ℕ
+rows_from Wide = FIRST_ROWS
+rows_from Narrow = FIRST_NARROW_ROWS
+rows_from Middle = FIRST_MIDDLE_ROWS
+
+abbrev pub rows_a_word : Kind → ℕ
+rows_a_word Wide = 2
+rows_a_word Narrow = 8
+rows_a_word Middle = 4
+
+-- what the first word of a head says of its kind, and of the byte from which a near one counts; a wide head has 0
+abbrev pub kind_part : Kind → List ℕ → ℕ
+kind_part Wide columns = 0
+kind_part Narrow columns = 2 ^ 40 + 2 ^ 32 * first_byte columns
+kind_part Middle columns = 2 ^ 41 + 2 ^ 32 * first_byte columns
+
+-- the kind that the first word of a head tells
+abbrev pub kind_in : ℕ → Kind
+kind_in word = cond (eqb (word / 2 ^ 40) 1) Narrow (cond (eqb (word / 2 ^ 40) 2) Middle Wide)
+
+-- the index behind the last word in which so many columns have something
+abbrev pub columns_end : Kind → ℕ → ℕ
+columns_end Wide count = FIRST_POSITIONS + (count + 3) / 4
+columns_end Narrow count = FIRST_NARROW_ROWS
+columns_end Middle count = FIRST_MIDDLE_ROWS
+
+-- the index of the word with the position of a column, or with the index of its byte
+abbrev pub position_index : Kind → ℕ → ℕ
+position_index Wide column = FIRST_POSITIONS + column / 4
+position_index Narrow column = FIRST_POSITIONS
+position_index Middle column = cond (nat_lt column 8) (FIRST_POSITIONS + 1) FIRST_POSITIONS
+
+-- the index of the word with the mask of a column; a wide head has none, and its position stands for it
+abbrev pub mask_index : Kind → ℕ → ℕ
+mask_index Wide column = position_index Wide column
+mask_index Narrow column = position_index Narrow column + 1
+mask_index Middle column = position_index Middle column + 2
+
+-- so many words of these lanes of w bits, the first lane in the lowest bits of the first word
+unfoldable pub lane_words : ℕ → ℕ → List ℕ → List ℕ
+lane_words w count lanes = digits_l (2 ^ 64) count (number_l (2 ^ w) lanes)
+
+-- the bit of a position in its byte; 0 for the bit that says that there is a byte
+abbrev pub bit_mask : ℕ → ℕ
+bit_mask p = cond (eqb (p % 9) 0) 0 (2 ^ (8 - p % 9))
+
+-- Column 15 - i has lane i, so that a comparison of the lanes gives the highest bits of a dense key. A lane past the last column has the
+-- first of the nine bits of the first byte.
+abbrev pub near_position : List ℕ → ℕ → ℕ
+near_position columns i = slice_index_or columns (15 - i) (9 * first_byte columns)
+
+-- how many bytes behind the first one the byte of each lane is
+abbrev pub index_lanes : List ℕ → List ℕ
+index_lanes columns = map (λ i. near_position columns i / 9 - first_byte columns) (range_with_len 0 16)
+
+-- the bit of each lane in its byte; 0 past the last column
+abbrev pub mask_lanes : List ℕ → List ℕ
+mask_lanes columns = map (λ i. bit_mask (near_position columns i)) (range_with_len 0 16)
+
+-- how far a position is behind the first of the nine bits of a byte, in 16 bits; 0 for 65,535, which stands for no column
+abbrev pub distance_from : ℕ → ℕ → ℕ
+distance_from first p = cond (eqb p 65535) 0 ((p + (2 ^ 16 - 9 * first % 2 ^ 16)) % 2 ^ 16)
+
+-- columns that a near head can spell
+pub record HasNearLanes (columns : List ℕ) : Type 0 where
+  pub positions : IsColumns columns
+  pub few : length columns ≤ MIDDLE_COLUMNS
+  pub near : are_near columns ≡ true
+
+-- lanes that spell such columns, counted from this byte on
+pub record AreNearLanes (columns indexes masks : List ℕ) (first : ℕ) : Type 0 where
+  pub has : HasNearLanes columns
+  pub indexes_are : indexes ≡ index_lanes columns
+  pub masks_are : masks ≡ mask_lanes columns
+  pub first_is : first ≡ first_byte columns
+
+-- sixteen positions, those of the columns and 65,535 behind them
+abbrev pub with_free_to_16 : List ℕ → List ℕ
+with_free_to_16 columns = columns ++ replicate (16 - length columns) 65535

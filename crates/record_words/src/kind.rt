@@ -1,0 +1,91 @@
+//! The kinds of a node's head, by how many columns it has and how close together they are.
+
+ghost use Rattle.std.specs.Prelude.{◌≡◌};
+ghost use Rattle.record_words.specs.Kinds.{are_near, kind_of};
+
+use crate::{
+    FIRST_MIDDLE_ROWS, FIRST_NARROW_ROWS, FIRST_ROWS, HEAD_WORDS, MIDDLE_COLUMNS,
+    MIDDLE_HEAD_WORDS, NARROW_COLUMNS, NARROW_HEAD_WORDS, WINDOW_BYTES,
+};
+use key_bits::MAX_BYTES;
+use partial_keys::Columns;
+
+/// How a head spells its columns and rows. The columns decide it: near ones have their bits in sixteen bytes, and none is the bit that says
+/// that there is a byte.
+#[derive(Clone, Copy, PartialEq, Eq)]
+pub enum Kind {
+    /// Any columns: 16 bits for each, and rows of 32 bits.
+    Wide = 0,
+    /// At most 8 near columns: two bytes for each, and rows of 8 bits.
+    Narrow = 1,
+    /// At most 16 near columns: two bytes for each, and rows of 16 bits.
+    Middle = 2,
+}
+
+impl Kind {
+    ghost use Rattle.std.specs.Prelude.{◌≡◌};
+    ghost use Rattle.record_words.specs.Kinds.{head_size, rows_from, rows_a_word};
+
+    /// How many words of a head of this kind say something: 25, 7 or 13. The words behind them are all ones.
+    #[inline(always)]
+    pub fn head_words(self) -> usize
+        ensures { result ≡ head_size self }
+    {
+        match self {
+            Kind::Wide => HEAD_WORDS,
+            Kind::Narrow => NARROW_HEAD_WORDS,
+            Kind::Middle => MIDDLE_HEAD_WORDS,
+        }
+    }
+
+    /// The index of the first word with rows, in a head of this kind.
+    #[inline(always)]
+    pub fn first_rows(self) -> usize
+        ensures { result ≡ rows_from self }
+    {
+        match self {
+            Kind::Wide => FIRST_ROWS,
+            Kind::Narrow => FIRST_NARROW_ROWS,
+            Kind::Middle => FIRST_MIDDLE_ROWS,
+        }
+    }
+
+    /// How many rows a word of a head of this kind has.
+    #[inline(always)]
+    pub fn rows_a_word(self) -> usize
+        ensures { result ≡ rows_a_word self }
+    {
+        match self {
+            Kind::Wide => 2,
+            Kind::Narrow => 8,
+            Kind::Middle => 4,
+        }
+    }
+}
+
+/// The kind of a head with `columns`: the smallest that can spell them.
+pub fn kind_of(columns: &Columns) -> Kind
+    ensures { result ≡ kind_of columns.now }
+{
+    let count = columns.count() as usize;
+    if count > MIDDLE_COLUMNS || !are_near(columns) {
+        return Kind::Wide;
+    }
+    if count <= NARROW_COLUMNS {
+        Kind::Narrow
+    } else {
+        Kind::Middle
+    }
+}
+
+/// Whether all bits at `columns` are in sixteen bytes that each key has places for, and none says that there is a byte.
+fn are_near(columns: &Columns) -> bool
+    ensures { result ≡ are_near columns.now }
+{
+    let first = columns.first() as usize / 9;
+    if first + WINDOW_BYTES > MAX_BYTES {
+        return false;
+    }
+    let end = first + WINDOW_BYTES;
+    columns.as_slice().iter().all(|position| *position % 9 != 0 && (*position as usize) / 9 < end)
+}

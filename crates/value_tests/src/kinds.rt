@@ -1,0 +1,217 @@
+//! Heads of each kind by value: their words read plainly, and searched, against the node that they spell.
+
+ghost use Rattle.std.specs.Prelude.{◌≡◌, ◌≤◌, ◌<◌, length};
+
+use crate::nodes::{comb_node, key};
+use compound_node::{Entry, Node};
+use key_bits::Key;
+use record_words::{
+    FIRST_ROWS, HEAD_WORDS, Kind, MIDDLE_HEAD_WORDS, NARROW_HEAD_WORDS, NODE_FIELDS, ROW_WORDS,
+    add_leaf, affected_slots, extract_dense_key, first_position_of, index_of_first_position,
+    pack_node, read_node, read_numbers, search_middle, search_narrow, search_row_words,
+};
+use std::process::Abort;
+
+/// Columns and the kind of their head: 8 of them and 9, 16 and 17, in byte 15 and 16, with a bit that says that there is a byte, and at the
+/// last bytes of a key.
+const KINDS: [(&[u16], Kind); 13] = [
+    (&[7, 8], Kind::Narrow),
+    (&[1, 2, 10, 20, 35, 71, 100, 143], Kind::Narrow),
+    (&[1, 2, 10, 20, 35, 71, 100, 142, 143], Kind::Middle),
+    (
+        &[
+            28, 29, 30, 31, 32, 33, 34, 35, 37, 38, 39, 40, 41, 42, 169, 170,
+        ],
+        Kind::Middle,
+    ),
+    (
+        &[
+            28, 29, 30, 31, 32, 33, 34, 35, 37, 38, 39, 40, 41, 42, 43, 169, 170,
+        ],
+        Kind::Wide,
+    ),
+    (&[1, 144], Kind::Wide),
+    (&[1, 145], Kind::Wide),
+    (&[10, 145], Kind::Narrow),
+    (&[9, 10], Kind::Wide),
+    (&[8, 9, 10], Kind::Wide),
+    (&[2017, 2018, 2159], Kind::Narrow),
+    (&[2026, 2159], Kind::Wide),
+    (
+        &[
+            1, 2, 3, 4, 5, 6, 7, 8, 10, 11, 12, 13, 14, 15, 16, 17, 19, 20, 21, 22, 23, 24, 25, 26,
+            28, 29, 30, 31, 32, 33, 34,
+        ],
+        Kind::Wide,
+    ),
+];
+
+/// The position of column `j` of the head with `words`, whose kind is `kind`, as the layout tells it.
+fn plain_position(words: &[u64; NODE_FIELDS], kind: Kind, j: usize) -> u16
+    requires { j < 31 }
+{
+    if kind == Kind::Wide {
+        return (words[1 + j / 4] >> (16 * (j % 4)) & 0xffff) as u16;
+    }
+    let first = words[0] >> 32 & 0xff;
+    let (index, mask) = match kind {
+        Kind::Narrow => (words[1], words[2]),
+        _ if j < 8 => (words[2], words[4]),
+        _ => (words[1], words[3]),
+    };
+    let low = 56 - 8 * (j % 8);
+    let mut bit = 0;
+    for o in 1..9 {
+        if mask >> low & 0xff == 256 >> o {
+            bit = o;
+        }
+    }
+    (9 * (first + (index >> low & 0xff)) + bit) as u16
+}
+
+/// The row of slot `i` of the head with `words`, whose kind is `kind`, as the layout tells it.
+fn plain_row(words: &[u64; NODE_FIELDS], kind: Kind, i: usize) -> u32
+    requires { i < 32 }
+{
+    match kind {
+        Kind::Wide => (words[9 + i / 2] >> (32 * (i % 2)) & 0xffff_ffff) as u32,
+        Kind::Narrow => ((words[3 + i / 8] >> (8 * (i % 8)) & 0xff) as u32) << 24,
+        Kind::Middle => ((words[5 + i / 4] >> (16 * (i % 4)) & 0xffff) as u32) << 16,
+    }
+}
+
+/// The slot that the words of a head lead to by `key`.
+fn search_words(words: &[u64; NODE_FIELDS], key: &Key) -> u8 {
+    match read_numbers(words[0]).kind {
+        Kind::Wide => {
+            let mut front = [0; FIRST_ROWS];
+            front.copy_from_slice(&words[..FIRST_ROWS]);
+            let mut back = [0; ROW_WORDS];
+            back.copy_from_slice(&words[FIRST_ROWS..HEAD_WORDS]);
+            search_row_words(&back, extract_dense_key(&front, key))
+        }
+        Kind::Narrow => {
+            let mut front = [0; NARROW_HEAD_WORDS];
+            front.copy_from_slice(&words[..NARROW_HEAD_WORDS]);
+            search_narrow(&front, key)
+        }
+        Kind::Middle => {
+            let mut front = [0; MIDDLE_HEAD_WORDS];
+            front.copy_from_slice(&words[..MIDDLE_HEAD_WORDS]);
+            search_middle(&front, key)
+        }
+    }
+}
+
+/// Asserts that `words` are those of `node`, by each function that reads them.
+fn expect_words(rt: &impl Abort, words: &[u64; NODE_FIELDS], node: &Node, want: Kind) {
+    let numbers = read_numbers(words[0]);
+    let columns = node.columns();
+    assert!(rt; numbers.kind == want);
+    assert!(rt; numbers.count == node.count() && numbers.columns == columns.count());
+    assert!(rt; numbers.height == node.height());
+    for j in 0..columns.count() {
+        let position = columns.position(j);
+        assert!(rt;
+            plain_position(words, want, j as usize) == position,
+            "column {j}"
+        );
+        let word = words[numbers.index_of_position(j)];
+        let masks = words[numbers.index_of_mask(j)];
+        assert!(rt;
+            numbers.position_of(word, masks, j) == position,
+            "column {j}"
+        );
+    }
+    let first = first_position_of(numbers, words[index_of_first_position(want)]);
+    assert!(rt; first == columns.first());
+    for i in 0..node.count() {
+        assert!(rt;
+            plain_row(words, want, i as usize) == node.sparse(i),
+            "row {i}"
+        );
+        let row = numbers.row_of(words[numbers.index_of_row(i)], i);
+        assert!(rt; row == node.sparse(i), "row {i}");
+    }
+    for index in want.head_words()..HEAD_WORDS {
+        assert!(rt; words[index] == u64::MAX, "unused word {index}");
+    }
+    let read = read_node(words);
+    assert!(rt; *read.columns().padded_positions() == *columns.padded_positions());
+    assert!(rt; *read.padded_rows() == *node.padded_rows());
+}
+
+/// Bytes of a long key, so that each search meets ones and zeros.
+fn long_key(rt: &impl Abort, seed: u8, length: usize) -> Key {
+    let mut bytes = [0; 240];
+    let mut state = seed as u32;
+    for i in 0..240 {
+        state = (state * 75 + 74) % 65_537;
+        bytes[i] = (state / 7 % 256) as u8;
+    }
+    key(rt, &bytes[..length])
+}
+
+/// A head takes the kind of its columns, and each function that reads or searches its words agrees with the node.
+#[test]
+fn heads_take_the_kind_of_their_columns(rt: HostRuntime) {
+    for (positions, want) in KINDS {
+        let node = comb_node(&rt, positions);
+        let words = pack_node(&node);
+        let mut head = [0; HEAD_WORDS];
+        head.copy_from_slice(&words[..HEAD_WORDS]);
+        expect_words(&rt, &words, &node, want);
+        for length in [
+            0, 1, 2, 3, 7, 15, 16, 17, 18, 19, 25, 200, 224, 225, 239, 240,
+        ] {
+            for seed in 1..9 {
+                let key = long_key(&rt, seed, length);
+                assert!(rt;
+                    search_words(&words, &key) == node.search(&key),
+                    "key {seed} of {length}"
+                );
+            }
+        }
+        for found in 0..node.count() {
+            for position in [0, 1, 2, 8, 10, 30, 40, 144, 170, 2018, 2159, 65_534] {
+                assert!(rt;
+                    affected_slots(&head, found, position) == node.affected(found, position)
+                );
+            }
+        }
+    }
+}
+
+/// A leaf is added to the words as to the node, where the position is a column and where it is none, and the kind changes with the columns.
+#[test]
+fn leaves_are_added_to_each_kind(rt: HostRuntime) {
+    for (positions, _want) in KINDS {
+        let node = comb_node(&rt, positions);
+        for position in [1, 7, 8, 9, 11, 33, 43, 99, 141, 150, 2018, 2100, 2159] {
+            if node.count() < 32 {
+                for bit in [false, true] {
+                    for found in [0, node.count() - 1] {
+                        let (first, last) = node.affected(found, position);
+                        let mut taken = false;
+                        for slot in first..last + 1 {
+                            for j in 0..node.columns().count() {
+                                if node.columns().position(j) == position
+                                    && node.sparse(slot) >> (31 - j) & 1 == 1
+                                {
+                                    taken = true;
+                                }
+                            }
+                        }
+                        if !taken && (node.columns().count() < 31) {
+                            let mut words = pack_node(&node);
+                            add_leaf(&mut words, first, last, position, bit, 77);
+                            let want = node.insert(first, last, position, bit, Entry::Leaf(77));
+                            assert!(rt; words == pack_node(&want), "at {position}");
+                            expect_words(&rt, &words, &want, record_words::kind_of(want.columns()));
+                        }
+                    }
+                }
+            }
+        }
+    }
+}
