@@ -106,7 +106,7 @@ impl Index {
     /// key's value, or `Absent`.
     ///
     /// Where `try_remove_if` would return `Busy`, or records may come back, the call begins again, as `insert` does. It is refused only
-    /// with `Full::Nodes`: a removal needs no leaf record.
+    /// with `Full::Nodes`: a removal needs no leaf record. In an index of one pass it is not refused, as `remove` isn't.
     pub fn remove_if<R: Wait>(
         &self,
         rt: &R,

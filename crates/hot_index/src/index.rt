@@ -200,6 +200,9 @@ impl Index {
     ///
     /// Where `try_remove` would return `Busy`, or records may come back, the call begins again, as `insert` does. It is refused only with
     /// `Full::Nodes`: a removal needs no leaf record.
+    ///
+    /// In an index of one pass it is not refused while fewer than 2^60 steps have been made: insertions leave a node record for it (`room`,
+    /// `laws::one_pass_keeps_spare`).
     pub fn remove<R: Wait>(&self, rt: &R, pass: &mut Pass, key: &Key) -> Result<Reply, Full>
         requires { Owns self.now pass.old }
         ensures { IsAwaited (Remove key.now) result self.now pass.old pass.new }

@@ -259,8 +259,8 @@ module _ {G : Type 0} (table : TableView) (becomes : G → Event → G → Type 
             n,
             low,
             λ d there. (let (knows, lawful) = runs_known (LoadEpoch r.epoch) _ a b r.does.steps d there in
-              unused_free d b.0.known (a_node n) lawful knows (ap (λ (l : Layout). l.passes) (lead_layout (opening table.layout) b.0.trace d there.led) ∙ one)
-              (λ x has at. absurd (subst (IsOneOf x) (ap (λ (z : Known). z.own) r.does.rest ∙ own) has)) (unused d there)),
+                unused_free d b.0.known (a_node n) lawful knows (ap (λ (l : Layout). l.passes) (lead_layout (opening table.layout) b.0.trace d there.led) ∙ one)
+                (λ x has at. absurd (subst (IsOneOf x) (ap (λ (z : Known). z.own) r.does.rest ∙ own) has)) (unused d there)),
           ),
         )
 
