@@ -1,5 +1,5 @@
 -- The promises of the headline, one by one.
-use Rattle.std.proofs.Common.{◌≡◌, ◌≢◌, inl, inr, ⊎_elim, ℕ, ◌+◌, ◌*◌, ◌<◌, ◌≤◌, List, [], ◌∷◌, ◌++◌, refl, sym, ap, subst, ◌∙◌, arith, append-nil}
+use Rattle.std.proofs.Common.{◌≡◌, ◌≢◌, inl, inr, ⊎_elim, ℕ, ◌+◌, ◌*◌, ◌<◌, ◌≤◌, List, [], ◌∷◌, ◌++◌, refl, sym, ap, subst, ◌∙◌, arith, append-nil, le_refl, le_trans}
 use Rattle.std.specs.Prelude.{All}
 use Rattle.std.proofs.lemmas.List.Elements.{All-head, All-nil}
 use Rattle.key_bits.specs.declared.TheConstants.{MAX_BYTES}
@@ -15,11 +15,16 @@ use Rattle.finite_map.proofs.Weaving.{weave-legal}
 use Rattle.plain_index.proofs.InOrder.{weave-in_order}
 use Rattle.plain_index.proofs.Together.{woven-in_order_two}
 use Rattle.rowex_core.specs.declared.known.Known.{Known}
+use Rattle.rowex_core.proofs.Loading.{LastOf, last, value_fact, view}
 use Rattle.rowex_core.proofs.Promises.{entries_in_reach, in_reach}
 use Rattle.record_words.specs.declared.layout.Layout.{Layout}
 use Rattle.rowex_writing.specs.declared.attempts.TryFault.{TryFault}
 use Rattle.rowex_writing.specs.declared.attempts.TryFault.TheVariants.{Busy, FullLeaves, FullNodes}
 use Rattle.version_laws.specs.Directions.{ScanLaw}
+use Rattle.versions.specs.Core.{pin_version}
+use Rattle.versions.specs.State.{IsReach}
+use Rattle.versions.specs.declared.Rec.TheVariants.{Leaf as a_leaf}
+use Rattle.versions.proofs.States.{reach_later}
 use Rattle.hot_index_calls.specs.Answers.{IsCause, MayRefuse}
 use Rattle.hot_index.proofs.Alone.{one_pass_full_is_full, one_pass_is_never_busy}
 use Rattle.hot_index.proofs.Counted.{counts_add_up}
@@ -29,7 +34,7 @@ use Rattle.real_time.specs.Moments.{Happening, IsWholeRun, Moment}
 use Rattle.real_time.specs.Scanning.{IsScanInTime}
 use Rattle.real_time.proofs.Replies.{behind, effect, replies_in_time}
 use Rattle.real_time.proofs.Scanning.{scans_in_time}
-use Rattle.index_laws.specs.Headline.{BoundedSteps, Freshness, FreshnessOfMany, Headline, History, NeverRefused, OneHistory, Refusals, ScansShow}
+use Rattle.index_laws.specs.Headline.{BoundedSteps, Freshness, FreshnessOfMany, Headline, History, NeverRefused, OneHistory, Refusals, ScansShow, ValuesInReach}
 use Rattle.index_laws.proofs.Joining.{one_run_is_an_execution}
 use Rattle.index_laws.proofs.Living.{one_history_of_all}
 use Rattle.index_laws.proofs.Traced.{ended_before_loaded, traced_are_executions}
@@ -134,6 +139,24 @@ steps = record {
   count = λ index counts k j h. (let many = h.many in omega (arith, many));
 }
 
+values_in_reach : ValuesInReach
+values_in_reach c law q p e m l u lo hi st =
+    let x : LastOf c m (a_leaf l) = last c law m reach (a_leaf l) (m, u, le_refl m, hi, st) in
+    let f = (value_fact c law m reach l).1 x.at x.low (x.at, x.tree, le_refl x.at, x.high, x.stands) in (
+      f.0,
+      f.1,
+      le_trans x.low f.2,
+      record {
+        past = f.3;
+        stands = f.4;
+        later = λ o v late past s. let from = f.2 in let ends = x.ends o v (let low = x.low in omega arith) past s in omega arith;
+      },
+      f.5,
+    )
+  where
+    reach : IsReach (view c) m
+    reach = reach_later (view c) p.version m lo (law.core.state.reach q p.version (ap pin_version e))
+
 pub headline : Headline
 headline = record {
   history = history;
@@ -157,4 +180,5 @@ headline = record {
   steps = steps;
   out_of_reach = in_reach;
   entries_in_reach = entries_in_reach;
+  values_in_reach = values_in_reach;
 }

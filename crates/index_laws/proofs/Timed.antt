@@ -1,6 +1,5 @@
 -- The opening of a run, and calls whose contracts say how they ended as calls of a run.
-use Rattle.std.proofs.Common.{◌≡◌, inl, inr, ℕ, zero, suc, ◌<◌, ◌≤◌, List, [], ◌∷◌, ◌++◌, length, map, refl, sym, ap, subst, ◌∙◌, arith, ⊎_elim, le_refl, le_trans, append-nil}
-use Rattle.std.specs.Prelude.{get_or}
+use Rattle.std.proofs.Common.{◌≡◌, inl, inr, ℕ, zero, suc, ◌<◌, ◌≤◌, List, [], ◌∷◌, ◌++◌, length, map, refl, sym, ap, subst, ◌∙◌, arith, ⊎_elim, le_refl, append-nil}
 use Rattle.std.proofs.lemmas.Bool.{cases_eq}
 use Rattle.std.specs.List.Sorted.{IsPermutation}
 use Rattle.std.proofs.lemmas.List.Elements.{All-cons, All-from_recursion, All-nil, All-weaker}
@@ -9,9 +8,7 @@ use Rattle.finite_map.specs.declared.Call.{Call}
 use Rattle.finite_map.specs.declared.Note.{Note}
 use Rattle.finite_map.specs.declared.Reply.{Reply}
 use Rattle.finite_map.specs.Calls.{LegalCalls}
-use Rattle.finite_map.specs.Fronts.{BeginsWith}
 use Rattle.record_words.specs.declared.layout.Layout.{Layout}
-use Rattle.rowex_core.specs.declared.known.Fresh.{Fresh}
 use Rattle.rowex_core.specs.declared.known.Known.{Known}
 use Rattle.rowex_core.specs.Cores.{Core}
 use Rattle.rowex_core.specs.Knowing.{IsFact, IsUntouched, Knows, IsStillLoaded}
@@ -23,7 +20,6 @@ use Rattle.hot_index_calls.specs.Answers.{IsNoted}
 use Rattle.hot_index_calls.specs.Passes.{pass_of}
 use Rattle.real_time.specs.Moments.{Continues, Happening, IsPlacedSince, IsResponse, IsWholeRun, Moment, Pending, invokes, refuses, responds, shows, steps}
 use Rattle.real_time.proofs.Completing.{linearizable}
-use Rattle.real_time.proofs.Growing.{longer, runs_stay_sound}
 use Rattle.index_laws.specs.Executions.{HasAnsweredMany, LeadsOn, IsExecution, IsQuiet, IsReturning}
 use Rattle.index_laws.specs.Statements.{ExecutionsAreLinearizable, ExecutionsAreRuns, LackMayRefuse, OpeningIsNew, RefusedIsRefused, Responses, ReturnedResponds}
 

@@ -1,5 +1,5 @@
 -- What is promised of an index, in one place. Most promises say what a definition comes to that contracts of its calls name, alone or over
--- whole runs. The last two say of each lawful core what stands in records that a pinned pass may reach.
+-- whole runs. The last three say of each lawful core what stands in records that a pinned pass may reach.
 --
 -- What no contract can say, and so is no promise here:
 -- - that the code runs, and that a call returns at all;
@@ -7,7 +7,7 @@
 -- - when a call begins and ends, by the clock. The kit says of its table that each atomic step is one step of it, and that it has one state
 --   between any two of them. By its rule all steps are one list, of which each pass knows a part, and contracts of steps say how they follow one
 --   another in it: so what they tell is an execution (`traced`).
-use Rattle.std.specs.Prelude.{◌≡◌, ◌≢◌, ◌⊎◌, ℕ, ◌+◌, ◌*◌, ◌<◌, ◌≤◌, All, List, [], ◌∷◌, ◌++◌, Result}
+use Rattle.std.specs.Prelude.{◌≡◌, ◌≢◌, ◌⊎◌, ℕ, ◌+◌, ◌*◌, ◌<◌, ◌≤◌, All, List, [], ◌∷◌, ◌++◌, Result, Some}
 use Rattle.key_bits.specs.declared.TheConstants.{MAX_BYTES}
 use Rattle.finite_map.specs.declared.Call.{Call}
 use Rattle.finite_map.specs.declared.Note.{Note}
@@ -21,12 +21,19 @@ use Rattle.finite_map.specs.Scans.{IsLawfulScan, IsUpToLast}
 use Rattle.finite_map.specs.Weaves.{LegalHistory, answered, calls_of, weave}
 use Rattle.plain_index.specs.Orders.{AreWoven, calls_in}
 use Rattle.record_words.specs.declared.layout.Layout.{Layout}
-use Rattle.rowex_core.specs.Statements.{EntriesInReach, InReach}
+use Rattle.rowex_core.specs.Cores.{Core, IsLawful, value_offset}
+use Rattle.rowex_core.specs.Reading.{head_value}
+use Rattle.rowex_core.specs.Statements.{EntriesInReach, InReach, StoodLast}
+use Rattle.rowex_core.specs.Words.{record_word}
 use Rattle.rowex_scanning.specs.Counts.{scan_entries}
 use Rattle.rowex_table.specs.Seats.{SeatView, TableView}
 use Rattle.rowex_writing.specs.declared.attempts.TryFault.{TryFault}
 use Rattle.rowex_writing.specs.declared.attempts.TryFault.TheVariants.{Busy, FullLeaves}
+use Rattle.tries.specs.Tree.{Tree}
 use Rattle.version_laws.specs.Directions.{ScanLaw}
+use Rattle.versions.specs.State.{Stands}
+use Rattle.versions.specs.declared.Pin.{Pin}
+use Rattle.versions.specs.declared.Rec.TheVariants.{Leaf as a_leaf}
 use Rattle.hot_index_calls.specs.Answers.{HaveMet, IsCause, IsListedBy, IsNoted, IsRefused, IsScannedBy, MayRefuse, range_from}
 use Rattle.hot_index_calls.specs.declared.census.RecordCounts.{RecordCounts}
 use Rattle.hot_index_calls.specs.Census.{HasCounted}
@@ -87,7 +94,7 @@ ScansShow IsLawful IsReached =
 
 -- A refused call has changed nothing. One that is busy found that another pass stood in its way, and with one pass it is never busy. One that
 -- is full found each record not free that would have served. None of these was its own, but for some node records: at most two for each node
--- that it had locked.
+-- that it had locked, and one.
 abbrev pub Refusals : Type 0
 Refusals =
     (layout : Layout) (call : Call) (k j : PassView) (fault : TryFault) → IsRefused layout call k j fault → LegalCalls k.front k.number k.notes →
@@ -121,6 +128,13 @@ pub record BoundedSteps : Type 0 where
   pub count : (index : TableView) (counts : RecordCounts) (k j : PassView) → HasCounted index untold (k, tt) (j, tt) counts →
       j.steps ≤ k.steps + (index.layout.nodes + index.layout.leaves)
 
+-- Of a leaf that stood in a version m since a pass's pin, the value is the one that it had when it stood last, which is now or in a version
+-- since m.
+abbrev pub ValuesInReach : Type 0
+ValuesInReach =
+    (c : Core) → IsLawful c → (q : ℕ) (p : Pin) → c.pins q ≡ Some p → (m l : ℕ) (u : Tree) → p.version ≤ m → m ≤ c.past.now → Stands c.past m (a_leaf l) u →
+    (o : ℕ) × (v : Tree) × (m ≤ o) × StoodLast c.past o (a_leaf l) v × (head_value v ≡ Some (record_word c (a_leaf l) value_offset))
+
 pub record Headline : Type 0 where
   pub history : History
   pub one_history : OneHistory
@@ -142,8 +156,8 @@ pub record Headline : Type 0 where
   pub scans : ScansShow IsLawfulScan IsUpToLast
   pub reverse_scans : ScansShow IsLawfulReverseScan IsDownToLast
   pub refusals : Refusals
-  -- with one pass, each leaf record that a full call lacked was in the tree or retired; and so was at least a third of the node records, and
-  -- each of them but for 4,320 at most
+  -- with one pass, each leaf record that a full call lacked was in the tree or retired; and so was at least a third of the node records but one,
+  -- and each of them but for 4,321 at most
   pub full_alone : OnePassFullIsFull
   pub never_refused : NeverRefused
   pub new_values_fit : NewValuesFit
@@ -151,6 +165,7 @@ pub record Headline : Type 0 where
   pub number_of_keys : CountsAddUp
   pub steps : BoundedSteps
   -- a record that a pinned pass may reach is not reused, and its words are as they were when it stood in the tree, but for its state, a node's
-  -- entries, and what stands behind a leaf's key; and each entry is one that the node had when it stood last
+  -- entries, a leaf's value, and what stands behind a leaf's key; and an entry, or a value, is one that the record had when it stood last
   pub out_of_reach : InReach
   pub entries_in_reach : EntriesInReach
+  pub values_in_reach : ValuesInReach
