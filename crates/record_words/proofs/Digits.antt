@@ -19,6 +19,16 @@ base_16 = record { low = λ x n h. omega arith; high = λ x n h. omega arith; pa
 pub base_64 : IsBase (2 ^ 64)
 base_64 = record { low = λ x n h. omega arith; high = λ x n h. omega arith; parts = λ x. omega arith; less = λ x n h. omega arith }
 
+-- numbers below a base make one below its power
+pub number-lt : (p n : ℕ) (xs : List ℕ) → length xs ≡ n → Each1 (λ x. x < p) xs → number_l p xs < p ^ n
+number-lt p zero [] e h = omega (arith, pow-zero p)
+number-lt p zero (x ∷ xs) e h = absurd (omega (arith, e))
+number-lt p (suc n) [] e h = absurd (omega (arith, e))
+number-lt p (suc n) (x ∷ xs) e h =
+    let low = number-lt p n xs (omega (arith, e)) h.1 in
+    let more : number_l p xs + 1 ≤ p ^ n = omega (arith, low) in
+    omega (arith, h.0, mul-le-mul_left p more, pow-suc p n)
+
 module _ (p : ℕ) (base : IsBase p) where
   -- the digits make the number
   pub number_of_digits : (n x : ℕ) → x < p ^ n → number_l p (digits_l p n x) ≡ x
@@ -34,12 +44,3 @@ module _ (p : ℕ) (base : IsBase p) where
   digits_of_number (suc n) (x ∷ xs) e h =
       ap₂ (λ (y : ℕ) (ys : List ℕ). y ∷ ys) (base.low x (number_l p xs) h.0)
       (ap (digits_l p n) (base.high x (number_l p xs) h.0) ∙ digits_of_number n xs (omega (arith, e)) h.1)
-
-  pub number-lt : (n : ℕ) (xs : List ℕ) → length xs ≡ n → Each1 (λ x. x < p) xs → number_l p xs < p ^ n
-  number-lt zero [] e h = omega (arith, pow-zero p)
-  number-lt zero (x ∷ xs) e h = absurd (omega (arith, e))
-  number-lt (suc n) [] e h = absurd (omega (arith, e))
-  number-lt (suc n) (x ∷ xs) e h =
-      let low = number-lt n xs (omega (arith, e)) h.1 in
-      let more : number_l p xs + 1 ≤ p ^ n = omega (arith, low) in
-      omega (arith, h.0, mul-le-mul_left p more, pow-suc p n)

@@ -44,10 +44,6 @@ pub fixed_words-same : (count height : ℕ) (columns rows sparse : List ℕ) →
 unfolding fixed_words
 fixed_words-same count height columns rows sparse same = rw (row_words-same (kind_of columns) rows sparse same) refl
 
--- the numbers are decided by the word that they share
-pub same_numbers : (count height columns other tall wide : ℕ) → count < 2 ^ 8 → columns ≤ 31 → other < 2 ^ 8 → wide ≤ 31 → meta_word count columns height ≡ meta_word other wide tall → (count ≡ other) × (columns ≡ wide) × (height ≡ tall)
-same_numbers count height columns other tall wide small few small_other few_wide same = (omega arith, omega arith, omega arith)
-
 -- the positions, and the sparse partial keys, are decided by their words where it is known how many they are
 pub columns_same : (columns wide words : List ℕ) → ((j : ℕ) → j < 8 → position_word columns j ≡ get_or words (1 + j) 0) → ((j : ℕ) → j < 8 → position_word wide j ≡ get_or words (1 + j) 0) → length columns ≤ 31 → length columns ≡ length wide →
     ((i : ℕ) → get_or columns i 0 < 2 ^ 16) → ((i : ℕ) → get_or wide i 0 < 2 ^ 16) → columns ≡ wide

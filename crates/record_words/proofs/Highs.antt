@@ -6,7 +6,7 @@ use Rattle.std.proofs.lemmas.Simd.{Each1-from_get_or, Each1-get_or, below_from_F
 use lib.Lanes.{Each1, digits_l, number_l, zip2}
 use Rattle.record_words.specs.Kinds.{lane_words}
 use Rattle.record_words.specs.Packed.{row_at, row_lanes}
-use Rattle.record_words.proofs.Digits.{base_8, base_16, number-lt, number_of_digits}
+use Rattle.record_words.proofs.Digits.{base_8, number-lt, number_of_digits}
 
 abbrev pub down : ℕ → ℕ → ℕ
 down x y = x / 2 ^ y
@@ -46,5 +46,5 @@ lanes_small w low rows long shift fits =
 pub words_by_bytes : (lanes : List ℕ) → length lanes ≡ 32 → Each1 (λ x. x < 2 ^ 16) lanes → digits_l (2 ^ 64) 8 (number_l (2 ^ 8) (digits_l (2 ^ 8) 64 (number_l (2 ^ 16) lanes))) ≡ lane_words 16 8 lanes
 unfolding lane_words
 words_by_bytes lanes long small =
-    let below = number-lt (2 ^ 16) base_16 32 lanes long small in
+    let below = number-lt (2 ^ 16) 32 lanes long small in
     ap (digits_l (2 ^ 64) 8) (number_of_digits (2 ^ 8) base_8 64 (number_l (2 ^ 16) lanes) (omega (arith, below)))

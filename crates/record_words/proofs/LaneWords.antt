@@ -15,7 +15,7 @@ module _ (w m n count : ℕ) (base : IsBase (2 ^ w)) (lanes : List ℕ) (long : 
   pub lanes_back : digits_l (2 ^ w) count (number_l (2 ^ 64) (lane_words w n lanes)) ≡ lanes
   unfolding lane_words
   lanes_back =
-      ap (digits_l (2 ^ w) count) (number_of_digits (2 ^ 64) base_64 n (number_l (2 ^ w) lanes) (subst (λ k. number_l (2 ^ w) lanes < k) room (number-lt (2 ^ w) base count lanes long small)))
+      ap (digits_l (2 ^ w) count) (number_of_digits (2 ^ 64) base_64 n (number_l (2 ^ w) lanes) (subst (λ k. number_l (2 ^ w) lanes < k) room (number-lt (2 ^ w) count lanes long small)))
       ∙ digits_of_number (2 ^ w) base count lanes long small
 
   pub words_small : Each1 (λ x. x < 2 ^ 64) (lane_words w n lanes)

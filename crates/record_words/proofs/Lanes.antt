@@ -1,7 +1,6 @@
 -- Words as lanes of fewer bits.
 use Rattle.std.proofs.Common.{Bool, true, false, cond, eqb, map, not, ◌||◌, ℕ, zero, suc, ◌≡◌, ◌+◌, ◌-◌, ◌*◌, ◌/◌, ◌%◌, ◌^◌, ◌<◌, ◌≤◌, ◌++◌, List, [], ◌∷◌, arith, get_or, length, length-append, replicate, take, drop, refl, sym, ap, subst, ◌∙◌, w32, w64, Fits, below_more}
 use borrow.Author.Count.{below_none}
-use Rattle.std.proofs.Math.Nat.{mul-le-mul_left, pow-suc, pow-zero}
 use Rattle.std.proofs.lemmas.List.{ext_get_or, get_or_default, get_or-append_right, get_or-drop, get_or-take, length-replicate, take_at}
 use Rattle.std.proofs.lemmas.Simd.{below_from_Fits, get_or-chunk, get_or_narrower, get_or_wider, length-chunk}
 use lib.Lanes.{Each1, chunk, digits_l, mask_l, number_l}
@@ -13,22 +12,10 @@ use Rattle.compound_node.specs.Nodes.{NodeView, IsLawfulNode}
 use Rattle.compound_node.proofs.Lawful.{same_count}
 use Rattle.record_words.specs.Kinds.{with_free_to_16}
 use Rattle.record_words.specs.Packed.{position_at, row_at, row_word}
+use Rattle.record_words.proofs.Digits.{base_8, number-lt, number_of_digits}
 use Rattle.record_words.proofs.Lawful.{get_or-padded, length-with_unused}
 use Rattle.partial_keys.specs.Columns.{AreColumnLanes, IsColumns}
 use Rattle.partial_keys.specs.Rows.{with_unused}
-
-number_of_digits : (n x : ℕ) → x < 256 ^ n → number_l 256 (digits_l 256 n x) ≡ x
-number_of_digits zero x h = omega (arith, h, pow-zero 256)
-number_of_digits (suc n) x h = omega (arith, number_of_digits n (x / 256) (omega (arith, h, pow-suc 256 n)))
-
-number-lt : (p n : ℕ) (xs : List ℕ) → length xs ≡ n → Each1 (λ x. x < p) xs → number_l p xs < p ^ n
-number-lt p zero [] e h = omega (arith, pow-zero p)
-number-lt p zero (x ∷ xs) e h = absurd (omega (arith, e))
-number-lt p (suc n) [] e h = absurd (omega (arith, e))
-number-lt p (suc n) (x ∷ xs) e h =
-    let low = number-lt p n xs (omega (arith, e)) h.1 in
-    let more : number_l p xs + 1 ≤ p ^ n = omega (arith, low) in
-    omega (arith, h.0, mul-le-mul_left p more, pow-suc p n)
 
 number_of_two : (p : ℕ) (xs : List ℕ) → length xs ≡ 2 → number_l p xs ≡ get_or xs 0 0 + p * get_or xs 1 0
 number_of_two p [] e = absurd (omega (arith, e))
@@ -52,7 +39,7 @@ module _ (xs : List ℕ) (long : length xs ≡ 8) (fits : Each1 (Fits w64) xs) w
   number = number_l (2 ^ 64) xs
 
   same : number_l 256 (digits_l 256 64 number) ≡ number
-  same = number_of_digits 64 number (let below = number-lt (2 ^ 64) 8 xs long small in omega (arith, below))
+  same = number_of_digits (2 ^ 8) base_8 64 number (let below = number-lt (2 ^ 64) 8 xs long small in omega (arith, below))
 
   pub quarter_at : (i : ℕ) → i < 32 → get_or (digits_l 65536 32 (number_l 256 (digits_l 256 64 (number_l (2 ^ 64) xs)))) i 0 ≡ get_or xs (i / 4) 0 / 2 ^ (16 * (i % 4)) % 2 ^ 16
   quarter_at i low =
@@ -133,7 +120,7 @@ pair_at xs long fits j low =
     let number : ℕ = number_l (2 ^ 32) xs in
     let at : (i : ℕ) → i < 2 → get_or (chunk (2 * j) 2 xs) i 0 ≡ row_at xs (2 * j + i) =
     λ i l. get_or-chunk (2 * j) 2 xs i 0 l ∙ sym (get_or_default xs (2 * j + i) 4294967295 0 (omega (arith, long, low, l))) in
-    ap (λ x. get_or (digits_l (2 ^ 64) 8 x) j 0) (number_of_digits 64 number (let below = number-lt (2 ^ 32) 16 xs long small in omega (arith, below)))
+    ap (λ x. get_or (digits_l (2 ^ 64) 8 x) j 0) (number_of_digits (2 ^ 8) base_8 64 number (let below = number-lt (2 ^ 32) 16 xs long small in omega (arith, below)))
     ∙ (get_or_wider (2 ^ 32) 2 (2 ^ 64) 8 xs j refl small low
     ∙ (number_of_two (2 ^ 32) (chunk (2 * j) 2 xs) (length-chunk (2 * j) 2 xs (omega (arith, long, low))) ∙ ap₂ (λ x y. x + 2 ^ 32 * y) (at 0 (omega arith) ∙ ap (row_at xs) (omega arith)) (at 1 (omega arith))))
 

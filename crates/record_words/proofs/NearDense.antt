@@ -6,7 +6,6 @@ use Rattle.std.proofs.Math.Seq.{take-suc}
 use Rattle.std.proofs.lemmas.Bool.{cases_lt, eq-eqb, le-ltb, lt-ltb, ne_eqb}
 use Rattle.std.proofs.lemmas.List.{get_or-append_right, get_or-map, get_or-replicate, get_or-take, get_or_default, get_or_past, length-map, length-take-le, take_all}
 use Rattle.std.proofs.lemmas.List.Elements.{All-get_or}
-use Rattle.std.proofs.lemmas.List.FromFn.{get_or-map-range_with_len, length-map-range_with_len}
 use Rattle.std.proofs.lemmas.Simd.{Each1-from_get_or, SwzOk, SwzOk-from_below, bitmask_splat, get_or-swz_l_below, get_or-zip2, length-swz_l, length-zip2, swz_l}
 use Rattle.std.specs.Bool.{beq}
 use Rattle.std.specs.Int.{bit_at}
@@ -19,6 +18,7 @@ use Rattle.partial_keys.specs.Rows.{dense_of}
 use Rattle.record_words.specs.Kinds.{AreNearLanes, bit_mask, first_byte, near_position}
 use Rattle.record_words.proofs.NearLanes.{first_lowest}
 use Rattle.record_words.proofs.OfKinds.{AreNear, IsNear, near_of}
+use Rattle.record_words.proofs.TellingHead.{index_is, indexes_long, mask_is, masks_long}
 use lib.Lanes.{mask_l, top, zip2}
 
 -- ---- lanes as the highest bits, the last one as the highest
@@ -135,48 +135,46 @@ module _ (columns indexes masks key : List ℕ) (first : ℕ) (lanes : AreNearLa
   pub window_within : first + 16 ≤ 240
   window_within = omega (arith, near.within, lanes.first_is)
 
-  indexes_long : length indexes ≡ 16
-  indexes_long = rw lanes.indexes_are (length-map-range_with_len (λ k. near_position columns k / 9 - first_byte columns) 0 16)
+  indexes_16 : length indexes ≡ 16
+  indexes_16 = ap (λ (xs : List ℕ). length xs) lanes.indexes_are ∙ indexes_long columns 16 near lanes.has.few
 
-  masks_long : length masks ≡ 16
-  masks_long = rw lanes.masks_are (length-map-range_with_len (λ k. bit_mask (near_position columns k)) 0 16)
+  masks_16 : length masks ≡ 16
+  masks_16 = ap (λ (xs : List ℕ). length xs) lanes.masks_are ∙ masks_long columns 16 near lanes.has.few
 
-  index_is : (i : ℕ) → i < 16 → get_or indexes i 0 ≡ position i / 9 - first
-  index_is i low =
-      ap (λ (xs : List ℕ). get_or xs i 0) lanes.indexes_are ∙ (get_or-map-range_with_len (λ k. near_position columns k / 9 - first_byte columns) 0 16 i i 0 low (omega arith)
-      ∙ ap (λ f. position i / 9 - f) (sym lanes.first_is))
+  index_at : (i : ℕ) → i < 16 → get_or indexes i 0 ≡ position i / 9 - first
+  index_at i low = ap (λ (xs : List ℕ). get_or xs i 0) lanes.indexes_are ∙ (index_is columns 16 near lanes.has.few i low ∙ ap (λ f. position i / 9 - f) (sym lanes.first_is))
 
-  mask_is : (i : ℕ) → i < 16 → get_or masks i 0 ≡ bit_mask (position i)
-  mask_is i low = ap (λ (xs : List ℕ). get_or xs i 0) lanes.masks_are ∙ get_or-map-range_with_len (λ k. bit_mask (near_position columns k)) 0 16 i i 0 low (omega arith)
+  mask_at : (i : ℕ) → i < 16 → get_or masks i 0 ≡ bit_mask (position i)
+  mask_at i low = ap (λ (xs : List ℕ). get_or xs i 0) lanes.masks_are ∙ mask_is columns 16 near lanes.has.few i low
 
   pub indexes_ok : SwzOk w8 16 16 0 indexes
   indexes_ok =
-      SwzOk-from_below w8 16 1 16 0 indexes refl (omega (arith, indexes_long))
-      (Each1-from_get_or (λ j. j < 16) indexes 0 (λ i h. let low : i < 16 = omega (arith, h, indexes_long) in omega (arith, index_is i low, (in_window i).1)))
+      SwzOk-from_below w8 16 1 16 0 indexes refl (omega (arith, indexes_16))
+      (Each1-from_get_or (λ j. j < 16) indexes 0 (λ i h. let low : i < 16 = omega (arith, h, indexes_16) in omega (arith, index_at i low, (in_window i).1)))
 
   module _ (window : List ℕ) (holds : (k : ℕ) → k < 16 → get_or window k 0 ≡ get_or (with_zeros key) (first + k) 0) where
     abbrev there : List ℕ
     there = swz_l w8 16 window 0 indexes
 
     there_long : length there ≡ 16
-    there_long = length-swz_l w8 16 window 0 indexes ∙ indexes_long
+    there_long = length-swz_l w8 16 window 0 indexes ∙ indexes_16
 
     there_is : (i : ℕ) → i < 16 → get_or there i 0 ≡ get_or (with_zeros key) (position i / 9) 0
     there_is i low =
         let w = in_window i in
-        let small : get_or indexes i 0 < 16 = omega (arith, index_is i low, w.1) in
+        let small : get_or indexes i 0 < 16 = omega (arith, index_at i low, w.1) in
         let place : 16 * ((0 + i) / 16) + get_or indexes i 0 ≡ get_or indexes i 0 = omega (arith, low) in
-        get_or-swz_l_below w8 16 window 0 indexes i (omega (arith, indexes_long, low)) small
-        ∙ (ap (λ k. get_or window k 0) place ∙ (holds (get_or indexes i 0) small ∙ ap (λ k. get_or (with_zeros key) k 0) (omega (arith, index_is i low, w.0))))
+        get_or-swz_l_below w8 16 window 0 indexes i (omega (arith, indexes_16, low)) small
+        ∙ (ap (λ k. get_or window k 0) place ∙ (holds (get_or indexes i 0) small ∙ ap (λ k. get_or (with_zeros key) k 0) (omega (arith, index_at i low, w.0))))
 
     abbrev pub lanes_there : List ℕ
     lanes_there = zip2 bit_and there masks
 
     lanes_long : length lanes_there ≡ 16
-    lanes_long = length-zip2 bit_and there masks (there_long ∙ sym masks_long) ∙ there_long
+    lanes_long = length-zip2 bit_and there masks (there_long ∙ sym masks_16) ∙ there_long
 
     lane_is : (i : ℕ) → i < 16 → get_or lanes_there i 0 ≡ bit_and (get_or (with_zeros key) (position i / 9) 0) (bit_mask (position i))
-    lane_is i low = get_or-zip2 bit_and there masks i 0 0 0 (omega (arith, there_long, low)) (omega (arith, masks_long, low)) ∙ ap₂ bit_and (there_is i low) (mask_is i low)
+    lane_is i low = get_or-zip2 bit_and there masks i 0 0 0 (omega (arith, there_long, low)) (omega (arith, masks_16, low)) ∙ ap₂ bit_and (there_is i low) (mask_at i low)
 
     bytes : (k : ℕ) → get_or key k 0 < 256
     bytes k = ⊎_elim (λ inside. All-get_or (λ byte. byte < 256) key k 0 inside its.are_bytes) (λ past. let e = get_or_past key k 0 past in omega (arith, e)) (cases_lt k (length key))

@@ -1,18 +1,8 @@
 -- Numbers that share a word.
-use Rattle.std.proofs.Common.{ℕ, ◌≡◌, ◌+◌, ◌*◌, ◌/◌, ◌%◌, ◌^◌, ◌<◌, ◌≤◌, ⊎_elim, arith, List, get_or, length, subst, lit<, ◌∙◌}
+use Rattle.std.proofs.Common.{ℕ, ◌≡◌, ◌+◌, ◌*◌, ◌/◌, ◌%◌, ◌^◌, ◌<◌, ◌≤◌, ⊎_elim, arith, List, get_or, length, subst, lit<}
 use Rattle.std.proofs.lemmas.Bool.{cases_lt}
 use Rattle.std.proofs.lemmas.List.{get_or_default, get_or_past}
-use Rattle.std.proofs.lemmas.Nat.{mod_below, pow_pos}
-use Rattle.record_words.specs.Packed.{ArePositionsOf, AreRowsOf, position_at, position_word, row_at, row_word}
-
--- 32 numbers of w bits that are the parts of words, m in each
-module _ (m w : ℕ) (xs words : List ℕ) (whole : length xs ≡ 32) (parts : (k : ℕ) → k < 32 → get_or xs k 0 ≡ get_or words (k / m) 0 / 2 ^ (w * (k % m)) % 2 ^ w) where
-  part : (d j i n : ℕ) → n < 32 → n / m ≡ j → n % m ≡ i → get_or xs n d ≡ get_or words j 0 / 2 ^ (w * i) % 2 ^ w
-  part d j i n few word place = get_or_default xs n d 0 (omega (arith, whole, few)) ∙ (rw (word, place) at (parts n few))
-
-  part-lt : (i : ℕ) → get_or xs i 0 < 2 ^ w
-  part-lt i =
-      ⊎_elim (λ (inside : i < 32). rw (parts i inside) (mod_below _ (2 ^ w) (pow_pos w))) (λ (past : 32 ≤ i). rw (get_or_past xs i 0 (omega (arith, whole))) (pow_pos w)) (cases_lt i 32)
+use Rattle.record_words.specs.Packed.{position_at, position_word, row_at, row_word}
 
 -- each element is below the bound, and so is what stands for those past the last
 at-lt : (xs : List ℕ) (i d bound : ℕ) → d < bound → ((k : ℕ) → get_or xs k 0 < bound) → get_or xs i d < bound
@@ -20,24 +10,6 @@ at-lt xs i d bound other small =
     ⊎_elim (λ (inside : i < length xs). rw (get_or_default xs i d 0 inside) (small i)) (λ (past : length xs ≤ i). rw (get_or_past xs i d past) other) (cases_lt i (length xs))
 
 -- ---- four positions in a word
--- 32 positions that are the parts of eight words
-pub positions_from_parts : (positions words : List ℕ) → length positions ≡ 32 → ((i : ℕ) → get_or words i 0 < 2 ^ 64) →
-    ((k : ℕ) → k < 32 → get_or positions k 0 ≡ get_or words (k / 4) 0 / 2 ^ (16 * (k % 4)) % 2 ^ 16) → ArePositionsOf positions words
-unfolding position_word
-positions_from_parts positions words whole fits parts =
-    let at = part 4 16 positions words whole parts 65535 in record {
-      whole = whole;
-      small = part-lt 4 16 positions words whole parts;
-      words_are = λ j small. omega (
-        arith,
-        fits j,
-        at j 0 (4 * j) (omega arith) (omega arith) (omega arith),
-        at j 1 (4 * j + 1) (omega arith) (omega arith) (omega arith),
-        at j 2 (4 * j + 2) (omega arith) (omega arith) (omega arith),
-        at j 3 (4 * j + 3) (omega arith) (omega arith) (omega arith),
-      );
-    }
-
 pub position_at-lt : (columns : List ℕ) (i : ℕ) → ((k : ℕ) → get_or columns k 0 < 2 ^ 16) → position_at columns i < 2 ^ 16
 position_at-lt columns i small = at-lt columns i 65535 (2 ^ 16) (lit< tt) small
 
@@ -71,17 +43,6 @@ same_positions xs ys small_xs small_ys same i few =
     one_of_four P i all.0 all.1 all.2 all.3
 
 -- ---- two rows in a word
--- 32 rows that are the halves of sixteen words
-pub rows_from_parts : (rows words : List ℕ) → length rows ≡ 32 → ((i : ℕ) → get_or words i 0 < 2 ^ 64) →
-    ((k : ℕ) → k < 32 → get_or rows k 0 ≡ get_or words (k / 2) 0 / 2 ^ (32 * (k % 2)) % 2 ^ 32) → AreRowsOf rows words
-unfolding row_word
-rows_from_parts rows words whole fits parts =
-    let at = part 2 32 rows words whole parts 4294967295 in record {
-      whole = whole;
-      small = part-lt 2 32 rows words whole parts;
-      words_are = λ j small. omega (arith, fits j, at j 0 (2 * j) (omega arith) (omega arith) (omega arith), at j 1 (2 * j + 1) (omega arith) (omega arith) (omega arith));
-    }
-
 pub row_at-lt : (rows : List ℕ) (i : ℕ) → ((k : ℕ) → get_or rows k 0 < 2 ^ 32) → row_at rows i < 2 ^ 32
 row_at-lt rows i small = at-lt rows i 4294967295 (2 ^ 32) (lit< tt) small
 

@@ -49,9 +49,6 @@ module _ (node : NodeView) (lawful : IsLawfulNode node) where
     top_is : (j : ℕ) × (count_leading_zeros 64 mask + suc j ≡ 64) × (j < count) × (t (get_or lanes j 0) ≡ true) × ((k : ℕ) → j < k → k < count → t (get_or lanes k 0) ≡ false)
     top_is = top_of_used t lanes count some enough (omega (arith, few)) first
 
-    pub below_64 : count_leading_zeros 64 mask ≤ 63
-    below_64 = let h = top_is in let e : count_leading_zeros 64 mask + suc h.0 ≡ 64 = h.1 in omega (arith, e)
-
     module _ (dense : ℕ) (bit : ℕ → Bool) (gathered : dense ≡ dense_of node.columns bit)
         (tells : (k : ℕ) → k < count → t (get_or lanes k 0) ≡ complies dense (get_or (with_unused node.rows) k 0)) where
       even : dense % 2 ≡ 0

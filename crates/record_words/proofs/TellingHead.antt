@@ -90,22 +90,16 @@ bit_told p some =
     omega (arith, place, is)
 
 module _ (columns : List ℕ) (most : ℕ) (near : AreNear columns most) (few : length columns ≤ 16) where
-  lane_index : ℕ → ℕ
-  lane_index i = near_position columns i / 9 - first_byte columns
-
-  lane_mask : ℕ → ℕ
-  lane_mask i = bit_mask (near_position columns i)
-
   pub indexes_long : length (index_lanes columns) ≡ 16
   indexes_long = length-map-range_with_len (λ i. near_position columns i / 9 - first_byte columns) 0 16
 
   pub masks_long : length (mask_lanes columns) ≡ 16
   masks_long = length-map-range_with_len (λ i. bit_mask (near_position columns i)) 0 16
 
-  index_is : (i : ℕ) → i < 16 → get_or (index_lanes columns) i 0 ≡ near_position columns i / 9 - first_byte columns
+  pub index_is : (i : ℕ) → i < 16 → get_or (index_lanes columns) i 0 ≡ near_position columns i / 9 - first_byte columns
   index_is i low = get_or-map-range_with_len (λ k. near_position columns k / 9 - first_byte columns) 0 16 i i 0 low (omega arith)
 
-  mask_is : (i : ℕ) → i < 16 → get_or (mask_lanes columns) i 0 ≡ bit_mask (near_position columns i)
+  pub mask_is : (i : ℕ) → i < 16 → get_or (mask_lanes columns) i 0 ≡ bit_mask (near_position columns i)
   mask_is i low = get_or-map-range_with_len (λ k. bit_mask (near_position columns k)) 0 16 i i 0 low (omega arith)
 
   index_low : (i : ℕ) → i < 16 → get_or (index_lanes columns) i 0 < 16

@@ -1,5 +1,5 @@
 -- What stands in the fixed words of a node: all but its state and its entries.
-use Rattle.std.specs.Prelude.{ℕ, ◌≡◌, ◌<◌, ◌+◌, ◌-◌, ◌*◌, ◌/◌, ◌^◌, ◌++◌, List, ◌∷◌, drop, length, map, replicate, slice_index, slice_index_or}
+use Rattle.std.specs.Prelude.{ℕ, ◌+◌, ◌-◌, ◌*◌, ◌/◌, ◌^◌, ◌++◌, List, ◌∷◌, drop, length, map, replicate, slice_index_or}
 use Rattle.std.specs.List.{range_with_len}
 use Rattle.record_words.specs.Kinds.{head_size, index_lanes, kind_of, kind_part, lane_words, mask_lanes}
 use Rattle.record_words.specs.declared.kind.Kind.{Kind}
@@ -51,15 +51,3 @@ kind_words kind count height columns rows =
 -- the words at offsets 1 to HEAD_WORDS of a node record, in the kind that the columns take
 unfoldable pub fixed_words : ℕ → ℕ → List ℕ → List ℕ → List ℕ
 fixed_words count height columns rows = kind_words (kind_of columns) count height columns rows
-
--- 32 positions of these words
-pub record ArePositionsOf (positions words : List ℕ) : Type 0 where
-  pub whole : length positions ≡ 32
-  pub small : (i : ℕ) → slice_index positions i < 2 ^ 16
-  pub words_are : (j : ℕ) → j < 8 → position_word positions j ≡ slice_index words j
-
--- 32 sparse partial keys of these words
-pub record AreRowsOf (rows words : List ℕ) : Type 0 where
-  pub whole : length rows ≡ MAX_ENTRIES
-  pub small : (i : ℕ) → slice_index rows i < 2 ^ 32
-  pub words_are : (j : ℕ) → j < 16 → row_word rows j ≡ slice_index words j
