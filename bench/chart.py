@@ -2,7 +2,7 @@
 from math import log
 
 # The height of a bar, where the bars begin and end, where their figures begin, and how wide all is.
-BAR, LEFT, RIGHT, FIGURES, WIDE = 14, 160, 570, 582, 720
+BAR, LEFT, RIGHT, FIGURES, WIDE = 14, 185, 595, 607, 745
 COLOURS = ["#4a8fe7", "#e08e2b", "#3f9d6b"]
 GREY = "#767676"
 

@@ -177,16 +177,16 @@ static uint64_t make_leaf(uint64_t *leaf, uint64_t key)
     return length;
 }
 
+/* A new value, stored where the old one stands. */
 static uint64_t upsert(uint64_t *pin, uint64_t key)
 {
-    static uint64_t turn;
-    uint64_t *node = node_at(level[depth - 1][key / ENTRIES]), *old, some;
+    uint64_t *node = node_at(level[depth - 1][key / ENTRIES]), *leaf, some;
     store(pin, load(table));
-    old = leaf_at(descend(key));
-    some = read_leaf(old) + make_leaf(leaf_at(keys + turn++ % SPARE), key);
+    leaf = leaf_at(descend(key));
+    some = read_leaf(leaf);
     store(node, 1);
-    store(node + HEAD_END + key % ENTRIES, load(node + HEAD_END + key % ENTRIES));
-    store(old, 3);
+    some += load(node + HEAD_END + key % ENTRIES) + load(leaf + 1);
+    store(leaf + 1, key);
     store(node, 2);
     store(pin, 0);
     return some;

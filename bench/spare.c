@@ -1,21 +1,23 @@
-/* Measures upserts where few leaf records are to spare, on an index of random keys of 8 bytes: the time of a call, and how many calls are
- * refused. `bench/run spare` builds and runs it. */
+/* Measures removals and inserts where few leaf records are to spare, on an index of random keys of 8 bytes: each thread takes keys of its own
+ * out and puts them back. It tells the time of a call, and how many calls are refused. `bench/run spare` builds and runs it. */
 #include "keys.h"
 #include <pthread.h>
 
-enum { THREADS = 4, CALLS = 200000, LEAST = 100, MOST = 10000000, WAYS = 3, SPARES = 5 };
+enum { THREADS = 4, TURNS = 100000, LEAST = 100, MOST = 10000000, WAYS = 3, SPARES = 5 };
 
-typedef hot_status change(hot_handle *, const uint8_t *, size_t, uint64_t, uint64_t *);
+typedef hot_status removal(hot_handle *, const uint8_t *, size_t, uint64_t *);
+typedef hot_status insertion(hot_handle *, const uint8_t *, size_t, uint64_t, uint64_t *);
 
 /* Who makes the calls, and by which. */
 static const struct way {
     const char *name;
     int threads;
-    change *call;
+    removal *remove;
+    insertion *insert;
 } ways[WAYS] = {
-    { "1 thread", 1, hot_upsert },
-    { "4 threads, hot_upsert", THREADS, hot_upsert },
-    { "4 threads, hot_try_upsert", THREADS, hot_try_upsert },
+    { "1 thread", 1, hot_remove, hot_insert },
+    { "4 threads, calls that wait", THREADS, hot_remove, hot_insert },
+    { "4 threads, hot_try_..", THREADS, hot_try_remove, hot_try_insert },
 };
 
 /* How many leaf records are to spare, of a hundred keys. */
@@ -24,26 +26,32 @@ static const uint32_t spares[SPARES] = { 1, 5, 10, 25, 100 };
 /* One of the threads: how often it was refused as full, as held back and as busy, and how long a processor was at it. */
 typedef struct worker {
     hot_handle *handle;
-    change *call;
-    uint32_t keys, start;
+    const struct way *way;
+    uint32_t keys, place;
     pthread_barrier_t *gate;
     uint32_t full, held, busy;
     double used;
 } worker;
 
-static void *upsert_all(void *given)
+static void note(worker *me, hot_status status)
+{
+    me->full += status == HOT_FULL_NODES || status == HOT_FULL_LEAVES;
+    me->held += status == HOT_HELD_BACK;
+    me->busy += status == HOT_BUSY;
+}
+
+static void *replace_all(void *given)
 {
     worker *me = given;
     uint32_t turn;
     pthread_barrier_wait(me->gate);
     me->used = seconds(CLOCK_THREAD_CPUTIME_ID);
-    for (turn = 0; turn < CALLS; turn++) {
+    for (turn = 0; turn < TURNS; turn++) {
         uint8_t key[LONGEST];
         uint64_t had;
-        hot_status status = me->call(me->handle, key, key_of(RANDOM, (me->start + turn) % me->keys, key), turn, &had);
-        me->full += status == HOT_FULL_NODES || status == HOT_FULL_LEAVES;
-        me->held += status == HOT_HELD_BACK;
-        me->busy += status == HOT_BUSY;
+        size_t length = key_of(RANDOM, (THREADS * turn + me->place) % me->keys, key);
+        note(me, me->way->remove(me->handle, key, length, &had));
+        note(me, me->way->insert(me->handle, key, length, turn, &had));
     }
     me->used = seconds(CLOCK_THREAD_CPUTIME_ID) - me->used;
     return NULL;
@@ -59,7 +67,7 @@ static double run_all(worker *workers, int threads)
     pthread_barrier_init(&gate, NULL, (unsigned)threads + 1);
     for (place = 0; place < threads; place++) {
         workers[place].gate = &gate;
-        if (pthread_create(&started[place], NULL, upsert_all, &workers[place])) {
+        if (pthread_create(&started[place], NULL, replace_all, &workers[place])) {
             fprintf(stderr, "spare: a thread could not be started\n");
             exit(1);
         }
@@ -80,7 +88,7 @@ static void measure(uint32_t keys, const struct way *way, uint32_t spare)
     worker workers[THREADS];
     uint32_t number, full = 0, held = 0, busy = 0;
     double took, used = 0;
-    int place, calls = CALLS * way->threads;
+    int place, calls = 2 * TURNS * way->threads;
     must(hot_create_with(&stock, handles, (size_t)way->threads), HOT_DONE);
     for (number = 0; number < keys; number++) {
         uint8_t key[LONGEST];
@@ -88,7 +96,7 @@ static void measure(uint32_t keys, const struct way *way, uint32_t spare)
         must(hot_insert(&handles[0], key, key_of(RANDOM, number, key), number, &had), HOT_INSERTED);
     }
     for (place = 0; place < way->threads; place++) {
-        worker it = { &handles[place], way->call, keys, keys / THREADS * (uint32_t)place, NULL, 0, 0, 0, 0 };
+        worker it = { &handles[place], way, keys, (uint32_t)place, NULL, 0, 0, 0, 0 };
         workers[place] = it;
     }
     took = run_all(workers, way->threads);

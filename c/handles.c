@@ -1,5 +1,5 @@
 /* Tests of indexes and handles: opened and closed in any order, what they have seen, how many keys there are, copies; and two threads on
- * one index, by calls that wait and by others. */
+ * one index, by calls that wait and by others, with what is told of those that were refused. */
 #include "hot.h"
 #include "check.h"
 #include <pthread.h>
@@ -247,6 +247,37 @@ static void test_memory(void) {
     check_closed(&handle);
 }
 
+static int is_told(const hot_index *index, uint64_t busy, uint64_t held_back, uint64_t full) {
+    hot_refusals told;
+    hot_stats(index, &told);
+    return told.busy == busy && told.held_back == held_back && told.full == full;
+}
+
+/* What is told of tries that were refused as full, also once their handle is closed: not that a key is too long. */
+static void test_full(void) {
+    static const hot_stock stock = {10, 5, 0, 0, 0, 0};
+    static const uint8_t long_key[HOT_MAX_KEY + 1] = {0};
+    hot_index *index = NULL;
+    hot_handle handle = HOT_HANDLE;
+    uint8_t name = 0;
+    CHECK(hot_open_index(&stock, 1, &index) == HOT_DONE && is_told(index, 0, 0, 0));
+    CHECK(hot_open(index, &handle) == HOT_DONE);
+    while (hot_insert(&handle, &name, 1, 1, NULL) == HOT_INSERTED)
+        name++;
+    CHECK(name == 5 && is_told(index, 0, 0, 1));
+    CHECK(hot_upsert(&handle, &name, 1, 1, NULL) == HOT_FULL_LEAVES && hot_try_insert(&handle, &name, 1, 1, NULL) == HOT_FULL_LEAVES);
+    CHECK(is_told(index, 0, 0, 3));
+    CHECK(hot_insert(&handle, long_key, 9, 1, NULL) == HOT_KEY_TOO_LONG && is_told(index, 0, 0, 3));
+    CHECK(hot_insert(&handle, long_key, HOT_MAX_KEY + 1, 1, NULL) == HOT_KEY_TOO_LONG && is_told(index, 0, 0, 3));
+    CHECK(hot_remove(&handle, &name, 1, NULL) == HOT_ABSENT && hot_add(&handle, &name, 1, 1, NULL) == HOT_ABSENT);
+    name = 0;
+    CHECK(hot_upsert(&handle, &name, 1, 2, NULL) == HOT_WAS && hot_exchange(&handle, &name, 1, 1, 2, NULL) == HOT_DIFFERS);
+    CHECK(hot_remove(&handle, &name, 1, NULL) == HOT_REMOVED && is_told(index, 0, 0, 3));
+    CHECK(hot_close(&handle) == HOT_DONE && hot_insert(&handle, &name, 1, 1, NULL) == HOT_CLOSED && is_told(index, 0, 0, 3));
+    CHECK(hot_open(index, &handle) == HOT_DONE && is_told(index, 0, 0, 3));
+    CHECK(hot_close(&handle) == HOT_DONE && hot_close_index(index) == HOT_DONE);
+}
+
 enum { KEYS = 300, ROUNDS = 40 };
 
 /* The three changes of a key: those that wait, and those that do not. */
@@ -312,25 +343,33 @@ static void work_together(worker workers[2]) {
     CHECK(pthread_join(other, NULL) == 0);
 }
 
-/* Two threads on one index. Rounds go on until a call met another's, which makes it busy; calls that wait never are. */
+/* Two threads on one index. Rounds go on until a call met another's, which makes it busy, as is told; calls that wait never are. */
 static void test_threads(void) {
+    static const hot_stock stock = {2000, 0, 0, 0, 0, 3000};
     hot_handle handles[2] = {HOT_HANDLE, HOT_HANDLE};
+    hot_index *index = NULL;
+    hot_refusals before, told = {0, 0, 0};
     worker tries[2] = {{&trying, &handles[0], 1, 0}, {&trying, &handles[1], 2, 0}};
     worker waits[2] = {{&waiting, &handles[0], 1, 0}, {&waiting, &handles[1], 2, 0}};
     hot_pair pairs[2];
     size_t count;
     uint32_t more;
-    CHECK(hot_create(2000, 3000, handles, 2) == HOT_DONE);
+    CHECK(hot_open_index(&stock, 2, &index) == HOT_DONE);
+    CHECK(hot_open(index, &handles[0]) == HOT_DONE && hot_open(index, &handles[1]) == HOT_DONE);
     for (int times = 0; times < 50 && !tries[0].busy && !tries[1].busy && !failures; times++) {
-        work_together(tries);
         work_together(waits);
+        hot_stats(index, &before);
+        work_together(tries);
+        hot_stats(index, &told);
+        CHECK(told.busy + told.held_back - before.busy - before.held_back == (uint64_t)(tries[0].busy + tries[1].busy));
     }
+    CHECK(told.busy > 0 && told.full == 0);
     CHECK(tries[0].busy || tries[1].busy);
     CHECK(!waits[0].busy && !waits[1].busy);
     CHECK(hot_scan(&handles[0], bytes(""), 0, bytes("z"), 1, pairs, 2, &count, &more) == HOT_DONE);
     CHECK(count == 1 && more == 0 && (pairs[0].value == 1 || pairs[0].value == 2));
-    CHECK(hot_destroy(&handles[0]) == HOT_DONE);
-    CHECK(hot_destroy(&handles[1]) == HOT_DONE);
+    CHECK(hot_close(&handles[0]) == HOT_DONE && hot_close(&handles[1]) == HOT_DONE);
+    CHECK(hot_close_index(index) == HOT_DONE);
 }
 
 int main(void) {
@@ -342,6 +381,7 @@ int main(void) {
     test_range();
     test_stack();
     test_memory();
+    test_full();
     test_threads();
     puts(failures ? "c/handles.c failed" : "passed: c/handles.c");
     return failures;

@@ -9,7 +9,9 @@
  * The lists of a handle begin as 0, too: once they are made, each page of them in which there is nothing but 0 is given back, and reads
  * as 0 again.
  *
- * Where the system refuses any of this, a block comes from malloc, and takes all of its memory. */
+ * Where the system refuses any of this, a block comes from malloc, and takes all of its memory.
+ *
+ * While hot.c lends a room, blocks come from there, as far as they fit: so a call asks for no memory. */
 #define _GNU_SOURCE
 #include "heap.h"
 #include <stdint.h>
@@ -171,6 +173,33 @@ static void *map_block(size_t bytes) {
     return made == NULL ? NULL : block_in(made);
 }
 
+/* The room from which blocks of this thread come, and what is left of it. */
+static __thread struct {
+    char *begin, *next, *end;
+} lent;
+
+/* A block in that room, or NULL. */
+static void *lent_block(size_t bytes) {
+    char *block = lent.next;
+    if ((size_t)(lent.end - block) < bytes)
+        return NULL;
+    lent.next += (bytes + LEAST_OF_MALLOC - 1) / LEAST_OF_MALLOC * LEAST_OF_MALLOC;
+    return block;
+}
+
+static int is_lent(const void *block) {
+    return (uintptr_t)block - (uintptr_t)lent.begin < (uintptr_t)lent.end - (uintptr_t)lent.begin;
+}
+
+void heap_lend(void *room, size_t size) {
+    lent.begin = lent.next = room;
+    lent.end = size > 0 ? lent.begin + size : room;
+}
+
+void heap_take_back(void) {
+    lent.begin = lent.next = lent.end = NULL;
+}
+
 /* What the kit calls: the kit says, at libc::heap, what they must do. */
 typedef struct tried {
     uint64_t ok;
@@ -190,12 +219,14 @@ static size_t for_malloc(size_t size) {
 }
 
 tried rattle_alloc(size_t size, size_t align) {
-    void *at = making.is_on && size >= LEAST_BLOCK && align <= 8 ? map_block(size) : NULL;
+    void *at = making.is_on && size >= LEAST_BLOCK && align <= 8 ? map_block(size) : lent_block(size);
     return told(at != NULL ? at : malloc(for_malloc(size)));
 }
 
 void rattle_dealloc(void *at) {
     pages *old = pages_of(at);
+    if (is_lent(at))
+        return;
     if (old == NULL) {
         free(at);
     } else if (old == making.zeros) {
@@ -210,7 +241,7 @@ void rattle_dealloc(void *at) {
 tried rattle_realloc(void *at, size_t kept, size_t size, size_t align) {
     void *to;
     (void)align;
-    if (pages_of(at) == NULL)
+    if (pages_of(at) == NULL && !is_lent(at))
         return told(realloc(at, for_malloc(size)));
     to = malloc(for_malloc(size));
     if (to != NULL) {

@@ -1,4 +1,4 @@
-/* What hot.c tells heap.c of what this thread makes. */
+/* What hot.c tells heap.c of what this thread makes, and of rooms that it lends. */
 #ifndef HEAP_H
 #define HEAP_H
 
@@ -10,5 +10,10 @@ void heap_begin(size_t table);
 
 /* Returns whether the table may be used. If not, memory was refused. */
 int heap_end(void);
+
+/* Between these two calls blocks of this thread come from a room, as far as they fit, and each of them is freed. The room begins at a
+ * multiple of 16. */
+void heap_lend(void *room, size_t size);
+void heap_take_back(void);
 
 #endif

@@ -20,6 +20,7 @@ hot_status proved_try_add(hot_handle *handle, const uint8_t *key, size_t length,
 hot_status proved_try_remove(hot_handle *handle, const uint8_t *key, size_t length, uint64_t *had);
 hot_status proved_try_remove_if(hot_handle *handle, const uint8_t *key, size_t length, uint64_t expected, uint64_t *had);
 hot_status proved_destroy(hot_handle *handle);
+hot_status proved_get_many(hot_handle *handle, hot_lookup *lookups, size_t count);
 
 /* And those that a program may call before it has a handle: there the processor is known to be one for which they were compiled. */
 void proved_stock_for_keys(uint32_t keys, size_t longest, hot_stock *stock);
@@ -182,15 +183,17 @@ hot_status hot_each(hot_handle *handle, const uint8_t *from, size_t from_length,
     return status;
 }
 
-/* What an index keeps of each handle, by its number. Each `keys` is 64 bytes behind the one before, so that no two are in one line of a
+/* What an index keeps of each handle, by its number. Two `keys` are more than 64 bytes apart, so that they are never in one line of a
  * processor's cache. */
 typedef struct hot_place {
     hot_index *index;
-    hot_handle closed; /* the handle, while it is given back */
-    section_handle section;
-    int64_t keys; /* how many keys its calls have put in, less those that they have taken out */
+    hot_handle closed;        /* the handle, while it is given back */
+    section_handle section;   /* from when the handle is first opened */
+    uint64_t keys;            /* how many keys its calls have put in, less those that they have taken out */
+    hot_refusals refusals;    /* of its calls */
+    void *room;               /* for keys that are looked up by one call; NULL before the first such call */
+    size_t room_size;         /* in bytes */
     uint32_t state;
-    uint8_t rest[64 - sizeof(void *) - sizeof(hot_handle) - sizeof(section_handle) - sizeof(int64_t) - sizeof(uint32_t)];
 } hot_place;
 
 /* A place's state: no program has its handle, which is there; one has it, or another call looks after it; or it is still to be opened. */
@@ -202,11 +205,12 @@ struct hot_index {
     size_t count;
     hot_place *places;
     section_handle sections; /* keeps the sections, until each handle has its own */
-    size_t left;       /* how many handles are open that were opened with it, or 0 */
-    hot_handle keeper; /* it is the last one to be opened itself */
-    uint32_t opening;  /* locked while a call opens a handle that the keeper keeps, or closes the index */
-    hot_handle teller; /* once there is a moment of the index: it has seen all that any moment tells of */
-    uint32_t telling;  /* locked while a call uses the teller */
+    section_handle next;     /* that of the handle that is opened next, once there is one */
+    size_t left;             /* how many handles are open that were opened with it, or 0 */
+    hot_handle keeper;       /* it is the last one to be opened itself */
+    uint32_t opening;        /* locked while a call opens a handle that the keeper keeps, or closes the index */
+    hot_handle teller;       /* once there is a moment of the index: it has seen all that any moment tells of */
+    uint32_t telling;        /* locked while a call uses the teller */
 };
 
 /* Writes the index of a handle. HOT_DONE; or HOT_CLOSED, and then nothing is written: a closed handle has none. */
@@ -218,14 +222,35 @@ static hot_status find_index(hot_handle *handle, hot_index **index) {
     return status;
 }
 
-/* Notes what a change has done with the number of keys, by its status. Only the calls of one handle write its count. */
-static hot_status counted(hot_handle *handle, hot_status status) {
-    int64_t *keys, more = status == HOT_INSERTED || status == HOT_NEW ? 1 : status == HOT_REMOVED ? -1 : 0;
-    if (more != 0) {
-        keys = &handle->place->keys;
-        __atomic_store_n(keys, __atomic_load_n(keys, __ATOMIC_RELAXED) + more, __ATOMIC_RELAXED);
+/* Adds to a word that only the calls of one handle write, while others may load it. */
+static void add_to(uint64_t *word, uint64_t more) {
+    __atomic_store_n(word, __atomic_load_n(word, __ATOMIC_RELAXED) + more, __ATOMIC_RELAXED);
+}
+
+/* Notes why a try was refused. */
+static __attribute__((cold, noinline)) void note_refusal(hot_refusals *to, hot_status status) {
+    switch (status) {
+    case HOT_BUSY: add_to(&to->busy, 1); break;
+    case HOT_HELD_BACK: add_to(&to->held_back, 1); break;
+    default: add_to(&to->full, 1); break;
     }
+}
+
+/* Notes that a try was refused, if it was. */
+static __inline__ hot_status noted(hot_handle *handle, hot_status status) {
+    static const uint32_t refused = 1u << HOT_BUSY | 1u << HOT_HELD_BACK | 1u << HOT_FULL_NODES | 1u << HOT_FULL_LEAVES;
+    if (refused >> status & 1)
+        note_refusal(&handle->place->refusals, status);
     return status;
+}
+
+/* Notes what a try has done with the number of keys, too. */
+static __inline__ hot_status counted(hot_handle *handle, hot_status status) {
+    if (status == HOT_INSERTED || status == HOT_NEW)
+        add_to(&handle->place->keys, 1);
+    else if (status == HOT_REMOVED)
+        add_to(&handle->place->keys, (uint64_t)-1);
+    return noted(handle, status);
 }
 
 hot_status hot_try_insert(hot_handle *handle, const uint8_t *key, size_t length, uint64_t value, uint64_t *had) {
@@ -245,12 +270,12 @@ hot_status hot_try_remove(hot_handle *handle, const uint8_t *key, size_t length,
 
 hot_status hot_try_exchange(hot_handle *handle, const uint8_t *key, size_t length, uint64_t expected, uint64_t value, uint64_t *had) {
     uint64_t unread;
-    return proved_try_exchange(handle, key, length, expected, value, had ? had : &unread);
+    return noted(handle, proved_try_exchange(handle, key, length, expected, value, had ? had : &unread));
 }
 
 hot_status hot_try_add(hot_handle *handle, const uint8_t *key, size_t length, uint64_t delta, uint64_t *had) {
     uint64_t unread;
-    return proved_try_add(handle, key, length, delta, had ? had : &unread);
+    return noted(handle, proved_try_add(handle, key, length, delta, had ? had : &unread));
 }
 
 hot_status hot_try_remove_if(hot_handle *handle, const uint8_t *key, size_t length, uint64_t expected, uint64_t *had) {
@@ -390,14 +415,25 @@ hot_status hot_pop_last(hot_handle *handle, const uint8_t *from, size_t from_len
 hot_status hot_len(hot_handle *handle, size_t *count) {
     hot_index *index;
     size_t place;
-    int64_t keys = 0;
+    uint64_t keys = 0;
     hot_status status = find_index(handle, &index);
     if (status != HOT_DONE)
         return status;
     for (place = 0; place < index->count; place++)
         keys += __atomic_load_n(&index->places[place].keys, __ATOMIC_RELAXED);
-    *count = keys > 0 ? (size_t)keys : 0;
+    *count = keys <= INT64_MAX ? (size_t)keys : 0;
     return HOT_DONE;
+}
+
+void hot_stats(const hot_index *index, hot_refusals *stats) {
+    size_t place;
+    memset(stats, 0, sizeof *stats);
+    for (place = 0; place < index->count; place++) {
+        const hot_refusals *its = &index->places[place].refusals;
+        stats->busy += __atomic_load_n(&its->busy, __ATOMIC_RELAXED);
+        stats->held_back += __atomic_load_n(&its->held_back, __ATOMIC_RELAXED);
+        stats->full += __atomic_load_n(&its->full, __ATOMIC_RELAXED);
+    }
 }
 
 void hot_stock_for_lengths(const uint32_t *keys, hot_stock *stock) {
@@ -418,6 +454,36 @@ void hot_stock_for_lengths(const uint32_t *keys, hot_stock *stock) {
     stock->large_leaves = each[2].large_leaves;
     stock->wide_leaves = each[3].wide_leaves;
     stock->long_leaves = each[4].long_leaves;
+}
+
+/* Has a handle's room take so many keys, and what is found, unless they are many: those of such a call have memory of their own. Returns
+ * whether memory was refused. */
+static int lacks_room(hot_place *place, size_t count) {
+    enum { FOR_A_KEY = 272, MOST_KEYS = 256 };
+    size_t size = count * FOR_A_KEY;
+    void *room;
+    if (count > MOST_KEYS || size <= place->room_size)
+        return 0;
+    room = malloc(size);
+    if (room == NULL)
+        return 1;
+    free(place->room);
+    place->room = room;
+    place->room_size = size;
+    return 0;
+}
+
+hot_status hot_get_many(hot_handle *handle, hot_lookup *lookups, size_t count) {
+    uint16_t number;
+    hot_status status = hot_number(handle, &number);
+    if (status != HOT_DONE)
+        return status;
+    if (lacks_room(handle->place, count))
+        return HOT_NO_MEMORY;
+    heap_lend(handle->place->room, handle->place->room_size);
+    status = proved_get_many(handle, lookups, count);
+    heap_take_back();
+    return status;
 }
 
 hot_status hot_get_packed(hot_handle *handle, const uint8_t *bytes, const size_t *lengths, size_t count, uint64_t *values,
@@ -449,20 +515,28 @@ hot_status hot_get_packed(hot_handle *handle, const uint8_t *bytes, const size_t
 
 static void free_index(hot_index *index) {
     size_t place;
-    for (place = 0; place < index->count; place++)
+    for (place = 0; place < index->count; place++) {
         proved_close_section(&index->places[place].section);
+        free(index->places[place].room);
+    }
+    proved_close_section(&index->next);
     proved_close_section(&index->sections);
     free(index->places);
     free(index);
 }
 
-/* Makes the sections of an index, one for each handle. Returns whether there was memory. */
-static int make_sections(hot_index *index) {
-    size_t place;
-    hot_status status = proved_make_sections(index->count, &index->sections);
-    for (place = 0; status == HOT_DONE && place < index->count; place++)
-        status = proved_open_section(&index->sections, &index->places[place].section);
-    return status == HOT_DONE;
+/* Opens the section of the handle that is opened next, if none is kept open for it. HOT_DONE; or HOT_NO_HANDLE if all handles have one, or
+ * HOT_NO_MEMORY. */
+static hot_status open_next_section(hot_index *index) {
+    hot_status status = proved_open_section(&index->sections, &index->next);
+    return status == HOT_OPEN ? HOT_DONE : status;
+}
+
+/* Has a handle that is opened for the first time have that section. */
+static void give_section(hot_place *place) {
+    static const section_handle none = {0, {NULL}};
+    place->section = place->index->next;
+    place->index->next = none;
 }
 
 /* An index with so many places, none of which has a handle; or NULL where memory is refused. */
@@ -474,7 +548,7 @@ static hot_index *new_index(size_t count) {
     if (index == NULL)
         return NULL;
     index->count = count;
-    index->sections = none;
+    index->sections = index->next = none;
     index->left = 0;
     index->keeper = index->teller = closed;
     index->opening = index->telling = 0;
@@ -487,10 +561,24 @@ static hot_index *new_index(size_t count) {
         index->places[place].index = index;
         index->places[place].state = UNOPENED;
     }
-    if (!make_sections(index)) {
+    if (proved_make_sections(count, &index->sections) != HOT_DONE) {
         free_index(index);
         return NULL;
     }
+    return index;
+}
+
+/* An index whose handles are opened with it, so that each has its section; or NULL where memory is refused. */
+static hot_index *new_opened_index(size_t count) {
+    hot_index *index = new_index(count);
+    size_t place;
+    for (place = 0; index != NULL && place < count; place++)
+        if (open_next_section(index) == HOT_DONE) {
+            give_section(&index->places[place]);
+        } else {
+            free_index(index);
+            index = NULL;
+        }
     return index;
 }
 
@@ -500,7 +588,7 @@ static hot_status placed(hot_status status, hot_handle *handles, size_t count) {
     size_t place;
     if (status != HOT_DONE)
         return status;
-    index = new_index(count);
+    index = new_opened_index(count);
     for (place = 0; place < count; place++)
         if (index == NULL)
             proved_destroy(&handles[place]);
@@ -596,15 +684,19 @@ static hot_status open_kept(hot_index *index, hot_handle *handle) {
     uint16_t number;
     hot_status status;
     lock(&index->opening);
-    heap_begin(0);
-    status = proved_open_kept(&index->keeper, handle);
-    heap_end();
-    if (status == HOT_NO_HANDLE) {
+    status = open_next_section(index);
+    if (status == HOT_DONE) {
+        heap_begin(0);
+        status = proved_open_kept(&index->keeper, handle);
+        heap_end();
+    }
+    if (status == HOT_NO_HANDLE && hot_number(&index->keeper, &number) == HOT_DONE) {
         move_handle(handle, &index->keeper);
         status = HOT_DONE;
     }
     if (status == HOT_DONE && hot_number(handle, &number) == HOT_DONE) {
         handle->place = &index->places[number];
+        give_section(handle->place);
         set_state(handle->place, TAKEN);
     }
     unlock(&index->opening);

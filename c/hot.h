@@ -45,7 +45,8 @@
  * memory comes from malloc, and an index takes all of it at once.
  *
  * Each handle has memory for the pairs of its scans, too, which the next scan uses again. After a scan it goes if the keys have more than
- * 32 KiB of it, or the rest has. So a handle keeps 64 KiB of it at most between its calls.
+ * 32 KiB of it, or the rest has. So a handle keeps 64 KiB of it at most between its calls. After a hot_get_many of up to 256 keys it keeps
+ * 272 bytes for each, too, and the next one for no more keys asks for no memory.
  *
  * The library starts no threads and keeps no data outside its indexes. It needs Linux, and an x86-64 processor of the level for which it
  * was compiled: x86-64-v3, which has AVX2, unless the machine that compiled it had not, or x86-64-v2 was asked for. On an older one
@@ -180,8 +181,8 @@ void hot_stock_for_lengths(const uint32_t *keys, hot_stock *stock);
  * HOT_DONE; or HOT_OUT_OF_RANGE or HOT_OLD_PROCESSOR, where hot_create_with would return that. */
 hot_status hot_stock_bytes(const hot_stock *stock, size_t handles, size_t *bytes);
 
-/* Makes an empty index with this stock and room for so many handles, 1 to 1024, and writes it to `index`. Room for a handle takes some 390
- * bytes; the handle's lists are made when hot_open first opens it, and those of the last one at once.
+/* Makes an empty index with this stock and room for so many handles, 1 to 1024, and writes it to `index`. Room for a handle takes some 360
+ * bytes; the handle's lists and its section are made when hot_open first opens it, and the lists of the last one at once.
  * HOT_DONE; or HOT_OUT_OF_RANGE, HOT_NO_MEMORY or HOT_OLD_PROCESSOR, and then nothing is written. */
 hot_status hot_open_index(const hot_stock *stock, size_t handles, hot_index **index);
 
@@ -477,6 +478,20 @@ hot_status hot_census(hot_handle *handle, hot_counts *counts);
  * or not.
  * HOT_DONE; or HOT_CLOSED. */
 hot_status hot_len(hot_handle *handle, size_t *count);
+
+/* How often tries to change an index were refused. A call hot_try_.. makes one try. A call that waits makes tries until one isn't refused
+ * as busy or held back, and each counts. */
+typedef struct hot_refusals {
+    uint64_t busy;      /* HOT_BUSY: another call was in the way */
+    uint64_t held_back; /* HOT_HELD_BACK: too few records were free, but by a count some may come back */
+    uint64_t full;      /* HOT_FULL_NODES or HOT_FULL_LEAVES: too few records were free, and by a count none comes back */
+} hot_refusals;
+
+/* Writes how often tries were refused since the index was made, through any of its handles, open or closed. Each that was held back or
+ * full has counted all records. One that found a record free after it had collected counts nowhere. Each handle keeps numbers of its own,
+ * and this adds them up; it makes no steps. The sums are exact if no change runs meanwhile. Else they are of no single moment. Any thread
+ * may make this call until the index is closed. */
+void hot_stats(const hot_index *index, hot_refusals *stats);
 
 /* Closes a handle of hot_create or hot_create_with, from any thread and in any order. Closing the last one frees the index. A closed
  * handle may be given to hot_create again. It gives a handle of hot_open back, as hot_close does.

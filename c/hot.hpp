@@ -464,8 +464,8 @@ class handle {
     /// closed, and throws std::logic_error inside the handle's section.
     void close() {
         if (it_)
-            check(hot_close(it_.get()));
-        it_ = std::unique_ptr<hot_handle, closer>();
+            check(hot_close(&it_->raw));
+        it_ = nullptr;
     }
 
     [[nodiscard]] std::optional<std::uint64_t> get(key_view key) {
@@ -674,21 +674,26 @@ class handle {
     friend class index;
     friend class section;
 
-    // A hot_handle must not move. The index is there as long as each of its handles. One that is inside its section stays open for good.
-    struct closer {
+    // A hot_handle must not move, and its index is there as long as it is.
+    struct held {
         std::shared_ptr<hot_index> of;
-        void operator()(hot_handle *it) const {
-            if (hot_close(it) != HOT_INSIDE)
+        hot_handle raw = HOT_HANDLE;
+        bool is_left = false; // inside its section, which closes it
+    };
+    struct closer {
+        void operator()(held *it) const {
+            it->is_left = hot_close(&it->raw) == HOT_INSIDE;
+            if (!it->is_left)
                 delete it;
         }
     };
-    handle(hot_handle *it, std::shared_ptr<hot_index> of) : it_(it, closer{std::move(of)}) {}
+    explicit handle(std::shared_ptr<hot_index> of) : it_(new held{std::move(of)}) {}
 
     hot_handle *it() const {
         if (!it_)
             check(HOT_CLOSED);
         detail::call_begins();
-        return it_.get();
+        return &it_->raw;
     }
     // The greatest key that begins with the prefix.
     static std::string last_with(std::string_view prefix) {
@@ -752,24 +757,26 @@ class handle {
         }
     }
 
-    std::unique_ptr<hot_handle, closer> it_;
+    std::unique_ptr<held, closer> it_;
 };
 
-/// A section of a handle, from when it is made until it goes: what values point to may be followed there, since hot::handle::is_past holds back who
-/// would free it. The handle may be used and moved meanwhile, and must not go before its section.
+/// A section of a handle, from when it is made until it goes: what values point to may be followed there, since hot::handle::is_past holds
+/// back who would free it. The handle may be used and moved meanwhile. One that goes before its section is closed when the section goes.
 class section {
   public:
     /// Enters the section. Throws std::logic_error if the handle is inside it already, or closed.
-    explicit section(handle &of) : it_(of.it()) { check(hot_enter(it_)); }
+    explicit section(handle &of) : of_(of.it_.get()) { check(hot_enter(of.it())); }
     ~section() {
         detail::call_begins();
-        hot_leave(it_);
+        hot_leave(&of_->raw);
+        if (of_->is_left)
+            handle::closer()(of_);
     }
     section(const section &) = delete;
     section &operator=(const section &) = delete;
 
   private:
-    hot_handle *it_;
+    handle::held *of_;
 };
 
 /// A stock for `keys` keys of at most `longest` bytes each; hot.h says what it has to spare.
@@ -816,12 +823,21 @@ class index {
     [[nodiscard]] std::optional<handle> try_open() {
         if (!at_)
             throw std::logic_error("the index was moved away");
-        handle one(new hot_handle HOT_HANDLE, at_);
+        handle one(at_);
         const hot_status status = hot_open(at_.get(), one.it());
         if (status == HOT_NO_HANDLE)
             return std::nullopt;
         check(status);
         return one;
+    }
+
+    /// How often tries to change the index were refused: hot_stats. Throws std::logic_error if the index was moved from.
+    [[nodiscard]] hot_refusals stats() const {
+        if (!at_)
+            throw std::logic_error("the index was moved away");
+        hot_refusals told{};
+        hot_stats(at_.get(), &told);
+        return told;
     }
 
   private:

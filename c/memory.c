@@ -1,6 +1,6 @@
-/* Tests of what memory the library takes: how many bytes handles have before and after they are opened and between scans, what is resident, that none is
- * lost, and what calls return where memory is refused, each allocation in turn. It is linked with --wrap for malloc, calloc, realloc, free,
- * mmap, munmap, mremap and madvise. */
+/* Tests of what memory the library takes: how many bytes handles have before and after they are opened and between calls, what is resident,
+ * that none is lost, and what calls return where memory is refused, each allocation in turn. It is linked with --wrap for malloc, calloc,
+ * realloc, free, mmap, munmap, mremap and madvise. */
 #define _GNU_SOURCE
 #include "hot.h"
 #include "check.h"
@@ -125,7 +125,7 @@ static void test_light(void) {
     one = in_use;
     CHECK(one - none <= 150000);
     /* The last handle is open to the library, and 128 bytes of each are in the table. */
-    CHECK((none - bytes - (one - none)) / HANDLES + 128 <= 390);
+    CHECK((none - bytes - (one - none)) / HANDLES + 128 <= 360);
     for (turn = 0; turn < 10000; turn++) {
         CHECK(hot_close(&handle) == HOT_DONE && hot_open(index, &handle) == HOT_DONE);
         CHECK(hot_upsert(&handle, (const uint8_t *)"key", 3, turn, NULL) == (turn ? HOT_WAS : HOT_NEW));
@@ -166,6 +166,30 @@ static void test_kept(void) {
         CHECK(hot_close(&handle) == HOT_DONE && in_use == 0);
     }
     CHECK(most > 48 << 10);
+}
+
+/* Once a handle has looked up 256 keys by one call, no call for so many asks for memory. One for twice as many gives all of it back. */
+static void test_looked_up(void) {
+    enum { MANY = 256 };
+    static hot_lookup lookups[2 * MANY];
+    hot_handle handle = HOT_HANDLE;
+    size_t place, count, before, kept;
+    long first;
+    CHECK(hot_create_with(&stock, &handle, 1) == HOT_DONE && hot_upsert(&handle, (const uint8_t *)"key", 3, 7, NULL) == HOT_NEW);
+    for (place = 0; place < 2 * MANY; place++) {
+        lookups[place].key = (const uint8_t *)"key";
+        lookups[place].length = 3;
+    }
+    before = in_use;
+    CHECK(hot_get_many(&handle, lookups, MANY) == HOT_DONE && in_use - before <= MANY * 280);
+    kept = in_use;
+    first = asked;
+    for (count = 0; count <= MANY; count++)
+        CHECK(hot_get_many(&handle, lookups, count) == HOT_DONE && (count == 0 || lookups[count - 1].value == 7));
+    CHECK(asked == first && in_use == kept);
+    CHECK(hot_get_many(&handle, lookups, 2 * MANY) == HOT_DONE && lookups[2 * MANY - 1].value == 7);
+    CHECK(asked > first && in_use == kept);
+    CHECK(hot_close(&handle) == HOT_DONE && in_use == 0);
 }
 
 /* What isn't used of an index is not resident: neither while there are few keys, nor in a handle. Huge pages, which some systems give
@@ -255,6 +279,7 @@ static int test_refused(const hot_stock *asks, long number) {
     hot_index *index = NULL;
     hot_status status;
     hot_pair pairs[3];
+    hot_lookup lookup = {(const uint8_t *)"c", 1, 0, HOT_ABSENT};
     uint32_t more;
     size_t count, place, tries;
     asked = is_spared = 0;
@@ -271,6 +296,9 @@ static int test_refused(const hot_stock *asks, long number) {
     for (; (status = hot_scan(&handles[0], (const uint8_t *)"", 0, HOT_TO_END, pairs, 3, &count, &more)) == HOT_NO_MEMORY; tries++)
         ;
     CHECK(status == HOT_DONE && count == 3 && pairs[2].value == 2 && !more);
+    for (; (status = hot_get_many(&handles[1], &lookup, 1)) == HOT_NO_MEMORY; tries++)
+        CHECK(lookup.status == HOT_ABSENT);
+    CHECK(status == HOT_DONE && lookup.status == HOT_FOUND && lookup.value == 2);
     CHECK(hot_len(&handles[1], &count) == HOT_DONE && count == 3);
     for (place = 0; place < 3; place++)
         CHECK(hot_close(&handles[place]) == HOT_DONE);
@@ -297,6 +325,7 @@ int main(void) {
     test_resident();
     test_light();
     test_kept();
+    test_looked_up();
     test_huge();
     test_addresses();
     test_fork();

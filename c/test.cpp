@@ -124,6 +124,12 @@ static void test_full() {
     CHECK(change.what == hot::status::full_leaves && change.is_refused() && !change.had);
     CHECK(std::string(change.text()) == hot_status_text(HOT_FULL_LEAVES));
     CHECK(handles[0].upsert("a", 2).had == 1 && handles[0].exchange("a", 2, 3).had == 2 && handles[0].try_add("a", 4).had == 3);
+    hot::index index(hot_stock{10, 1, 0, 0, 0, 0}, 1);
+    hot::handle handle = index.open();
+    CHECK(index.stats().full == 0 && !handle.insert("a", 1).is_refused() && handle.insert("b", 2).is_refused());
+    const hot::index moved = std::move(index);
+    CHECK(moved.stats().full == 1 && moved.stats().busy == 0 && moved.stats().held_back == 0);
+    CHECK(throws<std::logic_error>([&] { return index.stats(); }));
 }
 
 // Small indexes are filled to their last node record, and emptied again.
@@ -403,6 +409,30 @@ static void test_sections() {
     CHECK(throws<std::logic_error>([&] { hot::section inside(one); }));
 }
 
+// A handle that goes inside its section, or is assigned to there, is closed when the section goes. So is one whose index has gone.
+static void test_handles_inside() {
+    hot::index index(10, 8, 2);
+    hot::handle one = index.open(), other = index.open();
+    auto inside = std::make_unique<hot::section>(one);
+    const hot::retirement moment = other.retired();
+    { const hot::handle gone = std::move(one); }
+    CHECK(!other.is_past(moment) && !index.try_open());
+    inside.reset();
+    CHECK(other.is_past(moment));
+    one = index.open();
+    CHECK(one.insert("a", 1).what == hot::status::inserted);
+    inside = std::make_unique<hot::section>(one);
+    one = hot::handle();
+    CHECK(!one && !index.try_open());
+    inside.reset();
+    CHECK(index.try_open());
+    inside = std::make_unique<hot::section>(other);
+    index = hot::index(10, 8, 1);
+    other = index.open();
+    inside.reset();
+    CHECK(other.empty());
+}
+
 int main() {
     test_calls();
     test_index();
@@ -416,6 +446,7 @@ int main() {
     test_containers();
     test_handles();
     test_sections();
+    test_handles_inside();
     test_threads();
     test_counting();
     test_growing();

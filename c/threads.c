@@ -394,7 +394,7 @@ static void test_filling(void) {
 }
 
 /* Fourth test: eight threads on one core put keys in and take them out. While one is stopped in the middle of a call, it holds back what
- * the others retire, so that they find no record free; they wait, and none is refused. */
+ * the others retire, so that they find no record free, as is told; they wait, and none is refused. */
 #define CROWDED 8
 #define FEW_KEYS 800
 #define FEW_LEAVES 1600
@@ -433,6 +433,8 @@ static int test_stopped(unsigned calls) {
     pthread_t threads[CROWDED];
     cpu_set_t all, one;
     unsigned i, waits = 0;
+    hot_index *index = NULL;
+    hot_refusals told;
     memset(handles, 0, sizeof handles);
     CPU_ZERO(&one);
     CHECK(sched_getaffinity(0, sizeof all, &all) == 0);
@@ -440,8 +442,9 @@ static int test_stopped(unsigned calls) {
         ;
     CPU_SET(i, &one);
     CHECK(keep_to(&one));
-    CHECK(hot_create_with(&stock, handles, CROWDED) == HOT_DONE);
+    CHECK(hot_open_index(&stock, CROWDED, &index) == HOT_DONE);
     for (i = 0; i < CROWDED; i++) {
+        CHECK(hot_open(index, &handles[i]) == HOT_DONE);
         memset(&setters[i], 0, sizeof setters[i]);
         setters[i].handle = &handles[i];
         setters[i].calls = calls / CROWDED;
@@ -452,8 +455,11 @@ static int test_stopped(unsigned calls) {
         CHECK(pthread_join(threads[i], NULL) == 0);
         CHECK(setters[i].refused == 0);
         waits += setters[i].waits;
-        CHECK(hot_destroy(&handles[i]) == HOT_DONE);
+        CHECK(hot_close(&handles[i]) == HOT_DONE);
     }
+    hot_stats(index, &told);
+    CHECK(told.held_back >= waits && told.full == 0);
+    CHECK(hot_close_index(index) == HOT_DONE);
     CHECK(keep_to(&all));
     return waits > 0;
 }

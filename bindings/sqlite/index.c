@@ -299,6 +299,13 @@ hot_status part_list(index_part *part, const key_bound *from, const key_bound *u
                                                  page->limit, &page->count, &page->more);
 }
 
+int part_count(index_part *part, const key_bound *from, const key_bound *upto, size_t listed, size_t *count) {
+    enum { MOST_TIMES = 32 }; /* as many keys as pairs were listed */
+    size_t keys;
+    return !has_aside(part->of) && hot_len(&part->handle, &keys) == HOT_DONE && keys / MOST_TIMES <= listed &&
+           hot_count(&part->handle, from->key, from->length, upto->key, upto->length, count) == HOT_DONE;
+}
+
 /* ---- Changes ---- */
 
 log_entry *entry_new(const uint8_t *key, size_t length) {

@@ -73,6 +73,10 @@ typedef struct key_page {
 } key_page;
 hot_status part_list(index_part *part, const key_bound *from, const key_bound *upto, int falls, key_page *page);
 
+/* Counts the pairs from `from` up to `upto`, as hot_count does: 1. It does not, and returns 0, where the index has so many keys that this
+ * may take much longer than to list `listed` pairs, or where something is beside it. */
+int part_count(index_part *part, const key_bound *from, const key_bound *upto, size_t listed, size_t *count);
+
 /* Writes the least key above the pair's, or the greatest one below it: 0 if there is none. */
 int key_beyond(const hot_pair *pair, int falls, key_bound *to);
 

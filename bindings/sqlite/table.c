@@ -18,8 +18,9 @@
 #include <string.h>
 SQLITE_EXTENSION_INIT1
 
-/* How a cursor is to go, as a number from best_index to filter_rows. */
-enum { EQUAL = 1, FROM = 2, UPTO = 4, CASELESS = 8, FALLING = 16 };
+/* How a cursor is to go, as a number from best_index to filter_rows. ABOVE comes with FROM, BELOW with UPTO, and LIMITED where SQLite may
+ * stop or begin to read at a row of its choice. */
+enum { EQUAL = 1, FROM = 2, UPTO = 4, CASELESS = 8, FALLING = 16, ABOVE = 32, BELOW = 64, LIMITED = 128 };
 enum { FIRST_PAGE = 4, PAGE = 128 };
 
 /* A table of a connection. */
@@ -33,7 +34,8 @@ typedef struct table {
     char *schema, *name, *index_name; /* in one piece with the table; the last is NULL if it says none */
 } table;
 
-/* A scan of a table: a page of it, and the keys that are still to be listed. */
+/* A scan of a table: a page of it, and the keys that are still to be listed. Where SQLite passes row after row and reads no column, as for
+ * count(*), the rest is counted, and not listed. */
 typedef struct cursor {
     sqlite3_vtab_cursor base;
     key_bound from, upto;
@@ -41,6 +43,11 @@ typedef struct cursor {
     key_bound folded; /* CASELESS: what keys begin with, in capitals */
     key_page page;
     size_t at;
+    int counts;    /* whether it may count rows */
+    int is_read;   /* whether a column of the page was read */
+    size_t unread; /* how many rows of the pages before it were passed since one was read */
+    size_t left;   /* how many rows are counted, from this one on; 0 where they are listed */
+    size_t passed; /* how many counted rows come before it */
 } cursor;
 
 static int fails(sqlite3_vtab *vtab, int code, const char *text) {
@@ -259,6 +266,23 @@ static int way_of(sqlite3_index_info *plan, int at) {
     }
 }
 
+/* Whether a bound of the key is exclusive. */
+static int is_strict(const sqlite3_index_info *plan, int at) {
+    return plan->aConstraint[at].op == SQLITE_INDEX_CONSTRAINT_GT || plan->aConstraint[at].op == SQLITE_INDEX_CONSTRAINT_LT;
+}
+
+/* Whether SQLite knows already that the value is of the keys' type. Then the scan has just the rows that are asked for. */
+static int is_exact(const table *of, sqlite3_index_info *plan, int at) {
+#if SQLITE_VERSION_NUMBER >= 3038000
+    sqlite3_value *value;
+    return sqlite3_libversion_number() >= 3038000 && sqlite3_vtab_rhs_value(plan, at, &value) == SQLITE_OK &&
+           sqlite3_value_type(value) == (of->is_text ? SQLITE_TEXT : SQLITE_BLOB);
+#else
+    (void)of, (void)plan, (void)at;
+    return 0;
+#endif
+}
+
 /* The first constraint of this way by a collation: -1 if there is none. */
 static int find_constraint(sqlite3_index_info *plan, int way, const char *collation) {
     int at;
@@ -273,12 +297,22 @@ static char *text_of(int way) {
     static const char *const texts[] = {"all keys", "key=?", "key>?", "", "key<?", "", "key>? AND key<?", "", "key LIKE ?"};
     static const char *const falling[] = {"all keys, falling", "key=?", "key>?, falling",          "",
                                           "key<?, falling",    "",      "key>? AND key<?, falling"};
-    return (char *)((way & FALLING) ? falling[way & ~FALLING] : texts[way]);
+    int kind = way & (EQUAL | FROM | UPTO | CASELESS);
+    return (char *)((way & FALLING) ? falling[kind] : texts[kind]);
+}
+
+/* Has a bound be the value of this number: what it adds to the way. */
+static int use_bound(const table *of, sqlite3_index_info *plan, int at, int number) {
+    int is_from = way_of(plan, at) == FROM;
+    plan->aConstraintUsage[at].argvIndex = number;
+    plan->aConstraintUsage[at].omit = (unsigned char)is_exact(of, plan, at);
+    return is_from ? FROM | (is_strict(plan, at) ? ABOVE : 0) : UPTO | (is_strict(plan, at) ? BELOW : 0);
 }
 
 /* SQLite makes a range of LIKE and GLOB, if they are its own: that of LIKE is one by NOCASE, of what begins with some letters. It
- * checks each row again: so of several constraints of a kind one is enough, and a range may be wider than what was asked for. */
-static int choose(sqlite3_index_info *plan, double *rows) {
+ * checks each row again, unless a bound is exact: so of several constraints of a kind one is enough, and a range may be wider than what was
+ * asked for. */
+static int choose(const table *of, sqlite3_index_info *plan, double *rows) {
     int equal = find_constraint(plan, EQUAL, "BINARY");
     int from = find_constraint(plan, FROM, "BINARY"), upto = find_constraint(plan, UPTO, "BINARY");
     int way = 0;
@@ -292,20 +326,35 @@ static int choose(sqlite3_index_info *plan, double *rows) {
         upto = find_constraint(plan, UPTO, "NOCASE");
         if (from < 0 || upto < 0)
             return 0;
-        way = CASELESS;
+        plan->aConstraintUsage[from].argvIndex = 1;
+        plan->aConstraintUsage[upto].argvIndex = 2;
+        *rows /= 16;
+        return CASELESS;
     }
     *rows /= from >= 0 && upto >= 0 ? 16 : 4;
     if (from >= 0)
-        plan->aConstraintUsage[from].argvIndex = 1;
+        way |= use_bound(of, plan, from, 1);
     if (upto >= 0)
-        plan->aConstraintUsage[upto].argvIndex = from >= 0 ? 2 : 1;
-    return way ? way : (from >= 0 ? FROM : 0) | (upto >= 0 ? UPTO : 0);
+        way |= use_bound(of, plan, upto, from >= 0 ? 2 : 1);
+    return way;
+}
+
+/* LIMITED if the query has LIMIT or OFFSET, and SQLite says so. */
+static int limit_of(const sqlite3_index_info *plan) {
+    int at;
+    for (at = 0; at < plan->nConstraint; at++) {
+#ifdef SQLITE_INDEX_CONSTRAINT_LIMIT
+        if (plan->aConstraint[at].op == SQLITE_INDEX_CONSTRAINT_LIMIT || plan->aConstraint[at].op == SQLITE_INDEX_CONSTRAINT_OFFSET)
+            return LIMITED;
+#endif
+    }
+    return 0;
 }
 
 static int best_index(sqlite3_vtab *vtab, sqlite3_index_info *plan) {
     const table *it = (table *)vtab;
     double rows = it->keys;
-    int way = choose(plan, &rows);
+    int way = choose(it, plan, &rows) | limit_of(plan);
     /* CASELESS goes in rising order alone. Keys are different: what comes after the key in ORDER BY makes no difference. */
     if (plan->nOrderBy > 0 && plan->aOrderBy[0].iColumn == 0 && !(way & CASELESS && plan->aOrderBy[0].desc)) {
         way |= plan->aOrderBy[0].desc ? FALLING : 0;
@@ -354,16 +403,44 @@ static int load(cursor *it) {
     return refused(it->base.pVtab, status);
 }
 
+/* Goes on behind the page: 0 if no key comes there. */
+static int go_beyond(cursor *it) {
+    const hot_pair *last = &it->page.pairs[it->page.count - 1];
+    return key_beyond(last, it->falls, it->falls ? &it->upto : &it->from);
+}
+
+/* Counts what comes after the page, if no column was read for long, so that none may be: 0 if it is to be listed. */
+static int count_rest(cursor *it) {
+    it->unread = it->is_read ? 0 : it->unread + it->page.count;
+    it->is_read = 0;
+    if (!it->counts || !it->unread || !part_count(part_of(it), &it->from, &it->upto, it->unread, &it->left))
+        return 0;
+    it->page.count = it->at = it->passed = 0;
+    return 1;
+}
+
 /* Loads what comes after the page. */
 static int load_next(cursor *it) {
-    const hot_pair *last = &it->page.pairs[it->page.count - 1];
-    key_bound *bound = it->falls ? &it->upto : &it->from;
     it->page.limit = it->page.limit * 4 < PAGE ? it->page.limit * 4 : PAGE;
-    if (!key_beyond(last, it->falls, bound)) {
+    if (!go_beyond(it)) {
         it->page.count = it->at = 0;
         return SQLITE_OK;
     }
-    return load(it);
+    return count_rest(it) ? SQLITE_OK : load(it);
+}
+
+/* Lists a row that was counted, of which a column is read after all, and those behind it. */
+static int list_counted(cursor *it) {
+    int code;
+    it->left = 0;
+    it->page.limit = PAGE;
+    while ((code = load(it)) == SQLITE_OK && it->page.count <= it->passed) {
+        it->passed -= it->page.count;
+        if (!it->page.count || !it->page.more || !go_beyond(it))
+            return fails(it->base.pVtab, SQLITE_BUSY, "the row was removed meanwhile: try again");
+    }
+    it->at = it->passed;
+    return code;
 }
 
 static int is_capital(uint8_t byte) {
@@ -419,6 +496,8 @@ static int find_row(cursor *it) {
             if (!it->page.count || !it->page.more)
                 return code;
             code = load_next(it);
+            if (it->left)
+                return code;
         } else if (begins_so(&it->folded, &it->page.pairs[it->at])) {
             return code;
         } else {
@@ -437,6 +516,11 @@ static int find_row(cursor *it) {
 
 static int next_row(sqlite3_vtab_cursor *of) {
     cursor *it = (cursor *)of;
+    if (it->left) {
+        it->left--;
+        it->passed++;
+        return SQLITE_OK;
+    }
     it->at++;
     return find_row(it);
 }
@@ -452,16 +536,33 @@ static int bytes_of(const table *of, sqlite3_value *value, const uint8_t **bytes
     return 1;
 }
 
-/* Makes a value the bound of a range, as wide as it may be: one of another type sets none. 0 if no key is inside. */
-static int set_bound(const table *of, sqlite3_value *value, key_bound *bound) {
+/* Makes a value the lower bound of a range, or the one just below it: one of another type sets none. 0 if no key is inside. */
+static int set_from(const table *of, sqlite3_value *value, int is_above, key_bound *from) {
     const uint8_t *bytes;
     size_t length;
     if (sqlite3_value_type(value) == SQLITE_NULL)
         return 0;
-    if (bytes_of(of, value, &bytes, &length)) {
-        bound->length = length < HOT_MAX_KEY ? length : HOT_MAX_KEY;
-        memcpy(bound->key, bytes, bound->length);
-    }
+    if (!bytes_of(of, value, &bytes, &length))
+        return 1;
+    if (is_above || length > HOT_MAX_KEY)
+        return hot_after(bytes, length < HOT_MAX_KEY ? length : HOT_MAX_KEY, from->key, &from->length) == HOT_DONE;
+    from->length = length;
+    memcpy(from->key, bytes, length);
+    return 1;
+}
+
+/* The same for the upper bound, or the one just above it. */
+static int set_upto(const table *of, sqlite3_value *value, int is_below, key_bound *upto) {
+    const uint8_t *bytes;
+    size_t length;
+    if (sqlite3_value_type(value) == SQLITE_NULL)
+        return 0;
+    if (!bytes_of(of, value, &bytes, &length))
+        return 1;
+    if (is_below && length <= HOT_MAX_KEY)
+        return hot_before(bytes, length, upto->key, &upto->length) == HOT_DONE;
+    upto->length = length < HOT_MAX_KEY ? length : HOT_MAX_KEY;
+    memcpy(upto->key, bytes, upto->length);
     return 1;
 }
 
@@ -511,6 +612,9 @@ static int filter_rows(sqlite3_vtab_cursor *of, int way, const char *text, int c
     (void)count;
     it->falls = (way & FALLING) != 0;
     it->folded.length = it->from.length = it->at = it->page.count = it->page.more = 0;
+    it->counts = !(way & (LIMITED | CASELESS));
+    it->is_read = 0;
+    it->unread = it->left = it->passed = 0;
     it->upto.length = HOT_MAX_KEY;
     memset(it->upto.key, 0xff, HOT_MAX_KEY);
     it->page.limit = FIRST_PAGE;
@@ -519,9 +623,9 @@ static int filter_rows(sqlite3_vtab_cursor *of, int way, const char *text, int c
             return code;
     }
     if (way & FROM)
-        has_keys = set_bound(from_table, *values++, &it->from);
+        has_keys = set_from(from_table, *values++, way & ABOVE, &it->from);
     if (way & UPTO)
-        has_keys = set_bound(from_table, *values, &it->upto) && has_keys;
+        has_keys = set_upto(from_table, *values, way & BELOW, &it->upto) && has_keys;
     if (way & CASELESS)
         set_caseless(it, values[0], values[1]);
     if (!has_keys || (code = load(it)) != SQLITE_OK)
@@ -531,12 +635,17 @@ static int filter_rows(sqlite3_vtab_cursor *of, int way, const char *text, int c
 
 static int is_at_end(sqlite3_vtab_cursor *of) {
     const cursor *it = (cursor *)of;
-    return it->at >= it->page.count;
+    return !it->left && it->at >= it->page.count;
 }
 
 static int column_of(sqlite3_vtab_cursor *of, sqlite3_context *to, int number) {
-    const cursor *it = (cursor *)of;
-    const hot_pair *pair = &it->page.pairs[it->at];
+    cursor *it = (cursor *)of;
+    const hot_pair *pair;
+    int code = it->left ? list_counted(it) : SQLITE_OK;
+    if (code != SQLITE_OK)
+        return code;
+    it->is_read = 1;
+    pair = &it->page.pairs[it->at];
     if (number == 1)
         sqlite3_result_int64(to, (sqlite3_int64)pair->value);
     else if (((table *)of->pVtab)->is_text)

@@ -1,5 +1,5 @@
-/* Tests hot_table.so beside ordinary tables: by random statements, also by ones that create and drop tables, by rollbacks of which
- * another connection has taken the room, by refusing each allocation, and by threads with a connection each.
+/* Tests hot_table.so beside ordinary tables: by random statements, also by ones that count, or create and drop tables, by rollbacks of
+ * which another connection has taken the room, by refusing each allocation, and by threads with a connection each.
  *
  *     test HOT_TABLE.so [threads]     the threads alone
  *
@@ -266,6 +266,111 @@ static void random_statements(void) {
     }
     run(db, "COMMIT");
     sqlite3_close(db);
+}
+
+/* ---- Rows that are counted ---- */
+
+/* every(n): 1 at each nth call, and else 0. */
+static void every(sqlite3_context *to, int count, sqlite3_value **values) {
+    int *calls = sqlite3_user_data(to);
+    (void)count;
+    sqlite3_result_int(to, ++*calls % sqlite3_value_int(values[0]) == 0);
+}
+
+/* How many columns of the table a query may read of each row. */
+static int columns_read(sqlite3 *db, const char *sql) {
+    sqlite3_stmt *query;
+    char *text = sqlite3_mprintf("EXPLAIN %s", sql);
+    int columns = 0;
+    if (sqlite3_prepare_v2(db, text, -1, &query, NULL) != SQLITE_OK)
+        fail(sql, sqlite3_errmsg(db));
+    while (sqlite3_step(query) == SQLITE_ROW)
+        columns += strcmp((const char *)sqlite3_column_text(query, 1), "VColumn") == 0;
+    sqlite3_finalize(query);
+    sqlite3_free(text);
+    return columns;
+}
+
+/* Both tables answer a query that passes rows without reading them. */
+static void compare_counts(sqlite3 *db, unsigned *seed, int *calls) {
+    static const char *const forms[] = {
+        "SELECT count(*) FROM %s",
+        "SELECT count(*) FROM %s WHERE key >= '%s' AND key <= '%s'",
+        "SELECT count(*) FROM %s WHERE key > '%s' AND key < '%s'",
+        "SELECT count(*) FROM %s WHERE key > '%s' AND key <> '%s'",
+        "SELECT count(*) FROM %s WHERE key > '%s' AND key > '%s'",
+        "SELECT count(*) FROM %s WHERE key <= '%s'",
+        "SELECT count(*) FROM %s WHERE key < '%s'",
+        "SELECT count(*) FROM %s WHERE key GLOB '%s*'",
+        "SELECT count(*) FROM %s WHERE key LIKE '%s%%'",
+        "SELECT count(*) FROM %s WHERE key > (SELECT '%s')",
+        "SELECT group_concat(key) FROM (SELECT key FROM %s ORDER BY key LIMIT 5 OFFSET 2100)",
+        "SELECT group_concat(key) FROM (SELECT key FROM %s WHERE key > '%s' ORDER BY key DESC LIMIT 5 OFFSET 900)",
+        "SELECT group_concat(CASE WHEN every(1000) THEN key || value END) FROM (SELECT * FROM %s ORDER BY key)",
+        "SELECT group_concat(CASE WHEN every(400) OR every(401) THEN key END) FROM (SELECT * FROM %s WHERE key < '%s' ORDER BY key DESC)",
+        "SELECT count(*) FROM %s AS one, (SELECT 1 UNION ALL SELECT 2) WHERE key >= '%s'",
+    };
+    const char *form = forms[draw(seed, sizeof forms / sizeof *forms)];
+    char one[16], two[16], *mine, *others;
+    draw_key(seed, "", one);
+    draw_key(seed, "", two);
+    *calls = 0;
+    mine = answer(db, form, "t", one, two);
+    *calls = 0;
+    others = answer(db, form, "p", one, two);
+    if (strcmp(mine, others) != 0) {
+        fprintf(stderr, "hot: %s\nordinary: %s\n%s, %s\n", mine, others, one, two);
+        fail("differs", form);
+    }
+    sqlite3_free(mine);
+    sqlite3_free(others);
+}
+
+/* Reads the key of a row that was counted, and that another connection has removed then: the query is refused, and changes nothing. */
+static void counted_row_that_goes(void) {
+    sqlite3 *db = connect_to("name=counted, keys=4000"), *other = connect_to("name=counted, keys=4000");
+    sqlite3_stmt *query;
+    int calls = 0;
+    want(db, SQLITE_OK, "INSERT INTO t WITH c(n) AS (SELECT 1 UNION ALL SELECT n + 1 FROM c WHERE n < 2000) SELECT 'k' || n, n FROM c");
+    if (sqlite3_create_function(db, "every", 1, SQLITE_UTF8, &calls, every, NULL, NULL) != SQLITE_OK ||
+        sqlite3_prepare_v2(db, "SELECT CASE WHEN every(1001) THEN key END FROM t", -1, &query, NULL) != SQLITE_OK)
+        fail("every", sqlite3_errmsg(db));
+    for (int row = 0; row < 1000; row++)
+        if (sqlite3_step(query) != SQLITE_ROW || sqlite3_column_type(query, 0) != SQLITE_NULL)
+            fail("a counted row", sqlite3_errmsg(db));
+    want(other, SQLITE_OK, "DELETE FROM t");
+    if (sqlite3_step(query) != SQLITE_BUSY)
+        fail("a counted row that is gone", sqlite3_errmsg(db));
+    sqlite3_finalize(query);
+    if (number(db, "SELECT count(*) FROM t") != 0)
+        fail("counted", "rows that are gone");
+    sqlite3_close(db);
+    sqlite3_close(other);
+}
+
+static void counted_rows(void) {
+    static const char *const unread[] = {
+        "SELECT count(*) FROM t",
+        "SELECT count(*) FROM t WHERE key > 'a' AND key < 'b'",
+        "SELECT count(*) FROM t WHERE key >= 'a'",
+    };
+    sqlite3 *db = connect_to("keys=4000");
+    unsigned seed = 5;
+    int calls = 0;
+    if (sqlite3_create_function(db, "every", 1, SQLITE_UTF8, &calls, every, NULL, NULL) != SQLITE_OK)
+        fail("every", sqlite3_errmsg(db));
+    want(db, SQLITE_OK, "INSERT INTO p WITH a(x) AS (VALUES (''), ('a'), ('b'), ('A'), ('z'), ('_'), ('~')), c(n) AS (SELECT 1 UNION "
+                        "ALL SELECT n + 1 FROM c WHERE n < 7) SELECT DISTINCT o.x || i.x || e.x || n || u.x, n FROM a o, a i, a e, a u, c WHERE n <> 3");
+    want(db, SQLITE_OK, "DELETE FROM p WHERE length(key) > 3 AND value > 2; INSERT INTO t SELECT * FROM p");
+    if (number(db, "SELECT count(*) FROM p") < 3000)
+        fail("counted_rows", "few rows");
+    for (int at = 0; at < (sqlite3_libversion_number() < 3038000 ? 1 : 3); at++)
+        if (columns_read(db, unread[at]) != 0)
+            fail(unread[at], "it reads rows");
+    for (int turn = 0; turn < 1000; turn++)
+        compare_counts(db, &seed, &calls);
+    sqlite3_close(db);
+    counted_row_that_goes();
 }
 
 /* ---- Rollbacks ---- */
@@ -876,6 +981,7 @@ int main(int count, char **words) {
     refused_statement("INSERT INTO u VALUES ('', 0), ('aa', 0); DELETE FROM u");
     refused_statement("CREATE VIRTUAL TABLE v USING hot(keys=5)");
     random_statements();
+    counted_rows();
     rollback_without_room("ROLLBACK");
     rollback_without_room("ROLLBACK TO s; ROLLBACK");
     one_file();

@@ -79,16 +79,32 @@ static void enlarge(hot_stock *stock, hot_status why, const size_t *length) {
         stock->nodes = leaves / 6 > UINT32_MAX ? UINT32_MAX : (uint32_t)(leaves / 6);
 }
 
+/* Adds what an index tells of refusals. */
+static void add_stats(hot_refusals *to, const room *of) {
+    hot_refusals more;
+    hot_stats(of->index, &more);
+    to->busy += more.busy;
+    to->held_back += more.held_back;
+    to->full += more.full;
+}
+
+static void replace_room(store *it, room *new) {
+    add_stats(&it->refused, it->room);
+    room_close(it->room);
+    it->room = new;
+}
+
 /* Moves all pairs to an index with this stock. */
 static hot_status move_to(store *it, const hot_stock *stock) {
-    room *old = it->room, *new = NULL;
+    room *new = NULL;
     hot_status status = room_open(stock, it->threads, &new);
     if (status != HOT_DONE)
         return status;
-    status = hot_copy(&old->quick, &new->quick);
+    status = hot_copy(&it->room->quick, &new->quick);
     if (status == HOT_DONE)
-        it->room = new;
-    room_close(status == HOT_DONE ? old : new);
+        replace_room(it, new);
+    else
+        room_close(new);
     return status;
 }
 
@@ -163,10 +179,15 @@ static void wait_for_leases(store *it) {
     pthread_mutex_unlock(&it->mutex);
 }
 
-static void wait_for_holder(store *it) {
+/* Takes the mutex once nobody holds the store. */
+static void lock_free(store *it) {
     pthread_mutex_lock(&it->mutex);
     while (atomic_load(&it->is_held))
         pthread_cond_wait(&it->changed, &it->mutex);
+}
+
+static void wait_for_holder(store *it) {
+    lock_free(it);
     pthread_mutex_unlock(&it->mutex);
 }
 
@@ -263,13 +284,18 @@ hot_status store_clear(store *it) {
     }
     wait_for_leases(it);
     hot_status status = room_open(&it->room->stock, it->threads, &new);
-    if (status == HOT_DONE) {
-        room_close(it->room);
-        it->room = new;
-    }
+    if (status == HOT_DONE)
+        replace_room(it, new);
     let_go(it);
     it->turns.begin(ended);
     return status;
+}
+
+void store_stats(store *it, hot_refusals *stats) {
+    lock_free(it);
+    *stats = it->refused;
+    add_stats(stats, it->room);
+    pthread_mutex_unlock(&it->mutex);
 }
 
 /* ---- A store ---- */

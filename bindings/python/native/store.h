@@ -40,7 +40,8 @@ typedef struct store {
     pthread_cond_t changed;
     /* Under the mutex; and who holds the store has it alone: */
     room *room;
-    size_t out; /* how many leases calls have */
+    hot_refusals refused; /* by indexes that it had before */
+    size_t out;           /* how many leases calls have */
 } store;
 
 /* What is done with a handle. It waits for nobody. */
@@ -72,5 +73,8 @@ hot_status store_clear(store *it);
 
 /* Without a turn: makes a call with a handle that no other thread has, and waits for one if it must. */
 hot_status store_long(store *it, store_call *call, void *what);
+
+/* Without a turn: hot_stats of all indexes that it has had. It waits while the store is held. */
+void store_stats(store *it, hot_refusals *stats);
 
 #endif

@@ -70,6 +70,7 @@ class Model:
         equal(list(mine.irange(*ends, both)), wanted)
         equal(list(mine.irange(*ends, both, reverse=True)), wanted[::-1])
         equal(mine.count_range(*ends, both), len(wanted))
+        equal(mine.values_range(*ends, both), [other[key] for key in wanted])
         wanted = [(key, other[key]) for key in keys if key <= one]
         equal(mine.floor_item(one), wanted[-1] if wanted else None)
         wanted = [(key, other[key]) for key in keys if key > one]
@@ -212,9 +213,20 @@ class Refusals(unittest.TestCase):
             mine.update((str(number), number) for number in range(10000))
         self.assertEqual(list(mine), sorted(str(number) for number in range(len(mine))))
         self.assertGreater(len(mine), 500)
+        told = mine.stats()
+        self.assertGreater(told.full, 0)
         mine.clear()
         mine["a"] = 1
-        self.assertEqual(mine, {"a": 1})
+        self.assertEqual((mine, mine.stats()), ({"a": 1}, told))
+
+    def test_stats(self):
+        """What an index that was too small tells stays told, and no other thread was in
+        the way."""
+        mine = SortedMap(longest=8)
+        self.assertEqual(mine.stats(), (0, 0, 0))
+        mine.update((str(number), number) for number in range(5000))
+        told = mine.stats()
+        self.assertEqual((told.busy, told.held_back, told.full > 2), (0, 0, True))
 
     def test_options(self):
         for words in ({"threads": 0}, {"threads": 1025}, {"capacity": -1}):

@@ -65,6 +65,8 @@ class Threads(unittest.TestCase):
                     self.assertLessEqual({*range(0, 1000, 2)}, {*keys})
                 even = [*range(0, 1000, 2)]
                 self.assertEqual(mine.get_many(even), [key // 2 for key in even])
+                values = mine.values_range(0, 998)
+                self.assertLessEqual({*range(500)}, {*values})
 
         # The third thread's keys are odd multiples of 3, so that two meet at some.
         together(2, work)
@@ -76,6 +78,7 @@ class Threads(unittest.TestCase):
         mine = SortedMap(((number, number) for number in range(60000)), keys=int)
         calls = [
             lambda: mine.get_many(range(60000)),
+            lambda: mine.values_range(),
             lambda: mine.update((number, 1) for number in range(60000, 140000)),
             SortedMap(keys=int, capacity=500000).clear,
         ]

@@ -1,6 +1,6 @@
 //! `hot.h`, and over it calls that are safe: no other module has unsafe code.
 #![allow(unsafe_code)]
-use crate::{Census, Error, Stock, MAX_KEY};
+use crate::{Census, Error, Stats, Stock, MAX_KEY};
 use std::cell::UnsafeCell;
 use std::collections::VecDeque;
 use std::ffi::CStr;
@@ -162,6 +162,17 @@ extern "C" {
         upto_length: usize,
         count: *mut usize,
     ) -> Status;
+    fn hot_scan_values(
+        handle: *mut RawHandle,
+        from: *const u8,
+        from_length: usize,
+        upto: *const u8,
+        upto_length: usize,
+        values: *mut u64,
+        limit: usize,
+        count: *mut usize,
+        more: *mut u32,
+    ) -> Status;
     fn hot_first(handle: *mut RawHandle, from: *const u8, length: usize, pair: *mut RawPair) -> Status;
     fn hot_last(handle: *mut RawHandle, upto: *const u8, length: usize, pair: *mut RawPair) -> Status;
     fn hot_pop_first(
@@ -190,6 +201,7 @@ extern "C" {
     fn hot_copy(from: *mut RawHandle, to: *mut RawHandle) -> Status;
     fn hot_census(handle: *mut RawHandle, counts: *mut Census) -> Status;
     fn hot_len(handle: *mut RawHandle, count: *mut usize) -> Status;
+    fn hot_stats(index: *const RawIndex, stats: *mut Stats);
     fn hot_meet(one: *mut RawHandle, other: *mut RawHandle) -> Status;
     fn hot_stamp(handle: *mut RawHandle, moment: *mut RawMoment) -> Status;
     fn hot_follow(handle: *mut RawHandle, moment: *const RawMoment) -> Status;
@@ -250,6 +262,14 @@ impl Index {
     /// How many handles may be open at a time.
     pub(crate) fn handles(&self) -> usize {
         self.handles
+    }
+
+    /// How often tries were refused.
+    pub(crate) fn stats(&self) -> Stats {
+        let mut stats = Stats::default();
+        // SAFETY: the index is there, and it writes three numbers.
+        unsafe { hot_stats(self.at, &mut stats) };
+        stats
     }
 
     /// Opens a handle.
@@ -435,6 +455,27 @@ impl Lease {
             )
         };
         count
+    }
+
+    /// The first values from one key to another, at most `limit`, and whether there are more.
+    pub(crate) fn values(&self, from: &[u8], upto: &[u8], limit: usize) -> Result<(Vec<u64>, bool), Error> {
+        let mut values = room(limit, 0)?;
+        let (mut count, mut more) = (0, 0);
+        Error::check(unsafe {
+            hot_scan_values(
+                self.raw(),
+                from.as_ptr(),
+                from.len(),
+                upto.as_ptr(),
+                upto.len(),
+                values.as_mut_ptr(),
+                values.len(),
+                &mut count,
+                &mut more,
+            )
+        })?;
+        values.truncate(count);
+        Ok((values, more != 0))
     }
 
     /// The first pair from a key on.

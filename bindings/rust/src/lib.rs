@@ -121,6 +121,19 @@ pub struct Census {
     pub bytes: usize,
 }
 
+/// How often tries to change an index were refused: `hot_refusals`. A change tries again as long as another is in its way or holds records
+/// back, and each try counts.
+#[repr(C)]
+#[derive(Clone, Copy, Debug, Default, PartialEq, Eq, Hash)]
+pub struct Stats {
+    /// Another call was in the way.
+    pub busy: u64,
+    /// Too few records were free, but by a count some may come back.
+    pub held_back: u64,
+    /// Too few records were free, and by a count none comes back.
+    pub full: u64,
+}
+
 /// An index. Clones are the same index.
 #[derive(Clone)]
 pub struct Hot {
@@ -149,6 +162,12 @@ impl Hot {
     /// How many handles the index has room for.
     pub fn handles(&self) -> usize {
         self.index.handles()
+    }
+
+    /// How often tries were refused since the index was made, through any handle: exact while nobody changes the index. A try that found a
+    /// record free after it had collected counts nowhere.
+    pub fn stats(&self) -> Stats {
+        self.index.stats()
     }
 }
 
@@ -524,6 +543,19 @@ impl Handle {
     /// The values of all keys, in the order of the keys.
     pub fn values(&self) -> impl DoubleEndedIterator<Item = u64> + '_ {
         self.iter().map(|(_, value)| value)
+    }
+
+    /// The values of the keys of a range, in the order of the keys: those of [`range`](Handle::range) by one scan, which copies no key. Each
+    /// is of a moment of its own. Records that other threads retire meanwhile can't be used again until it ends.
+    ///
+    /// ```
+    /// let handle = hot::Hot::with_capacity(10, 8, 1)?.handle()?;
+    /// handle.extend([("a", 1), ("b", 2), ("c", 3)])?;
+    /// assert_eq!(handle.values_range("b"..)?, [2, 3]);
+    /// # Ok::<(), hot::Error>(())
+    /// ```
+    pub fn values_range(&self, keys: impl KeyRange) -> Result<Vec<u64>, Error> {
+        range::values(self, &keys)
     }
 
     /// The pair with the least key.

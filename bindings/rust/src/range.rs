@@ -140,6 +140,20 @@ pub(crate) fn count(handle: &Handle, keys: &impl KeyRange) -> usize {
     ends(keys).map_or(0, |(from, upto)| handle.lease().count(from.bytes(), upto.bytes()))
 }
 
+/// The values of a range, by a scan with room for some more keys than there were, and for twice as many as long as that has more.
+pub(crate) fn values(handle: &Handle, keys: &impl KeyRange) -> Result<Vec<u64>, Error> {
+    let Some((from, upto)) = ends(keys) else {
+        return Ok(Vec::new());
+    };
+    let mut limit = handle.lease().count(from.bytes(), upto.bytes()) + LARGEST_PAGE;
+    loop {
+        match handle.lease().values(from.bytes(), upto.bytes(), limit)? {
+            (values, false) => return Ok(values),
+            _ => limit = limit.saturating_mul(2),
+        }
+    }
+}
+
 /// The pairs of a range of keys, in order from either end: see [`Handle::range`].
 pub struct Range<'a> {
     handle: &'a Handle,

@@ -1,5 +1,5 @@
 //! The index beside a `BTreeMap`: random calls, also by threads at once, random ranges from both ends, and the edges of keys.
-use hot::{CompareExchangeError, Error, Handle, Hot, KeyRange, Stock, TryInsertError, MAX_KEY};
+use hot::{CompareExchangeError, Error, Handle, Hot, KeyRange, Stats, Stock, TryInsertError, MAX_KEY};
 use std::collections::BTreeMap;
 use std::ops::Bound;
 use std::thread;
@@ -123,6 +123,8 @@ fn check_range(handle: &Handle, model: &Model, random: &mut Random) {
     let keys = (random.bound(), random.bound());
     let wanted = listed(model, |key| within(key, &keys));
     assert_eq!(handle.count_range(keys.clone()), wanted.len());
+    let values: Vec<_> = wanted.iter().map(|(_, value)| *value).collect();
+    assert_eq!(handle.values_range(keys.clone()), Ok(values));
     let (mut range, mut front, mut back) = (handle.range(keys), Vec::new(), Vec::new());
     loop {
         let is_forward = random.below(3) > 0;
@@ -266,6 +268,11 @@ fn a_full_index_says_so_and_goes_on_when_a_key_is_gone() {
         .count();
     assert_eq!((held, handle.insert("another", 0)), (10, Err(Error::FullLeaves)));
     assert_eq!(handle.insert("longer than any of them", 0), Err(Error::KeyTooLong));
+    let full_alone = Stats {
+        full: 2,
+        ..Stats::default()
+    };
+    assert_eq!(handle.index().stats(), full_alone);
     assert_eq!(handle.remove(3u64.to_be_bytes()), Ok(Some(3)));
     assert_eq!(handle.insert("another", 99), Ok(None));
     assert_eq!((handle.len(), handle.census().short_leaves.live), (10, 10));

@@ -77,7 +77,7 @@ fn an_index_grows_while_threads_read() -> Result<(), Error> {
 fn readers_see_all_that_stays() -> Result<(), Error> {
     let hot = Hot::with_capacity(2000, 8, 4)?;
     let writer = hot.handle()?;
-    writer.extend((0..1000u64).map(|n| ((2 * n).to_be_bytes(), n)))?;
+    writer.extend((0..1000u64).map(|n| ((2 * n).to_be_bytes(), 2 * n)))?;
     let ends = AtomicBool::new(false);
     thread::scope(|scope| {
         for _ in 0..3 {
@@ -89,17 +89,20 @@ fn readers_see_all_that_stays() -> Result<(), Error> {
                 assert_eq!(reader.iter().rev().filter(is_even).count(), 1000);
                 let keys: Vec<_> = reader.keys().collect();
                 assert!(keys.windows(2).all(|pair| pair[0] < pair[1]));
+                let values = reader.values_range(..).unwrap();
+                assert!(values.windows(2).all(|pair| pair[0] < pair[1]));
+                assert_eq!(values.iter().filter(|value| *value % 2 == 0).count(), 1000);
                 if is_last {
                     break;
                 }
             });
         }
         for n in 0..20_000u64 {
-            let key = (2 * (n % 900) + 1).to_be_bytes();
+            let odd = 2 * (n % 900) + 1;
             if n / 900 % 2 == 0 {
-                writer.insert(key, n)
+                writer.insert(odd.to_be_bytes(), odd)
             } else {
-                writer.remove(key)
+                writer.remove(odd.to_be_bytes())
             }
             .unwrap();
         }

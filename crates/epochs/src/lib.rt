@@ -23,13 +23,14 @@
 //!
 //! A full round ([`collect_round`]) visits each record of the table, so its cost grows with the table. A small round
 //! ([`collect_small_round`]) visits the records that the pass has retired itself. These stand in its limbo list ([`Limbo`]), oldest
-//! first. A call that changes the index begins with a small round once the pass has retired 32 records since its last one. So
-//! each retired record is visited soon, and a full round is left for an attempt that was refused as full.
+//! first. A call that changes the index begins with a small round once the pass has retired 32 records since its last one, or up
+//! to 96 if there are many passes, whose pins it loads. So each retired record is visited soon, and a full round is left for an attempt
+//! that was refused as full.
 //!
 //! The limbo list promises nothing: before a record is given back, its state is loaded and exchanged.
 //!
 //! A pass that is stopped while it is pinned holds back what others retire from then on, and nothing else: nobody waits for it
-//! here. Whoever needs records learns by [`Collected`] that some were held back.
+//! here. Whoever needs records learns by [`Collected`] whether a round gave some back, or found some free.
 #![tactic(auto)]
 
 mod collection;

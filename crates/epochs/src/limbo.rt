@@ -1,20 +1,35 @@
 //! Limbo: the records that a pass has retired and not given back yet.
 
 ghost use Rattle.std.specs.Prelude.{◌≡◌, ◌≢◌, ◌≤◌, ◌<◌, ◌+◌, ◌-◌, ◌^◌, min, true, false};
+ghost use Rattle.epochs.specs.Limbo.{due_after};
 ghost use Rattle.epochs.specs.declared.collection.Visited.TheVariants.{Waits};
 
 use crate::collection::Visited;
 use arrayvec::ArrayVec;
+use record_words::Layout;
 use rowex_core::Rec;
 
 /// How many records a limbo list keeps at most.
 const MOST_WAITING: usize = 4_096;
 
-/// How many records the pass retires between two small rounds: after so many the next one is due.
-const DUE: u32 = 32;
+/// How many records a pass retires between two small rounds, at least.
+const LEAST_DUE: u32 = 32;
+
+/// And at most. A round visits more, so a list that has grown becomes short again.
+const MOST_DUE: u32 = 96;
 
 /// How many records a small round visits at most.
 pub const MOST_VISITED: usize = 128;
+
+/// After how many retired records a small round is due in a table of `layout`. The more passes there are, the more, since a round loads each
+/// pin: an eighth of their number. But the lists of all passes together are to have at most a quarter of the nodes.
+fn records_between_rounds(layout: Layout) -> u32
+    ensures { result ≡ due_after layout }
+{
+    let by_pins = layout.passes / 8;
+    let by_nodes = layout.nodes / 4 / layout.passes;
+    by_pins.min(by_nodes).min(MOST_DUE).max(LEAST_DUE)
+}
 
 /// The limbo list of a pass: the records that it has retired and not given back yet, the oldest first.
 ///
@@ -62,12 +77,13 @@ impl Limbo {
         }
     }
 
-    /// Whether a small round is due: the pass has retired at least `DUE` records since its last one.
-    pub fn is_due(&self) -> bool
-        ensures due { result ≡ true → DUE ≤ self.now.retired }
-        ensures early { result ≡ false → self.now.retired < DUE }
+    /// Whether a small round is due in a table of `layout`: the pass has retired enough records since its last one. Most calls end at the
+    /// first comparison.
+    pub fn is_due(&self, layout: Layout) -> bool
+        ensures due { result ≡ true → due_after layout ≤ self.now.retired }
+        ensures early { result ≡ false → self.now.retired < due_after layout }
     {
-        self.retired >= DUE
+        self.retired >= LEAST_DUE && self.retired >= records_between_rounds(layout)
     }
 
     /// Makes the list ready for a small round: `given` is empty, and no record counts towards the next round. Those that wait stay.

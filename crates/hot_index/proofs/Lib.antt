@@ -10,3 +10,4 @@ pub mod Longs
 pub mod Stamped
 pub mod Alone
 pub mod Held
+pub mod Spared

@@ -16,12 +16,18 @@ use Rattle.versions.specs.Trades.{AreApart, IsOneOf}
 use Rattle.versions.specs.declared.Rec.{Rec}
 use Rattle.versions.specs.declared.Rec.TheVariants.{Node as a_node, Leaf as a_leaf}
 use Rattle.tries.specs.Keys.{Key}
+use Rattle.lone_runs.specs.Lone.{HasSpare, KeepsSpare}
+use Rattle.rowex_core.specs.declared.event.Event.{Event}
+use Rattle.rowex_table.specs.Seats.{IsShownAll, SeatView, TableView}
 use Rattle.rowex_records.specs.Claims.{AllMissed, AllMissedFrom, HasMissedSince, IsAnothers}
 use Rattle.rowex_writing.specs.Counts.{most_nodes}
 use Rattle.rowex_writing.specs.declared.attempts.TryFault.{TryFault}
 use Rattle.rowex_writing.specs.declared.attempts.TryFault.TheVariants.{Busy, FullLeaves, FullNodes}
 use Rattle.hot_index_calls.specs.Answers.{IsCause, IsNoted, IsRefused}
-use Rattle.hot_index_calls.specs.Passes.{AreByPasses, PassView}
+use Rattle.hot_index_calls.specs.Census.{HasCounted}
+use Rattle.hot_index_calls.specs.Passes.{AreByPasses, IsNewPass, PassView}
+use Rattle.hot_index_calls.specs.Traces.{HasCollected, HasRead}
+use Rattle.hot_index_calls.specs.declared.census.RecordCounts.{RecordCounts}
 
 -- Where all leaf records are long, as in an index that `create` makes, a call that lacks one has found each of them not free, and none its
 -- own.
@@ -94,3 +100,12 @@ abbrev pub CountsAddUp : Type 0
 CountsAddUp =
     (layout : Layout) (front : List Change) (counts : List KeyCount) → LegalFront front → AreByPasses layout front → length counts ≡ layout.passes →
     ((q : ℕ) (count : KeyCount) → slice_get counts q ≡ Some count → HasCount front q count) → AreCounts front counts
+
+-- In an index of one pass one node record stands in no tree when the index is new. What reads the index, collects, counts or is shown steps leaves
+-- one there, if one was. So does each change (`LeavesRoom`), which says then that a removal is not refused for want of a node record.
+pub record OnePassKeepsSpare {G : Type 0} (becomes : G → Event → G → Type 0) : Type 0 where
+  pub begins : (layout : Layout) (q : ℕ) (p : PassView) → 0 < layout.nodes → IsNewPass q p → HasSpare layout p.seat
+  pub reads : (index : TableView) (a b : PassView × G) → HasRead index becomes a b → KeepsSpare index.layout a.0.seat b.0.seat
+  pub collects : (index : TableView) (a b : PassView × G) (nodes leaves : ℕ) → HasCollected index becomes a b nodes leaves → KeepsSpare index.layout a.0.seat b.0.seat
+  pub counts : (index : TableView) (a b : PassView × G) (counts : RecordCounts) → HasCounted index becomes a b counts → KeepsSpare index.layout a.0.seat b.0.seat
+  pub shown : (layout : Layout) (s t : SeatView) → s.known.pass < layout.passes → IsShownAll layout s t → KeepsSpare layout s t

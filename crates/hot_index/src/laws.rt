@@ -1,6 +1,8 @@
 //! Laws of the index. The functions do nothing: their contracts are the laws.
 
-ghost use Rattle.hot_index.specs.Statements.{AllLongFullIsFull, CountsAddUp, HeldIsNeverFull, OnePassFullIsFull, OnePassIsNeverBusy, OnePassRefusesNewAlone, ReturnedBeforeBegun};
+ghost use Rattle.hot_index.specs.Statements.{AllLongFullIsFull, CountsAddUp, HeldIsNeverFull, OnePassFullIsFull, OnePassIsNeverBusy, OnePassKeepsSpare, OnePassRefusesNewAlone, ReturnedBeforeBegun};
+
+use rowex_core::Gate;
 
 /// If all leaf records are long, as `create` makes them, a call that returns `FullLeaves` has found each of them not free since it began.
 /// None was claimed by its own pass.
@@ -40,4 +42,10 @@ pub fn returned_before_begun()
 /// is the number of its keys, if these are fewer than 2^64.
 pub fn counts_add_up()
     ensures { CountsAddUp }
+{}
+
+/// In an index of one pass one node record stands in no tree: when the index is new, and after each call of its pass. So by clause `room` no
+/// removal that waits is refused for want of a node record, while fewer than 2^60 steps have been made.
+pub fn one_pass_keeps_spare<G: Gate>()
+    ensures { OnePassKeepsSpare G.becomes }
 {}

@@ -8,3 +8,4 @@ pub mod Conflicts
 pub mod Trying
 pub mod Refusing
 pub mod Resting
+pub mod Roomy

@@ -37,6 +37,7 @@ use Rattle.rowex_table.proofs.Running.{runs_same}
 use Rattle.rowex_records.specs.Claims.{AllMissed, HasMissed, IsAnothers}
 use Rattle.publish_laws.specs.Ending.{IsAtRest}
 use Rattle.epochs.specs.Runs.{Pins}
+use Rattle.lone_runs.specs.Lone.{KeepsSpare}
 use Rattle.rowex_writing.specs.Asking.{reply_to}
 use Rattle.rowex_writing.specs.Attempts as tries
 use Rattle.rowex_writing.specs.Attempts.{HasAnswered, HasLoadedRoot, HasRefused, IsChangeOf, IsLeafless}
@@ -57,6 +58,7 @@ use Rattle.hot_index_calls.specs.Refusals.{IsPassing, as_tried, fault_in}
 use Rattle.hot_index_calls.specs.Counts.{once_steps, round_steps, try_steps, twice_steps}
 use Rattle.hot_index_calls.specs.Noting.{change_notes, place_by}
 use Rattle.hot_index_calls.specs.Passes.{IsSettled, Owns, PassView, pass_of}
+use Rattle.hot_index_calls.specs.Rooms.{FindsRoom, LeavesRoom}
 use Rattle.hot_index_calls.specs.Traces.{AreAttempts, AreTries, HasMade, HasStepped, HasTold, IsOneAttempt, Tidies, is_full}
 use Rattle.hot_index_calls.proofs.Noting.{HasGoneOn, HasLooked, WasRight, event_makers, found_had, goes_on, legal_front, longer, missed_had, noted, note_of, pinned_front, pinned_pass, settles}
 use Rattle.hot_index_calls.proofs.Conflicts.{absent_from_before, conflict_from_before, may_take_from_before, no_further, overtaken, pins_after, under_pin}
@@ -588,13 +590,17 @@ module _ {table index : TableView} {k : PassView} {s t : SeatView} {call : Call}
   waited_call (Ok reply) h = replied_call (Ok reply) h
   waited_call (Err full) h = replied_call (Err (fault_of full)) h
 
-  pub tried_seen : {G : Type 0} {becomes : G → Event → G → Type 0} {g h : G} {r : Result Reply TryFault} → HasAsked table becomes (AreAttempts table becomes call r) call r (s, g) (t, h) → t.known.steps ≤ s.known.steps + try_steps call table.layout →
+  room_seen : (r : Result Reply TryFault) → KeepsSpare table.layout s t → FindsRoom table.layout call r s t → LeavesRoom index.layout call r k.seat t
+  room_seen r spares finds = subst (λ (x : TableView × PassView). LeavesRoom x.0.layout call r x.1.seat t) (λ e. (index_is e, pass_is e)) (record { spares = spares; finds = finds })
+
+  pub tried_seen : {G : Type 0} {becomes : G → Event → G → Type 0} {g h : G} {r : Result Reply TryFault} → HasAsked table becomes (AreAttempts table becomes call r) call r (s, g) (t, h) → t.known.steps ≤ s.known.steps + try_steps call table.layout → KeepsSpare table.layout s t → FindsRoom table.layout call r s t →
       IsTriedWith call r index becomes (k, g) (pass_of t, h)
-  tried_seen {becomes = becomes} {g = g} {h = h} {r = r} asked few = record {
+  tried_seen {becomes = becomes} {g = g} {h = h} {r = r} asked few spares finds = record {
     own = replied_own asked.replied;
     call = replied_call r asked.replied;
     made = subst (λ (x : TableView × PassView). HasMade x.0 becomes call r (x.1, g) (pass_of t, h)) (λ e. (index_is e, pass_is e)) (has_made table becomes (s, g) (t, h) asked.ended few asked.replied.loaded);
     leafless = asked.replied.leafless;
+    room = room_seen r spares finds;
   }
 
 -- and its steps, as the index and the pass see them
@@ -613,13 +619,14 @@ refused_again a b c (first ∷ refusals) refusal (m, one, passing, rest) last st
 -- a change that waits, as the index and the pass see it
 pub awaited_seen : {table index : TableView} {k : PassView} {s t : SeatView} {call : Call} {G : Type 0} {becomes : G → Event → G → Type 0} {g h : G} {said : Known → List Note} {r : Result Reply Full} →
     table ≡ index → pass_of s ≡ k → HasReplied table call (last_try r) s t → HasStepped table becomes said (s, g) (t, h) → MakesTries call r table becomes (pass_of s, g) (pass_of t, h) →
-    IsAwaitedWith call r index becomes (k, g) (pass_of t, h)
-awaited_seen {t = t} {call = call} {becomes = becomes} {g = g} {h = h} {r = r} index_is pass_is replied stepped made = record {
+    KeepsSpare table.layout s t → FindsRoom table.layout call (last_try r) s t → IsAwaitedWith call r index becomes (k, g) (pass_of t, h)
+awaited_seen {t = t} {call = call} {becomes = becomes} {g = g} {h = h} {r = r} index_is pass_is replied stepped made spares finds = record {
   own = replied_own index_is pass_is replied;
   call = waited_call index_is pass_is r replied;
   leafless = waited_leafless call r replied.leafless;
   tries = subst (λ (x : TableView × PassView). MakesTries call r x.0 becomes (x.1, g) (pass_of t, h)) (λ e. (index_is e, pass_is e)) made;
   told = stepped_told index_is pass_is stepped replied.loaded;
+  room = room_seen index_is pass_is (last_try r) spares finds;
 }
 
 -- a change that was tried and counted, as the index and the pass see it

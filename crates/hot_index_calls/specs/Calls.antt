@@ -21,8 +21,10 @@ use Rattle.hot_index_calls.specs.Refusals.{IsPassing, IsCountTold, as_tried, fau
 use Rattle.hot_index_calls.specs.declared.census.RecordCounts.{RecordCounts}
 use Rattle.hot_index_calls.specs.declared.refusals.Refusal.{Refusal}
 use Rattle.hot_index_calls.specs.declared.refusals.Refusal.TheVariants.{Full as IsFull}
+use Rattle.hot_index_calls.specs.Asked.{last_try}
 use Rattle.hot_index_calls.specs.Counts.{scan_steps}
 use Rattle.hot_index_calls.specs.Passes.{Owns, PassView}
+use Rattle.hot_index_calls.specs.Rooms.{LeavesRoom}
 use Rattle.hot_index_calls.specs.Traces.{HasGot, HasGotRange, HasMade, HasTold, untold}
 
 -- A change that doesn't wait was answered or refused, by these steps, of which the gate was told.
@@ -32,6 +34,7 @@ pub record IsTriedWith {G : Type 0} (asked : Call) (result : Result Reply TryFau
   pub call : MatchResult result (IsNoted index.layout a.0 b.0 asked) (IsRefused index.layout asked a.0 b.0)
   pub made : HasMade index becomes asked result a b
   pub leafless : IsLeafless FullLeaves asked result
+  pub room : LeavesRoom index.layout asked result a.0.seat b.0.seat
 
 -- a change that doesn't wait, with no gate
 abbrev pub IsTried : Call → Result Reply TryFault → TableView → PassView → PassView → Type 0
@@ -102,6 +105,7 @@ pub record IsAwaitedWith {G : Type 0} (asked : Call) (result : Result Reply Full
   pub leafless : IsLeafless Leaves asked result
   pub tries : MakesTries asked result index becomes a b
   pub told : HasTold index becomes a b
+  pub room : LeavesRoom index.layout asked (last_try result) a.0.seat b.0.seat
 
 -- the same, where nobody is told of its steps
 abbrev pub IsAwaited : Call → Result Reply Full → TableView → PassView → PassView → Type 0

@@ -10,3 +10,4 @@ pub mod Counts
 pub mod Reverse
 pub mod Asked
 pub mod Calls
+pub mod Rooms

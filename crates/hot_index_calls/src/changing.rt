@@ -1,12 +1,16 @@
 //! A call that may change the index, made with a pass's seat and scratch lists: its attempts, and the note of an answer.
 
-ghost use Rattle.std.specs.Prelude.{◌≡◌, ◌⊎◌, ◌+◌, ◌<◌, ◌≤◌, ◌↔◌, List, Err, None, IfSome, IsSome, IsTrue, false};
+ghost use Rattle.std.specs.Prelude.{◌≡◌, ◌⊎◌, ◌+◌, ◌<◌, ◌≤◌, ◌↔◌, List, Err, None, IfSome, IsSome, IsTrue, false, ◌≢◌, length};
 ghost use Rattle.finite_map.specs.declared.Note.{Note};
 ghost use Rattle.rowex_core.specs.declared.event.Act.TheVariants.{ClearPin};
 ghost use Rattle.rowex_core.specs.declared.known.Known.{Known};
 ghost use Rattle.rowex_table.specs.Runs.{StepsWith};
 ghost use Rattle.rowex_table.specs.Seats.{IsPassOf};
 ghost use Rattle.rowex_writing.specs.declared.plan.Full.TheVariants.{Nodes, Leaves};
+ghost use Rattle.lone_runs.specs.Lone.{HasRoom, KeepsSpare};
+ghost use Rattle.rowex_writing.specs.Spare.{IsRemoval};
+ghost use Rattle.rowex_writing.specs.declared.attempts.TryFault.TheVariants.{FullNodes};
+ghost use Rattle.hot_index_calls.specs.Rooms.{FindsRoom};
 ghost use Rattle.hot_index_calls.specs.Answers.{fault_of};
 ghost use Rattle.hot_index_calls.specs.Asked.{HasAsked, HasLacked, HasReplied, HasRested, IsIdle, last_try};
 ghost use Rattle.hot_index_calls.specs.Calls.{IsTriedAndCounted, MakesTries};
@@ -19,7 +23,7 @@ ghost use Rattle.hot_index_calls.specs.Traces.{AreAttempts, AreTries, HasStepped
 use crate::census::count_records;
 use crate::refusals::{Refusal, count_node_records, final_refusal, judge_lack, lack_of};
 use crate::scratch::Scratch;
-use epochs::{Given, collect_round, collect_small_round, pin, unpin};
+use epochs::{Collected, Given, collect_round, collect_small_round, pin, unpin};
 use finite_map::{Call, Reply};
 use rowex_core::Gate;
 use rowex_table::{HotTable, TableSeat};
@@ -40,6 +44,8 @@ pub fn try_change<G: Gate>(
     ensures asked { HasAsked table.now G.becomes (AreAttempts table.now G.becomes call.now result) call.now result (seat.old, gate.old) (seat.new, gate.new) }
     ensures lacks { HasLacked table.now scratch.new.build.made.items result seat.old seat.new }
     ensures few { seat.new.known.steps ≤ seat.old.known.steps + try_steps call.now table.now.layout }
+    ensures spares { KeepsSpare table.now.layout seat.old seat.new }
+    ensures room { FindsRoom table.now.layout call.now result seat.old seat.new }
 {
     collect_due(table, seat, gate, scratch);
     try_twice(table, seat, gate, scratch, call)
@@ -50,16 +56,18 @@ fn collect_due<G: Gate>(table: &HotTable, seat: &mut TableSeat, gate: &mut G, sc
     requires idle { IsIdle table.now seat.old }
     ensures idle { IsIdle table.now seat.new }
     ensures tidied { Tidies table.now G.becomes (seat.old, gate.old) (seat.new, gate.new) }
+    ensures spares { KeepsSpare table.now.layout seat.old seat.new }
 {
-    if scratch.limbo.is_due() {
+    let layout = table.layout();
+    if scratch.limbo.is_due(layout) {
         collect_small_round(table, seat, gate, &mut scratch.limbo);
-        scratch.reuse_given_records(table.layout());
+        scratch.reuse_given_records(layout);
     }
 }
 
 /// Tries to make the change `call`. If no record was free, it makes a full round of collection and tries once more. Returns the reply, or
-/// why the last attempt was refused. If the round gave back no record of the kind, and there is no other pass, the second attempt does
-/// nothing, and the refusal is the first one's. `scratch.build.made` lists what it had claimed, if no record was free.
+/// why the last attempt was refused. If the round gave back no record of the kind, and found none free or there is no other pass, the second
+/// attempt does nothing, and the refusal is the first one's. `scratch.build.made` lists what it had claimed, if no record was free.
 fn try_twice<G: Gate>(
     table: &HotTable,
     seat: &mut TableSeat,
@@ -71,6 +79,8 @@ fn try_twice<G: Gate>(
     ensures asked { HasAsked table.now G.becomes (AreTries table.now G.becomes call.now result) call.now result (seat.old, gate.old) (seat.new, gate.new) }
     ensures lacks { HasLacked table.now scratch.new.build.made.items result seat.old seat.new }
     ensures few { seat.new.known.steps ≤ seat.old.known.steps + twice_steps call.now table.now.layout }
+    ensures spares { KeepsSpare table.now.layout seat.old seat.new }
+    ensures room { FindsRoom table.now.layout call.now result seat.old seat.new }
 {
     let first = make_attempt(table, seat, gate, scratch, call);
     let Some(lacks) = full_kind(first) else {
@@ -79,8 +89,9 @@ fn try_twice<G: Gate>(
     let round = collect_round(table, seat, gate);
     let passes = table.layout().passes;
     let count = given_count(round.given, lacks);
+    let found = has_found_free(round, lacks);
     scratch.reset_skips();
-    if may_find_free_record(passes, count) {
+    if may_find_free_record(passes, count, found, is_removal(call)) {
         return make_attempt(table, seat, gate, scratch, call);
     }
     pin_and_unpin(table, seat, gate);
@@ -110,12 +121,39 @@ fn given_count(given: Given, kind: Full) -> u32
     }
 }
 
-/// Whether a record of a kind may be free after a round that gave back `given` of it, in an index of `passes` passes. It may be one of
-/// these, or one that another pass gave back meanwhile.
-fn may_find_free_record(passes: u32, given: u32) -> bool
-    ensures { IsTrue result ↔ ((1 < passes) ⊎ (0 < given)) }
+/// Whether a round found a record of the kind `kind` free already.
+fn has_found_free(round: Collected, kind: Full) -> bool
+    ensures nodes { kind ≡ Nodes → result ≡ round.found_free_node }
+    ensures leaves { kind ≡ Leaves → result ≡ round.found_free_leaf }
 {
-    passes > 1 || given > 0
+    match kind {
+        Full::Nodes => round.found_free_node,
+        Full::Leaves => round.found_free_leaf,
+    }
+}
+
+/// Whether a record of a kind may be free after a round that gave back `given` of it, in an index of `passes` passes. It may be one of
+/// these. Where the round `found` one free, it may be one that another pass gave back meanwhile. If the call `removes` a key, it may be the
+/// one that is left for removals.
+fn may_find_free_record(passes: u32, given: u32, found: bool, removes: bool) -> bool
+    ensures may { IsTrue result ↔ (((1 < passes) × IsTrue found) ⊎ (0 < given) ⊎ IsTrue removes) }
+    ensures not { result ≡ false → removes ≡ false }
+{
+    passes > 1 && found || given > 0 || removes
+}
+
+/// Whether `call` removes a key.
+fn is_removal(call: &Call) -> bool
+    ensures { result ≡ false → ¬ (IsRemoval call.now) }
+{
+    match call {
+        Call::Remove(_) | Call::RemoveIf(_, _) => true,
+        Call::Insert(_, _)
+        | Call::Upsert(_, _)
+        | Call::Exchange(_, _, _)
+        | Call::Add(_, _)
+        | Call::Get(_) => false,
+    }
 }
 
 /// Pins the pass and clears the pin: an attempt of three steps that does nothing. It is made in place of a second try that could find no
@@ -123,6 +161,7 @@ fn may_find_free_record(passes: u32, given: u32) -> bool
 fn pin_and_unpin<G: Gate>(table: &HotTable, seat: &mut TableSeat, gate: &mut G)
     requires idle { IsIdle table.now seat.old }
     ensures rested { HasRested table.now G.becomes (seat.old, gate.old) (seat.new, gate.new) }
+    ensures spares { KeepsSpare table.now.layout seat.old seat.new }
 {
     pin(table, seat, gate);
     unpin(table, seat, gate);
@@ -142,6 +181,8 @@ pub fn try_and_count<G: Gate>(
     ensures stepped { HasStepped table.now G.becomes (change_notes call.now (as_tried result)) (seat.old, gate.old) (seat.new, gate.new) }
     ensures later { seat.old.known.steps ≤ seat.new.known.steps }
     ensures tried { IsTriedAndCounted call.now result table.now G.becomes (pass_of seat.old, gate.old) (pass_of seat.new, gate.new) }
+    ensures spares { KeepsSpare table.now.layout seat.old seat.new }
+    ensures room { FindsRoom table.now.layout call.now (as_tried result) seat.old seat.new }
 {
     match try_change(table, seat, gate, scratch, call) {
         Ok(reply) => Ok(reply),
@@ -172,6 +213,8 @@ pub fn retry_change<R: Wait, G: Gate>(
     ensures replied { HasReplied table.now call.now (last_try result) seat.old seat.new }
     ensures stepped { HasStepped table.now G.becomes (change_notes call.now (last_try result)) (seat.old, gate.old) (seat.new, gate.new) }
     ensures tries { MakesTries call.now result table.now G.becomes (pass_of seat.old, gate.old) (pass_of seat.new, gate.new) }
+    ensures spares { KeepsSpare table.now.layout seat.old seat.new }
+    ensures room { FindsRoom table.now.layout call.now (last_try result) seat.old seat.new }
 {
     for _ in rt.forever() {
         match try_and_count(table, seat, gate, scratch, call) {
@@ -200,6 +243,9 @@ fn make_attempt<G: Gate>(
     ensures asked { HasAsked table.now G.becomes (IsOneAttempt table.now) call.now result (seat.old, gate.old) (seat.new, gate.new) }
     ensures lacks { HasLacked table.now scratch.new.build.made.items result seat.old seat.new }
     ensures few { seat.new.known.steps ≤ seat.old.known.steps + once_steps call.now table.now.layout }
+    ensures spares { KeepsSpare table.now.layout seat.old seat.new }
+    ensures room { IsRemoval call.now → HasRoom table.now.layout seat.old → result ≢ Err FullNodes }
+    ensures longer { length seat.old.trace ≤ length seat.new.trace }
 {
     pin(table, seat, gate);
     let outcome = attempt(

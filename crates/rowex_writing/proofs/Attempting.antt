@@ -1,4 +1,5 @@
 -- How the parts of an attempt make its answer, or its refusal.
+use Rattle.rowex_writing.specs.Spare.{IsRemoval}
 use Rattle.std.specs.Prelude.{if◌then◌else◌, nat_eq, IsSome}
 use Rattle.std.specs.Option.{option_map}
 use Rattle.std.proofs.Common.{◌≡◌, ◌≢◌, ◌⊎◌, inl, inr, ℕ, ◌+◌, ◌≤◌, ◌<◌, List, [], ◌∷◌, length, refl, sym, ap, subst, ◌∙◌, arith, Option, Some, None, Bool, true, false, Ok, Err, ◌*◌}
@@ -303,6 +304,20 @@ leafless (Add key delta) held aim fault e h = tt
 leafless (Get key) held aim fault e h = tt
 leafless (Remove key) held aim fault e h = λ is. h (sym (some_is _ _ e)) (let z : fault ≡ FullLeaves = cc in z)
 leafless (RemoveIf key expected) held aim fault e h = λ is. aim_met (λ a. a ≡ ToRemove → ⊥) expected held ToRemove aim e (λ removes. h removes (let z : fault ≡ FullLeaves = cc in z)) refl
+
+-- a removal aims at one, and a refusal for want of a node record is another fault than the kind
+pub removes_aim : (call : Call) (held : Option ℕ) (aim : Aim) → IsRemoval call → aim_of call held ≡ Some aim → aim ≡ ToRemove
+removes_aim (Insert key value) held aim r e = absurd r
+removes_aim (Upsert key value) held aim r e = absurd r
+removes_aim (Exchange key expected value) held aim r e = absurd r
+removes_aim (Add key delta) held aim r e = absurd r
+removes_aim (Get key) held aim r e = absurd r
+removes_aim (Remove key) held aim r e = sym (some_is _ _ e)
+removes_aim (RemoveIf key expected) held aim r e = aim_met (λ a. aim ≡ a) expected held ToRemove aim e refl
+
+pub nodes_refused : (full : Full) → refusal_of full ≡ FullNodes → full ≡ Nodes
+nodes_refused Nodes is = refl
+nodes_refused Leaves is = cc
 
 pub answered_leafless : (call : Call) (reply : Reply) → IsLeafless FullLeaves call (Ok reply)
 answered_leafless (Insert key value) reply = tt

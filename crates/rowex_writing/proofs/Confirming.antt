@@ -227,13 +227,13 @@ module _ (layout : Layout) (k j : Known) (m : ℕ) (key : Key) (way : List PathN
   pub step_read : (e : Entry) × (named way found (i + 1) ≡ Some e) × Sure j (λ past. IsPlaced past m s.number s.at e)
   step_read = let (e, name, is) = w.nodes i s at in (e, name, sure_later (placed_stable m s.number s.at e) later is.placed)
 
-drop_has : {X : Type 0} (xs : List X) (a i : ℕ) (x : X) → a ≤ i → slice_get xs i ≡ Some x → slice_get (drop a xs) (i - a) ≡ Some x
+pub drop_has : {X : Type 0} (xs : List X) (a i : ℕ) (x : X) → a ≤ i → slice_get xs i ≡ Some x → slice_get (drop a xs) (i - a) ≡ Some x
 drop_has xs zero i x low at = let e : i ≡ i - 0 = omega arith in ap (slice_get xs) (sym e) ∙ at
 drop_has [] (suc a) i x low at = absurd cc
 drop_has (y ∷ xs) (suc a) zero x low at = absurd (omega arith)
 drop_has (y ∷ xs) (suc a) (suc i) x low at = let e : suc i - suc a ≡ i - a = omega arith in ap (slice_get (drop a xs)) e ∙ drop_has xs a i x (omega arith) at
 
-take_has : {X : Type 0} (xs : List X) (n i : ℕ) (x : X) → i < n → slice_get xs i ≡ Some x → IsOneOf x (take n xs)
+pub take_has : {X : Type 0} (xs : List X) (n i : ℕ) (x : X) → i < n → slice_get xs i ≡ Some x → IsOneOf x (take n xs)
 take_has xs zero i x low at = absurd (omega arith)
 take_has [] (suc n) i x low at = absurd cc
 take_has (y ∷ xs) (suc n) zero x low at = inl (let e : x ≡ y = cc in e)

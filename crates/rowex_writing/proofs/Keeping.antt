@@ -109,7 +109,7 @@ all_reversed : {X : Type 0} (P : X → Type 0) (xs : List X) → All P xs → Al
 all_reversed P [] all = All-nil P
 all_reversed P (x ∷ xs) all = subst (All P) (sym (reverse_more x xs)) (All-push P (reverse xs) x (all_reversed P xs (All-tail P x xs all)) (All-head P x xs all))
 
-reversed_has : {X : Type 0} (x : X) (xs : List X) → IsOneOf x xs → Contains (reverse xs) x
+pub reversed_has : {X : Type 0} (x : X) (xs : List X) → IsOneOf x xs → Contains (reverse xs) x
 reversed_has x (y ∷ xs) (inl e) = subst (λ z. Contains z x) (sym (reverse_more y xs)) (subst (λ z. Contains (reverse xs ++ z ∷ []) x) e (Contains-push (reverse xs) x))
 reversed_has x (y ∷ xs) (inr h) = subst (λ z. Contains z x) (sym (reverse_more y xs)) (Contains-append_left (reverse xs) (y ∷ []) x (reversed_has x xs h))
 reversed_has x [] h = absurd h

@@ -38,3 +38,4 @@ pub mod Wider
 pub mod Beside
 pub mod Merged
 pub mod Named
+pub mod Spare

@@ -245,6 +245,12 @@ busy_leafless (Err Busy) P h = λ e. cc
 busy_leafless (Err FullNodes) P h = λ e. cc
 busy_leafless (Err FullLeaves) P h = absurd (let z = h.0 in cc)
 
+pub busy_roomy : {X : Type 0} (r : Result X TryFault) (P : TryFault → Type 0) → IfErr r (λ fault. (fault ≡ Busy) × P fault) → r ≢ Err FullNodes
+busy_roomy (Ok x) P h = λ e. cc
+busy_roomy (Err Busy) P h = λ e. cc
+busy_roomy (Err FullNodes) P h = absurd (let z = h.0 in cc)
+busy_roomy (Err FullLeaves) P h = λ e. cc
+
 pub held_again : (found : Found) (value : ℕ) → held_loads (revalued found value) ≡ held_loads found
 held_again Nothing value = refl
 held_again (Leaf n v None) value = refl

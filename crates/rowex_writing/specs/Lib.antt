@@ -19,3 +19,4 @@ pub mod Growths
 pub mod Counts
 pub mod Walks
 pub mod Merging
+pub mod Spare

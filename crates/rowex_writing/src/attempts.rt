@@ -8,6 +8,8 @@ ghost use Rattle.rowex_reading.specs.Possible.{IsPossible};
 ghost use Rattle.publish_laws.specs.Ending.{IsAtRest};
 ghost use Rattle.rowex_table.specs.Made.{IsLater};
 ghost use Rattle.rowex_table.specs.Seats.{IsSeatOf};
+ghost use Rattle.lone_runs.specs.Lone.{HasRoom, KeepsSpare};
+ghost use Rattle.rowex_writing.specs.Spare.{IsRemoval};
 ghost use Rattle.rowex_writing.specs.Attempts.{HasAnswered, HasAttempted, HasDone, HasFailed, HasFoundOther, HasLoadedFound, HasLoadedRoot, HasRefused, IsFoundAgain, IsFullOfNew, IsLeafless, refusal_of as the_refusal};
 ghost use Rattle.rowex_reading.specs.Ways.{value_of as the_value};
 ghost use Rattle.rowex_writing.specs.Asking.{aim_of as the_aim, value_in as the_value_in};
@@ -88,6 +90,8 @@ pub fn attempt<G: Gate>(
     ensures leafless { IsLeafless TryFault.FullLeaves call.now result }
     ensures full { IfErr result (IsFullOfNew seat.new.known call.now) }
     ensures few { seat.new.known.steps ≤ seat.old.known.steps + most_steps_of call.now table.now.layout }
+    ensures spares { KeepsSpare table.now.layout seat.old seat.new }
+    ensures finds { IsRemoval call.now → HasRoom table.now.layout seat.old → result ≢ Err TryFault.FullNodes }
 {
     let key = call.key();
     let found = search_way(table, seat, gate, key, way);
@@ -146,6 +150,8 @@ fn try_plan<G: Gate>(
     ensures whole { deed ≡ Deed.Value → IfErr result (λ fault. fault ≡ TryFault.Busy) }
     ensures short { deed ≡ Deed.Value → seat.new.known.steps ≤ seat.old.known.steps + value_steps }
     ensures leafless { deed ≡ Deed.Take → result ≢ Err TryFault.FullLeaves }
+    ensures spares { KeepsSpare table.now.layout seat.old seat.new }
+    ensures finds { deed ≡ Deed.Take → HasRoom table.now.layout seat.old → result ≢ Err TryFault.FullNodes }
 {
     if !lock_and_check_span(table, seat, gate, job) {
         return Err(TryFault::Busy);
@@ -187,6 +193,8 @@ fn change_span<G: Gate>(
     ensures whole { deed ≡ Deed.Value → result ≡ Ok tt }
     ensures short { deed ≡ Deed.Value → seat.new.known.steps ≤ seat.old.known.steps + 2 + locks_of job.now.span }
     ensures leafless { deed ≡ Deed.Take → result ≢ Err TryFault.FullLeaves }
+    ensures spares { KeepsSpare table.now.layout seat.old seat.new }
+    ensures finds { deed ≡ Deed.Take → HasRoom table.now.layout seat.old → result ≢ Err TryFault.FullNodes }
 {
     match deed {
         Deed::Value => {
@@ -223,6 +231,8 @@ fn make_removal<G: Gate>(
     ensures done { result ≡ Ok tt → HasDone seat.old.known seat.new.known Take job.now.key.now job.now.value job.now.found }
     ensures failed { IfErr result (HasFailed table.now.layout job.now seat.old.known seat.new.known build.new.made.items) }
     ensures leafless { result ≢ Err TryFault.FullLeaves }
+    ensures spares { KeepsSpare table.now.layout seat.old seat.new }
+    ensures finds { HasRoom table.now.layout seat.old → result ≢ Err TryFault.FullNodes }
 {
     match make_without_leaf(table, seat, gate, build, job) {
         Ok(raised) => {
@@ -260,6 +270,7 @@ fn publish_or_undo<G: Gate>(
     ensures failed { IfErr result (λ fault. (fault ≡ TryFault.Busy) × HasFailed table.now.layout job.now seat.old.known seat.new.known build.new.made.items fault) }
     ensures few { seat.new.known.steps ≤
         seat.old.known.steps + held_loads job.now.found + length build.old.made.items + length (leaf_gone raised.leaf) + locks_of job.now.span + 3 }
+    ensures spares { job.now.span.end < raised.low → KeepsSpare table.now.layout seat.old seat.new }
 {
     if !is_unchanged(table, seat, gate, job) {
         undo_change(table, seat, gate, build, job);
@@ -295,6 +306,8 @@ fn lock_and_check_span<G: Gate>(
     ensures rest { result ≡ false → IsAtRest seat.new.known }
     ensures busy { result ≡ false → (m : ℕ) → IsJobFrom table.now.layout seat.old.known m job.now →
         HasMetLock table.now.layout seat.old.known seat.new.known ⊎ (m < length seat.new.known.front) }
+    ensures spares { KeepsSpare table.now.layout seat.old seat.new }
+    ensures room { result ≡ true → HasRoom table.now.layout seat.old → HasRoom table.now.layout seat.new }
 {
     if !lock_span(table, seat, gate, job.way, job.span) {
         return false;

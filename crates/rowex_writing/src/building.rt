@@ -5,6 +5,7 @@ ghost use Rattle.record_words.specs.Node.{CanTakeLeaf, HasNodeWords, node_words}
 ghost use Rattle.record_words.specs.Reading.{IsSpelling};
 ghost use Rattle.rowex_table.specs.Made.{Made};
 ghost use Rattle.publish_laws.specs.Rises.{made_of_node};
+ghost use Rattle.rowex_writing.specs.Spare.{FindsOne};
 ghost use Rattle.rowex_writing.specs.Building.{IsBuilding, IsHalfMade, IsMadeFrom, HasNotMade};
 ghost use Rattle.rowex_writing.specs.Remaking.{AwaitsLeaf, subtrie_with_leaf};
 ghost use Rattle.compound_node.specs.Nodes.{IsBuiltFrom, NodeView, piece};
@@ -87,6 +88,7 @@ pub(crate) fn make_node_from_words<G: Gate>(
         MatchOption result (HasNotMade table.now seat.new build.new.made.items)
         (λ e. (number : ℕ) × (e ≡ Entry.Node number node.height) × IsBuilding table.now seat.new build.new.made.items (made_of_node number node ∷ news)) }
     ensures same { result ≡ None → (seat.new.known.own ≡ seat.old.known.own) × (build.new.made.items ≡ build.old.made.items) }
+    ensures finds { FindsOne table.now.layout build.old.left_nodes seat.old result }
 {
     let number = claim_node(table, seat, gate, build)?;
     fill_node(table, seat, gate, number, words);

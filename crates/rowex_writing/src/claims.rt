@@ -1,11 +1,13 @@
 //! Claims of the records that a change makes: first of one that the pass has given back, and else on from the last claim.
 
-ghost use Rattle.std.specs.Prelude.{◌≡◌, false, ◌<◌, ◌≤◌, ◌+◌, ◌-◌, ◌*◌, MatchOption, ◌++◌, ◌∷◌, [], List, ℕ, Contains, length};
+ghost use Rattle.std.specs.Prelude.{◌≡◌, false, true, ◌<◌, ◌≤◌, ◌+◌, ◌-◌, ◌*◌, MatchOption, ◌++◌, ◌∷◌, [], List, ℕ, Contains, length};
 ghost use Rattle.record_words.specs.Layout.{leaf_size};
 ghost use Rattle.record_words.specs.declared.TheConstants.{LEAF_WORDS};
 ghost use Rattle.versions.specs.declared.Rec.TheVariants.{Leaf as a_leaf, Node as a_node};
 ghost use Rattle.rowex_table.specs.Seats.{IsSeatOf};
 ghost use Rattle.rowex_records.specs.Claims.{AllMissed, AllMissedFrom, HoldsOneMore, IsAnothersTo, IsKindOf, count_of, record_of, HasMissedSince, IsAnothersBut};
+ghost use Rattle.lone_runs.specs.Lone.{HasFree};
+ghost use Rattle.rowex_writing.specs.Spare.{FindsOne};
 ghost use Rattle.rowex_writing.specs.Classes.{AllMissedBetween};
 ghost use Rattle.rowex_writing.specs.Going.{WorksOn};
 ghost use Rattle.versions.specs.declared.Rec.{Rec as Record};
@@ -234,6 +236,7 @@ pub(crate) fn claim_node<G: Gate>(
         (λ number. IsClaimWalk table.now.layout since seat.new.known (build.old.made.items ++ a_node number ∷ [])
         build.new.nodes.next build.new.left_nodes) }
     ensures few { seat.new.known.steps + 2 * build.new.left_nodes ≤ seat.old.known.steps + 2 * build.old.left_nodes + 2 + looks_for build.new result }
+    ensures finds { FindsOne table.now.layout build.old.left_nodes seat.old result }
 {
     let claimed = claim_node_on_walk(table, seat, gate, &mut build.nodes, &mut build.left_nodes);
     if let Some(number) = claimed {
@@ -261,6 +264,7 @@ pub(crate) fn leaves_free_node<G: Gate>(
     ensures walk { result ≡ false → (since : ℕ) → HasWalked table.now.layout since seat.old.known build.old →
         AllMissed (IsAnothersBut table.now.layout seat.new.known build.new.made.items) a_node table.now.layout.nodes seat.new.known.failed since }
     ensures few { seat.new.known.steps ≤ seat.old.known.steps + 2 * build.old.left_nodes + 1 + looks_unless result build.new }
+    ensures free { result ≡ true → HasFree table.now.layout seat.new }
 {
     if is_last_free(table, seat, gate, build.nodes.spare.as_slice()) {
         return true;
@@ -285,6 +289,7 @@ fn is_last_free<G: Gate>(
     ensures goes { WorksOn table.now G.becomes (seat.old, gate.old) (seat.new, gate.new) }
     ensures own { seat.new.known.own ≡ seat.old.known.own }
     ensures few { seat.new.known.steps ≤ seat.old.known.steps + 1 }
+    ensures free { result ≡ true → HasFree table.now.layout seat.new }
 {
     if spare.is_empty() {
         return false;
@@ -330,6 +335,7 @@ fn claim_node_on_walk<G: Gate>(
         ((left.new ≡ 0) × IsClaimWalk table.now.layout since seat.new.known made hint.new.next left.new)
         (λ number. IsClaimWalk table.now.layout since seat.new.known (made ++ a_node number ∷ []) hint.new.next left.new) }
     ensures few { seat.new.known.steps + 2 * left.new ≤ seat.old.known.steps + 2 * left.old + 2 }
+    ensures finds { FindsOne table.now.layout left.old seat.old result }
 {
     if let Some(number) = claim_spare_record(table, seat, gate, RecordKind::Node, &mut hint.spare) {
         return Some(number);

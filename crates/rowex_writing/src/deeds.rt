@@ -1,6 +1,8 @@
 //! What is done under the locks of a span: records are made for what comes in the place of its nodes, and none of them is linked yet.
 
-ghost use Rattle.std.specs.Prelude.{◌≡◌, ◌≢◌, Err};
+ghost use Rattle.std.specs.Prelude.{◌≡◌, ◌≢◌, Err, IfOk};
+ghost use Rattle.lone_runs.specs.Lone.{HasRoom, HasSpare};
+ghost use Rattle.rowex_writing.specs.Spare.{WillSpareOne};
 ghost use Rattle.rowex_writing.specs.Changes.{HasTakenPlan};
 ghost use Rattle.rowex_writing.specs.Deeds.{CarriesOut};
 ghost use Rattle.rowex_writing.specs.declared.plan.Deed.TheVariants.{Put, PushDown};
@@ -56,6 +58,8 @@ pub(crate) fn carry_out_deed<G: Gate>(
     ensures done { CarriesOut table.now G.becomes ((seat.old, gate.old), build.old) ((seat.new, gate.new), build.new) job.now deed result }
     ensures leafless { deed ≡ Deed.Take → result ≢ Err Full.Leaves }
     ensures kind { deed ≢ Deed.Value }
+    ensures spares { HasSpare table.now.layout seat.old → IfOk result (WillSpareOne table.now.layout seat.new build.new.made.items job.now) }
+    ensures finds { deed ≡ Deed.Take → HasRoom table.now.layout seat.old → result ≢ Err Full.Nodes }
 {
     match deed {
         Deed::Put => put_new_leaf(table, seat, gate, build, job),
@@ -77,6 +81,7 @@ pub(crate) fn put_new_leaf<G: Gate>(
     requires taken { HasTakenPlan table.now seat.old job.now Put }
     ensures done { CarriesOut table.now G.becomes ((seat.old, gate.old), build.old) ((seat.new, gate.new), build.new) job.now Put result }
     ensures kind { result ≢ Err Full.Nodes }
+    ensures spares { HasSpare table.now.layout seat.old → IfOk result (WillSpareOne table.now.layout seat.new build.new.made.items job.now) }
 {
     let Some(number) = make_leaf(table, seat, gate, build, job.key, job.value) else {
         return Err(Full::Leaves);
@@ -101,6 +106,7 @@ pub(crate) fn push_leaf_down<G: Gate>(
 ) -> Result<Raised, Full>
     requires taken { HasTakenPlan table.now seat.old job.now (PushDown position) }
     ensures done { CarriesOut table.now G.becomes ((seat.old, gate.old), build.old) ((seat.new, gate.new), build.new) job.now (PushDown position) result }
+    ensures spares { HasSpare table.now.layout seat.old → IfOk result (WillSpareOne table.now.layout seat.new build.new.made.items job.now) }
 {
     let Found::Leaf { number: old, .. } = job.found else {
         unreachable!()

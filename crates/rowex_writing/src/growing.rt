@@ -3,6 +3,8 @@
 ghost use Rattle.std.specs.Prelude.{◌≡◌, ◌≤◌, ◌+◌, ◌<◌, IfErr, IfOk, None};
 ghost use Rattle.version_laws.specs.Writer.{added_change};
 ghost use Rattle.tries.specs.Content.{item};
+ghost use Rattle.lone_runs.specs.Lone.{HasFree, HasSpare};
+ghost use Rattle.rowex_writing.specs.Spare.{WillSpareOne};
 ghost use Rattle.rowex_writing.specs.declared.plan.Deed.TheVariants.{Grow};
 ghost use Rattle.rowex_writing.specs.Changes.{HasTakenPlan};
 ghost use Rattle.rowex_writing.specs.Counts.{deed_steps, leaf_steps};
@@ -34,6 +36,7 @@ pub(crate) fn grow_node<G: Gate>(
 ) -> Result<Raised, Full>
     requires taken { HasTakenPlan table.now seat.old job.now (Grow position) }
     ensures done { CarriesOut table.now G.becomes ((seat.old, gate.old), build.old) ((seat.new, gate.new), build.new) job.now (Grow position) result }
+    ensures spares { HasSpare table.now.layout seat.old → IfOk result (WillSpareOne table.now.layout seat.new build.new.made.items job.now) }
 {
     let Some(number) = make_leaf(table, seat, gate, build, job.key, job.value) else {
         return Err(Full::Leaves);
@@ -64,6 +67,7 @@ fn grow_with_leaf<G: Gate>(
     ensures full { IfErr result (λ full. (full ≡ Full.Nodes) × HasNoneFree table.now seat.old.known seat.new build.new.made.items job.now full) }
     ensures few { seat.new.known.steps + leaf_steps table.now.layout ≤
         seat.old.known.steps + deed_steps table.now.layout (locks_of job.now.span) result }
+    ensures free { IfOk result (λ raised. HasFree table.now.layout seat.new) }
 {
     build.nodes.next = build.nodes.stretch.start();
     build.left_nodes = table.layout().nodes;

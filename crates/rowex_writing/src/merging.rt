@@ -14,6 +14,7 @@ ghost use Rattle.publish_laws.specs.Rises.{IsSide};
 ghost use Rattle.publish_laws.specs.Stages.{AreBeside, merged};
 ghost use Rattle.rowex_table.specs.Made.{IsLater, Made};
 ghost use Rattle.rowex_table.specs.Seats.{IsSeatOf};
+ghost use Rattle.lone_runs.specs.Lone.{HasSpare, KeepsSpare};
 ghost use Rattle.rowex_writing.specs.Attempts.{HasDone, HasLoadedFound};
 ghost use Rattle.rowex_writing.specs.Building.{IsBuilding};
 ghost use Rattle.rowex_writing.specs.Changes.{HasRun};
@@ -103,6 +104,7 @@ pub(crate) fn try_merge<G: Gate>(
     ensures done { result ≡ true → HasDone seat.old.known seat.new.known Take job.now.key.now job.now.value job.now.found }
     ensures later { result ≡ false → IsLater seat.old.known seat.new.known × IsSeatOf table.now seat.new × IsPossible table.now.layout seat.new.known }
     ensures same { result ≡ false → HasTheSame seat.old.known seat.new.known × (build.new.made.items ≡ build.old.made.items) }
+    ensures spares { KeepsSpare table.now.layout seat.old seat.new }
 {
     if !lock_for_merge(table, seat, gate, job, merge.number) {
         return false;
@@ -189,6 +191,7 @@ fn merge_under_locks<G: Gate>(
         (seat.new.known.locks ≡ w.taking.before.known.locks) × (seat.new.known.anchor ≡ w.taking.before.known.anchor) ×
         (seat.new.known.own ≡ seat.old.known.own) × (build.new.made.items ≡ build.old.made.items) }
     ensures few { seat.new.known.steps ≤ seat.old.known.steps + 2 * build.old.left_nodes + 500 }
+    ensures spares { KeepsSpare table.now.layout seat.old seat.new }
 {
     if let Some(entry) = make_merge_records(table, seat, gate, build, job, merge) {
         list_merged_records(build, job, merge.number);
@@ -324,6 +327,7 @@ fn publish_merge<G: Gate>(
     ensures run { HasRun table.now G.becomes (seat.old, gate.old) (seat.new, gate.new) }
     ensures done { HasDone seat.old.known seat.new.known Take job.now.key.now job.now.value job.now.found }
     ensures few { seat.new.known.steps ≤ seat.old.known.steps + 20 }
+    ensures spares { HasSpare table.now.layout seat.new }
 {
     let end = job.span.end - 1;
     let store = Store {

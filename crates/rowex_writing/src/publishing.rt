@@ -12,6 +12,8 @@ ghost use Rattle.rowex_table.specs.Seats.{IsSeatOf};
 ghost use Rattle.rowex_reading.specs.Possible.{IsPossible};
 ghost use Rattle.publish_laws.specs.Stages.{HasReady};
 ghost use Rattle.tries.specs.Content.{item};
+ghost use Rattle.lone_runs.specs.Lone.{HasSpare};
+ghost use Rattle.rowex_writing.specs.Spare.{WillSpare, WillSpareOne};
 ghost use Rattle.rowex_writing.specs.Attempts.{HasLoadedFound};
 ghost use Rattle.rowex_writing.specs.Building.{HasLeafMade, IsBuilding};
 ghost use Rattle.rowex_writing.specs.Changes.{HasChanged, HasRun, LacksLeaves};
@@ -111,6 +113,7 @@ pub(crate) fn publish_change<G: Gate>(
         HasChanged seat.old.known seat.new.known x was }
     ensures few { seat.new.known.steps ≤
         seat.old.known.steps + length build.old.made.items + length (leaf_gone raised.leaf) + locks_of job.now.span + 3 }
+    ensures spares { WillSpareOne table.now.layout seat.old build.old.made.items job.now raised → HasSpare table.now.layout seat.new }
 {
     let way = job.way;
     let span = job.span;
@@ -146,6 +149,7 @@ pub(crate) fn publish_entry<G: Gate>(
     ensures run { HasRun table.now G.becomes (seat.old, gate.old) (seat.new, gate.new) }
     ensures changed { (x : Change) (was : Option ℕ) → MayStore table.now seat.old build.old kept.now store x was → HasChanged seat.old.known seat.new.known x was }
     ensures few { seat.new.known.steps ≤ seat.old.known.steps + length build.old.made.items + length build.old.gone.items + length kept.now + 3 }
+    ensures spares { WillSpare table.now.layout seat.old build.old.made.items build.old.gone.items → HasSpare table.now.layout seat.new }
 {
     ready_records(table, seat, gate, &mut build.made);
     table.publish(seat, gate, store.spot, stored_word(store.entry));

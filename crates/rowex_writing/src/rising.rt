@@ -4,6 +4,7 @@ ghost use Rattle.std.specs.Prelude.{◌≡◌, ◌≢◌, ◌<◌, ◌≤◌, �
 ghost use Rattle.insert_cases.specs.declared.choice.PathNode.{PathNode as PathNodeView};
 ghost use Rattle.rowex_table.specs.Made.{Made};
 ghost use Rattle.publish_laws.specs.Rises.{IsSide};
+ghost use Rattle.rowex_writing.specs.Spare.{FindsOne};
 ghost use Rattle.rowex_writing.specs.Building.{IsBuilding, IsGrowing, IsLevelRisen, IsLowRisen, IsNextTo, IsRaising, IsRisenAt, MakesGrown, newcomer_of, Rises, GetsFork, GetsLeaf, FitsAbove, FitsOnWay, HasNotMade, HasRisenTo, gone_unless_whole, gone_with_way, levels_above};
 ghost use Rattle.rowex_writing.specs.Going.{HasLocked, IsLockedBy, LeadsLocked};
 ghost use Rattle.rowex_writing.specs.Remaking.{AwaitsLeaf};
@@ -352,6 +353,7 @@ pub(crate) fn raise_without_leaf<G: Gate>(
         (HasNotMade table.now seat.new build.new.made.items)
         (λ e. (news : List Made) × IsSide (subtrie_without key (node_words_of words).subtrie) e news × IsBuilding table.now seat.new build.new.made.items news) }
     ensures low { (words : List ℕ) → HasLocked seat.old.known number words → IfSome result (λ e. height_of e ≤ (node_words_of words).fixed.height) }
+    ensures finds { FindsOne table.now.layout build.old.left_nodes seat.old result }
 {
     let mut words = [0; NODE_FIELDS];
     load_locked_node_words(table, seat, gate, number, &mut words);

@@ -3,6 +3,8 @@
 ghost use Rattle.std.specs.Prelude.{◌≡◌, ◌≢◌, Err, ◌<◌, ℕ, [], IfErr, IfOk, None, Some, ◌≤◌, ◌+◌, ◌*◌};
 ghost use Rattle.version_laws.specs.Writer.{removed_change};
 ghost use Rattle.tries.specs.Content.{item};
+ghost use Rattle.lone_runs.specs.Lone.{HasRoom, HasSpare};
+ghost use Rattle.rowex_writing.specs.Spare.{WillSpareOne};
 ghost use Rattle.rowex_writing.specs.Changes.{HasTakenPlan};
 ghost use Rattle.rowex_writing.specs.Counts.{level_steps};
 ghost use Rattle.rowex_writing.specs.Deeds.{CarriesOut, HasNoneFree, MayReplace};
@@ -31,6 +33,9 @@ pub(crate) fn make_without_leaf<G: Gate>(
     ensures done { CarriesOut table.now G.becomes ((seat.old, gate.old), build.old) ((seat.new, gate.new), build.new) job.now Take result }
     ensures leafless { result ≢ Err Full.Leaves }
     ensures walk { 0 < job.now.span.len → seat.new.known.steps + 2 * build.new.left_nodes ≤ seat.old.known.steps + 2 * table.now.layout.nodes + level_steps + 1 }
+    ensures lowest { 0 < job.now.span.len → IfOk result (λ raised. raised.low ≡ job.now.span.len) }
+    ensures spares { HasSpare table.now.layout seat.old → IfOk result (WillSpareOne table.now.layout seat.new build.new.made.items job.now) }
+    ensures finds { HasRoom table.now.layout seat.old → result ≢ Err Full.Nodes }
 {
     build.made.clear();
     let Found::Leaf { number, .. } = job.found else {
@@ -64,6 +69,8 @@ fn remake_without_leaf<G: Gate>(
         (removed_change seat.old.known.pass (item number job.now.key.now value)) (Some value)) }
     ensures full { IfErr result (λ full. (full ≡ Full.Nodes) × HasNoneFree table.now seat.old.known seat.new build.new.made.items job.now full) }
     ensures walk { seat.new.known.steps + 2 * build.new.left_nodes ≤ seat.old.known.steps + 2 * table.now.layout.nodes + level_steps + 1 }
+    ensures lowest { IfOk result (λ raised. raised.low ≡ job.now.span.len) }
+    ensures finds { HasRoom table.now.layout seat.old → result ≢ Err Full.Nodes }
 {
     build.nodes.next = build.nodes.stretch.start();
     build.left_nodes = table.layout().nodes;

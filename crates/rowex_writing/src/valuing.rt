@@ -5,6 +5,7 @@ ghost use Rattle.publish_laws.specs.Ending.{IsAtRest};
 ghost use Rattle.rowex_reading.specs.Possible.{IsPossible};
 ghost use Rattle.rowex_reading.specs.Ways.{IsFoundAt};
 ghost use Rattle.rowex_table.specs.Seats.{IsSeatOf};
+ghost use Rattle.lone_runs.specs.Lone.{KeepsSpare};
 ghost use Rattle.rowex_writing.specs.Attempts.{HasDone, HasLoadedFound, HasMoved, HoldsFound, revalued};
 ghost use Rattle.rowex_writing.specs.Changes.{HasRun, HasTakenPlan};
 ghost use Rattle.rowex_writing.specs.Counts.{held_loads};
@@ -92,6 +93,7 @@ pub(crate) fn store_value<G: Gate>(
     ensures rest { IsAtRest seat.new.known }
     ensures done { HasDone seat.old.known seat.new.known Value job.now.key.now job.now.value job.now.found }
     ensures few { seat.new.known.steps ≤ seat.old.known.steps + 2 + locks_of job.now.span }
+    ensures spares { KeepsSpare table.now.layout seat.old seat.new }
 {
     let Found::Leaf { number, .. } = job.found else {
         unreachable!()

@@ -9,6 +9,7 @@ ghost use Rattle.rowex_reading.specs.Possible.{IsPossible};
 ghost use Rattle.rowex_reading.specs.Seen.{HasPlace};
 ghost use Rattle.rowex_table.specs.Made.{IsLater};
 ghost use Rattle.rowex_table.specs.Seats.{IsSeatOf};
+ghost use Rattle.lone_runs.specs.Lone.{KeepsSpare};
 ghost use Rattle.rowex_writing.specs.Changes.{HasRun, HasTried};
 ghost use Rattle.rowex_writing.specs.Going.{HasLocked};
 ghost use Rattle.rowex_writing.specs.Jobs.{IsJobFrom};
@@ -45,6 +46,7 @@ pub(crate) fn lock_for_merge<G: Gate>(
         (w.taking.before.known.locks ≡ seat.old.known.locks) × (w.taking.before.known.anchor ≡ seat.old.known.anchor) }
     ensures same { result ≡ false → HasTheSame seat.old.known seat.new.known }
     ensures few { seat.new.known.steps ≤ seat.old.known.steps + 5 }
+    ensures spares { KeepsSpare table.now.layout seat.old seat.new }
 {
     if is_near_span(job, number) {
         return false;
@@ -92,6 +94,7 @@ fn lock_target_above<G: Gate>(
     ensures above { result ≡ true → LocksAbove seat.old.known.locks job.now.key.now job.now.way.now job.now.found (job.now.span.end - 1) seat.new.known }
     ensures same { result ≡ false → HasTheSame seat.old.known seat.new.known }
     ensures few { seat.new.known.steps ≤ seat.old.known.steps + 3 }
+    ensures spares { KeepsSpare table.now.layout seat.old seat.new }
 {
     let end = job.span.end - 1;
     let named = naming_entry(job.way, job.found, end);
@@ -117,6 +120,7 @@ fn lock_root<G: Gate>(
     ensures locked { result ≡ true → (seat.new.known.locks ≡ seat.old.known.locks) × (seat.new.known.anchor ≡ Some root) }
     ensures same { result ≡ false → HasTheSame seat.old.known seat.new.known }
     ensures few { seat.new.known.steps ≤ seat.old.known.steps + 3 }
+    ensures spares { KeepsSpare table.now.layout seat.old seat.new }
 {
     if !lock_anchor(table, seat, gate) {
         return false;
@@ -147,6 +151,7 @@ fn lock_node_with_entry<G: Gate>(
         ((words : List ℕ) → HasLocked seat.new.known step.number words → entry ≡ Some (entry_at (node_words_of words).subtrie step.at)) }
     ensures same { result ≡ false → HasTheSame seat.old.known seat.new.known }
     ensures few { seat.new.known.steps ≤ seat.old.known.steps + 3 }
+    ensures spares { KeepsSpare table.now.layout seat.old seat.new }
 {
     if !lock_node(table, seat, gate, step.number) {
         return false;
@@ -210,6 +215,7 @@ pub(crate) fn unlock_for_merge<G: Gate>(
     ensures same { (w : IsWide table.now seat.old job.now number) →
         (seat.new.known.locks ≡ w.taking.before.known.locks) × (seat.new.known.anchor ≡ w.taking.before.known.anchor) × (seat.new.known.own ≡ seat.old.known.own) }
     ensures few { seat.new.known.steps ≤ seat.old.known.steps + 2 }
+    ensures spares { KeepsSpare table.now.layout seat.old seat.new }
 {
     unlock_target_above(table, seat, gate, job.way, job.span.end - 1);
     unlock_last_node(table, seat, gate, number);

@@ -9,8 +9,16 @@ except ModuleNotFoundError as error:
 from . import _forks
 from ._errors import FullError, HotError
 from .codec import Codec, key_of, values_of
-from .sortedmap import SortedMap
+from .sortedmap import SortedMap, Stats
 
-__all__ = ["Codec", "FullError", "HotError", "SortedMap", "key_of", "values_of"]
+__all__ = [
+    "Codec",
+    "FullError",
+    "HotError",
+    "SortedMap",
+    "Stats",
+    "key_of",
+    "values_of",
+]
 
 _forks.watch()

@@ -5,7 +5,7 @@ from __future__ import annotations
 from collections.abc import Collection, ItemsView, Iterable, Iterator, KeysView, Mapping
 from collections.abc import MutableMapping, ValuesView
 from itertools import chain, islice
-from typing import Any, Generic, Optional, TypeVar, Union
+from typing import Any, Generic, NamedTuple, Optional, TypeVar, Union
 
 from ._hot import ITEMS, KEYS, MAX_KEY, VALUES, Map
 from .codec import Codec
@@ -32,6 +32,18 @@ def before(key: bytes) -> Optional[bytes]:
     if not key:
         return None
     return (key[:-1] + bytes([key[-1] - 1])).ljust(MAX_KEY, b"\xff")
+
+
+class Stats(NamedTuple):
+    """How often tries to change a map's index were refused. A change tries again as
+    long as another is in its way or holds records back, and each try counts."""
+
+    busy: int
+    """Another call was in the way."""
+    held_back: int
+    """Too few records were free, but some might come back."""
+    full: int
+    """Too few records were free, and none came back. A map that grows grows then."""
 
 
 class SortedMap(Map[K], MutableMapping[K, int], Generic[K]):
@@ -120,6 +132,17 @@ class SortedMap(Map[K], MutableMapping[K, int], Generic[K]):
         """How many keys `irange` lists: few of them are read."""
         bounds = self._bounds(minimum, maximum, inclusive)
         return 0 if bounds is None else self._count(*bounds)
+
+    def values_range(
+        self,
+        minimum: Optional[K] = None,
+        maximum: Optional[K] = None,
+        inclusive: tuple[bool, bool] = (True, True),
+    ) -> list[int]:
+        """The values of the keys that `irange` lists, in that order, by one scan that
+        copies no key."""
+        bounds = self._bounds(minimum, maximum, inclusive)
+        return [] if bounds is None else self._values(*bounds)
 
     def prefix_items(self, prefix: K, reverse: bool = False) -> Iterator[tuple[K, int]]:
         """The pairs whose keys begin with the prefix."""
@@ -210,6 +233,12 @@ class SortedMap(Map[K], MutableMapping[K, int], Generic[K]):
     def values(self) -> SortedValuesView:
         """A view of the values, in the order of their keys."""
         return SortedValuesView(self)
+
+    def stats(self) -> Stats:
+        """How often tries were refused since the map was made, also before it grew or
+        was cleared. The numbers are of no single moment while other threads change
+        it."""
+        return Stats(*self._stats())
 
     # ---- All keys ----
 

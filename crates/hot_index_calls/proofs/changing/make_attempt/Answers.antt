@@ -1,8 +1,11 @@
 -- An attempt is noted as its pass clears the pin, and has settled then.
-use Rattle.std.proofs.Common.{rules, ◌≡◌, ◌+◌, ◌∙◌, ap, arith, subst, sym}
+use Rattle.rowex_core.specs.declared.event.Act.TheVariants.{ClearPin, LoadEpoch, SetPin}
+use Rattle.hot_index_calls.proofs.Roomy.{noted_spare, pin_room, pin_spare, runs_longer, step_longer}
+use Rattle.std.proofs.Common.{rules, [], ◌∷◌, ◌≡◌, ◌+◌, ◌∙◌, ap, arith, subst, sym}
 use Rattle.finite_map.specs.Maps.{key_of}
 use Rattle.hot_index_calls.specs.Asked.{HasLacked}
 use Rattle.rowex_core.specs.declared.known.Known.{Known}
+use Rattle.hot_index_calls.specs.Noting.{change_notes}
 use Rattle.hot_index_calls.proofs.Conflicts.{no_change_since_pins}
 use Rattle.hot_index_calls.proofs.Noting.{fits_then}
 use Rattle.hot_index_calls.proofs.Tracing.{attempt_ended, attempt_run}
@@ -44,5 +47,13 @@ returns g c =
       };
       lacks = subst (λ made. HasLacked c.args.table.now made c.attempt-outcome.result c.args.seat.now c.end_attempt.new.seat) (sym c.move_unlinked_to_limbo.ensures.made)
           (tried_lacks _ c.requires.idle.1 c.pin.ensures.steps run o.loaded o.rest (key_of c.args.call.now) c.attempt-outcome.new.build.made.items c.attempt-outcome.result o.refused c.end_attempt.ensures.step);
+      spares = λ was. noted_spare c.args.table.now g.G.Gate.becomes ClearPin (change_notes c.args.call.now c.attempt-outcome.result) (c.attempt-outcome.new.seat, c.attempt-outcome.new.gate) (c.end_attempt.new.seat, c.end_attempt.new.gate) tt c.end_attempt.ensures.step (o.spares (pin_spare c.args.table.now g.G.Gate.becomes (c.args.seat.now, c.args.gate.now) (c.pin.new.seat, c.pin.new.gate) c.pin.ensures.steps was));
+      room = λ removal room. o.finds removal (pin_room c.args.table.now g.G.Gate.becomes (c.args.seat.now, c.args.gate.now) (c.pin.new.seat, c.pin.new.gate) c.pin.ensures.steps c.requires.idle.1.own room);
+      longer = (
+          let first = runs_longer c.args.table.now g.G.Gate.becomes (LoadEpoch c.pin.ensures.steps.0 ∷ SetPin c.pin.ensures.steps.0 ∷ []) (c.args.seat.now, c.args.gate.now) (c.pin.new.seat, c.pin.new.gate) c.pin.ensures.steps.1.steps in
+          let on = runs_longer c.args.table.now g.G.Gate.becomes o.run.0 (c.pin.new.seat, c.pin.new.gate) (c.attempt-outcome.new.seat, c.attempt-outcome.new.gate) o.run.2 in
+          let last = step_longer c.args.table.now g.G.Gate.becomes ClearPin (change_notes c.args.call.now c.attempt-outcome.result) (c.attempt-outcome.new.seat, c.attempt-outcome.new.gate) (c.end_attempt.new.seat, c.end_attempt.new.gate) c.end_attempt.ensures.step in
+          omega (arith, first, on, last)
+          );
       few = omega (arith, pinned, o.few, cleared);
     }

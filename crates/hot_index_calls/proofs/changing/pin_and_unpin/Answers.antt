@@ -1,4 +1,7 @@
 -- The pass is as it was.
+use Rattle.rowex_table.specs.Runs.{silent}
+use Rattle.rowex_core.specs.declared.event.Act.TheVariants.{ClearPin}
+use Rattle.hot_index_calls.proofs.Roomy.{noted_spare, pin_spare}
 use Rattle.std.proofs.Common.{◌∙◌}
 use Rattle.hot_index_calls.proofs.Resting.{rests_ended, rests_failed, rests_fresh, rests_settled, rests_steps, rests_unnoted}
 use Rattle.hot_index_calls.proofs.changing.pin_and_unpin.Goals as goal
@@ -15,4 +18,5 @@ returns g c =
         ended = rests_ended (c.args.seat.now, c.args.gate.now) (c.pin.new.seat, c.pin.new.gate) (c.unpin.new.seat, c.unpin.new.gate) settled c.pin.ensures.steps c.unpin.ensures.step;
         steps = rests_steps (c.args.seat.now, c.args.gate.now) (c.pin.new.seat, c.pin.new.gate) (c.unpin.new.seat, c.unpin.new.gate) settled c.pin.ensures.steps c.unpin.ensures.step;
       };
+      spares = λ was. noted_spare c.args.table.now g.G.Gate.becomes ClearPin silent (c.pin.new.seat, c.pin.new.gate) (c.unpin.new.seat, c.unpin.new.gate) tt c.unpin.ensures.step (pin_spare c.args.table.now g.G.Gate.becomes (c.args.seat.now, c.args.gate.now) (c.pin.new.seat, c.pin.new.gate) c.pin.ensures.steps was);
     }

@@ -5,6 +5,7 @@ use Rattle.hot_index_calls.specs.Asked.{HasReplied}
 use Rattle.hot_index_calls.specs.Calls.{IsTriedAndCounted}
 use Rattle.hot_index_calls.specs.Passes.{pass_of}
 use Rattle.hot_index_calls.specs.Refusals.{fault_in}
+use Rattle.hot_index_calls.specs.Rooms.{FindsRoom}
 use Rattle.hot_index_calls.specs.declared.refusals.Refusal.{Refusal}
 use Rattle.hot_index_calls.specs.declared.refusals.Refusal.TheVariants.{Full as IsFull}
 use Rattle.hot_index_calls.proofs.Refusing.{passes_never, stepped_out, stepped_then}
@@ -15,7 +16,7 @@ pub try_and_count-requires : goal.try_and_count-requires
 try_and_count-requires g c = record { idle = c.loop.invariant.idle }
 
 pub loop-init : goal.loop-init
-loop-init g c = record { idle = c.requires.idle; waited = inl refl; refused = ([], refl, λ one. refl); ran = ([], refl) }
+loop-init g c = record { idle = c.requires.idle; spares = λ was. was; waited = inl refl; refused = ([], refl, λ one. refl); ran = ([], refl) }
 
 pub returns-in-Ok : goal.returns-in-Ok
 returns-in-Ok g c =
@@ -24,6 +25,8 @@ returns-in-Ok g c =
       replied = waited_out c.args.table.now c.args.seat.now c.loop.seat c.try_and_count.new.seat c.args.call.now (Ok c.in-Ok.reply) c.loop.invariant.waited c.in-Ok.ensures.replied;
       stepped = stepped_out _ _ _ c.loop.invariant.ran c.in-Ok.ensures.stepped;
       tries = record { refusals = refusals; last = (pass_of c.loop.seat, c.loop.gate); refused = so_far; alone = alone; outcome = Ok c.in-Ok.reply; tried = c.in-Ok.ensures.tried; is_last = refl };
+      spares = λ was. c.in-Ok.ensures.spares (c.loop.invariant.spares was);
+      room = λ removal one was early is. cc;
     }
 
 pub returns-in-Some-final_refusal : goal.returns-in-Some-final_refusal
@@ -46,6 +49,9 @@ returns-in-Some-final_refusal g c =
         tried = subst (λ (r : Refusal). IsTriedAndCounted call (Err r) table g.G.Gate.becomes (pass_of c.loop.seat, c.loop.gate) (pass_of c.try_and_count.new.seat, c.try_and_count.new.gate)) is c.in-Err.ensures.tried;
         is_last = (counts, refl);
       };
+      spares = λ was. c.in-Err.ensures.spares (c.loop.invariant.spares was);
+      room = λ removal one was early.
+          subst (λ (r : Refusal). FindsRoom table.layout call (Err (fault_in r)) c.loop.seat c.try_and_count.new.seat) is c.in-Err.ensures.room removal one (c.loop.invariant.spares was) early;
     }
 
 pub loop-preserved : goal.loop-preserved
@@ -55,6 +61,7 @@ loop-preserved g c =
     let passing = c.final_refusal.ensures.none c.in_default.is in
     record {
       idle = o.replied.idle;
+      spares = λ was. o.spares (c.loop.invariant.spares was);
       waited = waited_from_before c.args.table.now.layout (pass_of c.args.seat.now) (pass_of c.loop.seat) (pass_of c.try_and_count.new.seat) c.loop.invariant.waited o.replied.refused.unnoted o.later;
       refused = (
         refusals ++ c.in-Err.refusal ∷ [],

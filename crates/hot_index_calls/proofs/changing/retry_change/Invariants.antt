@@ -1,4 +1,5 @@
 -- So far each try was refused, and none of these refusals is final; and together they are not noted.
+use Rattle.lone_runs.specs.Lone.{KeepsSpare}
 use Rattle.std.specs.Prelude.{◌≡◌, List, []}
 use Rattle.hot_index_calls.specs.Asked.{IsIdle}
 use Rattle.hot_index_calls.specs.Calls.{AreTriesRefused}
@@ -11,6 +12,7 @@ use Rattle.hot_index_calls.proofs.changing.retry_change.Given as goal
 abbrev pub invariant-loop : goal.invariant-loop
 invariant-loop g l = record {
   idle : IsIdle l.table l.seat;
+  spares : KeepsSpare l.table.layout l.fn.seat l.seat;
   waited : HasWaited l.table.layout (pass_of l.fn.seat) (pass_of l.seat);
   refused : (refusals : List Refusal) × AreTriesRefused l.call refusals l.table g.G.Gate.becomes (pass_of l.fn.seat, l.fn.gate) (pass_of l.seat, l.gate) × (l.table.layout.passes ≡ 1 → refusals ≡ []);
   ran : HasSteps l.table g.G.Gate.becomes (l.fn.seat, l.fn.gate) (l.seat, l.gate);

@@ -1,4 +1,6 @@
 -- The try, and the count after it.
+use Rattle.rowex_writing.specs.declared.attempts.TryFault.TheVariants.{FullNodes}
+use Rattle.hot_index_calls.proofs.Roomy.{counts_spare, runs_longer}
 use Rattle.std.proofs.Common.{◌≡◌, ◌+◌, ◌∙◌, ℕ, List, Err, length, ap, refl, sym, subst, arith}
 use Rattle.finite_map.specs.Maps.{key_of}
 use Rattle.record_words.specs.declared.layout.Layout.{Layout}
@@ -12,7 +14,7 @@ use Rattle.hot_index_calls.specs.Asked.{HasAsked, HasLacked, HasReplied}
 use Rattle.hot_index_calls.specs.Calls.{IsTriedWith}
 use Rattle.hot_index_calls.specs.Census.{loads_in}
 use Rattle.hot_index_calls.specs.Passes.{pass_of}
-use Rattle.hot_index_calls.specs.Refusals.{Judges}
+use Rattle.hot_index_calls.specs.Refusals.{Judges, fault_in}
 use Rattle.hot_index_calls.specs.Traces.{AreAttempts}
 use Rattle.hot_index_calls.proofs.Refusing.{counted_replied, judged_fault, nodes_most, stepped_on, told_after}
 use Rattle.hot_index_calls.proofs.Trying.{tried_seen}
@@ -29,7 +31,9 @@ returns-in-Ok g c =
       replied = asked.replied;
       stepped = (acts, ClearPin, ends);
       later = asked.later;
-      tried = record { mid = (pass_of c.try_change.new.seat, c.try_change.new.gate); tried = tried_seen refl refl asked c.in-Ok.ensures.few; told = refl };
+      tried = record { mid = (pass_of c.try_change.new.seat, c.try_change.new.gate); tried = tried_seen refl refl asked c.in-Ok.ensures.few c.in-Ok.ensures.spares c.in-Ok.ensures.room; told = refl };
+      spares = c.in-Ok.ensures.spares;
+      room = λ removal one was early is. cc;
     }
 
 pub returns-in_default : goal.returns-in_default
@@ -42,7 +46,9 @@ returns-in_default g c =
       replied = asked.replied;
       stepped = (acts, ClearPin, ends);
       later = asked.later;
-      tried = record { mid = (pass_of c.try_change.new.seat, c.try_change.new.gate); tried = tried_seen refl refl asked c.in-Err.ensures.few; told = refl };
+      tried = record { mid = (pass_of c.try_change.new.seat, c.try_change.new.gate); tried = tried_seen refl refl asked c.in-Err.ensures.few c.in-Err.ensures.spares (λ removal one was early is. cc); told = refl };
+      spares = c.in-Err.ensures.spares;
+      room = λ removal one was early is. cc;
     }
 
 pub count_records-counts-requires : goal.count_records-counts-requires
@@ -82,7 +88,18 @@ returns-in-Some-clause-tried g c =
     record {
       mid = (pass_of c.try_change.new.seat, c.try_change.new.gate);
       tried = subst (λ (f : TryFault). IsTriedWith call (Err f) table g.G.Gate.becomes (pass_of c.args.seat.now, c.args.gate.now) (pass_of c.try_change.new.seat, c.try_change.new.gate)) (sym (judged_fault _ _ _ _ _ c.judge_lack.result c.judge_lack.ensures))
-          (tried_seen refl refl asked c.in-Err.ensures.few);
+          (tried_seen refl refl asked c.in-Err.ensures.few c.in-Err.ensures.spares (λ removal one was early is. c.in-Err.ensures.room removal one was early (ap Err c.in-Some.ensures.some ∙ is)));
       told = told_after {m = (c.try_change.new.seat, c.try_change.new.gate)} {b = (c.count_records-counts.new.seat, c.count_records-counts.new.gate)} c.count_records-counts.ensures.steps table.layout.nodes_in_range.0 call c.args.seat.now c.args.gate.now c.in-Some.lacks
           c.try_change.new.scratch.build.made.items c.saturating_add-needs.result lacked needs c.judge_lack.result judged;
     }
+
+pub returns-in-Some-clause-spares : goal.returns-in-Some-clause-spares
+returns-in-Some-clause-spares g c = λ was.
+    counts_spare c.args.table.now g.G.Gate.becomes c.count_records-counts.ensures.steps.0 (c.try_change.new.seat, c.try_change.new.gate) (c.count_records-counts.new.seat, c.count_records-counts.new.gate) c.count_records-counts.ensures.steps.3.steps (c.in-Err.ensures.spares was)
+
+pub returns-in-Some-clause-room : goal.returns-in-Some-clause-room
+returns-in-Some-clause-room g c = λ removal one was early is.
+    let longer = runs_longer c.args.table.now g.G.Gate.becomes (loads_in c.args.table.now.layout c.count_records-counts.ensures.steps.0) (c.try_change.new.seat, c.try_change.new.gate) (c.count_records-counts.new.seat, c.count_records-counts.new.gate) c.count_records-counts.ensures.steps.3.steps in
+    let judged = judged_fault _ _ _ _ _ c.judge_lack.result c.judge_lack.ensures in
+    let same : fault_in c.judge_lack.result ≡ FullNodes = cc in
+    c.in-Err.ensures.room removal one was (omega (arith, early, longer)) (ap Err (c.in-Some.ensures.some ∙ (sym judged ∙ same)))

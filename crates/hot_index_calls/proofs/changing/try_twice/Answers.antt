@@ -1,4 +1,5 @@
 -- Where the first attempt was refused as full, a round follows; and what the second leaves is what the whole call leaves.
+use Rattle.hot_index_calls.proofs.Roomy.{collects_room, round_acts, round_spare, runs_longer}
 use Rattle.std.proofs.Common.{◌≤◌, ◌∙◌, Result, Err, refl, sym, ap, subst, le_trans, arith}
 use Rattle.finite_map.specs.declared.Reply.{Reply}
 use Rattle.finite_map.specs.Maps.{key_of}
@@ -39,6 +40,8 @@ returns-in_default g c = record {
   asked = once_asked c.args.call.now c.make_attempt-first.result (c.full_kind.ensures.none c.in_default.is) c.make_attempt-first.ensures.asked;
   lacks = λ is. absurd (false≢true (sym (c.full_kind.ensures.none c.in_default.is) ∙ ap is_full is));
   few = omega (arith, c.make_attempt-first.ensures.few, once_few c.args.call.now c.args.table.now.layout);
+  spares = c.make_attempt-first.ensures.spares;
+  room = λ removal one was early is. absurd (false≢true (sym (c.full_kind.ensures.none c.in_default.is) ∙ ap is_full is));
 }
 
 pub returns-then-may_find_free_record : goal.returns-then-may_find_free_record
@@ -65,6 +68,12 @@ returns-then-may_find_free_record g c =
           let twice = twice_few call table.layout k (pass_of c.make_attempt-first.new.seat) (first.replied.refused.full (full_fault c.in-Some.lacks)) in
           omega (arith, c.make_attempt-first.ensures.few, count, c.make_attempt.ensures.few, twice)
           );
+      spares = λ was. c.make_attempt.ensures.spares (round_spare c.args.table.now g.G.Gate.becomes (c.make_attempt-first.new.seat, c.make_attempt-first.new.gate) (c.collect_round-round.new.seat, c.collect_round-round.new.gate) c.collect_round-round.ensures.round (c.make_attempt-first.ensures.spares was));
+      room = λ removal one was early.
+          let longer = runs_longer c.args.table.now g.G.Gate.becomes (round_acts c.args.table.now g.G.Gate.becomes c.collect_round-round.ensures.round) (c.make_attempt-first.new.seat, c.make_attempt-first.new.gate) (c.collect_round-round.new.seat, c.collect_round-round.new.gate) c.collect_round-round.ensures.round.does.steps in
+          let idle = c.make_attempt-first.ensures.asked.replied.idle.1 in
+          c.make_attempt.ensures.room removal
+          (collects_room c.args.table.now g.G.Gate.becomes (c.make_attempt-first.new.seat, c.make_attempt-first.new.gate) (c.collect_round-round.new.seat, c.collect_round-round.new.gate) c.collect_round-round.ensures.round one idle.pin idle.own (omega (arith, early, longer, c.make_attempt.ensures.longer)) (c.make_attempt-first.ensures.spares was));
     }
 
 pub returns : goal.returns
@@ -107,5 +116,7 @@ returns g c =
           let twice = twice_few call table.layout k (pass_of c.make_attempt-first.new.seat) (first.replied.refused.full (full_fault c.in-Some.lacks)) in
           omega (arith, c.make_attempt-first.ensures.few, count, again.steps, twice)
           );
+      spares = λ was. c.pin_and_unpin.ensures.spares (round_spare c.args.table.now g.G.Gate.becomes (c.make_attempt-first.new.seat, c.make_attempt-first.new.gate) (c.collect_round-round.new.seat, c.collect_round-round.new.gate) c.collect_round-round.ensures.round (c.make_attempt-first.ensures.spares was));
+      room = λ removal one was early is. absurd (c.is_removal.ensures (c.may_find_free_record.ensures.not c.if-may_find_free_record.false) removal);
       asked = subst (λ (z : Result Reply TryFault). HasAsked table g.G.Gate.becomes (AreTries table g.G.Gate.becomes call z) call z (c.args.seat.now, c.args.gate.now) (c.pin_and_unpin.new.seat, c.pin_and_unpin.new.gate)) (sym c.in-Some.ensures.some) whole;
     }

@@ -1,4 +1,5 @@
 -- The search, its plan, and what follows from it.
+use Rattle.rowex_writing.proofs.Spare.{looks_room, looks_spare, reads_room, reads_spare}
 use Rattle.std.proofs.Common.{[], Err, Some, inl, inr, ◌∙◌, ap, subst, sym, arith, refl, IsSome, ◌≡◌}
 use Rattle.rowex_reading.specs.Seen.{since}
 use Rattle.rowex_reading.specs.Ways.{IsWayOf, value_of}
@@ -6,13 +7,14 @@ use Rattle.rowex_reading.proofs.Led.{reads_later, same_since}
 use Rattle.rowex_reading.proofs.Ways.{way_later}
 use Rattle.rowex_writing.specs.Changes.{IsPlanned}
 use Rattle.rowex_writing.specs.Plans.{LiesOnWay}
-use Rattle.rowex_writing.proofs.Attempting.{aimless_looked, answered_change, answered_leafless, answered_look, begun_on, found_later, leafless, looked, looked_few, plan_made, removal_takes, searched, planned_again, full_of_new, tried_few}
+use Rattle.rowex_writing.proofs.Attempting.{aimless_looked, answered_change, answered_leafless, answered_look, begun_on, found_later, leafless, looked, looked_few, plan_made, removal_takes, removes_aim, searched, planned_again, full_of_new, tried_few}
 use Rattle.rowex_writing.proofs.Attempted.{attempted, searched_few, tried_after}
 use Rattle.rowex_writing.proofs.Onward.{reads_run}
 use Rattle.rowex_writing.proofs.Runs.{none_once, run_loaded, run_none}
 use Rattle.rowex_writing.proofs.Works.{no_change_made_later}
 use Rattle.rowex_writing.proofs.attempts.attempt.Goals as goal
 use Rattle.rowex_writing.specs.Asking.{aim_of, value_in}
+use Rattle.rowex_writing.specs.declared.attempts.TryFault.TheVariants.{FullNodes}
 use Rattle.rowex_writing.specs.declared.plan.Plan.TheVariants.{Change}
 use Rattle.rowex_reading.proofs.Seeing.{later_trans}
 use Rattle.rowex_writing.specs.declared.plan.Deed.TheVariants.{Value as ValueDeed}
@@ -190,3 +192,29 @@ returns-in-Err-clause-full g c =
     full_of_new c.search_way-found.new.seat.known c.find_plan.new.seat.known c.try_plan.new.seat.known m c.key-key.result.now c.as_slice-way.result.now c.in-Some.aim c.search_way-found.result c.in-Change.span c.in-Change.deed c.in-Err.fault
     c.args.call.now c.key-key.ensures plan c.search_way-found.ensures.way.since c.search_way-found.ensures.found (later_trans (reads_later c.find_plan.ensures.reads.2) c.in-Err.ensures.later)
     (ap (aim_of c.args.call.now) (sym c.found_value-held.ensures) ∙ (sym c.aim_of.ensures ∙ c.in-Some.is)) whole
+
+-- ---- a record that stands in no tree
+pub returns-in_default-clause-spares : goal.returns-in_default-clause-spares
+returns-in_default-clause-spares g c = looks_spare c.args.table.now g.G.Gate.becomes (c.args.seat.now, c.args.gate.now) (c.search_way-found.new.seat, c.search_way-found.new.gate) c.search_way-found.ensures.searched.looks
+
+pub returns-in-Answer-clause-spares : goal.returns-in-Answer-clause-spares
+returns-in-Answer-clause-spares g c = λ was. (reads_spare c.args.table.now g.G.Gate.becomes (c.search_way-found.new.seat, c.search_way-found.new.gate) (c.find_plan.new.seat, c.find_plan.new.gate) c.find_plan.ensures.reads.2 (looks_spare c.args.table.now g.G.Gate.becomes (c.args.seat.now, c.args.gate.now) (c.search_way-found.new.seat, c.search_way-found.new.gate) c.search_way-found.ensures.searched.looks was))
+
+pub returns-in-Ok-clause-spares : goal.returns-in-Ok-clause-spares
+returns-in-Ok-clause-spares g c = λ was. c.try_plan.ensures.spares (reads_spare c.args.table.now g.G.Gate.becomes (c.search_way-found.new.seat, c.search_way-found.new.gate) (c.find_plan.new.seat, c.find_plan.new.gate) c.find_plan.ensures.reads.2 (looks_spare c.args.table.now g.G.Gate.becomes (c.args.seat.now, c.args.gate.now) (c.search_way-found.new.seat, c.search_way-found.new.gate) c.search_way-found.ensures.searched.looks was))
+
+pub returns-in-Err-clause-spares : goal.returns-in-Err-clause-spares
+returns-in-Err-clause-spares g c = λ was. c.try_plan.ensures.spares (reads_spare c.args.table.now g.G.Gate.becomes (c.search_way-found.new.seat, c.search_way-found.new.gate) (c.find_plan.new.seat, c.find_plan.new.gate) c.find_plan.ensures.reads.2 (looks_spare c.args.table.now g.G.Gate.becomes (c.args.seat.now, c.args.gate.now) (c.search_way-found.new.seat, c.search_way-found.new.gate) c.search_way-found.ensures.searched.looks was))
+
+-- ---- and one is found
+pub returns-in-Err-clause-finds : goal.returns-in-Err-clause-finds
+returns-in-Err-clause-finds g c = λ removal room is.
+    let same : c.in-Err.fault ≡ FullNodes = cc in
+    let m = since c.search_way-found.new.seat.known in
+    let planned = plan_made c.args.table.now.layout _ _ m c.key-key.result.now _ _ _ _ _ c.as_slice-way.ensures.value c.search_way-found.ensures.way c.find_plan.ensures.planned in
+    let removes = removes_aim c.args.call.now c.found_value-held.result c.in-Some.aim removal (sym c.aim_of.ensures ∙ c.in-Some.is) in
+    let none = (begun_on c.args.table.now g.G.Gate.becomes c.find_plan.ensures.reads.0 c.find_plan.ensures.reads.1 (c.args.seat.now, c.args.gate.now) (c.search_way-found.new.seat, c.search_way-found.new.gate) (c.find_plan.new.seat, c.find_plan.new.gate) c.search_way-found.ensures.searched c.search_way-found.ensures.possible c.requires.own c.requires.rest c.find_plan.ensures.reads.2).rest.own in
+    let searched_none = (searched c.args.table.now g.G.Gate.becomes (c.args.seat.now, c.args.gate.now) (c.search_way-found.new.seat, c.search_way-found.new.gate) c.search_way-found.ensures.searched c.search_way-found.ensures.possible c.requires.own c.requires.rest).rest.own in
+    c.try_plan.ensures.finds
+    (removal_takes c.find_plan.new.seat.known m c.key-key.result.now c.as_slice-way.result.now c.in-Some.aim c.search_way-found.result c.find_plan.result c.in-Change.span c.in-Change.deed removes c.in-Change.is planned)
+    (reads_room c.args.table.now g.G.Gate.becomes (c.search_way-found.new.seat, c.search_way-found.new.gate) (c.find_plan.new.seat, c.find_plan.new.gate) c.find_plan.ensures.reads.2 none (looks_room c.args.table.now g.G.Gate.becomes (c.args.seat.now, c.args.gate.now) (c.search_way-found.new.seat, c.search_way-found.new.gate) c.search_way-found.ensures.searched.looks searched_none room)) (c.in-Err.is ∙ ap Err same)

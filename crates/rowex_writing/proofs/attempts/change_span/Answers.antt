@@ -1,11 +1,12 @@
 -- A new value, a removal, or what the deed has made is published; or all is given back.
+use Rattle.rowex_writing.proofs.Spare.{goes_spare, works_spare}
 use Rattle.std.proofs.Common.{◌<◌, inl, inr, sym, ap, subst, arith, ◌≡◌, ◌∙◌, Err}
 use Rattle.rowex_writing.specs.Attempts.{HasDone}
 use Rattle.rowex_writing.specs.Changes.{HasTakenPlan}
 use Rattle.rowex_writing.specs.Counts.{held_loads}
 use Rattle.rowex_writing.specs.Locks.{span_numbers}
 use Rattle.rowex_writing.specs.Merging.{ChangesOn}
-use Rattle.rowex_writing.proofs.Attempting.{loads_spared, leaves_refused}
+use Rattle.rowex_writing.proofs.Attempting.{loads_spared, leaves_refused, nodes_refused}
 use Rattle.rowex_writing.proofs.Growths.{no_room}
 use Rattle.rowex_writing.proofs.Keeping.{changed_since}
 use Rattle.rowex_writing.proofs.Merged.{holds_on, is_taking}
@@ -13,7 +14,7 @@ use Rattle.rowex_writing.proofs.Runs.{goes_run, runs_trans, works_run}
 use Rattle.rowex_writing.proofs.Named.{loaded_on}
 use Rattle.rowex_writing.proofs.Valued.{full_failed, held_few}
 use Rattle.rowex_writing.proofs.attempts.change_span.Goals as goal
-use Rattle.rowex_writing.specs.declared.attempts.TryFault.TheVariants.{FullLeaves}
+use Rattle.rowex_writing.specs.declared.attempts.TryFault.TheVariants.{FullLeaves, FullNodes}
 use Rattle.rowex_writing.specs.declared.plan.Deed.TheVariants.{Take, Value}
 
 pub store_value-requires-clause-taken : goal.store_value-requires-clause-taken
@@ -120,3 +121,17 @@ returns-in-Ok-clause-short g c e = absurd (c.carry_out_deed.ensures.kind e)
 
 pub returns-in-Err-clause-short : goal.returns-in-Err-clause-short
 returns-in-Err-clause-short g c e = absurd (c.carry_out_deed.ensures.kind e)
+
+-- ---- a record that stands in no tree
+pub returns-in-Ok-clause-spares : goal.returns-in-Ok-clause-spares
+returns-in-Ok-clause-spares g c = λ was. c.publish_change.ensures.spares (c.in-Ok.ensures.spares was)
+
+pub returns-in-Err-clause-spares : goal.returns-in-Err-clause-spares
+returns-in-Err-clause-spares g c = λ was.
+    works_spare c.args.table.now g.G.Gate.becomes (c.carry_out_deed.new.seat, c.carry_out_deed.new.gate) (c.undo_change.new.seat, c.undo_change.new.gate) c.undo_change.ensures.works (goes_spare c.args.table.now g.G.Gate.becomes (c.args.seat.now, c.args.gate.now) (c.carry_out_deed.new.seat, c.carry_out_deed.new.gate) c.carry_out_deed.ensures.done.goes was)
+
+-- ---- and one is found
+pub returns-in-Err-clause-finds : goal.returns-in-Err-clause-finds
+returns-in-Err-clause-finds g c = λ take room is.
+    let same : c.refusal_of.result ≡ FullNodes = cc in
+    c.carry_out_deed.ensures.finds take room (c.in-Err.is ∙ ap Err (nodes_refused c.in-Err.full (sym c.refusal_of.ensures ∙ same)))

@@ -1,4 +1,5 @@
 -- The locks are taken, and what is found under them is what the search found; or all are given back.
+use Rattle.rowex_writing.proofs.Spare.{goes_room, goes_spare, works_room, works_spare}
 use Rattle.std.proofs.Common.{◌≡◌, true, false, inl, inr, ◌∙◌, arith}
 use Rattle.rowex_reading.proofs.Seeing.{later_trans}
 use Rattle.rowex_writing.proofs.Onward.{longer, run_possible, run_seat}
@@ -134,3 +135,20 @@ returns-then-check_span-clause-nodes g c = λ e some.
           (goes_run table g.G.Gate.becomes (c.lock_span.new.seat, c.lock_span.new.gate) (c.check_span.new.seat, c.check_span.new.gate) c.check_span.ensures.reads.goes),
       omega (arith, c.lock_span.ensures.few c.if-not-lock_span.false, c.check_span.ensures.few, c.requires.within.0),
     )
+
+-- ---- records of no tree
+pub returns-then-not-lock_span-clause-spares : goal.returns-then-not-lock_span-clause-spares
+returns-then-not-lock_span-clause-spares g c = works_spare c.args.table.now g.G.Gate.becomes (c.args.seat.now, c.args.gate.now) (c.lock_span.new.seat, c.lock_span.new.gate) c.lock_span.ensures.tries.1.1
+
+pub returns-then-check_span-clause-spares : goal.returns-then-check_span-clause-spares
+returns-then-check_span-clause-spares g c = λ was. (goes_spare c.args.table.now g.G.Gate.becomes (c.lock_span.new.seat, c.lock_span.new.gate) (c.check_span.new.seat, c.check_span.new.gate) c.check_span.ensures.reads.goes (works_spare c.args.table.now g.G.Gate.becomes (c.args.seat.now, c.args.gate.now) (c.lock_span.new.seat, c.lock_span.new.gate) c.lock_span.ensures.tries.1.1 was))
+
+pub returns-clause-spares : goal.returns-clause-spares
+returns-clause-spares g c = λ was.
+    works_spare c.args.table.now g.G.Gate.becomes (c.check_span.new.seat, c.check_span.new.gate) (c.release_records_and_locks.new.seat, c.release_records_and_locks.new.gate) c.release_records_and_locks.ensures.works
+    (goes_spare c.args.table.now g.G.Gate.becomes (c.lock_span.new.seat, c.lock_span.new.gate) (c.check_span.new.seat, c.check_span.new.gate) c.check_span.ensures.reads.goes (works_spare c.args.table.now g.G.Gate.becomes (c.args.seat.now, c.args.gate.now) (c.lock_span.new.seat, c.lock_span.new.gate) c.lock_span.ensures.tries.1.1 was))
+
+pub returns-then-check_span-clause-room : goal.returns-then-check_span-clause-room
+returns-then-check_span-clause-room g c = λ e room.
+    let none = c.lock_span.ensures.same ∙ c.requires.rest.own in
+    goes_room c.args.table.now g.G.Gate.becomes (c.lock_span.new.seat, c.lock_span.new.gate) (c.check_span.new.seat, c.check_span.new.gate) c.check_span.ensures.reads.goes (c.check_span.ensures.reads.own ∙ none) (works_room c.args.table.now g.G.Gate.becomes (c.args.seat.now, c.args.gate.now) (c.lock_span.new.seat, c.lock_span.new.gate) c.lock_span.ensures.tries.1.1 none room)

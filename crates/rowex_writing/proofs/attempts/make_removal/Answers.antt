@@ -1,4 +1,6 @@
 -- What is left is published, as one with the node beside it or alone; or all is given back.
+use Rattle.rowex_writing.specs.Spare.{by_gone}
+use Rattle.rowex_writing.proofs.Spare.{goes_spare, gone_node, works_spare}
 use Rattle.std.proofs.Common.{◌-◌, subst, ap, arith, length, ◌≡◌, ◌∙◌, sym, refl, Err}
 use Rattle.rowex_reading.proofs.Seeing.{later_trans}
 use Rattle.rowex_writing.specs.Changes.{IsTakeChange}
@@ -15,9 +17,9 @@ use Rattle.rowex_writing.proofs.Making.{building_on}
 use Rattle.rowex_writing.proofs.Named.{loaded_on}
 use Rattle.rowex_writing.proofs.Wider.{few_before, few_none, few_then, removal_changes}
 use Rattle.rowex_writing.proofs.attempts.make_removal.Goals as goal
-use Rattle.rowex_writing.proofs.Valued.{busy_leafless, failed_before, full_failed, held_few}
-use Rattle.rowex_writing.proofs.Attempting.{leaves_refused}
-use Rattle.rowex_writing.specs.declared.attempts.TryFault.TheVariants.{FullLeaves}
+use Rattle.rowex_writing.proofs.Valued.{busy_leafless, busy_roomy, failed_before, full_failed, held_few}
+use Rattle.rowex_writing.proofs.Attempting.{leaves_refused, nodes_refused}
+use Rattle.rowex_writing.specs.declared.attempts.TryFault.TheVariants.{FullLeaves, FullNodes}
 
 pub plan_merge-requires : goal.plan_merge-requires
 plan_merge-requires g c = record { takes = takes_taken c.args.table.now g.G.Gate.becomes (c.args.seat.now, c.args.gate.now) (c.make_without_leaf.new.seat, c.make_without_leaf.new.gate) c.args.job.now c.make_without_leaf.ensures.done.goes c.requires.taken c.requires.some }
@@ -161,3 +163,34 @@ returns-else-try_merge-clause-failed g c =
 
 pub returns-else-try_merge-clause-leafless : goal.returns-else-try_merge-clause-leafless
 returns-else-try_merge-clause-leafless g c = busy_leafless c.publish_or_undo.result _ c.publish_or_undo.ensures.failed
+
+-- ---- a record that stands in no tree
+pub returns-in_default-clause-spares : goal.returns-in_default-clause-spares
+returns-in_default-clause-spares g c = λ was.
+    let (t, same) = is_taking c.args.table.now c.args.seat.now c.args.job.now c.requires.taken c.requires.some in
+    let (x, held, is, may) = c.in-Ok.ensures.done.raised in
+    let low : c.in-Ok.raised.low ≡ c.args.job.now.span.len = c.in-Ok.ensures.lowest (omega (arith, t.below.last)) in
+    let (n, at) = gone_node c.args.job.now.way.now c.args.job.now.span c.in-Ok.raised (omega (arith, low, t.below.last)) may.upto t.below.taken.within.1 in c.publish_change.ensures.spares (by_gone n at)
+
+pub returns-then-try_merge-clause-spares : goal.returns-then-try_merge-clause-spares
+returns-then-try_merge-clause-spares g c = λ was. c.try_merge.ensures.spares (goes_spare c.args.table.now g.G.Gate.becomes (c.make_without_leaf.new.seat, c.make_without_leaf.new.gate) (c.plan_merge.new.seat, c.plan_merge.new.gate) c.plan_merge.ensures.reads.goes (goes_spare c.args.table.now g.G.Gate.becomes (c.args.seat.now, c.args.gate.now) (c.make_without_leaf.new.seat, c.make_without_leaf.new.gate) c.make_without_leaf.ensures.done.goes was))
+
+pub returns-else-try_merge-clause-spares : goal.returns-else-try_merge-clause-spares
+returns-else-try_merge-clause-spares g c = λ was.
+    let (t, same) = is_taking c.args.table.now c.args.seat.now c.args.job.now c.requires.taken c.requires.some in
+    let (x, held, is, may) = c.in-Ok.ensures.done.raised in
+    let low : c.in-Ok.raised.low ≡ c.args.job.now.span.len = c.in-Ok.ensures.lowest (omega (arith, t.below.last)) in
+    c.publish_or_undo.ensures.spares (omega (arith, low, t.below.last)) (c.try_merge.ensures.spares (goes_spare c.args.table.now g.G.Gate.becomes (c.make_without_leaf.new.seat, c.make_without_leaf.new.gate) (c.plan_merge.new.seat, c.plan_merge.new.gate) c.plan_merge.ensures.reads.goes (goes_spare c.args.table.now g.G.Gate.becomes (c.args.seat.now, c.args.gate.now) (c.make_without_leaf.new.seat, c.make_without_leaf.new.gate) c.make_without_leaf.ensures.done.goes was)))
+
+pub returns-in-Err-clause-spares : goal.returns-in-Err-clause-spares
+returns-in-Err-clause-spares g c = λ was.
+    works_spare c.args.table.now g.G.Gate.becomes (c.make_without_leaf.new.seat, c.make_without_leaf.new.gate) (c.undo_change.new.seat, c.undo_change.new.gate) c.undo_change.ensures.works (goes_spare c.args.table.now g.G.Gate.becomes (c.args.seat.now, c.args.gate.now) (c.make_without_leaf.new.seat, c.make_without_leaf.new.gate) c.make_without_leaf.ensures.done.goes was)
+
+-- ---- and one is found
+pub returns-in-Err-clause-finds : goal.returns-in-Err-clause-finds
+returns-in-Err-clause-finds g c = λ room is.
+    let same : c.refusal_of.result ≡ FullNodes = cc in
+    c.make_without_leaf.ensures.finds room (c.in-Err.is ∙ ap Err (nodes_refused c.in-Err.full (sym c.refusal_of.ensures ∙ same)))
+
+pub returns-else-try_merge-clause-finds : goal.returns-else-try_merge-clause-finds
+returns-else-try_merge-clause-finds g c = λ room. busy_roomy c.publish_or_undo.result _ c.publish_or_undo.ensures.failed

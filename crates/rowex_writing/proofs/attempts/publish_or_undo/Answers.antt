@@ -1,4 +1,6 @@
 -- The value is as it was found, and the change is published; or all is given back.
+use Rattle.rowex_writing.specs.Spare.{by_gone}
+use Rattle.rowex_writing.proofs.Spare.{goes_spare, gone_node, works_spare}
 use Rattle.std.proofs.Common.{refl, arith}
 use Rattle.rowex_reading.proofs.Seeing.{later_trans}
 use Rattle.rowex_writing.proofs.Keeping.{changed_since}
@@ -72,3 +74,13 @@ returns-clause-changed g c = λ ok x was may.
 
 pub returns-clause-few : goal.returns-clause-few
 returns-clause-few g c = omega (arith, c.is_unchanged.ensures.few, c.publish_change.ensures.few)
+
+-- ---- a record that stands in no tree
+pub returns-then-not-is_unchanged-clause-spares : goal.returns-then-not-is_unchanged-clause-spares
+returns-then-not-is_unchanged-clause-spares g c = λ some was.
+    works_spare c.args.table.now g.G.Gate.becomes (c.is_unchanged.new.seat, c.is_unchanged.new.gate) (c.undo_change.new.seat, c.undo_change.new.gate) c.undo_change.ensures.works (goes_spare c.args.table.now g.G.Gate.becomes (c.args.seat.now, c.args.gate.now) (c.is_unchanged.new.seat, c.is_unchanged.new.gate) c.is_unchanged.ensures.reads.goes was)
+
+pub returns-clause-spares : goal.returns-clause-spares
+returns-clause-spares g c = λ some was.
+    let (x, held, may) = c.requires.may in
+    let (n, at) = gone_node c.args.job.now.way.now c.args.job.now.span c.args.raised some may.upto c.requires.held.within.1 in c.publish_change.ensures.spares (by_gone n at)

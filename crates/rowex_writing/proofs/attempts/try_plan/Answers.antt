@@ -1,4 +1,5 @@
 -- A refusal, or the change.
+use Rattle.rowex_writing.proofs.Spare.{goes_room, goes_spare, works_spare}
 use Rattle.std.proofs.Common.{◌≡◌, inl, inr, ap, refl, sym, subst, ◌∙◌, arith, Err, [], IsSome, length}
 use Rattle.rowex_core.specs.declared.known.Fresh.{Fresh}
 use Rattle.rowex_reading.specs.Ways.{IsFoundAt, value_of}
@@ -17,7 +18,7 @@ use Rattle.rowex_writing.proofs.attempts.try_plan.Goals.{In-Some}
 use Rattle.rowex_writing.specs.Counts.{held_loads}
 use Rattle.rowex_writing.specs.Plans.{change}
 use Rattle.rowex_writing.specs.declared.deeds.Job.{Job}
-use Rattle.rowex_writing.specs.declared.attempts.TryFault.TheVariants.{FullLeaves}
+use Rattle.rowex_writing.specs.declared.attempts.TryFault.TheVariants.{FullLeaves, FullNodes}
 use Rattle.rowex_writing.proofs.Making.{building_none, goes_possible}
 use Rattle.rowex_writing.proofs.Named.{found_again, found_other}
 
@@ -189,3 +190,25 @@ returns-in-Ok-clause-short g c e =
 
 pub returns-in-Err-clause-short : goal.returns-in-Err-clause-short
 returns-in-Err-clause-short g c e = let ok = sym c.in-Err.is ∙ c.change_span.ensures.whole e in absurd cc
+
+-- ---- a record that stands in no tree
+pub returns-in_default-clause-spares : goal.returns-in_default-clause-spares
+returns-in_default-clause-spares g c = λ was.
+    works_spare c.args.table.now g.G.Gate.becomes (c.load_found_again-found.new.seat, c.load_found_again-found.new.gate) (c.release_records_and_locks.new.seat, c.release_records_and_locks.new.gate) c.release_records_and_locks.ensures.works
+    (goes_spare c.args.table.now g.G.Gate.becomes (c.lock_and_check_span.new.seat, c.lock_and_check_span.new.gate) (c.load_found_again-found.new.seat, c.load_found_again-found.new.gate) c.load_found_again-found.ensures.reads.goes (c.lock_and_check_span.ensures.spares was))
+
+pub returns-in-Ok-clause-spares : goal.returns-in-Ok-clause-spares
+returns-in-Ok-clause-spares g c = λ was. c.change_span.ensures.spares (goes_spare c.args.table.now g.G.Gate.becomes (c.lock_and_check_span.new.seat, c.lock_and_check_span.new.gate) (c.load_found_again-found.new.seat, c.load_found_again-found.new.gate) c.load_found_again-found.ensures.reads.goes (c.lock_and_check_span.ensures.spares was))
+
+pub returns-in-Err-clause-spares : goal.returns-in-Err-clause-spares
+returns-in-Err-clause-spares g c = λ was. c.change_span.ensures.spares (goes_spare c.args.table.now g.G.Gate.becomes (c.lock_and_check_span.new.seat, c.lock_and_check_span.new.gate) (c.load_found_again-found.new.seat, c.load_found_again-found.new.gate) c.load_found_again-found.ensures.reads.goes (c.lock_and_check_span.ensures.spares was))
+
+-- ---- and one is found
+pub returns-in-Err-clause-finds : goal.returns-in-Err-clause-finds
+returns-in-Err-clause-finds g c = λ take room is.
+    let same : c.in-Err.fault ≡ FullNodes = cc in
+    let (m, aim, way, planned) = c.requires.planned in
+    let taken = c.lock_and_check_span.ensures.taken c.if-not-lock_and_check_span.false m way in
+    let reads = c.load_found_again-found.ensures.reads in
+    c.change_span.ensures.finds take
+    (goes_room c.args.table.now g.G.Gate.becomes (c.lock_and_check_span.new.seat, c.lock_and_check_span.new.gate) (c.load_found_again-found.new.seat, c.load_found_again-found.new.gate) reads.goes (reads.own ∙ taken.own) (c.lock_and_check_span.ensures.room c.if-not-lock_and_check_span.false room)) (c.in-Err.is ∙ ap Err same)

@@ -1,5 +1,5 @@
 -- A claim and its fills are one record more.
-use Rattle.std.proofs.Common.{◌∷◌, [], ◌++◌, List, ℕ, length, ap, sym, subst, ◌∙◌, arith}
+use Rattle.std.proofs.Common.{◌∷◌, [], ◌++◌, List, ℕ, length, ap, refl, sym, subst, ◌∙◌, arith}
 use Rattle.std.proofs.lemmas.List.{length-append}
 use Rattle.compound_node.specs.declared.entries.Entry.TheVariants.{Node}
 use Rattle.versions.specs.declared.Rec.TheVariants.{Node as a_node}
@@ -59,3 +59,6 @@ returns-clause-makes g c =
           (c.args.build.now.made.items ++ a_node c.in_ok-number.number ∷ []) c.claim_node.new.build.nodes.next c.claim_node.new.build.left_nodes filled (λ r h. h) (c.in_ok-number.ensures.walk since w));
       few = omega (arith, c.in_ok-number.ensures.few, c.fill_node.ensures.steps);
     }
+
+pub returns-in_err-number-clause-finds : goal.returns-in_err-number-clause-finds
+returns-in_err-number-clause-finds g c = λ whole none room is. c.in_err-number.ensures.finds whole none room refl

@@ -44,3 +44,6 @@ pub returns-in-Some-clause-walk : goal.returns-in-Some-clause-walk
 returns-in-Some-clause-walk g c = λ since w.
     let (news, b) = c.requires.building in
     c.in-Some.ensures.walk since c.args.build.now.made.items (made_alone c.args.table.now c.args.seat.now c.args.build.now.made.items news b) w
+
+pub returns-clause-finds : goal.returns-clause-finds
+returns-clause-finds g c = λ whole none room is. c.claim_node_on_walk-claimed.ensures.finds whole none room c.in_default.is

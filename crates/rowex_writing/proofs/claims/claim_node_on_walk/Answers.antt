@@ -1,5 +1,6 @@
 -- The spare record was not free, or there was none; then one of all records is claimed, or none was free.
-use Rattle.std.proofs.Common.{arith}
+use Rattle.rowex_writing.proofs.Spare.{goes_room, walk_finds}
+use Rattle.std.proofs.Common.{◌∙◌, arith}
 use Rattle.std.proofs.lemmas.List.Elements.{Contains-append_left}
 use Rattle.versions.specs.declared.Rec.TheVariants.{Node as a_node}
 use Rattle.rowex_records.proofs.Claimed.{claims_holds, more_since}
@@ -61,3 +62,8 @@ returns-clause-few g c =
     let claims = c.in_ok-number.ensures.claims.0 in
     let few = claims_count c.args.table.now g.G.Gate.becomes a_node _ _ c.in_ok-number.number (c.claim_spare_record.new.seat, c.claim_spare_record.new.gate) (c.claim_next_record.new.seat, c.claim_next_record.new.gate) claims in
     omega (arith, few, c.in_ok-number.ensures.claims.1, c.claim_spare_record.ensures.few)
+
+pub returns-in_err-number-clause-finds : goal.returns-in_err-number-clause-finds
+returns-in_err-number-clause-finds g c = λ whole none room is.
+    walk_finds c.args.table.now g.G.Gate.becomes c.args.hint.now.next _ (c.claim_spare_record.new.seat, c.claim_spare_record.new.gate) (c.claim_next_record.new.seat, c.claim_next_record.new.gate) (omega (arith, whole))
+    (goes_room c.args.table.now g.G.Gate.becomes (c.args.seat.now, c.args.gate.now) (c.claim_spare_record.new.seat, c.claim_spare_record.new.gate) c.claim_spare_record.ensures.goes (c.in_default.ensures.claims ∙ none) room) c.in_err-number.ensures.claims.1

@@ -1,4 +1,5 @@
 -- The last spare one, the walk, and those that are made.
+use Rattle.rowex_writing.proofs.Spare.{free_found}
 use Rattle.std.proofs.Common.{ℕ, Option, ap, refl, sym, subst, ◌∙◌, arith, Contains, length}
 use Rattle.versions.specs.declared.Rec.{Rec as Record}
 use Rattle.versions.specs.declared.Rec.TheVariants.{Node as a_node}
@@ -41,6 +42,7 @@ returns-in-Some g c =
           (free_on table g.G.Gate.becomes a_node _ _ _ _ _ _ c.in-Some.ensures.finds);
       own = free_own table g.G.Gate.becomes a_node _ _ _ _ (c.is_last_free.new.seat, c.is_last_free.new.gate) (c.find_free_record.new.seat, c.find_free_record.new.gate) c.in-Some.ensures.finds ∙ c.is_last_free.ensures.own;
       made = refl;
+      free = λ is. free_found table g.G.Gate.becomes _ _ _ (c.is_last_free.new.seat, c.is_last_free.new.gate) (c.find_free_record.new.seat, c.find_free_record.new.gate) c.in-Some.ensures.finds;
       walk = λ is. absurd (cc);
       few = omega (arith, few, c.is_last_free.ensures.few);
     }
@@ -60,6 +62,7 @@ returns g c =
       goes = goes_more table g.G.Gate.becomes (c.args.seat.now, c.args.gate.now) (c.find_free_record.new.seat, c.find_free_record.new.gate) (c.load_states.new.seat, c.load_states.new.gate) tried c.load_states.ensures.goes;
       own = c.load_states.ensures.own ∙ (none.own ∙ c.is_last_free.ensures.own);
       made = refl;
+      free = λ is. absurd cc;
       walk = λ is since w.
           let count = w.count in
           let alone = alone_still c.args.seat.now.known c.is_last_free.new.seat.known made c.is_last_free.ensures.own (made_alone table c.args.seat.now made news b) in

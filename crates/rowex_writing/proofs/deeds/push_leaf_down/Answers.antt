@@ -1,4 +1,5 @@
 -- The new node takes the found leaf's place.
+use Rattle.rowex_writing.specs.Spare.{by_free}
 use Rattle.std.proofs.Common.{◌≡◌, ◌≤◌, ◌+◌, ◌*◌, List, [], ◌∷◌, ◌++◌, Some, None, refl, sym, ap, subst, ◌∙◌, arith, length}
 use Rattle.record_words.specs.Entry.{entry_word}
 use Rattle.record_words.specs.declared.layout.Layout.{Layout}
@@ -29,7 +30,7 @@ use Rattle.tries.specs.Content.{item}
 
 -- ---- no leaf record was free
 pub returns-in_default-make_leaf : goal.returns-in_default-make_leaf
-returns-in_default-make_leaf g c = record { done = no_leaf_free c.make_leaf.ensures.goes c.in_default-make_leaf.ensures.made c.make_leaf.ensures.few refl }
+returns-in_default-make_leaf g c = record { done = no_leaf_free c.make_leaf.ensures.goes c.in_default-make_leaf.ensures.made c.make_leaf.ensures.few refl; spares = λ was. tt }
 
 -- ---- the node
 pub pair_with_leaf-pair-requires : goal.pair_with_leaf-pair-requires
@@ -65,6 +66,7 @@ returns-in_default-make_node g c = record {
         let few : c.make_node.new.seat.known.steps + 2 * c.make_node.new.build.left_nodes ≤ c.make_leaf.new.seat.known.steps + 2 * c.layout.result.nodes + node_steps + length c.make_node.new.build.made.items = c.in_default-make_node.ensures.makes.few in
         omega (arith, whole, c.make_leaf.ensures.few, few, made_one c.in-Some.ensures.made.building, c.make_node.ensures.makes.more));
   };
+  spares = λ was. tt;
 }
 
 -- ---- or none beside it
@@ -108,6 +110,7 @@ returns-then-not-leaves_free_node g c =
             subst (λ z. c.leaves_free_node.new.seat.known.steps ≤ c.make_node.new.seat.known.steps + 2 * c.make_node.new.build.left_nodes + 1 + looks_unless z c.leaves_free_node.new.build) c.if-not-leaves_free_node.true c.leaves_free_node.ensures.few in
             omega (arith, whole, c.make_leaf.ensures.few, few, more, ap length made, made_one leaf.building, c.make_node.ensures.makes.more));
       };
+      spares = λ was. tt;
     }
 
 -- ---- the node is made
@@ -152,4 +155,5 @@ returns g c = record {
         subst (λ z. c.leaves_free_node.new.seat.known.steps ≤ c.make_node.new.seat.known.steps + 2 * c.make_node.new.build.left_nodes + 1 + looks_unless z c.leaves_free_node.new.build) c.if-not-leaves_free_node.false c.leaves_free_node.ensures.few in
         omega (arith, whole, c.make_leaf.ensures.few, few, more, made_one c.in-Some.ensures.made.building, c.make_node.ensures.makes.more));
   };
+  spares = λ was. by_free (c.leaves_free_node.ensures.free c.if-not-leaves_free_node.false);
 }

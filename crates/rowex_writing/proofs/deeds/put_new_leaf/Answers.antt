@@ -1,15 +1,17 @@
 -- The store is that of a first key.
+use Rattle.rowex_writing.proofs.Counting.{made_one, no_nodes}
+use Rattle.rowex_writing.specs.Spare.{by_kept}
+use Rattle.rowex_writing.proofs.Spare.{goes_spare, no_list}
 use Rattle.std.proofs.Common.{◌+◌, ◌*◌, None, sym, subst, arith, refl}
 use Rattle.version_laws.specs.Writer.{added_change}
 use Rattle.rowex_writing.specs.Changes.{MayPublishOnceReady}
-use Rattle.rowex_writing.proofs.Counting.{made_one}
 use Rattle.rowex_writing.proofs.Raised.{just_leaf_gone, no_leaf_free, none_in_table}
 use Rattle.rowex_writing.proofs.Placing.{put_len, put_may, put_stored}
 use Rattle.rowex_writing.proofs.deeds.put_new_leaf.Goals as goal
 use Rattle.tries.specs.Content.{item}
 
 pub returns-in_default : goal.returns-in_default
-returns-in_default g c = record { done = no_leaf_free c.make_leaf.ensures.goes c.in_default.ensures.made c.make_leaf.ensures.few refl; kind = λ is. cc }
+returns-in_default g c = record { done = no_leaf_free c.make_leaf.ensures.goes c.in_default.ensures.made c.make_leaf.ensures.few refl; kind = λ is. cc; spares = λ was. tt }
 
 pub returns : goal.returns
 returns g c = record {
@@ -40,4 +42,6 @@ returns g c = record {
     few = omega (arith, c.make_leaf.ensures.few);
   };
   kind = λ is. cc;
+  spares = λ was.
+      by_kept (goes_spare c.args.table.now g.G.Gate.becomes (c.args.seat.now, c.args.gate.now) (c.make_leaf.new.seat, c.make_leaf.new.gate) c.make_leaf.ensures.goes was) (no_list _ (no_nodes c.in-Some.ensures.made));
 }

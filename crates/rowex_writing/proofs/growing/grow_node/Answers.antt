@@ -1,4 +1,5 @@
 -- The leaf's record, and the rest.
+use Rattle.rowex_writing.proofs.Spare.{free_spares}
 use Rattle.std.proofs.Common.{◌-◌, ap, arith, get_or, sym, refl}
 use Rattle.std.proofs.lemmas.Option.{get_or_from_slice_get}
 use Rattle.std.proofs.lemmas.Result.{IfErr-weaker}
@@ -11,7 +12,7 @@ use Rattle.rowex_writing.proofs.Runs.{goes_run, run_count}
 use Rattle.rowex_writing.proofs.growing.grow_node.Goals as goal
 
 pub returns-in_default : goal.returns-in_default
-returns-in_default g c = record { done = no_leaf_free c.make_leaf.ensures.goes c.in_default.ensures.made c.make_leaf.ensures.few refl }
+returns-in_default g c = record { done = no_leaf_free c.make_leaf.ensures.goes c.in_default.ensures.made c.make_leaf.ensures.few refl; spares = λ was. tt }
 
 pub grow_with_leaf-requires : goal.grow_with_leaf-requires
 grow_with_leaf-requires g c =
@@ -37,4 +38,5 @@ returns g c = record {
         (goes_run c.args.table.now g.G.Gate.becomes (c.args.seat.now, c.args.gate.now) (c.make_leaf.new.seat, c.make_leaf.new.gate) c.in-Some.ensures.goes)) (IfErr-weaker c.grow_with_leaf.result _ _ (λ full h. h.1) c.grow_with_leaf.ensures.full));
     few = omega (arith, c.make_leaf.ensures.few, c.grow_with_leaf.ensures.few);
   };
+  spares = λ was. free_spares c.args.table.now.layout c.grow_with_leaf.new.seat c.grow_with_leaf.new.build.made.items c.args.job.now c.grow_with_leaf.result c.grow_with_leaf.ensures.free;
 }

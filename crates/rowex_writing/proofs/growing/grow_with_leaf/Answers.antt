@@ -101,3 +101,6 @@ returns-clause-raised g c =
     } in
     replace_later c.args.table.now c.raise_with_leaf.new.seat c.leaves_free_node.new.seat c.raise_with_leaf.new.build.made.items c.leaves_free_node.new.build.made.items job raised _ None here.seat here.possible
     c.leaves_free_node.ensures.goes.stays.0 (c.leaves_free_node.ensures.goes.stays.1, c.leaves_free_node.ensures.goes.stays.2, c.leaves_free_node.ensures.own) c.leaves_free_node.ensures.made made
+
+pub returns-clause-free : goal.returns-clause-free
+returns-clause-free g c = c.leaves_free_node.ensures.free c.if-not-leaves_free_node.false

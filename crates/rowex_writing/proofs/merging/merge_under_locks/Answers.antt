@@ -1,4 +1,5 @@
 -- The store, or the wider locks are given back.
+use Rattle.rowex_writing.proofs.Spare.{goes_spare}
 use Rattle.std.proofs.Common.{refl, sym, ◌∙◌, subst}
 use Rattle.rowex_reading.proofs.Seeing.{later_trans}
 use Rattle.rowex_writing.specs.Changes.{IsDeedChange}
@@ -50,3 +51,9 @@ returns-clause-same g c = λ e w.
     let kept = c.in_default.ensures.same refl in
     let s = c.unlock_for_merge.ensures.same (wide_on c.args.table.now g.G.Gate.becomes (c.args.seat.now, c.args.gate.now) (c.make_merge_records.new.seat, c.make_merge_records.new.gate) c.args.job.now c.args.merge.now.number c.make_merge_records.ensures.goes w) in
     (s.0, s.1, s.2 ∙ kept.0, kept.1)
+
+pub returns-in-Some-clause-spares : goal.returns-in-Some-clause-spares
+returns-in-Some-clause-spares g c = λ was. c.publish_merge.ensures.spares
+
+pub returns-clause-spares : goal.returns-clause-spares
+returns-clause-spares g c = λ was. c.unlock_for_merge.ensures.spares (goes_spare c.args.table.now g.G.Gate.becomes (c.args.seat.now, c.args.gate.now) (c.make_merge_records.new.seat, c.make_merge_records.new.gate) c.make_merge_records.ensures.goes was)

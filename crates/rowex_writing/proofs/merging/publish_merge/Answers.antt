@@ -1,5 +1,9 @@
 -- What is stored above the upper node.
-use Rattle.std.proofs.Common.{◌-◌, length, ap, arith}
+use Rattle.rowex_writing.specs.Merging.{upper}
+use Rattle.versions.specs.declared.Rec.TheVariants.{Node as a_node}
+use Rattle.versions.specs.Trades.{IsOneOf}
+use Rattle.rowex_writing.specs.Spare.{by_gone}
+use Rattle.std.proofs.Common.{◌-◌, length, ap, arith, inl, refl, subst, sym}
 use Rattle.std.specs.Prelude.{slice_range}
 use Rattle.rowex_writing.proofs.Counting.{slice_few}
 use Rattle.rowex_writing.proofs.Stores.{merge_store}
@@ -25,3 +29,9 @@ returns-clause-few g c =
     let gone = ap length (listed w.taking.number w.taking.value w.taking.found) in
     let stay = slice_few c.args.job.now.way.now c.saturating_sub.result (c.args.job.now.span.end - 1) in
     omega (arith, c.publish_entry.ensures.few, gone, stay, c.saturating_sub.ensures, may.few)
+
+pub returns-clause-spares : goal.returns-clause-spares
+returns-clause-spares g c =
+    let (number, w, may, listed) = c.requires.may in
+    let n = (upper c.args.job.now).number in
+    c.publish_entry.ensures.spares (by_gone n (subst (IsOneOf (a_node n)) (sym (listed w.taking.number w.taking.value w.taking.found)) (inl refl)))

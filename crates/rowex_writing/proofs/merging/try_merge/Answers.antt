@@ -1,4 +1,5 @@
 -- The node beside, the wider locks, and the store under them.
+use Rattle.rowex_writing.proofs.Spare.{goes_spare}
 use Rattle.std.proofs.Common.{refl, sym, ◌∙◌, subst, arith}
 use Rattle.rowex_reading.proofs.Seeing.{later_trans}
 use Rattle.rowex_writing.specs.Changes.{IsDeedChange}
@@ -131,3 +132,11 @@ returns-clause-same g c = λ e.
     let s = c.merge_under_locks.ensures.same e
     (wide_on c.args.table.now g.G.Gate.becomes (c.lock_for_merge.new.seat, c.lock_for_merge.new.gate) (c.is_unchanged.new.seat, c.is_unchanged.new.gate) c.args.job.now c.args.merge.now.number c.is_unchanged.ensures.reads.goes w) in
     ((s.0 ∙ locks, s.1 ∙ anchor, s.2 ∙ (c.is_unchanged.ensures.reads.own ∙ c.lock_for_merge.ensures.later.3)), s.3)
+
+pub returns-then-not-is_unchanged-clause-spares : goal.returns-then-not-is_unchanged-clause-spares
+returns-then-not-is_unchanged-clause-spares g c = λ was.
+    c.unlock_for_merge.ensures.spares (goes_spare c.args.table.now g.G.Gate.becomes (c.lock_for_merge.new.seat, c.lock_for_merge.new.gate) (c.is_unchanged.new.seat, c.is_unchanged.new.gate) c.is_unchanged.ensures.reads.goes (c.lock_for_merge.ensures.spares was))
+
+pub returns-clause-spares : goal.returns-clause-spares
+returns-clause-spares g c = λ was.
+    c.merge_under_locks.ensures.spares (goes_spare c.args.table.now g.G.Gate.becomes (c.lock_for_merge.new.seat, c.lock_for_merge.new.gate) (c.is_unchanged.new.seat, c.is_unchanged.new.gate) c.is_unchanged.ensures.reads.goes (c.lock_for_merge.ensures.spares was))

@@ -1,5 +1,6 @@
 -- What is stored above the span.
-use Rattle.std.proofs.Common.{length, ap, ◌∙◌, arith}
+use Rattle.rowex_writing.specs.Spare.{WillSpare}
+use Rattle.std.proofs.Common.{length, ap, ◌∙◌, arith, subst, sym}
 use Rattle.rowex_writing.proofs.Counting.{slice_few}
 use Rattle.rowex_writing.proofs.Stores.{change_store}
 use Rattle.rowex_writing.proofs.Raised.{gone_few, kept_few}
@@ -32,3 +33,9 @@ returns-clause-few g c =
     let nodes = gone_few c.args.job.now.way.now c.args.job.now.span c.args.raised in
     let stay = kept_few c.args.job.now.way.now c.args.job.now.span c.args.raised in
     omega (arith, c.publish_entry.ensures.few, made, gone, kept, nodes, stay, may.from, may.upto)
+
+pub returns-clause-spares : goal.returns-clause-spares
+returns-clause-spares g c = λ will.
+    c.publish_entry.ensures.spares
+    (subst (λ made. WillSpare c.args.table.now.layout c.args.seat.now made c.list_gone_records.new.build.gone.items) (sym c.list_gone_records.ensures.made)
+    (subst (WillSpare c.args.table.now.layout c.args.seat.now c.args.build.now.made.items) (sym c.list_gone_records.ensures.gone) will))

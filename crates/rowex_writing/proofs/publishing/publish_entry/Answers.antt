@@ -1,4 +1,5 @@
 -- Ready, stored, retired.
+use Rattle.rowex_writing.proofs.Spare.{store_spares}
 use Rattle.std.proofs.Common.{length, subst, sym, ap, ◌∙◌, arith}
 use Rattle.record_words.specs.Entry.{entry_word}
 use Rattle.rowex_core.specs.declared.event.Act.TheVariants.{Publish}
@@ -67,3 +68,12 @@ returns-clause-few g c =
     let gone = ap length c.as_slice.ensures.value in
     let stored = (act_leaves c.args.table.now.layout c.ready_records.new.seat.known c.publish.new.seat.known (Publish c.args.store.spot c.stored_word.result) c.publish.ensures.event).steps in
     omega (arith, c.ready_records.ensures.few, c.retire_records.ensures.few, stored, gone)
+
+pub returns-clause-spares : goal.returns-clause-spares
+returns-clause-spares g c = λ will.
+    let (x, was, s) = c.requires.may in
+    let published = just_published c.args.table.now g.G.Gate.becomes (c.args.seat.now, c.args.gate.now) (c.ready_records.new.seat, c.ready_records.new.gate) c.args.build.now.made.items c.args.store.spot (entry_word c.args.store.entry) c.args.build.now.gone.items c.ready_records.ensures.goes x was s.ready
+    (c.ready_records.ensures.ready s.ready.news s.ready.building) s.told (numbers_of c.args.kept.now) s.keeps c.publish.new.seat.known
+    (word_published c.args.table.now.layout c.args.store.spot c.stored_word.result (entry_word c.args.store.entry) c.ready_records.new.seat.known c.publish.new.seat.known c.stored_word.ensures c.publish.ensures.event) s.apart in
+    store_spares c.args.table.now g.G.Gate.becomes c.args.store.spot c.stored_word.result (c.args.seat.now, c.args.gate.now) (c.ready_records.new.seat, c.ready_records.new.gate) (c.publish.new.seat, c.publish.new.gate) (c.retire_records.new.seat, c.retire_records.new.gate)
+    c.args.build.now.made.items c.args.build.now.gone.items s.ready.news c.ready_records.ensures.goes s.ready.building (c.ready_records.ensures.ready s.ready.news s.ready.building).own c.publish.ensures published.3.own s.records c.retire_records.ensures.works will

@@ -1,4 +1,5 @@
 -- What is left is a side: an entry alone, or a node whose words are those of a new record.
+use Rattle.rowex_writing.proofs.Spare.{goes_room}
 use Rattle.std.proofs.Common.{◌≡◌, ◌∙◌, ◌<◌, ℕ, ◌∷◌, [], List, Some, None, ap, arith, length, subst, sym}
 use Rattle.std.specs.Prelude.{MatchOption}
 use Rattle.compound_node.specs.Nodes.{NodeView, greatest_height, piece}
@@ -88,3 +89,9 @@ returns-in-Some-clause-makes g c = makes_after _ c.load_locked_node_words.ensure
 
 pub returns-clause-makes : goal.returns-clause-makes
 returns-clause-makes g c = makes_after _ c.load_locked_node_words.ensures.reads.goes c.load_locked_node_words.ensures.few c.make_node_from_words.ensures.makes (omega arith) (omega arith)
+
+pub returns-clause-finds : goal.returns-clause-finds
+returns-clause-finds g c = λ whole none room.
+    let reads = c.load_locked_node_words.ensures.reads in
+    c.make_node_from_words.ensures.finds whole (reads.own ∙ none)
+    (goes_room c.args.table.now g.G.Gate.becomes (c.args.seat.now, c.args.gate.now) (c.load_locked_node_words.new.seat, c.load_locked_node_words.new.gate) reads.goes (reads.own ∙ none) room)

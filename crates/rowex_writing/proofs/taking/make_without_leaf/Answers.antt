@@ -1,4 +1,7 @@
 -- The way has a node, or none.
+use Rattle.rowex_writing.specs.Walks.{nodes_among}
+use Rattle.rowex_writing.specs.Spare.{by_kept}
+use Rattle.rowex_writing.proofs.Spare.{low_spares}
 use Rattle.std.proofs.Common.{[], ◌∷◌, Some, refl, sym, ap, subst, arith, length, ◌≡◌, ◌∙◌, None}
 use Rattle.versions.specs.declared.Rec.TheVariants.{Leaf as a_leaf}
 use Rattle.version_laws.specs.Writer.{removed_change}
@@ -61,3 +64,20 @@ returns-clause-done g c = record {
   full = tt;
   few = omega arith;
 }
+
+-- ---- a record that stands in no tree
+pub returns-then-job-gt0-clause-lowest : goal.returns-then-job-gt0-clause-lowest
+returns-then-job-gt0-clause-lowest g c = λ some. c.remake_without_leaf.ensures.lowest
+
+pub returns-then-job-gt0-clause-spares : goal.returns-then-job-gt0-clause-spares
+returns-then-job-gt0-clause-spares g c = λ was.
+    let job = c.args.job.now in
+    let (m, aim, taken, planned) = c.requires.taken in
+    let below = take_below c.args.table.now c.args.seat.now m job aim taken planned c.in-Leaf.number c.in-Leaf.value c.in-Leaf.mismatch c.in-Leaf.is c.if-job-gt0.true in
+    low_spares c.args.table.now.layout c.remake_without_leaf.new.seat c.remake_without_leaf.new.build.made.items job c.remake_without_leaf.result (omega (arith, below.last)) taken.within.1 c.remake_without_leaf.ensures.lowest
+
+pub returns-clause-lowest : goal.returns-clause-lowest
+returns-clause-lowest g c = λ some. absurd (omega (arith, some, c.if-job-gt0.false))
+
+pub returns-clause-spares : goal.returns-clause-spares
+returns-clause-spares g c = λ was. by_kept was (ap nodes_among c.clear.ensures)

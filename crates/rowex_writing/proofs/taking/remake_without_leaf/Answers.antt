@@ -113,3 +113,8 @@ returns-clause-walk g c =
     let whole : c.layout.result.nodes ≡ c.args.table.now.layout.nodes = ap (λ (z : Layout). z.nodes) c.layout.ensures in
     let few : c.raise_without_leaf.new.seat.known.steps + 2 * c.raise_without_leaf.new.build.left_nodes ≤ c.args.seat.now.known.steps + 2 * c.layout.result.nodes + level_steps + 0 = c.in-Some.ensures.makes.few in
     omega (arith, whole, few)
+
+pub returns-in_default-clause-finds : goal.returns-in_default-clause-finds
+returns-in_default-clause-finds g c = λ room is.
+    let (m, value, b) = c.requires.below in
+    c.raise_without_leaf.ensures.finds (ap (λ (z : Layout). z.nodes) c.layout.ensures) b.taken.own room c.in_default.is

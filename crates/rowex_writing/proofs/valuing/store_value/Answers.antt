@@ -1,4 +1,5 @@
 -- The store, and what is unlocked after it.
+use Rattle.rowex_writing.proofs.Spare.{value_spares}
 use Rattle.std.proofs.Common.{◌≡◌, ◌<◌, ◌^◌, None, Some, refl, sym, subst, arith, [], ℕ, Option}
 use Rattle.std.specs.Prelude.{slice_range}
 use Rattle.rowex_core.specs.declared.event.Act.TheVariants.{Publish}
@@ -99,3 +100,8 @@ pub returns-clause-few : goal.returns-clause-few
 returns-clause-few g c =
     let stored = (act_leaves c.args.table.now.layout c.args.seat.now.known c.publish.new.seat.known (Publish (Value c.in-Leaf.number) c.args.job.now.value) c.publish.ensures.event).steps in
     omega (arith, stored, c.unlock_kept.ensures.few, c.first_locked.ensures, slice_few c.args.job.now.way.now c.first_locked.result c.args.job.now.span.len)
+
+pub returns-clause-spares : goal.returns-clause-spares
+returns-clause-spares g c =
+    let (m, aim, t, planned) = c.requires.taken in
+    value_spares c.args.table.now g.G.Gate.becomes (Value c.in-Leaf.number) c.args.job.now.value (c.args.seat.now, c.args.gate.now) (c.publish.new.seat, c.publish.new.gate) (c.unlock_kept.new.seat, c.unlock_kept.new.gate) t.own c.publish.ensures c.unlock_kept.ensures.works

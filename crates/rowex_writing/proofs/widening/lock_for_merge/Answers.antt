@@ -1,4 +1,5 @@
 -- The node beside, and then what names the upper one.
+use Rattle.rowex_writing.proofs.Spare.{works_spare}
 use Rattle.std.proofs.Common.{◌∷◌, ◌-◌, true, false, refl, sym, ap, subst, ◌∙◌}
 use Rattle.versions.specs.Trades.{IsOneOf}
 use Rattle.rowex_reading.specs.Ways.{IsWayOf}
@@ -147,3 +148,15 @@ returns-clause-same g c = λ e.
       c.unlock_last_node.ensures.same.0 ∙ (s.1 ∙ l.3),
       c.unlock_last_node.ensures.same.1 ∙ (s.2 ∙ l.2),
     )
+
+pub returns-then-not-lock_node-clause-spares : goal.returns-then-not-lock_node-clause-spares
+returns-then-not-lock_node-clause-spares g c = works_spare c.args.table.now g.G.Gate.becomes (c.args.seat.now, c.args.gate.now) (c.lock_node.new.seat, c.lock_node.new.gate) c.lock_node.ensures.tries
+
+pub returns-then-lock_target_above-clause-spares : goal.returns-then-lock_target_above-clause-spares
+returns-then-lock_target_above-clause-spares g c = λ was.
+    c.lock_target_above.ensures.spares (works_spare c.args.table.now g.G.Gate.becomes (c.args.seat.now, c.args.gate.now) (c.lock_node.new.seat, c.lock_node.new.gate) c.lock_node.ensures.tries was)
+
+pub returns-clause-spares : goal.returns-clause-spares
+returns-clause-spares g c = λ was.
+    works_spare c.args.table.now g.G.Gate.becomes (c.lock_target_above.new.seat, c.lock_target_above.new.gate) (c.unlock_last_node.new.seat, c.unlock_last_node.new.gate) c.unlock_last_node.ensures.works
+    (c.lock_target_above.ensures.spares (works_spare c.args.table.now g.G.Gate.becomes (c.args.seat.now, c.args.gate.now) (c.lock_node.new.seat, c.lock_node.new.gate) c.lock_node.ensures.tries was))

@@ -1,4 +1,5 @@
 -- A node of the way is locked, and its entry is looked at.
+use Rattle.rowex_writing.proofs.Spare.{goes_spare, works_spare}
 use Rattle.std.proofs.Common.{sym, ◌∙◌}
 use Rattle.publish_laws.proofs.Acting.{led_may_lock}
 use Rattle.rowex_writing.proofs.Locking.{seat_of}
@@ -84,3 +85,17 @@ returns-clause-same g c = λ e.
       c.unlock_last_node.ensures.same.0 ∙ (reads.goes.stays.2 ∙ l.3),
       c.unlock_last_node.ensures.same.1 ∙ (reads.own ∙ l.2),
     )
+
+pub returns-then-not-lock_node-clause-spares : goal.returns-then-not-lock_node-clause-spares
+returns-then-not-lock_node-clause-spares g c = works_spare c.args.table.now g.G.Gate.becomes (c.args.seat.now, c.args.gate.now) (c.lock_node.new.seat, c.lock_node.new.gate) c.lock_node.ensures.tries
+
+pub returns-then-entry_stands-clause-spares : goal.returns-then-entry_stands-clause-spares
+returns-then-entry_stands-clause-spares g c = λ was.
+    goes_spare c.args.table.now g.G.Gate.becomes (c.lock_node.new.seat, c.lock_node.new.gate) (c.entry_stands.new.seat, c.entry_stands.new.gate) c.entry_stands.ensures.reads.goes
+    (works_spare c.args.table.now g.G.Gate.becomes (c.args.seat.now, c.args.gate.now) (c.lock_node.new.seat, c.lock_node.new.gate) c.lock_node.ensures.tries was)
+
+pub returns-clause-spares : goal.returns-clause-spares
+returns-clause-spares g c = λ was.
+    works_spare c.args.table.now g.G.Gate.becomes (c.entry_stands.new.seat, c.entry_stands.new.gate) (c.unlock_last_node.new.seat, c.unlock_last_node.new.gate) c.unlock_last_node.ensures.works
+    (goes_spare c.args.table.now g.G.Gate.becomes (c.lock_node.new.seat, c.lock_node.new.gate) (c.entry_stands.new.seat, c.entry_stands.new.gate) c.entry_stands.ensures.reads.goes
+    (works_spare c.args.table.now g.G.Gate.becomes (c.args.seat.now, c.args.gate.now) (c.lock_node.new.seat, c.lock_node.new.gate) c.lock_node.ensures.tries was))

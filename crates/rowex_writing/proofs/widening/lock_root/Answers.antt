@@ -1,4 +1,5 @@
 -- The anchor is locked, and the root is looked at.
+use Rattle.rowex_writing.proofs.Spare.{act_spare, goes_spare, works_spare}
 use Rattle.std.proofs.Common.{sym, subst, ◌∙◌, arith}
 use Rattle.std.specs.Prelude.{IsSome}
 use Rattle.rowex_core.specs.declared.event.Act.TheVariants.{Unlock}
@@ -62,3 +63,17 @@ returns-clause-same g c = λ e.
 pub returns-clause-few : goal.returns-clause-few
 returns-clause-few g c =
     omega (arith, c.lock_anchor.ensures.few, c.root_stands.ensures.few, step_few c.args.table.now g.G.Gate.becomes (Unlock Anchor) (c.root_stands.new.seat, c.root_stands.new.gate) (c.unlock.new.seat, c.unlock.new.gate) c.unlock.ensures)
+
+pub returns-then-not-lock_anchor-clause-spares : goal.returns-then-not-lock_anchor-clause-spares
+returns-then-not-lock_anchor-clause-spares g c = works_spare c.args.table.now g.G.Gate.becomes (c.args.seat.now, c.args.gate.now) (c.lock_anchor.new.seat, c.lock_anchor.new.gate) c.lock_anchor.ensures.tries
+
+pub returns-then-root_stands-clause-spares : goal.returns-then-root_stands-clause-spares
+returns-then-root_stands-clause-spares g c = λ was.
+    goes_spare c.args.table.now g.G.Gate.becomes (c.lock_anchor.new.seat, c.lock_anchor.new.gate) (c.root_stands.new.seat, c.root_stands.new.gate) c.root_stands.ensures.reads.goes
+    (works_spare c.args.table.now g.G.Gate.becomes (c.args.seat.now, c.args.gate.now) (c.lock_anchor.new.seat, c.lock_anchor.new.gate) c.lock_anchor.ensures.tries was)
+
+pub returns-clause-spares : goal.returns-clause-spares
+returns-clause-spares g c = λ was.
+    act_spare c.args.table.now g.G.Gate.becomes (Unlock Anchor) (c.root_stands.new.seat, c.root_stands.new.gate) (c.unlock.new.seat, c.unlock.new.gate) tt c.unlock.ensures
+    (goes_spare c.args.table.now g.G.Gate.becomes (c.lock_anchor.new.seat, c.lock_anchor.new.gate) (c.root_stands.new.seat, c.root_stands.new.gate) c.root_stands.ensures.reads.goes
+    (works_spare c.args.table.now g.G.Gate.becomes (c.args.seat.now, c.args.gate.now) (c.lock_anchor.new.seat, c.lock_anchor.new.gate) c.lock_anchor.ensures.tries was))

@@ -1,4 +1,5 @@
 -- What names the upper node, and then the node beside the lower one.
+use Rattle.rowex_writing.proofs.Spare.{works_spare}
 use Rattle.std.proofs.Common.{sym, ◌∙◌}
 use Rattle.rowex_reading.proofs.Seeing.{later_trans}
 use Rattle.rowex_writing.proofs.Keeping.{step_nodes}
@@ -38,3 +39,8 @@ returns-clause-same g c = λ w.
       c.unlock_last_node.ensures.same.0 ∙ (gone.1 ∙ sym (w.taking.below.taken.locked.below w.taking.some)),
       c.unlock_last_node.ensures.same.1 ∙ c.unlock_target_above.ensures.own,
     )
+
+pub returns-clause-spares : goal.returns-clause-spares
+returns-clause-spares g c = λ was.
+    works_spare c.args.table.now g.G.Gate.becomes (c.unlock_target_above.new.seat, c.unlock_target_above.new.gate) (c.unlock_last_node.new.seat, c.unlock_last_node.new.gate) c.unlock_last_node.ensures.works
+    (works_spare c.args.table.now g.G.Gate.becomes (c.args.seat.now, c.args.gate.now) (c.unlock_target_above.new.seat, c.unlock_target_above.new.gate) c.unlock_target_above.ensures.works was)

@@ -9,4 +9,4 @@ invariant_of-pass g c =
     c.retry_change-answer.ensures.replied c.note_answer.ensures c.pass.invariant
 
 pub returns : goal.returns
-returns g c = awaited_seen c.self.view_is c.pass.view_is c.retry_change-answer.ensures.replied c.retry_change-answer.ensures.stepped c.retry_change-answer.ensures.tries
+returns g c = awaited_seen c.self.view_is c.pass.view_is c.retry_change-answer.ensures.replied c.retry_change-answer.ensures.stepped c.retry_change-answer.ensures.tries c.retry_change-answer.ensures.spares c.retry_change-answer.ensures.room

@@ -9,4 +9,4 @@ invariant_of-pass g c =
     c.try_change-answer.ensures.asked.replied c.note_answer.ensures c.pass.invariant
 
 pub returns : goal.returns
-returns g c = tried_seen c.self.view_is c.pass.view_is c.try_change-answer.ensures.asked c.try_change-answer.ensures.few
+returns g c = tried_seen c.self.view_is c.pass.view_is c.try_change-answer.ensures.asked c.try_change-answer.ensures.few c.try_change-answer.ensures.spares c.try_change-answer.ensures.room

@@ -1,0 +1,88 @@
+#!/usr/bin/env python3
+"""Counts the instructions of calls from Python and of statements of SQLite, by valgrind's callgrind, beside a SortedDict (of sortedcontainers)
+and beside an ordinary table in memory. `bench/run bindings` builds the module and the table, and runs it.
+
+usage: bench/run bindings [KEYS]      on so many keys of 12 characters, 12,000 or more (20,000)
+
+A run of 2,000 calls is subtracted from one of 12,000, and what the loop itself takes from both. How busy the machine is changes nothing.
+"""
+import re
+import subprocess
+import sys
+import tempfile
+from pathlib import Path
+
+FEW, MANY = 2_000, 12_000
+
+# The calls from Python: a loop over them has the keys that are there, and others.
+PYTHON = {"": "pass", "get": "m[k]", "set of a held key": "m[k] = 1", "insert": "m[n] = 1", "removal": "del m[k]"}
+MAPS = {"hot": "from hot import SortedMap as Map", "SortedDict": "from sortedcontainers import SortedDict as Map"}
+PROGRAM = """
+{of}
+keys = [f"key{{i * 7919 % 1000003:09}}" for i in range({keys})]
+m = Map()
+for i, k in enumerate(keys): m[k] = i
+new = [f"new{{k[3:]}}" for k in keys]
+for k, n in zip(keys[:{calls}], new): {call}
+"""
+
+# The statements of SQLite, over the first numbers; the first one is all that the others have around their calls.
+KEY, NEW = ["printf('%s%%09d', x * 7919 %% 1000003)" % it for it in ("key", "new")]
+SQL = {
+    "": f"SELECT count({KEY}) FROM n",
+    "look-up": f"SELECT count((SELECT value FROM t WHERE key = {KEY})) FROM n",
+    "new value of a held key": f"INSERT OR REPLACE INTO t SELECT {KEY}, x + 1 FROM n",
+    "insert": f"INSERT INTO t SELECT {NEW}, x FROM n",
+    "removal": f"DELETE FROM t WHERE key IN (SELECT {KEY} FROM n)",
+    "row of a range": f"SELECT sum(value) FROM (SELECT value FROM t WHERE key >= 'key' LIMIT (SELECT count({KEY}) FROM n))",
+}
+TABLES = {"hot": "VIRTUAL TABLE t USING hot(keys=100000, longest=12)", "ordinary": "TABLE t(key TEXT PRIMARY KEY, value INTEGER) WITHOUT ROWID"}
+NUMBERS = "WITH RECURSIVE n(x) AS (SELECT 0 UNION ALL SELECT x + 1 FROM n LIMIT {})"
+
+
+def counted(*command: str) -> int:
+    """How many instructions a command takes."""
+    with tempfile.NamedTemporaryFile() as file:
+        run = ["valgrind", "--tool=callgrind", f"--callgrind-out-file={file.name}", *command]
+        said = subprocess.run(run, capture_output=True, text=True, check=False)
+    found = re.search(r"Collected : (\d+)", said.stderr)
+    if said.returncode or not found:
+        sys.exit(f"bindings: a run failed\n{said.stdout}{said.stderr}")
+    return int(found[1])
+
+
+def each(command) -> float:
+    """The instructions of one call, of the commands that make so many of them."""
+    return (counted(*command(MANY)) - counted(*command(FEW))) / (MANY - FEW)
+
+
+def python(of: str, keys: int, call: str):
+    """The command that makes so many calls from Python."""
+    return lambda calls: [sys.executable, "-c", PROGRAM.format(of=of, keys=keys, calls=calls, call=call)]
+
+
+def sql(folder: Path, table: str, keys: int, statement: str):
+    """The command that runs a statement of SQLite over so many numbers."""
+    first = [f".load {folder}/hot_table.so", f"CREATE {table};", f"{NUMBERS.format(keys)} INSERT INTO t SELECT {KEY}, x FROM n;"]
+    return lambda calls: ["sqlite3", "-batch", "-bail", ":memory:", *first, f"{NUMBERS.format(calls)} {statement};"]
+
+
+def show(title: str, kinds: dict, sides: dict, command) -> None:
+    """Writes the instructions of each kind of calls, without the loop around them."""
+    print(f"{title:<28}" + "".join(f"{side:>12}" for side in sides), flush=True)
+    around = {side: each(command(of, kinds[""])) for side, of in sides.items()}
+    for kind, call in kinds.items():
+        if kind:
+            print(f"{kind:<28}" + "".join(f"{each(command(of, call)) - around[side]:>12.0f}" for side, of in sides.items()), flush=True)
+
+
+def main() -> None:
+    folder, keys = Path(sys.argv[1]), int(sys.argv[2]) if len(sys.argv) > 2 else 20_000
+    if keys < MANY:
+        sys.exit(f"bindings: {MANY:,} keys or more")
+    show("Python", PYTHON, MAPS, lambda of, call: python(of, keys, call))
+    show("SQLite", SQL, TABLES, lambda of, statement: sql(folder, of, keys, statement))
+
+
+if __name__ == "__main__":
+    main()

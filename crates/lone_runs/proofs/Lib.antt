@@ -1,0 +1,5 @@
+-- The lemmas of the crate.
+pub mod Fates
+pub mod Lone
+pub mod Published
+pub mod Timely
