@@ -1,7 +1,7 @@
 //! Rounds of collection: records that no pinned pass can reach are given back.
 
 ghost use Rattle.std.specs.Prelude.{◌≡◌, ◌≢◌, ℕ, ◌+◌, ◌^◌, ◌<◌, ◌≤◌, List, None, true, false, length, min, if◌then◌else◌, MatchOption};
-ghost use Rattle.record_words.specs.declared.state.Tag.TheVariants.{Obsolete};
+ghost use Rattle.record_words.specs.declared.state.Tag.TheVariants.{Free as FreeTag, Obsolete};
 ghost use Rattle.record_words.specs.Layout.{leaf_size};
 ghost use Rattle.record_words.specs.State.{state_word};
 ghost use Rattle.versions.specs.declared.Rec.TheVariants.{Node as a_node, Leaf as a_leaf};
@@ -9,7 +9,7 @@ ghost use Rattle.rowex_core.specs.Cores.{HasRecord};
 ghost use Rattle.rowex_table.specs.Rule.{IsStartOf};
 ghost use Rattle.rowex_table.specs.Seats.{IsSeatOf};
 ghost use Rattle.epochs.specs.Rounds.{AdvancesEpoch, BeginsRound, FindsBound, HasBound, IsRound, IsSmallRound, VisitsAll, GoesOnVisiting, VisitsOne, VisitsSome, is_given};
-ghost use Rattle.epochs.specs.declared.collection.Visited.TheVariants.{Waits};
+ghost use Rattle.epochs.specs.declared.collection.Visited.TheVariants.{Free, Waits};
 
 use crate::limbo::{Limbo, MOST_VISITED};
 use record_words::{EPOCHS, Layout, Tag, read_obsolete_epoch, unpack_state};
@@ -29,8 +29,10 @@ pub struct Given {
 pub struct Collected {
     /// How many records it gave back.
     pub given: Given,
-    /// Whether it saw a retired record that was not to be given back yet, since a pass may still reach it.
-    pub held_back: bool,
+    /// Whether it found a node record free already.
+    pub found_free_node: bool,
+    /// Whether it found a leaf record free already.
+    pub found_free_leaf: bool,
 }
 
 /// What a visit of a record came to.
@@ -40,6 +42,8 @@ pub enum Visited {
     Given,
     /// The record is retired, in an epoch that isn't below the bound of the round.
     Waits,
+    /// The record is free already.
+    Free,
     /// The record is in another state.
     Other,
 }
@@ -48,7 +52,7 @@ pub enum Visited {
 #[derive(Clone, Copy)]
 struct Tally {
     given: u32,
-    held_back: bool,
+    found_free: bool,
 }
 
 /// The least state word of a retired record, that of epoch 1.
@@ -57,11 +61,11 @@ const LEAST_OBSOLETE: u64 = 12;
 /// The tally of no visits.
 const NO_VISITS: Tally = Tally {
     given: 0,
-    held_back: false,
+    found_free: false,
 };
 
 /// Makes a full round: makes the epoch the next one, and gives back each record retired in an epoch below this one and below each set pin.
-/// Returns how many these were, and whether a retired one was held back. The pass has no pin.
+/// Returns how many these were, and whether others were free already. The pass has no pin.
 ///
 /// At the last epoch, 2^60 - 1, the epoch stays, and what is below it is still given back.
 pub fn collect_round<G: Gate>(table: &HotTable, seat: &mut TableSeat, gate: &mut G) -> Collected
@@ -78,7 +82,8 @@ pub fn collect_round<G: Gate>(table: &HotTable, seat: &mut TableSeat, gate: &mut
             nodes: nodes.given,
             leaves: leaves.given,
         },
-        held_back: nodes.held_back | leaves.held_back,
+        found_free_node: nodes.found_free,
+        found_free_leaf: leaves.found_free,
     }
 }
 
@@ -151,8 +156,8 @@ fn bound_with_pin(bound: u64, word: u64) -> u64
     if word == 0 { bound } else { bound.min(word) }
 }
 
-/// Visits each node record, in the order of their numbers. Returns how many it gave back, and whether one has to wait. `bound` is the bound
-/// of the round.
+/// Visits each node record, in the order of their numbers. Returns how many it gave back, and whether one was free. `bound` is the bound of
+/// the round.
 fn visit_node_records<G: Gate>(
     table: &HotTable,
     seat: &mut TableSeat,
@@ -173,8 +178,8 @@ fn visit_node_records<G: Gate>(
     tally
 }
 
-/// Visits each leaf record, in the order of their numbers. Returns how many it gave back, and whether one has to wait. `bound` is the bound
-/// of the round.
+/// Visits each leaf record, in the order of their numbers. Returns how many it gave back, and whether one was free. `bound` is the bound of
+/// the round.
 fn visit_leaf_records<G: Gate>(
     table: &HotTable,
     seat: &mut TableSeat,
@@ -234,19 +239,19 @@ fn visit_class<G: Gate>(
 fn count_visit(tally: Tally, seen: Visited) -> Tally
     requires { tally.given + 1 < 2 ^ 32 }
     ensures given { result.given ≡ tally.given + (if is_given seen then 1 else 0) }
-    ensures waits { seen ≡ Waits → result.held_back ≡ true }
-    ensures held_back { seen ≢ Waits → result.held_back ≡ tally.held_back }
+    ensures free { seen ≡ Free → result.found_free ≡ true }
+    ensures others { seen ≢ Free → result.found_free ≡ tally.found_free }
 {
     match seen {
         Visited::Given => Tally {
             given: tally.given + 1,
-            held_back: tally.held_back,
+            found_free: tally.found_free,
         },
-        Visited::Waits => Tally {
+        Visited::Free => Tally {
             given: tally.given,
-            held_back: true,
+            found_free: true,
         },
-        Visited::Other => tally,
+        Visited::Waits | Visited::Other => tally,
     }
 }
 
@@ -342,13 +347,16 @@ fn outcome_of_try(given: bool) -> Visited
     }
 }
 
-/// What a visit came to of a record with the state `word`, not to be given back: `Waits` if it is obsolete, else `Other`.
+/// What a visit came to of a record with the state `word`, not to be given back: `Waits` if it is obsolete, `Free` if it is free, else
+/// `Other`.
 fn outcome_of_state(word: u64) -> Visited
     ensures given { is_given result ≡ false }
     ensures waits { (epoch : ℕ) → 1 ≤ epoch → epoch < EPOCHS → word ≡ state_word (Obsolete epoch) → result ≡ Waits }
+    ensures free { word ≡ state_word FreeTag → result ≡ Free }
 {
     match unpack_state(word) {
         Ok(Tag::Obsolete(_)) => Visited::Waits,
+        Ok(Tag::Free) => Visited::Free,
         _ => Visited::Other,
     }
 }

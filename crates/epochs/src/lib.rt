@@ -30,7 +30,7 @@
 //! The limbo list promises nothing: before a record is given back, its state is loaded and exchanged.
 //!
 //! A pass that is stopped while it is pinned holds back what others retire from then on, and nothing else: nobody waits for it
-//! here. Whoever needs records learns by [`Collected`] that some were held back.
+//! here. Whoever needs records learns by [`Collected`] whether a round gave some back, or found some free.
 #![tactic(auto)]
 
 mod collection;

@@ -23,7 +23,7 @@ ghost use Rattle.hot_index_calls.specs.Traces.{AreAttempts, AreTries, HasStepped
 use crate::census::count_records;
 use crate::refusals::{Refusal, count_node_records, final_refusal, judge_lack, lack_of};
 use crate::scratch::Scratch;
-use epochs::{Given, collect_round, collect_small_round, pin, unpin};
+use epochs::{Collected, Given, collect_round, collect_small_round, pin, unpin};
 use finite_map::{Call, Reply};
 use rowex_core::Gate;
 use rowex_table::{HotTable, TableSeat};
@@ -66,8 +66,8 @@ fn collect_due<G: Gate>(table: &HotTable, seat: &mut TableSeat, gate: &mut G, sc
 }
 
 /// Tries to make the change `call`. If no record was free, it makes a full round of collection and tries once more. Returns the reply, or
-/// why the last attempt was refused. If the round gave back no record of the kind, and there is no other pass, the second attempt does
-/// nothing, and the refusal is the first one's. `scratch.build.made` lists what it had claimed, if no record was free.
+/// why the last attempt was refused. If the round gave back no record of the kind, and found none free or there is no other pass, the second
+/// attempt does nothing, and the refusal is the first one's. `scratch.build.made` lists what it had claimed, if no record was free.
 fn try_twice<G: Gate>(
     table: &HotTable,
     seat: &mut TableSeat,
@@ -89,8 +89,9 @@ fn try_twice<G: Gate>(
     let round = collect_round(table, seat, gate);
     let passes = table.layout().passes;
     let count = given_count(round.given, lacks);
+    let found = has_found_free(round, lacks);
     scratch.reset_skips();
-    if may_find_free_record(passes, count, is_removal(call)) {
+    if may_find_free_record(passes, count, found, is_removal(call)) {
         return make_attempt(table, seat, gate, scratch, call);
     }
     pin_and_unpin(table, seat, gate);
@@ -120,13 +121,25 @@ fn given_count(given: Given, kind: Full) -> u32
     }
 }
 
+/// Whether a round found a record of the kind `kind` free already.
+fn has_found_free(round: Collected, kind: Full) -> bool
+    ensures nodes { kind ≡ Nodes → result ≡ round.found_free_node }
+    ensures leaves { kind ≡ Leaves → result ≡ round.found_free_leaf }
+{
+    match kind {
+        Full::Nodes => round.found_free_node,
+        Full::Leaves => round.found_free_leaf,
+    }
+}
+
 /// Whether a record of a kind may be free after a round that gave back `given` of it, in an index of `passes` passes. It may be one of
-/// these, or one that another pass gave back meanwhile; or the one that is left for removals, if the call `removes` a key.
-fn may_find_free_record(passes: u32, given: u32, removes: bool) -> bool
-    ensures may { IsTrue result ↔ ((1 < passes) ⊎ (0 < given) ⊎ IsTrue removes) }
+/// these. Where the round `found` one free, it may be one that another pass gave back meanwhile. If the call `removes` a key, it may be the
+/// one that is left for removals.
+fn may_find_free_record(passes: u32, given: u32, found: bool, removes: bool) -> bool
+    ensures may { IsTrue result ↔ (((1 < passes) × IsTrue found) ⊎ (0 < given) ⊎ IsTrue removes) }
     ensures not { result ≡ false → removes ≡ false }
 {
-    passes > 1 || given > 0 || removes
+    passes > 1 && found || given > 0 || removes
 }
 
 /// Whether `call` removes a key.
