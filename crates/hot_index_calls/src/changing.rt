@@ -67,7 +67,8 @@ fn collect_due<G: Gate>(table: &HotTable, seat: &mut TableSeat, gate: &mut G, sc
 
 /// Tries to make the change `call`. If no record was free, it makes a full round of collection and tries once more. Returns the reply, or
 /// why the last attempt was refused. If the round gave back no record of the kind, and found none free or there is no other pass, the second
-/// attempt does nothing, and the refusal is the first one's. `scratch.build.made` lists what it had claimed, if no record was free.
+/// attempt does nothing, and the refusal is the first one's; not so where the call removes a key. `scratch.build.made` lists what it had
+/// claimed, if no record was free.
 fn try_twice<G: Gate>(
     table: &HotTable,
     seat: &mut TableSeat,
