@@ -1,7 +1,8 @@
-/* Times the memory alone that a call takes: in a table that is laid out as hot_create's, with nodes of 22 entries whose records and leaves
- * lie in no order, a loop in C makes the loads and the sequentially consistent stores of each call, in turn as the call needs them, and
- * nothing else. It compares no keys and gathers no bits, and of a scan's pairs it writes the bytes once. The second time is with plain
- * stores. The third, where the processor has AVX2, is with the search of each node by hand. `bench/run floor` builds and runs it. */
+/* Times the memory alone that a call takes: in a table that is laid out as hot_create's, with nodes of 22 entries and narrow heads whose
+ * records and leaves lie in no order, a loop in C makes the loads and the sequentially consistent stores of each call, in turn as the call
+ * needs them, and nothing else. It compares no keys and gathers no bits, and of a scan's pairs it writes the bytes once. The second time is
+ * with plain stores. The third, where the processor has AVX2, is with the search of each node by hand. `bench/run floor` builds and runs
+ * it. */
 #include "keys.h"
 #include <pthread.h>
 #include <stdint.h>
@@ -12,14 +13,16 @@ static uint64_t load(const uint64_t *word)
 {
     return __atomic_load_n(word, __ATOMIC_SEQ_CST);
 }
-enum { ROWS_FROM = 10, HEAD_END = 26 };
+enum { NUMBERS = 1, NARROW_ROWS_FROM = 4, HEAD_END = 26, NARROW = 1 };
 #endif
 
 /* Words of the table: those of the epoch, the root and the anchor, of a pin, of a node's record and of a leaf's. */
 enum { FRONT = 48, PIN = 16, NODE = 58, LEAF = 33 };
 
-/* What a node has: so many entries, words with its numbers and the positions of its columns, and words with sparse partial keys. */
-enum { ENTRIES = 22, NUMBERS_AND_COLUMNS = 7, ROWS = 11 };
+/* What a node has: so many entries, words with its numbers and columns, and words with sparse partial keys; and the word behind those that
+ * a search loads. The numbers are of a narrow head with 8 columns, and of 32 entries, of which the last complies. */
+enum { ENTRIES = 22, NUMBERS_AND_COLUMNS = 3, ROWS = 3, SEARCHED_END = 8 };
+static const uint64_t numbers_of_each = 32 + (8 << 8) + ((uint64_t)NARROW << 40);
 
 /* The most levels of nodes, the spare records of each kind, which changes take by turns (but an insert takes leaf records that none has
  * used for long), pairs of a scan, threads, and repetitions. */
@@ -95,6 +98,9 @@ static void plant(void)
     for (at = 0; at < 2 * keys + SPARE; at++) {
         leaf_at(at)[2] = 8 * key_words;
     }
+    for (at = 0; at < all_nodes + SPARE; at++) {
+        node_at(at)[NUMBERS] = numbers_of_each;
+    }
     record = mixed_up(all_nodes, 2);
     for (up = 0; up < depth; record += count[up++]) {
         here = depth - 1 - up;
@@ -106,18 +112,18 @@ static void plant(void)
     }
 }
 
-/* Loads the words of a node's head, of which each is 0: so it gives 0. */
+/* Loads the words of a node's head that tell how it is searched, of which each is 0 but the numbers: it gives 0. */
 static uint64_t load_head(const uint64_t *node)
 {
-    uint64_t some = 0;
+    uint64_t some = load(node + NUMBERS) ^ numbers_of_each;
     int word;
-    for (word = 1; word < HEAD_END; word++) {
+    for (word = NUMBERS + 1; word < SEARCHED_END; word++) {
         some |= load(node + word);
     }
     return some;
 }
 
-/* Searches a node, of which each word of the head is 0. So the last sparse partial key complies, and it gives 0. */
+/* Searches a node, whose sparse partial keys are 0. So the last one complies, and it gives 0. */
 static uint64_t found_beyond(const uint64_t *node, const uint8_t *sought)
 {
 #ifdef __AVX2__
@@ -200,7 +206,7 @@ static uint64_t make_node(uint64_t *made, const uint64_t *old)
     store(made, 1);
     for (word = 1; word < NODE; word++) {
         uint64_t value = load(old + word);
-        if (word <= NUMBERS_AND_COLUMNS || (word >= ROWS_FROM && word < ROWS_FROM + ROWS) || (word >= HEAD_END && word < HEAD_END + ENTRIES)) {
+        if (word <= NUMBERS_AND_COLUMNS || (word >= NARROW_ROWS_FROM && word < NARROW_ROWS_FROM + ROWS) || (word >= HEAD_END && word < HEAD_END + ENTRIES)) {
             store(made + word, value);
         } else {
             some |= load(made + word) ^ value;
