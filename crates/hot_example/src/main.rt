@@ -1,60 +1,90 @@
 //! How the index is used: two threads fill it at the same time, their passes meet, and several kinds of calls find what both wrote.
 #![tactic(auto)]
 
-ghost use Rattle.std.specs.Prelude.{◌≡◌};
+ghost use Rattle.std.specs.Prelude.{◌≡◌, ℕ, [], ◌∷◌, IfSome, Some, length, slice_get};
+ghost use Rattle.finite_map.specs.declared.Call.TheVariants.{Insert};
+ghost use Rattle.hot_index_calls.specs.Passes.{IsNewPass, Owns, PassView};
+ghost use Rattle.hot_example.specs.Ended.{HasAsked, HaveEnded};
 
-use hot_index::{Cursor, Handle, Index, IndexFault, Key, Pairs, create, total};
+use hot_index::{Cursor, Handle, Index, IndexFault, Key, Pairs, Pass, create, total};
 use std::io;
 use std::io::ErrorKind;
 use std::sync::Wait;
 use std::thread::{Threads, join};
 
-/// Inserts `one` and then `two`, each a word with its value, by the calls of `handle`. Returns the handle.
+/// Inserts the key `one` and then `two`, each with its value, by the calls of `handle`. A key that has a value already keeps it. One is
+/// left out if no record is free. Returns the handle.
 fn put_both<'a, R: Wait>(
     rt: &R,
     mut handle: Handle<&'a Index>,
-    one: (&str, u64),
-    two: (&str, u64),
+    one: (&Key, u64),
+    two: (&Key, u64),
 ) -> Handle<&'a Index>
-    ensures { result.index ≡ handle.entry.index }
+    ensures index { result.index ≡ handle.entry.index }
+    ensures asked { (q : ℕ) → IsNewPass q handle.entry.pass → HasAsked q (Insert one.entry.0.now one.entry.1 ∷ Insert two.entry.0.now two.entry.1 ∷ []) result }
 {
-    put_word(rt, &mut handle, one.0, one.1);
-    put_word(rt, &mut handle, two.0, two.1);
+    // The handle is opened: its pass belongs to its index.
+    let _pass = &handle.pass;
+    let _ = handle.insert(rt, one.0, one.1);
+    let _ = handle.insert(rt, two.0, two.1);
     handle
 }
 
-/// Inserts `word` with `value`. If it has a value already, that stays. A word is left out if it is too long for a key, or no record is
-/// free.
-fn put_word<R: Wait>(rt: &R, handle: &mut Handle<&Index>, word: &str, value: u64)
-    ensures { handle.new.index ≡ handle.old.index }
+/// Inserts keys by two threads, each with the handle of a new pass: `ash` and `oak` by the first, `oak` and `yew` by the second. Then it lets
+/// these passes meet, which are all of the index, and returns the handles. Their calls have ended in one run, and so are linearizable.
+fn fill_together<'a, R: Threads + Wait + Sync>(
+    rt: &R,
+    first: Handle<&'a Index>,
+    second: Handle<&'a Index>,
+    ash: &Key,
+    oak: &Key,
+    yew: &Key,
+) -> (Handle<&'a Index>, Handle<&'a Index>)
+    requires index { second.index ≡ first.index }
+    requires alone { first.index.layout.passes ≡ 2 }
+    requires first { IsNewPass 0 first.pass }
+    requires second { IsNewPass 1 second.pass }
+    ensures { HaveEnded first.entry.index (Insert ash.now 1 ∷ Insert oak.now 2 ∷ []) (Insert oak.now 3 ∷ Insert yew.now 4 ∷ []) result.0 result.1 }
 {
-    if let Ok(key) = key(word) {
-        let _ = handle.insert(rt, &key, value);
-    }
-}
-
-/// Fills an index by two threads, lets their passes meet, and prints what they find. An error if memory is refused, or a write failed.
-fn run_example<R: Threads + Wait + AllocGlobal + Print + Sync>(rt: &R) -> io::Result<()> {
-    // Two passes, 64 node records and 1,024 leaf records.
-    let (index, mut passes) = create(rt.alloc(), 2, 64, 1024).map_err(as_error)?;
-    let (Some(second), Some(first)) = (passes.pop(), passes.pop()) else {
-        return Ok(());
-    };
-
     // Each thread has a handle of its own: a pass, at the index.
-    let (first, second) = (Handle::new(&index, first), Handle::new(&index, second));
     let (first, second) = join(
         rt,
         || -> Handle<&Index>
-            ensures { result.index ≡ first.entry.index }
-        { put_both(rt, first, ("ash", 1), ("oak", 2)) },
+            ensures index { result.index ≡ first.entry.index }
+            ensures asked { (q : ℕ) → IsNewPass q first.entry.pass → HasAsked q (Insert ash.entry.now 1 ∷ Insert oak.entry.now 2 ∷ []) result }
+        { put_both(rt, first, (ash, 1), (oak, 2)) },
         || -> Handle<&Index>
-            ensures { result.index ≡ second.entry.index }
-        { put_both(rt, second, ("oak", 3), ("yew", 4)) },
+            ensures index { result.index ≡ second.entry.index }
+            ensures asked { (q : ℕ) → IsNewPass q second.entry.pass → HasAsked q (Insert oak.entry.now 3 ∷ Insert yew.entry.now 4 ∷ []) result }
+        { put_both(rt, second, (oak, 3), (yew, 4)) },
     );
 
     // Once they have met, each has seen what both wrote; the first insert of a key stays.
-    let (mut first, second) = first.meet(second);
+    first.meet(second)
+}
+
+/// The two passes of a new index, `passes`, in their order. Contracts name the index; the code doesn't read it.
+fn take_both(_index: &Index, mut passes: Vec<Pass>) -> Option<(Pass, Pass)>
+    requires count { length passes.items ≡ 2 }
+    requires each { (q : ℕ) (p : PassView) → slice_get passes.items q ≡ Some p → Owns _index.now p × IsNewPass q p }
+    ensures first { IfSome result (λ both. Owns _index.now both.0 × IsNewPass 0 both.0) }
+    ensures second { IfSome result (λ both. Owns _index.now both.1 × IsNewPass 1 both.1) }
+{
+    let second = passes.pop()?;
+    let first = passes.pop()?;
+    Some((first, second))
+}
+
+/// Fills an index by two threads, and prints what they find. An error if memory is refused, or a write failed.
+fn run_example<R: Threads + Wait + AllocGlobal + Print + Sync>(rt: &R) -> io::Result<()> {
+    // Two passes, 64 node records and 1,024 leaf records.
+    let (index, passes) = create(rt.alloc(), 2, 64, 1024).map_err(as_error)?;
+    let Some((first, second)) = take_both(&index, passes) else {
+        return Ok(());
+    };
+    let (ash, oak, yew) = (key("ash")?, key("oak")?, key("yew")?);
+    let (first, second) = (Handle::new(&index, first), Handle::new(&index, second));
+    let (mut first, second) = fill_together(rt, first, second, &ash, &oak, &yew);
     let counts = [first.count(), second.count()];
     print_reads(rt, &mut first, total(&counts))
 }

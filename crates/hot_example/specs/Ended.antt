@@ -1,0 +1,30 @@
+-- What the passes of the example have asked, and that their calls have ended in one run.
+use Rattle.std.specs.Prelude.{◌≡◌, ℕ, List, [], ◌∷◌, ◌++◌}
+use Rattle.finite_map.specs.declared.Call.{Call}
+use Rattle.hot_index.specs.Handles.{HandleView}
+use Rattle.hot_index.specs.Stamps.{HasSeenMore}
+use Rattle.hot_index_calls.specs.Passes.{pass_of}
+use Rattle.index_laws.specs.Joined.{HasDone, HaveEndedInOneRun, of_two}
+use Rattle.real_time.specs.Moments.{Happening, invokes}
+use Rattle.rowex_table.specs.Seats.{SeatView, TableView}
+
+-- the calls of the map that are asked, in order
+abbrev pub asked_in : List Happening → List Call
+asked_in [] = []
+asked_in (invokes q calls ∷ happenings) = calls ++ asked_in happenings
+asked_in (happening ∷ happenings) = asked_in happenings
+
+-- Since it was new, pass q, which is the handle's, has asked these calls, and each has ended.
+abbrev pub HasAsked : ℕ → List Call → HandleView → Type 0
+HasAsked q asked handle = (done : List Happening) × HasDone handle.index q done handle.pass.seat × (asked_in done ≡ asked)
+
+-- Passes 0 and 1 of the index, which has no other, have asked these calls, and each has ended. Then they have met, and are these. Their calls
+-- have ended in the run of which both know now: so they are an execution, and linearizable (`OneRunIsAnExecution`).
+pub record HaveEnded (index : TableView) (asked asked_too : List Call) (first second : HandleView) : Type 0 where
+  pub ours : List Happening
+  pub theirs : List Happening
+  pub one : SeatView
+  pub other : SeatView
+  pub ended : HaveEndedInOneRun index first.pass.seat.trace (of_two ours theirs) (of_two one other)
+  pub calls : (asked_in ours ≡ asked) × (asked_in theirs ≡ asked_too)
+  pub met : HasSeenMore (pass_of one) first.pass × HasSeenMore (pass_of other) second.pass
