@@ -66,7 +66,7 @@ fn plain_position(words: &[u64; NODE_FIELDS], kind: Kind, j: usize) -> u16
             bit = o;
         }
     }
-    (9 * (first + (index >> low & 0xff)) + bit) as u16
+    ((9 * (first + (index >> low & 0xff))).wrapping_add(bit) & 0xffff) as u16
 }
 
 /// The row of slot `i` of the head with `words`, whose kind is `kind`, as the layout tells it.
@@ -80,8 +80,9 @@ fn plain_row(words: &[u64; NODE_FIELDS], kind: Kind, i: usize) -> u32
     }
 }
 
-/// The slot that the words of a head lead to by `key`.
-fn search_words(words: &[u64; NODE_FIELDS], key: &Key) -> u8 {
+/// The slot that the words of the head of `node` lead to by `key`.
+fn search_words(node: &Node, key: &Key) -> u8 {
+    let words = pack_node(node);
     match read_numbers(words[0]).kind {
         Kind::Wide => {
             let mut front = [0; FIRST_ROWS];
@@ -136,7 +137,9 @@ fn expect_words(rt: &impl Abort, words: &[u64; NODE_FIELDS], node: &Node, want: 
     for index in want.head_words()..HEAD_WORDS {
         assert!(rt; words[index] == u64::MAX, "unused word {index}");
     }
-    let read = read_node(words);
+    let packed = pack_node(node);
+    assert!(rt; packed == *words);
+    let read = read_node(&packed);
     assert!(rt; *read.columns().padded_positions() == *columns.padded_positions());
     assert!(rt; *read.padded_rows() == *node.padded_rows());
 }
@@ -146,10 +149,10 @@ fn long_key(rt: &impl Abort, seed: u8, length: usize) -> Key {
     let mut bytes = [0; 240];
     let mut state = seed as u32;
     for i in 0..240 {
-        state = (state * 75 + 74) % 65_537;
+        state = state.wrapping_mul(75).wrapping_add(74) % 65_537;
         bytes[i] = (state / 7 % 256) as u8;
     }
-    key(rt, &bytes[..length])
+    key(rt, &bytes[..length.min(240)])
 }
 
 /// A head takes the kind of its columns, and each function that reads or searches its words agrees with the node.
@@ -167,7 +170,7 @@ fn heads_take_the_kind_of_their_columns(rt: HostRuntime) {
             for seed in 1..9 {
                 let key = long_key(&rt, seed, length);
                 assert!(rt;
-                    search_words(&words, &key) == node.search(&key),
+                    search_words(&node, &key) == node.search(&key),
                     "key {seed} of {length}"
                 );
             }
