@@ -1,11 +1,13 @@
 /* What of the library for C is written in C, and tested: the texts of statuses, scans of a prefix, pairs that are handed over one by
  * one, calls for many keys, an index that opens its handles one by one, and the calls that wait: the proved library may neither wait
  * nor yield, so it says when to try again, and the wait is here. */
+#define _POSIX_C_SOURCE 199309L
 #include "hot.h"
 #include "heap.h"
 #include <sched.h>
 #include <stdlib.h>
 #include <string.h>
+#include <time.h>
 
 /* The proved calls of which c/object changes the names: there `had` is never NULL, and a handle is closed for good. Two of them are used
  * here alone: one opens a handle of a new index, which keeps the passes of the others, and one opens the next of these. */
@@ -283,52 +285,68 @@ hot_status hot_try_remove_if(hot_handle *handle, const uint8_t *key, size_t leng
     return counted(handle, proved_try_remove_if(handle, key, length, expected, had ? had : &unread));
 }
 
-/* Whether a change is to be tried again, once other threads have run: another call is in its way, or holds records back. */
-static int is_to_wait(hot_status status) {
-    int waits = status == HOT_BUSY || status == HOT_HELD_BACK;
-    if (waits)
+/* Whether a change is to be tried again. Where another call is in its way, other threads run first. Where records are held back, each try
+ * goes through all of them in vain until that call has gone on: so this thread sleeps first, 50 microseconds, and twice as long each time,
+ * up to 1.6 milliseconds. `sleeps` counts how often it has slept. */
+static int is_to_wait(hot_status status, unsigned *sleeps) {
+    struct timespec time = {0, 50000};
+    if (status == HOT_BUSY) {
         sched_yield();
-    return waits;
+        return 1;
+    }
+    if (status != HOT_HELD_BACK)
+        return 0;
+    time.tv_nsec <<= *sleeps;
+    if (*sleeps < 5)
+        ++*sleeps;
+    nanosleep(&time, NULL);
+    return 1;
 }
 
 hot_status hot_insert(hot_handle *handle, const uint8_t *key, size_t length, uint64_t value, uint64_t *had) {
+    unsigned sleeps = 0;
     hot_status status;
-    while (is_to_wait(status = hot_try_insert(handle, key, length, value, had)))
+    while (is_to_wait(status = hot_try_insert(handle, key, length, value, had), &sleeps))
         ;
     return status;
 }
 
 hot_status hot_upsert(hot_handle *handle, const uint8_t *key, size_t length, uint64_t value, uint64_t *had) {
+    unsigned sleeps = 0;
     hot_status status;
-    while (is_to_wait(status = hot_try_upsert(handle, key, length, value, had)))
+    while (is_to_wait(status = hot_try_upsert(handle, key, length, value, had), &sleeps))
         ;
     return status;
 }
 
 hot_status hot_remove(hot_handle *handle, const uint8_t *key, size_t length, uint64_t *had) {
+    unsigned sleeps = 0;
     hot_status status;
-    while (is_to_wait(status = hot_try_remove(handle, key, length, had)))
+    while (is_to_wait(status = hot_try_remove(handle, key, length, had), &sleeps))
         ;
     return status;
 }
 
 hot_status hot_exchange(hot_handle *handle, const uint8_t *key, size_t length, uint64_t expected, uint64_t value, uint64_t *had) {
+    unsigned sleeps = 0;
     hot_status status;
-    while (is_to_wait(status = hot_try_exchange(handle, key, length, expected, value, had)))
+    while (is_to_wait(status = hot_try_exchange(handle, key, length, expected, value, had), &sleeps))
         ;
     return status;
 }
 
 hot_status hot_remove_if(hot_handle *handle, const uint8_t *key, size_t length, uint64_t expected, uint64_t *had) {
+    unsigned sleeps = 0;
     hot_status status;
-    while (is_to_wait(status = hot_try_remove_if(handle, key, length, expected, had)))
+    while (is_to_wait(status = hot_try_remove_if(handle, key, length, expected, had), &sleeps))
         ;
     return status;
 }
 
 hot_status hot_add(hot_handle *handle, const uint8_t *key, size_t length, uint64_t delta, uint64_t *had) {
+    unsigned sleeps = 0;
     hot_status status;
-    while (is_to_wait(status = hot_try_add(handle, key, length, delta, had)))
+    while (is_to_wait(status = hot_try_add(handle, key, length, delta, had), &sleeps))
         ;
     return status;
 }

@@ -310,9 +310,9 @@ hot_status hot_try_remove(hot_handle *handle, const uint8_t *key, size_t length,
  * HOT_REMOVED, HOT_DIFFERS, HOT_ABSENT; or HOT_BUSY, HOT_HELD_BACK, HOT_FULL_NODES, HOT_KEY_TOO_LONG, HOT_CLOSED. */
 hot_status hot_try_remove_if(hot_handle *handle, const uint8_t *key, size_t length, uint64_t expected, uint64_t *had);
 
-/* hot_try_insert, hot_try_upsert and hot_try_remove, repeated as long as another call is in the way or holds records back, with a
- * sched_yield between two tries. There is no bound on how long they wait: a thread that is stopped in the middle of a change keeps
- * others waiting that want to change the same nodes. They write and return what those do, except HOT_BUSY and HOT_HELD_BACK. */
+/* hot_try_insert, hot_try_upsert and hot_try_remove, repeated as long as another call is in the way or holds records back. Between two
+ * tries they make a sched_yield, or sleep where records are held back, for 50 microseconds to 1.6 milliseconds. There is no bound on how
+ * long they wait: a thread that is stopped in the middle of a change keeps others waiting that want to change the same nodes. They write and return what those do, except HOT_BUSY and HOT_HELD_BACK. */
 hot_status hot_insert(hot_handle *handle, const uint8_t *key, size_t length, uint64_t value, uint64_t *had);
 hot_status hot_upsert(hot_handle *handle, const uint8_t *key, size_t length, uint64_t value, uint64_t *had);
 hot_status hot_remove(hot_handle *handle, const uint8_t *key, size_t length, uint64_t *had);
