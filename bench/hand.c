@@ -17,11 +17,11 @@ static uint64_t *table, *nodes, *leaves, count;
 static struct key *keys;
 static hot_handle handles[THREADS] = { HOT_HANDLE, HOT_HANDLE, HOT_HANDLE, HOT_HANDLE };
 
-/* Looks in a part of the memory for the first words of a table that has so many. */
-static uint64_t *table_within(uint64_t *from, uint64_t *upto, uint64_t words)
+/* Looks in a part of the memory for the first words of a new table. The system may list the rest as a part of its own. */
+static uint64_t *table_within(uint64_t *from, uint64_t *upto)
 {
     uint64_t *at, word, front = FRONT + PIN * THREADS;
-    for (at = from; (uint64_t)(upto - at) >= words; at++) {
+    for (at = from; (uint64_t)(upto - at) >= front; at++) {
         for (word = 0; word < front && at[word] == (word == 0 ? 1 : word == ANCHOR ? 2 : 0); word++) {
         }
         if (word == front) {
@@ -32,15 +32,14 @@ static uint64_t *table_within(uint64_t *from, uint64_t *upto, uint64_t words)
 }
 
 /* Finds the table of an index that has just been made. */
-static void find_table(uint64_t node_records, uint64_t leaf_records)
+static void find_table(uint64_t node_records)
 {
-    uint64_t words = FRONT + PIN * THREADS + NODE * node_records + LEAF * leaf_records;
     unsigned long from, upto;
     char line[512], rights[8];
     FILE *maps = fopen("/proc/self/maps", "r");
     while (maps && !table && fgets(line, sizeof line, maps)) {
-        if (sscanf(line, "%lx-%lx %7s", &from, &upto, rights) == 3 && !strncmp(rights, "rw", 2) && (upto - from) / 8 >= words) {
-            table = table_within((uint64_t *)from, (uint64_t *)upto, words);
+        if (sscanf(line, "%lx-%lx %7s", &from, &upto, rights) == 3 && !strncmp(rights, "rw", 2)) {
+            table = table_within((uint64_t *)from, (uint64_t *)upto);
         }
     }
     if (!table) {
@@ -153,7 +152,7 @@ int main(int words, char **word)
         return 2;
     }
     must(hot_create((uint32_t)(count / 8), (uint32_t)(count + count / 4), handles, THREADS), HOT_DONE);
-    find_table(count / 8, count + count / 4);
+    find_table(count / 8 + 1); /* one more is kept */
     keys = calloc(count, sizeof *keys);
     for (at = 0; keys && at < count; at++) {
         keys[at].length = key_of(kind, at, keys[at].bytes);
