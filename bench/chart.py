@@ -6,8 +6,9 @@ BAR, LEFT, RIGHT, FIGURES, WIDE = 14, 185, 595, 607, 745
 COLOURS = ["#4a8fe7", "#e08e2b", "#3f9d6b"]
 GREY = "#767676"
 
-# Where the scale may begin and end, and has lines.
-TICKS = [0.01, 0.02, 0.05, 0.1, 0.2, 0.5, 1, 2, 5, 10, 20, 50, 100]
+# Where the scale may begin and end, and has lines; and for how many of them there is room for a figure each. Else powers of ten have one.
+TICKS = [float(f"{figure}e{power}") for power in range(-6, 7) for figure in (1, 2, 5)]
+MOST_FIGURES = 13
 
 
 class Scale:
@@ -17,6 +18,7 @@ class Scale:
         least = max(it for it in TICKS if it < min(figures))
         most = min(it for it in TICKS if it > max(figures))
         self.ticks = [it for it in TICKS if least <= it <= most]
+        self.told = [it for it in self.ticks if len(self.ticks) <= MOST_FIGURES or f"{it:e}".startswith("1")]
 
     def at(self, figure: float) -> float:
         """How far to the right a figure stands."""
@@ -48,7 +50,7 @@ def legend(series: list, y: int) -> list:
 def chart(lines: list, series: list, rows: list) -> str:
     """Bars with a thin line to a worst figure. `lines` is what stands above them; `series` names the bars of a group; a row has a name, and
     for each bar its figure with the worst one, or None."""
-    scale = Scale([it for _, pairs in rows for pair in pairs if pair for it in pair])
+    scale = Scale([1, *(it for _, pairs in rows for pair in pairs if pair for it in pair)])
     top = 18 * len(lines) + 36
     step = BAR * len(series) + 10
     bottom = top + step * len(rows)
@@ -64,7 +66,7 @@ def chart(lines: list, series: list, rows: list) -> str:
                 parts.append(bar_at(figure, y + BAR / 2 - 1, worst - figure, 1.5, colour))
                 parts.append(text_at(FIGURES, y + BAR - 3, f"{pair[0]:.2f}, worst {pair[1]:.2f}"))
     parts.append(line_at(scale.at(1), top - 6, bottom, 'stroke-width="1.5" stroke-dasharray="4 3"'))
-    parts += [text_at(scale.at(it), bottom + 14, f"{it:g}", "middle") for it in scale.ticks]
+    parts += [text_at(scale.at(it), bottom + 14, f"{it:g}", "middle") for it in scale.told]
     style = f"text{{font:12px sans-serif;fill:{GREY}}}@media(prefers-color-scheme:dark){{text{{fill:#b8b8b8}}}}"
     size = f'width="{WIDE}" height="{bottom + 22}" viewBox="0 0 {WIDE} {bottom + 22}"'
     head = f'<svg xmlns="http://www.w3.org/2000/svg" {size} role="img">'
