@@ -4,18 +4,22 @@ and beside an ordinary table in memory. `bench/run bindings` builds the module a
 
 usage: bench/run bindings [KEYS]      on so many keys of 12 characters, 12,000 or more (20,000)
 
-A run of 2,000 calls is subtracted from one of 12,000, and what the loop itself takes from both. How busy the machine is changes nothing.
+A run of 2,000 calls is subtracted from one of 12,000, and what the loop itself takes from both. How busy the machine is changes nothing. The
+figures go to a CSV, too, beside the folder of the module and the table; bench/pages reads such.
 """
+import csv
 import re
 import subprocess
 import sys
 import tempfile
 from pathlib import Path
 
+from table import origin
+
 FEW, MANY = 2_000, 12_000
 
 # The calls from Python: a loop over them has the keys that are there, and others.
-PYTHON = {"": "pass", "get": "m[k]", "set of a held key": "m[k] = 1", "insert": "m[n] = 1", "removal": "del m[k]"}
+PYTHON = {"": "pass", "look-up": "m[k]", "new value": "m[k] = 1", "insert": "m[n] = 1", "removal": "del m[k]"}
 MAPS = {"hot": "from hot import SortedMap as Map", "SortedDict": "from sortedcontainers import SortedDict as Map"}
 PROGRAM = """
 {of}
@@ -31,13 +35,16 @@ KEY, NEW = ["printf('%s%%09d', x * 7919 %% 1000003)" % it for it in ("key", "new
 SQL = {
     "": f"SELECT count({KEY}) FROM n",
     "look-up": f"SELECT count((SELECT value FROM t WHERE key = {KEY})) FROM n",
-    "new value of a held key": f"INSERT OR REPLACE INTO t SELECT {KEY}, x + 1 FROM n",
+    "new value": f"INSERT OR REPLACE INTO t SELECT {KEY}, x + 1 FROM n",
     "insert": f"INSERT INTO t SELECT {NEW}, x FROM n",
     "removal": f"DELETE FROM t WHERE key IN (SELECT {KEY} FROM n)",
     "row of a range": f"SELECT sum(value) FROM (SELECT value FROM t WHERE key >= 'key' LIMIT (SELECT count({KEY}) FROM n))",
 }
 TABLES = {"hot": "VIRTUAL TABLE t USING hot(keys=100000, longest=12)", "ordinary": "TABLE t(key TEXT PRIMARY KEY, value INTEGER) WITHOUT ROWID"}
 NUMBERS = "WITH RECURSIVE n(x) AS (SELECT 0 UNION ALL SELECT x + 1 FROM n LIMIT {})"
+
+# The columns of the CSV: which language, which call, and its instructions by the index and by what it stands beside.
+FIELDS = ["date", "commit", "language", "call", "hot", "beside"]
 
 
 def counted(*command: str) -> int:
@@ -67,21 +74,27 @@ def sql(folder: Path, table: str, keys: int, statement: str):
     return lambda calls: ["sqlite3", "-batch", "-bail", ":memory:", *first, f"{NUMBERS.format(calls)} {statement};"]
 
 
-def show(title: str, kinds: dict, sides: dict, command) -> None:
-    """Writes the instructions of each kind of calls, without the loop around them."""
+def show(file, title: str, kinds: dict, sides: dict, command) -> None:
+    """Writes the instructions of each kind of calls, without the loop around them, and a row of the CSV for each."""
     print(f"{title:<28}" + "".join(f"{side:>12}" for side in sides), flush=True)
+    day, _, _, commit = origin()
     around = {side: each(command(of, kinds[""])) for side, of in sides.items()}
     for kind, call in kinds.items():
         if kind:
-            print(f"{kind:<28}" + "".join(f"{each(command(of, call)) - around[side]:>12.0f}" for side, of in sides.items()), flush=True)
+            found = [round(each(command(of, call)) - around[side]) for side, of in sides.items()]
+            print(f"{kind:<28}" + "".join(f"{it:>12,}" for it in found), flush=True)
+            csv.writer(file, lineterminator="\n").writerow([day, commit, title, kind, *found])
+            file.flush()
 
 
 def main() -> None:
     folder, keys = Path(sys.argv[1]), int(sys.argv[2]) if len(sys.argv) > 2 else 20_000
     if keys < MANY:
         sys.exit(f"bindings: {MANY:,} keys or more")
-    show("Python", PYTHON, MAPS, lambda of, call: python(of, keys, call))
-    show("SQLite", SQL, TABLES, lambda of, statement: sql(folder, of, keys, statement))
+    with open(folder.parent / "bindings.csv", "w", newline="") as file:
+        csv.writer(file, lineterminator="\n").writerow(FIELDS)
+        show(file, "Python", PYTHON, MAPS, lambda of, call: python(of, keys, call))
+        show(file, "SQLite", SQL, TABLES, lambda of, statement: sql(folder, of, keys, statement))
 
 
 if __name__ == "__main__":
