@@ -3,12 +3,12 @@
 ghost use Rattle.std.specs.Prelude.{◌≡◌, ◌≤◌, ◌<◌, length};
 
 use crate::nodes::{comb_node, key};
-use compound_node::{Entry, Node};
+use compound_node::Node;
 use key_bits::Key;
 use record_words::{
     FIRST_ROWS, HEAD_WORDS, Kind, MIDDLE_HEAD_WORDS, NARROW_HEAD_WORDS, NODE_FIELDS, ROW_WORDS,
-    add_leaf, affected_slots, extract_dense_key, first_position_of, index_of_first_position,
-    pack_node, read_node, read_numbers, search_middle, search_narrow, search_row_words,
+    extract_dense_key, first_position_of, index_of_first_position, pack_node, read_node,
+    read_numbers, search_middle, search_narrow, search_row_words,
 };
 use std::process::Abort;
 
@@ -155,66 +155,27 @@ fn long_key(rt: &impl Abort, seed: u8, length: usize) -> Key {
     key(rt, &bytes[..length.min(240)])
 }
 
-/// A head takes the kind of its columns, and each function that reads or searches its words agrees with the node.
-#[test]
-fn heads_take_the_kind_of_their_columns(rt: HostRuntime) {
-    for (positions, want) in KINDS {
-        let node = comb_node(&rt, positions);
-        let words = pack_node(&node);
-        let mut head = [0; HEAD_WORDS];
-        head.copy_from_slice(&words[..HEAD_WORDS]);
-        expect_words(&rt, &words, &node, want);
-        for length in [
-            0, 1, 2, 3, 7, 15, 16, 17, 18, 19, 25, 200, 224, 225, 239, 240,
-        ] {
-            for seed in 1..9 {
-                let key = long_key(&rt, seed, length);
-                assert!(rt;
-                    search_words(&node, &key) == node.search(&key),
-                    "key {seed} of {length}"
-                );
-            }
-        }
-        for found in 0..node.count() {
-            for position in [0, 1, 2, 8, 10, 30, 40, 144, 170, 2018, 2159, 65_534] {
-                assert!(rt;
-                    affected_slots(&head, found, position) == node.affected(found, position)
-                );
-            }
+/// Searches of the words of `node` by keys of many lengths lead where those of the node do.
+fn expect_searches(rt: &impl Abort, node: &Node) {
+    for length in [
+        0, 1, 2, 3, 7, 15, 16, 17, 18, 19, 25, 200, 224, 225, 239, 240,
+    ] {
+        for seed in 1..9 {
+            let key = long_key(rt, seed, length);
+            assert!(rt;
+                search_words(node, &key) == node.search(&key),
+                "key {seed} of {length}"
+            );
         }
     }
 }
 
-/// A leaf is added to the words as to the node, where the position is a column and where it is none, and the kind changes with the columns.
+/// A head takes the kind of its columns, and searches and readings of its words agree with the node.
 #[test]
-fn leaves_are_added_to_each_kind(rt: HostRuntime) {
-    for (positions, _want) in KINDS {
+fn heads_take_the_kind_of_their_columns(rt: HostRuntime) {
+    for (positions, want) in KINDS {
         let node = comb_node(&rt, positions);
-        for position in [1, 7, 8, 9, 11, 33, 43, 99, 141, 150, 2018, 2100, 2159] {
-            if node.count() < 32 {
-                for bit in [false, true] {
-                    for found in [0, node.count() - 1] {
-                        let (first, last) = node.affected(found, position);
-                        let mut taken = false;
-                        for slot in first..last + 1 {
-                            for j in 0..node.columns().count() {
-                                if node.columns().position(j) == position
-                                    && node.sparse(slot) >> (31 - j) & 1 == 1
-                                {
-                                    taken = true;
-                                }
-                            }
-                        }
-                        if !taken && (node.columns().count() < 31) {
-                            let mut words = pack_node(&node);
-                            add_leaf(&mut words, first, last, position, bit, 77);
-                            let want = node.insert(first, last, position, bit, Entry::Leaf(77));
-                            assert!(rt; words == pack_node(&want), "at {position}");
-                            expect_words(&rt, &words, &want, record_words::kind_of(want.columns()));
-                        }
-                    }
-                }
-            }
-        }
+        expect_words(&rt, &pack_node(&node), &node, want);
+        expect_searches(&rt, &node);
     }
 }
