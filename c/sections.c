@@ -5,6 +5,7 @@
 #include <pthread.h>
 #include <sched.h>
 #include <string.h>
+#include <unistd.h>
 
 static const hot_stock stock = {100, 100, 0, 0, 0, 0};
 
@@ -182,6 +183,7 @@ static void test_threads(void) {
 }
 
 int main(void) {
+    alarm(900); /* a call that never returns ends the test */
     test_statuses();
     test_holding();
     test_opening();
