@@ -1,9 +1,10 @@
-/* What the tests in C share: CHECK, which says where something is not so and goes on, and keys written as text. */
+/* What the tests in C share: CHECK, which says where something is not so and goes on, keys written as text, and a limit of addresses. */
 #ifndef CHECK_H
 #define CHECK_H
 
 #include <stdint.h>
 #include <stdio.h>
+#include <sys/resource.h>
 
 /* 1 once something was not so; a test's exit status. */
 static int failures;
@@ -18,6 +19,18 @@ static int failures;
 
 static inline const uint8_t *bytes(const char *text) {
     return (const uint8_t *)text;
+}
+
+/* Lets the process have so many bytes of addresses more than it has, and writes the limit that there was. A sanitizer may have very many. */
+static inline void limit_addresses(rlim_t more, struct rlimit *was) {
+    struct rlimit little;
+    rlim_t pages = 0;
+    FILE *file = fopen("/proc/self/statm", "r");
+    CHECK(file != NULL && fscanf(file, "%lu", &pages) == 1 && fclose(file) == 0 && pages > 0);
+    CHECK(getrlimit(RLIMIT_AS, was) == 0);
+    little = *was;
+    little.rlim_cur = pages * 4096 + more;
+    CHECK(setrlimit(RLIMIT_AS, &little) == 0);
 }
 
 #endif

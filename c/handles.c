@@ -4,7 +4,6 @@
 #include "check.h"
 #include <pthread.h>
 #include <string.h>
-#include <sys/resource.h>
 
 /* That a handle is closed; c/closed.c tries each call with such handles. */
 static void check_closed(hot_handle *handle) {
@@ -235,11 +234,8 @@ static void test_memory(void) {
     hot_handle handle = HOT_HANDLE;
     hot_stock stock;
     hot_index *index = NULL;
-    struct rlimit all, little;
-    CHECK(getrlimit(RLIMIT_AS, &all) == 0);
-    little = all;
-    little.rlim_cur = 64 << 20;
-    CHECK(setrlimit(RLIMIT_AS, &little) == 0);
+    struct rlimit all;
+    limit_addresses(64 << 20, &all);
     CHECK(hot_create(65535, 262143, &handle, 1) == HOT_NO_MEMORY);
     hot_stock_for_keys(1000000, 240, &stock);
     CHECK(hot_open_index(&stock, 1, &index) == HOT_NO_MEMORY && index == NULL);

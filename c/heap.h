@@ -12,7 +12,7 @@ void heap_begin(size_t table);
 int heap_end(void);
 
 /* Between these two calls blocks of this thread come from a room, as far as they fit, and each of them is freed. The room begins at a
- * multiple of 16. */
+ * multiple of 16, and its size is one. */
 void heap_lend(void *room, size_t size);
 void heap_take_back(void);
 

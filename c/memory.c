@@ -10,7 +10,6 @@
 #include <string.h>
 #include <sys/mman.h>
 #include <sys/prctl.h>
-#include <sys/resource.h>
 #include <sys/wait.h>
 #include <unistd.h>
 
@@ -239,13 +238,10 @@ static void test_addresses(void) {
     hot_handle handle = HOT_HANDLE;
     hot_index *index = NULL;
     hot_stock most;
-    struct rlimit before, little;
+    struct rlimit before;
     memset(&most, 0xff, sizeof most);
     most.medium_leaves = most.large_leaves = most.wide_leaves = most.long_leaves = 0;
-    CHECK(getrlimit(RLIMIT_AS, &before) == 0);
-    little = before;
-    little.rlim_cur = (rlim_t)1 << 40;
-    CHECK(setrlimit(RLIMIT_AS, &little) == 0);
+    limit_addresses((rlim_t)1 << 40, &before);
     CHECK(hot_open_index(&most, 1, &index) == HOT_NO_MEMORY && index == NULL);
     CHECK(hot_create_with(&most, &handle, 1) == HOT_NO_MEMORY);
     CHECK(setrlimit(RLIMIT_AS, &before) == 0 && in_use == 0);

@@ -2,6 +2,7 @@
 #include "hot.h"
 #include "check.h"
 #include <string.h>
+#include <unistd.h>
 
 static int are(hot_states states, uint32_t free, uint32_t held, uint32_t live, uint32_t obsolete) {
     return states.free == free && states.held == held && states.live == live && states.obsolete == obsolete;
@@ -294,6 +295,7 @@ static void test_small_rounds(void) {
 }
 
 int main(void) {
+    alarm(900); /* a call that never returns ends the test */
     test_census();
     test_small_rounds();
     test_full();

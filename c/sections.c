@@ -5,6 +5,7 @@
 #include <pthread.h>
 #include <sched.h>
 #include <string.h>
+#include <unistd.h>
 
 static const hot_stock stock = {100, 100, 0, 0, 0, 0};
 
@@ -48,8 +49,25 @@ static void test_holding(void) {
         CHECK(hot_close(&handles[holder]) == HOT_DONE);
 }
 
+/* Handles that are opened while sections are open, for the first time or again, hear of these. */
+static void test_opening(void) {
+    hot_handle handles[3] = {HOT_HANDLE, HOT_HANDLE, HOT_HANDLE};
+    hot_retirement first, later;
+    hot_index *index;
+    CHECK(hot_open_index(&stock, 3, &index) == HOT_DONE && hot_open(index, &handles[0]) == HOT_DONE);
+    CHECK(hot_enter(&handles[0]) == HOT_DONE && hot_retired(&handles[0], &first) == HOT_DONE);
+    CHECK(hot_open(index, &handles[1]) == HOT_DONE && hot_is_past(&handles[1], &first) == HOT_NOT_PAST);
+    CHECK(hot_enter(&handles[1]) == HOT_DONE && hot_leave(&handles[0]) == HOT_DONE);
+    CHECK(hot_open(index, &handles[2]) == HOT_DONE && hot_is_past(&handles[2], &first) == HOT_DONE);
+    CHECK(hot_retired(&handles[2], &later) == HOT_DONE && hot_is_past(&handles[0], &later) == HOT_NOT_PAST);
+    CHECK(hot_close(&handles[2]) == HOT_DONE && hot_open(index, &handles[2]) == HOT_DONE && hot_is_past(&handles[2], &later) == HOT_NOT_PAST);
+    CHECK(hot_leave(&handles[1]) == HOT_DONE && hot_is_past(&handles[2], &later) == HOT_DONE);
+    CHECK(hot_close(&handles[0]) == HOT_DONE && hot_close(&handles[1]) == HOT_DONE && hot_close(&handles[2]) == HOT_DONE);
+    CHECK(hot_close_index(index) == HOT_DONE);
+}
+
 /* Threads: two replace objects and take them out, and give them up once their moments are past; two read. No reader sees one that was given
- * up. An object's place is used again. */
+ * up. An object's place is used again. Each opens a handle, while others may be in their sections already. */
 enum { KEYS = 8, ROUNDS = 20000, OBJECTS = 64, READERS = 2, WRITERS = 2 };
 
 typedef struct object {
@@ -68,10 +86,12 @@ typedef struct worker {
 
 static worker writers[WRITERS];
 static int writers_left;
+static hot_index *shared;
 
 static void *read_objects(void *given) {
     worker *me = given;
     uint32_t turn = 0;
+    CHECK(hot_open(shared, me->handle) == HOT_DONE);
     while (__atomic_load_n(&writers_left, __ATOMIC_SEQ_CST) > 0) {
         uint8_t key = (uint8_t)(turn++ % KEYS);
         uint64_t value;
@@ -114,6 +134,7 @@ static void retire(worker *me, uint64_t value) {
 static void *change_objects(void *given) {
     worker *me = given;
     uint32_t turn;
+    CHECK(hot_open(shared, me->handle) == HOT_DONE);
     for (turn = 0; turn < ROUNDS; turn++) {
         uint8_t key = (uint8_t)(turn % (KEYS / WRITERS) * WRITERS + me->number);
         uint64_t had;
@@ -140,7 +161,7 @@ static void test_threads(void) {
     hot_handle handles[READERS + WRITERS] = {HOT_HANDLE, HOT_HANDLE, HOT_HANDLE, HOT_HANDLE};
     pthread_t threads[READERS + WRITERS];
     int i, place;
-    CHECK(hot_create_with(&stock, handles, READERS + WRITERS) == HOT_DONE);
+    CHECK(hot_open_index(&stock, READERS + WRITERS, &shared) == HOT_DONE);
     writers_left = WRITERS;
     for (i = 0; i < READERS + WRITERS; i++) {
         worker *given = i < READERS ? &readers[i] : &writers[i - READERS];
@@ -158,11 +179,14 @@ static void test_threads(void) {
     }
     for (i = 0; i < READERS + WRITERS; i++)
         CHECK(hot_close(&handles[i]) == HOT_DONE);
+    CHECK(hot_close_index(shared) == HOT_DONE);
 }
 
 int main(void) {
+    alarm(900); /* a call that never returns ends the test */
     test_statuses();
     test_holding();
+    test_opening();
     test_threads();
     puts(failures ? "c/sections.c failed" : "passed: c/sections.c");
     return failures;

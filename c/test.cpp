@@ -7,6 +7,7 @@
 #include <map>
 #include <thread>
 #include <type_traits>
+#include <unistd.h>
 #if __cplusplus >= 202002L
 #include <ranges>
 #include <span>
@@ -434,6 +435,7 @@ static void test_handles_inside() {
 }
 
 int main() {
+    alarm(900); // a call that never returns ends the test
     test_calls();
     test_index();
     test_order();

@@ -9,6 +9,7 @@
 #include <sched.h>
 #include <stdio.h>
 #include <string.h>
+#include <unistd.h>
 
 #define NUMBERS 2000
 #define DIGITS 6
@@ -777,6 +778,7 @@ int main(void) {
     /* Keys, nodes and leaves: room for all; more keys than leaves; one node, which comes and goes. */
     static const unsigned crowds[5][3] = {{500, 60, 520}, {12, 16, 8}, {5, 1, 16}, {3, 1, 2}, {2, 1, 1}};
     unsigned i;
+    alarm(900); /* a call that never returns ends the test */
     test_readers();
     for (i = 0; i < 5; i++)
         test_crowd(crowds[i][0], crowds[i][1], crowds[i][2]);

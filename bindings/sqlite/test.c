@@ -11,6 +11,7 @@
 #include <stdio.h>
 #include <stdlib.h>
 #include <string.h>
+#include <unistd.h>
 
 enum { THREADS = 4, ROUNDS = 60, STATEMENTS = 3000, CHANGES_OF_TABLES = 4000, READERS = 3 };
 
@@ -964,6 +965,7 @@ int main(int count, char **words) {
     if (count < 2)
         fail("usage", "test HOT_TABLE.so [threads]");
     library = words[1];
+    alarm(900); /* a call that never returns ends the test */
     make_memory_scarce();
     scratch = sqlite3_mprintf("%s.db", library);
     if (count > 2) {

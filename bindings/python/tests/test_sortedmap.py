@@ -1,6 +1,7 @@
 """SortedMap beside dict by random calls, what it refuses, and growth."""
 
 import copy
+import os
 import pickle
 import random
 import subprocess
@@ -256,6 +257,7 @@ assert len(mine) == 2 * count
 
 class Memory(unittest.TestCase):
     @unittest.skipUnless(sys.platform == "linux", "it reads /proc")
+    @unittest.skipIf("ASAN_OPTIONS" in os.environ, "a sanitizer ends without memory")
     def test_scarce(self):
         """Where there is no memory to grow, nothing is lost."""
         subprocess.run([sys.executable, "-c", SCARCE], check=True)
