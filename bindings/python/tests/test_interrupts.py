@@ -54,6 +54,8 @@ class Signals(unittest.TestCase):
             import os, signal, threading, time
             from hot import SortedMap
 
+            # a shell that starts the tests beside other commands has them ignore it
+            signal.signal(signal.SIGINT, signal.default_int_handler)
             mine, keys, interrupts = SortedMap(), 0, 0
             def press():
                 while interrupts < 20:
