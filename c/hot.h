@@ -38,7 +38,7 @@
  *
  * Memory. An index has its records from the beginning, and a handle 118 KB of lists from when it is first opened, so that no change asks
  * for memory. But a page of 4 KiB takes memory only once something is written there: so an index takes what its keys need, and a handle
- * some 30 KB. A page that was written stays when keys go. Tables of 64 MB and more ask for huge pages, of 2 MiB, where the system lets
+ * some 40 KB. A page that was written stays when keys go. Tables of 64 MB and more ask for huge pages, of 2 MiB, where the system lets
  * them. If memory runs out when a page is first written, the system ends the program. So take a stock whose hot_stock_bytes the machine has
  * to spare; or call mlockall once the index is made, which takes all of it at once. Making an index takes a processor some 0.1 s for each
  * 100 MB of the table, as much address space as two tables, and a thousandth of one in memory. Where the system refuses such pages, all
