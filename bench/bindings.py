@@ -8,10 +8,12 @@ A run of 2,000 calls is subtracted from one of 12,000, and what the loop itself 
 figures go to a CSV, too, beside the folder of the module and the table; bench/pages reads such.
 """
 import csv
+import os
 import re
 import subprocess
 import sys
 import tempfile
+from concurrent.futures import ThreadPoolExecutor
 from pathlib import Path
 
 from table import origin
@@ -78,10 +80,11 @@ def show(file, title: str, kinds: dict, sides: dict, command) -> None:
     """Writes the instructions of each kind of calls, without the loop around them, and a row of the CSV for each."""
     print(f"{title:<28}" + "".join(f"{side:>12}" for side in sides), flush=True)
     day, _, _, commit = origin()
-    around = {side: each(command(of, kinds[""])) for side, of in sides.items()}
-    for kind, call in kinds.items():
+    with ThreadPoolExecutor(os.cpu_count()) as pool:
+        counts = {(kind, side): pool.submit(each, command(of, call)) for kind, call in kinds.items() for side, of in sides.items()}
+    for kind in kinds:
         if kind:
-            found = [round(each(command(of, call)) - around[side]) for side, of in sides.items()]
+            found = [round(counts[kind, side].result() - counts["", side].result()) for side in sides]
             print(f"{kind:<28}" + "".join(f"{it:>12,}" for it in found), flush=True)
             csv.writer(file, lineterminator="\n").writerow([day, commit, title, kind, *found])
             file.flush()
