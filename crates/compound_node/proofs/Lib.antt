@@ -13,6 +13,7 @@ pub mod Removing
 pub mod Roots
 pub mod Forked
 pub mod Clearing
+pub mod Lowering
 pub mod Widening
 pub mod Joined
 pub mod Neighbours
