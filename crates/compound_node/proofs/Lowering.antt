@@ -14,7 +14,8 @@ use Rattle.compound_node.proofs.Clearing.{length-cleared_front}
 use Rattle.compound_node.proofs.Shifting.{picked, picked_at}
 use Rattle.partial_keys.specs.Rows.{with_unused}
 use Rattle.partial_keys.specs.Squeezed.{or_all}
-use Rattle.compound_node.specs.Removal.{bit_after, cleared_front, lowered_row, removed_row}
+use Rattle.compound_node.specs.Lowering.{lowered_row}
+use Rattle.compound_node.specs.Removal.{bit_after, cleared_front, removed_row}
 use lib.Count.{count_trailing_zeros}
 use lib.Lanes.{Each1, mask_l, pick_l, sel_l, top, zip2}
 

@@ -20,9 +20,3 @@ cleared_front bit (row ∷ rows) = cond (nat_eq (bit_and row bit) 0) (row ∷ ro
 -- the rows without row i, whose last fork goes with it
 abbrev pub removed_row : ℕ → List ℕ → List ℕ
 removed_row i rows = take i rows ++ cleared_front (bit_after i rows) (drop (i + 1) rows)
-
--- The i-th row once row `at` of the first `count` is out, if those before row `end` lose the bit: the rows behind move down by one
-abbrev pub lowered_row : (count at end bit : ℕ) → List ℕ → ℕ → ℕ
-lowered_row count at end bit rows i =
-    let next = slice_index rows (i + 1) in
-    cond (nat_lt i at) (slice_index rows i) (cond (nat_lt i (count - 1)) (cond (nat_lt (i + 1) end) (next - bit_and next bit) next) 4294967295)

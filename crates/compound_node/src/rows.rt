@@ -12,7 +12,8 @@ ghost use Rattle.pieces.specs.Positions.{front_below};
 ghost use Rattle.compound_node.specs.Ladders.{AreSparseKeys, IsLadder};
 ghost use Rattle.compound_node.specs.Beside.{AreRound, IsBesideIn, column_before};
 ghost use Rattle.compound_node.specs.Nodes.{IsLawfulNode, NodeView};
-ghost use Rattle.compound_node.specs.Removal.{lowest, bit_after, cleared_front, lowered_row, removed_row};
+ghost use Rattle.compound_node.specs.Lowering.{lowered_row};
+ghost use Rattle.compound_node.specs.Removal.{lowest, bit_after, cleared_front, removed_row};
 
 use super::entries::append_items;
 use arrayvec::ArrayVec;

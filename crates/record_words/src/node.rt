@@ -8,6 +8,7 @@ ghost use Rattle.partial_keys.specs.Columns.{IsColumns};
 ghost use Rattle.pieces.specs.Changes.{collapsed, without};
 ghost use Rattle.pieces.specs.Growth.{grown};
 ghost use Rattle.record_words.specs.Entry.{HasEntryWord, entry_word};
+ghost use Rattle.record_words.specs.Dropping.{CanDropAt, HasHeadWithout};
 ghost use Rattle.record_words.specs.Node.{CanCloseAt, CanTakeLeaf, HasHeadWords, HasNodeWords, CanGrowAt, HasHead, SpellBuilt, SpellEntries, SpellLeft, head_words, node_words};
 ghost use Rattle.record_words.specs.Kinds.{head_size, index_lanes, kind_of, lane_words, mask_lanes, rows_from};
 ghost use Rattle.record_words.specs.Packed.{column_words, position_word, row_words};
@@ -28,7 +29,7 @@ use crate::{
     MAX_ENTRIES, NODE_FIELDS,
 };
 use arrayvec::ArrayVec;
-use compound_node::{Entry, Head, Node, fork_rows};
+use compound_node::{Entry, Head, Node, fork_rows, or_first_rows, remove_row};
 use partial_keys::{Columns, count_below, insert_element, remove_element};
 use std::simd::prelude::*;
 
@@ -198,16 +199,43 @@ pub fn drop_entry(words: &mut [u64; NODE_FIELDS], at: u8) -> Option<Entry>
     requires { (node : NodeView) × HasNodeWords node × (node_words node ≡ words.old) × (at < length node.entries) }
     ensures { (node : NodeView) → HasNodeWords node → node_words node ≡ words.old → SpellLeft words.new result (without at (piece node)) }
 {
-    let mut head = read_head(&words[..HEAD_WORDS]);
-    if head.count() == 2 {
+    let numbers = read_numbers(words[0]);
+    if numbers.count == 2 {
         return Some(read_some_entry(words[HEAD_WORDS + 1 - at as usize]));
     }
-    let last = HEAD_WORDS + head.count() as usize - 1;
+    let last = HEAD_WORDS + numbers.count as usize - 1;
     remove_element(words, last + 1, HEAD_WORDS + at as usize, 0);
-    let height = height_over(&words[HEAD_WORDS..last], head.height());
+    let height = height_over(&words[HEAD_WORDS..last], numbers.height);
+    drop_row(words, at, height);
+    None
+}
+
+/// Takes the row of slot `at`, one of more than two, and the last fork on the path to it out of the head of `words`, whose height becomes
+/// `height`. The words of the entries stay. Mostly each column has a fork still, and the words of the columns stay too.
+fn drop_row(words: &mut [u64; NODE_FIELDS], at: u8, height: u16)
+    requires dropping { (node : NodeView) × CanDropAt words.old node at }
+    requires height { 0 < height }
+    ensures { (node : NodeView) → CanDropAt words.old node at → HasHeadWithout words.old words.new at height node }
+{
+    let numbers = read_numbers(words[0]);
+    let (count, columns) = (numbers.count as u32, numbers.columns);
+    let rows = remove_row(rows_in(&words[..HEAD_WORDS]), count as usize, at as usize);
+    if or_first_rows(rows, count - 1) != !(u32::MAX >> columns) {
+        return drop_row_by_head(words, at, height);
+    }
+    words[0] = words[0] - 1 - 65_536 * numbers.height as u64 + 65_536 * height as u64;
+    put_rows(words, numbers.kind, rows);
+}
+
+/// Does what `drop_row` does, by the head, so that a column may lose its last fork.
+fn drop_row_by_head(words: &mut [u64; NODE_FIELDS], at: u8, height: u16)
+    requires dropping { (node : NodeView) × CanDropAt words.old node at }
+    requires height { 0 < height }
+    ensures { (node : NodeView) → CanDropAt words.old node at → HasHeadWithout words.old words.new at height node }
+{
+    let mut head = read_head(&words[..HEAD_WORDS]);
     head.remove_entry(at, height);
     put_head(words, &head);
-    None
 }
 
 /// Puts `entry`, which is lower than the node of `words`, in place of its entries in slots `at` and `other` and of the fork over just
