@@ -2,6 +2,7 @@
 pub mod Editing
 pub mod Shifting
 pub mod Spreading
+mod Closing
 pub mod Ladders
 pub mod Full
 pub mod Heights

@@ -370,6 +370,35 @@ fn or_lanes(rows: u32x16) -> u32
     lanes[0] | lanes[1] | lanes[2] | lanes[3]
 }
 
+/// Takes out of each of `rows` those of its `columns` columns in which `used` has 0, as `squeeze_rows` does. Rows that have bits behind
+/// their columns mean nothing then.
+#[inline(always)]
+pub fn squeeze_lanes(rows: u32x32, used: u32, columns: u8) -> u32x32
+    requires few { columns ≤ 31 }
+    requires used { IsRowOver columns used }
+    ensures whole { length result ≡ 32 }
+    ensures each { (n : ℕ) → All (IsRowOver columns) (take n rows) → take n result ≡ map (squeezed used) (take n rows) }
+{
+    let mut left = rows;
+    for j in (0..columns).rev() {
+        if used >> (31 - j) & 1 == 0 {
+            left = close_lanes(left, j);
+        }
+    }
+    left
+}
+
+/// `rows` without column `j`. The columns behind it move forward by one.
+#[inline(always)]
+fn close_lanes(rows: u32x32, j: u8) -> u32x32
+    requires { j ≤ 31 }
+    ensures { result ≡ map (closed_row j) rows }
+{
+    let low = u32::MAX >> j;
+    let moved = (rows & u32x32::splat(low >> 1)) << u32x32::splat(1);
+    rows & u32x32::splat(!low) | moved
+}
+
 // ---- the sibling of a slot
 
 /// The column of the fork between `row` and the row before, counted from 1. It is 0 for the first row, and for an unused slot's.
