@@ -2,6 +2,7 @@
 pub mod Editing
 pub mod Shifting
 pub mod Spreading
+mod Closing
 pub mod Ladders
 pub mod Full
 pub mod Heights
@@ -13,6 +14,7 @@ pub mod Removing
 pub mod Roots
 pub mod Forked
 pub mod Clearing
+pub mod Lowering
 pub mod Widening
 pub mod Joined
 pub mod Neighbours

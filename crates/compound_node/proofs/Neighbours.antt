@@ -1,13 +1,12 @@
 -- The fork between two neighbouring rows, read from the lowest 1 of the second one.
-use Rattle.std.proofs.Common.{Bool, List, [], ap, ap₂, arith, cond, eqb, false, get_or, length, map, refl, subst, suc, sym, true, zero, ℕ, ⊎_elim, Option, None, Some, ◌++◌, ◌+◌, ◌-◌, ◌*◌, ◌/◌, ◌%◌, ◌<◌, ◌^◌, ◌⊎◌, inl, inr, ◌∙◌, ◌∷◌, ◌≡◌, ◌≤◌, ◌||◌}
+use Rattle.std.proofs.Common.{List, [], ap, arith, cond, eqb, false, get_or, length, map, refl, subst, suc, sym, true, zero, ℕ, ⊎_elim, None, ◌++◌, ◌+◌, ◌-◌, ◌/◌, ◌%◌, ◌<◌, ◌^◌, ◌⊎◌, inl, inr, ◌∙◌, ◌∷◌, ◌≡◌, ◌≤◌, ◌||◌}
 use Rattle.std.specs.Prelude.{IfSome, nat_eq, nat_lt, slice_index_or}
 use Rattle.std.proofs.Math.Nat.{mod-eq_of_lt, pow-suc}
 use Rattle.std.proofs.lemmas.Grind.{get_or_default_zero}
 use Rattle.std.proofs.lemmas.List.{get_or_past}
 use Rattle.compound_node.proofs.Lawful.{same_count}
-use Rattle.std.proofs.lemmas.Bool.{cases_Bool, cases_eq, cases_lt, eq-eqb, eqb-true, false≢true, le-ltb, lt-ltb, ltb-false, ltb-true, ne_eqb, or_cases}
-use Rattle.std.proofs.lemmas.Nat.{pow_pos, trailing_le}
-use lib.Count.{count_trailing_zeros, trailing_of_zero, under}
+use Rattle.std.proofs.lemmas.Bool.{cases_Bool, cases_eq, cases_lt, eqb-true, false≢true, le-ltb, lt-ltb, ltb-true, or_cases}
+use lib.Count.{count_trailing_zeros, trailing_of_zero}
 use Rattle.compound_node.proofs.Ladders.{front_at, ladder-rows, length-rows, raised, rest_at, rows-fork, rows-later, rows_fit}
 use Rattle.compound_node.proofs.Removing.{later_positive, several_forked}
 use Rattle.compound_node.specs.Beside.{AreRound, IsBesideIn, at_columns, column_before}

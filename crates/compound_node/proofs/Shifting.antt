@@ -16,7 +16,7 @@ use lib.Lanes.{pick_l, sel_l, top, zip2}
 abbrev pub picked : (ℕ → ℕ → Bool) → ℕ → List Bool
 picked t b = map (top 31) (zip2 (λ x y. cond (t x y) 4294967295 0) (range_with_len 0 32) (replicate 32 b))
 
-picked_at : (t : ℕ → ℕ → Bool) (b i : ℕ) → i < 32 → get_or (picked t b) i false ≡ t i b
+pub picked_at : (t : ℕ → ℕ → Bool) (b i : ℕ) → i < 32 → get_or (picked t b) i false ≡ t i b
 picked_at t b i l =
     ap (λ bs. get_or bs i false) (tops_compared w32 t (range_with_len 0 32) (replicate 32 b) ∙ zip2_splat t (range_with_len 0 32) 32 b refl)
     ∙ (get_or-map (λ x. t x b) (range_with_len 0 32) i 0 false l ∙ ap (λ x. t x b) (get_or-range_with_len 0 32 i 0 l ∙ omega arith))

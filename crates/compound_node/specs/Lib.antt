@@ -1,6 +1,7 @@
 -- What contracts cite.
 pub mod Ladders
 pub mod Removal
+pub mod Lowering
 pub mod Nodes
 pub mod Forking
 pub mod Halves

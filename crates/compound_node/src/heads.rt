@@ -194,7 +194,8 @@ impl Head {
             IsBuiltFrom (node_of self.new (remove node.entries at)) (without at (piece node))) }
     {
         let count = self.count as usize;
-        remove_row(&mut self.sparse, count, at as usize);
+        let rows = remove_row(u32x32::from_array(self.sparse), count, at as usize);
+        self.sparse = rows.to_array();
         drop_unused(&mut self.columns, &mut self.sparse, count - 1);
         self.count -= 1;
         self.height = height;

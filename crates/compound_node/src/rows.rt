@@ -1,7 +1,7 @@
 //! Rows of 32 bits, HOT's sparse partial keys. The column of the lowest position is the highest bit.
 
 ghost use Rattle.std.specs.List.{All};
-ghost use Rattle.std.specs.Prelude.{◌≡◌, ◌+◌, ◌-◌, ◌%◌, ◌^◌, ◌<◌, ◌≤◌, ◌↔◌, ◌++◌, ◌∷◌, IsTrue, bit_or, drop, false, insert, length, map, take};
+ghost use Rattle.std.specs.Prelude.{ℕ, ◌≡◌, ◌≢◌, ◌+◌, ◌-◌, ◌%◌, ◌^◌, ◌<◌, ◌≤◌, ◌↔◌, ◌++◌, ◌∷◌, IsTrue, bit_and, bit_or, drop, false, insert, length, map, slice_index, take};
 ghost use Rattle.arrayvec.specs.ArrayVec.{array_vec_len};
 ghost use Rattle.partial_keys.specs.Rows.{with_unused};
 ghost use Rattle.partial_keys.specs.Runs.{agree_in, IsRunStart, IsRunEnd};
@@ -12,11 +12,11 @@ ghost use Rattle.pieces.specs.Positions.{front_below};
 ghost use Rattle.compound_node.specs.Ladders.{AreSparseKeys, IsLadder};
 ghost use Rattle.compound_node.specs.Beside.{AreRound, IsBesideIn, column_before};
 ghost use Rattle.compound_node.specs.Nodes.{IsLawfulNode, NodeView};
+ghost use Rattle.compound_node.specs.Lowering.{lowered_row};
 ghost use Rattle.compound_node.specs.Removal.{lowest, bit_after, cleared_front, removed_row};
 
 use super::entries::append_items;
 use arrayvec::ArrayVec;
-use partial_keys::remove_element;
 use std::simd::prelude::*;
 
 /// Whether 4,294,967,295 stands in `sparse` at each index from `count` on, so that these slots are unused.
@@ -300,31 +300,103 @@ pub(crate) fn without_row(rows: &[u32], at: usize) -> ArrayVec<u32, 32>
     out
 }
 
-/// Clears `bit` in the rows from `first` on and below `end`, up to the first that hasn't it.
-fn clear_bit_of_front(rows: &mut [u32; 32], first: usize, end: usize, bit: u32)
+/// The index of the first of `rows` that hasn't `bit`, from `first` on; `end` if there is none before it.
+#[inline(always)]
+fn end_of_front(rows: u32x32, first: u32, end: u32, bit: u32) -> u32
     requires ordered { first ≤ end }
     requires in_range { end ≤ 32 }
-    ensures { rows.new ≡ edited first (end - first) (cleared_front bit) rows.old }
+    ensures range { (first ≤ result) × (result ≤ end) }
+    ensures having { (i : ℕ) → first ≤ i → i < result → bit_and (slice_index rows i) bit ≢ 0 }
+    ensures stops { result < end → bit_and (slice_index rows result) bit ≡ 0 }
 {
-    for i in first..end {
-        let found = rows[i] & bit;
-        if found == 0 {
-            return;
-        }
-        rows[i] -= found;
-    }
+    let before = u32x32::from_array(INDEXES).simd_lt(u32x32::splat(first));
+    let found = before.select(u32x32::splat(1), rows & u32x32::splat(bit));
+    let lacking = found.simd_eq(u32x32::splat(0)).to_bitmask() as u32;
+    lacking.trailing_zeros().min(end)
 }
 
-/// Takes row `at` out of the first `count`, as `without_row` does. Behind those that are left comes 4,294,967,295; the others stay.
-pub(crate) fn remove_row(rows: &mut [u32; 32], count: usize, at: usize)
-    requires ladder { IsLadder (take count rows.old) }
+/// `rows` without row `at` of the first `count`. Those behind it move down by one; of these, the ones before row `end` lose `bit`. Behind the
+/// rows that are left comes 4,294,967,295.
+#[inline(always)]
+fn lower_rows(rows: u32x32, count: u32, at: u32, end: u32, bit: u32) -> u32x32
+    requires some { 0 < count }
+    requires few { count ≤ 32 }
+    ensures whole { length result ≡ 32 }
+    ensures each { (i : ℕ) → i < 32 → slice_index result i ≡ lowered_row count at end bit rows i }
+{
+    let indexes = u32x32::from_array(INDEXES);
+    let losing = indexes.simd_lt(u32x32::splat(end));
+    let lost = losing.select(u32x32::splat(bit), u32x32::splat(0));
+    let moved = (rows & !lost).rotate_elements_left::<1>();
+    let used = indexes.simd_lt(u32x32::splat(count - 1));
+    let left = used.select(moved, u32x32::splat(u32::MAX));
+    indexes.simd_lt(u32x32::splat(at)).select(rows, left)
+}
+
+/// Takes row `at` out of the first `count` of `rows`, as `without_row` does. The rows behind the first `count` are 4,294,967,295, and so is
+/// one more then.
+#[inline(always)]
+pub fn remove_row(rows: u32x32, count: usize, at: usize) -> u32x32
+    requires ladder { IsLadder (take count rows) }
+    requires unused { rows ≡ with_unused (take count rows) }
     requires room { count ≤ 32 }
     requires in_range { at < count }
-    ensures { rows.new ≡ removed_row at (take count rows.old) ++ 4294967295 ∷ drop count rows.old }
+    ensures { result ≡ removed_row at (take count rows) ++ 4294967295 ∷ drop count rows }
 {
-    let bit = sibling_bit(&rows[..count], at);
-    clear_bit_of_front(rows, at + 1, count, bit);
-    remove_element(rows, count, at, u32::MAX);
+    let bit = sibling_bit(&rows.to_array()[..count], at);
+    let end = end_of_front(rows, at as u32 + 1, count as u32, bit);
+    lower_rows(rows, count as u32, at as u32, end, bit)
+}
+
+/// The bits that at least one of the first `count` of `rows` has.
+#[inline(always)]
+pub fn or_first_rows(rows: u32x32, count: u32) -> u32
+    requires { count ≤ 32 }
+    ensures { result ≡ or_all (take count rows) }
+{
+    let used = u32x32::from_array(INDEXES).simd_lt(u32x32::splat(count));
+    let rows = used.select(rows, u32x32::splat(0));
+    or_lanes(rows.extract::<0, 16>() | rows.extract::<16, 16>())
+}
+
+/// The bits that at least one of `rows` has.
+#[inline(always)]
+fn or_lanes(rows: u32x16) -> u32
+    ensures { result ≡ or_all rows }
+{
+    let eight = rows.extract::<0, 8>() | rows.extract::<8, 8>();
+    let four = eight.extract::<0, 4>() | eight.extract::<4, 4>();
+    let lanes = four.to_array();
+    lanes[0] | lanes[1] | lanes[2] | lanes[3]
+}
+
+/// Takes out of each of `rows` those of its `columns` columns in which `used` has 0, as `squeeze_rows` does. Rows that have bits behind
+/// their columns mean nothing then.
+#[inline(always)]
+pub fn squeeze_lanes(rows: u32x32, used: u32, columns: u8) -> u32x32
+    requires few { columns ≤ 31 }
+    requires used { IsRowOver columns used }
+    ensures whole { length result ≡ 32 }
+    ensures each { (n : ℕ) → All (IsRowOver columns) (take n rows) → take n result ≡ map (squeezed used) (take n rows) }
+{
+    let mut left = rows;
+    for j in (0..columns).rev() {
+        if used >> (31 - j) & 1 == 0 {
+            left = close_lanes(left, j);
+        }
+    }
+    left
+}
+
+/// `rows` without column `j`. The columns behind it move forward by one.
+#[inline(always)]
+fn close_lanes(rows: u32x32, j: u8) -> u32x32
+    requires { j ≤ 31 }
+    ensures { result ≡ map (closed_row j) rows }
+{
+    let low = u32::MAX >> j;
+    let moved = (rows & u32x32::splat(low >> 1)) << u32x32::splat(1);
+    rows & u32x32::splat(!low) | moved
 }
 
 // ---- the sibling of a slot

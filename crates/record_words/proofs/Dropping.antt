@@ -42,6 +42,13 @@ module _ (words : List ℕ) (count at : ℕ) (here : at < count) (inside : count
       get_or_append_left (remove (take count words) at) (0 ∷ drop count words) 0 k (omega (arith, before, here, front_taken))
       ∙ (get_or-remove_below (take count words) at 0 k before low ∙ get_or-take count words k 0 (omega (arith, before, here)))
 
+  -- the words in front of it stay
+  pub front_stays : (n : ℕ) → n ≤ at → take n (taken words count at) ≡ take n words
+  front_stays n before =
+      let long : length (take n (taken words count at)) ≡ n = length-take-le n (taken words count at) (omega (arith, length-taken, before, here, inside)) in
+      ext_get_or 0 (take n (taken words count at)) (take n words) (long ∙ sym (length-take-le n words (omega (arith, before, here, inside))))
+      (λ k h. let low : k < n = omega (arith, h, long) in get_or-take n (taken words count at) k 0 low ∙ (taken_below k (omega (arith, low, before)) ∙ sym (get_or-take n words k 0 low)))
+
   taken_above : (k : ℕ) → at ≤ k → k + 1 < count → get_or (taken words count at) k 0 ≡ get_or words (k + 1) 0
   taken_above k past within =
       get_or_append_left (remove (take count words) at) (0 ∷ drop count words) 0 k (omega (arith, within, front_taken))

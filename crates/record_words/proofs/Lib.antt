@@ -3,6 +3,7 @@ pub mod Bytes
 pub mod Closed
 mod Complying
 pub mod Digits
+mod DroppedRows
 pub mod Dropping
 pub mod Entries
 pub mod Fixing
@@ -30,6 +31,7 @@ pub mod Offsets
 pub mod Packings
 pub mod Parts
 pub mod Runs
+mod SameColumns
 mod Searched
 pub mod Spelled
 pub mod Spellings

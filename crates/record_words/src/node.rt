@@ -1,16 +1,20 @@
 //! The words of a node record.
 
-ghost use Rattle.std.specs.Prelude.{ℕ, ◌≡◌, ◌↔◌, ◌+◌, ◌<◌, ◌≤◌, ◌/◌, ◌%◌, ◌++◌, ◌-◌, ◌⊎◌, ◌≢◌, IsTrue, List, drop, length, slice_get, slice_index, take};
+ghost use Rattle.std.specs.Prelude.{ℕ, ◌≡◌, ◌↔◌, ◌+◌, ◌<◌, ◌≤◌, ◌/◌, ◌%◌, ◌++◌, ◌-◌, ◌⊎◌, ◌≢◌, IsTrue, List, drop, length, map, slice_get, slice_index, take};
 ghost use Rattle.compound_node.specs.Forking.{forked_head};
 ghost use Rattle.compound_node.specs.Nodes.{NodeView, greatest_height, head_of, piece};
 ghost use Rattle.compound_node.specs.declared.entries.Entry.TheVariants.{Leaf as LeafEntry};
 ghost use Rattle.partial_keys.specs.Columns.{IsColumns};
+ghost use Rattle.partial_keys.specs.Rows.{with_unused};
+ghost use Rattle.partial_keys.specs.Squeezed.{squeezed, used_bits};
 ghost use Rattle.pieces.specs.Changes.{collapsed, without};
 ghost use Rattle.pieces.specs.Growth.{grown};
+ghost use Rattle.pieces.specs.Kept.{kept};
 ghost use Rattle.record_words.specs.Entry.{HasEntryWord, entry_word};
+ghost use Rattle.record_words.specs.Dropping.{CanDropAt, CanDropColumns, HasHeadWithout};
 ghost use Rattle.record_words.specs.Node.{CanCloseAt, CanTakeLeaf, HasHeadWords, HasNodeWords, CanGrowAt, HasHead, SpellBuilt, SpellEntries, SpellLeft, head_words, node_words};
 ghost use Rattle.record_words.specs.Kinds.{head_size, index_lanes, kind_of, lane_words, mask_lanes, rows_from};
-ghost use Rattle.record_words.specs.Packed.{column_words, position_word, row_words};
+ghost use Rattle.record_words.specs.Packed.{column_words, fixed_words, position_word, row_words};
 ghost use Rattle.record_words.specs.Reading.{IsSpelledBy, IsSpelling};
 ghost use Rattle.record_words.specs.declared.kind.Kind.TheVariants.{Wide};
 
@@ -22,13 +26,13 @@ use crate::fixed::{
 use crate::kind::{Kind, kind_of};
 use crate::near::{near_lanes_of, words_of_bytes};
 use crate::numbers::read_numbers;
-use crate::search::{has_lane, positions_in, rows_in};
+use crate::search::{has_lane, positions_in, rows_in, with_unused_from};
 use crate::{
     FIRST_MIDDLE_ROWS, FIRST_NARROW_ROWS, FIRST_POSITIONS, FIRST_ROWS, HEAD_WORDS, HEIGHT_BIT,
     MAX_ENTRIES, NODE_FIELDS,
 };
 use arrayvec::ArrayVec;
-use compound_node::{Entry, Head, Node, fork_rows};
+use compound_node::{Entry, Head, Node, fork_rows, or_first_rows, remove_row, squeeze_lanes};
 use partial_keys::{Columns, count_below, insert_element, remove_element};
 use std::simd::prelude::*;
 
@@ -60,12 +64,26 @@ pub fn pack_head(head: &Head) -> [u64; HEAD_WORDS]
 fn put_head(words: &mut [u64; NODE_FIELDS], head: &Head)
     ensures { HasHead words.old words.new head.now }
 {
-    let columns = head.columns();
+    let rows = u32x32::from_array(*head.padded_rows());
+    put_parts(words, head.count(), head.height(), head.columns(), rows);
+}
+
+/// Writes the words of the head of these parts to the front of `words`, those of a node. The words of the entries stay.
+fn put_parts(
+    words: &mut [u64; NODE_FIELDS],
+    count: u8,
+    height: u16,
+    columns: &Columns,
+    rows: u32x32,
+)
+    requires { IsColumns columns.now }
+    ensures { words.new ≡ fixed_words count height columns.now rows ++ drop HEAD_WORDS words.old }
+{
     let kind = kind_of(columns);
     words[..HEAD_WORDS].fill(u64::MAX);
-    words[0] = word_of_numbers(head.count(), columns, head.height(), kind);
+    words[0] = word_of_numbers(count, columns, height, kind);
     put_columns(words, kind, columns);
-    put_rows(words, kind, u32x32::from_array(*head.padded_rows()));
+    put_rows(words, kind, rows);
 }
 
 /// Writes the words of `columns` to `words`, those of a node whose head is of the kind `kind`. All other words stay.
@@ -198,16 +216,56 @@ pub fn drop_entry(words: &mut [u64; NODE_FIELDS], at: u8) -> Option<Entry>
     requires { (node : NodeView) × HasNodeWords node × (node_words node ≡ words.old) × (at < length node.entries) }
     ensures { (node : NodeView) → HasNodeWords node → node_words node ≡ words.old → SpellLeft words.new result (without at (piece node)) }
 {
-    let mut head = read_head(&words[..HEAD_WORDS]);
-    if head.count() == 2 {
+    let numbers = read_numbers(words[0]);
+    if numbers.count == 2 {
         return Some(read_some_entry(words[HEAD_WORDS + 1 - at as usize]));
     }
-    let last = HEAD_WORDS + head.count() as usize - 1;
+    let last = HEAD_WORDS + numbers.count as usize - 1;
     remove_element(words, last + 1, HEAD_WORDS + at as usize, 0);
-    let height = height_over(&words[HEAD_WORDS..last], head.height());
-    head.remove_entry(at, height);
-    put_head(words, &head);
+    let height = height_over(&words[HEAD_WORDS..last], numbers.height);
+    drop_row(words, at, height);
     None
+}
+
+/// Takes the row of slot `at`, one of more than two, and the last fork on the path to it out of the head of `words`, whose height becomes
+/// `height`. The words of the entries stay. Mostly each column has a fork still, and the words of the columns stay too.
+fn drop_row(words: &mut [u64; NODE_FIELDS], at: u8, height: u16)
+    requires dropping { (node : NodeView) × CanDropAt words.old node at }
+    requires height { 0 < height }
+    ensures { (node : NodeView) → CanDropAt words.old node at → HasHeadWithout words.old words.new at height node }
+{
+    let numbers = read_numbers(words[0]);
+    let count = numbers.count - 1;
+    let rows = rows_in(&words[..HEAD_WORDS]);
+    let rows = remove_row(rows, numbers.count as usize, at as usize);
+    let used = or_first_rows(rows, count as u32);
+    if used != !(u32::MAX >> numbers.columns) {
+        return drop_columns(words, count, height, rows, used);
+    }
+    words[0] = words[0] - 1 - 65_536 * numbers.height as u64 + 65_536 * height as u64;
+    put_rows(words, numbers.kind, rows);
+}
+
+/// Makes the head of `words` one of `count` entries and of `height`, with the first of `rows`. The columns in which `used` has 0 go, of the
+/// rows, too. The words of the entries stay.
+fn drop_columns(words: &mut [u64; NODE_FIELDS], count: u8, height: u16, rows: u32x32, used: u32)
+    requires few { count ≤ 32 }
+    requires dropping { (node : NodeView) × CanDropColumns words.old node (take count rows) used }
+    ensures { (node : NodeView) → CanDropColumns words.old node (take count rows) used → words.new ≡
+        fixed_words count height (kept (used_bits used) node.columns) (with_unused (map (squeezed used) (take count rows))) ++ drop HEAD_WORDS words.old }
+{
+    let numbers = read_numbers(words[0]);
+    let positions = read_positions(&words[..HEAD_WORDS]);
+    let mut columns = Columns::from_padded(positions, numbers.columns);
+    columns.drop_unused(used);
+    let left = squeeze_lanes(rows, used, numbers.columns);
+    put_parts(
+        words,
+        count,
+        height,
+        &columns,
+        with_unused_from(left, count),
+    );
 }
 
 /// Puts `entry`, which is lower than the node of `words`, in place of its entries in slots `at` and `other` and of the fork over just

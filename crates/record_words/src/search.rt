@@ -149,7 +149,7 @@ pub(crate) fn rows_in(words: &[u64]) -> u32x32
 
 /// The first `count` of `rows`, and 4,294,967,295 behind them up to 32.
 #[inline(always)]
-fn with_unused_from(rows: u32x32, count: u8) -> u32x32
+pub(crate) fn with_unused_from(rows: u32x32, count: u8) -> u32x32
     ensures whole { length result ≡ 32 }
     ensures used { (i : ℕ) → i < count → slice_index result i ≡ slice_index rows i }
     ensures unused { (i : ℕ) → i < 32 → count ≤ i → slice_index result i ≡ 4294967295 }

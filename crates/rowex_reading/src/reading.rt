@@ -164,23 +164,15 @@ pub fn search_node<G: Gate>(
             let mut words = [first[0]; NARROW_HEAD_WORDS];
             load_head_part(table, seat, gate, node, 1, &mut words[1..]);
             let at = search_narrow(&words, key);
-            path_node(
-                node.number,
-                numbers,
-                words[index_of_first_position(Kind::Narrow)],
-                at,
-            )
+            let word = words[index_of_first_position(Kind::Narrow)];
+            path_node(node.number, numbers, word, at)
         }
         Kind::Middle => {
             let mut words = [first[0]; MIDDLE_HEAD_WORDS];
             load_head_part(table, seat, gate, node, 1, &mut words[1..]);
             let at = search_middle(&words, key);
-            path_node(
-                node.number,
-                numbers,
-                words[index_of_first_position(Kind::Middle)],
-                at,
-            )
+            let word = words[index_of_first_position(Kind::Middle)];
+            path_node(node.number, numbers, word, at)
         }
         Kind::Wide => {
             let mut front = [first[0]; FIRST_ROWS];
@@ -189,12 +181,8 @@ pub fn search_node<G: Gate>(
             let mut back = [0; ROW_WORDS];
             load_head_part(table, seat, gate, node, FIRST_ROWS, &mut back);
             let at = search_row_words(&back, dense);
-            path_node(
-                node.number,
-                numbers,
-                front[index_of_first_position(Kind::Wide)],
-                at,
-            )
+            let word = front[index_of_first_position(Kind::Wide)];
+            path_node(node.number, numbers, word, at)
         }
     }
 }

@@ -1,9 +1,8 @@
--- The rows behind lose the bit, and the row goes.
-use Rattle.std.proofs.Common.{arith}
-use Rattle.compound_node.proofs.Clearing.{row_taken}
+-- The rows behind lose the bit and move down over the row.
+use Rattle.compound_node.proofs.Lowering.{row_out}
 use Rattle.compound_node.proofs.rows.remove_row.Goals as goal
 
 pub returns : goal.returns
 returns c =
-    row_taken c.args.rows.now c.clear_bit_of_front.new.rows c.remove_element.new.items c.args.count c.args.at c.sibling_bit-bit.result 4294967295 c.requires.in_range (omega (arith, c.told-rows, c.requires.room))
-    c.sibling_bit-bit.ensures c.clear_bit_of_front.ensures c.remove_element.ensures
+    row_out c.args.rows c.fits-rows.0 c.args.count c.args.at c.end_of_front-end.result c.sibling_bit-bit.result c.requires.in_range c.requires.room c.requires.unused c.sibling_bit-bit.ensures
+    c.end_of_front-end.ensures.range.0 c.end_of_front-end.ensures.range.1 c.end_of_front-end.ensures.having c.end_of_front-end.ensures.stops c.lower_rows.result c.lower_rows.ensures.whole c.lower_rows.ensures.each

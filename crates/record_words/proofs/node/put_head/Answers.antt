@@ -1,29 +1,10 @@
--- The first word and the unused ones are written, then the columns, then the rows.
-use Rattle.std.proofs.Common.{List, ℕ, ◌≡◌, ◌∙◌, ◌++◌, ◌^◌, ◌-◌, arith, ap, drop, length, replicate, rules}
-use Rattle.std.proofs.lemmas.List.{length-take-le}
-use Rattle.compound_node.specs.Nodes.{HeadView}
-use Rattle.record_words.proofs.HeadPut.{as_fixed, in_order, put_together, start, start_behind, start_first, start_ones, start_whole}
+-- The parts of a head give its words.
+use Rattle.std.proofs.Common.{◌∙◌, ◌++◌, ap, drop}
 use Rattle.record_words.proofs.Written.{head_put}
 use Rattle.record_words.proofs.node.put_head.Goals as goal
 
 pub returns : goal.returns
 returns c =
-    let h : HeadView = c.args.head.now in
-    let old : List ℕ = c.args.words.now in
-    let middle : List ℕ = c.put_columns.new.words in
-    let words : List ℕ = c.put_rows.new.words in
-    let columns : List ℕ = c.columns-columns.result.now in
-    let rows : List ℕ = c.padded_rows.result.now in
-    let filled : List ℕ = c.fill.new.self in
-    let n : ℕ = c.word_of_numbers.result in
-    let kind = c.kind_of-kind.result in
-    let old_whole : length old ≡ 57 = search rules in
-    let whole : length words ≡ 57 = search rules in
-    let middle_whole : length middle ≡ 57 = search rules in
-    let full : filled ≡ replicate 25 (2 ^ 64 - 1) = c.fill.ensures.after (λ y e. e) ∙ ap (λ k. replicate k (2 ^ 64 - 1)) (length-take-le 25 old (omega (arith, old_whole))) in
-    put_together kind c.count.result c.height.result columns rows old words whole
-    (in_order kind _ columns rows old (start filled old n full old_whole) middle words old_whole (start_whole filled old n full old_whole) middle_whole whole
-    (start_first filled old n full old_whole ∙ c.word_of_numbers.ensures) (start_ones filled old n full old_whole) (start_behind filled old n full old_whole)
-    c.put_columns.ensures.columns c.put_columns.ensures.others c.put_rows.ensures.rows c.put_rows.ensures.others)
-    ∙ ap (λ front. front ++ drop 25 old)
-    (as_fixed kind c.count.result c.height.result columns rows c.kind_of-kind.ensures ∙ head_put h c.count.result c.height.result columns rows c.count.ensures.count c.height.ensures c.columns-columns.ensures c.padded_rows.ensures)
+    c.put_parts.ensures
+    ∙ ap (λ front. front ++ drop 25 c.args.words.now)
+    (head_put c.args.head.now c.count.result c.height.result c.columns.result.now c.padded_rows.result.now c.count.ensures.count c.height.ensures c.columns.ensures c.padded_rows.ensures)

@@ -1,0 +1,12 @@
+-- The rows without those later columns that `used` has not got.
+use Rattle.std.proofs.Common.{ℕ, ◌≡◌, length, map, take}
+use Rattle.std.specs.List.{All}
+use Rattle.partial_keys.proofs.Closing.{squeezed_from}
+use Rattle.partial_keys.specs.Squeezed.{IsRowOver}
+use Rattle.compound_node.proofs.rows.squeeze_lanes.Given as goal
+
+abbrev pub invariant-loop-j : goal.invariant-loop-j
+invariant-loop-j l = record {
+  whole : length l.left ≡ 32;
+  each : (n : ℕ) → All (IsRowOver l.fn.columns) (take n l.fn.rows) → take n l.left ≡ map (squeezed_from l.fn.used l.j) (take n l.fn.rows);
+}

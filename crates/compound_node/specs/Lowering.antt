@@ -1,0 +1,8 @@
+-- Rows without one, lane by lane.
+use Rattle.std.specs.Prelude.{ℕ, ◌+◌, ◌-◌, List, bit_and, cond, nat_lt, slice_index}
+
+-- The i-th row once row `at` of the first `count` is out, if those before row `end` lose the bit: the rows behind move down by one
+abbrev pub lowered_row : (count at end bit : ℕ) → List ℕ → ℕ → ℕ
+lowered_row count at end bit rows i =
+    let next = slice_index rows (i + 1) in
+    cond (nat_lt i at) (slice_index rows i) (cond (nat_lt i (count - 1)) (cond (nat_lt (i + 1) end) (next - bit_and next bit) next) 4294967295)

@@ -1,0 +1,32 @@
+-- A head that loses a row.
+use Rattle.std.specs.List.{All}
+use Rattle.std.specs.Prelude.{ℕ, ◌≡◌, ◌+◌, ◌<◌, List, length, remove, take}
+use Rattle.compound_node.specs.Nodes.{HeadView, IsBuiltFrom, IsLawfulNode, NodeView, greatest_height, head_of, node_of, piece}
+use Rattle.partial_keys.specs.Columns.{IsColumns}
+use Rattle.partial_keys.specs.Squeezed.{IsRowOver, used_bits}
+use Rattle.pieces.specs.Changes.{without}
+use Rattle.pieces.specs.Kept.{kept}
+use Rattle.record_words.specs.Node.{HasHead, head_words}
+use Rattle.record_words.specs.declared.TheConstants.{HEAD_WORDS}
+
+-- The words begin with the head of this node, which has this place and at least two others
+pub record CanDropAt (words : List ℕ) (node : NodeView) (at : ℕ) : Type 0 where
+  pub lawful : IsLawfulNode node
+  pub begins : head_words (head_of node) ≡ take HEAD_WORDS words
+  pub in_range : at < length node.entries
+  pub several : 2 < length node.entries
+
+-- The words begin with the head of this node. These rows are over its columns, and these bits are of some of them
+pub record CanDropColumns (words : List ℕ) (node : NodeView) (rows : List ℕ) (used : ℕ) : Type 0 where
+  pub lawful : IsLawfulNode node
+  pub begins : head_words (head_of node) ≡ take HEAD_WORDS words
+  pub over : All (IsRowOver (length node.columns)) rows
+  pub used_over : IsRowOver (length node.columns) used
+  pub left : IsColumns (kept (used_bits used) node.columns)
+
+-- The front of the words is that of a head, and the words behind it are as before. With this height, if it is one above the greatest of
+-- the entries that are left, it is the head of a node that was built anew without the place
+pub record HasHeadWithout (old new : List ℕ) (at height : ℕ) (node : NodeView) : Type 0 where
+  pub head : HeadView
+  pub has : HasHead old new head
+  pub built : height ≡ 1 + greatest_height (remove node.entries at) → IsBuiltFrom (node_of head (remove node.entries at)) (without at (piece node))
