@@ -1,10 +1,10 @@
 -- Packed pairs without the last one: its key has the last bytes, and the others have those before.
-use Rattle.std.proofs.Common.{◌≡◌, ℕ, ◌+◌, ◌-◌, ◌≤◌, List, [], ◌∷◌, ◌++◌, length, take, drop, refl, ap, sym, subst, ◌∙◌, arith, length-drop}
+use Rattle.std.proofs.Common.{◌≡◌, ℕ, ◌+◌, ◌-◌, ◌≤◌, List, [], ◌∷◌, ◌++◌, length, take, drop, ap, sym, subst, ◌∙◌, arith, length-drop}
 use Rattle.std.proofs.lemmas.List.{drop-take, length-take-le, take-append-drop, take-take}
 use Rattle.key_bits.specs.Key.{IsKey}
 use Rattle.packed_pairs.specs.declared.pairs.Head.{Head}
 use Rattle.packed_pairs.specs.Packed.{ArePacked, unpacked}
-use Rattle.packed_pairs.proofs.Lasts.{IsAtEnd, at_end}
+use Rattle.packed_pairs.proofs.Lasts.{at_end}
 use Rattle.packed_pairs.proofs.Packing.{unpacked-push}
 
 -- the bytes before those of the last key

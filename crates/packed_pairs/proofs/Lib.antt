@@ -1,4 +1,5 @@
 -- What is true of packed pairs.
+pub mod Copying
 pub mod Packing
 pub mod Lasts
 pub mod Backwards

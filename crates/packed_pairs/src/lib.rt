@@ -3,6 +3,7 @@
 
 mod back;
 mod iter;
+mod keys;
 mod pairs;
 mod parts;
 

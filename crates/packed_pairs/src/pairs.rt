@@ -1,11 +1,12 @@
 //! A list of pairs that is filled, read, and used again.
 
-ghost use Rattle.std.specs.Prelude.{◌≡◌, ◌≢◌, ◌++◌, ◌∷◌, ◌<◌, ◌≤◌, ◌^◌, [], All, IfOk, MatchOption, OnErr, OnOk, if◌then◌else◌, is_ok, length, nat_eq, take};
+ghost use Rattle.std.specs.Prelude.{◌≡◌, ◌≢◌, ◌++◌, ◌∷◌, ◌<◌, ◌≤◌, ◌^◌, [], All, IfOk, MatchOption, OnErr, OnOk, length, nat_eq, take};
 ghost use Rattle.key_bits.specs.Key.{IsKey};
 ghost use Rattle.key_bits.specs.declared.TheConstants.{MAX_BYTES};
 ghost use Rattle.packed_pairs.specs.Last.{IsLastKey};
 
 use crate::iter::{Iter, key_from_bytes};
+use crate::keys::KeyBytes;
 use key_bits::{Key, MAX_BYTES};
 use std::alloc::{AllocError, Global};
 use std::marker::Model;
@@ -20,10 +21,10 @@ pub struct Head {
 
 /// Keys with their values, in the order in which they came.
 ///
-/// Contracts see a list of pairs. It takes 16 bytes for each pair, and the bytes of its key.
+/// Contracts see a list of pairs. It takes 16 bytes for each pair, and the bytes of its key; and has some room behind these.
 #[derive(Drop)]
 pub struct Pairs {
-    pub(crate) bytes: Vec<u8>,
+    pub(crate) bytes: KeyBytes,
     pub(crate) heads: Vec<Head>,
 }
 
@@ -33,9 +34,9 @@ impl Model for Pairs {
 
     ghost Value = { List (List ℕ × ℕ) };
 
-    ghost view = { λ p. unpacked p.heads.items p.bytes.items };
+    ghost view = { λ p. unpacked p.heads.items p.bytes };
 
-    ghost invariant = { λ p. ArePacked p.heads.items p.bytes.items };
+    ghost invariant = { λ p. ArePacked p.heads.items p.bytes };
 }
 
 impl Pairs {
@@ -44,7 +45,7 @@ impl Pairs {
         ensures { result ≡ [] }
     {
         Pairs {
-            bytes: Vec::new(alloc),
+            bytes: KeyBytes::new(alloc),
             heads: Vec::new(alloc),
         }
     }
@@ -68,7 +69,7 @@ impl Pairs {
     pub fn clear(&mut self)
         ensures { self.new ≡ [] }
     {
-        self.bytes.clear();
+        self.bytes.truncate(0);
         self.heads.clear();
     }
 
@@ -87,7 +88,7 @@ impl Pairs {
         ensures err { OnErr result (self.new ≡ self.old) }
     {
         self.heads.reserve(1)?;
-        append_key_bytes(&mut self.bytes, places, length)?;
+        self.bytes.append(places, length)?;
         self.heads.push_reserved(Head {
             count: length as u8,
             value,
@@ -100,7 +101,10 @@ impl Pairs {
         ensures { MatchOption result (self.now ≡ []) (IsLastKey self.now) }
     {
         let (head, _) = self.heads.split_last()?;
-        let (_, key) = self.bytes.split_at(self.bytes.len() - head.count as usize);
+        let (_, key) = self
+            .bytes
+            .as_slice()
+            .split_at(self.bytes.len() - head.count as usize);
         Some(key_from_bytes(key))
     }
 
@@ -109,7 +113,7 @@ impl Pairs {
         ensures pairs { result ≡ self.now }
         ensures keys { All (λ pair. IsKey pair.0) self.now }
     {
-        Iter::of(&self.bytes, &self.heads)
+        Iter::of(self.bytes.as_slice(), &self.heads)
     }
 
     /// The same pairs, with keys that are values of their own. An error if memory is refused; it needs none if there is no pair.
@@ -126,52 +130,4 @@ impl Pairs {
         }
         Ok(list)
     }
-}
-
-/// Adds the first `length` bytes of `places` to the end of `bytes`. An error if memory is refused: `bytes` stay as they are.
-///
-/// A copy of a number of bytes that is known beforehand needs no call. So, where there is room, it copies eight bytes for a key of eight,
-/// and 64 for another of up to 64, of which it drops those behind the key.
-#[inline(always)]
-fn append_key_bytes(
-    bytes: &mut Vec<u8>,
-    places: &[u8; MAX_BYTES],
-    length: usize,
-) -> Result<(), AllocError>
-    requires { length ≤ MAX_BYTES }
-    ensures items { bytes.new.items ≡ if is_ok result then bytes.old.items ++ take length places.now else bytes.old.items }
-{
-    let room = bytes.capacity() - bytes.len();
-    if length == 8 && room >= 8 {
-        return bytes.extend_from_slice(&places[..8]);
-    }
-    if length <= 64 && room >= 64 {
-        return append_short_key(bytes, places, length);
-    }
-    append_key_of_any_length(bytes, &places[..length])
-}
-
-/// Does what [`append_key_bytes`] does, for a key of up to 64 bytes: copies 64, and drops those behind the key.
-#[inline(always)]
-fn append_short_key(
-    bytes: &mut Vec<u8>,
-    places: &[u8; MAX_BYTES],
-    length: usize,
-) -> Result<(), AllocError>
-    requires { length ≤ 64 }
-    ensures items { bytes.new.items ≡ if is_ok result then bytes.old.items ++ take length places.now else bytes.old.items }
-{
-    let end = bytes.len() + length;
-    bytes.extend_from_slice(&places[..64])?;
-    bytes.truncate(end);
-    Ok(())
-}
-
-/// Adds `key`, of any length, to the end of `bytes`. An error if memory is refused: `bytes` stay as they are. Never inline, so that callers
-/// have less code for short keys.
-#[inline(never)]
-fn append_key_of_any_length(bytes: &mut Vec<u8>, key: &[u8]) -> Result<(), AllocError>
-    ensures items { bytes.new.items ≡ if is_ok result then bytes.old.items ++ key.now else bytes.old.items }
-{
-    bytes.extend_from_slice(key)
 }

@@ -11,7 +11,7 @@ impl Pairs {
         ensures heads { result.0.now ≡ map packed_head self.now }
         ensures keys { result.1.now ≡ keys_in self.now }
     {
-        (&self.heads, &self.bytes)
+        (&self.heads, self.bytes.as_slice())
     }
 
     /// Takes out the last pair, if there is one. The list keeps its memory.

@@ -238,7 +238,8 @@ pub fn load_leaf<G: Gate>(
         write_key_word(places, 0, word);
         return (length as usize, value);
     }
-    let used = FIRST_KEY_WORD + count_key_words(length);
+    // The length is a byte's, so that no sum with it may wrap.
+    let used = FIRST_KEY_WORD + count_key_words(u64::from(length as u8));
     for index in FIRST_KEY_WORD..used {
         let word = table.load_fixed_at(seat, gate, rec, start, index as u8 + FIELDS_OFFSET);
         write_key_word(places, index - FIRST_KEY_WORD, word);

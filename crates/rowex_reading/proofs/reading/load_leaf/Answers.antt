@@ -70,7 +70,13 @@ returns-then-length-eq8 g c =
       leaf = whole_read has;
     }
 
--- Of any other, words are loaded up to the last one.
+-- Of any other, the length is small,
+pub overflow_cast-length : goal.overflow_cast-length
+overflow_cast-length g c =
+    let f = first_read c.requires.reader c.requires.led c.load_value_at-value.ensures c.load_fixed_at-length.ensures in
+    let short = f.short in omega (arith, short)
+
+-- and words are loaded up to the last one.
 pub count_key_words-used-requires : goal.count_key_words-used-requires
 count_key_words-used-requires g c =
     let f = first_read c.requires.reader c.requires.led c.load_value_at-value.ensures c.load_fixed_at-length.ensures in

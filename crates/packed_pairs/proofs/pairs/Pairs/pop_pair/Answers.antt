@@ -5,15 +5,15 @@ use Rattle.packed_pairs.proofs.Fits.{popped}
 use Rattle.packed_pairs.proofs.pairs.Pairs.pop_pair.Goals as goal
 use Rattle.packed_pairs.proofs.pairs.Pairs.pop_pair.Goals.{After-truncate}
 
-last : (c : After-truncate) → IsTaken c.self.inside.heads.items c.pop.new.self.items c.in-Some.head c.self.inside.bytes.items c.truncate.new.self.items (drop (length c.self.inside.bytes.items - c.in-Some.head.count) c.self.inside.bytes.items)
+last : (c : After-truncate) → IsTaken c.self.inside.heads.items c.pop.new.self.items c.in-Some.head c.self.inside.bytes c.truncate.new.self (drop (length c.self.inside.bytes - c.in-Some.head.count) c.self.inside.bytes)
 last c =
-    let many = c.len.ensures ∙ c.self.inside.bytes.ok.0 in
-    taken _ _ _ _ _ _ c.self.invariant c.in-Some.ensures.items (c.truncate.ensures.items ∙ ap (λ n. take (n - c.in-Some.head.count) c.self.inside.bytes.items) many) refl
+    let many = c.len.ensures in
+    taken _ _ _ _ _ _ c.self.invariant c.in-Some.ensures.items (c.truncate.ensures ∙ ap (λ n. take (n - c.in-Some.head.count) c.self.inside.bytes) many) refl
 
 pub overflow_sub-len : goal.overflow_sub-len
 overflow_sub-len c =
-    let low = (taken c.self.inside.heads.items c.pop.new.self.items c.in-Some.head c.self.inside.bytes.items _ _ c.self.invariant c.in-Some.ensures.items refl refl).low in
-    let many = c.len.ensures ∙ c.self.inside.bytes.ok.0 in
+    let low = (taken c.self.inside.heads.items c.pop.new.self.items c.in-Some.head c.self.inside.bytes _ _ c.self.invariant c.in-Some.ensures.items refl refl).low in
+    let many = c.len.ensures in
     omega (arith, low, many)
 
 pub invariant_of-self : goal.invariant_of-self

@@ -14,8 +14,8 @@ long c = let cut = length-take c.args.length c.args.places.now in let fits = c.r
 
 pub invariant_of-self-2 : goal.invariant_of-self-2
 invariant_of-self-2 c =
-    rw (heads c, c.in_ok-append_key_bytes.ensures.items) (packed-push (take c.args.length c.args.places.now) _ (long c) c.self.inside.heads.items c.self.inside.bytes.items c.self.invariant c.requires.key)
+    rw (heads c, c.in_ok-append.ensures) (packed-push (take c.args.length c.args.places.now) _ (long c) c.self.inside.heads.items c.self.inside.bytes c.self.invariant c.requires.key)
 
 pub returns-clause-ok : goal.returns-clause-ok
 returns-clause-ok c =
-    rw (heads c, c.in_ok-append_key_bytes.ensures.items, ← c.self.view_is) (unpacked-push (take c.args.length c.args.places.now) _ (long c) c.self.inside.heads.items c.self.inside.bytes.items c.self.invariant)
+    rw (heads c, c.in_ok-append.ensures, ← c.self.view_is) (unpacked-push (take c.args.length c.args.places.now) _ (long c) c.self.inside.heads.items c.self.inside.bytes c.self.invariant)

@@ -1,0 +1,163 @@
+//! The bytes of the keys of a list, with room behind them that is written already. So a key is copied by a few stores, and no length but one
+//! changes.
+
+ghost use Rattle.std.specs.Prelude.{◌≡◌, ◌++◌, ◌+◌, ◌≤◌, [], OnOk, drop, if◌then◌else◌, is_ok, length, take};
+ghost use Rattle.key_bits.specs.declared.TheConstants.{MAX_BYTES};
+
+use key_bits::MAX_BYTES;
+use std::alloc::{AllocError, Global};
+use std::marker::Model;
+
+/// The bytes of some keys, one key behind the other.
+///
+/// Contracts see a list of bytes.
+#[derive(Drop)]
+pub(crate) struct KeyBytes {
+    /// The bytes of the keys, and others behind them, which mean nothing.
+    bytes: Vec<u8>,
+    /// How many bytes the keys have.
+    used: usize,
+}
+
+impl Model for KeyBytes {
+    ghost use Rattle.std.specs.Prelude.{List, ℕ, ◌≤◌, length, take};
+
+    ghost Value = { List ℕ };
+
+    ghost view = { λ b. take b.used b.bytes.items };
+
+    ghost invariant = { λ b. b.used ≤ length b.bytes.items };
+}
+
+impl KeyBytes {
+    /// No bytes, for memory of `alloc`. They take none yet.
+    pub(crate) fn new(alloc: Global) -> KeyBytes
+        ensures { result ≡ [] }
+    {
+        KeyBytes {
+            bytes: Vec::new(alloc),
+            used: 0,
+        }
+    }
+
+    /// How many bytes there are.
+    #[inline(always)]
+    pub(crate) fn len(&self) -> usize
+        ensures { result ≡ length self.now }
+    {
+        self.used
+    }
+
+    /// How many bytes there is memory for.
+    pub(crate) fn capacity(&self) -> usize {
+        self.bytes.capacity()
+    }
+
+    /// Where the memory comes from.
+    pub(crate) fn allocator(&self) -> &Global {
+        self.bytes.allocator()
+    }
+
+    /// The bytes.
+    pub(crate) fn as_slice(&self) -> &[u8]
+        ensures { result.now ≡ self.now }
+    {
+        &self.bytes[..self.used]
+    }
+
+    /// Drops all bytes from byte `count` on. The memory stays.
+    pub(crate) fn truncate(&mut self, count: usize)
+        ensures { self.new ≡ take count self.old }
+    {
+        if count < self.used {
+            self.used = count;
+        }
+    }
+
+    /// Adds the first `length` bytes of `places` at the end. An error if memory is refused: the bytes stay as they are.
+    ///
+    /// A copy of a number of bytes that is known beforehand needs no call. So it copies eight bytes for a key of eight, and 64 for another of
+    /// up to 64.
+    #[inline(always)]
+    pub(crate) fn append(
+        &mut self,
+        places: &[u8; MAX_BYTES],
+        length: usize,
+    ) -> Result<(), AllocError>
+        requires { length ≤ MAX_BYTES }
+        ensures { self.new ≡ if is_ok result then self.old ++ take length places.now else self.old }
+    {
+        if self.bytes.len() - self.used < MAX_BYTES {
+            add_room(&mut self.bytes, self.used)?;
+        }
+        copy_key(&mut self.bytes, self.used, places, length);
+        self.used += length;
+        Ok(())
+    }
+}
+
+/// Copies the first `size` bytes of `places` to `bytes`, from byte `used` on. All before it stay.
+#[inline(always)]
+fn copy_key(bytes: &mut Vec<u8>, used: usize, places: &[u8; MAX_BYTES], size: usize)
+    requires room { used + MAX_BYTES ≤ length bytes.old.items }
+    requires fits { size ≤ MAX_BYTES }
+    ensures copied { take (used + size) bytes.new.items ≡ take used bytes.old.items ++ take size places.now }
+    ensures long { used + size ≤ length bytes.new.items }
+{
+    let room = &mut bytes[used..];
+    if size == 8 {
+        copy_first(room, places, 8, size);
+    } else if size <= 64 {
+        copy_first(room, places, 64, size);
+    } else {
+        copy_any_length(room, places, size);
+    }
+}
+
+/// Copies the first `count` bytes of `places` to the first places of `room`, for a key of `size` bytes, no more than these.
+#[inline(always)]
+fn copy_first(room: &mut [u8], places: &[u8; MAX_BYTES], count: usize, size: usize)
+    requires room { MAX_BYTES ≤ length room.old }
+    requires fits { count ≤ MAX_BYTES }
+    requires all { size ≤ count }
+    ensures copied { take size room.new ≡ take size places.now }
+    ensures fits { size ≤ length room.new }
+    ensures long { length room.new ≡ length room.old }
+{
+    copy_to_front(room, &places[..count]);
+}
+
+/// Copies `key` to the first places of `room`, which has room for it.
+#[inline(always)]
+fn copy_to_front(room: &mut [u8], key: &[u8])
+    requires { length key.now ≤ length room.old }
+    ensures { room.new ≡ key.now ++ drop (length key.now) room.old }
+{
+    room[..key.len()].copy_from_slice(key);
+}
+
+/// Makes room for one more key behind the first `used` of `bytes`, which stay. An error if memory is refused. Never inline, so that callers
+/// have less code.
+#[inline(never)]
+fn add_room(bytes: &mut Vec<u8>, used: usize) -> Result<(), AllocError>
+    requires { used ≤ length bytes.old.items }
+    ensures room { OnOk result (used + MAX_BYTES ≤ length bytes.new.items) }
+    ensures long { used ≤ length bytes.new.items }
+    ensures same { take used bytes.new.items ≡ take used bytes.old.items }
+{
+    bytes.reserve(MAX_BYTES)?;
+    let all = bytes.capacity();
+    bytes.resize(all, 0)
+}
+
+/// Copies the first `size` bytes of `places` to the first places of `room`. Never inline, as [`add_room`] is.
+#[inline(never)]
+fn copy_any_length(room: &mut [u8], places: &[u8; MAX_BYTES], size: usize)
+    requires room { MAX_BYTES ≤ length room.old }
+    requires fits { size ≤ MAX_BYTES }
+    ensures copied { take size room.new ≡ take size places.now }
+    ensures fits { size ≤ length room.new }
+    ensures long { length room.new ≡ length room.old }
+{
+    copy_first(room, places, size, size);
+}
