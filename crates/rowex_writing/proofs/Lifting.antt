@@ -410,40 +410,36 @@ module _ {table : TableView} {a : SeatView} {made : List Rec} {way : List PathNo
         one_low = omega (arith, sides.1);
       }
 
-  abbrev pub up_next : {m : SeatView} {made_then : List Rec} (then : Risen) → m.known.locks ≡ a.known.locks → IsRaising table m made_then (a_node up_step.number ∷ up.here.gone) up.here.newcomer (entry up_step.number) (subtrie_of then) →
-      ((words : List ℕ) → HasLocked a.known up_step.number words → IsLevelRisen words then) → Rises table m made_then way (record { key = rise.key; end = rise.end; level = rise.level - 1; risen = then })
-  up_next {m} {made_then} then locks raising rises =
-      let before : (words : List ℕ) → HasLocked m.known up_step.number words → HasLocked a.known up_step.number words = λ words. subst (IsOneOf (record { node = up_step.number; words = words })) locks in
-      record {
-        step = up_step;
-        at = up_at;
-        upto = omega (arith, below);
-        here = record {
-          gone = a_node up_step.number ∷ up.here.gone;
-          newcomer = up.here.newcomer;
-          words = up_over.0.upper;
-          locked = subst (IsOneOf (record { node = up_step.number; words = up_over.0.upper })) (sym locks) up_over.0.has_upper;
-          raising = raising;
-        };
-        key_is = up.key_is;
-        low = λ other h. (rises other (before other h)).low;
-        split = λ more. (rises up_over.0.upper up_over.0.has_upper).split (up.chain.full (rise.level - 1) up_step more (omega (arith, below)) up_at up_over.0.upper up_over.0.has_upper);
-        single = λ other h. (rises other (before other h)).single;
-        chain = subst (λ held. IsChain table.layout.nodes held way up.here.newcomer.item.key up.here.newcomer.mismatch rise.end (rise.level - 1)) (sym locks) (record {
-          there = λ i u l e. up.chain.there i u (omega arith) e;
-          above = λ i u v l h e f. up.chain.above i u v l (omega arith) e f;
-          full = λ i u l h e. up.chain.full i u l (omega arith) e;
-        });
-      }
-
   abbrev pub up_on : {m : SeatView} {made_then : List Rec} (then : Risen) → m.known.locks ≡ a.known.locks → IsRaising table m made_then (a_node up_step.number ∷ up.here.gone) up.here.newcomer (entry up_step.number) (subtrie_of then) →
       ((words : List ℕ) → HasLocked a.known up_step.number words → IsLevelRisen words then) → RisesOn up m made_then (record { key = rise.key; end = rise.end; level = rise.level - 1; risen = then })
-  up_on then locks raising rises = record {
-    up = up_next then locks raising rises;
-    newcomer = refl;
-    end = refl;
-    gone = gone_more way rise.end (rise.level - 1) rise.level up.here.gone up_step next (omega (arith, below)) up_at;
-  }
+  up_on {m} {made_then} then locks raising rises =
+      let before : (words : List ℕ) → HasLocked m.known up_step.number words → HasLocked a.known up_step.number words = λ words. subst (IsOneOf (record { node = up_step.number; words = words })) locks in
+      record {
+        up = record {
+          step = up_step;
+          at = up_at;
+          upto = omega (arith, below);
+          here = record {
+            gone = a_node up_step.number ∷ up.here.gone;
+            newcomer = up.here.newcomer;
+            words = up_over.0.upper;
+            locked = subst (IsOneOf (record { node = up_step.number; words = up_over.0.upper })) (sym locks) up_over.0.has_upper;
+            raising = raising;
+          };
+          key_is = up.key_is;
+          low = λ other h. (rises other (before other h)).low;
+          split = λ more. (rises up_over.0.upper up_over.0.has_upper).split (up.chain.full (rise.level - 1) up_step more (omega (arith, below)) up_at up_over.0.upper up_over.0.has_upper);
+          single = λ other h. (rises other (before other h)).single;
+          chain = subst (λ held. IsChain table.layout.nodes held way up.here.newcomer.item.key up.here.newcomer.mismatch rise.end (rise.level - 1)) (sym locks) (record {
+            there = λ i u l e. up.chain.there i u (omega arith) e;
+            above = λ i u v l h e f. up.chain.above i u v l (omega arith) e f;
+            full = λ i u l h e. up.chain.full i u l (omega arith) e;
+          });
+        };
+        newcomer = refl;
+        end = refl;
+        gone = gone_more way rise.end (rise.level - 1) rise.level up.here.gone up_step next (omega (arith, below)) up_at;
+      }
 
 -- the end of the way up
 module _ {table : TableView} {a : SeatView} {made : List Rec} {way : List PathNode} {rise : Rise} (up : Rises table a made way rise) where

@@ -13,6 +13,7 @@ ghost use Rattle.rowex_writing.specs.Building.{HasLeafMade, IsBuilding, IsHalfMa
 ghost use Rattle.rowex_writing.specs.Remaking.{AwaitsLeaf, subtrie_with_leaf};
 ghost use Rattle.compound_node.specs.Nodes.{IsBuiltFrom, NodeView, piece};
 ghost use Rattle.version_laws.specs.Rise.{entry};
+ghost use Rattle.insert_cases.specs.declared.growth.Grown.TheVariants.{Two};
 ghost use Rattle.rowex_writing.specs.Changes.{LacksLeaves};
 ghost use Rattle.rowex_writing.specs.Counts.{leaf_steps, node_steps};
 ghost use Rattle.rowex_writing.specs.Going.{WorksOn};
@@ -22,8 +23,8 @@ ghost use Rattle.rowex_writing.specs.Walks.{Makes};
 use crate::claims::{claim_leaf, claim_node};
 use crate::kept::{Build, MOST_MADE};
 use crate::remaking::{NewLeaf, add_leaf};
-use compound_node::{Entry, Half, Node};
-use insert_cases::{Grown, Risen};
+use compound_node::{Cut, Entry, Half, Node};
+use insert_cases::Risen;
 use key_bits::Key;
 use record_words::{
     HEAD_WORDS, NODE_FIELDS, affected_slots, count_leaf_words, pack_node, read_numbers,
@@ -173,36 +174,28 @@ fn make_half_entry<G: Gate>(
     }
 }
 
-/// Makes what takes the place of a node with the entry `old` that became `grown`: one entry, or a fork of two for a cut. Each new node gets
-/// a record, that of a cut's 1 side first. `None` if no node record was free: one made by then stays in `build.made`.
+/// Makes what takes the place of a node with the entry `old` that was cut in two: a fork. Each new node gets a record, that of the 1 side
+/// first. `None` if no node record was free: one made by then stays in `build.made`.
 pub(crate) fn make_risen<G: Gate>(
     table: &HotTable,
     seat: &mut TableSeat,
     gate: &mut G,
     build: &mut Build,
     old: Entry,
-    grown: &Grown,
+    cut: &Cut,
 ) -> Option<Risen>
     requires building { (news : List Made) × IsBuilding table.now seat.old build.old.made.items news }
     requires room { length build.old.made.items + 1 < MOST_MADE }
     ensures makes { Makes 2 (2 * node_steps) table.now G.becomes ((seat.old, gate.old), build.old) ((seat.new, gate.new), build.new) result }
     ensures made { (news : List Made) → IsBuilding table.now seat.old build.old.made.items news → MatchOption result
         (HasNotMade table.now seat.new build.new.made.items)
-        (λ risen. (after : List Made) × IsMadeFrom old grown.now risen news after × IsBuilding table.now seat.new build.new.made.items after) }
+        (λ risen. (after : List Made) × IsMadeFrom old (Two cut.now) risen news after × IsBuilding table.now seat.new build.new.made.items after) }
 {
-    match grown {
-        Grown::One(node) => {
-            let entry = make_node(table, seat, gate, build, node)?;
-            Some(Risen::Whole(entry))
-        }
-        Grown::Two(cut) => {
-            let one = make_half_entry(table, seat, gate, build, old, &cut.one)?;
-            let zero = make_half_entry(table, seat, gate, build, old, &cut.zero)?;
-            Some(Risen::Split {
-                position: cut.position,
-                zero,
-                one,
-            })
-        }
-    }
+    let one = make_half_entry(table, seat, gate, build, old, &cut.one)?;
+    let zero = make_half_entry(table, seat, gate, build, old, &cut.zero)?;
+    Some(Risen::Split {
+        position: cut.position,
+        zero,
+        one,
+    })
 }

@@ -9,7 +9,7 @@ ghost use Rattle.rowex_writing.specs.Building.{IsBuilding, IsGrowing, IsLevelRis
 ghost use Rattle.rowex_writing.specs.Going.{HasLocked, IsLockedBy, LeadsLocked};
 ghost use Rattle.rowex_writing.specs.Remaking.{AwaitsLeaf};
 ghost use Rattle.compound_node.specs.Nodes.{NodeView, height_of};
-ghost use Rattle.insert_cases.specs.Grown.{keeps_node, is_same};
+ghost use Rattle.insert_cases.specs.Grown.{keeps_side, is_same};
 ghost use Rattle.pieces.specs.Piece.{Place as At};
 ghost use Rattle.tries.specs.Keys.{Key as KeyValue};
 ghost use Rattle.tries.specs.Place.{subtrie_without};
@@ -28,8 +28,8 @@ use crate::job::Job;
 use crate::kept::{Build, MOST_MADE};
 use crate::locked::{load_locked_node_words, read_locked_node};
 use crate::remaking::{Fork, NewLeaf, add_fork, add_leaf, cut_with_fork, cut_with_leaf};
-use compound_node::{Entry, Half, Node};
-use insert_cases::{Grown, PathNode, Risen};
+use compound_node::{Cut, Entry, Half, Node};
+use insert_cases::{PathNode, Risen};
 use key_bits::Key;
 use record_words::{NODE_FIELDS, can_take_leaf, drop_entry, read_node};
 use rowex_core::Gate;
@@ -57,8 +57,8 @@ fn raise_node_with_fork<G: Gate>(
     let mut node = read_locked_node(table, seat, gate, number);
     if node.count() == 32 {
         let old = node_entry(number, &node);
-        let grown = cut_with_fork(&node, fork);
-        return make_risen(table, seat, gate, build, old, &grown);
+        let cut = cut_with_fork(&node, fork);
+        return make_risen(table, seat, gate, build, old, &cut);
     }
     add_fork(&mut node, fork);
     let entry = make_node(table, seat, gate, build, &node)?;
@@ -91,9 +91,9 @@ fn make_risen_with_leaf_by_value<G: Gate>(
     let mut node = read_node(&loaded.words);
     if node.count() == 32 {
         let old = node_entry(loaded.number, &node);
-        let grown = cut_with_leaf(&node, new);
-        let stays = has_whole_node(&grown);
-        let risen = make_risen(table, seat, gate, build, old, &grown)?;
+        let cut = cut_with_leaf(&node, new);
+        let stays = has_whole_node(&cut);
+        let risen = make_risen(table, seat, gate, build, old, &cut)?;
         return Some((risen, stays));
     }
     add_leaf(&mut node, new);
@@ -153,14 +153,11 @@ fn raise_lowest_node_with_leaf<G: Gate>(
     make_risen_with_leaf(table, seat, gate, build, &mut loaded, new)
 }
 
-/// Whether one side of `grown` is the node that was cut, as it was. `false` if `grown` is one node.
-fn has_whole_node(grown: &Grown) -> bool
-    ensures { result ≡ keeps_node grown.now }
+/// Whether one side of `cut` is the node that was cut, as it was.
+fn has_whole_node(cut: &Cut) -> bool
+    ensures { result ≡ keeps_side cut.now }
 {
-    match grown {
-        Grown::One(_) => false,
-        Grown::Two(cut) => is_whole_node(&cut.zero) || is_whole_node(&cut.one),
-    }
+    is_whole_node(&cut.zero) || is_whole_node(&cut.one)
 }
 
 /// Whether `half`, a side of a cut, is the whole node that was cut (`Half::Same`). `false` for one entry and for a new node.
