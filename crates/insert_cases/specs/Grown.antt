@@ -4,6 +4,7 @@ use Rattle.compound_node.specs.Halves.{HalfShows}
 use Rattle.compound_node.specs.Nodes.{NodeView, piece, IsEntry, IsBuiltFrom}
 use Rattle.compound_node.specs.declared.entries.Entry.{Entry}
 use Rattle.compound_node.specs.declared.entries.Entry.TheVariants.{Leaf}
+use Rattle.compound_node.specs.declared.halves.Cut.{Cut}
 use Rattle.compound_node.specs.declared.halves.Half.{Half}
 use Rattle.compound_node.specs.declared.halves.Half.TheVariants.{One, Many, Same}
 use Rattle.pieces.specs.Piece.{Piece, Place}
@@ -17,10 +18,14 @@ SidesShow old Same (One entry) zero one = (zero ≡ piece old) × (one ≡ Place
 SidesShow old (One entry) Same zero one = (zero ≡ Place entry) × (one ≡ piece old) × IsEntry entry
 SidesShow old first second zero one = HalfShows first zero × HalfShows second one
 
--- one node that was built for the piece, or the piece's root fork and its two sides
+-- the piece's root fork and its two sides
+abbrev pub IsCutOf : NodeView → Cut → Piece Entry → Type 0
+IsCutOf old cut shown = AtRootFork (λ p zero one. (cut.position ≡ p) × SidesShow old cut.zero cut.one zero one) shown
+
+-- one node that was built for the piece, or these two sides
 abbrev pub GrownShows : NodeView → Grown → Piece Entry → Type 0
 GrownShows old (Whole node) shown = IsBuiltFrom node shown
-GrownShows old (Two cut) shown = AtRootFork (λ p zero one. (cut.position ≡ p) × SidesShow old cut.zero cut.one zero one) shown
+GrownShows old (Two cut) shown = IsCutOf old cut shown
 
 abbrev pub is_whole : Grown → Bool
 is_whole (Whole node) = true
@@ -32,9 +37,12 @@ is_same (Many node) = false
 is_same Same = true
 
 -- the old node is one half as it stands
+abbrev pub keeps_side : Cut → Bool
+keeps_side cut = is_same cut.zero || is_same cut.one
+
 abbrev pub keeps_node : Grown → Bool
 keeps_node (Whole node) = false
-keeps_node (Two cut) = is_same cut.zero || is_same cut.one
+keeps_node (Two cut) = keeps_side cut
 
 -- the piece that a half made anew shows
 abbrev pub half_piece : Half → Piece Entry

@@ -7,7 +7,7 @@ ghost use Rattle.pieces.specs.Changes.{AtRootFork};
 ghost use Rattle.compound_node.specs.Halves.{HalfShows, CutShows};
 ghost use Rattle.compound_node.specs.Nodes.{piece, IsEntry, IsLawfulNode, IsBuiltFrom};
 ghost use Rattle.pieces.specs.Grafts.{grafted, IsAbovePath};
-ghost use Rattle.insert_cases.specs.Grown.{GrownShows, is_whole, keeps_node, half_piece};
+ghost use Rattle.insert_cases.specs.Grown.{GrownShows, IsCutOf, is_whole, keeps_node, keeps_side, half_piece};
 
 use compound_node::{Cut, Entry, Half, Node};
 
@@ -33,25 +33,24 @@ pub fn grow(node: &Node, first: u8, last: u8, position: u16, bit: bool, entry: E
     if node.count() < 32 {
         return Grown::One(node.insert(first, last, position, bit, entry));
     }
-    grow_full(node, first, last, position, bit, entry)
+    Grown::Two(grow_full(node, first, last, position, bit, entry))
 }
 
-/// As [`grow`], of a full node. The result is always `Two`: the node is cut at its root fork, and the entry goes into one of the halves. If
-/// `position` is below the root fork's, the cut is there: the whole node is one side, `Half::Same`, and the entry the other.
-pub fn grow_full(node: &Node, first: u8, last: u8, position: u16, bit: bool, entry: Entry) -> Grown
+/// As [`grow`], of a full node. The node is cut at its root fork, and the entry goes into one of the halves. If `position` is below the root
+/// fork's, the cut is there: the whole node is one side, `Half::Same`, and the entry the other.
+pub fn grow_full(node: &Node, first: u8, last: u8, position: u16, bit: bool, entry: Entry) -> Cut
     requires full { length node.now.entries ≡ 32 }
     requires range { IsAffected (piece node.now) position first last }
     requires position { position < 65535 }
     requires entry { IsEntry entry }
-    ensures shows { GrownShows node.now result (grown position bit entry first (piece node.now)) }
-    ensures whole { is_whole result ≡ false }
-    ensures same { IsTrue (keeps_node result) ↔ AtRootFork (λ p zero one. position < p) (piece node.now) }
+    ensures shows { IsCutOf node.now result (grown position bit entry first (piece node.now)) }
+    ensures same { IsTrue (keeps_side result) ↔ AtRootFork (λ p zero one. position < p) (piece node.now) }
 {
     prove!(node.count() == 32);
     if position < node.first_position() {
-        return Grown::Two(keep_node_whole(position, bit, entry));
+        return keep_node_whole(position, bit, entry);
     }
-    Grown::Two(cut_and_grow(node, first, last, position, bit, entry))
+    cut_and_grow(node, first, last, position, bit, entry)
 }
 
 /// The cut at `position` whose sides are the node that was handed in, whole, and `entry`. `bit` says which side `entry` is.
@@ -146,8 +145,7 @@ fn grow_half(half: Half, first: u8, last: u8, position: u16, bit: bool, entry: E
 }
 
 /// The node with a fork of `zero` and `one` at `position` in place of entry `at`. `position` is above those of all forks on the path to
-/// `at`. The result is `One` if there are fewer than 32 entries. A full node is cut at its root fork, and the new fork stands in one of the
-/// halves.
+/// `at`. It is one node if there are fewer than 32 entries, else the cut that [`pull_up_full`] returns.
 pub fn pull_up(node: &Node, at: u8, position: u16, zero: Entry, one: Entry) -> Grown
     requires place { at < length node.now.entries }
     requires path { IsAbovePath position at (piece node.now) }
@@ -163,6 +161,21 @@ pub fn pull_up(node: &Node, at: u8, position: u16, zero: Entry, one: Entry) -> G
         put_fork(&mut grown, at, position, zero, one);
         return Grown::One(grown);
     }
+    Grown::Two(pull_up_full(node, at, position, zero, one))
+}
+
+/// As [`pull_up`], of a full node. The node is cut at its root fork, and the new fork stands in one of the halves.
+pub fn pull_up_full(node: &Node, at: u8, position: u16, zero: Entry, one: Entry) -> Cut
+    requires full { length node.now.entries ≡ 32 }
+    requires place { at < length node.now.entries }
+    requires path { IsAbovePath position at (piece node.now) }
+    requires position { position < 65535 }
+    requires zero { IsEntry zero }
+    requires one { IsEntry one }
+    ensures shows { IsCutOf node.now result (grafted at (Fork position (At zero) (At one)) (piece node.now)) }
+    ensures same { keeps_side result ≡ false }
+{
+    prove!(node.count() == 32);
     let Cut {
         position: root,
         zero: front,
@@ -171,18 +184,18 @@ pub fn pull_up(node: &Node, at: u8, position: u16, zero: Entry, one: Entry) -> G
     let count = half_count(&front);
     if at < count {
         let front = Half::Many(fork_half(front, at, position, zero, one));
-        Grown::Two(Cut {
+        Cut {
             position: root,
             zero: front,
             one: rest,
-        })
+        }
     } else {
         let rest = Half::Many(fork_half(rest, at - count, position, zero, one));
-        Grown::Two(Cut {
+        Cut {
             position: root,
             zero: front,
             one: rest,
-        })
+        }
     }
 }
 

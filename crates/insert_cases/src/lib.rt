@@ -9,5 +9,5 @@ mod raising;
 pub use choice::{
     Case, Choice, PathNode, choose_case, is_pull_up, last_level_before, pull_up_chain_end,
 };
-pub use growth::{Grown, grow, grow_full, pull_up, put_fork};
+pub use growth::{Grown, grow, grow_full, pull_up, pull_up_full, put_fork};
 pub use raising::Risen;

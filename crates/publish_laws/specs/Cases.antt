@@ -58,7 +58,8 @@ abbrev pub MayRemove : Type 0
 MayRemove =
     (layout : Layout) (k : Known) (held : List Locked) (news : List Made) (key : Key) (n j height w value : ℕ) (e : Entry) (words : List ℕ) (at : Spot) →
     HasReady k held news → IsSide (subtrie_without key (node_words_of words).subtrie) e news → IsOneOf (record { node = n; words = words }) held →
-    seek key (node_words_of words).subtrie ≡ Leaf j → (s : HoldsAt k held key (Node n height) at) → FitsAt s e → IsLeafThere layout k held news j key → HasLoaded k j value → IsWord e w →
+    seek key (node_words_of words).subtrie ≡ Leaf j → (s : HoldsAt k held key (Node n height) at) → FitsAt s e →
+    IsLeafThere layout k held news j key → HasLoaded k j value → IsWord e w →
     Publishes layout k at w (removed_change k.pass (item j key value)) (Some value) (a_node n ∷ a_leaf j ∷ [])
 
 -- And one that merges: what is left of the node and the node beside it become one new node z, whose entry closes the fork between them in

@@ -22,7 +22,7 @@ use Rattle.rowex_writing.proofs.Runs.{once_run, run_once}
 use Rattle.rowex_writing.specs.Counts.{attempt_steps, change_steps, most_locks, most_nodes, most_steps, rest_steps, search_steps, span_steps}
 use Rattle.rowex_writing.specs.Locks.{TriesNodesBy, locks_of, span_numbers, targets_of}
 use Rattle.rowex_writing.specs.Merging.{EndsChange}
-use Rattle.rowex_writing.specs.declared.deeds.Job.{Job}
+use Rattle.rowex_writing.specs.declared.job.Job.{Job}
 use Rattle.rowex_writing.proofs.Counting.{numbers_few}
 use Rattle.rowex_writing.proofs.Tried.{once_after, targets_append}
 

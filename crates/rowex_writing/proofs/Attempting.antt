@@ -38,7 +38,7 @@ use Rattle.rowex_core.specs.Knowing.{IsPinnedSince}
 use Rattle.rowex_reading.specs.Seen.{Sure, since}
 use Rattle.rowex_reading.proofs.Seeing.{later_trans, held_stable, missed_stable, shaped_stable, sure_later, since_later}
 use Rattle.rowex_writing.specs.Asking.{aim_of, aim_where, reply_to, value_in}
-use Rattle.rowex_writing.specs.Attempts.{HasAnswered, HasDone, HasLoadedRoot, HasLooked, HasRefused, IsAttemptCause, IsChangeOf, IsLeafless, refusal_of, revalued, HasFailed, HasMissedKey, IsFullFault, IsFullOfNew, WantsRecord}
+use Rattle.rowex_writing.specs.Attempts.{HasAnswered, HasDoneDeed, HasLoadedRoot, HasLooked, HasRefused, IsAttemptCause, IsChangeOf, IsLeafless, refusal_of, revalued, HasFailed, HasMissedKey, IsFullFault, IsFullOfNew, WantsRecord}
 use Rattle.rowex_writing.specs.Changes.{AreAffected, HasChanged, HasNoRoom, HasRun, IsFull, IsPlanned}
 use Rattle.rowex_writing.specs.Locks.{HasMetLock, locks_of}
 use Rattle.rowex_writing.specs.Walks.{nodes_among}
@@ -64,7 +64,7 @@ use Rattle.rowex_writing.proofs.Spans.{met_since}
 use Rattle.record_words.specs.declared.TheConstants.{HEAD_WORDS}
 use Rattle.rowex_writing.specs.Counts.{held_loads, most_nodes, most_steps, most_steps_of, search_steps, spare_steps, value_steps}
 use Rattle.rowex_writing.specs.Jobs.{IsJobFrom}
-use Rattle.rowex_writing.specs.declared.deeds.Job.{Job}
+use Rattle.rowex_writing.specs.declared.job.Job.{Job}
 
 -- ---- what was found and planned stays so
 pub found_later : (k j : Known) (key : Key) (value : Option ℕ) → IsLater k j → since j ≡ since k → HasFound k key value → HasFound j key value
@@ -221,22 +221,22 @@ deed_in (Answer r) = Put
 deed_in (a_change span deed) = deed
 
 module _ (i j : Known) (key : Key) (value : ℕ) (found : Found) where
-  done_by : (span : Span) (deed other : Deed) (len end : ℕ) → a_change span deed ≡ change len end other → HasDone i j deed key value found → HasDone i j other key value found
-  done_by span deed other len end e done = subst (λ d. HasDone i j d key value found) (ap deed_in e) done
+  done_by : (span : Span) (deed other : Deed) (len end : ℕ) → a_change span deed ≡ change len end other → HasDoneDeed i j deed key value found → HasDoneDeed i j other key value found
+  done_by span deed other len end e done = subst (λ d. HasDoneDeed i j d key value found) (ap deed_in e) done
 
-  new_done : (way : List PathNode) (p first last : ℕ) (span : Span) (deed : Deed) → IsNewLeafPlan way p first last (a_change span deed) → HasDone i j deed key value found →
-      HasDone i j Put key value found
+  new_done : (way : List PathNode) (p first last : ℕ) (span : Span) (deed : Deed) → IsNewLeafPlan way p first last (a_change span deed) → HasDoneDeed i j deed key value found →
+      HasDoneDeed i j Put key value found
   new_done [] p first last span deed e done = done_by span deed (PushDown p) 0 0 e done
   new_done (s ∷ way) p first last span deed (level, at, (chosen, choice, case)) done = go chosen.case case
     where
-      go : (case : Case) → IsCase (s ∷ way) p chosen case (a_change span deed) → HasDone i j Put key value found
+      go : (case : Case) → IsCase (s ∷ way) p chosen case (a_change span deed) → HasDoneDeed i j Put key value found
       go LeafPushdown e = done_by span deed (PushDown p) _ _ e done
       go NormalInsert e = done_by span deed (Grow p) _ _ e done
       go Overflow (end, upto, e) = done_by span deed (Grow p) _ _ e done
 
 -- the change is the one that was aimed at
 plan_does : (i j k : Known) (m : ℕ) (key : Key) (value : ℕ) (way : List PathNode) (aim : Aim) (found : Found) (span : Span) (deed : Deed) →
-    IsPlanned k m key way aim found (a_change span deed) → HasDone i j deed key value found → HasMadeAim i j key value aim (value_of found)
+    IsPlanned k m key way aim found (a_change span deed) → HasDoneDeed i j deed key value found → HasMadeAim i j key value aim (value_of found)
 plan_does i j k m key value way ToInsert Nothing span deed (first, last, is, affected) done = done_by i j key value Nothing span deed Put 0 0 is done
 plan_does i j k m key value way ToUpsert Nothing span deed (first, last, is, affected) done = done_by i j key value Nothing span deed Put 0 0 is done
 plan_does i j k m key value way ToInsert (Leaf n v (Some p)) span deed (first, last, is, affected) done = new_done i j key value (Leaf n v (Some p)) way p first last span deed is done
@@ -586,7 +586,7 @@ pub answered_look : (k j : Known) (call : Call) (reply : Reply) → IsLater k j 
 answered_look k j call reply later looked = inl (looked, later.front)
 
 pub answered_change : (k p i j : Known) (m : ℕ) (key : Key) (value : ℕ) (way : List PathNode) (call : Call) (held : Option ℕ) (aim : Aim) (found : Found) (span : Span) (deed : Deed) → IsLater k i →
-    key ≡ key_of call → value ≡ value_in call held → held ≡ value_of found → aim_of call held ≡ Some aim → IsPlanned p m key way aim found (a_change span deed) → HasDone i j deed key value found →
+    key ≡ key_of call → value ≡ value_in call held → held ≡ value_of found → aim_of call held ≡ Some aim → IsPlanned p m key way aim found (a_change span deed) → HasDoneDeed i j deed key value found →
     HasAnswered k j call (reply_to call held)
 answered_change k p i j m key value way call held aim found span deed later key_is value_is held_is e planned done =
     let (x, was, made, changed) = plan_does i j p m key value way aim found span deed planned done in

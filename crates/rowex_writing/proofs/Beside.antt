@@ -36,8 +36,8 @@ use Rattle.rowex_reading.proofs.Ways.{way_later}
 use Rattle.rowex_writing.specs.Going.{HasLocked, IsLockedBy, IsNodeOf, WorksOn}
 use Rattle.publish_laws.proofs.Merging.{beside_in_table}
 use Rattle.rowex_writing.specs.Merging.{IsNeighbour, IsTaking, TakesOn, lower, no_step, upper}
-use Rattle.rowex_writing.specs.declared.deeds.Job.{Job}
-use Rattle.rowex_writing.specs.declared.merging.Merge.{Merge}
+use Rattle.rowex_writing.specs.declared.job.Job.{Job}
+use Rattle.rowex_writing.specs.declared.job.Merge.{Merge}
 use Rattle.rowex_writing.proofs.Above.{locked_at}
 use Rattle.rowex_writing.proofs.Locking.{locked_on, seat_of}
 use Rattle.rowex_writing.proofs.Making.{goes_possible}

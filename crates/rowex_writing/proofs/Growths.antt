@@ -64,7 +64,7 @@ use Rattle.rowex_writing.specs.Locks.{AreNodes, HasLockedSpan, Works, numbers_of
 use Rattle.rowex_writing.specs.Putting.{IsSpotAbove}
 use Rattle.rowex_writing.specs.Retiring.{AreInTable}
 use Rattle.rowex_writing.specs.Walks.{nodes_among}
-use Rattle.rowex_writing.specs.declared.deeds.Job.{Job}
+use Rattle.rowex_writing.specs.declared.job.Job.{Job}
 use Rattle.rowex_writing.specs.declared.plan.Span.{Span}
 use Rattle.rowex_writing.specs.declared.remaking.NewLeaf.{NewLeaf}
 use Rattle.rowex_writing.proofs.Bridging.{IsGrowPlan, chain_at, found_below, grow_plan, part_at, leads_at, pulled_full, spot_of, top_within}

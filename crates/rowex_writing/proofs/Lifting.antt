@@ -1,5 +1,5 @@
 -- One level up.
-use Rattle.std.proofs.Common.{◌≡◌, ◌≢◌, ℕ, ◌<◌, ◌≤◌, ◌+◌, ◌-◌, List, [], ◌∷◌, ◌++◌, refl, sym, ap, ap₂, subst, ◌∙◌, arith, Option, Some, None, Bool, true, false, inl, inr, ◌⊎◌, append_assoc, get_or}
+use Rattle.std.proofs.Common.{◌≡◌, ℕ, ◌<◌, ◌≤◌, ◌+◌, ◌-◌, List, [], ◌∷◌, ◌++◌, refl, sym, ap, ap₂, subst, ◌∙◌, arith, Option, Some, None, Bool, true, false, inl, inr, ◌⊎◌, append_assoc, get_or}
 use Rattle.std.specs.Prelude.{MatchOption, IfSome, IsTrue, ◌↔◌, slice_get, length, map, drop, take}
 use Rattle.std.proofs.lemmas.List.{drop-append-le, drop-take, length-take-le, map-append, take_more}
 use Rattle.std.proofs.lemmas.Option.{get_or_from_slice_get, slice_get-get_or, slice_get_within}
@@ -36,7 +36,7 @@ use Rattle.rowex_table.specs.Seats.{TableView, SeatView}
 use Rattle.publish_laws.specs.Stages.{HasLeaf, HasRisen, IsLockedAbove}
 use Rattle.publish_laws.proofs.Rising.{risen_stays, rises_pulled, rises_wrapped, rise_grows}
 use Rattle.publish_laws.specs.Rises.{made_of_node, made_of_leaf, IsSide, anew, HasFoundBelow}
-use Rattle.rowex_writing.specs.Building.{IsBuilding, IsHalfMade, IsMadeFrom, IsRaising, GetsFork, IsLevelRisen, GetsLeaf, IsLowRisen, IsNextTo, IsRisenAt, IsSingle, IsSplit, FitsAbove, IsChain, Rises, IsGrowing, IsGrownFrom, HasNotMade, HasRisenTo, gone_unless_whole, gone_with_way, newcomer_of}
+use Rattle.rowex_writing.specs.Building.{IsBuilding, IsHalfMade, IsMadeFrom, IsRaising, GetsFork, IsLevelRisen, GetsLeaf, IsLowRisen, IsAtMostOneHigher, IsRisenAt, IsSingle, IsSplit, FitsAbove, IsChain, Rises, IsGrowing, IsGrownFrom, HasNotMade, HasRisenTo, gone_unless_whole, gone_with_way, newcomer_of}
 use Rattle.rowex_writing.specs.Going.{WorksOn, ReadsOn, HasLocked, IsNodeOf}
 use Rattle.rowex_writing.specs.Merging.{no_step}
 use Rattle.rowex_writing.specs.Remaking.{AwaitsLeaf, IsSubtrieOfTree, IsLowHalf, IsNoHigher, subtrie_with_fork, subtrie_with_leaf}
@@ -326,11 +326,11 @@ leaf_level words node was new None none before Q is tall made = tt
 leaf_level words node was new (Some r) none before Q is tall (after, grown, rest) = level_made words node was grown.grown r.0 before after is tall grown.low grown.whole grown.made
 
 -- ---- the height of what has risen, as one entry
-pub whole_height : (h : ℕ) (e : Entry) (risen : Risen) → risen ≡ Whole e → IsLowRisen h risen → IsNextTo h risen e
+pub whole_height : (h : ℕ) (e : Entry) (risen : Risen) → risen ≡ Whole e → IsLowRisen h risen → IsAtMostOneHigher h risen e
 whole_height h e risen is low = let l : IsLowRisen h (Whole e) = subst (IsLowRisen h) is low in (omega (arith, l), λ s. l)
 
 pub split_height : (h q : ℕ) (z o : Entry) (risen : Risen) (view : NodeView) (none has : Type 0) (rest : ℕ → Type 0) (answer : Option Entry) → risen ≡ Split q z o → IsLowRisen h risen → IsBuiltFrom view (Fork q (Place z) (Place o)) →
-    MatchOption answer none (λ e. (m : ℕ) × (e ≡ Node m view.height) × has × rest m) → IfSome answer (IsNextTo h risen)
+    MatchOption answer none (λ e. (m : ℕ) × (e ≡ Node m view.height) × has × rest m) → IfSome answer (IsAtMostOneHigher h risen)
 split_height h q z o risen view none has rest None is low built made = tt
 split_height h q z o risen view none has rest (Some e) is low built (m, e_is, spelled, more) =
     let l : IsLowRisen h (Split q z o) = subst (IsLowRisen h) is low in
@@ -339,7 +339,7 @@ split_height h q z o risen view none has rest (Some e) is low built (m, e_is, sp
     (omega (arith, tall, same), λ s. absurd (let f : IsSingle (Split q z o) = subst IsSingle is s in f))
 
 -- so beside the node with these words, which gave one entry where it had room
-pub fits_above : (words : List ℕ) (risen : Risen) (answer : Option Entry) → (size (node_words_of words).subtrie < 32 → IsSingle risen) → IfSome answer (IsNextTo (node_words_of words).fixed.height risen) → IfSome answer (FitsAbove words)
+pub fits_above : (words : List ℕ) (risen : Risen) (answer : Option Entry) → (size (node_words_of words).subtrie < 32 → IsSingle risen) → IfSome answer (IsAtMostOneHigher (node_words_of words).fixed.height risen) → IfSome answer (FitsAbove words)
 fits_above words risen None single low = tt
 fits_above words risen (Some e) single low = (low.0, λ room. low.1 (single room))
 
@@ -370,11 +370,15 @@ gone_with_no_node way end gone =
     let zero : end + 0 ≡ end = omega arith in
     ap (λ z. map (λ (s : PathNode). a_node s.number) z ++ gone) (ap (λ n. drop end (take n way)) (sym zero) ∙ drop-take end 0 way)
 
--- a fork that rises into the node above
-module _ {table : TableView} {a : SeatView} {made : List Rec} {way : List PathNode} {rise : Rise} (up : Rises table a made way rise) (apart : rise.level ≢ rise.end) where
-  pub up_low : rise.end < rise.level
-  up_low = let u = up.upto in omega (arith, apart, u)
+-- What has risen since then rises on for the same newcomer, and what goes with the way from there is what goes with it from here.
+pub record RisesOn {table : TableView} {a : SeatView} {made : List Rec} {way : List PathNode} {rise : Rise} (before : Rises table a made way rise) (b : SeatView) (built : List Rec) (next : Rise) : Type 0 where
+  pub up : Rises table b built way next
+  pub newcomer : up.here.newcomer ≡ before.here.newcomer
+  pub end : next.end ≡ rise.end
+  pub gone : gone_with_way way next.end next.level up.here.gone ≡ gone_with_way way rise.end rise.level before.here.gone
 
+-- a fork that rises into the node above
+module _ {table : TableView} {a : SeatView} {made : List Rec} {way : List PathNode} {rise : Rise} (up : Rises table a made way rise) (below : rise.end < rise.level) where
   pub up_within : rise.level - 1 < length way
   up_within = let h = slice_get_within way rise.level up.step up.at in omega (arith, h)
 
@@ -384,59 +388,58 @@ module _ {table : TableView} {a : SeatView} {made : List Rec} {way : List PathNo
   pub up_at : slice_get way (rise.level - 1) ≡ Some up_step
   up_at = slice_get-get_or way (rise.level - 1) no_step up_within
 
-  next : rise.level - 1 + 1 ≡ rise.level
-  next = omega (arith, up_low)
+  pub next : rise.level - 1 + 1 ≡ rise.level
+  next = omega (arith, below)
 
   pub up_over : (over : IsLockedAbove a.known.locks up.here.newcomer.item.key up.here.newcomer.mismatch up_step.number up.step.number) × ((node_words_of over.lower).fixed.height < (node_words_of over.upper).fixed.height)
-  up_over = up.chain.above (rise.level - 1) up_step up.step (omega (arith, up_low)) (omega (arith, up_low)) up_at (ap (slice_get way) next ∙ up.at)
+  up_over = up.chain.above (rise.level - 1) up_step up.step (omega (arith, below)) (omega (arith, below)) up_at (ap (slice_get way) next ∙ up.at)
 
   pub up_there : up_step.number < table.layout.nodes
-  up_there = up.chain.there (rise.level - 1) up_step (omega (arith, up_low)) up_at
+  up_there = up.chain.there (rise.level - 1) up_step (omega (arith, below)) up_at
 
-  abbrev pub up_below : (q : ℕ) (z o : Entry) → rise.risen ≡ Split q z o → GetsFork table a made up_step.number (record { key = rise.key; position = q; zero = z; one = o })
-  up_below q z o is =
-      let sides : IsLowRisen (node_words_of up_over.0.lower).fixed.height (Split q z o) = subst (IsLowRisen (node_words_of up_over.0.lower).fixed.height) is (up.low up_over.0.lower up_over.0.has_lower) in
+  abbrev pub up_below : (fork : NewFork) → fork.key.now ≡ rise.key.now → rise.risen ≡ Split fork.position fork.zero fork.one → GetsFork table a made up_step.number fork
+  up_below fork key is =
+      let sides : IsLowRisen (node_words_of up_over.0.lower).fixed.height (Split fork.position fork.zero fork.one) = subst (IsLowRisen (node_words_of up_over.0.lower).fixed.height) is (up.low up_over.0.lower up_over.0.has_lower) in
       let h = up_over.1 in
       record {
         lower = up.step.number;
-        here = risen_as table a made up.step.number up.step.number rise.risen (Split q z o) refl is up.here;
-        key_is = up.key_is;
+        here = risen_as table a made up.step.number up.step.number rise.risen (Split fork.position fork.zero fork.one) refl is up.here;
+        key_is = key ∙ up.key_is;
         over = up_over.0;
         zero_low = omega (arith, sides.0);
         one_low = omega (arith, sides.1);
       }
 
-  abbrev pub up_next : {m : SeatView} {made_then : List Rec} (then : Risen) → m.known.locks ≡ a.known.locks → IsRaising table m made_then (a_node up_step.number ∷ up.here.gone) up.here.newcomer (entry up_step.number) (subtrie_of then) →
-      ((words : List ℕ) → HasLocked a.known up_step.number words → IsLevelRisen words then) → Rises table m made_then way (record { key = rise.key; end = rise.end; level = rise.level - 1; risen = then })
-  up_next {m} {made_then} then locks raising rises =
+  abbrev pub up_on : {m : SeatView} {made_then : List Rec} (then : Risen) → m.known.locks ≡ a.known.locks → IsRaising table m made_then (a_node up_step.number ∷ up.here.gone) up.here.newcomer (entry up_step.number) (subtrie_of then) →
+      ((words : List ℕ) → HasLocked a.known up_step.number words → IsLevelRisen words then) → RisesOn up m made_then (record { key = rise.key; end = rise.end; level = rise.level - 1; risen = then })
+  up_on {m} {made_then} then locks raising rises =
       let before : (words : List ℕ) → HasLocked m.known up_step.number words → HasLocked a.known up_step.number words = λ words. subst (IsOneOf (record { node = up_step.number; words = words })) locks in
       record {
-        step = up_step;
-        at = up_at;
-        upto = omega (arith, up_low);
-        here = record {
-          gone = a_node up_step.number ∷ up.here.gone;
-          newcomer = up.here.newcomer;
-          words = up_over.0.upper;
-          locked = subst (IsOneOf (record { node = up_step.number; words = up_over.0.upper })) (sym locks) up_over.0.has_upper;
-          raising = raising;
+        up = record {
+          step = up_step;
+          at = up_at;
+          upto = omega (arith, below);
+          here = record {
+            gone = a_node up_step.number ∷ up.here.gone;
+            newcomer = up.here.newcomer;
+            words = up_over.0.upper;
+            locked = subst (IsOneOf (record { node = up_step.number; words = up_over.0.upper })) (sym locks) up_over.0.has_upper;
+            raising = raising;
+          };
+          key_is = up.key_is;
+          low = λ other h. (rises other (before other h)).low;
+          split = λ more. (rises up_over.0.upper up_over.0.has_upper).split (up.chain.full (rise.level - 1) up_step more (omega (arith, below)) up_at up_over.0.upper up_over.0.has_upper);
+          single = λ other h. (rises other (before other h)).single;
+          chain = subst (λ held. IsChain table.layout.nodes held way up.here.newcomer.item.key up.here.newcomer.mismatch rise.end (rise.level - 1)) (sym locks) (record {
+            there = λ i u l e. up.chain.there i u (omega arith) e;
+            above = λ i u v l h e f. up.chain.above i u v l (omega arith) e f;
+            full = λ i u l h e. up.chain.full i u l (omega arith) e;
+          });
         };
-        key_is = up.key_is;
-        low = λ other h. (rises other (before other h)).low;
-        split = λ more. (rises up_over.0.upper up_over.0.has_upper).split (up.chain.full (rise.level - 1) up_step more (omega (arith, up_low)) up_at up_over.0.upper up_over.0.has_upper);
-        single = λ other h. (rises other (before other h)).single;
-        chain = subst (λ held. IsChain table.layout.nodes held way up.here.newcomer.item.key up.here.newcomer.mismatch rise.end (rise.level - 1)) (sym locks) (record {
-          there = λ i u l e. up.chain.there i u (omega arith) e;
-          above = λ i u v l h e f. up.chain.above i u v l (omega arith) e f;
-          full = λ i u l h e. up.chain.full i u l (omega arith) e;
-        });
+        newcomer = refl;
+        end = refl;
+        gone = gone_more way rise.end (rise.level - 1) rise.level up.here.gone up_step next (omega (arith, below)) up_at;
       }
-
-  pub up_done : (c : SeatView) (after : List Rec) (answer : Option Entry) →
-      MatchOption answer (HasNotMade table c after) (HasRisenTo table c after way up.here.newcomer rise.end (gone_with_way way rise.end (rise.level - 1) (a_node up_step.number ∷ up.here.gone))) →
-      MatchOption answer (HasNotMade table c after) (HasRisenTo table c after way up.here.newcomer rise.end (gone_with_way way rise.end rise.level up.here.gone))
-  up_done c after None given = given
-  up_done c after (Some e) given = subst (λ g. HasRisenTo table c after way up.here.newcomer rise.end g e) (gone_more way rise.end (rise.level - 1) rise.level up.here.gone up_step next (omega (arith, up_low)) up_at) given
 
 -- the end of the way up
 module _ {table : TableView} {a : SeatView} {made : List Rec} {way : List PathNode} {rise : Rise} (up : Rises table a made way rise) where
@@ -457,6 +460,24 @@ module _ {table : TableView} {a : SeatView} {made : List Rec} {way : List PathNo
         subst (λ n. IsRaising table c after (gone_with_way way rise.end rise.level up.here.gone) up.here.newcomer (entry n) (Place e)) last
             (subst (λ y. IsRaising table c after y up.here.newcomer (entry (get_or way rise.level no_step).number) (Place e)) (sym gone) raising),
       )
+
+-- nothing has yet
+pub rises_here : {table : TableView} {a : SeatView} {made : List Rec} {way : List PathNode} {rise : Rise} (up : Rises table a made way rise) → RisesOn up a made rise
+rises_here up = record { up = up; newcomer = refl; end = refl; gone = refl }
+
+-- so of what has risen on
+module _ {table : TableView} {a : SeatView} {made : List Rec} {way : List PathNode} {rise : Rise} {before : Rises table a made way rise} {b : SeatView} {built : List Rec} {next : Rise} (on : RisesOn before b built next) where
+  pub rises_then : {c : SeatView} {more : List Rec} {last : Rise} → RisesOn on.up c more last → RisesOn before c more last
+  rises_then then = record { up = then.up; newcomer = then.newcomer ∙ on.newcomer; end = then.end ∙ on.end; gone = then.gone ∙ on.gone }
+
+  pub settled_on : (c : SeatView) (after : List Rec) (answer : Option Entry) → next.level ≡ next.end →
+      MatchOption answer (HasNotMade table c after) (λ e. IsRaising table c after on.up.here.gone on.up.here.newcomer (entry (get_or way next.level no_step).number) (Place e)) →
+      MatchOption answer (HasNotMade table c after) (HasRisenTo table c after way before.here.newcomer rise.end (gone_with_way way rise.end rise.level before.here.gone))
+  settled_on c after answer same given =
+      subst (λ x. MatchOption answer (HasNotMade table c after) (HasRisenTo table c after way x rise.end (gone_with_way way rise.end rise.level before.here.gone))) on.newcomer
+      (subst (λ g. MatchOption answer (HasNotMade table c after) (HasRisenTo table c after way on.up.here.newcomer rise.end g)) on.gone
+      (subst (λ n. MatchOption answer (HasNotMade table c after) (HasRisenTo table c after way on.up.here.newcomer n (gone_with_way way next.end next.level on.up.here.gone))) on.end
+      (settled_at_end on.up c after answer same given)))
 
 -- ---- all of a span
 module _ {table : TableView} {a : SeatView} {made : List Rec} {way : List PathNode} {span : Span} {new : NewLeaf} (b : IsGrowing table a made way span new) where

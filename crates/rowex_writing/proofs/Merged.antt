@@ -72,9 +72,9 @@ use Rattle.rowex_writing.specs.Locks.{HasTheSame, numbers_of, span_numbers}
 use Rattle.rowex_writing.specs.Merging.{AreNoNode, ClosesFork, HasHeight, IsNeighbour, IsTaking, IsWide, LocksAbove, MayMergeInto, TakesOn, by_anchor, by_node, lower, merged_gone, no_step, upper}
 use Rattle.rowex_writing.specs.Putting.{IsSpotAbove}
 use Rattle.rowex_writing.specs.Retiring.{AreInTable, IsAnchored}
-use Rattle.rowex_writing.specs.declared.deeds.Job.{Job}
+use Rattle.rowex_writing.specs.declared.job.Job.{Job}
 use Rattle.rowex_writing.specs.declared.merging.ClosedFork.{ClosedFork}
-use Rattle.rowex_writing.specs.declared.merging.Merge.{Merge}
+use Rattle.rowex_writing.specs.declared.job.Merge.{Merge}
 use Rattle.rowex_writing.proofs.Above.{lower_entry}
 use Rattle.rowex_writing.proofs.Beside.{locked_node, lower_at, lower_locked, lower_range, upper_at, upper_locked, upper_range}
 use Rattle.rowex_table.specs.Rights.{IsClaimed}
@@ -84,7 +84,7 @@ use Rattle.rowex_writing.proofs.Locking.{locked_on, seat_of}
 use Rattle.rowex_writing.proofs.Making.{building_on, goes_possible, set_all_on}
 use Rattle.rowex_writing.proofs.Remade.{entries_under}
 use Rattle.rowex_writing.specs.Deeds.{MayReplace}
-use Rattle.rowex_writing.specs.declared.deeds.Raised.{Raised}
+use Rattle.rowex_writing.specs.declared.job.Raised.{Raised}
 use Rattle.rowex_writing.specs.declared.plan.Deed.{Deed}
 use Rattle.rowex_writing.specs.declared.plan.Deed.TheVariants.{Take}
 use Rattle.rowex_writing.proofs.Removing.{has_read, leaf_gone_record, leaf_there, low_names, taken_below, told_value}

@@ -49,7 +49,7 @@ use Rattle.rowex_writing.specs.Asking.{aim_of}
 use Rattle.rowex_writing.specs.Attempts.{HasFoundOther, HasLoadedFound, HoldsFound, IsFoundAgain, revalued}
 use Rattle.rowex_writing.specs.Changes.{HasTakenPlan, HasTakenSpan}
 use Rattle.rowex_writing.specs.Merging.{no_step}
-use Rattle.rowex_writing.specs.declared.deeds.Job.{Job}
+use Rattle.rowex_writing.specs.declared.job.Job.{Job}
 use Rattle.rowex_writing.specs.declared.plan.Aim.{Aim}
 use Rattle.rowex_writing.specs.declared.plan.Deed.{Deed}
 use Rattle.rowex_writing.specs.declared.plan.Span.{Span}

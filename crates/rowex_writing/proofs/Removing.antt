@@ -62,7 +62,7 @@ use Rattle.rowex_reading.specs.Ways.{IsWayOf}
 use Rattle.rowex_reading.proofs.Ways.{named_at, named_end}
 use Rattle.rowex_reading.specs.declared.descent.Found.{Found}
 use Rattle.rowex_reading.specs.declared.descent.Found.TheVariants.{Nothing, Leaf}
-use Rattle.rowex_writing.specs.declared.deeds.Job.{Job}
+use Rattle.rowex_writing.specs.declared.job.Job.{Job}
 use Rattle.rowex_writing.proofs.Above.{locked_at, holds_above}
 use Rattle.rowex_writing.proofs.Beside.{locked_node}
 use Rattle.rowex_writing.proofs.Planning.{same_span}

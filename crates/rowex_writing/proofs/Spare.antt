@@ -45,8 +45,8 @@ use Rattle.rowex_writing.specs.Merging.{no_step}
 use Rattle.rowex_writing.specs.Retiring.{AreInTable}
 use Rattle.rowex_writing.specs.Spare.{WillSpare, WillSpareOne, by_free, by_gone, by_kept}
 use Rattle.rowex_writing.specs.Walks.{nodes_among}
-use Rattle.rowex_writing.specs.declared.deeds.Job.{Job}
-use Rattle.rowex_writing.specs.declared.deeds.Raised.{Raised}
+use Rattle.rowex_writing.specs.declared.job.Job.{Job}
+use Rattle.rowex_writing.specs.declared.job.Raised.{Raised}
 use Rattle.rowex_writing.specs.declared.plan.Full.{Full}
 use Rattle.rowex_writing.specs.declared.plan.Span.{Span}
 use Rattle.rowex_writing.proofs.Confirming.{drop_has, take_has}

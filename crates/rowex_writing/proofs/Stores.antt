@@ -22,9 +22,9 @@ use Rattle.rowex_writing.specs.Locks.{AreNodes, numbers_of}
 use Rattle.rowex_writing.specs.Merging.{HasListed, IsWide, MayMergeInto, merged_gone}
 use Rattle.rowex_writing.specs.Putting.{IsSpotAbove}
 use Rattle.rowex_writing.specs.Retiring.{AreInTable, IsAnchored, MayStore, is_root}
-use Rattle.rowex_writing.specs.declared.building.Build.{Build}
-use Rattle.rowex_writing.specs.declared.deeds.Job.{Job}
-use Rattle.rowex_writing.specs.declared.deeds.Raised.{Raised}
+use Rattle.rowex_writing.specs.declared.kept.Build.{Build}
+use Rattle.rowex_writing.specs.declared.job.Job.{Job}
+use Rattle.rowex_writing.specs.declared.job.Raised.{Raised}
 use Rattle.rowex_writing.specs.declared.publishing.Store.{Store}
 use Rattle.rowex_writing.proofs.Growths.{range_nodes}
 use Rattle.rowex_writing.proofs.Keeping.{step_nodes}

@@ -53,7 +53,7 @@ use Rattle.rowex_writing.specs.Going.{ReadsOn, TriesNoLock}
 use Rattle.rowex_writing.specs.Jobs.{IsJobFrom, HoldsSpan}
 use Rattle.rowex_writing.specs.Locks.{span_numbers}
 use Rattle.rowex_writing.specs.Merging.{EndsChange, no_step}
-use Rattle.rowex_writing.specs.declared.deeds.Job.{Job}
+use Rattle.rowex_writing.specs.declared.job.Job.{Job}
 use Rattle.rowex_writing.specs.declared.plan.Full.{Full}
 use Rattle.rowex_writing.specs.declared.plan.Full.TheVariants.{Nodes, Leaves}
 use Rattle.rowex_writing.specs.declared.plan.Span.{Span}
@@ -66,7 +66,7 @@ use Rattle.std.proofs.lemmas.Option.{slice_get-get_or}
 use Rattle.rowex_writing.specs.Putting.{IsSpotAbove}
 use Rattle.rowex_writing.specs.Deeds.{MayReplace}
 use Rattle.rowex_writing.specs.Building.{IsBuilding}
-use Rattle.rowex_writing.specs.declared.deeds.Raised.{Raised}
+use Rattle.rowex_writing.specs.declared.job.Raised.{Raised}
 use Rattle.rowex_writing.specs.declared.attempts.TryFault.{TryFault}
 use Rattle.rowex_writing.specs.declared.attempts.TryFault.TheVariants.{Busy, FullNodes, FullLeaves}
 use Rattle.versions.specs.declared.Rec.{Rec}

@@ -23,7 +23,7 @@ use Rattle.rowex_table.proofs.Running.{does_count}
 use Rattle.rowex_records.specs.Claims.{AllMissed, Claims, FindsNone, HasMissedSince, IsAnothers, IsAnothersBut, IsAnothersTo, MissesOne, begin_of, claiming, records_had, wrapped}
 use Rattle.rowex_records.proofs.Claimed.{anothers_among, anothers_before, held_misses, missed_among, missed_earlier, missed_so, turned_to}
 use Rattle.rowex_records.proofs.Making.{looks_one}
-use Rattle.rowex_writing.specs.declared.building.Build.{Build}
+use Rattle.rowex_writing.specs.declared.kept.Build.{Build}
 use Rattle.rowex_writing.specs.Building.{IsBuilding}
 use Rattle.rowex_writing.specs.Going.{WorksOn}
 use Rattle.rowex_writing.specs.Walks.{HasNoOther, IsClaimWalk, Makes}

@@ -32,7 +32,7 @@ use Rattle.rowex_writing.specs.Changes.{HasTried}
 use Rattle.rowex_writing.specs.Counts.{level_steps}
 use Rattle.rowex_writing.specs.Going.{HasLocked}
 use Rattle.rowex_writing.specs.Locks.{LocksLast, LocksOne, numbers_of, span_numbers}
-use Rattle.rowex_writing.specs.declared.deeds.Job.{Job}
+use Rattle.rowex_writing.specs.declared.job.Job.{Job}
 use Rattle.rowex_writing.specs.declared.plan.Span.{Span}
 use Rattle.compound_node.specs.declared.entries.Entry.{Entry}
 use Rattle.rowex_reading.specs.Possible.{IsPossible}

@@ -24,7 +24,7 @@ use Rattle.rowex_table.specs.Stays.{LeavesPin}
 use Rattle.rowex_writing.specs.Asking.{aim_of, reply_to}
 use Rattle.rowex_writing.specs.Changes.{HasChanged, HasNoRoom, IsDeedChange, IsFull}
 use Rattle.rowex_writing.specs.Jobs.{IsJobFrom}
-use Rattle.rowex_writing.specs.declared.deeds.Job.{Job}
+use Rattle.rowex_writing.specs.declared.job.Job.{Job}
 use Rattle.rowex_writing.specs.declared.plan.Aim.{Aim}
 use Rattle.rowex_reading.specs.Ways.{value_of}
 use Rattle.rowex_reading.specs.declared.descent.Found.TheVariants.{Leaf}
@@ -125,8 +125,8 @@ refusal_of Nodes = FullNodes
 refusal_of Leaves = FullLeaves
 
 -- what is done at the lower end of a span has been done: the key has the value, or it is absent
-abbrev pub HasDone : Known → Known → Deed → Key → ℕ → Found → Type 0
-HasDone k j deed key value found = (x : Change) × (was : Option ℕ) × IsDeedChange k.pass deed key value found x was × HasChanged k j x was
+abbrev pub HasDoneDeed : Known → Known → Deed → Key → ℕ → Found → Type 0
+HasDoneDeed k j deed key value found = (x : Change) × (was : Option ℕ) × IsDeedChange k.pass deed key value found x was × HasChanged k j x was
 
 -- The attempt was answered: it has changed nothing, and no change of its own was added; or it has made just the change of the reply.
 abbrev pub HasAnswered : Known → Known → Call → Reply → Type 0

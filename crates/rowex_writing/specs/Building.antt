@@ -148,8 +148,8 @@ pub record IsLevelRisen (words : List ℕ) (risen : Risen) : Type 0 where
   pub single : size (node_words_of words).subtrie < 32 → IsSingle risen
 
 -- the entry is at most one higher than this, and no higher where what has risen is one entry
-abbrev pub IsNextTo : ℕ → Risen → Entry → Type 0
-IsNextTo height risen e = (height_of e ≤ height + 1) × (IsSingle risen → height_of e ≤ height)
+abbrev pub IsAtMostOneHigher : ℕ → Risen → Entry → Type 0
+IsAtMostOneHigher height risen e = (height_of e ≤ height + 1) × (IsSingle risen → height_of e ≤ height)
 
 -- the entry is at most one higher than the node with these words, and no higher where that has room
 abbrev pub FitsAbove : List ℕ → Entry → Type 0

@@ -40,7 +40,7 @@ use Rattle.rowex_writing.specs.Remaking.{AffectsJust}
 use Rattle.rowex_writing.specs.Walks.{nodes_among}
 use Rattle.rowex_reading.specs.Ways.{IsWayOf, named}
 use Rattle.rowex_writing.specs.declared.plan.Aim.{Aim}
-use Rattle.rowex_writing.specs.declared.deeds.Job.{Job}
+use Rattle.rowex_writing.specs.declared.job.Job.{Job}
 use Rattle.rowex_writing.specs.declared.plan.Deed.{Deed}
 use Rattle.rowex_writing.specs.declared.plan.Deed.TheVariants.{Take}
 use Rattle.rowex_reading.specs.declared.descent.Found.{Found}

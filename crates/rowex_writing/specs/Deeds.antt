@@ -17,9 +17,9 @@ use Rattle.rowex_writing.specs.Going.{WorksOn}
 use Rattle.rowex_writing.specs.Locks.{locks_of}
 use Rattle.rowex_writing.specs.Putting.{IsSpotAbove}
 use Rattle.rowex_writing.specs.Retiring.{AreInTable}
-use Rattle.rowex_writing.specs.declared.building.Build.{Build}
-use Rattle.rowex_writing.specs.declared.deeds.Job.{Job}
-use Rattle.rowex_writing.specs.declared.deeds.Raised.{Raised}
+use Rattle.rowex_writing.specs.declared.kept.Build.{Build}
+use Rattle.rowex_writing.specs.declared.job.Job.{Job}
+use Rattle.rowex_writing.specs.declared.job.Raised.{Raised}
 use Rattle.rowex_writing.specs.declared.plan.Deed.{Deed}
 use Rattle.rowex_writing.specs.declared.plan.Full.{Full}
 use Rattle.rowex_writing.specs.declared.plan.Span.{Span}

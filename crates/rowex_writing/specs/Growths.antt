@@ -13,7 +13,7 @@ use Rattle.rowex_writing.specs.Building.{FitsAbove, IsGrowing}
 use Rattle.rowex_writing.specs.Going.{HasLocked}
 use Rattle.rowex_writing.specs.Locks.{AreNodes, HasLockedSpan}
 use Rattle.rowex_writing.specs.Putting.{IsSpotAbove}
-use Rattle.rowex_writing.specs.declared.deeds.Job.{Job}
+use Rattle.rowex_writing.specs.declared.job.Job.{Job}
 use Rattle.rowex_writing.specs.declared.remaking.NewLeaf.{NewLeaf}
 use Rattle.tries.specs.Content.{item}
 

@@ -6,7 +6,7 @@ use Rattle.rowex_reading.specs.Possible.{IsPossible}
 use Rattle.rowex_reading.specs.Ways.{IsWayOf}
 use Rattle.rowex_table.specs.Seats.{TableView, SeatView, IsSeatOf}
 use Rattle.rowex_writing.specs.Locks.{HasLockedSpan}
-use Rattle.rowex_writing.specs.declared.deeds.Job.{Job}
+use Rattle.rowex_writing.specs.declared.job.Job.{Job}
 
 -- the nodes of its span are those of a part of its way
 abbrev pub IsWithinWay : Job → Type 0

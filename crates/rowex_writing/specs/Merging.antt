@@ -36,9 +36,9 @@ use Rattle.rowex_writing.specs.Going.{HasLocked}
 use Rattle.rowex_writing.specs.Locks.{LocksLast, TriesNodesBy, locks_of, span_numbers}
 use Rattle.rowex_writing.specs.Putting.{IsSpotAbove}
 use Rattle.rowex_writing.specs.Taking.{HasLeafBelow}
-use Rattle.rowex_writing.specs.declared.deeds.Job.{Job}
+use Rattle.rowex_writing.specs.declared.job.Job.{Job}
 use Rattle.rowex_writing.specs.declared.merging.ClosedFork.{ClosedFork}
-use Rattle.rowex_writing.specs.declared.merging.Merge.{Merge}
+use Rattle.rowex_writing.specs.declared.job.Merge.{Merge}
 use Rattle.rowex_writing.specs.declared.plan.Span.{Span}
 
 -- what stands past the end of a way

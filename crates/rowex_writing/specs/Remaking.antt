@@ -1,6 +1,7 @@
 -- What a node becomes, before it has records.
 use Rattle.std.specs.Prelude.{◌≡◌, ℕ, ◌+◌, ◌≤◌, List}
 use Rattle.compound_node.specs.Nodes.{NodeView, height_of, piece}
+use Rattle.compound_node.specs.declared.halves.Cut.{Cut}
 use Rattle.compound_node.specs.declared.halves.Half.{Half}
 use Rattle.compound_node.specs.declared.halves.Half.TheVariants.{One, Many, Same}
 use Rattle.insert_cases.specs.declared.growth.Grown.{Grown}
@@ -45,7 +46,10 @@ IsLowHalf height (One entry) = height_of entry ≤ height
 IsLowHalf height (Many node) = node.height ≤ height
 IsLowHalf height Same = Unit {0}
 
--- and so for what a node becomes
+-- and so for the sides of a cut, and for what a node becomes
+abbrev pub AreNoHigher : ℕ → Cut → Type 0
+AreNoHigher height cut = IsLowHalf height cut.zero × IsLowHalf height cut.one
+
 abbrev pub IsNoHigher : ℕ → Grown → Type 0
 IsNoHigher height (Whole node) = node.height ≤ height
-IsNoHigher height (Two cut) = IsLowHalf height cut.zero × IsLowHalf height cut.one
+IsNoHigher height (Two cut) = AreNoHigher height cut

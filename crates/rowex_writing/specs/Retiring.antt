@@ -17,7 +17,7 @@ use Rattle.rowex_table.specs.Rule.{HasSpot}
 use Rattle.rowex_table.specs.Seats.{TableView, SeatView}
 use Rattle.rowex_writing.specs.Changes.{KnowsWas, MayPublishOnceReady}
 use Rattle.rowex_writing.specs.Locks.{AreNodes, numbers_of}
-use Rattle.rowex_writing.specs.declared.building.Build.{Build}
+use Rattle.rowex_writing.specs.declared.kept.Build.{Build}
 use Rattle.rowex_writing.specs.declared.publishing.Store.{Store}
 use Rattle.rowex_core.specs.Events.{IsOfEntry}
 

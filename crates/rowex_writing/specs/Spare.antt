@@ -10,8 +10,8 @@ use Rattle.lone_runs.specs.Lone.{HasFree, HasRoom, HasSpare}
 use Rattle.rowex_table.specs.Seats.{SeatView}
 use Rattle.rowex_writing.specs.Deeds.{gone_of_span}
 use Rattle.rowex_writing.specs.Walks.{nodes_among}
-use Rattle.rowex_writing.specs.declared.deeds.Job.{Job}
-use Rattle.rowex_writing.specs.declared.deeds.Raised.{Raised}
+use Rattle.rowex_writing.specs.declared.job.Job.{Job}
+use Rattle.rowex_writing.specs.declared.job.Raised.{Raised}
 
 -- Before a store that links the records `made`, and after which the records `gone` go: a node record is free, or a node goes; or a node record
 -- stands in no tree, and no node is made. So one stands in no tree after the store.

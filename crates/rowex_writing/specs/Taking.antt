@@ -10,7 +10,7 @@ use Rattle.rowex_reading.specs.Seen.{Sure}
 use Rattle.version_laws.specs.Scan.{IsRead}
 use Rattle.rowex_writing.specs.Changes.{HasTakenSpan}
 use Rattle.rowex_reading.specs.declared.descent.Found.TheVariants.{Leaf}
-use Rattle.rowex_writing.specs.declared.deeds.Job.{Job}
+use Rattle.rowex_writing.specs.declared.job.Job.{Job}
 
 -- the pass has read the leaf since a version to which its pin goes back: it has the key, and this value
 abbrev pub HasReadLeaf : Known → (number : ℕ) (key : Key) (value : ℕ) → Type 0

@@ -8,7 +8,7 @@ use Rattle.rowex_core.specs.declared.known.Known.{Known}
 use Rattle.rowex_records.specs.Claims.{AllMissed, HasMissedSince, IsAnothersBut, begin_of, records_had, wrapped}
 use Rattle.rowex_table.specs.Seats.{TableView, SeatView}
 use Rattle.rowex_writing.specs.Going.{WorksOn}
-use Rattle.rowex_writing.specs.declared.building.Build.{Build}
+use Rattle.rowex_writing.specs.declared.kept.Build.{Build}
 
 -- the pass has no other records than these
 abbrev pub HasNoOther : Known → List Rec → Type 0

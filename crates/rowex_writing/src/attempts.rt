@@ -10,7 +10,7 @@ ghost use Rattle.rowex_table.specs.Made.{IsLater};
 ghost use Rattle.rowex_table.specs.Seats.{IsSeatOf};
 ghost use Rattle.lone_runs.specs.Lone.{HasRoom, KeepsSpare};
 ghost use Rattle.rowex_writing.specs.Spare.{IsRemoval};
-ghost use Rattle.rowex_writing.specs.Attempts.{HasAnswered, HasAttempted, HasDone, HasFailed, HasFoundOther, HasLoadedFound, HasLoadedRoot, HasRefused, IsFoundAgain, IsFullOfNew, IsLeafless, refusal_of as the_refusal};
+ghost use Rattle.rowex_writing.specs.Attempts.{HasAnswered, HasAttempted, HasDoneDeed, HasFailed, HasFoundOther, HasLoadedFound, HasLoadedRoot, HasRefused, IsFoundAgain, IsFullOfNew, IsLeafless, refusal_of as the_refusal};
 ghost use Rattle.rowex_reading.specs.Ways.{value_of as the_value};
 ghost use Rattle.rowex_writing.specs.Asking.{aim_of as the_aim, value_in as the_value_in};
 ghost use Rattle.rowex_writing.specs.Deeds.{MayReplace, leaf_gone};
@@ -25,10 +25,11 @@ ghost use Rattle.rowex_writing.specs.Counts.{change_steps, held_loads, most_lock
 ghost use Rattle.record_words.specs.declared.TheConstants.{HEAD_WORDS};
 
 use crate::asking::{aim_of, found_value, new_value};
-use crate::building::Build;
 use crate::checking::check_span;
-use crate::deeds::{Job, Raised, carry_out_deed};
+use crate::deeds::carry_out_deed;
 use crate::ending::release_records_and_locks;
+use crate::job::{Job, Raised};
+use crate::kept::Build;
 use crate::locks::lock_span;
 use crate::merging::{plan_merge, try_merge};
 use crate::plan::{Deed, Full, Plan, find_plan};
@@ -143,7 +144,7 @@ fn try_plan<G: Gate>(
         (0 < locks) × (locks ≤ most_locks) × (seat.new.known.steps + HEAD_WORDS ≤ seat.old.known.steps + span_steps locks + change_steps table.now.layout locks) }
     ensures rest { IsAtRest seat.new.known }
     ensures done { IfOk result (λ now. HasFoundOther seat.old.known seat.new.known call.now job.now.key.now now ⊎ (IsFoundAgain call.now job.now.found now ×
-        HasDone seat.old.known seat.new.known deed job.now.key.now (the_value_in call.now (the_value now)) now)) }
+        HasDoneDeed seat.old.known seat.new.known deed job.now.key.now (the_value_in call.now (the_value now)) now)) }
     ensures refused { IfErr result (λ fault. (k : Known) → HasLoadedRoot k seat.old.known → IsLater k seat.old.known →
         HasRefused table.now.layout job.now.key.now k seat.new.known build.new.made.items fault) }
     ensures later { IfErr result (λ fault. IsLater seat.old.known seat.new.known) }
@@ -188,7 +189,7 @@ fn change_span<G: Gate>(
     requires taken { HasTakenPlan table.now seat.old job.now deed }
     requires loaded { HasLoadedFound seat.old.known job.now.found }
     ensures run { EndsChange table.now G.becomes job.now (held_loads job.now.found) (seat.old, gate.old) (seat.new, gate.new) }
-    ensures done { result ≡ Ok tt → HasDone seat.old.known seat.new.known deed job.now.key.now job.now.value job.now.found }
+    ensures done { result ≡ Ok tt → HasDoneDeed seat.old.known seat.new.known deed job.now.key.now job.now.value job.now.found }
     ensures failed { IfErr result (HasFailed table.now.layout job.now seat.old.known seat.new.known build.new.made.items) }
     ensures whole { deed ≡ Deed.Value → result ≡ Ok tt }
     ensures short { deed ≡ Deed.Value → seat.new.known.steps ≤ seat.old.known.steps + 2 + locks_of job.now.span }
@@ -228,7 +229,7 @@ fn make_removal<G: Gate>(
     requires some { 0 < job.now.span.end }
     requires loaded { HasLoadedFound seat.old.known job.now.found }
     ensures run { ChangesOn table.now G.becomes (span_numbers job.now.way.now job.now.span) 1 (seat.old, gate.old) (seat.new, gate.new) }
-    ensures done { result ≡ Ok tt → HasDone seat.old.known seat.new.known Take job.now.key.now job.now.value job.now.found }
+    ensures done { result ≡ Ok tt → HasDoneDeed seat.old.known seat.new.known Take job.now.key.now job.now.value job.now.found }
     ensures failed { IfErr result (HasFailed table.now.layout job.now seat.old.known seat.new.known build.new.made.items) }
     ensures leafless { result ≢ Err TryFault.FullLeaves }
     ensures spares { KeepsSpare table.now.layout seat.old seat.new }

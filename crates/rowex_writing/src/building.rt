@@ -1,49 +1,63 @@
-//! Records for what takes a node's place: of one node, or of both halves of a cut.
+//! Records that a change makes: of the new leaf, of one node, or of both halves of a cut.
 
-ghost use Rattle.std.specs.Prelude.{◌≡◌, ◌<◌, ◌≤◌, ◌+◌, ◌-◌, ◌*◌, ◌++◌, ◌∷◌, List, ℕ, length, MatchOption, None, Some};
+ghost use Rattle.std.specs.Prelude.{◌≡◌, ◌<◌, ◌≤◌, ◌+◌, ◌-◌, ◌*◌, ◌++◌, ◌∷◌, [], List, ℕ, length, MatchOption, None, Some};
+ghost use Rattle.key_bits.specs.Key.{IsKey};
 ghost use Rattle.record_words.specs.Node.{CanTakeLeaf, HasNodeWords, node_words};
 ghost use Rattle.record_words.specs.Reading.{IsSpelling};
 ghost use Rattle.rowex_table.specs.Made.{Made};
+ghost use Rattle.rowex_table.specs.Seats.{IsSeatOf};
+ghost use Rattle.rowex_reading.specs.Possible.{IsPossible};
 ghost use Rattle.publish_laws.specs.Rises.{made_of_node};
 ghost use Rattle.rowex_writing.specs.Spare.{FindsOne};
-ghost use Rattle.rowex_writing.specs.Building.{IsBuilding, IsHalfMade, IsMadeFrom, HasNotMade};
+ghost use Rattle.rowex_writing.specs.Building.{HasLeafMade, IsBuilding, IsHalfMade, IsMadeFrom, HasNotMade};
 ghost use Rattle.rowex_writing.specs.Remaking.{AwaitsLeaf, subtrie_with_leaf};
 ghost use Rattle.compound_node.specs.Nodes.{IsBuiltFrom, NodeView, piece};
 ghost use Rattle.version_laws.specs.Rise.{entry};
-ghost use Rattle.rowex_writing.specs.Counts.{node_steps};
+ghost use Rattle.insert_cases.specs.declared.growth.Grown.TheVariants.{Two};
+ghost use Rattle.rowex_writing.specs.Changes.{LacksLeaves};
+ghost use Rattle.rowex_writing.specs.Counts.{leaf_steps, node_steps};
+ghost use Rattle.rowex_writing.specs.Going.{WorksOn};
+ghost use Rattle.tries.specs.Content.{item};
 ghost use Rattle.rowex_writing.specs.Walks.{Makes};
 
-use crate::claims::{Hint, claim_node};
+use crate::claims::{claim_leaf, claim_node};
+use crate::kept::{Build, MOST_MADE};
 use crate::remaking::{NewLeaf, add_leaf};
-use arrayvec::ArrayVec;
-use compound_node::{Entry, Half, Node};
-use insert_cases::{Grown, Risen};
+use compound_node::{Cut, Entry, Half, Node};
+use insert_cases::Risen;
+use key_bits::Key;
 use record_words::{
-    HEAD_WORDS, LEAF_CLASSES, NODE_FIELDS, affected_slots, pack_node, read_numbers,
+    HEAD_WORDS, NODE_FIELDS, affected_slots, count_leaf_words, pack_node, read_numbers,
 };
 use rowex_core::{Gate, Rec};
-use rowex_records::fill_node;
+use rowex_records::{fill_leaf, fill_node};
 use rowex_table::{HotTable, TableSeat};
 
-/// The most records that one change makes: a leaf, two nodes for each node of the longest way, and one above them.
-pub(crate) const MOST_MADE: usize = 4_322;
-
-/// The most records that one change unlinks: the nodes of the longest way, and a leaf.
-pub(crate) const MOST_GONE: usize = 2_161;
-
-/// What a pass makes changes with: lists of the records that a change makes and unlinks, and hints where free ones are, kept between calls.
-#[derive(Drop)]
-pub struct Build {
-    /// The records made for the change, claimed and filled with their words, the first one made first.
-    pub made: ArrayVec<Rec, MOST_MADE>,
-    /// The records that the change unlinks, as it lists them.
-    pub gone: ArrayVec<Rec, MOST_GONE>,
-    /// Where claims of node records begin.
-    pub nodes: Hint,
-    /// How many node records the claims of the change may still try, but for spare ones.
-    pub left_nodes: u32,
-    /// Where claims of leaf records begin, for each class, the smallest first.
-    pub leaves: [Hint; LEAF_CLASSES],
+/// Makes a record for the new leaf of `key` and `value`, the first record of a change, and returns its number. `build.made` is this record
+/// alone then. `None` if no leaf record with room for `key` was free: `build.made` is empty then.
+pub(crate) fn make_leaf<G: Gate>(
+    table: &HotTable,
+    seat: &mut TableSeat,
+    gate: &mut G,
+    build: &mut Build,
+    key: &Key,
+    value: u64,
+) -> Option<u32>
+    requires own { IsSeatOf table.now seat.old }
+    requires possible { IsPossible table.now.layout seat.old.known }
+    requires none { seat.old.known.own ≡ [] }
+    requires key { IsKey key.now }
+    ensures goes { WorksOn table.now G.becomes (seat.old, gate.old) (seat.new, gate.new) }
+    ensures made { MatchOption result
+        (IsBuilding table.now seat.new build.new.made.items [] × LacksLeaves table.now.layout key.now seat.new.known.pass seat.new.known.failed seat.old.known.steps)
+        (λ n. HasLeafMade table.now seat.new build.new.made.items (item n key.now value)) }
+    ensures few { seat.new.known.steps ≤ seat.old.known.steps + leaf_steps table.now.layout }
+{
+    build.made.clear();
+    let number = claim_leaf(table, seat, gate, count_leaf_words(key), &mut build.leaves)?;
+    fill_leaf(table, seat, gate, number, key, value);
+    build.made.push(Rec::Leaf(number));
+    Some(number)
 }
 
 /// Makes a record for `node`, adds it to `build.made`, and returns its entry. `None` if no node record was free: none is added.
@@ -160,36 +174,28 @@ fn make_half_entry<G: Gate>(
     }
 }
 
-/// Makes what takes the place of a node with the entry `old` that became `grown`: one entry, or a fork of two for a cut. Each new node gets
-/// a record, that of a cut's 1 side first. `None` if no node record was free: one made by then stays in `build.made`.
+/// Makes what takes the place of a node with the entry `old` that was cut in two: a fork. Each new node gets a record, that of the 1 side
+/// first. `None` if no node record was free: one made by then stays in `build.made`.
 pub(crate) fn make_risen<G: Gate>(
     table: &HotTable,
     seat: &mut TableSeat,
     gate: &mut G,
     build: &mut Build,
     old: Entry,
-    grown: &Grown,
+    cut: &Cut,
 ) -> Option<Risen>
     requires building { (news : List Made) × IsBuilding table.now seat.old build.old.made.items news }
     requires room { length build.old.made.items + 1 < MOST_MADE }
     ensures makes { Makes 2 (2 * node_steps) table.now G.becomes ((seat.old, gate.old), build.old) ((seat.new, gate.new), build.new) result }
     ensures made { (news : List Made) → IsBuilding table.now seat.old build.old.made.items news → MatchOption result
         (HasNotMade table.now seat.new build.new.made.items)
-        (λ risen. (after : List Made) × IsMadeFrom old grown.now risen news after × IsBuilding table.now seat.new build.new.made.items after) }
+        (λ risen. (after : List Made) × IsMadeFrom old (Two cut.now) risen news after × IsBuilding table.now seat.new build.new.made.items after) }
 {
-    match grown {
-        Grown::One(node) => {
-            let entry = make_node(table, seat, gate, build, node)?;
-            Some(Risen::Whole(entry))
-        }
-        Grown::Two(cut) => {
-            let one = make_half_entry(table, seat, gate, build, old, &cut.one)?;
-            let zero = make_half_entry(table, seat, gate, build, old, &cut.zero)?;
-            Some(Risen::Split {
-                position: cut.position,
-                zero,
-                one,
-            })
-        }
-    }
+    let one = make_half_entry(table, seat, gate, build, old, &cut.one)?;
+    let zero = make_half_entry(table, seat, gate, build, old, &cut.zero)?;
+    Some(Risen::Split {
+        position: cut.position,
+        zero,
+        one,
+    })
 }

@@ -16,7 +16,7 @@ ghost use Rattle.rowex_writing.specs.Locks.{locks_of};
 ghost use Rattle.rowex_writing.specs.Jobs.{HoldsSpan, IsJobFrom};
 ghost use Rattle.rowex_reading.specs.Ways.{RootWas, named};
 
-use crate::deeds::Job;
+use crate::job::Job;
 use compound_node::Entry;
 use insert_cases::PathNode;
 use record_words::pack_entry;

@@ -7,41 +7,18 @@ ghost use Rattle.rowex_writing.specs.Changes.{HasTakenPlan};
 ghost use Rattle.rowex_writing.specs.Deeds.{CarriesOut};
 ghost use Rattle.rowex_writing.specs.declared.plan.Deed.TheVariants.{Put, PushDown};
 
-use crate::building::{Build, make_node};
+use crate::building::{make_leaf, make_node};
 use crate::claims::leaves_free_node;
 use crate::growing::grow_node;
-use crate::plan::{Deed, Full, Span};
-use crate::publishing::make_leaf;
+use crate::job::{Job, Raised};
+use crate::kept::Build;
+use crate::plan::{Deed, Full};
 use crate::remaking::pair_with_leaf;
 use crate::taking::make_without_leaf;
 use compound_node::Entry;
-use insert_cases::PathNode;
-use key_bits::Key;
 use rowex_core::Gate;
 use rowex_reading::Found;
 use rowex_table::{HotTable, TableSeat};
-
-/// What a change is made by: the way of the search for `key`, what it found, and the value that `key` is to get. `span` says which nodes
-/// of the way get others in their place.
-#[derive(Drop)]
-pub(crate) struct Job<'a> {
-    pub way: &'a [PathNode],
-    pub key: &'a Key,
-    pub value: u64,
-    pub found: Found,
-    pub span: Span,
-}
-
-/// What comes in the place of a span's nodes.
-#[derive(Clone, Copy)]
-pub(crate) struct Raised {
-    /// The entry; `None` if the root is to be empty.
-    pub entry: Option<Entry>,
-    /// The index on the way from which on nodes of the span stay: that of the lowest, or the span's `len` if none stays.
-    pub low: usize,
-    /// The number of the leaf record that the change unlinks, if it unlinks one.
-    pub leaf: Option<u32>,
-}
 
 /// Makes the records of the change `deed`, which other passes don't see yet. Returns what is to take the place of the nodes of `job.span`,
 /// which are locked and checked. If no record of a kind was free, returns that kind: the records made by then stay in `build.made`.

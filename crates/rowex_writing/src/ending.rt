@@ -9,7 +9,7 @@ ghost use Rattle.rowex_writing.specs.Jobs.{HoldsSpan};
 ghost use Rattle.rowex_writing.specs.Locks.{AreNodes, HasJustLocked, Works, locks_of, numbers_of};
 ghost use Rattle.rowex_writing.specs.Retiring.{AreInTable, HasJustPublished, HasToMark, IsAnchored, KeepsLocks};
 
-use crate::deeds::Job;
+use crate::job::Job;
 use crate::locks::unlock_nodes;
 use insert_cases::PathNode;
 use rowex_core::{Gate, Rec, Target};

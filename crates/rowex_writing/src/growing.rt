@@ -13,11 +13,11 @@ ghost use Rattle.rowex_writing.specs.Going.{WorksOn};
 ghost use Rattle.rowex_writing.specs.Growths.{HasNumber, MayGrow};
 ghost use Rattle.rowex_writing.specs.Locks.{locks_of};
 
-use crate::building::Build;
+use crate::building::make_leaf;
 use crate::claims::leaves_free_node;
-use crate::deeds::{Job, Raised};
+use crate::job::{Job, Raised};
+use crate::kept::Build;
 use crate::plan::Full;
-use crate::publishing::make_leaf;
 use crate::remaking::NewLeaf;
 use crate::rising::raise_with_leaf;
 use compound_node::Entry;

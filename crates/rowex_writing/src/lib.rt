@@ -2,7 +2,8 @@
 //!
 //! # Mechanism
 //!
-//! An attempt ([`attempt`]) of a call that may change the index goes through these stages. Each has files of its own.
+//! An attempt ([`attempt`]) of a call that may change the index goes through these stages. Each has files of its own, and no two files
+//! import each other, by whatever way. What is planned goes from stage to stage as a job (`job`).
 //!
 //! 1. *Search* (`rowex_reading`): the path of the key, and the leaf at its end with the key's first mismatch. A call whose answer
 //!    needs no change ends here.
@@ -35,7 +36,7 @@
 //!
 //! # What is kept between calls
 //!
-//! [`Build`] has the lists that a change fills, and hints where free records are ([`Hint`]). The hints are plain numbers of which
+//! [`Build`] has the lists that a change fills, and hints where free records are ([`Hint`]); both stand in `kept`. The hints are plain numbers of which
 //! no contract speaks: a claim is an exchange of the record's state, which fails if the record isn't free.
 #![tactic(auto)]
 
@@ -47,6 +48,8 @@ mod claims;
 mod deeds;
 mod ending;
 mod growing;
+mod job;
+mod kept;
 mod locked;
 mod locks;
 mod merging;
@@ -60,7 +63,6 @@ mod valuing;
 mod widening;
 
 pub use attempts::{TryFault, attempt};
-pub use building::Build;
-pub use claims::Hint;
+pub use kept::{Build, Hint};
 pub use plan::Full;
 pub use stretch::Stretch;

@@ -15,7 +15,7 @@ ghost use Rattle.publish_laws.specs.Stages.{AreBeside, merged};
 ghost use Rattle.rowex_table.specs.Made.{IsLater, Made};
 ghost use Rattle.rowex_table.specs.Seats.{IsSeatOf};
 ghost use Rattle.lone_runs.specs.Lone.{HasSpare, KeepsSpare};
-ghost use Rattle.rowex_writing.specs.Attempts.{HasDone, HasLoadedFound};
+ghost use Rattle.rowex_writing.specs.Attempts.{HasDoneDeed, HasLoadedFound};
 ghost use Rattle.rowex_writing.specs.Building.{IsBuilding};
 ghost use Rattle.rowex_writing.specs.Changes.{HasRun};
 ghost use Rattle.rowex_writing.specs.Going.{HasLocked, HasLockedNode, IsLockedBy, ReadsOn, WorksOn};
@@ -23,9 +23,10 @@ ghost use Rattle.rowex_writing.specs.Locks.{HasTheSame, span_numbers};
 ghost use Rattle.rowex_writing.specs.Merging.{AreNoNode, ClosesFork, HasHeight, HasListed, IsNeighbour, IsWide, MayMergeInto, TakesOn, TriesFew, lower, upper};
 ghost use Rattle.rowex_writing.specs.declared.plan.Deed.TheVariants.{Take};
 
-use crate::building::{Build, make_node_from_words};
-use crate::deeds::Job;
+use crate::building::make_node_from_words;
 use crate::growing::show_number_fits;
+use crate::job::{Job, Merge};
+use crate::kept::Build;
 use crate::locked::{
     load_locked_entry, load_locked_node_words, load_position, load_sibling, read_locked_node,
 };
@@ -39,19 +40,6 @@ use rowex_core::{Gate, Rec};
 use rowex_reading::Found;
 use rowex_records::fill_node;
 use rowex_table::{HotTable, TableSeat};
-
-/// A merge of a node that loses a leaf, the lower one, with its sibling. Both stand in the upper node.
-#[derive(Clone, Copy)]
-pub(crate) struct Merge {
-    /// The sibling's slot in the upper node.
-    pub place: u8,
-    /// The position of the fork between the two.
-    pub position: u16,
-    /// The number of the sibling's record.
-    pub number: u32,
-    /// The number of the record made for what is left of the lower node. The node of both is put there.
-    pub made: u32,
-}
 
 /// A fork of a locked node, whose place an entry takes.
 #[derive(Clone, Copy)]
@@ -101,7 +89,7 @@ pub(crate) fn try_merge<G: Gate>(
     requires made { build.old.made.items ≡ a_node merge.now.made ∷ [] }
     requires building { (news : List Made) × IsBuilding table.now seat.old build.old.made.items news }
     ensures tries { TriesFew table.now G.becomes (span_numbers job.now.way.now job.now.span) build.old.left_nodes 53 (seat.old, gate.old) (seat.new, gate.new) }
-    ensures done { result ≡ true → HasDone seat.old.known seat.new.known Take job.now.key.now job.now.value job.now.found }
+    ensures done { result ≡ true → HasDoneDeed seat.old.known seat.new.known Take job.now.key.now job.now.value job.now.found }
     ensures later { result ≡ false → IsLater seat.old.known seat.new.known × IsSeatOf table.now seat.new × IsPossible table.now.layout seat.new.known }
     ensures same { result ≡ false → HasTheSame seat.old.known seat.new.known × (build.new.made.items ≡ build.old.made.items) }
     ensures spares { KeepsSpare table.now.layout seat.old seat.new }
@@ -185,7 +173,7 @@ fn merge_under_locks<G: Gate>(
     requires building { (news : List Made) × IsBuilding table.now seat.old build.old.made.items news }
     requires loaded { HasLoadedFound seat.old.known job.now.found }
     ensures run { HasRun table.now G.becomes (seat.old, gate.old) (seat.new, gate.new) }
-    ensures done { result ≡ true → HasDone seat.old.known seat.new.known Take job.now.key.now job.now.value job.now.found }
+    ensures done { result ≡ true → HasDoneDeed seat.old.known seat.new.known Take job.now.key.now job.now.value job.now.found }
     ensures later { result ≡ false → IsLater seat.old.known seat.new.known }
     ensures same { result ≡ false → (w : IsWide table.now seat.old job.now merge.now.number) →
         (seat.new.known.locks ≡ w.taking.before.known.locks) × (seat.new.known.anchor ≡ w.taking.before.known.anchor) ×
@@ -325,7 +313,7 @@ fn publish_merge<G: Gate>(
         HasListed build.old.gone.items job.now number }
     requires loaded { HasLoadedFound seat.old.known job.now.found }
     ensures run { HasRun table.now G.becomes (seat.old, gate.old) (seat.new, gate.new) }
-    ensures done { HasDone seat.old.known seat.new.known Take job.now.key.now job.now.value job.now.found }
+    ensures done { HasDoneDeed seat.old.known seat.new.known Take job.now.key.now job.now.value job.now.found }
     ensures few { seat.new.known.steps ≤ seat.old.known.steps + 20 }
     ensures spares { HasSpare table.now.layout seat.new }
 {

@@ -1,70 +1,36 @@
-//! The first and the last part of each change: the new leaf's record, and the one store with what comes after it.
+//! The last part of each change: its records are made ready, and one store makes it visible. What it leaves comes after.
 
 ghost use Rattle.std.specs.Prelude.{◌≡◌, ℕ, List, [], ◌++◌, Option, MatchOption, ◌<◌, ◌≤◌, ◌+◌, ◌-◌, length, map, slice_range};
 ghost use Rattle.finite_map.specs.declared.Change.{Change};
 ghost use Rattle.insert_cases.specs.declared.choice.PathNode.{PathNode as PathNodeView};
-ghost use Rattle.key_bits.specs.Key.{IsKey};
 ghost use Rattle.record_words.specs.Entry.{HasEntryWord, entry_word};
 ghost use Rattle.versions.specs.declared.Rec.TheVariants.{Node as a_node};
 ghost use Rattle.rowex_core.specs.Reading.{entry_of};
 ghost use Rattle.rowex_table.specs.Made.{Made};
-ghost use Rattle.rowex_table.specs.Seats.{IsSeatOf};
-ghost use Rattle.rowex_reading.specs.Possible.{IsPossible};
 ghost use Rattle.publish_laws.specs.Stages.{HasReady};
-ghost use Rattle.tries.specs.Content.{item};
 ghost use Rattle.lone_runs.specs.Lone.{HasSpare};
 ghost use Rattle.rowex_writing.specs.Spare.{WillSpare, WillSpareOne};
 ghost use Rattle.rowex_writing.specs.Attempts.{HasLoadedFound};
-ghost use Rattle.rowex_writing.specs.Building.{HasLeafMade, IsBuilding};
-ghost use Rattle.rowex_writing.specs.Changes.{HasChanged, HasRun, LacksLeaves};
+ghost use Rattle.rowex_writing.specs.Building.{IsBuilding};
+ghost use Rattle.rowex_writing.specs.Changes.{HasChanged, HasRun};
 ghost use Rattle.rowex_writing.specs.Retiring.{MayStore, is_root as is_the_root};
-ghost use Rattle.rowex_writing.specs.Counts.{leaf_steps};
 ghost use Rattle.rowex_writing.specs.Deeds.{MayReplace, leaf_gone};
 ghost use Rattle.rowex_writing.specs.Going.{WorksOn};
 ghost use Rattle.rowex_writing.specs.Jobs.{HoldsSpan};
 ghost use Rattle.rowex_writing.specs.Locks.{locks_of};
 ghost use Rattle.rowex_writing.specs.Putting.{IsSpotAbove};
 
-use crate::building::{Build, MOST_MADE};
-use crate::claims::claim_leaf;
-use crate::deeds::{Job, Raised};
 use crate::ending::retire_records;
+use crate::job::{Job, Raised};
+use crate::kept::{Build, MOST_MADE};
 use crate::plan::Span;
 use arrayvec::ArrayVec;
 use compound_node::Entry;
 use insert_cases::PathNode;
-use key_bits::Key;
-use record_words::{count_leaf_words, pack_entry};
+use record_words::pack_entry;
 use rowex_core::{Gate, Rec, Spot};
-use rowex_records::{fill_leaf, make_ready};
+use rowex_records::make_ready;
 use rowex_table::{HotTable, TableSeat};
-
-/// Makes a record for the new leaf of `key` and `value`, the first record of a change, and returns its number. `build.made` is this record
-/// alone then. `None` if no leaf record with room for `key` was free: `build.made` is empty then.
-pub(crate) fn make_leaf<G: Gate>(
-    table: &HotTable,
-    seat: &mut TableSeat,
-    gate: &mut G,
-    build: &mut Build,
-    key: &Key,
-    value: u64,
-) -> Option<u32>
-    requires own { IsSeatOf table.now seat.old }
-    requires possible { IsPossible table.now.layout seat.old.known }
-    requires none { seat.old.known.own ≡ [] }
-    requires key { IsKey key.now }
-    ensures goes { WorksOn table.now G.becomes (seat.old, gate.old) (seat.new, gate.new) }
-    ensures made { MatchOption result
-        (IsBuilding table.now seat.new build.new.made.items [] × LacksLeaves table.now.layout key.now seat.new.known.pass seat.new.known.failed seat.old.known.steps)
-        (λ n. HasLeafMade table.now seat.new build.new.made.items (item n key.now value)) }
-    ensures few { seat.new.known.steps ≤ seat.old.known.steps + leaf_steps table.now.layout }
-{
-    build.made.clear();
-    let number = claim_leaf(table, seat, gate, count_leaf_words(key), &mut build.leaves)?;
-    fill_leaf(table, seat, gate, number, key, value);
-    build.made.push(Rec::Leaf(number));
-    Some(number)
-}
 
 /// Makes the records in `made`, all those of a change, ready to be linked, the last one first. `made` is empty then.
 fn ready_records<G: Gate>(

@@ -7,11 +7,11 @@ ghost use Rattle.compound_node.specs.Nodes.{piece, height_of, IsBuiltFrom};
 ghost use Rattle.tries.specs.Affected.{subtrie_forked};
 ghost use Rattle.tries.specs.Keys.{bit};
 ghost use Rattle.tries.specs.Place.{spot};
-ghost use Rattle.insert_cases.specs.Grown.{GrownShows, is_whole, keeps_node};
-ghost use Rattle.rowex_writing.specs.Remaking.{IsSubtrieOfTree, IsNoHigher, subtrie_with_fork, subtrie_with_leaf};
+ghost use Rattle.insert_cases.specs.Grown.{IsCutOf, keeps_side};
+ghost use Rattle.rowex_writing.specs.Remaking.{IsSubtrieOfTree, AreNoHigher, subtrie_with_fork, subtrie_with_leaf};
 
-use compound_node::{Entry, Node};
-use insert_cases::{Grown, grow_full, pull_up, put_fork};
+use compound_node::{Cut, Entry, Node};
+use insert_cases::{grow_full, pull_up_full, put_fork};
 use key_bits::Key;
 
 /// A new leaf for a node, in the leaf record `number`. It goes beside the entries that `position` affects, at which its key first differs
@@ -40,14 +40,13 @@ pub(crate) fn add_leaf(node: &mut Node, new: &NewLeaf<'_>)
 
 /// The two sides of the first fork that the full node `node` has with the leaf `new`. One side is `node` as it is, exactly if
 /// `new.position` is before the first fork of `node`.
-pub(crate) fn cut_with_leaf(node: &Node, new: &NewLeaf<'_>) -> Grown
+pub(crate) fn cut_with_leaf(node: &Node, new: &NewLeaf<'_>) -> Cut
     requires full { length node.now.entries ≡ 32 }
     requires leads { spot new.now.key.now (piece node.now) ≡ new.now.at }
     requires tree { IsSubtrieOfTree (subtrie_with_leaf new.now (piece node.now)) }
-    ensures shows { GrownShows node.now result (subtrie_with_leaf new.now (piece node.now)) }
-    ensures whole { is_whole result ≡ false }
-    ensures same { IsTrue (keeps_node result) ↔ AtRootFork (λ p zero one. new.now.position < p) (piece node.now) }
-    ensures low { IsNoHigher node.now.height result }
+    ensures shows { IsCutOf node.now result (subtrie_with_leaf new.now (piece node.now)) }
+    ensures same { IsTrue (keeps_side result) ↔ AtRootFork (λ p zero one. new.now.position < p) (piece node.now) }
+    ensures low { AreNoHigher node.now.height result }
 {
     prove!(node.count() == 32);
     let bit = new.key.bit(new.position);
@@ -88,19 +87,18 @@ pub(crate) fn add_fork(node: &mut Node, fork: &Fork<'_>)
 
 /// The two sides of the first fork that the full node `node` has with `fork`. This takes the place of the entry to which the search for
 /// `fork.key` leads. Neither side is `node` as it is.
-pub(crate) fn cut_with_fork(node: &Node, fork: &Fork<'_>) -> Grown
+pub(crate) fn cut_with_fork(node: &Node, fork: &Fork<'_>) -> Cut
     requires full { length node.now.entries ≡ 32 }
     requires tree { IsSubtrieOfTree (subtrie_with_fork fork.now (piece node.now)) }
     requires zero { height_of fork.now.zero < node.now.height }
     requires one { height_of fork.now.one < node.now.height }
-    ensures shows { GrownShows node.now result (subtrie_with_fork fork.now (piece node.now)) }
-    ensures whole { is_whole result ≡ false }
-    ensures same { keeps_node result ≡ false }
-    ensures low { IsNoHigher node.now.height result }
+    ensures shows { IsCutOf node.now result (subtrie_with_fork fork.now (piece node.now)) }
+    ensures same { keeps_side result ≡ false }
+    ensures low { AreNoHigher node.now.height result }
 {
     prove!(node.count() == 32);
     let at = node.search(fork.key);
-    pull_up(node, at, fork.position, fork.zero, fork.one)
+    pull_up_full(node, at, fork.position, fork.zero, fork.one)
 }
 
 /// A node of the entry `old` and the leaf in record `leaf`, with a fork at `position`. The leaf is on the side of the bit that `key` has

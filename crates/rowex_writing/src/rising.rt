@@ -1,19 +1,20 @@
 //! What takes the place of a span of nodes, from the lowest one up: a new node, or a fork that rises into the node above.
 
-ghost use Rattle.std.specs.Prelude.{◌≡◌, ◌≢◌, ◌<◌, ◌≤◌, ◌+◌, ◌-◌, ◌*◌, ◌∷◌, [], List, ℕ, length, slice_get, IfSome, MatchOption, None, Some};
+ghost use Rattle.std.specs.Prelude.{◌≡◌, ◌<◌, ◌≤◌, ◌+◌, ◌-◌, ◌*◌, ◌∷◌, [], List, ℕ, length, slice_get, IfSome, MatchOption, None, Some};
 ghost use Rattle.insert_cases.specs.declared.choice.PathNode.{PathNode as PathNodeView};
 ghost use Rattle.rowex_table.specs.Made.{Made};
 ghost use Rattle.publish_laws.specs.Rises.{IsSide};
 ghost use Rattle.rowex_writing.specs.Spare.{FindsOne};
-ghost use Rattle.rowex_writing.specs.Building.{IsBuilding, IsGrowing, IsLevelRisen, IsLowRisen, IsNextTo, IsRaising, IsRisenAt, MakesGrown, newcomer_of, Rises, GetsFork, GetsLeaf, FitsAbove, FitsOnWay, HasNotMade, HasRisenTo, gone_unless_whole, gone_with_way, levels_above};
+ghost use Rattle.rowex_writing.specs.Building.{IsBuilding, IsGrowing, IsLevelRisen, IsLowRisen, IsAtMostOneHigher, IsRaising, IsRisenAt, IsSplit, MakesGrown, newcomer_of, Rises, GetsFork, GetsLeaf, FitsAbove, FitsOnWay, HasNotMade, HasRisenTo, gone_unless_whole, gone_with_way, levels_above};
 ghost use Rattle.rowex_writing.specs.Going.{HasLocked, IsLockedBy, LeadsLocked};
 ghost use Rattle.rowex_writing.specs.Remaking.{AwaitsLeaf};
 ghost use Rattle.compound_node.specs.Nodes.{NodeView, height_of};
-ghost use Rattle.insert_cases.specs.Grown.{keeps_node, is_same};
+ghost use Rattle.insert_cases.specs.Grown.{keeps_side, is_same};
 ghost use Rattle.pieces.specs.Piece.{Place as At};
 ghost use Rattle.tries.specs.Keys.{Key as KeyValue};
 ghost use Rattle.tries.specs.Place.{subtrie_without};
 ghost use Rattle.insert_cases.specs.Risen.{subtrie_of};
+ghost use Rattle.insert_cases.specs.declared.raising.Risen.TheVariants.{Split};
 ghost use Rattle.versions.specs.declared.Rec.TheVariants.{Node as a_node};
 ghost use Rattle.rowex_core.specs.Reading.{node_words_of};
 ghost use Rattle.version_laws.specs.Rise.{entry};
@@ -21,13 +22,14 @@ ghost use Rattle.rowex_writing.specs.Counts.{level_steps, node_steps};
 ghost use Rattle.rowex_writing.specs.Walks.{Makes};
 
 use crate::building::{
-    Build, MOST_MADE, make_node, make_node_from_words, make_node_with_leaf, make_risen, node_entry,
+    make_node, make_node_from_words, make_node_with_leaf, make_risen, node_entry,
 };
-use crate::deeds::Job;
+use crate::job::Job;
+use crate::kept::{Build, MOST_MADE};
 use crate::locked::{load_locked_node_words, read_locked_node};
 use crate::remaking::{Fork, NewLeaf, add_fork, add_leaf, cut_with_fork, cut_with_leaf};
-use compound_node::{Entry, Half, Node};
-use insert_cases::{Grown, PathNode, Risen};
+use compound_node::{Cut, Entry, Half, Node};
+use insert_cases::{PathNode, Risen};
 use key_bits::Key;
 use record_words::{NODE_FIELDS, can_take_leaf, drop_entry, read_node};
 use rowex_core::Gate;
@@ -55,8 +57,8 @@ fn raise_node_with_fork<G: Gate>(
     let mut node = read_locked_node(table, seat, gate, number);
     if node.count() == 32 {
         let old = node_entry(number, &node);
-        let grown = cut_with_fork(&node, fork);
-        return make_risen(table, seat, gate, build, old, &grown);
+        let cut = cut_with_fork(&node, fork);
+        return make_risen(table, seat, gate, build, old, &cut);
     }
     add_fork(&mut node, fork);
     let entry = make_node(table, seat, gate, build, &node)?;
@@ -89,9 +91,9 @@ fn make_risen_with_leaf_by_value<G: Gate>(
     let mut node = read_node(&loaded.words);
     if node.count() == 32 {
         let old = node_entry(loaded.number, &node);
-        let grown = cut_with_leaf(&node, new);
-        let stays = has_whole_node(&grown);
-        let risen = make_risen(table, seat, gate, build, old, &grown)?;
+        let cut = cut_with_leaf(&node, new);
+        let stays = has_whole_node(&cut);
+        let risen = make_risen(table, seat, gate, build, old, &cut)?;
         return Some((risen, stays));
     }
     add_leaf(&mut node, new);
@@ -151,14 +153,11 @@ fn raise_lowest_node_with_leaf<G: Gate>(
     make_risen_with_leaf(table, seat, gate, build, &mut loaded, new)
 }
 
-/// Whether one side of `grown` is the node that was cut, as it was. `false` if `grown` is one node.
-fn has_whole_node(grown: &Grown) -> bool
-    ensures { result ≡ keeps_node grown.now }
+/// Whether one side of `cut` is the node that was cut, as it was.
+fn has_whole_node(cut: &Cut) -> bool
+    ensures { result ≡ keeps_side cut.now }
 {
-    match grown {
-        Grown::One(_) => false,
-        Grown::Two(cut) => is_whole_node(&cut.zero) || is_whole_node(&cut.one),
-    }
+    is_whole_node(&cut.zero) || is_whole_node(&cut.one)
 }
 
 /// Whether `half`, a side of a cut, is the whole node that was cut (`Half::Same`). `false` for one entry and for a new node.
@@ -188,7 +187,7 @@ fn make_one_entry<G: Gate>(
     ensures made { (b : IsRisenAt table.now seat.old build.old.made.items number risen) → MatchOption result
         (HasNotMade table.now seat.new build.new.made.items)
         (λ e. IsRaising table.now seat.new build.new.made.items b.gone b.newcomer (entry number) (At e)) }
-    ensures low { (height : ℕ) → IsLowRisen height risen → IfSome result (IsNextTo height risen) }
+    ensures low { (height : ℕ) → IsLowRisen height risen → IfSome result (IsAtMostOneHigher height risen) }
 {
     match risen {
         Risen::Whole(entry) => Some(entry),
@@ -213,10 +212,31 @@ pub(crate) struct Rise<'a> {
     pub risen: Risen,
 }
 
+/// The fork that has risen, for the key of the search.
+fn risen_fork<'a>(rise: &Rise<'a>) -> Fork<'a>
+    requires { IsSplit rise.now.risen }
+    ensures key { result.key.now ≡ rise.now.key.now }
+    ensures same { rise.now.risen ≡ Split result.position result.zero result.one }
+{
+    match rise.risen {
+        Risen::Whole(_) => unreachable!(),
+        Risen::Split {
+            position,
+            zero,
+            one,
+        } => Fork {
+            key: rise.key,
+            position,
+            zero,
+            one,
+        },
+    }
+}
+
 /// The one entry that takes the place of the node at `rise.end` of `way`, when `rise.risen` takes the place of the one at `rise.level`.
-/// `None` if no node record was free: those made by then stay in `build.made`. Inline, since mostly these are one node.
+/// Where that is below, a fork has risen, which goes into the next node above. `None` if no node record was free: those made by then stay
+/// in `build.made`. Inline, since mostly these are one node.
 #[inline(always)]
-#[cycle(raising)]
 fn raise_to_end<G: Gate>(
     table: &HotTable,
     seat: &mut TableSeat,
@@ -235,59 +255,19 @@ fn raise_to_end<G: Gate>(
         (gone_with_way way.now rise.entry.end rise.entry.level b.here.gone)) }
     ensures low { FitsOnWay seat.old.known way.now rise.entry.end result }
 {
-    let level = rise.level;
-    if level == rise.end {
-        return make_one_entry(table, seat, gate, build, way[level].number, rise.risen);
+    let mut rise = rise;
+    while rise.level > rise.end {
+        let above = rise.level - 1;
+        let fork = risen_fork(&rise);
+        let risen = raise_node_with_fork(table, seat, gate, build, way[above].number, &fork)?;
+        rise = Rise {
+            key: rise.key,
+            end: rise.end,
+            level: above,
+            risen,
+        };
     }
-    raise_fork_above(table, seat, gate, build, way, rise)
-}
-
-/// What [`raise_to_end`] returns where `rise.end` is before `rise.level`. There a fork has risen, which goes into the next node above.
-#[cycle(raising)]
-fn raise_fork_above<G: Gate>(
-    table: &HotTable,
-    seat: &mut TableSeat,
-    gate: &mut G,
-    build: &mut Build,
-    way: &[PathNode],
-    rise: Rise<'_>,
-) -> Option<Entry>
-    requires up { Rises table.now seat.old build.old.made.items way.now rise }
-    requires above { rise.level ≢ rise.end }
-    requires room { length build.old.made.items + 2 * levels_above rise < MOST_MADE }
-    ensures makes { Makes (2 * levels_above rise.entry + 1) (levels_above rise.entry * level_steps + node_steps) table.now G.becomes
-        ((seat.old, gate.old), build.old) ((seat.new, gate.new), build.new) result }
-    ensures made { (b : Rises table.now seat.old build.old.made.items way.now rise.entry) → MatchOption result
-        (HasNotMade table.now seat.new build.new.made.items)
-        (HasRisenTo table.now seat.new build.new.made.items way.now b.here.newcomer rise.entry.end
-        (gone_with_way way.now rise.entry.end rise.entry.level b.here.gone)) }
-    ensures low { FitsOnWay seat.old.known way.now rise.entry.end result }
-{
-    match rise.risen {
-        Risen::Whole(_) => unreachable!(),
-        Risen::Split {
-            position,
-            zero,
-            one,
-        } => {
-            let above = rise.level - 1;
-            let number = way[above].number;
-            let fork = Fork {
-                key: rise.key,
-                position,
-                zero,
-                one,
-            };
-            let next = raise_node_with_fork(table, seat, gate, build, number, &fork)?;
-            let rest = Rise {
-                key: rise.key,
-                end: rise.end,
-                level: above,
-                risen: next,
-            };
-            raise_to_end(table, seat, gate, build, way, rest)
-        }
-    }
+    make_one_entry(table, seat, gate, build, way[rise.level].number, rise.risen)
 }
 
 /// The one entry that takes the place of the topmost node of `job`'s span, when the lowest gets the leaf `new`. The flag tells whether

@@ -12,8 +12,8 @@ ghost use Rattle.rowex_writing.specs.Going.{WorksOn};
 ghost use Rattle.rowex_writing.specs.Taking.{HasLeafBelow};
 ghost use Rattle.rowex_writing.specs.declared.plan.Deed.TheVariants.{Take};
 
-use crate::building::Build;
-use crate::deeds::{Job, Raised};
+use crate::job::{Job, Raised};
+use crate::kept::Build;
 use crate::plan::Full;
 use crate::rising::raise_without_leaf;
 use rowex_core::Gate;

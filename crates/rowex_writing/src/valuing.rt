@@ -6,7 +6,7 @@ ghost use Rattle.rowex_reading.specs.Possible.{IsPossible};
 ghost use Rattle.rowex_reading.specs.Ways.{IsFoundAt};
 ghost use Rattle.rowex_table.specs.Seats.{IsSeatOf};
 ghost use Rattle.lone_runs.specs.Lone.{KeepsSpare};
-ghost use Rattle.rowex_writing.specs.Attempts.{HasDone, HasLoadedFound, HasMoved, HoldsFound, revalued};
+ghost use Rattle.rowex_writing.specs.Attempts.{HasDoneDeed, HasLoadedFound, HasMoved, HoldsFound, revalued};
 ghost use Rattle.rowex_writing.specs.Changes.{HasRun, HasTakenPlan};
 ghost use Rattle.rowex_writing.specs.Counts.{held_loads};
 ghost use Rattle.rowex_writing.specs.Going.{ReadsOn};
@@ -15,8 +15,8 @@ ghost use Rattle.rowex_writing.specs.Locks.{locks_of};
 ghost use Rattle.rowex_writing.specs.declared.plan.Deed.{Deed};
 ghost use Rattle.rowex_writing.specs.declared.plan.Deed.TheVariants.{Value};
 
-use crate::deeds::Job;
 use crate::ending::unlock_kept;
+use crate::job::Job;
 use rowex_core::{Gate, Rec, Spot};
 use rowex_reading::Found;
 use rowex_table::{HotTable, TableSeat};
@@ -91,7 +91,7 @@ pub(crate) fn store_value<G: Gate>(
     requires loaded { HasLoadedFound seat.old.known job.now.found }
     ensures run { HasRun table.now G.becomes (seat.old, gate.old) (seat.new, gate.new) }
     ensures rest { IsAtRest seat.new.known }
-    ensures done { HasDone seat.old.known seat.new.known Value job.now.key.now job.now.value job.now.found }
+    ensures done { HasDoneDeed seat.old.known seat.new.known Value job.now.key.now job.now.value job.now.found }
     ensures few { seat.new.known.steps ≤ seat.old.known.steps + 2 + locks_of job.now.span }
     ensures spares { KeepsSpare table.now.layout seat.old seat.new }
 {

@@ -17,12 +17,11 @@ ghost use Rattle.rowex_writing.specs.Locks.{AreNodes, HasTheSame, KeepsRecords, 
 ghost use Rattle.rowex_reading.specs.declared.descent.Found.{Found as FoundView};
 ghost use Rattle.tries.specs.Keys.{Key as KeyView};
 ghost use Rattle.rowex_writing.specs.Merging.{IsFar, IsNeighbour, IsTargetAbove, IsWide, LocksAbove, TakesOn, TriesMore};
-ghost use Rattle.rowex_writing.specs.declared.merging.Merge.{Merge as MergeView};
+ghost use Rattle.rowex_writing.specs.declared.job.Merge.{Merge as MergeView};
 
 use crate::checking::{entry_stands, naming_entry, root_stands};
-use crate::deeds::Job;
+use crate::job::{Job, Merge};
 use crate::locks::{lock_anchor, lock_node};
-use crate::merging::Merge;
 use compound_node::Entry;
 use insert_cases::PathNode;
 use rowex_core::{Gate, Target};

@@ -1,7 +1,7 @@
 -- A new value, a removal, or what the deed has made is published; or all is given back.
 use Rattle.rowex_writing.proofs.Spare.{goes_spare, works_spare}
 use Rattle.std.proofs.Common.{◌<◌, inl, inr, sym, ap, subst, arith, ◌≡◌, ◌∙◌, Err}
-use Rattle.rowex_writing.specs.Attempts.{HasDone}
+use Rattle.rowex_writing.specs.Attempts.{HasDoneDeed}
 use Rattle.rowex_writing.specs.Changes.{HasTakenPlan}
 use Rattle.rowex_writing.specs.Counts.{held_loads}
 use Rattle.rowex_writing.specs.Locks.{span_numbers}
@@ -25,7 +25,7 @@ returns-in-Value-clause-run g c = inl (c.store_value.ensures.run, omega (arith, 
 
 pub returns-in-Value-clause-done : goal.returns-in-Value-clause-done
 returns-in-Value-clause-done g c = λ ok.
-    subst (λ d. HasDone c.args.seat.now.known c.store_value.new.seat.known d c.args.job.now.key.now c.args.job.now.value c.args.job.now.found) (sym c.in-Value.is) c.store_value.ensures.done
+    subst (λ d. HasDoneDeed c.args.seat.now.known c.store_value.new.seat.known d c.args.job.now.key.now c.args.job.now.value c.args.job.now.found) (sym c.in-Value.is) c.store_value.ensures.done
 
 pub make_removal-requires-clause-taken : goal.make_removal-requires-clause-taken
 make_removal-requires-clause-taken g c = subst (HasTakenPlan c.args.table.now c.args.seat.now c.args.job.now) c.in-Take.is c.requires.taken
@@ -44,7 +44,7 @@ returns-in-Take-clause-run g c =
 
 pub returns-in-Take-clause-done : goal.returns-in-Take-clause-done
 returns-in-Take-clause-done g c = λ ok.
-    subst (λ d. HasDone c.args.seat.now.known c.make_removal.new.seat.known d c.args.job.now.key.now c.args.job.now.value c.args.job.now.found) (sym c.in-Take.is) (c.make_removal.ensures.done ok)
+    subst (λ d. HasDoneDeed c.args.seat.now.known c.make_removal.new.seat.known d c.args.job.now.key.now c.args.job.now.value c.args.job.now.found) (sym c.in-Take.is) (c.make_removal.ensures.done ok)
 
 pub publish_change-requires : goal.publish_change-requires
 publish_change-requires g c =

@@ -17,7 +17,7 @@ use Rattle.rowex_writing.proofs.attempts.try_plan.Goals as goal
 use Rattle.rowex_writing.proofs.attempts.try_plan.Goals.{In-Some}
 use Rattle.rowex_writing.specs.Counts.{held_loads}
 use Rattle.rowex_writing.specs.Plans.{change}
-use Rattle.rowex_writing.specs.declared.deeds.Job.{Job}
+use Rattle.rowex_writing.specs.declared.job.Job.{Job}
 use Rattle.rowex_writing.specs.declared.attempts.TryFault.TheVariants.{FullLeaves, FullNodes}
 use Rattle.rowex_writing.proofs.Making.{building_none, goes_possible}
 use Rattle.rowex_writing.proofs.Named.{found_again, found_other}

@@ -11,7 +11,7 @@ use Rattle.versions.specs.declared.Rec.TheVariants.{Node as a_node}
 use Rattle.rowex_writing.specs.Counts.{level_steps, node_steps}
 use Rattle.rowex_writing.specs.Deeds.{MayReplace}
 use Rattle.rowex_writing.specs.Walks.{nodes_among}
-use Rattle.rowex_writing.specs.declared.deeds.Raised.{Raised}
+use Rattle.rowex_writing.specs.declared.job.Raised.{Raised}
 use Rattle.rowex_writing.proofs.Counting.{made_one, no_nodes}
 use Rattle.rowex_writing.proofs.Locking.{goes_more}
 use Rattle.rowex_writing.proofs.Making.{building_on, not_made}

@@ -1,32 +1,32 @@
 -- A full node gives its two sides; another is stored anew with the leaf in it.
-use Rattle.std.proofs.Common.{◌≡◌, ◌<◌, false, true, refl, sym, subst, ◌∙◌, length, arith}
-use Rattle.insert_cases.specs.declared.growth.Grown.TheVariants.{One as Single}
+use Rattle.std.proofs.Common.{◌≡◌, ◌<◌, false, true, refl, subst, length, arith}
+use Rattle.insert_cases.specs.declared.growth.Grown.TheVariants.{One as Single, Two}
 use Rattle.rowex_writing.specs.Building.{IsMadeFrom}
 use Rattle.rowex_writing.proofs.Lifting.{grown_for}
 use Rattle.rowex_writing.proofs.Remade.{takes_read, takes_same}
 use Rattle.rowex_writing.proofs.Walked.{makes_as, makes_failed, makes_within}
 use Rattle.rowex_writing.proofs.rising.make_risen_with_leaf_by_value.Goals as goal
 
-pub cut_with_leaf-grown-requires-clause-leads : goal.cut_with_leaf-grown-requires-clause-leads
-cut_with_leaf-grown-requires-clause-leads g c = let (node, takes) = c.requires.takes in (takes_read c.read_node-node.ensures node c.args.new.now takes).leads
+pub cut_with_leaf-cut-requires-clause-leads : goal.cut_with_leaf-cut-requires-clause-leads
+cut_with_leaf-cut-requires-clause-leads g c = let (node, takes) = c.requires.takes in (takes_read c.read_node-node.ensures node c.args.new.now takes).leads
 
-pub cut_with_leaf-grown-requires-clause-tree : goal.cut_with_leaf-grown-requires-clause-tree
-cut_with_leaf-grown-requires-clause-tree g c = let (node, takes) = c.requires.takes in (takes_read c.read_node-node.ensures node c.args.new.now takes).tree
+pub cut_with_leaf-cut-requires-clause-tree : goal.cut_with_leaf-cut-requires-clause-tree
+cut_with_leaf-cut-requires-clause-tree g c = let (node, takes) = c.requires.takes in (takes_read c.read_node-node.ensures node c.args.new.now takes).tree
 
 pub returns-then-count-eq32-clause-made : goal.returns-then-count-eq32-clause-made
 returns-then-count-eq32-clause-made g c = λ news node takes b.
     let (after, made, now) = c.in_ok-risen.ensures.made news b in
-    let e = c.cut_with_leaf-grown.ensures in (
+    let e = c.cut_with_leaf-cut.ensures in (
       after,
       grown_for (takes_same c.read_node-node.ensures node c.args.new.now takes) c.args.loaded.now.number c.args.new.now c.in_ok-risen.risen c.has_whole_node-stays.result news after
           (record {
-            grown = c.cut_with_leaf-grown.result;
+            grown = Two c.cut_with_leaf-cut.result;
             shows = e.shows;
-            whole = (λ t. absurd (let z : false ≡ true = sym e.whole ∙ t in cc), λ room. absurd (omega (arith, c.if-count-eq32.true, c.count.ensures.count, room)));
+            whole = (λ t. absurd (let z : false ≡ true = t in cc), λ room. absurd (omega (arith, c.if-count-eq32.true, c.count.ensures.count, room)));
             keeps = c.has_whole_node-stays.ensures;
             above = e.same.0;
             low = e.low;
-            made = subst (λ e. IsMadeFrom e c.cut_with_leaf-grown.result c.in_ok-risen.risen news after) c.node_entry-old.ensures made;
+            made = subst (λ e. IsMadeFrom e (Two c.cut_with_leaf-cut.result) c.in_ok-risen.risen news after) c.node_entry-old.ensures made;
           }),
       now,
     )

@@ -1,8 +1,8 @@
 -- The node above gets the fork: a full node gives its two sides, and another is stored anew with the fork in it.
-use Rattle.std.proofs.Common.{◌≡◌, ◌<◌, ◌∷◌, Some, ap, arith, false, length, refl, sym, true, ◌∙◌}
+use Rattle.std.proofs.Common.{◌≡◌, ◌<◌, ◌∷◌, Some, ap, arith, false, length, refl, true}
 use Rattle.compound_node.specs.Nodes.{height_of}
 use Rattle.compound_node.specs.declared.entries.Entry.TheVariants.{Node}
-use Rattle.insert_cases.specs.declared.growth.Grown.TheVariants.{One as Single}
+use Rattle.insert_cases.specs.declared.growth.Grown.TheVariants.{One as Single, Two}
 use Rattle.insert_cases.specs.declared.raising.Risen.TheVariants.{Whole}
 use Rattle.publish_laws.specs.Rises.{made_of_node}
 use Rattle.rowex_writing.specs.Building.{IsBuilding}
@@ -10,14 +10,14 @@ use Rattle.rowex_writing.proofs.Lifting.{lift_tree, lift_zero, lift_one, lift_bu
 use Rattle.rowex_writing.proofs.Walked.{makes_after, makes_as, makes_failed}
 use Rattle.rowex_writing.proofs.rising.raise_node_with_fork.Goals as goal
 
-pub cut_with_fork-grown-requires-clause-tree : goal.cut_with_fork-grown-requires-clause-tree
-cut_with_fork-grown-requires-clause-tree g c = lift_tree _ _ c.read_locked_node-node.ensures.reads c.requires.below c.read_locked_node-node.ensures.node
+pub cut_with_fork-cut-requires-clause-tree : goal.cut_with_fork-cut-requires-clause-tree
+cut_with_fork-cut-requires-clause-tree g c = lift_tree _ _ c.read_locked_node-node.ensures.reads c.requires.below c.read_locked_node-node.ensures.node
 
-pub cut_with_fork-grown-requires-clause-zero : goal.cut_with_fork-grown-requires-clause-zero
-cut_with_fork-grown-requires-clause-zero g c = lift_zero _ _ c.read_locked_node-node.ensures.reads c.requires.below c.read_locked_node-node.ensures.node
+pub cut_with_fork-cut-requires-clause-zero : goal.cut_with_fork-cut-requires-clause-zero
+cut_with_fork-cut-requires-clause-zero g c = lift_zero _ _ c.read_locked_node-node.ensures.reads c.requires.below c.read_locked_node-node.ensures.node
 
-pub cut_with_fork-grown-requires-clause-one : goal.cut_with_fork-grown-requires-clause-one
-cut_with_fork-grown-requires-clause-one g c = lift_one _ _ c.read_locked_node-node.ensures.reads c.requires.below c.read_locked_node-node.ensures.node
+pub cut_with_fork-cut-requires-clause-one : goal.cut_with_fork-cut-requires-clause-one
+cut_with_fork-cut-requires-clause-one g c = lift_one _ _ c.read_locked_node-node.ensures.reads c.requires.below c.read_locked_node-node.ensures.node
 
 pub make_risen-requires-clause-building : goal.make_risen-requires-clause-building
 make_risen-requires-clause-building g c = (c.requires.below.here.raising.news, lift_building _ _ c.read_locked_node-node.ensures.reads c.requires.below c.read_locked_node-node.ensures.node)
@@ -36,17 +36,17 @@ make_node-requires-clause-building g c = (c.requires.below.here.raising.news, li
 
 pub returns-then-count-eq32-clause-made : goal.returns-then-count-eq32-clause-made
 returns-then-count-eq32-clause-made g c = λ b.
-    lifted _ _ c.read_locked_node-node.ensures.reads b c.read_locked_node-node.ensures.node (c.make_risen.new.seat, c.make_risen.new.gate) c.make_risen.new.build.made.items c.node_entry-old.result c.cut_with_fork-grown.result c.make_risen.result
-    c.cut_with_fork-grown.ensures.shows c.cut_with_fork-grown.ensures.same c.make_risen.ensures.makes.goes
+    lifted _ _ c.read_locked_node-node.ensures.reads b c.read_locked_node-node.ensures.node (c.make_risen.new.seat, c.make_risen.new.gate) c.make_risen.new.build.made.items c.node_entry-old.result (Two c.cut_with_fork-cut.result) c.make_risen.result
+    c.cut_with_fork-cut.ensures.shows c.cut_with_fork-cut.ensures.same c.make_risen.ensures.makes.goes
     (c.make_risen.ensures.made b.here.raising.news (lift_building _ _ c.read_locked_node-node.ensures.reads b c.read_locked_node-node.ensures.node))
 
 pub returns-then-count-eq32-clause-level : goal.returns-then-count-eq32-clause-level
 returns-then-count-eq32-clause-level g c = λ words h.
     let b = c.requires.below in
-    let e = c.cut_with_fork-grown.ensures in
-    fork_level words c.read_locked_node-node.result c.node_entry-old.result c.cut_with_fork-grown.result c.make_risen.result _ b.here.raising.news (IsBuilding c.args.table.now c.make_risen.new.seat c.make_risen.new.build.made.items)
+    let e = c.cut_with_fork-cut.ensures in
+    fork_level words c.read_locked_node-node.result c.node_entry-old.result (Two c.cut_with_fork-cut.result) c.make_risen.result _ b.here.raising.news (IsBuilding c.args.table.now c.make_risen.new.seat c.make_risen.new.build.made.items)
     (c.read_locked_node-node.ensures.node words h) (ap height_of c.node_entry-old.ensures) e.low
-    (λ t. absurd (let z : false ≡ true = sym e.whole ∙ t in cc), λ room. absurd (omega (arith, c.if-count-eq32.true, c.count.ensures.count, room)))
+    (λ t. absurd (let z : false ≡ true = t in cc), λ room. absurd (omega (arith, c.if-count-eq32.true, c.count.ensures.count, room)))
     (c.make_risen.ensures.made b.here.raising.news (lift_building _ _ c.read_locked_node-node.ensures.reads b c.read_locked_node-node.ensures.node))
 
 pub returns-clause-made : goal.returns-clause-made

@@ -26,7 +26,7 @@ use Rattle.rowex_core.specs.Knowing.{IsEvent}
 use Rattle.rowex_table.specs.Runs.{silent}
 use Rattle.rowex_table.specs.Seats.{SeatView, TableView}
 use Rattle.rowex_writing.specs.Attempts.{HasLoadedFound}
-use Rattle.rowex_writing.specs.declared.deeds.Job.{Job}
+use Rattle.rowex_writing.specs.declared.job.Job.{Job}
 use Rattle.rowex_writing.specs.declared.plan.Deed.TheVariants.{Value as ValueDeed}
 
 -- the leaf has the key

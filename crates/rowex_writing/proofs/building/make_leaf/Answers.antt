@@ -7,7 +7,7 @@ use Rattle.rowex_writing.specs.Building.{HasLeafMade, IsBuilding}
 use Rattle.rowex_writing.proofs.Classes.{lacks_leaves}
 use Rattle.rowex_writing.proofs.Locking.{goes_more, seat_of}
 use Rattle.rowex_writing.proofs.Making.{set_some_on, building_leaf, building_none, building_on}
-use Rattle.rowex_writing.proofs.publishing.make_leaf.Goals as goal
+use Rattle.rowex_writing.proofs.building.make_leaf.Goals as goal
 use Rattle.tries.specs.Content.{item}
 
 pub fill_leaf-requires-clause-own : goal.fill_leaf-requires-clause-own

@@ -6,7 +6,7 @@ use Rattle.compound_node.specs.Nodes.{piece}
 use Rattle.insert_cases.specs.Grown.{half_piece}
 use Rattle.tries.proofs.Building.{size-piece}
 use Rattle.insert_cases.proofs.NodeFacts.{cut_is, half_anew}
-use Rattle.insert_cases.proofs.growth.pull_up.Goals as goal
+use Rattle.insert_cases.proofs.growth.pull_up_full.Goals as goal
 
 pub fork_half-requires-clause-room : goal.fork_half-requires-clause-room
 fork_half-requires-clause-room c =

@@ -1,0 +1,42 @@
+//! What an attempt has to do, once it is planned: the change, what comes in the place of its nodes, and the merge that may end a removal.
+
+use crate::plan::Span;
+use compound_node::Entry;
+use insert_cases::PathNode;
+use key_bits::Key;
+use rowex_reading::Found;
+
+/// What a change is made by: the way of the search for `key`, what it found, and the value that `key` is to get. `span` says which nodes
+/// of the way get others in their place.
+#[derive(Drop)]
+pub(crate) struct Job<'a> {
+    pub way: &'a [PathNode],
+    pub key: &'a Key,
+    pub value: u64,
+    pub found: Found,
+    pub span: Span,
+}
+
+/// What comes in the place of a span's nodes.
+#[derive(Clone, Copy)]
+pub(crate) struct Raised {
+    /// The entry; `None` if the root is to be empty.
+    pub entry: Option<Entry>,
+    /// The index on the way from which on nodes of the span stay: that of the lowest, or the span's `len` if none stays.
+    pub low: usize,
+    /// The number of the leaf record that the change unlinks, if it unlinks one.
+    pub leaf: Option<u32>,
+}
+
+/// A merge of a node that loses a leaf, the lower one, with its sibling. Both stand in the upper node.
+#[derive(Clone, Copy)]
+pub(crate) struct Merge {
+    /// The sibling's slot in the upper node.
+    pub place: u8,
+    /// The position of the fork between the two.
+    pub position: u16,
+    /// The number of the sibling's record.
+    pub number: u32,
+    /// The number of the record made for what is left of the lower node. The node of both is put there.
+    pub made: u32,
+}
