@@ -1,14 +1,15 @@
 -- A round of its parts.
-use Rattle.std.proofs.Common.{◌≡◌, ℕ, ◌∷◌, ◌++◌, sym, ap, subst, ◌∙◌}
+use Rattle.std.proofs.Common.{◌≡◌, ℕ, ◌∷◌, ◌++◌, refl, sym, ap, subst, ◌∙◌}
 use Rattle.versions.specs.declared.Rec.TheVariants.{Node as a_node, Leaf as a_leaf}
 use Rattle.versions.specs.declared.Round.{Round}
 use Rattle.rowex_core.specs.declared.event.Act.TheVariants.{LoadEpoch}
 use Rattle.rowex_core.specs.declared.event.Event.{Event}
 use Rattle.rowex_table.specs.Runs.{Does, InTurn}
 use Rattle.rowex_table.specs.Seats.{TableView, SeatView}
-use Rattle.epochs.specs.Rounds.{Visits, VisitEach, advance_steps, BeginsRound, HasBound, VisitsAll, VisitsSome, IsRound, IsSmallRound}
+use Rattle.epochs.specs.Rounds.{Visits, VisitEach, advance_steps, BeginsRound, HasBound, VisitsSome, VisitsTable, IsRound, IsSmallRound, IsSparedRound}
 use Rattle.epochs.specs.Runs.{collecting}
 use Rattle.epochs.proofs.Doing.{does_append, collects, collects_append}
+use Rattle.epochs.proofs.Visiting.{some_none}
 
 -- the first steps of each round
 begins : {G : Type 0} (table : TableView) (becomes : G → Event → G → Type 0) (a c : SeatView × G) (h : BeginsRound table becomes a c) →
@@ -18,12 +19,10 @@ begins table becomes a c (b, advances, finds) =
     let second = LoadEpoch finds.0 ∷ finds.1 in
     collects table becomes (first ++ second) a c (does_append table becomes first second a b c advances.2 finds.3)
 
-pub round_of : {G : Type 0} (table : TableView) (becomes : G → Event → G → Type 0) (bound nodes leaves : ℕ) (a c d e : SeatView × G) → BeginsRound table becomes a c
-    → HasBound table.layout.passes bound c.0.known
-    → VisitsAll table becomes bound a_node table.layout.nodes nodes c d → d.0.known.round ≡ c.0.known.round
-    → VisitsAll table becomes bound a_leaf table.layout.leaves leaves d e → e.0.known.round ≡ d.0.known.round → IsRound table becomes a e nodes leaves
-round_of table becomes bound nodes leaves a c d e h has of_nodes same of_leaves same' =
-    let is : bound ≡ e.0.known.round.bound = sym (ap (λ (z : Round). z.bound) (same' ∙ same) ∙ has.least) in
+pub round_of : {G : Type 0} (table : TableView) (becomes : G → Event → G → Type 0) (bound nodes leaves : ℕ) (a c e : SeatView × G) → BeginsRound table becomes a c
+    → HasBound table.layout.passes bound c.0.known → VisitsTable table becomes bound nodes leaves c e → e.0.known.round ≡ c.0.known.round → IsRound table becomes a e nodes leaves
+round_of table becomes bound nodes leaves a c e h has (d, of_nodes, of_leaves) same =
+    let is : bound ≡ e.0.known.round.bound = sym (ap (λ (z : Round). z.bound) same ∙ has.least) in
     let first = LoadEpoch h.1.0 ∷ advance_steps h.1.0 h.1.1 ++ LoadEpoch h.2.0 ∷ h.2.1 in
     record {
       epoch = h.1.0;
@@ -57,3 +56,8 @@ small_round_of table becomes bound most a c d h has (recs, visits, each, does, f
       visits_each = subst (λ m. VisitEach m recs visits) is each;
       few = few;
     }
+
+-- and one that is spared of its beginning alone
+pub spared_of : {G : Type 0} (table : TableView) (becomes : G → Event → G → Type 0) (bound : ℕ) (a c : SeatView × G) → BeginsRound table becomes a c
+    → HasBound table.layout.passes bound c.0.known → IsSparedRound table becomes a c
+spared_of table becomes bound a c h has = small_round_of table becomes bound 0 a c c h has (some_none table becomes bound 0 c) refl

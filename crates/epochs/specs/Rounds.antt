@@ -68,6 +68,10 @@ pub record IsSmallRound {G : Type 0} (table : TableView) (becomes : G → Event 
   pub visits_each : VisitEach b.0.known.round.bound recs visits
   pub few : length recs ≤ most
 
+-- A round that is spared: it begins as a round does, and then the pass visits no record.
+abbrev pub IsSparedRound : {G : Type 0} → TableView → (G → Event → G → Type 0) → SeatView × G → SeatView × G → Type 0
+IsSparedRound table becomes a b = IsSmallRound table becomes 0 a b
+
 -- The parts of a round
 
 -- the pass has loaded the first n pins since it last loaded the epoch, and this is the least of that epoch and of those pins
@@ -102,6 +106,11 @@ VisitsOne table becomes bound r given a b =
 abbrev pub VisitsAll : {G : Type 0} → TableView → (G → Event → G → Type 0) → ℕ → (ℕ → Rec) → ℕ → ℕ → SeatView × G → SeatView × G → Type 0
 VisitsAll table becomes bound kind n given a b =
     (acts : List Act) × InTurn (λ m. Visits bound (kind m)) n acts × Does table becomes collecting acts a b × (given ≡ count_by has_given acts)
+
+-- visits of each record, nodes first, which give so many nodes and so many leaves back
+abbrev pub VisitsTable : {G : Type 0} → TableView → (G → Event → G → Type 0) → (bound given_nodes given_leaves : ℕ) → SeatView × G → SeatView × G → Type 0
+VisitsTable {G = G} table becomes bound given_nodes given_leaves a b =
+    (m : SeatView × G) × VisitsAll table becomes bound a_node table.layout.nodes given_nodes a m × VisitsAll table becomes bound a_leaf table.layout.leaves given_leaves m b
 
 -- So many records of a kind were visited, the first ones, and so many of them given back. Then visits go on, until this is so of more.
 abbrev pub GoesOnVisiting : {G : Type 0} → TableView → (G → Event → G → Type 0) → ℕ → (ℕ → Rec) → ℕ × ℕ → ℕ × ℕ → SeatView × G → SeatView × G → Type 0

@@ -1,6 +1,6 @@
 //! Rounds of collection: records that no pinned pass can reach are given back.
 
-ghost use Rattle.std.specs.Prelude.{◌≡◌, ◌≢◌, ℕ, ◌+◌, ◌^◌, ◌<◌, ◌≤◌, List, None, true, false, length, min, if◌then◌else◌, MatchOption};
+ghost use Rattle.std.specs.Prelude.{◌≡◌, ◌≢◌, ℕ, ◌+◌, ◌^◌, ◌<◌, ◌≤◌, List, None, true, false, length, min, if◌then◌else◌, IfSome, MatchOption};
 ghost use Rattle.record_words.specs.declared.state.Tag.TheVariants.{Free as FreeTag, Obsolete};
 ghost use Rattle.record_words.specs.Layout.{leaf_size};
 ghost use Rattle.record_words.specs.State.{state_word};
@@ -8,7 +8,7 @@ ghost use Rattle.versions.specs.declared.Rec.TheVariants.{Node as a_node, Leaf a
 ghost use Rattle.rowex_core.specs.Cores.{HasRecord};
 ghost use Rattle.rowex_table.specs.Rule.{IsStartOf};
 ghost use Rattle.rowex_table.specs.Seats.{IsSeatOf};
-ghost use Rattle.epochs.specs.Rounds.{AdvancesEpoch, BeginsRound, FindsBound, HasBound, IsRound, IsSmallRound, VisitsAll, GoesOnVisiting, VisitsOne, VisitsSome, is_given};
+ghost use Rattle.epochs.specs.Rounds.{AdvancesEpoch, BeginsRound, FindsBound, HasBound, IsRound, IsSmallRound, IsSparedRound, VisitsAll, GoesOnVisiting, VisitsOne, VisitsSome, VisitsTable, is_given};
 ghost use Rattle.epochs.specs.declared.collection.Visited.TheVariants.{Free, Waits};
 
 use crate::limbo::{Limbo, MOST_VISITED};
@@ -75,16 +75,34 @@ pub fn collect_round<G: Gate>(table: &HotTable, seat: &mut TableSeat, gate: &mut
     ensures round { IsRound table.now G.becomes (seat.old, gate.old) (seat.new, gate.new) result.given.nodes result.given.leaves }
 {
     let bound = begin_round(table, seat, gate);
-    let nodes = visit_node_records(table, seat, gate, bound);
-    let leaves = visit_leaf_records(table, seat, gate, bound);
-    Collected {
-        given: Given {
-            nodes: nodes.given,
-            leaves: leaves.given,
-        },
-        found_free_node: nodes.found_free,
-        found_free_leaf: leaves.found_free,
+    visit_records(table, seat, gate, bound)
+}
+
+/// Makes a full round as `collect_round` does, unless it could give nothing back; then it only begins one, and returns `None`. So it is in an
+/// index of several passes if the bound is no higher than that of the last round that this function has made for the pass.
+///
+/// That round left no record below its bound retired, and none is retired below it later. A pass marks what it retires while it is pinned,
+/// with an epoch that it loads under this pin. If the round has seen the pin, it was no lower than the bound. If not, the pass was pinned
+/// after the round had loaded its epoch.
+pub fn collect_if_risen<G: Gate>(
+    table: &HotTable,
+    seat: &mut TableSeat,
+    gate: &mut G,
+    limbo: &mut Limbo,
+) -> Option<Collected>
+    requires own { IsSeatOf table.now seat.old }
+    requires free { seat.old.known.pin ≡ None }
+    ensures free { seat.new.known.pin ≡ None }
+    ensures round { IfSome result (λ round. IsRound table.now G.becomes (seat.old, gate.old) (seat.new, gate.new) round.given.nodes round.given.leaves) }
+    ensures several { result ≡ None → 1 < table.now.layout.passes }
+    ensures spared { result ≡ None → IsSparedRound table.now G.becomes (seat.old, gate.old) (seat.new, gate.new) }
+{
+    let bound = begin_round(table, seat, gate);
+    if table.layout().passes > 1 && bound <= limbo.swept {
+        return None;
     }
+    limbo.swept = bound;
+    Some(visit_records(table, seat, gate, bound))
 }
 
 /// Makes a small round: makes the epoch the next one, and visits the oldest records of the pass's list `limbo`. It visits at most
@@ -154,6 +172,31 @@ fn bound_with_pin(bound: u64, word: u64) -> u64
     ensures pinned { 1 ≤ word → result ≡ min bound word }
 {
     if word == 0 { bound } else { bound.min(word) }
+}
+
+/// Visits each record, nodes first. Returns how many of each kind it gave back, and whether others were free. `bound` is the bound of the
+/// round.
+fn visit_records<G: Gate>(
+    table: &HotTable,
+    seat: &mut TableSeat,
+    gate: &mut G,
+    bound: u64,
+) -> Collected
+    requires own { IsSeatOf table.now seat.old }
+    requires bound { HasBound table.now.layout.passes bound seat.old.known }
+    ensures same { (seat.new.known.pin ≡ seat.old.known.pin) × (seat.new.known.round ≡ seat.old.known.round) }
+    ensures steps { VisitsTable table.now G.becomes bound result.given.nodes result.given.leaves (seat.old, gate.old) (seat.new, gate.new) }
+{
+    let nodes = visit_node_records(table, seat, gate, bound);
+    let leaves = visit_leaf_records(table, seat, gate, bound);
+    Collected {
+        given: Given {
+            nodes: nodes.given,
+            leaves: leaves.given,
+        },
+        found_free_node: nodes.found_free,
+        found_free_leaf: leaves.found_free,
+    }
 }
 
 /// Visits each node record, in the order of their numbers. Returns how many it gave back, and whether one was free. `bound` is the bound of

@@ -27,7 +27,11 @@
 //! to 96 if there are many passes, whose pins it loads. So each retired record is visited soon, and a full round is left for an attempt
 //! that was refused as full.
 //!
-//! The limbo list promises nothing: before a record is given back, its state is loaded and exchanged.
+//! An attempt that was refused as full asks for a round that may be spared ([`collect_if_risen`]). In an index of several passes it begins
+//! as a full round does, and visits no record if its bound is no higher than that of the last such round of the pass. That one left no
+//! record retired below its bound, and none can be later. So while a pass stays pinned, each further full attempt costs no second sweep.
+//!
+//! The limbo list and this bound promise nothing: before a record is given back, its state is loaded and exchanged.
 //!
 //! A pass that is stopped while it is pinned holds back what others retire from then on, and nothing else: nobody waits for it
 //! here. Whoever needs records learns by [`Collected`] whether a round gave some back, or found some free.
@@ -38,6 +42,6 @@ pub mod laws;
 mod limbo;
 mod pinning;
 
-pub use collection::{Collected, Given, collect_round, collect_small_round};
+pub use collection::{Collected, Given, collect_if_risen, collect_round, collect_small_round};
 pub use limbo::{Limbo, MOST_VISITED};
 pub use pinning::{pin, unpin};

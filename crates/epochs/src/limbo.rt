@@ -45,6 +45,8 @@ pub struct Limbo {
     count: usize,
     /// How many the pass has retired since its last small round.
     retired: u32,
+    /// The bound of the pass's last full round by `collect_if_risen`; 0 before the first.
+    pub(crate) swept: u64,
     /// What the last small round has given back.
     pub given: ArrayVec<Rec, MOST_VISITED>,
 }
@@ -59,6 +61,7 @@ impl Limbo {
             first: 0,
             count: 0,
             retired: 0,
+            swept: 0,
             given: ArrayVec::new(),
         }
     }

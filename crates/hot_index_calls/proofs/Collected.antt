@@ -1,5 +1,5 @@
 -- A round of collection leaves a settled pass settled.
-use Rattle.std.proofs.Common.{◌≡◌, ℕ, zero, suc, ◌+◌, ◌*◌, ◌<◌, ◌≤◌, List, [], ◌∷◌, ◌++◌, length, nat_lt, true, false, Bool, if◌then◌else◌, None, sym, ap, subst, ◌∙◌, arith, length-append}
+use Rattle.std.proofs.Common.{◌≡◌, ℕ, zero, suc, inl, inr, refl, ◌+◌, ◌*◌, ◌<◌, ◌≤◌, List, [], ◌∷◌, ◌++◌, length, nat_lt, true, false, Bool, if◌then◌else◌, None, sym, ap, subst, ◌∙◌, arith, length-append}
 use Rattle.std.proofs.lemmas.List.{append-nil}
 use Rattle.record_words.specs.declared.TheConstants.{EPOCHS}
 use Rattle.versions.specs.declared.Rec.{Rec}
@@ -18,6 +18,7 @@ use Rattle.hot_index_calls.specs.Answers.{IsUnnoted}
 use Rattle.hot_index_calls.specs.Asked.{IsIdle}
 use Rattle.hot_index_calls.specs.Counts.{round_steps}
 use Rattle.hot_index_calls.specs.Passes.{AreByPasses, IsSettled, pass_of}
+use Rattle.hot_index_calls.specs.Traces.{AreSmallSteps, AreStepsBetween, Collects}
 use Rattle.hot_index_calls.proofs.Noting.{event_makers}
 
 -- how many steps the parts of a round have
@@ -129,3 +130,56 @@ module _ {G : Type 0} {table : TableView} {becomes : G → Event → G → Type 
         each_few b.0.known.round.bound r.recs r.visits r.visits_each,
         r.few,
       )
+
+-- The steps of a small round.
+pub small_steps_of : {G : Type 0} {table : TableView} {becomes : G → Event → G → Type 0} {most : ℕ} {a b : SeatView × G} (r : IsSmallRound table becomes most a b) →
+    AreSmallSteps table.layout most (LoadEpoch r.epoch ∷ advance_steps r.epoch r.found ++ LoadEpoch r.next ∷ r.pins ++ r.visits)
+small_steps_of {b = b} r = record {
+  epoch = r.epoch;
+  found = r.found;
+  next = r.next;
+  bound = b.0.known.round.bound;
+  pins = r.pins;
+  recs = r.recs;
+  visits = r.visits;
+  acts_are = refl;
+  loads_pins = r.loads_pins;
+  visits_each = r.visits_each;
+  few = r.few;
+}
+
+-- A round, whole or spared, as steps of which there is a first.
+pub record AreBetween {G : Type 0} (table : TableView) (becomes : G → Event → G → Type 0) (a b : SeatView × G) : Type 0 where
+  pub first : Act
+  pub rest : List Act
+  pub does : Does table becomes collecting (first ∷ rest) a b
+  pub few : b.0.known.steps ≤ a.0.known.steps + round_steps table.layout
+  pub are : AreStepsBetween table.layout (first ∷ rest)
+
+pub between : {G : Type 0} {table : TableView} {becomes : G → Event → G → Type 0} {a b : SeatView × G} → Collects table becomes a b → AreBetween table becomes a b
+between {b = b} (inl (nodes, leaves, r)) = record {
+  first = LoadEpoch r.epoch;
+  rest = advance_steps r.epoch r.found ++ LoadEpoch r.next ∷ r.pins ++ r.nodes ++ r.leaves;
+  does = r.does;
+  few = round_few r;
+  are = inl (record {
+    epoch = r.epoch;
+    found = r.found;
+    next = r.next;
+    bound = b.0.known.round.bound;
+    pins = r.pins;
+    nodes = r.nodes;
+    leaves = r.leaves;
+    acts_are = refl;
+    loads_pins = r.loads_pins;
+    visits_nodes = r.visits_nodes;
+    visits_leaves = r.visits_leaves;
+  });
+}
+between (inr (several, r)) = record {
+  first = LoadEpoch r.epoch;
+  rest = advance_steps r.epoch r.found ++ LoadEpoch r.next ∷ r.pins ++ r.visits;
+  does = r.does;
+  few = (let few = small_few r in omega (arith, few));
+  are = inr (several, small_steps_of r);
+}

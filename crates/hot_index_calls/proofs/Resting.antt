@@ -1,5 +1,5 @@
 -- An attempt that does nothing, and what the one before it was refused for.
-use Rattle.std.proofs.Common.{◌≡◌, ℕ, ◌+◌, List, [], ◌∷◌, ◌++◌, Option, None, Err, true, refl, sym, ap, subst, ◌∙◌, arith}
+use Rattle.std.proofs.Common.{◌≡◌, ℕ, ◌+◌, List, [], ◌∷◌, Option, None, Err, true, refl, sym, ap, subst, ◌∙◌, arith}
 use Rattle.std.specs.Prelude.{Contains}
 use Rattle.std.proofs.lemmas.Bool.{false≢true}
 use Rattle.std.proofs.lemmas.List.{append-nil}
@@ -7,7 +7,7 @@ use Rattle.std.proofs.lemmas.List.Elements.{All-nil}
 use Rattle.finite_map.specs.declared.Note.{Note}
 use Rattle.finite_map.specs.Calls.{LegalCalls}
 use Rattle.finite_map.specs.Fronts.{BeginsWith}
-use Rattle.rowex_core.specs.declared.event.Act.TheVariants.{ClearPin, LoadEpoch}
+use Rattle.rowex_core.specs.declared.event.Act.TheVariants.{ClearPin}
 use Rattle.rowex_core.specs.declared.event.Event.{Event}
 use Rattle.record_words.specs.declared.layout.Layout.{Layout}
 use Rattle.tries.specs.Keys.{Key}
@@ -19,7 +19,6 @@ use Rattle.rowex_core.specs.Events.{word_of}
 use Rattle.rowex_table.specs.Runs.{StepsWith, silent}
 use Rattle.rowex_table.specs.Seats.{TableView, SeatView}
 use Rattle.rowex_table.specs.Stays.{LeavesPin}
-use Rattle.epochs.specs.Rounds.{IsRound, advance_steps}
 use Rattle.epochs.specs.Runs.{Pins}
 use Rattle.rowex_records.specs.Claims.{HasMissedSince, IsAnothers}
 use Rattle.rowex_writing.specs.Changes.{LacksLeaves, LacksNodes}
@@ -33,6 +32,7 @@ use Rattle.hot_index_calls.specs.Answers.{IsCause, IsUnnoted, fault_of}
 use Rattle.hot_index_calls.specs.Passes.{AreByPasses, IsSettled, PassView, pass_of}
 use Rattle.hot_index_calls.specs.Traces.{HasEnded, IsAttempt, is_full}
 use Rattle.hot_index_calls.proofs.Noting.{cleared, event_makers}
+use Rattle.hot_index_calls.proofs.Collected.{AreBetween}
 use Rattle.hot_index_calls.proofs.Tracing.{attempt_ended}
 
 no_steps : {layout : Layout} → AreAttemptSteps layout []
@@ -87,7 +87,7 @@ module _ {G : Type 0} {table : TableView} {becomes : G → Event → G → Type 
   rests_ended = attempt_ended table becomes a b b d pins ([], no_steps, refl) clears
 
 -- A round of collection follows, and then no step fails: what the call was refused for as full stays a cause.
-module _ {G : Type 0} {table : TableView} {becomes : G → Event → G → Type 0} {nodes leaves : ℕ} (key : Key) (k : PassView) (b c d : SeatView × G) (round : IsRound table becomes b c nodes leaves)
+module _ {G : Type 0} {table : TableView} {becomes : G → Event → G → Type 0} (key : Key) (k : PassView) (b c d : SeatView × G) (round : AreBetween table becomes b c)
     (failed : d.0.known.failed ≡ c.0.known.failed) (number : d.0.known.pass ≡ c.0.known.pass) where
   same : d.0.known.pass ≡ b.0.known.pass
   same = number ∙ ap (λ (z : Known). z.pass) round.does.rest
@@ -95,8 +95,7 @@ module _ {G : Type 0} {table : TableView} {becomes : G → Event → G → Type 
   missed_still : (Whose : Rec → Option ℕ → Type 0) (r : Rec) → HasMissedSince Whose b.0.known.failed r k.steps → HasMissedSince Whose d.0.known.failed r k.steps
   missed_still Whose r (step, late, (act, word, tells, one, has)) =
       let x : Failed = record { act = act; location = word_of r 0; word = word; step = step } in
-      let acts = LoadEpoch round.epoch ∷ advance_steps round.epoch round.found ++ LoadEpoch round.next ∷ round.pins ++ round.nodes ++ round.leaves in
-      (step, late, (act, word, tells, one, subst (λ (z : List Failed). Contains z x) (sym failed) (run_failed table becomes acts b c round.does.steps x has)))
+      (step, late, (act, word, tells, one, subst (λ (z : List Failed). Contains z x) (sym failed) (run_failed table becomes (round.first ∷ round.rest) b c round.does.steps x has)))
 
   pub lacks_still : (own : List Rec) → LacksNodes table.layout b.0.known.pass b.0.known.failed k.steps own → LacksNodes table.layout d.0.known.pass d.0.known.failed k.steps own
   lacks_still own l =

@@ -7,6 +7,7 @@ use Rattle.epochs.specs.Rounds.{IsRound, IsSmallRound, LoadsPin, VisitEach, Visi
 use Rattle.epochs.specs.Runs.{Pins}
 use Rattle.finite_map.specs.declared.Note.{Note}
 use Rattle.hot_index_calls.specs.Census.{FoundTags, loads_in, loads_of}
+use Rattle.hot_index_calls.specs.Traces.{Collects}
 use Rattle.lone_runs.proofs.Fates.{IsClosed, MarksWell, fate_kept, out_closed, out_marks}
 use Rattle.lone_runs.proofs.Lone.{IsBack, lead_layout, lead_same, one_of, runs_back, runs_free, runs_spare, step_back, step_knows, step_lawful, unused_free}
 use Rattle.lone_runs.proofs.Timely.{IsMarkedBy, run_timely}
@@ -346,3 +347,13 @@ module _ {G : Type 0} (table : TableView) (becomes : G → Event → G → Type 
       length a.0.trace + 2 < EPOCHS → HasSpare table.layout a.0 → HasRoom table.layout b.0
   collects_room a b r one pin own early spare =
       let (word, pins_are) = one_pin table.layout.passes r.pins one r.loads_pins in round_room table becomes one a b r pin own early word pins_are spare
+
+  -- and so one that is whole or spared; in a table of one pass it is whole
+  pub collects_spare : (a b : SeatView × G) → Collects table becomes a b → KeepsSpare table.layout a.0 b.0
+  collects_spare a b (inl (nodes, leaves, r)) = round_spare a b r
+  collects_spare a b (inr (several, r)) = small_spare a b r
+
+  pub collecting_room : (a b : SeatView × G) → Collects table becomes a b → table.layout.passes ≡ 1 → a.0.known.pin ≡ None → a.0.known.own ≡ [] → length a.0.trace + 2 < EPOCHS → HasSpare table.layout a.0 →
+      HasRoom table.layout b.0
+  collecting_room a b (inl (nodes, leaves, r)) one pin own early spare = collects_room a b r one pin own early spare
+  collecting_room a b (inr (several, r)) one pin own early spare = absurd (omega (arith, several, one))

@@ -13,8 +13,7 @@ use Rattle.rowex_table.specs.Runs.{Ends, IsTold, Runs, SeesAllOfRun, Steps, Step
 use Rattle.rowex_table.specs.Seats.{TableView, SeatView}
 use Rattle.rowex_table.proofs.Running.{ends_told, runs_append, runs_one}
 use Rattle.rowex_table.proofs.Seeing.{ends_see, runs_after, runs_see, sees_then, step_after, step_shows}
-use Rattle.epochs.specs.Rounds.{IsRound, IsSmallRound, advance_steps}
-use Rattle.epochs.specs.declared.limbo.TheConstants.{MOST_VISITED}
+use Rattle.epochs.specs.Rounds.{advance_steps}
 use Rattle.epochs.specs.Runs.{Pins}
 use Rattle.rowex_reading.specs.Lookups.{HasSearched, HaveSearched}
 use Rattle.rowex_reading.specs.Reads.{Looks}
@@ -30,40 +29,8 @@ use Rattle.hot_index_calls.specs.Counts.{try_steps}
 use Rattle.hot_index_calls.specs.Many.{HasGotMany}
 use Rattle.hot_index_calls.specs.Noting.{change_notes}
 use Rattle.hot_index_calls.specs.Passes.{PassView, pass_of}
-use Rattle.hot_index_calls.specs.Traces.{AreAttempts, AreRoundSteps, AreSmallSteps, AreTries, HasEnded, HasGot, HasMade, HasRead, HasStepped, HasTold, HasGotRange, IsAttempt, Tidies, is_full, reading, untold}
-
--- The steps of a round, and of a small one.
-round_steps_of : {G : Type 0} {table : TableView} {becomes : G → Event → G → Type 0} {a b : SeatView × G} {nodes leaves : ℕ} (r : IsRound table becomes a b nodes leaves) →
-    AreRoundSteps table.layout (LoadEpoch r.epoch ∷ advance_steps r.epoch r.found ++ LoadEpoch r.next ∷ r.pins ++ r.nodes ++ r.leaves)
-round_steps_of {b = b} r = record {
-  epoch = r.epoch;
-  found = r.found;
-  next = r.next;
-  bound = b.0.known.round.bound;
-  pins = r.pins;
-  nodes = r.nodes;
-  leaves = r.leaves;
-  acts_are = refl;
-  loads_pins = r.loads_pins;
-  visits_nodes = r.visits_nodes;
-  visits_leaves = r.visits_leaves;
-}
-
-small_steps_of : {G : Type 0} {table : TableView} {becomes : G → Event → G → Type 0} {a b : SeatView × G} (r : IsSmallRound table becomes MOST_VISITED a b) →
-    AreSmallSteps table.layout (LoadEpoch r.epoch ∷ advance_steps r.epoch r.found ++ LoadEpoch r.next ∷ r.pins ++ r.visits)
-small_steps_of {b = b} r = record {
-  epoch = r.epoch;
-  found = r.found;
-  next = r.next;
-  bound = b.0.known.round.bound;
-  pins = r.pins;
-  recs = r.recs;
-  visits = r.visits;
-  acts_are = refl;
-  loads_pins = r.loads_pins;
-  visits_each = r.visits_each;
-  few = r.few;
-}
+use Rattle.hot_index_calls.specs.Traces.{AreAttempts, AreTries, HasEnded, HasGot, HasMade, HasRead, HasStepped, HasTold, HasGotRange, IsAttempt, Tidies, is_full, reading, untold}
+use Rattle.hot_index_calls.proofs.Collected.{AreBetween, small_steps_of}
 
 module _ {G : Type 0} (table : TableView) (becomes : G → Event → G → Type 0) where
   -- some steps, with no note
@@ -245,11 +212,11 @@ module _ {G : Type 0} (table : TableView) (becomes : G → Event → G → Type 
   ended_once call r a b stands (acts, tries, ends) = (acts, inl (tries, stands), ends)
 
   -- or it was refused as full; and there follow a round of collection and an attempt more
-  pub ended_again : {nodes leaves : ℕ} (call : Call) (r : Result Reply TryFault) (full : Full) (a b c d : SeatView × G) → HasEnded table becomes (IsAttempt table.layout) silent a b →
-      IsRefused table.layout call (pass_of a.0) (pass_of b.0) (fault_of full) → IsRound table becomes b c nodes leaves → HasEnded table becomes (IsAttempt table.layout) (change_notes call r) c d →
+  pub ended_again : (call : Call) (r : Result Reply TryFault) (full : Full) (a b c d : SeatView × G) → HasEnded table becomes (IsAttempt table.layout) silent a b →
+      IsRefused table.layout call (pass_of a.0) (pass_of b.0) (fault_of full) → AreBetween table becomes b c → HasEnded table becomes (IsAttempt table.layout) (change_notes call r) c d →
       HasEnded table becomes (AreTries table becomes call r a d) (change_notes call r) a d
   ended_again call r full a b c d (acts, tries, (m, steps, last)) lacked round (more, tries_again, (n, rest, end)) =
-      let between = LoadEpoch round.epoch ∷ advance_steps round.epoch round.found ++ LoadEpoch round.next ∷ round.pins ++ round.nodes ++ round.leaves in
+      let between = round.first ∷ round.rest in
       let later = runs_append table becomes between more b c n round.does.steps rest in (
         acts ++ (ClearPin ∷ between ++ more),
         inr (record {
@@ -258,7 +225,7 @@ module _ {G : Type 0} (table : TableView) (becomes : G → Event → G → Type 
           second = more;
           acts_are = refl;
           tries = tries;
-          round = round_steps_of round;
+          round = round.are;
           tries_again = tries_again;
           refused = b;
           tried = (m, steps, last);

@@ -49,7 +49,6 @@ use Rattle.rowex_writing.specs.declared.plan.Full.TheVariants.{Nodes as OfNodes,
 use Rattle.rowex_writing.specs.declared.attempts.TryFault.{TryFault}
 use Rattle.rowex_writing.specs.declared.attempts.TryFault.TheVariants.{Busy, FullNodes, FullLeaves}
 use Rattle.rowex_writing.proofs.Keeping.{lacks_so}
-use Rattle.epochs.specs.Rounds.{IsRound}
 use Rattle.hot_index_calls.specs.Answers.{IsCause, IsNoted, IsRefused, IsUnnoted, MayLack, MayRefuse, MayTake, WasAbsent, fault_of}
 use Rattle.hot_index_calls.specs.Asked.{HasAsked, HasLacked, HasReplied, last_try}
 use Rattle.hot_index_calls.specs.Calls.{AreTriesRefused, GetsOr, IsAwaitedWith, IsCountedWith, IsTriedAndCounted, IsTriedWith, MakesTries}
@@ -62,7 +61,7 @@ use Rattle.hot_index_calls.specs.Rooms.{FindsRoom, LeavesRoom}
 use Rattle.hot_index_calls.specs.Traces.{AreAttempts, AreTries, HasMade, HasStepped, HasTold, IsOneAttempt, Tidies, is_full}
 use Rattle.hot_index_calls.proofs.Noting.{HasGoneOn, HasLooked, WasRight, event_makers, found_had, goes_on, legal_front, longer, missed_had, noted, note_of, pinned_front, pinned_pass, settles}
 use Rattle.hot_index_calls.proofs.Conflicts.{absent_from_before, conflict_from_before, may_take_from_before, no_further, overtaken, pins_after, under_pin}
-use Rattle.hot_index_calls.proofs.Collected.{round_unnoted, small_few, small_later, small_unnoted}
+use Rattle.hot_index_calls.proofs.Collected.{AreBetween, does_unnoted, small_few, small_later, small_unnoted}
 use Rattle.hot_index_calls.proofs.Scanned.{scan_refused, scan_settled}
 use Rattle.hot_index_calls.proofs.Tracing.{ended_once, ended_tidied, has_made, has_told}
 
@@ -235,13 +234,13 @@ module _ (layout : Layout) (k j i : PassView) (first : IsUnnoted layout k j) (st
   outcome_then call (Err fault) told refused = (tt, refused_then call fault refused)
 
 -- A part that was refused, and a round of collection, together are not noted.
-module _ {G : Type 0} {table : TableView} {becomes : G → Event → G → Type 0} {nodes leaves : ℕ} (k : PassView) (b c : SeatView × G) (first : IsUnnoted table.layout k (pass_of b.0)) (steps : k.steps ≤ b.0.known.steps)
-    (settled : IsSettled b.0.known) (round : IsRound table becomes b c nodes leaves) where
+module _ {G : Type 0} {table : TableView} {becomes : G → Event → G → Type 0} (k : PassView) (b c : SeatView × G) (first : IsUnnoted table.layout k (pass_of b.0)) (steps : k.steps ≤ b.0.known.steps)
+    (settled : IsSettled b.0.known) (round : AreBetween table becomes b c) where
   pub round_later : k.steps ≤ c.0.known.steps
   round_later = let s = ap (λ (z : Known). z.steps) round.does.rest in omega arith
 
   pub then_collected : IsUnnoted table.layout k (pass_of c.0)
-  then_collected = unnoted_then table.layout k (pass_of b.0) (pass_of c.0) first steps (round_unnoted round settled)
+  then_collected = unnoted_then table.layout k (pass_of b.0) (pass_of c.0) first steps (does_unnoted round.does settled)
 
 -- an attempt whose answer stands
 pub once_asked : {G : Type 0} {table : TableView} {becomes : G → Event → G → Type 0} {a b : SeatView × G} (call : Call) (r : Result Reply TryFault) → is_full r ≡ false →

@@ -1,5 +1,5 @@
 -- What a call does, step by step, and what its gate is told.
-use Rattle.std.specs.Prelude.{◌≡◌, ◌⊎◌, ◌+◌, ◌*◌, ◌≤◌, ℕ, All, List, [], ◌∷◌, ◌++◌, length, Bool, true, false, Result, Ok, Err}
+use Rattle.std.specs.Prelude.{◌≡◌, ◌⊎◌, ◌+◌, ◌*◌, ◌<◌, ◌≤◌, ℕ, All, List, [], ◌∷◌, ◌++◌, length, Bool, true, false, Result, Ok, Err}
 use Rattle.key_bits.specs.declared.TheConstants.{MAX_BYTES}
 use Rattle.finite_map.specs.declared.Call.{Call}
 use Rattle.finite_map.specs.declared.Note.{Note}
@@ -16,7 +16,7 @@ use Rattle.rowex_table.specs.Runs.{Ends, InTurn, IsTold, Runs, SeesAllOfRun, eve
 use Rattle.rowex_table.specs.Seats.{TableView, SeatView}
 use Rattle.rowex_reading.specs.Reads.{IsBelowRoot, entries_in}
 use Rattle.rowex_scanning.specs.Counts.{scan_entries}
-use Rattle.epochs.specs.Rounds.{IsRound, IsSmallRound, LoadsPin, VisitEach, Visits, advance_steps}
+use Rattle.epochs.specs.Rounds.{IsRound, IsSmallRound, IsSparedRound, LoadsPin, VisitEach, Visits, advance_steps}
 use Rattle.epochs.specs.declared.limbo.TheConstants.{MOST_VISITED}
 use Rattle.rowex_writing.specs.Attempts.{AreAttemptSteps}
 use Rattle.rowex_writing.specs.declared.attempts.TryFault.{TryFault}
@@ -87,8 +87,8 @@ pub record AreRoundSteps (layout : Layout) (acts : List Act) : Type 0 where
   pub visits_nodes : InTurn (λ n. Visits bound (a_node n)) layout.nodes nodes
   pub visits_leaves : InTurn (λ n. Visits bound (a_leaf n)) layout.leaves leaves
 
--- The steps of a small round: it begins in the same way, and then visits some records alone.
-pub record AreSmallSteps (layout : Layout) (acts : List Act) : Type 0 where
+-- The steps of a small round: it begins in the same way, and then visits some records alone, so many at most.
+pub record AreSmallSteps (layout : Layout) (most : ℕ) (acts : List Act) : Type 0 where
   pub epoch : ℕ
   pub found : ℕ
   pub next : ℕ
@@ -99,13 +99,17 @@ pub record AreSmallSteps (layout : Layout) (acts : List Act) : Type 0 where
   pub acts_are : acts ≡ LoadEpoch epoch ∷ advance_steps epoch found ++ LoadEpoch next ∷ pins ++ visits
   pub loads_pins : InTurn LoadsPin layout.passes pins
   pub visits_each : VisitEach bound recs visits
-  pub few : length recs ≤ MOST_VISITED
+  pub few : length recs ≤ most
+
+-- The steps between two attempts: those of a round; or in an index of several passes those of one that is spared, which visits no record.
+abbrev pub AreStepsBetween : Layout → List Act → Type 0
+AreStepsBetween layout acts = AreRoundSteps layout acts ⊎ ((1 < layout.passes) × AreSmallSteps layout 0 acts)
 
 -- on a seat: one attempt
 abbrev pub IsOneAttempt : {G : Type 0} → TableView → SeatView × G → SeatView × G → List Act → Type 0
 IsOneAttempt table a b acts = IsAttempt table.layout acts
 
--- On a seat: two attempts, and a round of collection between them. When the first had ended, the call was refused as full by it alone; and
+-- On a seat: two attempts, and a round of collection between them, whole or spared. When the first had ended, the call was refused as full by it alone; and
 -- from there the other steps lead on. The notes of the call come with the last.
 pub record AreTwoAttempts {G : Type 0} (table : TableView) (becomes : G → Event → G → Type 0) (call : Call) (result : Result Reply TryFault)
     (a b : SeatView × G) (acts : List Act) : Type 0 where
@@ -114,7 +118,7 @@ pub record AreTwoAttempts {G : Type 0} (table : TableView) (becomes : G → Even
   pub second : List Act
   pub acts_are : acts ≡ first ++ (ClearPin ∷ between ++ second)
   pub tries : IsAttempt table.layout first
-  pub round : AreRoundSteps table.layout between
+  pub round : AreStepsBetween table.layout between
   pub tries_again : IsAttempt table.layout second
   pub refused : SeatView × G
   pub tried : Ends table becomes first ClearPin silent a refused
@@ -139,7 +143,7 @@ pub record AreAttempts {G : Type 0} (table : TableView) (becomes : G → Event �
   pub before : List Act
   pub rest : List Act
   pub acts_are : acts ≡ before ++ rest
-  pub tidies : (before ≡ []) ⊎ AreSmallSteps table.layout before
+  pub tidies : (before ≡ []) ⊎ AreSmallSteps table.layout MOST_VISITED before
   pub tidied : SeatView × G
   pub steps : Runs table becomes before a tidied
   pub tries : AreTries table becomes call result tidied b rest
@@ -148,11 +152,15 @@ pub record AreAttempts {G : Type 0} (table : TableView) (becomes : G → Event �
 abbrev pub Tidies : {G : Type 0} → TableView → (G → Event → G → Type 0) → SeatView × G → SeatView × G → Type 0
 Tidies table becomes a b = (b ≡ a) ⊎ IsSmallRound table becomes MOST_VISITED a b
 
+-- On a seat: the pass makes a round of collection; or, in an index of several passes, one that is spared.
+abbrev pub Collects : {G : Type 0} → TableView → (G → Event → G → Type 0) → SeatView × G → SeatView × G → Type 0
+Collects table becomes a b = ((nodes : ℕ) × (leaves : ℕ) × IsRound table becomes a b nodes leaves) ⊎ ((1 < table.layout.passes) × IsSparedRound table becomes a b)
+
 -- On a seat: the call makes such steps, and then clears the pin of its pass, with these notes.
 abbrev pub HasEnded : {G : Type 0} → TableView → (G → Event → G → Type 0) → (List Act → Type 0) → (Known → List Note) → SeatView × G → SeatView × G → Type 0
 HasEnded table becomes Are said a b = (acts : List Act) × Are acts × Ends table becomes acts ClearPin said a b
 
--- The call makes one attempt, or two with a round of collection between them, and a small round or nothing before; it makes no other
+-- The call makes one attempt, or two with a round of collection between them, whole or spared, and a small round or nothing before; it makes no other
 -- step, from the seat that the pass has before to the one that it has after. An attempt tries each lock once at most. A second one follows
 -- a first that was full, and no other. The last step clears the pin. With it comes the call's note, if it was answered. The gate is told
 -- each of the steps, in order, and nothing else. So many they are at most. Answered or refused, its last load of the root has shown the

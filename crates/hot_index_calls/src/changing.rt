@@ -18,12 +18,12 @@ ghost use Rattle.hot_index_calls.specs.Counts.{once_steps, try_steps, twice_step
 ghost use Rattle.hot_index_calls.specs.Noting.{change_notes};
 ghost use Rattle.hot_index_calls.specs.Passes.{pass_of};
 ghost use Rattle.hot_index_calls.specs.Refusals.{as_tried};
-ghost use Rattle.hot_index_calls.specs.Traces.{AreAttempts, AreTries, HasStepped, IsOneAttempt, Tidies, is_full};
+ghost use Rattle.hot_index_calls.specs.Traces.{AreAttempts, AreTries, Collects, HasStepped, IsOneAttempt, Tidies, is_full};
 
 use crate::census::count_records;
 use crate::refusals::{Refusal, count_node_records, final_refusal, judge_lack, lack_of};
 use crate::scratch::Scratch;
-use epochs::{Collected, Given, collect_round, collect_small_round, pin, unpin};
+use epochs::{Collected, Given, collect_if_risen, collect_small_round, pin, unpin};
 use finite_map::{Call, Reply};
 use rowex_core::Gate;
 use rowex_table::{HotTable, TableSeat};
@@ -65,10 +65,9 @@ fn collect_due<G: Gate>(table: &HotTable, seat: &mut TableSeat, gate: &mut G, sc
     }
 }
 
-/// Tries to make the change `call`. If no record was free, it makes a full round of collection and tries once more. Returns the reply, or
-/// why the last attempt was refused. If the round gave back no record of the kind, and found none free or there is no other pass, the second
-/// attempt does nothing, and the refusal is the first one's; not so where the call removes a key. `scratch.build.made` lists what it had
-/// claimed, if no record was free.
+/// Tries to make the change `call`. If no record was free, it makes a round of collection and tries once more. Returns the reply, or why the
+/// last attempt was refused. If a second attempt could find no record, it does nothing, and the refusal is the first one's.
+/// `scratch.build.made` lists what it had claimed, if no record was free.
 fn try_twice<G: Gate>(
     table: &HotTable,
     seat: &mut TableSeat,
@@ -87,16 +86,39 @@ fn try_twice<G: Gate>(
     let Some(lacks) = full_kind(first) else {
         return first;
     };
-    let round = collect_round(table, seat, gate);
-    let passes = table.layout().passes;
-    let count = given_count(round.given, lacks);
-    let found = has_found_free(round, lacks);
-    scratch.reset_skips();
-    if may_find_free_record(passes, count, found, is_removal(call)) {
+    if collect_between(table, seat, gate, scratch, lacks, is_removal(call)) {
         return make_attempt(table, seat, gate, scratch, call);
     }
     pin_and_unpin(table, seat, gate);
     first
+}
+
+/// Makes a round of collection for a call that found no record of the kind `lacks` free, and that `removes` a key or doesn't. Returns
+/// whether a second attempt may find one. In an index of several passes the round visits no record where it could give none back, and there
+/// is nothing new to find then.
+fn collect_between<G: Gate>(
+    table: &HotTable,
+    seat: &mut TableSeat,
+    gate: &mut G,
+    scratch: &mut Scratch,
+    lacks: Full,
+    removes: bool,
+) -> bool
+    requires idle { IsIdle table.now seat.old }
+    ensures free { seat.new.known.pin ≡ None }
+    ensures collects { Collects table.now G.becomes (seat.old, gate.old) (seat.new, gate.new) }
+    ensures not { result ≡ false → (removes ≡ false) ⊎ (1 < table.now.layout.passes) }
+    ensures made { scratch.new.build.made.items ≡ scratch.old.build.made.items }
+{
+    let passes = table.layout().passes;
+    let collected = collect_if_risen(table, seat, gate, &mut scratch.limbo);
+    scratch.reset_skips();
+    let Some(round) = collected else {
+        return false;
+    };
+    let count = given_count(round.given, lacks);
+    let found = has_found_free(round, lacks);
+    may_find_free_record(passes, count, found, removes)
 }
 
 /// The kind of record of which none was free, if `answer` is a refusal for that. `None` for a reply, and for `Busy`.

@@ -3,4 +3,4 @@ use Rattle.epochs.proofs.Whole.{round_of}
 use Rattle.epochs.proofs.collection.collect_round.Goals as goal
 
 pub returns-clause-round : goal.returns-clause-round
-returns-clause-round g c = round_of _ _ _ _ _ _ _ _ _ c.begin_round-bound.ensures.steps c.begin_round-bound.ensures.bound c.visit_node_records-nodes.ensures.steps c.visit_node_records-nodes.ensures.same.1 c.visit_leaf_records-leaves.ensures.steps c.visit_leaf_records-leaves.ensures.same.1
+returns-clause-round g c = round_of _ _ _ _ _ _ _ _ c.begin_round-bound.ensures.steps c.begin_round-bound.ensures.bound c.visit_records.ensures.steps c.visit_records.ensures.same.1

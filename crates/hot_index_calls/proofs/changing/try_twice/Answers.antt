@@ -1,6 +1,6 @@
 -- Where the first attempt was refused as full, a round follows; and what the second leaves is what the whole call leaves.
-use Rattle.hot_index_calls.proofs.Roomy.{collects_room, round_acts, round_spare, runs_longer}
-use Rattle.std.proofs.Common.{◌≤◌, ◌∙◌, Result, Err, refl, sym, ap, subst, le_trans, arith}
+use Rattle.hot_index_calls.proofs.Roomy.{collecting_room, collects_spare, runs_longer}
+use Rattle.std.proofs.Common.{◌≤◌, ◌∙◌, ◌∷◌, Result, Err, inl, inr, refl, sym, ap, subst, le_trans, arith}
 use Rattle.finite_map.specs.declared.Reply.{Reply}
 use Rattle.finite_map.specs.Maps.{key_of}
 use Rattle.finite_map.proofs.Growth.{begins_on}
@@ -14,26 +14,20 @@ use Rattle.std.proofs.lemmas.Bool.{false≢true}
 use Rattle.rowex_writing.specs.Changes.{LacksNodes}
 use Rattle.rowex_writing.specs.Walks.{nodes_among}
 use Rattle.hot_index_calls.specs.Passes.{pass_of}
-use Rattle.hot_index_calls.proofs.Collected.{does_idle, round_few}
+use Rattle.hot_index_calls.proofs.Collected.{between, does_idle}
 use Rattle.hot_index_calls.proofs.Conflicts.{may_take_from_before, no_further}
 use Rattle.hot_index_calls.proofs.Resting.{cause_still, lacked_full, lacks_still}
 use Rattle.hot_index_calls.proofs.Tracing.{ended_again}
 use Rattle.hot_index_calls.proofs.Trying.{full_fault, lacks_from_before, once_asked, once_few, outcome_then, round_later, then_collected, twice_few, unnoted_then}
 use Rattle.hot_index_calls.proofs.changing.try_twice.Goals as goal
 
-pub collect_round-round-requires-clause-own : goal.collect_round-round-requires-clause-own
-collect_round-round-requires-clause-own g c = c.make_attempt-first.ensures.asked.replied.idle.0
-
-pub collect_round-round-requires-clause-free : goal.collect_round-round-requires-clause-free
-collect_round-round-requires-clause-free g c = c.make_attempt-first.ensures.asked.replied.idle.1.pin
-
 pub make_attempt-requires : goal.make_attempt-requires
 make_attempt-requires g c =
-    let round = c.collect_round-round.ensures in record { idle = does_idle round.round.does round.free c.make_attempt-first.ensures.asked.replied.idle }
+    let after = c.collect_between.ensures in record { idle = does_idle (between after.collects).does after.free c.make_attempt-first.ensures.asked.replied.idle }
 
 pub pin_and_unpin-requires : goal.pin_and_unpin-requires
 pin_and_unpin-requires g c =
-    let round = c.collect_round-round.ensures in record { idle = does_idle round.round.does round.free c.make_attempt-first.ensures.asked.replied.idle }
+    let after = c.collect_between.ensures in record { idle = does_idle (between after.collects).does after.free c.make_attempt-first.ensures.asked.replied.idle }
 
 pub returns-in_default : goal.returns-in_default
 returns-in_default g c = record {
@@ -44,36 +38,36 @@ returns-in_default g c = record {
   room = λ removal one was early is. absurd (false≢true (sym (c.full_kind.ensures.none c.in_default.is) ∙ ap is_full is));
 }
 
-pub returns-then-may_find_free_record : goal.returns-then-may_find_free_record
-returns-then-may_find_free_record g c =
+pub returns-then-collect_between : goal.returns-then-collect_between
+returns-then-collect_between g c =
     let table = c.args.table.now in
     let call = c.args.call.now in
     let k = pass_of c.args.seat.now in
     let first = subst (λ (z : Result Reply TryFault). HasAsked table g.G.Gate.becomes (IsOneAttempt table) call z (c.args.seat.now, c.args.gate.now) (c.make_attempt-first.new.seat, c.make_attempt-first.new.gate)) c.in-Some.ensures.some c.make_attempt-first.ensures.asked in
-    let round = c.collect_round-round.ensures.round in
+    let round = between c.collect_between.ensures.collects in
     let again = c.make_attempt.ensures.asked in
     let unnoted = first.replied.refused.unnoted in
-    let later = round_later k (c.make_attempt-first.new.seat, c.make_attempt-first.new.gate) (c.collect_round-round.new.seat, c.collect_round-round.new.gate) unnoted first.later first.replied.idle.1 round in
-    let both = outcome_then table.layout k (pass_of c.collect_round-round.new.seat) (pass_of c.make_attempt.new.seat) (then_collected k (c.make_attempt-first.new.seat, c.make_attempt-first.new.gate) (c.collect_round-round.new.seat, c.collect_round-round.new.gate) unnoted first.later first.replied.idle.1 round) later call c.make_attempt.result again.replied.noted again.replied.refused in
+    let later = round_later k (c.make_attempt-first.new.seat, c.make_attempt-first.new.gate) (c.collect_between.new.seat, c.collect_between.new.gate) unnoted first.later first.replied.idle.1 round in
+    let both = outcome_then table.layout k (pass_of c.collect_between.new.seat) (pass_of c.make_attempt.new.seat) (then_collected k (c.make_attempt-first.new.seat, c.make_attempt-first.new.gate) (c.collect_between.new.seat, c.collect_between.new.gate) unnoted first.later first.replied.idle.1 round) later call c.make_attempt.result again.replied.noted again.replied.refused in
     record {
       asked = record {
         replied = record { idle = again.replied.idle; noted = both.0; refused = both.1; leafless = again.replied.leafless; loaded = le_trans later again.replied.loaded };
-        ended = ended_again table g.G.Gate.becomes call c.make_attempt.result c.in-Some.lacks (c.args.seat.now, c.args.gate.now) (c.make_attempt-first.new.seat, c.make_attempt-first.new.gate) (c.collect_round-round.new.seat, c.collect_round-round.new.gate) _ first.ended first.replied.refused round again.ended;
+        ended = ended_again table g.G.Gate.becomes call c.make_attempt.result c.in-Some.lacks (c.args.seat.now, c.args.gate.now) (c.make_attempt-first.new.seat, c.make_attempt-first.new.gate) (c.collect_between.new.seat, c.collect_between.new.gate) _ first.ended first.replied.refused round again.ended;
         later = le_trans later again.later;
       };
-      lacks = λ is. lacks_from_before table.layout c.make_attempt.new.seat.known.pass c.make_attempt.new.seat.known.pass c.make_attempt.new.seat.known.failed c.make_attempt.new.seat.known.failed c.args.seat.now.known.steps c.collect_round-round.new.seat.known.steps
+      lacks = λ is. lacks_from_before table.layout c.make_attempt.new.seat.known.pass c.make_attempt.new.seat.known.pass c.make_attempt.new.seat.known.failed c.make_attempt.new.seat.known.failed c.args.seat.now.known.steps c.collect_between.new.seat.known.steps
           (nodes_among c.make_attempt.new.scratch.build.made.items) later refl refl (c.make_attempt.ensures.lacks is);
       few = (
-          let count = round_few round in
+          let count = round.few in
           let twice = twice_few call table.layout k (pass_of c.make_attempt-first.new.seat) (first.replied.refused.full (full_fault c.in-Some.lacks)) in
           omega (arith, c.make_attempt-first.ensures.few, count, c.make_attempt.ensures.few, twice)
           );
-      spares = λ was. c.make_attempt.ensures.spares (round_spare c.args.table.now g.G.Gate.becomes (c.make_attempt-first.new.seat, c.make_attempt-first.new.gate) (c.collect_round-round.new.seat, c.collect_round-round.new.gate) c.collect_round-round.ensures.round (c.make_attempt-first.ensures.spares was));
+      spares = λ was. c.make_attempt.ensures.spares (collects_spare c.args.table.now g.G.Gate.becomes (c.make_attempt-first.new.seat, c.make_attempt-first.new.gate) (c.collect_between.new.seat, c.collect_between.new.gate) c.collect_between.ensures.collects (c.make_attempt-first.ensures.spares was));
       room = λ removal one was early.
-          let longer = runs_longer c.args.table.now g.G.Gate.becomes (round_acts c.args.table.now g.G.Gate.becomes c.collect_round-round.ensures.round) (c.make_attempt-first.new.seat, c.make_attempt-first.new.gate) (c.collect_round-round.new.seat, c.collect_round-round.new.gate) c.collect_round-round.ensures.round.does.steps in
+          let longer = runs_longer c.args.table.now g.G.Gate.becomes (round.first ∷ round.rest) (c.make_attempt-first.new.seat, c.make_attempt-first.new.gate) (c.collect_between.new.seat, c.collect_between.new.gate) round.does.steps in
           let idle = c.make_attempt-first.ensures.asked.replied.idle.1 in
           c.make_attempt.ensures.room removal
-          (collects_room c.args.table.now g.G.Gate.becomes (c.make_attempt-first.new.seat, c.make_attempt-first.new.gate) (c.collect_round-round.new.seat, c.collect_round-round.new.gate) c.collect_round-round.ensures.round one idle.pin idle.own (omega (arith, early, longer, c.make_attempt.ensures.longer)) (c.make_attempt-first.ensures.spares was));
+          (collecting_room c.args.table.now g.G.Gate.becomes (c.make_attempt-first.new.seat, c.make_attempt-first.new.gate) (c.collect_between.new.seat, c.collect_between.new.gate) c.collect_between.ensures.collects one idle.pin idle.own (omega (arith, early, longer, c.make_attempt.ensures.longer)) (c.make_attempt-first.ensures.spares was));
     }
 
 pub returns : goal.returns
@@ -83,40 +77,40 @@ returns g c =
     let k = pass_of c.args.seat.now in
     let fault = fault_of c.in-Some.lacks in
     let first = subst (λ (z : Result Reply TryFault). HasAsked table g.G.Gate.becomes (IsOneAttempt table) call z (c.args.seat.now, c.args.gate.now) (c.make_attempt-first.new.seat, c.make_attempt-first.new.gate)) c.in-Some.ensures.some c.make_attempt-first.ensures.asked in
-    let round = c.collect_round-round.ensures.round in
+    let round = between c.collect_between.ensures.collects in
     let again = c.pin_and_unpin.ensures.rested in
     let unnoted = first.replied.refused.unnoted in
-    let later = round_later k (c.make_attempt-first.new.seat, c.make_attempt-first.new.gate) (c.collect_round-round.new.seat, c.collect_round-round.new.gate) unnoted first.later first.replied.idle.1 round in
-    let collected = then_collected k (c.make_attempt-first.new.seat, c.make_attempt-first.new.gate) (c.collect_round-round.new.seat, c.collect_round-round.new.gate) unnoted first.later first.replied.idle.1 round in
-    let cause = cause_still (key_of call) k (c.make_attempt-first.new.seat, c.make_attempt-first.new.gate) (c.collect_round-round.new.seat, c.collect_round-round.new.gate) (c.pin_and_unpin.new.seat, c.pin_and_unpin.new.gate) round again.failed again.unnoted.number fault (lacked_full c.in-Some.lacks) first.replied.refused.cause in
+    let later = round_later k (c.make_attempt-first.new.seat, c.make_attempt-first.new.gate) (c.collect_between.new.seat, c.collect_between.new.gate) unnoted first.later first.replied.idle.1 round in
+    let collected = then_collected k (c.make_attempt-first.new.seat, c.make_attempt-first.new.gate) (c.collect_between.new.seat, c.collect_between.new.gate) unnoted first.later first.replied.idle.1 round in
+    let cause = cause_still (key_of call) k (c.make_attempt-first.new.seat, c.make_attempt-first.new.gate) (c.collect_between.new.seat, c.collect_between.new.gate) (c.pin_and_unpin.new.seat, c.pin_and_unpin.new.gate) round again.failed again.unnoted.number fault (lacked_full c.in-Some.lacks) first.replied.refused.cause in
     let whole : HasAsked table g.G.Gate.becomes (AreTries table g.G.Gate.becomes call (Err fault)) call (Err fault) (c.args.seat.now, c.args.gate.now) (c.pin_and_unpin.new.seat, c.pin_and_unpin.new.gate) = record {
       replied = record {
         idle = again.idle;
         noted = tt;
         refused = record {
-          unnoted = unnoted_then table.layout k (pass_of c.collect_round-round.new.seat) (pass_of c.pin_and_unpin.new.seat) collected later again.unnoted;
+          unnoted = unnoted_then table.layout k (pass_of c.collect_between.new.seat) (pass_of c.pin_and_unpin.new.seat) collected later again.unnoted;
           cause = cause;
           full = λ full. may_take_from_before call k k (pass_of c.make_attempt-first.new.seat) (pass_of c.pin_and_unpin.new.seat) (no_further refl)
-              (begins_on c.make_attempt-first.new.seat.known.front c.collect_round-round.new.seat.known.front c.pin_and_unpin.new.seat.known.front
+              (begins_on c.make_attempt-first.new.seat.known.front c.collect_between.new.seat.known.front c.pin_and_unpin.new.seat.known.front
               (no_further (ap (λ (z : Known). z.front) round.does.rest)) again.unnoted.front)
               (again.fresh ∙ ap (λ (z : Known). z.fresh) round.does.rest) (first.replied.refused.full full);
         };
         leafless = first.replied.leafless;
         loaded = subst (λ (z : Fresh). c.args.seat.now.known.steps ≤ z.step) (sym (again.fresh ∙ ap (λ (z : Known). z.fresh) round.does.rest)) first.replied.loaded;
       };
-      ended = ended_again table g.G.Gate.becomes call (Err fault) c.in-Some.lacks (c.args.seat.now, c.args.gate.now) (c.make_attempt-first.new.seat, c.make_attempt-first.new.gate) (c.collect_round-round.new.seat, c.collect_round-round.new.gate) _ first.ended first.replied.refused round again.ended;
+      ended = ended_again table g.G.Gate.becomes call (Err fault) c.in-Some.lacks (c.args.seat.now, c.args.gate.now) (c.make_attempt-first.new.seat, c.make_attempt-first.new.gate) (c.collect_between.new.seat, c.collect_between.new.gate) _ first.ended first.replied.refused round again.ended;
       later = omega (arith, later, again.steps);
     } in
     record {
-      lacks = λ is. subst (λ made. LacksNodes table.layout c.pin_and_unpin.new.seat.known.pass c.pin_and_unpin.new.seat.known.failed c.args.seat.now.known.steps (nodes_among made)) (sym c.reset_skips.ensures.made)
-          (lacks_still (key_of call) k (c.make_attempt-first.new.seat, c.make_attempt-first.new.gate) (c.collect_round-round.new.seat, c.collect_round-round.new.gate) (c.pin_and_unpin.new.seat, c.pin_and_unpin.new.gate) round again.failed again.unnoted.number _
+      lacks = λ is. subst (λ made. LacksNodes table.layout c.pin_and_unpin.new.seat.known.pass c.pin_and_unpin.new.seat.known.failed c.args.seat.now.known.steps (nodes_among made)) (sym c.collect_between.ensures.made)
+          (lacks_still (key_of call) k (c.make_attempt-first.new.seat, c.make_attempt-first.new.gate) (c.collect_between.new.seat, c.collect_between.new.gate) (c.pin_and_unpin.new.seat, c.pin_and_unpin.new.gate) round again.failed again.unnoted.number _
           (c.make_attempt-first.ensures.lacks is));
       few = (
-          let count = round_few round in
+          let count = round.few in
           let twice = twice_few call table.layout k (pass_of c.make_attempt-first.new.seat) (first.replied.refused.full (full_fault c.in-Some.lacks)) in
           omega (arith, c.make_attempt-first.ensures.few, count, again.steps, twice)
           );
-      spares = λ was. c.pin_and_unpin.ensures.spares (round_spare c.args.table.now g.G.Gate.becomes (c.make_attempt-first.new.seat, c.make_attempt-first.new.gate) (c.collect_round-round.new.seat, c.collect_round-round.new.gate) c.collect_round-round.ensures.round (c.make_attempt-first.ensures.spares was));
-      room = λ removal one was early is. absurd (c.is_removal.ensures (c.may_find_free_record.ensures.not c.if-may_find_free_record.false) removal);
+      spares = λ was. c.pin_and_unpin.ensures.spares (collects_spare c.args.table.now g.G.Gate.becomes (c.make_attempt-first.new.seat, c.make_attempt-first.new.gate) (c.collect_between.new.seat, c.collect_between.new.gate) c.collect_between.ensures.collects (c.make_attempt-first.ensures.spares was));
+      room = λ removal one was early is. elim (c.collect_between.ensures.not c.if-collect_between.false) [ inl plain ↦ absurd (c.is_removal.ensures plain removal) | inr several ↦ absurd (omega (arith, several, one)) ];
       asked = subst (λ (z : Result Reply TryFault). HasAsked table g.G.Gate.becomes (AreTries table g.G.Gate.becomes call z) call z (c.args.seat.now, c.args.gate.now) (c.pin_and_unpin.new.seat, c.pin_and_unpin.new.gate)) (sym c.in-Some.ensures.some) whole;
     }
