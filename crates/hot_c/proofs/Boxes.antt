@@ -1,5 +1,5 @@
 -- What a call of a generic function of boxes is handed, where the box is one of C's heap for what a slot holds.
-use Rattle.hot_c.proofs.Steps.{[], ◌∷◌, refl, full_share, emp, ftrue, flft, fsep, impl, tnil, dnil, List, Item, Goal, Step, step, ‵, raw, ◌⊛◌, ◌$◌, ◌∵◌, !, qed, done, keep, use0, join, fact, fact_i, ◌⊑◌, no, nothing, triple_of, RattleType, Laws, layout}
+use Rattle.section_handles.proofs.Steps.{[], ◌∷◌, refl, full_share, emp, ftrue, flft, fsep, impl, tnil, dnil, List, Item, Goal, Step, step, ‵, raw, ◌⊛◌, ◌$◌, ◌∵◌, !, qed, done, keep, use0, join, fact, fact_i, ◌⊑◌, no, nothing, triple_of, RattleType, Laws, layout}
 use seplogic.Ra.Ura.{Ura}
 use base.Logic.{SProp, emp∗, sep, ex}
 use mir.Raw.{raw as bare}

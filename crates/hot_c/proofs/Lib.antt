@@ -1,5 +1,4 @@
 -- The lemmas of the crate.
-pub mod Steps
 pub mod Content
 pub mod Boxes
 pub mod Shares

@@ -1,18 +1,11 @@
 -- What a slot owns.
-use Rattle.std.specs.Prelude.{Option, None, Some}
-use base.Fml.{Fml, ftrue}
+use Rattle.std.specs.Prelude.{Option}
+use base.Fml.{Fml}
 use denote.RawPtr.{Ptr}
-use Rattle.std.specs.Box.Ownership.{box_owns}
-use Rattle.std.specs.Global.{Global}
-use Rattle.std_heap.specs.contracts.GlobalAllocator.TheImpl.{ghosts}
+use Rattle.section_handles.specs.Owning.{owns_held}
 use Rattle.hot_c.specs.declared.opened.Opened.{Opened}
 use Rattle.hot_c.specs.contracts.opened.Opened.{the_row}
 
--- C's heap: every handle of it is this one
-abbrev pub heap : Global
-heap = record { memory = record { seal = tt } }
-
--- nothing, or what a box of C's heap owns at this pointer
+-- nothing, or what a box of C's heap owns at this pointer, of what an open handle holds
 abbrev pub owns_opened : Ptr → Option Opened → Fml
-owns_opened at None = ftrue
-owns_opened at (Some opened) = box_owns (ghosts.dealloc_token heap) the_row at opened
+owns_opened = owns_held the_row

@@ -1,6 +1,7 @@
 -- What a slot owns.
 use Rattle.std.specs.Prelude.{Option, None, Some}
 use base.Fml.{Fml, ftrue}
+use denote.RattleType.{RattleType}
 use denote.RawPtr.{Ptr}
 use Rattle.std.specs.Box.Ownership.{box_owns}
 use Rattle.std.specs.Global.{Global}
@@ -9,10 +10,14 @@ use Rattle.section_handles.specs.declared.opened.Opened.{Opened}
 use Rattle.section_handles.specs.contracts.opened.Opened.{the_row}
 
 -- C's heap: every handle of it is this one
-abbrev pub section_heap : Global
-section_heap = record { memory = record { seal = tt } }
+abbrev pub heap : Global
+heap = record { memory = record { seal = tt } }
 
--- nothing, or what a box of C's heap owns at this pointer
+-- nothing, or what a box of C's heap owns at this pointer, of a value of this type
+abbrev pub owns_held : (R : RattleType) → Ptr → Option R.Denot → Fml
+owns_held R at None = ftrue
+owns_held R at (Some opened) = box_owns (ghosts.dealloc_token heap) R at opened
+
+-- the same of what an open handle of a section holds
 abbrev pub owns_section : Ptr → Option Opened → Fml
-owns_section at None = ftrue
-owns_section at (Some opened) = box_owns (ghosts.dealloc_token section_heap) the_row at opened
+owns_section = owns_held the_row

@@ -72,7 +72,7 @@ class SortedMap(Map[K], MutableMapping[K, int], Generic[K]):
         threads: int = 8,
         grow: bool = True,
     ) -> None:
-        kind = keys if isinstance(keys, type) else Codec(*keys)
+        kind: Union[type, Codec] = keys if isinstance(keys, type) else Codec(*keys)
         super().__init__(kind, capacity, longest, threads, grow)
         self._options: dict[str, Any] = {"keys": keys, "threads": threads, "grow": grow}
         self.update(data)
@@ -189,7 +189,7 @@ class SortedMap(Map[K], MutableMapping[K, int], Generic[K]):
     def peekitem(self, index: int = -1) -> tuple[K, int]:
         """The pair of this place. It takes a walk from the nearer end that is named:
         from the first pair on, or for a negative place from the last one back."""
-        pairs = self._list(ITEMS, ALL, index < 0)
+        pairs: Iterator[tuple[K, int]] = self._list(ITEMS, ALL, index < 0)
         at = -1 - index if index < 0 else index
         for pair in islice(pairs, at, None):
             return pair

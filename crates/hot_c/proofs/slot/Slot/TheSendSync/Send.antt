@@ -7,7 +7,8 @@ use denote.RawPtr.{Ptr}
 use Rattle.std.proofs.Crossing.{frees}
 use Rattle.std.specs.Prelude.{Option, None, Some}
 use Rattle.std_alloc.proofs.SendSync.{lies}
-use Rattle.hot_c.specs.Owning.{heap, owns_opened}
+use Rattle.section_handles.specs.Owning.{heap}
+use Rattle.hot_c.specs.Owning.{owns_opened}
 use Rattle.hot_c.specs.declared.opened.Opened.{Opened}
 use Rattle.hot_c.specs.contracts.opened.Opened.{the_row as opened_row}
 use Rattle.hot_c.proofs.opened.Opened.TheSendSync.{the_send as opened_send}

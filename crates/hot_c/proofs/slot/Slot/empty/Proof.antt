@@ -1,6 +1,7 @@
 -- A null pointer makes a slot that holds nothing.
-use Rattle.hot_c.proofs.Steps.{[], ◌∷◌, None, refl, proved, emp, raw, ◌$◌, ◌∵◌, !, qed, done, drop, join, suffices, agg, enter, lit, no_more, and_then, returns, alloc_all, pass_all, free_all, look_at, sets, null_ptr, on_entry, nothing, says, ends_at}
-use Rattle.hot_c.proofs.Content.{word, word_fits, slot_in}
+use Rattle.section_handles.proofs.Steps.{[], ◌∷◌, None, refl, proved, emp, raw, ◌$◌, ◌∵◌, !, qed, done, drop, join, suffices, agg, enter, lit, no_more, and_then, returns, alloc_all, pass_all, free_all, look_at, sets, null_ptr, on_entry, nothing, says, ends_at}
+use Rattle.section_handles.proofs.Words.{word}
+use Rattle.hot_c.proofs.Content.{word_fits, slot_in}
 use Rattle.hot_c.specs.contracts.slot.Slot.{the_row as S}
 use Rattle.hot_c.specs.contracts.slot.Slot.empty as f
 use Rattle.hot_c.proofs.slot.Slot.empty.Statement.{statement}

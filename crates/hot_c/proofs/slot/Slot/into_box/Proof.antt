@@ -1,5 +1,5 @@
 -- The box gets the slot's pointer, and what the slot holds.
-use Rattle.hot_c.proofs.Steps.{◌≡◌, List, [], ◌∷◌, ◌++◌, Option, Some, IsSome, refl, sym, ap, ◌∙◌, proved_at, id⊢, ftrue, Val, fact, tables, WpFn, ‵, raw, ◌⊛◌, some, later, prop, at_ret, ◌$◌, ◌∵◌, !, qed, done, move, drop, use1, split, split3, join, fsplit, fjoin, feq_i, pick, await, rewrite, regoal, suffices, sub, whole, enter, of_opd, stop, fld, no_more, and_then, first, blocks, exec, returns, alloc_all, pass_all, free_all, look_at, get, get_in, sets, lands_last, env, yes, owns, ptr_val, plain, types_at, nothing, heard, calls_at_last, Lasts, lasts, triple_of, framed, Stays, stay_dropped, Goes-dropped, says, walk_of, ends_at}
+use Rattle.section_handles.proofs.Steps.{◌≡◌, List, [], ◌∷◌, ◌++◌, Option, Some, IsSome, refl, sym, ap, ◌∙◌, proved_at, id⊢, ftrue, Val, fact, tables, WpFn, ‵, raw, ◌⊛◌, some, later, prop, at_ret, ◌$◌, ◌∵◌, !, qed, done, move, drop, use1, split, split3, join, fsplit, fjoin, feq_i, pick, await, rewrite, regoal, suffices, sub, whole, enter, of_opd, stop, fld, no_more, and_then, first, blocks, exec, returns, alloc_all, pass_all, free_all, look_at, get, get_in, sets, lands_last, env, yes, owns, ptr_val, plain, types_at, nothing, heard, calls_at_last, Lasts, lasts, triple_of, framed, Stays, stay_dropped, Goes-dropped, says, walk_of, ends_at}
 use denote.Param.NoDrop.{glues}
 use Rattle.std.specs.Box.{box_allocator}
 use Rattle.std_heap.specs.contracts.Global.{the_row as A}
@@ -10,7 +10,8 @@ use Rattle.hot_c.specs.Owning.{owns_opened}
 use Rattle.hot_c.specs.declared.opened.Opened.{Opened}
 use Rattle.hot_c.specs.contracts.slot.Slot.{the_row as S}
 use Rattle.hot_c.specs.contracts.Destruct++none.drop.Key.{symbol}
-use Rattle.hot_c.proofs.Content.{word, held, slot_out, one_word, this_word, pointer_fits, word_fits}
+use Rattle.section_handles.proofs.Words.{word, held, one_word, this_word, pointer_fits}
+use Rattle.hot_c.proofs.Content.{slot_out, word_fits}
 use Rattle.hot_c.proofs.Boxes.{Held, Heap, Boxed, held_laws, heap_laws, boxed_laws, ages, shares, tokens, ageless, unbound, heap_drop}
 use Rattle.std_alloc.specs.contracts.boxed.Box.from_raw as g
 use Rattle.std_alloc.proofs.boxed.Box.from_raw.Met.{met}

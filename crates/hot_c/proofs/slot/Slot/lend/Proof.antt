@@ -1,5 +1,5 @@
 -- The loan goes to what lies behind the pointer, and the slot follows it.
-use Rattle.hot_c.proofs.Steps.{◌≡◌, ℕ, List, [], ◌∷◌, Option, Some, IsSome, refl, sym, ap, ◌∙◌, proved, full_share, Fml, GName, ftrue, flft, fsep, named, Val, vptr, fact, tables, ‵, raw, ◌⊛◌, some, later, at_ret, ◌$◌, ◌∵◌, !, qed, done, move, keep, use1, split, split3, join, fsplit, fsplit3, fjoin, fpack, pick, await, rewrite, suffices, group, frame, sub, whole, look_in, enter, of_opd, stop, fld, addr, load, first, blocks, exec, returns, alloc_all, pass_all, free_all, look_at, get, through, sets, sets_last, env, no, Ptr, block_ptr, null_ptr, in_a_block, plain, mut_ref_to, nothing, heard, opens, Stays, stay_dropped, Goes-spent_ref, says, walk_of, ends_at}
+use Rattle.section_handles.proofs.Steps.{◌≡◌, ℕ, List, [], ◌∷◌, Option, Some, IsSome, refl, sym, ap, ◌∙◌, proved, full_share, Fml, GName, ftrue, flft, fsep, named, Val, vptr, fact, tables, ‵, raw, ◌⊛◌, some, later, at_ret, ◌$◌, ◌∵◌, !, qed, done, move, keep, use1, split, split3, join, fsplit, fsplit3, fjoin, fpack, pick, await, rewrite, suffices, group, frame, sub, whole, look_in, enter, of_opd, stop, fld, addr, load, first, blocks, exec, returns, alloc_all, pass_all, free_all, look_at, get, through, sets, sets_last, env, no, Ptr, block_ptr, null_ptr, in_a_block, plain, mut_ref_to, nothing, heard, opens, Stays, stay_dropped, Goes-spent_ref, says, walk_of, ends_at}
 use seplogic.Ra.Ura.{Ura}
 use base.Logic.{ent, sep, fst∗, never}
 use mir.Raw.{raw as bare}
@@ -9,11 +9,13 @@ use denote.Ref.{MutBor, MutRef, mut_vals, mut_Tells}
 use denote.Follow.{follows, lends_Part}
 use Rattle.std_heap.specs.contracts.GlobalAllocator.TheImpl.{ghosts}
 use Rattle.hot_c.specs.Lending.{with_opened}
-use Rattle.hot_c.specs.Owning.{heap, owns_opened}
+use Rattle.section_handles.specs.Owning.{heap}
+use Rattle.hot_c.specs.Owning.{owns_opened}
 use Rattle.hot_c.specs.declared.opened.Opened.{Opened}
 use Rattle.hot_c.specs.contracts.opened.Opened.{the_row as O}
 use Rattle.hot_c.specs.contracts.slot.Slot.{the_row as S}
-use Rattle.hot_c.proofs.Content.{word, held, slot_in, slot_out}
+use Rattle.section_handles.proofs.Words.{word, held}
+use Rattle.hot_c.proofs.Content.{slot_in, slot_out}
 use Rattle.hot_c.specs.contracts.slot.Slot.lend as f
 use Rattle.hot_c.proofs.slot.Slot.lend.Statement.{statement}
 use Rattle.hot_c.proofs.slot.Slot.lend.Code as code

@@ -1,12 +1,13 @@
 -- The slot keeps the box's pointer, and what the box owns behind it.
-use Rattle.hot_c.proofs.Steps.{List, [], ◌∷◌, ◌++◌, Some, refl, ap, proved_at, Goes-dropped, id⊢, emp, ftrue, Val, tables, WpFn, ‵, raw, ◌⊛◌, some, later, prop, ◌$◌, ◌∵◌, !, qed, done, move, keep, drop, use1, split, join, fsplit, fjoin, feq_l, pick, await, regoal, suffices, agg, enter, of_opd, no_more, and_then, returns, alloc_all, pass_all, free_all, look_at, get, sets, lands_as, yes, owns, Ptr, RawPtr, plain, types_at, nothing, only, calls_at, Lasts, lasts, triple_of, framed, Stays, stay_dropped, says, walk_of, ends_at}
+use Rattle.section_handles.proofs.Steps.{List, [], ◌∷◌, ◌++◌, Some, refl, ap, proved_at, Goes-dropped, id⊢, emp, ftrue, Val, tables, WpFn, ‵, raw, ◌⊛◌, some, later, prop, ◌$◌, ◌∵◌, !, qed, done, move, keep, drop, use1, split, join, fsplit, fjoin, feq_l, pick, await, regoal, suffices, agg, enter, of_opd, no_more, and_then, returns, alloc_all, pass_all, free_all, look_at, get, sets, lands_as, yes, owns, Ptr, RawPtr, plain, types_at, nothing, only, calls_at, Lasts, lasts, triple_of, framed, Stays, stay_dropped, says, walk_of, ends_at}
 use denote.Param.NoDrop.{glues}
 use Rattle.std_heap.specs.contracts.GlobalAllocator.TheImpl.{ghosts, dict}
 use Rattle.std_heap.proofs.GlobalAllocator.TheImpl.Met.{passed}
 use Rattle.hot_c.specs.Owning.{owns_opened}
 use Rattle.hot_c.specs.contracts.slot.Slot.{the_row as S}
 use Rattle.hot_c.specs.contracts.Destruct++none.drop.Key.{symbol}
-use Rattle.hot_c.proofs.Content.{word, slot_in, one_word, pointer_fits, word_fits}
+use Rattle.section_handles.proofs.Words.{word, one_word, pointer_fits}
+use Rattle.hot_c.proofs.Content.{slot_in, word_fits}
 use Rattle.hot_c.proofs.Boxes.{Held, Heap, Boxed, held_laws, heap_laws, boxed_laws, ages, shares, tokens, ageless, unbound, heap_drop, held_drop, held_drops}
 use Rattle.std_alloc.specs.contracts.boxed.Box.into_raw as g
 use Rattle.std_alloc.proofs.boxed.Box.into_raw.Met.{met}

@@ -7,7 +7,7 @@ use denote.RawPtr.{Ptr}
 use Rattle.std.proofs.Crossing.{frees}
 use Rattle.std.specs.Prelude.{Option, None, Some}
 use Rattle.std_alloc.proofs.SendSync.{lies}
-use Rattle.section_handles.specs.Owning.{section_heap, owns_section}
+use Rattle.section_handles.specs.Owning.{heap, owns_section}
 use Rattle.section_handles.specs.declared.opened.Opened.{Opened}
 use Rattle.section_handles.specs.contracts.opened.Opened.{the_row as opened_row}
 use Rattle.section_handles.proofs.opened.Opened.TheSendSync.{the_send as opened_send}
@@ -15,7 +15,7 @@ use Rattle.section_handles.specs.contracts.slot.Slot.{the_row, the_type}
 
 content : (at : Ptr) (held : Option Opened) → Keyless (owns_section at held)
 content at None = tt
-content at (Some x) = (lies opened_row opened_send at x, frees.frees section_heap (bare (lone opened_row.mir)) at)
+content at (Some x) = (lies opened_row opened_send at x, frees.frees heap (bare (lone opened_row.mir)) at)
 
 pub send : IsSend the_row
 send = owning_send the_type (search sendable, tt) (λ s. content s.at s.opened) (λ k s w. tt)

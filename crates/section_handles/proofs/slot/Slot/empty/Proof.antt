@@ -1,6 +1,7 @@
 -- A null pointer makes a slot that holds nothing.
 use Rattle.section_handles.proofs.Steps.{[], ◌∷◌, None, refl, proved, emp, raw, ◌$◌, ◌∵◌, !, qed, done, drop, join, suffices, agg, enter, lit, no_more, and_then, returns, alloc_all, pass_all, free_all, look_at, sets, null_ptr, on_entry, nothing, says, ends_at}
-use Rattle.section_handles.proofs.Content.{word, word_fits, slot_in}
+use Rattle.section_handles.proofs.Words.{word}
+use Rattle.section_handles.proofs.Content.{word_fits, slot_in}
 use Rattle.section_handles.specs.contracts.slot.Slot.{the_row as S}
 use Rattle.section_handles.specs.contracts.slot.Slot.empty as f
 use Rattle.section_handles.proofs.slot.Slot.empty.Statement.{statement}

@@ -10,7 +10,8 @@ use Rattle.section_handles.specs.Owning.{owns_section}
 use Rattle.section_handles.specs.declared.opened.Opened.{Opened}
 use Rattle.section_handles.specs.contracts.slot.Slot.{the_row as S}
 use Rattle.section_handles.specs.contracts.Destruct++none.drop.Key.{symbol}
-use Rattle.section_handles.proofs.Content.{word, held, slot_out, one_word, this_word, pointer_fits, word_fits}
+use Rattle.section_handles.proofs.Words.{word, held, one_word, this_word, pointer_fits}
+use Rattle.section_handles.proofs.Content.{slot_out, word_fits}
 use Rattle.section_handles.proofs.Boxes.{Held, Heap, Boxed, held_laws, heap_laws, boxed_laws, ages, shares, tokens, ageless, unbound, heap_drop}
 use Rattle.std_alloc.specs.contracts.boxed.Box.from_raw as g
 use Rattle.std_alloc.proofs.boxed.Box.from_raw.Met.{met}

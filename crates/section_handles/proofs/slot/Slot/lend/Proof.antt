@@ -9,11 +9,12 @@ use denote.Ref.{MutBor, MutRef, mut_vals, mut_Tells}
 use denote.Follow.{follows, lends_Part}
 use Rattle.std_heap.specs.contracts.GlobalAllocator.TheImpl.{ghosts}
 use Rattle.section_handles.specs.Lending.{with_section}
-use Rattle.section_handles.specs.Owning.{section_heap, owns_section}
+use Rattle.section_handles.specs.Owning.{heap, owns_section}
 use Rattle.section_handles.specs.declared.opened.Opened.{Opened}
 use Rattle.section_handles.specs.contracts.opened.Opened.{the_row as O}
 use Rattle.section_handles.specs.contracts.slot.Slot.{the_row as S}
-use Rattle.section_handles.proofs.Content.{word, held, slot_in, slot_out}
+use Rattle.section_handles.proofs.Words.{word, held}
+use Rattle.section_handles.proofs.Content.{slot_in, slot_out}
 use Rattle.section_handles.specs.contracts.slot.Slot.lend as f
 use Rattle.section_handles.proofs.slot.Slot.lend.Statement.{statement}
 use Rattle.section_handles.proofs.slot.Slot.lend.Code as code
@@ -24,7 +25,7 @@ stayed = (stay_dropped (mut_ref_to (0 ∷ []) tt (plain (λ _. S))) no, tt)
 module _ {M : Type 1} {𝓤 : Ura M} (𝓛 : Logic 𝓤) (slot : S.Denot) (b o b' o' : ℕ) where
   -- the right to free what lies behind the pointer, and the slot's word
   abbrev Right : Fml
-  Right = ghosts.dealloc_token section_heap (bare (lone O.mir)) (block_ptr b' o')
+  Right = ghosts.dealloc_token heap (bare (lone O.mir)) (block_ptr b' o')
 
   abbrev Cell : Ptr → Fml
   Cell at = cell_at full_share S.mir (word at ∷ []) b o
@@ -51,7 +52,7 @@ lend_spec 𝓤 𝓛 𝓜 𝓡 wired =
     enter ! _ _ _ _ _ $ alloc_all ! (λ l. pass_all ! refl ((tt, tt), tt) $
     fsplit3 ! $ move ! (1 ∷ 2 ∷ 3 ∷ []) $ opens ! tt S b o (λ us. move ! (1 ∷ []) $ slot_out ! slot us (λ is.
     rewrite ! 0 (λ (held : Option Opened). ‵ (owns_section slot.at held)) holds refl $
-    in_a_block ! slot.at (λ p. owns_section p (Some x)) (fst∗ 𝓤 (never 𝓤) (sem 𝓛 (ghosts.dealloc_token section_heap (bare (lone O.mir)) null_ptr))) (λ b' o' at_block. fsplit ! $
+    in_a_block ! slot.at (λ p. owns_section p (Some x)) (fst∗ 𝓤 (never 𝓤) (sem 𝓛 (ghosts.dealloc_token heap (bare (lone O.mir)) null_ptr))) (λ b' o' at_block. fsplit ! $
     rewrite ! 2 (λ (vs : List Val). ‵ (cell_at full_share S.mir vs b o)) (is ∙ ap (λ (p : Ptr). word p ∷ []) at_block) refl $
     -- [what lies behind the pointer; the right to free it; the slot's word; the open borrow, in three entries]
     first ! $ blocks ! $

@@ -6,7 +6,8 @@ use Rattle.std_heap.proofs.GlobalAllocator.TheImpl.Met.{passed}
 use Rattle.section_handles.specs.Owning.{owns_section}
 use Rattle.section_handles.specs.contracts.slot.Slot.{the_row as S}
 use Rattle.section_handles.specs.contracts.Destruct++none.drop.Key.{symbol}
-use Rattle.section_handles.proofs.Content.{word, slot_in, one_word, pointer_fits, word_fits}
+use Rattle.section_handles.proofs.Words.{word, one_word, pointer_fits}
+use Rattle.section_handles.proofs.Content.{slot_in, word_fits}
 use Rattle.section_handles.proofs.Boxes.{Held, Heap, Boxed, held_laws, heap_laws, boxed_laws, ages, shares, tokens, ageless, unbound, heap_drop, held_drop, held_drops}
 use Rattle.std_alloc.specs.contracts.boxed.Box.into_raw as g
 use Rattle.std_alloc.proofs.boxed.Box.into_raw.Met.{met}
