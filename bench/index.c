@@ -399,8 +399,9 @@ static uint64_t measure_map(const map *map, const load *load, const hot_stock *s
     return checksum;
 }
 
-/* Measures all maps with so many keys of a kind, in turn, REPETITIONS times at most. Returns a checksum of all answers. */
-static uint64_t measure_load(int kind, uint32_t count)
+/* Measures all maps with so many keys of a kind, in turn, REPETITIONS times at most, and once at least; no further time is begun after
+ * `end`, in seconds of the clock. Returns a checksum of all answers. */
+static uint64_t measure_load(int kind, uint32_t count, double end)
 {
     load load = { kind, count, order_of(count) };
     hot_stock stock, roomy;
@@ -417,7 +418,7 @@ static uint64_t measure_load(int kind, uint32_t count)
     must(hot_stock_bytes(&roomy, HANDLES, &safe), HOT_DONE);
     printf("column %u %zu %zu\nstock %u %u %u %u %u %u\n", count, fitting, safe, stock.nodes, stock.short_leaves, stock.medium_leaves,
            stock.large_leaves, stock.wide_leaves, stock.long_leaves);
-    for (repetition = 0; repetition < repetitions && repetition < REPETITIONS; repetition++) {
+    for (repetition = 0; repetition < repetitions && repetition < REPETITIONS && (repetition == 0 || seconds(CLOCK_MONOTONIC) < end); repetition++) {
         for (place = 0; maps[place]; place++) {
             checksum = checksum * 31 + measure_map(maps[place], &load, &stock, &roomy, &index);
         }
@@ -430,11 +431,15 @@ static uint64_t measure_load(int kind, uint32_t count)
 int main(int words, char **word)
 {
     static char *usual[] = { "", "1000", "10000", "200000", NULL };
+    const char *limit = getenv("MINUTES");
+    double begun = seconds(CLOCK_MONOTONIC), most = limit ? 60 * strtod(limit, NULL) : 1e9, loads;
     uint64_t checksum = 0;
-    int kind, place;
+    int kind, place, done = 0;
     if (words < 2) {
         word = usual;
+        words = 4;
     }
+    loads = MEASURED * (words - 1);
     for (place = 1; word[place]; place++) {
         uint64_t count = strtoull(word[place], NULL, 10);
         if (count < FEWEST_KEYS || count > MOST_KEYS) {
@@ -446,7 +451,7 @@ int main(int words, char **word)
         printf("kind %s\n", kind_names[kind]);
         for (place = 1; word[place]; place++) {
             fprintf(stderr, "%s %s ..\n", word[place], kind_names[kind]);
-            checksum = checksum * 31 + measure_load(kind, (uint32_t)strtoull(word[place], NULL, 10));
+            checksum = checksum * 31 + measure_load(kind, (uint32_t)strtoull(word[place], NULL, 10), begun + most * ++done / loads);
         }
     }
     printf("the %s, checksum %016llx\n", maps[1] ? "maps gave the same answers" : "index gave its answers", (unsigned long long)checksum);

@@ -1,6 +1,6 @@
 #!/usr/bin/env python3
-"""Makes a table of the lines that bench/room.c writes, as they come on standard input: what memory an index takes. It makes a CSV of the same
-figures, which bench/pages reads."""
+"""Makes a table of the lines that bench/room.c, own.c and counter.c write, as they come on standard input: what memory an index takes, or
+its calls beside others of its own. It makes a CSV of the same figures, which bench/pages reads."""
 import argparse
 import csv
 import sys
@@ -22,7 +22,7 @@ def main() -> None:
             what, keys, count, figure = line.rstrip("\n").split("\t")
             rows.writerow([day, commit, what, keys, count, figure])
             file.flush()
-            print(f"{what:<36}{keys:<26}{int(count):>12,}{float(figure):>16,.1f}", flush=True)
+            print(f"{what:<52}{keys:<26}{int(count):>12,}{float(figure):>16,.1f}", flush=True)
 
 
 if __name__ == "__main__":

@@ -285,68 +285,82 @@ hot_status hot_try_remove_if(hot_handle *handle, const uint8_t *key, size_t leng
     return counted(handle, proved_try_remove_if(handle, key, length, expected, had ? had : &unread));
 }
 
-/* Whether a change is to be tried again. Where another call is in its way, other threads run first. Where records are held back, each try
- * goes through all of them in vain until that call has gone on: so this thread sleeps first, 50 microseconds, and twice as long each time,
- * up to 1.6 milliseconds. `sleeps` counts how often it has slept. */
-static int is_to_wait(hot_status status, unsigned *sleeps) {
-    struct timespec time = {0, 50000};
-    if (status == HOT_BUSY) {
-        sched_yield();
-        return 1;
-    }
-    if (status != HOT_HELD_BACK)
-        return 0;
-    time.tv_nsec <<= *sleeps;
-    if (*sleeps < 5)
-        ++*sleeps;
+/* How often a call has found another one in its way so far, and how often it has slept. */
+typedef struct waits {
+    unsigned busy, sleeps;
+} waits;
+
+/* Sleeps so many nanoseconds, and twice as long for each time that the call has slept before, up to 32 times as long. */
+static __attribute__((cold, noinline)) void rest(waits *so_far, long nanoseconds) {
+    struct timespec time = {0, 0};
+    time.tv_nsec = nanoseconds << so_far->sleeps;
+    if (so_far->sleeps < 5)
+        ++so_far->sleeps;
     nanosleep(&time, NULL);
-    return 1;
+}
+
+/* Whether a change is to be tried again. Where another call is in its way, other threads run first. If one still is after a few tries, many
+ * want the same nodes: each try then takes lines of the cache from the one that is at work, so this thread sleeps, which lets that one make
+ * hundreds of calls. Where records are held back, each try goes through all of them in vain until that call has gone on: so this thread
+ * sleeps at once. */
+static int is_to_wait(hot_status status, waits *so_far) {
+    enum { FEW = 3, AMONG_MANY = 100000, HELD_BACK = 50000 };
+    switch (status) {
+    case HOT_BUSY:
+        if (++so_far->busy < FEW)
+            sched_yield();
+        else
+            rest(so_far, AMONG_MANY);
+        return 1;
+    case HOT_HELD_BACK: rest(so_far, HELD_BACK); return 1;
+    default: return 0;
+    }
 }
 
 hot_status hot_insert(hot_handle *handle, const uint8_t *key, size_t length, uint64_t value, uint64_t *had) {
-    unsigned sleeps = 0;
+    waits so_far = {0, 0};
     hot_status status;
-    while (is_to_wait(status = hot_try_insert(handle, key, length, value, had), &sleeps))
+    while (is_to_wait(status = hot_try_insert(handle, key, length, value, had), &so_far))
         ;
     return status;
 }
 
 hot_status hot_upsert(hot_handle *handle, const uint8_t *key, size_t length, uint64_t value, uint64_t *had) {
-    unsigned sleeps = 0;
+    waits so_far = {0, 0};
     hot_status status;
-    while (is_to_wait(status = hot_try_upsert(handle, key, length, value, had), &sleeps))
+    while (is_to_wait(status = hot_try_upsert(handle, key, length, value, had), &so_far))
         ;
     return status;
 }
 
 hot_status hot_remove(hot_handle *handle, const uint8_t *key, size_t length, uint64_t *had) {
-    unsigned sleeps = 0;
+    waits so_far = {0, 0};
     hot_status status;
-    while (is_to_wait(status = hot_try_remove(handle, key, length, had), &sleeps))
+    while (is_to_wait(status = hot_try_remove(handle, key, length, had), &so_far))
         ;
     return status;
 }
 
 hot_status hot_exchange(hot_handle *handle, const uint8_t *key, size_t length, uint64_t expected, uint64_t value, uint64_t *had) {
-    unsigned sleeps = 0;
+    waits so_far = {0, 0};
     hot_status status;
-    while (is_to_wait(status = hot_try_exchange(handle, key, length, expected, value, had), &sleeps))
+    while (is_to_wait(status = hot_try_exchange(handle, key, length, expected, value, had), &so_far))
         ;
     return status;
 }
 
 hot_status hot_remove_if(hot_handle *handle, const uint8_t *key, size_t length, uint64_t expected, uint64_t *had) {
-    unsigned sleeps = 0;
+    waits so_far = {0, 0};
     hot_status status;
-    while (is_to_wait(status = hot_try_remove_if(handle, key, length, expected, had), &sleeps))
+    while (is_to_wait(status = hot_try_remove_if(handle, key, length, expected, had), &so_far))
         ;
     return status;
 }
 
 hot_status hot_add(hot_handle *handle, const uint8_t *key, size_t length, uint64_t delta, uint64_t *had) {
-    unsigned sleeps = 0;
+    waits so_far = {0, 0};
     hot_status status;
-    while (is_to_wait(status = hot_try_add(handle, key, length, delta, had), &sleeps))
+    while (is_to_wait(status = hot_try_add(handle, key, length, delta, had), &so_far))
         ;
     return status;
 }

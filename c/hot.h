@@ -311,8 +311,9 @@ hot_status hot_try_remove(hot_handle *handle, const uint8_t *key, size_t length,
 hot_status hot_try_remove_if(hot_handle *handle, const uint8_t *key, size_t length, uint64_t expected, uint64_t *had);
 
 /* hot_try_insert, hot_try_upsert and hot_try_remove, repeated as long as another call is in the way or holds records back. Between two
- * tries they make a sched_yield, or sleep where records are held back, for 50 microseconds to 1.6 milliseconds. There is no bound on how
- * long they wait: a thread that is stopped in the middle of a change keeps others waiting that want to change the same nodes. They write and return what those do, except HOT_BUSY and HOT_HELD_BACK. */
+ * tries they make a sched_yield; after a few of those, and where records are held back, they sleep for 50 microseconds to 3.2 milliseconds.
+ * There is no bound on how long they wait: a thread that is stopped in the middle of a change keeps others waiting that want to change the
+ * same nodes. They write and return what those do, except HOT_BUSY and HOT_HELD_BACK. */
 hot_status hot_insert(hot_handle *handle, const uint8_t *key, size_t length, uint64_t value, uint64_t *had);
 hot_status hot_upsert(hot_handle *handle, const uint8_t *key, size_t length, uint64_t value, uint64_t *had);
 hot_status hot_remove(hot_handle *handle, const uint8_t *key, size_t length, uint64_t *had);
