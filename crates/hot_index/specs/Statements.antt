@@ -21,6 +21,7 @@ use Rattle.rowex_core.specs.declared.event.Event.{Event}
 use Rattle.rowex_table.specs.Seats.{IsShownAll, SeatView, TableView}
 use Rattle.rowex_records.specs.Claims.{AllMissed, AllMissedFrom, HasMissedSince, IsAnothers}
 use Rattle.rowex_writing.specs.Counts.{most_nodes}
+use Rattle.rowex_writing.specs.Spare.{IsRemoval}
 use Rattle.rowex_writing.specs.declared.attempts.TryFault.{TryFault}
 use Rattle.rowex_writing.specs.declared.attempts.TryFault.TheVariants.{Busy, FullLeaves, FullNodes}
 use Rattle.hot_index_calls.specs.Answers.{IsCause, IsNoted, IsRefused}
@@ -76,7 +77,13 @@ HeldIsNeverFull =
     (layout : Layout) (call : Call) (k j : PassView) (fault : TryFault) → IsRefused layout call k j fault → GivesValue call →
     ((n : ℕ) → length k.front ≤ n → n ≤ length j.front → value_at (map_of (take n j.front)) (key_of call) ≢ None) → fault ≡ Busy
 
--- In an index of one pass it is refused only if its key is absent.
+-- A removal is never refused as full if its key was absent in each version that the pass has seen since the call began.
+abbrev pub AbsentIsNeverFull : Type 0
+AbsentIsNeverFull =
+    (layout : Layout) (call : Call) (k j : PassView) (fault : TryFault) → IsRefused layout call k j fault → IsRemoval call →
+    ((n : ℕ) → length k.front ≤ n → n ≤ length j.front → value_at (map_of (take n j.front)) (key_of call) ≡ None) → fault ≡ Busy
+
+-- In an index of one pass a call that gives its key a value is refused only if its key is absent.
 abbrev pub OnePassRefusesNewAlone : Type 0
 OnePassRefusesNewAlone =
     (layout : Layout) (call : Call) (k j : PassView) (fault : TryFault) → layout.passes ≡ 1 → j.number < layout.passes → LegalCalls k.front k.number k.notes →

@@ -151,7 +151,7 @@ impl Index {
     /// Removes `key`: `Removed` with the value that it had, or `Absent`.
     ///
     /// It never blocks, makes no more steps than `try_insert` may, and is refused for the same reasons. It needs no leaf record, so it
-    /// never returns `FullLeaves`.
+    /// never returns `FullLeaves`. It returns `FullNodes` only if its search found the key (`laws::absent_is_never_full`).
     pub fn try_remove(&self, pass: &mut Pass, key: &Key) -> Result<Reply, TryFault>
         requires { Owns self.now pass.old }
         ensures { IsTried (Remove key.now) result self.now pass.old pass.new }

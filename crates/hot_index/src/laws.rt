@@ -1,6 +1,6 @@
 //! Laws of the index. The functions do nothing: their contracts are the laws.
 
-ghost use Rattle.hot_index.specs.Statements.{AllLongFullIsFull, CountsAddUp, HeldIsNeverFull, OnePassFullIsFull, OnePassIsNeverBusy, OnePassKeepsSpare, OnePassRefusesNewAlone, ReturnedBeforeBegun};
+ghost use Rattle.hot_index.specs.Statements.{AbsentIsNeverFull, AllLongFullIsFull, CountsAddUp, HeldIsNeverFull, OnePassFullIsFull, OnePassIsNeverBusy, OnePassKeepsSpare, OnePassRefusesNewAlone, ReturnedBeforeBegun};
 
 use rowex_core::Gate;
 
@@ -25,6 +25,11 @@ pub fn one_pass_full_is_full()
 /// since the call began.
 pub fn held_is_never_full()
     ensures { HeldIsNeverFull }
+{}
+
+/// A removal is never refused as full if the key was absent all the while. `remove_if` is so refused only if it found the value that it expects.
+pub fn absent_is_never_full()
+    ensures { AbsentIsNeverFull }
 {}
 
 /// In an index of one pass a call that gives its key a value is refused only if the key is absent. So a new value of a held key never is.

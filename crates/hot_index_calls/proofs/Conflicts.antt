@@ -1,5 +1,5 @@
 -- Another pass in the way of a call: what an attempt has met, and how the whole call sees it.
-use Rattle.std.proofs.Common.{◌≡◌, ◌≢◌, ◌⊎◌, inl, inr, ⊎_elim, ℕ, ◌<◌, ◌≤◌, List, [], ◌∷◌, length, get_or, take, Some, sym, ap, subst, ◌∙◌, arith, le_trans, length-append}
+use Rattle.std.proofs.Common.{◌≡◌, ◌≢◌, ◌⊎◌, inl, inr, ⊎_elim, ℕ, ◌<◌, ◌≤◌, List, [], ◌∷◌, length, get_or, take, Option, Some, None, sym, ap, subst, ◌∙◌, arith, le_trans, length-append}
 use Rattle.std.specs.Prelude.{All, Contains, slice_get}
 use Rattle.std.proofs.lemmas.List.{append-nil, take-append-le}
 use Rattle.std.proofs.lemmas.List.Elements.{All-head, All-tail}
@@ -31,7 +31,7 @@ use Rattle.rowex_writing.specs.Attempts.{HasLoadedRoot}
 use Rattle.rowex_writing.specs.Changes.{HasTried}
 use Rattle.rowex_writing.specs.Locks.{HasMadeNoChange, HasMetTaken}
 use Rattle.rowex_writing.proofs.Works.{no_change_from_later}
-use Rattle.hot_index_calls.specs.Answers.{HasConflict, IsOvertaken, MayTake, WasAbsent}
+use Rattle.hot_index_calls.specs.Answers.{HasConflict, IsOvertaken, MayTake, WasFound}
 use Rattle.hot_index_calls.specs.Passes.{AreByPasses, PassView, pass_of}
 
 -- ---- the pin of an attempt
@@ -109,24 +109,24 @@ module _ {G : Type 0} {table : TableView} {becomes : G → Event → G → Type 
 pub no_further : {later earlier : List Change} → later ≡ earlier → BeginsWith later earlier
 no_further {earlier = earlier} same = ([], same ∙ sym (append-nil earlier))
 
-pub absent_from_before : (key : Key) (k j h i : PassView) → BeginsWith j.front k.front → BeginsWith i.front h.front → i.fresh ≡ h.fresh → WasAbsent key j h → WasAbsent key k i
-absent_from_before key k j h i grown more fresh was = record {
+pub found_from_before : (key : Key) (held : Option ℕ) (k j h i : PassView) → BeginsWith j.front k.front → BeginsWith i.front h.front → i.fresh ≡ h.fresh → WasFound key held j h → WasFound key held k i
+found_from_before key held k j h i grown more fresh was = record {
   place = was.place;
   begun = (let begun = was.begun in omega (arith, ap length grown.1, length-append k.front grown.0, begun));
   since = subst (λ (z : Fresh). z.pinned ≤ was.place) (sym fresh) was.since;
   upto = (let upto = was.upto in omega (arith, ap length more.1, length-append h.front more.0, upto));
-  absent = ap (λ (z : List Change). value_at (map_of z) key) (ap (take was.place) more.1 ∙ take-append-le was.place h.front more.0 was.upto) ∙ was.absent;
+  found = ap (λ (z : List Change). value_at (map_of z) key) (ap (take was.place) more.1 ∙ take-append-le was.place h.front more.0 was.upto) ∙ was.found;
 }
 
 -- it may lack a record there, too
 pub may_take_from_before : (call : Call) (k j h i : PassView) → BeginsWith j.front k.front → BeginsWith i.front h.front → i.fresh ≡ h.fresh → MayTake call j h → MayTake call k i
-may_take_from_before (Insert key value) k j h i grown more fresh was = absent_from_before key k j h i grown more fresh was
-may_take_from_before (Upsert key value) k j h i grown more fresh was = absent_from_before key k j h i grown more fresh was
+may_take_from_before (Insert key value) k j h i grown more fresh was = found_from_before key None k j h i grown more fresh was
+may_take_from_before (Upsert key value) k j h i grown more fresh was = found_from_before key None k j h i grown more fresh was
 may_take_from_before (Exchange key expected value) k j h i grown more fresh was = absurd was
 may_take_from_before (Add key delta) k j h i grown more fresh was = absurd was
 may_take_from_before (Get key) k j h i grown more fresh was = absurd was
-may_take_from_before (Remove key) k j h i grown more fresh was = tt
-may_take_from_before (RemoveIf key expected) k j h i grown more fresh was = tt
+may_take_from_before (Remove key) k j h i grown more fresh (value, was) = (value, found_from_before key (Some value) k j h i grown more fresh was)
+may_take_from_before (RemoveIf key expected) k j h i grown more fresh was = found_from_before key (Some expected) k j h i grown more fresh was
 
 -- ---- one after which it also had no further failed step, and saw no further change
 pub conflict_from_before : (layout : Layout) (k j h i : PassView) → k.steps ≤ j.steps → i.number ≡ h.number → i.failed ≡ h.failed → i.front ≡ h.front → i.fresh ≡ h.fresh → HasConflict layout j h → HasConflict layout k i

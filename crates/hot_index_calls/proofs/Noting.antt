@@ -20,7 +20,7 @@ use Rattle.tries.specs.Keys.{Key}
 use Rattle.tries.specs.Tree.{Tree, Has, IsTrie}
 use Rattle.tries.proofs.Contents.{holds_has}
 use Rattle.tries.proofs.Maps.{holds_value, value_holds}
-use Rattle.versions.specs.State.{WasAbsentSince}
+use Rattle.versions.specs.State.{IsHeldSince, WasAbsentSince}
 use Rattle.versions.specs.Told.{content}
 use Rattle.rowex_core.specs.declared.event.Act.{Act}
 use Rattle.rowex_core.specs.declared.event.Act.TheVariants.{ClearPin}
@@ -139,14 +139,18 @@ missed_had k key m missed c lawful recalls =
     let told = (seen_told lawful recalls).content_is f.0 f.2 in
     (f.0, f.1, f.2, ap (λ (z : Map). value_at z key) (sym told) ∙ absent_at (c.past.version f.0) key f.3)
 
--- what a search found was so
-pub found_had : (k : Known) (key : Key) (o : Option ℕ) → HasFound k key o → (c : Core) → IsLawful c → Recalls c k → HadValue k key o
-found_had k key None found c lawful recalls = missed_had k key (since k) found c lawful recalls
-found_had k key (Some v) found c lawful recalls =
+pub met_had : (k : Known) (key : Key) (v m : ℕ) → Sure k (λ s. IsHeldSince s m key v) → (c : Core) → IsLawful c → Recalls c k →
+    (n : ℕ) × (m ≤ n) × (n ≤ length k.front) × (value_at (map_of (take n k.front)) key ≡ Some v)
+met_had k key v m found c lawful recalls =
     let f = found c lawful recalls in
     let told = (seen_told lawful recalls).content_is f.0 f.3 in
     let tree : IsTrie f.1 = (lawful.core.state.trees f.0 f.1 (le_trans f.3 (seen_within lawful recalls)) f.4).0 in
     (f.0, f.2, f.3, ap (λ (z : Map). value_at z key) (sym told) ∙ (ap (λ t. value_at (content t) key) f.4 ∙ holds_value f.1 tree key v f.5))
+
+-- what a search found was so
+pub found_had : (k : Known) (key : Key) (o : Option ℕ) → HasFound k key o → (c : Core) → IsLawful c → Recalls c k → HadValue k key o
+found_had k key None found c lawful recalls = missed_had k key (since k) found c lawful recalls
+found_had k key (Some v) found c lawful recalls = met_had k key v (since k) found c lawful recalls
 
 -- and so the reply that a get gives was right
 pub found_right : (k : Known) (key : Key) (o : Option ℕ) → HasFound k key o → (c : Core) → IsLawful c → Recalls c k → WasRight k (Get key) (got o)

@@ -49,7 +49,7 @@ use Rattle.rowex_writing.specs.declared.plan.Full.TheVariants.{Nodes as OfNodes,
 use Rattle.rowex_writing.specs.declared.attempts.TryFault.{TryFault}
 use Rattle.rowex_writing.specs.declared.attempts.TryFault.TheVariants.{Busy, FullNodes, FullLeaves}
 use Rattle.rowex_writing.proofs.Keeping.{lacks_so}
-use Rattle.hot_index_calls.specs.Answers.{IsCause, IsNoted, IsRefused, IsUnnoted, MayLack, MayRefuse, MayTake, WasAbsent, fault_of}
+use Rattle.hot_index_calls.specs.Answers.{IsCause, IsNoted, IsRefused, IsUnnoted, MayLack, MayRefuse, MayTake, WasFound, fault_of}
 use Rattle.hot_index_calls.specs.Asked.{HasAsked, HasLacked, HasReplied, last_try}
 use Rattle.hot_index_calls.specs.Calls.{AreTriesRefused, GetsOr, IsAwaitedWith, IsCountedWith, IsTriedAndCounted, IsTriedWith, MakesTries}
 use Rattle.hot_index_calls.specs.declared.refusals.Refusal.{Refusal}
@@ -59,8 +59,8 @@ use Rattle.hot_index_calls.specs.Noting.{change_notes, place_by}
 use Rattle.hot_index_calls.specs.Passes.{IsSettled, Owns, PassView, pass_of}
 use Rattle.hot_index_calls.specs.Rooms.{FindsRoom, LeavesRoom}
 use Rattle.hot_index_calls.specs.Traces.{AreAttempts, AreTries, HasMade, HasStepped, HasTold, IsOneAttempt, Tidies, is_full}
-use Rattle.hot_index_calls.proofs.Noting.{HasGoneOn, HasLooked, WasRight, event_makers, found_had, goes_on, legal_front, longer, missed_had, noted, note_of, pinned_front, pinned_pass, settles}
-use Rattle.hot_index_calls.proofs.Conflicts.{absent_from_before, conflict_from_before, may_take_from_before, no_further, overtaken, pins_after, under_pin}
+use Rattle.hot_index_calls.proofs.Noting.{HasGoneOn, HasLooked, WasRight, event_makers, found_had, goes_on, legal_front, longer, met_had, missed_had, noted, note_of, pinned_front, pinned_pass, settles}
+use Rattle.hot_index_calls.proofs.Conflicts.{conflict_from_before, found_from_before, may_take_from_before, no_further, overtaken, pins_after, under_pin}
 use Rattle.hot_index_calls.proofs.Collected.{AreBetween, does_unnoted, small_few, small_later, small_unnoted}
 use Rattle.hot_index_calls.proofs.Scanned.{scan_refused, scan_settled}
 use Rattle.hot_index_calls.proofs.Tracing.{ended_once, ended_tidied, has_made, has_told}
@@ -432,25 +432,29 @@ module _ {G : Type 0} {table : TableView} {becomes : G → Event → G → Type 
       same : c.0.known.pass ≡ b.0.known.pass
       same = (run_same table becomes b c run).2
 
-  -- a key that was absent since its pin was so by what contracts see
-  absent_seen : (key : Key) {said : Known → List Note} → IsEvent table.layout ClearPin said c.0.known d.0.known → tries.HasMissedKey c.0.known key → WasAbsent key (pass_of a.0) (pass_of d.0)
-  absent_seen key event (m, (p, pin, early), missed) = absent_from_before key (pass_of a.0) (pass_of a.0) (pass_of c.0) (pass_of d.0) (no_further refl)
+  -- what its search found since its pin was so by what contracts see
+  found_seen : (key : Key) (held : Option ℕ) (m : ℕ) {said : Known → List Note} → IsEvent table.layout ClearPin said c.0.known d.0.known → IsPinnedSince c.0.known m →
+      ((n : ℕ) × (m ≤ n) × (n ≤ length c.0.known.front) × (value_at (map_of (take n c.0.known.front)) key ≡ held)) → WasFound key held (pass_of a.0) (pass_of d.0)
+  found_seen key held m event (p, pin, early) had = found_from_before key held (pass_of a.0) (pass_of a.0) (pass_of c.0) (pass_of d.0) (no_further refl)
       (no_further (ap (λ (z : Known). z.front) event.learned_is)) (ap (λ (z : Known). z.fresh) event.learned_is) there
     where
       set : b.0.known.pin ≡ Some p
       set = sym (pin_stays table becomes run.acts b c run.each run.steps) ∙ pin
 
-      had : (n : ℕ) × (m ≤ n) × (n ≤ length c.0.known.front) × (value_at (map_of (take n c.0.known.front)) key ≡ None)
-      had = missed_had c.0.known key m missed event.core event.lawful (event_recalls event)
-
-      there : WasAbsent key (pass_of a.0) (pass_of c.0)
+      there : WasFound key held (pass_of a.0) (pass_of c.0)
       there = record {
         place = had.0;
         begun = le_trans (pins_after pins p set) (le_trans early had.1);
         since = subst (λ z. z ≤ had.0) (sym (under_pin pins run loaded before p set)) (le_trans early had.1);
         upto = had.2;
-        absent = had.3;
+        found = had.3;
       }
+
+  absent_seen : (key : Key) {said : Known → List Note} → IsEvent table.layout ClearPin said c.0.known d.0.known → tries.HasMissedKey c.0.known key → WasFound key None (pass_of a.0) (pass_of d.0)
+  absent_seen key event (m, pinned, missed) = found_seen key None m event pinned (missed_had c.0.known key m missed event.core event.lawful (event_recalls event))
+
+  held_seen : (key : Key) (value : ℕ) {said : Known → List Note} → IsEvent table.layout ClearPin said c.0.known d.0.known → tries.HasMetKey c.0.known key value → WasFound key (Some value) (pass_of a.0) (pass_of d.0)
+  held_seen key value event (m, pinned, met) = found_seen key (Some value) m event pinned (met_had c.0.known key value m met event.core event.lawful (event_recalls event))
 
   may_take_seen : (call : Call) {said : Known → List Note} → IsEvent table.layout ClearPin said c.0.known d.0.known → tries.WantsRecord c.0.known call → MayTake call (pass_of a.0) (pass_of d.0)
   may_take_seen (Insert key value) event missed = absent_seen key event missed
@@ -458,8 +462,8 @@ module _ {G : Type 0} {table : TableView} {becomes : G → Event → G → Type 
   may_take_seen (Exchange key expected value) event missed = absurd missed
   may_take_seen (Add key delta) event missed = absurd missed
   may_take_seen (Get key) event missed = absurd missed
-  may_take_seen (Remove key) event missed = tt
-  may_take_seen (RemoveIf key expected) event missed = tt
+  may_take_seen (Remove key) event (value, met) = (value, held_seen key value event met)
+  may_take_seen (RemoveIf key expected) event met = held_seen key expected event met
 
   -- it was refused
   when_refused : (call : Call) (made : List Rec) (fault : TryFault) → HasRefused table.layout (key_of call) b.0.known c.0.known made fault → tries.IsFullOfNew c.0.known call fault →

@@ -152,22 +152,22 @@ IsCause layout key k j Busy = HasConflict layout k j
 IsCause layout key k j FullNodes = (own : List Rec) × LacksNodes layout j.number j.failed k.steps own
 IsCause layout key k j FullLeaves = LacksLeaves layout key j.number j.failed k.steps
 
--- The key was absent after some of the changes that the pass has seen: those that it had seen before the call are among them, and so are
--- those that had been made when it set the pin that it had at its last load of the root.
-pub record WasAbsent (key : Key) (k j : PassView) : Type 0 where
+-- The key had this value, or none, after some of the changes that the pass has seen: those that it had seen before the call are among them,
+-- and so are those that had been made when it set the pin that it had at its last load of the root.
+pub record WasFound (key : Key) (held : Option ℕ) (k j : PassView) : Type 0 where
   pub place : ℕ
   pub begun : length k.front ≤ place
   pub since : j.fresh.pinned ≤ place
   pub upto : place ≤ length j.front
-  pub absent : value_at (map_of (take place j.front)) key ≡ None
+  pub found : value_at (map_of (take place j.front)) key ≡ held
 
--- A call may lack a record: an insertion or an upsert whose search found its key absent, and a removal. No other call takes one, since the
--- new value of a held key needs none.
+-- A call may lack a record: an insertion or an upsert whose search found its key absent, and a removal whose search found its key, with the
+-- value that it expects. No other call takes one, since the new value of a held key needs none.
 abbrev pub MayTake : Call → PassView → PassView → Type 0
-MayTake (Insert key value) k j = WasAbsent key k j
-MayTake (Upsert key value) k j = WasAbsent key k j
-MayTake (Remove key) k j = Unit {0}
-MayTake (RemoveIf key expected) k j = Unit {0}
+MayTake (Insert key value) k j = WasFound key None k j
+MayTake (Upsert key value) k j = WasFound key None k j
+MayTake (Remove key) k j = (value : ℕ) × WasFound key (Some value) k j
+MayTake (RemoveIf key expected) k j = WasFound key (Some expected) k j
 MayTake call k j = ⊥
 
 -- A call was refused: it has changed nothing and adds no note, and this is the cause.

@@ -2,6 +2,7 @@
 use Rattle.rowex_writing.specs.Spare.{IsRemoval}
 use Rattle.std.specs.Prelude.{if◌then◌else◌, nat_eq, IsSome}
 use Rattle.std.specs.Option.{option_map}
+use Rattle.std.proofs.lemmas.Bool.{eqb-true}
 use Rattle.std.proofs.Common.{◌≡◌, ◌≢◌, ◌⊎◌, inl, inr, ℕ, ◌+◌, ◌≤◌, ◌<◌, List, [], ◌∷◌, length, refl, sym, ap, subst, ◌∙◌, arith, Option, Some, None, Bool, true, false, Ok, Err, ◌*◌}
 use Rattle.finite_map.specs.declared.Call.{Call}
 use Rattle.finite_map.specs.declared.Call.TheVariants.{Insert, Upsert, Exchange, Add, Get, Remove, RemoveIf}
@@ -38,7 +39,7 @@ use Rattle.rowex_core.specs.Knowing.{IsPinnedSince}
 use Rattle.rowex_reading.specs.Seen.{Sure, since}
 use Rattle.rowex_reading.proofs.Seeing.{later_trans, held_stable, missed_stable, shaped_stable, sure_later, since_later}
 use Rattle.rowex_writing.specs.Asking.{aim_of, aim_where, reply_to, value_in}
-use Rattle.rowex_writing.specs.Attempts.{HasAnswered, HasDoneDeed, HasLoadedRoot, HasLooked, HasRefused, IsAttemptCause, IsChangeOf, IsLeafless, refusal_of, revalued, HasFailed, HasMissedKey, IsFullFault, IsFullOfNew, WantsRecord}
+use Rattle.rowex_writing.specs.Attempts.{HasAnswered, HasDoneDeed, HasLoadedRoot, HasLooked, HasRefused, IsAttemptCause, IsChangeOf, IsLeafless, refusal_of, revalued, HasFailed, HasMetKey, HasMissedKey, IsFullFault, IsFullOfNew, WantsRecord}
 use Rattle.rowex_writing.specs.Changes.{AreAffected, HasChanged, HasNoRoom, HasRun, IsFull, IsPlanned}
 use Rattle.rowex_writing.specs.Locks.{HasMetLock, locks_of}
 use Rattle.rowex_writing.specs.Walks.{nodes_among}
@@ -490,40 +491,55 @@ failed_later layout job i j made Busy failed = failed.1
 failed_later layout job i j made FullNodes none = none.later
 failed_later layout job i j made FullLeaves none = none.later
 
--- a call that aims at a removal is one
-removal_may : (j : Known) (call : Call) (held : Option ℕ) → aim_of call held ≡ Some ToRemove → WantsRecord j call
-removal_may j (Insert key value) held e = absurd (cc)
-removal_may j (Upsert key value) held e = absurd (cc)
-removal_may j (Exchange key expected value) held e = absurd (let other : ToUpsert ≡ ToRemove = aim_met (λ a. a ≡ ToRemove) expected held ToUpsert ToRemove e refl in cc)
-removal_may j (Add key delta) None e = absurd (cc)
-removal_may j (Add key delta) (Some had) e = absurd (cc)
-removal_may j (Get key) held e = absurd (cc)
-removal_may j (Remove key) held e = tt
-removal_may j (RemoveIf key expected) held e = tt
+-- a call that expects a value aims at something only where its key has that value
+expects : (expected held : ℕ) (own aim : Aim) → aim_where expected (Some held) own ≡ Some aim → held ≡ expected
+expects expected held own aim e = go (nat_eq held expected) refl e
+  where
+    go : (b : Bool) → nat_eq held expected ≡ b → (if b then Some own else None) ≡ Some aim → held ≡ expected
+    go true same e = eqb-true held expected same
+    go false same e = absurd (cc)
 
--- and one that aims at anything where its key is absent gives it a value, or is a removal
-absent_may : (j : Known) (call : Call) (aim : Aim) → aim_of call None ≡ Some aim → HasMissedKey j (key_of call) → WantsRecord j call
-absent_may j (Insert key value) aim e missed = missed
-absent_may j (Upsert key value) aim e missed = missed
-absent_may j (Exchange key expected value) aim e missed = absurd (cc)
-absent_may j (Add key delta) aim e missed = absurd (cc)
-absent_may j (Get key) aim e missed = absurd (cc)
-absent_may j (Remove key) aim e missed = tt
-absent_may j (RemoveIf key expected) aim e missed = tt
+-- a call that aims at a removal is one, and has found its key
+removal_may : (j : Known) (call : Call) (held : ℕ) → aim_of call (Some held) ≡ Some ToRemove → HasMetKey j (key_of call) held → WantsRecord j call
+removal_may j (Insert key value) held e met = absurd (cc)
+removal_may j (Upsert key value) held e met = absurd (cc)
+removal_may j (Exchange key expected value) held e met = absurd (let other : ToUpsert ≡ ToRemove = aim_met (λ a. a ≡ ToRemove) expected (Some held) ToUpsert ToRemove e refl in cc)
+removal_may j (Add key delta) held e met = absurd (cc)
+removal_may j (Get key) held e met = absurd (cc)
+removal_may j (Remove key) held e met = (held, met)
+removal_may j (RemoveIf key expected) held e met = subst (HasMetKey j key) (expects expected held ToRemove ToRemove e) met
+
+-- and one that aims at anything else where its key is absent gives it a value
+absent_may : (j : Known) (call : Call) (aim : Aim) → (aim ≡ ToRemove → ⊥) → aim_of call None ≡ Some aim → HasMissedKey j (key_of call) → WantsRecord j call
+absent_may j (Insert key value) aim gives e missed = missed
+absent_may j (Upsert key value) aim gives e missed = missed
+absent_may j (Exchange key expected value) aim gives e missed = absurd (cc)
+absent_may j (Add key delta) aim gives e missed = absurd (cc)
+absent_may j (Get key) aim gives e missed = absurd (cc)
+absent_may j (Remove key) aim gives e missed = absurd (gives (sym (some_is _ _ e)))
+absent_may j (RemoveIf key expected) aim gives e missed = absurd (cc)
 
 missed : (k j : Known) (key other : Key) → key ≡ other → IsPinnedSince k (since k) → Sure k (λ s. WasAbsentSince s (since k) key) → IsLater k j → HasMissedKey j other
 missed k j key other same pinned sure later =
     (since k, since_later later pinned, subst (λ z. Sure j (λ s. WasAbsentSince s (since k) z)) same (sure_later {P = λ s. WasAbsentSince s (since k) key} (missed_stable (since k) key) later sure))
 
+met : (k j : Known) (key other : Key) (value : ℕ) → key ≡ other → IsPinnedSince k (since k) → Sure k (λ s. IsHeldSince s (since k) key value) → IsLater k j → HasMetKey j other value
+met k j key other value same pinned sure later =
+    (since k, since_later later pinned, subst (λ z. Sure j (λ s. IsHeldSince s (since k) z value)) same (sure_later {P = λ s. IsHeldSince s (since k) key value} (held_stable (since k) key value) later sure))
+
 -- so where no record was free for it, it may take one
 pub full_of_new : (k p j : Known) (m : ℕ) (key : Key) (way : List PathNode) (aim : Aim) (found : Found) (span : Span) (deed : Deed) (fault : TryFault) (call : Call) → key ≡ key_of call →
     IsPlanned p m key way aim found (a_change span deed) → IsPinnedSince k (since k) → HasFound k key (value_of found) → IsLater k j → aim_of call (value_of found) ≡ Some aim → (deed ≡ ValueDeed → fault ≡ Busy) →
     IsFullOfNew j call fault
-full_of_new k p j m key way aim Nothing span deed fault call same planned pinned sure later e whole full = absent_may j call aim e (missed k j key (key_of call) same pinned sure later)
-full_of_new k p j m key way aim (Leaf n v (Some q)) span deed fault call same planned pinned sure later e whole full = absent_may j call aim e (missed k j key (key_of call) same pinned sure later)
+full_of_new k p j m key way ToInsert Nothing span deed fault call same planned pinned sure later e whole full = absent_may j call ToInsert (λ is. cc) e (missed k j key (key_of call) same pinned sure later)
+full_of_new k p j m key way ToUpsert Nothing span deed fault call same planned pinned sure later e whole full = absent_may j call ToUpsert (λ is. cc) e (missed k j key (key_of call) same pinned sure later)
+full_of_new k p j m key way ToRemove Nothing span deed fault call same (first, last, is, affected) pinned sure later e whole full = no_answer _ span deed (sym is)
+full_of_new k p j m key way ToInsert (Leaf n v (Some q)) span deed fault call same planned pinned sure later e whole full = absent_may j call ToInsert (λ is. cc) e (missed k j key (key_of call) same pinned sure later)
+full_of_new k p j m key way ToUpsert (Leaf n v (Some q)) span deed fault call same planned pinned sure later e whole full = absent_may j call ToUpsert (λ is. cc) e (missed k j key (key_of call) same pinned sure later)
+full_of_new k p j m key way ToRemove (Leaf n v (Some q)) span deed fault call same (first, last, is, affected) pinned sure later e whole full = no_answer _ span deed (sym is)
 full_of_new k p j m key way ToInsert (Leaf n v None) span deed fault call same (first, last, is, affected) pinned sure later e whole full = no_answer _ span deed (sym is)
 full_of_new k p j m key way ToUpsert (Leaf n v None) span deed fault call same (first, last, is, affected) pinned sure later e whole full = absurd (subst IsFullFault (whole (ap deed_in is)) full)
-full_of_new k p j m key way ToRemove (Leaf n v None) span deed fault call same (first, last, is, affected) pinned sure later e whole full = removal_may j call (Some v) e
+full_of_new k p j m key way ToRemove (Leaf n v None) span deed fault call same (first, last, is, affected) pinned sure later e whole full = removal_may j call v e (met k j key (key_of call) v same pinned sure later)
 
 -- ---- how many steps a new value takes
 -- it locks one node, or the anchor

@@ -40,7 +40,7 @@ use Rattle.rowex_writing.specs.declared.plan.Full.TheVariants.{Nodes, Leaves}
 use Rattle.rowex_writing.specs.declared.attempts.TryFault.{TryFault}
 use Rattle.rowex_writing.specs.declared.attempts.TryFault.TheVariants.{Busy, FullNodes, FullLeaves}
 use Rattle.rowex_reading.specs.Seen.{Sure}
-use Rattle.versions.specs.State.{WasAbsentSince}
+use Rattle.versions.specs.State.{IsHeldSince, WasAbsentSince}
 
 -- a load of a search: of the root, or of a word below it
 abbrev pub IsOfSearch : Act → Type 0
@@ -155,12 +155,17 @@ IsFullFault fault = Unit {0}
 abbrev pub HasMissedKey : Known → Key → Type 0
 HasMissedKey j key = (m : ℕ) × IsPinnedSince j m × Sure j (λ s. WasAbsentSince s m key)
 
--- A call may lack a record: an insertion or an upsert whose search has not found the key, and a removal. No other call takes one.
+-- the key had this value in a version since some version, to which the pass's pin goes back
+abbrev pub HasMetKey : Known → Key → ℕ → Type 0
+HasMetKey j key value = (m : ℕ) × IsPinnedSince j m × Sure j (λ s. IsHeldSince s m key value)
+
+-- A call may lack a record: an insertion or an upsert whose search has not found the key, and a removal whose search has found it, with the
+-- value that it expects. No other call takes one.
 abbrev pub WantsRecord : Known → Call → Type 0
 WantsRecord j (Insert key value) = HasMissedKey j key
 WantsRecord j (Upsert key value) = HasMissedKey j key
-WantsRecord j (Remove key) = Unit {0}
-WantsRecord j (RemoveIf key expected) = Unit {0}
+WantsRecord j (Remove key) = (value : ℕ) × HasMetKey j key value
+WantsRecord j (RemoveIf key expected) = HasMetKey j key expected
 WantsRecord j call = ⊥
 
 -- so it is refused for want of one only where it may

@@ -66,7 +66,7 @@ pub enum TryFault {
 /// The pass is pinned, has no record and no lock, and has made no change since its pin. `way` is filled with the nodes that the search
 /// went through. After a change `build.gone` lists what it unlinked; else it stays. If no record was free, `build.made` lists those that
 /// it had claimed, and has given up. A removal is never refused as `FullLeaves`. An insertion or an upsert is refused as full only if the
-/// search found the key absent; an exchange or an addition never.
+/// search found the key absent, a removal only if it found the key, with the value that it expects; an exchange or an addition never.
 ///
 /// If it tries no lock, it makes at most 58 atomic steps, and 26 for each node on the key's way. Else it makes at most 124, and 26 for
 /// each such node. To these come 297 for each lock that it tries, four for each leaf record and two for each node record. An exchange or an
