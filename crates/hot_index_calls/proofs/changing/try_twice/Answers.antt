@@ -52,7 +52,7 @@ returns-then-may_find_free_record g c =
     let first = subst (λ (z : Result Reply TryFault). HasAsked table g.G.Gate.becomes (IsOneAttempt table) call z (c.args.seat.now, c.args.gate.now) (c.make_attempt-first.new.seat, c.make_attempt-first.new.gate)) c.in-Some.ensures.some c.make_attempt-first.ensures.asked in
     let round = c.collect_round-round.ensures.round in
     let again = c.make_attempt.ensures.asked in
-    let unnoted = first.replied.refused.unnoted in
+    let unnoted = first.replied.refused.refused.unnoted in
     let later = round_later k (c.make_attempt-first.new.seat, c.make_attempt-first.new.gate) (c.collect_round-round.new.seat, c.collect_round-round.new.gate) unnoted first.later first.replied.idle.1 round in
     let both = outcome_then table.layout k (pass_of c.collect_round-round.new.seat) (pass_of c.make_attempt.new.seat) (then_collected k (c.make_attempt-first.new.seat, c.make_attempt-first.new.gate) (c.collect_round-round.new.seat, c.collect_round-round.new.gate) unnoted first.later first.replied.idle.1 round) later call c.make_attempt.result again.replied.noted again.replied.refused in
     record {
@@ -65,7 +65,7 @@ returns-then-may_find_free_record g c =
           (nodes_among c.make_attempt.new.scratch.build.made.items) later refl refl (c.make_attempt.ensures.lacks is);
       few = (
           let count = round_few round in
-          let twice = twice_few call table.layout k (pass_of c.make_attempt-first.new.seat) (first.replied.refused.full (full_fault c.in-Some.lacks)) in
+          let twice = twice_few call table.layout k (pass_of c.make_attempt-first.new.seat) (first.replied.refused.refused.full (full_fault c.in-Some.lacks)) in
           omega (arith, c.make_attempt-first.ensures.few, count, c.make_attempt.ensures.few, twice)
           );
       spares = λ was. c.make_attempt.ensures.spares (round_spare c.args.table.now g.G.Gate.becomes (c.make_attempt-first.new.seat, c.make_attempt-first.new.gate) (c.collect_round-round.new.seat, c.collect_round-round.new.gate) c.collect_round-round.ensures.round (c.make_attempt-first.ensures.spares was));
@@ -85,7 +85,7 @@ returns g c =
     let first = subst (λ (z : Result Reply TryFault). HasAsked table g.G.Gate.becomes (IsOneAttempt table) call z (c.args.seat.now, c.args.gate.now) (c.make_attempt-first.new.seat, c.make_attempt-first.new.gate)) c.in-Some.ensures.some c.make_attempt-first.ensures.asked in
     let round = c.collect_round-round.ensures.round in
     let again = c.pin_and_unpin.ensures.rested in
-    let unnoted = first.replied.refused.unnoted in
+    let unnoted = first.replied.refused.refused.unnoted in
     let later = round_later k (c.make_attempt-first.new.seat, c.make_attempt-first.new.gate) (c.collect_round-round.new.seat, c.collect_round-round.new.gate) unnoted first.later first.replied.idle.1 round in
     let collected = then_collected k (c.make_attempt-first.new.seat, c.make_attempt-first.new.gate) (c.collect_round-round.new.seat, c.collect_round-round.new.gate) unnoted first.later first.replied.idle.1 round in
     let cause = cause_still (key_of call) k (c.make_attempt-first.new.seat, c.make_attempt-first.new.gate) (c.collect_round-round.new.seat, c.collect_round-round.new.gate) (c.pin_and_unpin.new.seat, c.pin_and_unpin.new.gate) round again.failed again.unnoted.number fault (lacked_full c.in-Some.lacks) first.replied.refused.cause in
@@ -93,14 +93,13 @@ returns g c =
       replied = record {
         idle = again.idle;
         noted = tt;
-        refused = record {
+        refused = record { cause = cause; refused = record {
           unnoted = unnoted_then table.layout k (pass_of c.collect_round-round.new.seat) (pass_of c.pin_and_unpin.new.seat) collected later again.unnoted;
-          cause = cause;
           full = λ full. may_take_from_before call k k (pass_of c.make_attempt-first.new.seat) (pass_of c.pin_and_unpin.new.seat) (no_further refl)
               (begins_on c.make_attempt-first.new.seat.known.front c.collect_round-round.new.seat.known.front c.pin_and_unpin.new.seat.known.front
               (no_further (ap (λ (z : Known). z.front) round.does.rest)) again.unnoted.front)
-              (again.fresh ∙ ap (λ (z : Known). z.fresh) round.does.rest) (first.replied.refused.full full);
-        };
+              (again.fresh ∙ ap (λ (z : Known). z.fresh) round.does.rest) (first.replied.refused.refused.full full);
+        } };
         leafless = first.replied.leafless;
         loaded = subst (λ (z : Fresh). c.args.seat.now.known.steps ≤ z.step) (sym (again.fresh ∙ ap (λ (z : Known). z.fresh) round.does.rest)) first.replied.loaded;
       };
@@ -113,7 +112,7 @@ returns g c =
           (c.make_attempt-first.ensures.lacks is));
       few = (
           let count = round_few round in
-          let twice = twice_few call table.layout k (pass_of c.make_attempt-first.new.seat) (first.replied.refused.full (full_fault c.in-Some.lacks)) in
+          let twice = twice_few call table.layout k (pass_of c.make_attempt-first.new.seat) (first.replied.refused.refused.full (full_fault c.in-Some.lacks)) in
           omega (arith, c.make_attempt-first.ensures.few, count, again.steps, twice)
           );
       spares = λ was. c.pin_and_unpin.ensures.spares (round_spare c.args.table.now g.G.Gate.becomes (c.make_attempt-first.new.seat, c.make_attempt-first.new.gate) (c.collect_round-round.new.seat, c.collect_round-round.new.gate) c.collect_round-round.ensures.round (c.make_attempt-first.ensures.spares was));
