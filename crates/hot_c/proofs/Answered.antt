@@ -5,18 +5,20 @@ use Rattle.key_bits.specs.Key.{IsKey}
 use Rattle.key_bits.specs.declared.KeyFault.{KeyFault}
 use Rattle.key_bits.specs.declared.TheConstants.{MAX_BYTES}
 use Rattle.finite_map.specs.declared.Call.{Call}
+use Rattle.finite_map.specs.declared.Call.TheVariants.{Get}
 use Rattle.finite_map.specs.declared.Reply.{Reply}
 use Rattle.finite_map.specs.declared.Reply.TheVariants.{Inserted, Exists, New, Was, Exchanged, Differs, Value, Absent, Removed}
 use Rattle.rowex_table.specs.Seats.{TableView}
 use Rattle.rowex_writing.specs.declared.plan.Full.TheVariants.{Nodes, Leaves}
-use Rattle.hot_index_calls.specs.Refusals.{fault_in}
+use Rattle.hot_index_calls.specs.Refusals.{as_tried}
 use Rattle.hot_index_calls.specs.declared.refusals.Refusal.{Refusal}
 use Rattle.hot_index_calls.specs.declared.refusals.Refusal.TheVariants.{Busy as IsBusy, HeldBack, Full as IsFull}
-use Rattle.hot_index_calls.specs.Answers.{MayRefuse}
-use Rattle.hot_index_calls.specs.Calls.{IsCallCounted}
+use Rattle.hot_index_calls.specs.Answers.{IsNoted, MayRefuse}
+use Rattle.hot_index_calls.specs.Calls.{GetsOrCounts, HasCause, IsOutcome}
 use Rattle.hot_index_calls.specs.Passes.{PassView}
+use Rattle.hot_index_calls.specs.Traces.{HasGot, untold}
 use Rattle.hot_index.specs.Handles.{HandleView, Stays}
-use Rattle.hot_c.specs.Calls.{Answers, HasOutcome, FitsInKey, TellsOutcome}
+use Rattle.hot_c.specs.Calls.{Answers, FitsInKey, TellsOutcome}
 use Rattle.hot_c.specs.Refusals.{TellsOfNoLack, TellsRefusal, TellsWhatMay}
 use Rattle.hot_c.specs.Statuses.{reply_status, value_after}
 use Rattle.hot_c.specs.declared.opened.Opened.{Opened}
@@ -45,10 +47,10 @@ answered key call asked old new before after status s u outcome was is stays sam
   );
 }
 
--- a call that was answered
-pub replied : (size : ℕ) (call : Call) (reply : Reply) (status : ℕ) (old new : HandleView) → Stays (HasOutcome call (Ok reply)) old new → status ≡ reply_status reply →
-    Stays (TellsOutcome size call status (Ok reply)) old new
-replied size call reply status old new h told = record { index = h.index; pass = (h.pass, told) }
+-- a get
+pub replied : (size : ℕ) (key : List ℕ) (reply : Reply) (status : ℕ) (old new : HandleView) → Stays (λ index k j. IsNoted index.layout k j (Get key) reply) old new →
+    Stays (λ index k j. HasGot index untold (k, tt) (j, tt)) old new → status ≡ reply_status reply → Stays (TellsOutcome size (Get key) status (Ok reply)) old new
+replied size key reply status old new h by told = record { index = h.index; pass = ((h.pass, tt, by.pass), told) }
 
 -- what is told of a call for a key of this length
 pub for_size : (size other : ℕ) (call : Call) (status : ℕ) (outcome : Result Reply Refusal) (old new : HandleView) → other ≡ size → Stays (TellsOutcome size call status outcome) old new →
@@ -58,22 +60,29 @@ for_size size other call status outcome old new same h = subst (λ (n : ℕ). St
 -- what is told of a call that was tried
 abbrev pub Told : ℕ → Call → ℕ → HandleView → HandleView → ℕ → ℕ → Type 0
 Told size call status old new before after =
-    (outcome : Result Reply Refusal) × Stays (TellsOutcome size call status outcome) old new × (after ≡ value_after before outcome) × IfErr outcome (λ refusal. MayRefuse call (fault_in refusal))
+    (outcome : Result Reply Refusal) × Stays (TellsOutcome size call status outcome) old new × (after ≡ value_after before outcome) × IfErr (as_tried outcome) (MayRefuse call)
+
+-- what a try says that counts
+pub record IsCounted (call : Call) (outcome : Result Reply Refusal) (old new : HandleView) : Type 0 where
+  pub call_is : Stays (IsOutcome call (as_tried outcome)) old new
+  pub cause : Stays (HasCause call (as_tried outcome)) old new
+  pub may : IfErr (as_tried outcome) (MayRefuse call)
+  pub made : Stays (λ index k j. GetsOrCounts call outcome index untold (k, tt) (j, tt)) old new
 
 module _ (size : ℕ) (call : Call) (outcome : Result Reply Refusal) (status before after : ℕ) (old : HandleView) where
-  told_as : (new : HandleView) → Stays (IsCallCounted call outcome) old new → MatchResult outcome (λ reply. status ≡ reply_status reply) (λ refusal. TellsRefusal size refusal status) → after ≡ value_after before outcome →
+  told_as : (new : HandleView) → IsCounted call outcome old new → MatchResult outcome (λ reply. status ≡ reply_status reply) (λ refusal. TellsRefusal size refusal status) → after ≡ value_after before outcome →
       Told size call status old new before after
-  told_as new h told left = (outcome, record { index = h.index; pass = ((h.pass.call, h.pass.made), told) }, left, h.pass.may)
+  told_as new h told left = (outcome, record { index = h.call_is.index; pass = ((h.call_is.pass, h.cause.pass, h.made.pass), told) }, left, h.may)
 
-pub told_reply : (size : ℕ) (call : Call) (outcome : Result Reply Refusal) (status before after : ℕ) (old new : HandleView) (reply : Reply) → outcome ≡ Ok reply → Stays (IsCallCounted call outcome) old new → status ≡ reply_status reply →
+pub told_reply : (size : ℕ) (call : Call) (outcome : Result Reply Refusal) (status before after : ℕ) (old new : HandleView) (reply : Reply) → outcome ≡ Ok reply → IsCounted call outcome old new → status ≡ reply_status reply →
     after ≡ value_after before (Ok reply) → Told size call status old new before after
 told_reply size call outcome status before after old new reply is h told left =
-    told_as size call (Ok reply) status before after old new (subst (λ (o : Result Reply Refusal). Stays (IsCallCounted call o) old new) is h) told left
+    told_as size call (Ok reply) status before after old new (subst (λ (o : Result Reply Refusal). IsCounted call o old new) is h) told left
 
-pub told_refusal : (size : ℕ) (call : Call) (outcome : Result Reply Refusal) (status before after : ℕ) (old new : HandleView) (refusal : Refusal) → outcome ≡ Err refusal → Stays (IsCallCounted call outcome) old new → TellsRefusal size refusal status →
+pub told_refusal : (size : ℕ) (call : Call) (outcome : Result Reply Refusal) (status before after : ℕ) (old new : HandleView) (refusal : Refusal) → outcome ≡ Err refusal → IsCounted call outcome old new → TellsRefusal size refusal status →
     after ≡ before → Told size call status old new before after
 told_refusal size call outcome status before after old new refusal is h told left =
-    told_as size call (Err refusal) status before after old new (subst (λ (o : Result Reply Refusal). Stays (IsCallCounted call o) old new) is h) told left
+    told_as size call (Err refusal) status before after old new (subst (λ (o : Result Reply Refusal). IsCounted call o old new) is h) told left
 
 -- no reply is told as a lack
 no_lack : (reply : Reply) (status : ℕ) → status ≡ reply_status reply → TellsOfNoLack status
@@ -93,7 +102,7 @@ tells_may call status (nodes, leaves, held) = record { nodes = λ never. nodes; 
 
 -- what a refusal tells that the call may have
 pub told_may : (size : ℕ) (call : Call) (status : ℕ) (outcome : Result Reply Refusal) (index : TableView) (k j : PassView) → TellsOutcome size call status outcome index k j →
-    IfErr outcome (λ refusal. MayRefuse call (fault_in refusal)) → TellsWhatMay call status
+    IfErr (as_tried outcome) (MayRefuse call) → TellsWhatMay call status
 told_may size call status (Ok reply) index k j told may = tells_may call status (no_lack reply status told.1)
 told_may size call status (Err IsBusy) index k j told may = tells_may call status ((λ f. omega (arith, f, told.1)), (λ f. omega (arith, f, told.1)), (λ f. omega (arith, f, told.1)))
 told_may size call status (Err (HeldBack Nodes)) index k j told may = record { nodes = λ never. absurd (never may); leaves = λ never f. omega (arith, f, told.1); held = λ never none. absurd (never may) }

@@ -9,14 +9,14 @@ use Rattle.record_words.specs.Layout.{HasStock, leaves_of}
 use Rattle.record_words.specs.declared.layout.Layout.{Layout}
 use Rattle.record_words.specs.declared.layout.Stock.{Stock}
 use Rattle.rowex_table.specs.Seats.{TableView}
-use Rattle.hot_index_calls.specs.Answers.{IsNoted, IsRefused, IsUnnoted}
-use Rattle.hot_index_calls.specs.Calls.{GetsOr, IsTriedAndCounted}
+use Rattle.hot_index_calls.specs.Answers.{IsUnnoted}
+use Rattle.hot_index_calls.specs.Calls.{GetsOrCounts, HasCause, IsOutcome}
 use Rattle.hot_index_calls.specs.Census.{HasCounted}
 use Rattle.hot_index.specs.Handles.{HandleView, Stays}
 use Rattle.hot_index_calls.specs.Passes.{PassView, IsNewPass}
-use Rattle.hot_index_calls.specs.Traces.{HasCollected, HasGot, untold}
+use Rattle.hot_index_calls.specs.Traces.{HasCollected, untold}
 use Rattle.hot_index_calls.specs.declared.census.RecordCounts.{RecordCounts}
-use Rattle.hot_index_calls.specs.Refusals.{fault_in}
+use Rattle.hot_index_calls.specs.Refusals.{as_tried}
 use Rattle.hot_index_calls.specs.declared.refusals.Refusal.{Refusal}
 use Rattle.hot_index.specs.Kept.{kept_stock, with_one_kept}
 use Rattle.hot_c.specs.Refusals.{TellsRefusal}
@@ -42,8 +42,7 @@ pub record StaysOpen (Became : TableView → PassView → PassView → Type 0) (
 -- records were counted, and the refusal says what the count says.
 abbrev pub HasOutcome : Call → Result Reply Refusal → TableView → PassView → PassView → Type 0
 HasOutcome call outcome index k j =
-    MatchResult outcome (IsNoted index.layout k j call) (λ refusal. IsRefused index.layout call k j (fault_in refusal)) ×
-    GetsOr call (HasGot index untold (k, tt) (j, tt)) (IsTriedAndCounted call outcome index untold (k, tt) (j, tt))
+    IsOutcome call (as_tried outcome) index k j × HasCause call (as_tried outcome) index k j × GetsOrCounts call outcome index untold (k, tt) (j, tt)
 
 -- the call with this key in place of its own
 abbrev pub for_key : List ℕ → Call → Call

@@ -5,7 +5,7 @@ ghost use Rattle.finite_map.specs.declared.Call.TheVariants.{Get};
 ghost use Rattle.finite_map.specs.declared.Reply.{Reply as ReplyView};
 ghost use Rattle.hot_index_calls.specs.Answers.{IsNoted, MayRefuse, range_from};
 ghost use Rattle.hot_index_calls.specs.Calls.{IsRangeRead};
-ghost use Rattle.hot_index_calls.specs.Refusals.{fault_in};
+ghost use Rattle.hot_index_calls.specs.Refusals.{as_tried};
 ghost use Rattle.hot_index_calls.specs.declared.refusals.Refusal.{Refusal as RefusalView};
 ghost use Rattle.hot_index.specs.Handles.{Stays};
 ghost use Rattle.hot_index.specs.Stamps.{HasCaughtUp, IsStampFrom};
@@ -62,7 +62,8 @@ impl Opened {
 
     /// The reply to a get of `key`: `Value`, or `Absent`. No `Call` is made for it, which would copy the key.
     pub fn get(&mut self, key: &Key) -> Reply
-        ensures call { Stays (λ index k j. IsNoted index.layout k j (Get key.now) result × HasGot index untold (k, tt) (j, tt)) self.old.handle self.new.handle }
+        ensures call { Stays (λ index k j. IsNoted index.layout k j (Get key.now) result) self.old.handle self.new.handle }
+        ensures made { Stays (λ index k j. HasGot index untold (k, tt) (j, tt)) self.old.handle self.new.handle }
         ensures keeps { self.new.kept.items ≡ self.old.kept.items }
     {
         match self.handle.get(key) {
@@ -75,7 +76,7 @@ impl Opened {
     /// `had` stays. If no record is free, it counts all records. So the status tells whether some may come back.
     pub fn try_call(&mut self, call: &Call, size: usize, had: &mut u64) -> u32
         ensures call { (outcome : Result ReplyView RefusalView) × Stays (TellsOutcome size call.now result outcome) self.old.handle self.new.handle
-            × (had.new ≡ value_after had.old outcome) × IfErr outcome (λ refusal. MayRefuse call.now (fault_in refusal)) }
+            × (had.new ≡ value_after had.old outcome) × IfErr (as_tried outcome) (MayRefuse call.now) }
         ensures keeps { self.new.kept.items ≡ self.old.kept.items }
     {
         match self.handle.try_counted(call) {

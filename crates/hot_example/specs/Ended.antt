@@ -4,7 +4,7 @@ use Rattle.finite_map.specs.declared.Call.{Call}
 use Rattle.hot_index.specs.Handles.{HandleView}
 use Rattle.hot_index.specs.Stamps.{HasSeenMore}
 use Rattle.hot_index_calls.specs.Passes.{pass_of}
-use Rattle.index_laws.specs.Joined.{HasDone, HaveEndedInOneRun, of_two}
+use Rattle.index_laws.specs.Joined.{HasGoneThrough, HaveEndedInOneRun, of_two}
 use Rattle.real_time.specs.Moments.{Happening, invokes}
 use Rattle.rowex_table.specs.Seats.{SeatView, TableView}
 
@@ -15,8 +15,8 @@ asked_in (invokes q calls ∷ happenings) = calls ++ asked_in happenings
 asked_in (happening ∷ happenings) = asked_in happenings
 
 -- Since it was new, pass q, which is the handle's, has asked these calls, and each has ended.
-abbrev pub HasAsked : ℕ → List Call → HandleView → Type 0
-HasAsked q asked handle = (done : List Happening) × HasDone handle.index q done handle.pass.seat × (asked_in done ≡ asked)
+abbrev pub HasMadeCalls : ℕ → List Call → HandleView → Type 0
+HasMadeCalls q asked handle = (done : List Happening) × HasGoneThrough handle.index q done handle.pass.seat × (asked_in done ≡ asked)
 
 -- Passes 0 and 1 of the index, which has no other, have asked these calls, and each has ended. Then they have met, and are these. Their calls
 -- have ended in the run of which both know now: so they are an execution, and linearizable (`OneRunIsAnExecution`).

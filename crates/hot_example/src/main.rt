@@ -4,7 +4,7 @@
 ghost use Rattle.std.specs.Prelude.{◌≡◌, ℕ, [], ◌∷◌, IfSome, Some, length, slice_get};
 ghost use Rattle.finite_map.specs.declared.Call.TheVariants.{Insert};
 ghost use Rattle.hot_index_calls.specs.Passes.{IsNewPass, Owns, PassView};
-ghost use Rattle.hot_example.specs.Ended.{HasAsked, HaveEnded};
+ghost use Rattle.hot_example.specs.Ended.{HasMadeCalls, HaveEnded};
 
 use hot_index::{Cursor, Handle, Index, IndexFault, Key, Pairs, Pass, create, total};
 use std::io;
@@ -21,7 +21,7 @@ fn put_both<'a, R: Wait>(
     two: (&Key, u64),
 ) -> Handle<&'a Index>
     ensures index { result.index ≡ handle.entry.index }
-    ensures asked { (q : ℕ) → IsNewPass q handle.entry.pass → HasAsked q (Insert one.entry.0.now one.entry.1 ∷ Insert two.entry.0.now two.entry.1 ∷ []) result }
+    ensures asked { (q : ℕ) → IsNewPass q handle.entry.pass → HasMadeCalls q (Insert one.entry.0.now one.entry.1 ∷ Insert two.entry.0.now two.entry.1 ∷ []) result }
 {
     // The handle is opened: its pass belongs to its index.
     let _pass = &handle.pass;
@@ -51,11 +51,11 @@ fn fill_together<'a, R: Threads + Wait + Sync>(
         rt,
         || -> Handle<&Index>
             ensures index { result.index ≡ first.entry.index }
-            ensures asked { (q : ℕ) → IsNewPass q first.entry.pass → HasAsked q (Insert ash.entry.now 1 ∷ Insert oak.entry.now 2 ∷ []) result }
+            ensures asked { (q : ℕ) → IsNewPass q first.entry.pass → HasMadeCalls q (Insert ash.entry.now 1 ∷ Insert oak.entry.now 2 ∷ []) result }
         { put_both(rt, first, (ash, 1), (oak, 2)) },
         || -> Handle<&Index>
             ensures index { result.index ≡ second.entry.index }
-            ensures asked { (q : ℕ) → IsNewPass q second.entry.pass → HasAsked q (Insert oak.entry.now 3 ∷ Insert yew.entry.now 4 ∷ []) result }
+            ensures asked { (q : ℕ) → IsNewPass q second.entry.pass → HasMadeCalls q (Insert oak.entry.now 3 ∷ Insert yew.entry.now 4 ∷ []) result }
         { put_both(rt, second, (oak, 3), (yew, 4)) },
     );
 

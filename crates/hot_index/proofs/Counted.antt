@@ -79,7 +79,7 @@ module _ (table : TableView) (call : Call) (s t : SeatView) (old new : KeyCount)
 
   counted : (r : Result Reply TryFault) → HasReplied table call r s t → CountsAnswer r old new → IsCountOf s.known.pass s.known.notes old → IsCountOf t.known.pass t.known.notes new
   counted (Ok reply) replied counts is = answered reply replied.noted counts is
-  counted (Err fault) replied counts is = refused replied.refused.unnoted counts is
+  counted (Err fault) replied counts is = refused replied.refused.refused.unnoted counts is
 
   -- with the note of a change, if it was answered
   pub tried_on : (r : Result Reply TryFault) → HasReplied table call r s t → CountsAnswer r old new → IsSettledWith s.known old → IsSettledWith t.known new

@@ -17,7 +17,7 @@ use Rattle.rowex_writing.specs.declared.attempts.TryFault.{TryFault}
 use Rattle.rowex_writing.specs.declared.attempts.TryFault.TheVariants.{Busy, FullLeaves, FullNodes}
 use Rattle.rowex_writing.specs.declared.plan.Full.{Full}
 use Rattle.rowex_writing.specs.declared.plan.Full.TheVariants.{Nodes, Leaves}
-use Rattle.hot_index_calls.specs.Answers.{IsNoted, IsRefused, MayTake, WasFound, fault_of}
+use Rattle.hot_index_calls.specs.Answers.{IsNoted, IsRefused, IsRefusedFor, MayTake, WasFound, fault_of}
 use Rattle.hot_index_calls.specs.Passes.{AreByPasses, PassView}
 use Rattle.hot_index_calls.proofs.Noting.{All-part}
 use Rattle.hot_index.specs.Statements.{AbsentIsNeverFull, GivesValue, HeldIsNeverFull, OnePassRefusesNewAlone}
@@ -58,7 +58,7 @@ absent_is_never_full layout call k j fault refused removes absent =
     busy_unless_full fault (λ full. let (value, was) = takes_held call k j removes (refused.full full) in let none : Some value ≡ None = sym was.found ∙ absent was.place was.begun was.upto in absurd (cc))
 
 -- a refusal of an index of one pass is as full
-full_alone : (layout : Layout) (call : Call) (k j : PassView) (fault : TryFault) → layout.passes ≡ 1 → IsRefused layout call k j fault → IsFullFault fault
+full_alone : (layout : Layout) (call : Call) (k j : PassView) (fault : TryFault) → layout.passes ≡ 1 → IsRefusedFor layout call k j fault → IsFullFault fault
 full_alone layout call k j Busy one refused = absurd (one_pass_is_never_busy layout (key_of call) k j one refused.cause)
 full_alone layout call k j FullNodes one refused = tt
 full_alone layout call k j FullLeaves one refused = tt
@@ -80,15 +80,15 @@ none_seen layout call k j fault one mine legal refused =
 
 pub one_pass_refuses_new_alone : OnePassRefusesNewAlone
 one_pass_refuses_new_alone layout call k j fault one mine legal refused gives =
-    let was = takes_new call k j gives (refused.full (full_alone layout call k j fault one refused)) in
-    let same : j.front ≡ k.front = none_seen layout call k j fault one mine legal refused in
+    let was = takes_new call k j gives (refused.refused.full (full_alone layout call k j fault one refused)) in
+    let same : j.front ≡ k.front = none_seen layout call k j fault one mine legal refused.refused in
     let at : was.place ≡ length k.front = (let begun = was.begun in let upto = was.upto in omega (arith, begun, upto, ap length same)) in
     sym (ap (λ (z : List Change). value_at (map_of z) (key_of call)) (ap (take was.place) same ∙ ap (λ n. take n k.front) at ∙ take-length k.front)) ∙ was.found
 
 -- ---- calls that take no record
 module _ (layout : Layout) (k j : PassView) (call : Call) (never : MayTake call k j → ⊥) where
   -- one that waits is made
-  pub is_made : (r : Result Reply Full) → MatchResult r (IsNoted layout k j call) (λ full. IsRefused layout call k j (fault_of full)) → IsOk r
+  pub is_made : (r : Result Reply Full) → MatchResult (last_try r) (IsNoted layout k j call) (IsRefused layout call k j) → IsOk r
   is_made (Ok reply) made = refl
   is_made (Err Nodes) made = absurd (never (made.full tt))
   is_made (Err Leaves) made = absurd (never (made.full tt))

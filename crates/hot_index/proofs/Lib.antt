@@ -8,6 +8,7 @@ pub mod Making
 pub mod Meets
 pub mod Longs
 pub mod Stamped
+pub mod Staying
 pub mod Alone
 pub mod Held
 pub mod Spared

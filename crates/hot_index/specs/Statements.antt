@@ -24,7 +24,7 @@ use Rattle.rowex_writing.specs.Counts.{most_nodes}
 use Rattle.rowex_writing.specs.Spare.{IsRemoval}
 use Rattle.rowex_writing.specs.declared.attempts.TryFault.{TryFault}
 use Rattle.rowex_writing.specs.declared.attempts.TryFault.TheVariants.{Busy, FullLeaves, FullNodes}
-use Rattle.hot_index_calls.specs.Answers.{IsCause, IsNoted, IsRefused}
+use Rattle.hot_index_calls.specs.Answers.{IsCause, IsNoted, IsRefused, IsRefusedFor}
 use Rattle.hot_index_calls.specs.Census.{HasCounted}
 use Rattle.hot_index_calls.specs.Passes.{AreByPasses, IsNewPass, PassView}
 use Rattle.hot_index_calls.specs.Traces.{HasCollected, HasRead}
@@ -87,7 +87,7 @@ AbsentIsNeverFull =
 abbrev pub OnePassRefusesNewAlone : Type 0
 OnePassRefusesNewAlone =
     (layout : Layout) (call : Call) (k j : PassView) (fault : TryFault) → layout.passes ≡ 1 → j.number < layout.passes → LegalCalls k.front k.number k.notes →
-    IsRefused layout call k j fault → GivesValue call → value_at (map_of k.front) (key_of call) ≡ None
+    IsRefusedFor layout call k j fault → GivesValue call → value_at (map_of k.front) (key_of call) ≡ None
 
 -- A call was answered, and a stamp tells of all that its pass had seen then. Where a pass has seen what the stamp tells of before it
 -- begins a call, that call's place is no earlier than the first one's, and later than the first one's change.

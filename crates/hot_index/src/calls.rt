@@ -1,12 +1,14 @@
 //! A call that is given as a value: tried once or twice, or made in the end.
 
-ghost use Rattle.std.specs.Prelude.{◌≡◌, ◌+◌, ◌≤◌, IfErr, MatchResult};
+ghost use Rattle.std.specs.Prelude.{◌≡◌, ◌+◌, ◌≤◌, IfErr};
 ghost use Rattle.rowex_writing.specs.declared.plan.Full.{Full as FullValue};
-ghost use Rattle.hot_index_calls.specs.Answers.{IsNoted, IsRefused, MayLack, MayRefuse, fault_of};
-ghost use Rattle.hot_index_calls.specs.Calls.{GetsOrTries, IsCallCounted, IsCallTried, MakesStepsWith};
+ghost use Rattle.hot_index_calls.specs.Answers.{MayLack, MayRefuse, fault_of};
+ghost use Rattle.hot_index_calls.specs.Asked.{last_try};
+ghost use Rattle.hot_index_calls.specs.Calls.{GetsOrCounts, GetsOrMakes, GetsOrTries, HasCause, IsOutcome};
 ghost use Rattle.hot_index_calls.specs.Counts.{try_steps};
 ghost use Rattle.hot_index_calls.specs.Passes.{Owns};
-ghost use Rattle.hot_index_calls.specs.Traces.{HasTold};
+ghost use Rattle.hot_index_calls.specs.Refusals.{as_tried};
+ghost use Rattle.hot_index_calls.specs.Traces.{HasTold, untold};
 
 use crate::index::{Index, Pass, reply_to_get};
 use finite_map::{Call, Reply};
@@ -22,7 +24,11 @@ impl Index {
     /// reasons. But a get is never refused, and a removal never returns `FullLeaves`.
     pub fn try_call(&self, pass: &mut Pass, call: &Call) -> Result<Reply, TryFault>
         requires { Owns self.now pass.old }
-        ensures { IsCallTried call.now result self.now pass.old pass.new }
+        ensures own { Owns self.now pass.new }
+        ensures call { IsOutcome call.now result self.now pass.old pass.new }
+        ensures cause { HasCause call.now result self.now pass.old pass.new }
+        ensures may { IfErr result (MayRefuse call.now) }
+        ensures made { GetsOrMakes call.now result self.now untold (pass.old, tt) (pass.new, tt) }
     {
         self.try_call_with(pass, call, &mut NoGate)
     }
@@ -36,10 +42,11 @@ impl Index {
     ) -> Result<Reply, TryFault>
         requires { Owns self.now pass.old }
         ensures own { Owns self.now pass.new }
-        ensures call { MatchResult result (IsNoted self.now.layout pass.old pass.new call.now) (IsRefused self.now.layout call.now pass.old pass.new) }
+        ensures call { IsOutcome call.now result self.now pass.old pass.new }
+        ensures cause { HasCause call.now result self.now pass.old pass.new }
         ensures lacks { IfErr result (λ fault. (full : FullValue) → fault ≡ fault_of full → MayLack call.now full) }
         ensures may { IfErr result (MayRefuse call.now) }
-        ensures made { MakesStepsWith call.now result self.now G.becomes (pass.old, gate.old) (pass.new, gate.new) }
+        ensures made { GetsOrMakes call.now result self.now G.becomes (pass.old, gate.old) (pass.new, gate.new) }
         ensures steps { pass.new.steps ≤ pass.old.steps + try_steps call.now self.now.layout }
         ensures told { HasTold self.now G.becomes (pass.old, gate.old) (pass.new, gate.new) }
     {
@@ -53,7 +60,11 @@ impl Index {
     /// the count says. It makes one step more for each record then.
     pub fn try_counted(&self, pass: &mut Pass, call: &Call) -> Result<Reply, Refusal>
         requires { Owns self.now pass.old }
-        ensures { IsCallCounted call.now result self.now pass.old pass.new }
+        ensures own { Owns self.now pass.new }
+        ensures call { IsOutcome call.now (as_tried result) self.now pass.old pass.new }
+        ensures cause { HasCause call.now (as_tried result) self.now pass.old pass.new }
+        ensures may { IfErr (as_tried result) (MayRefuse call.now) }
+        ensures made { GetsOrCounts call.now result self.now untold (pass.old, tt) (pass.new, tt) }
     {
         match call {
             Call::Get(key) => Ok(reply_to_get(self.get_with(pass, key, &mut NoGate))),
@@ -75,8 +86,8 @@ impl Index {
     ) -> Result<Reply, Full>
         requires { Owns self.now pass.old }
         ensures own { Owns self.now pass.new }
-        ensures call { MatchResult result (IsNoted self.now.layout pass.old pass.new call.now)
-            (λ full. IsRefused self.now.layout call.now pass.old pass.new (fault_of full)) }
+        ensures call { IsOutcome call.now (last_try result) self.now pass.old pass.new }
+        ensures cause { HasCause call.now (last_try result) self.now pass.old pass.new }
         ensures lacks { IfErr result (MayLack call.now) }
         ensures tries { GetsOrTries call.now result self.now G.becomes (pass.old, gate.old) (pass.new, gate.new) }
         ensures told { HasTold self.now G.becomes (pass.old, gate.old) (pass.new, gate.new) }

@@ -7,8 +7,10 @@ ghost use Rattle.finite_map.specs.Reverse.{IsLawfulReverseScan};
 ghost use Rattle.key_counts.specs.Counts.{IsCountOf};
 ghost use Rattle.rowex_table.specs.Seats.{IsShownAll};
 ghost use Rattle.rowex_writing.specs.declared.attempts.TryFault.TheVariants.{Busy};
-ghost use Rattle.hot_index_calls.specs.Answers.{HaveMet, IsNoted, IsUnnoted, got, range_from};
-ghost use Rattle.hot_index_calls.specs.Calls.{IsAwaited, IsCallCounted, IsCallTried, IsCountRead, IsListRead, IsListReadBy, IsRangeRead, IsScanRead, IsScanReadBy, IsTried, IsValuesRead};
+ghost use Rattle.hot_index_calls.specs.Answers.{HaveMet, IsNoted, IsUnnoted, MayRefuse, got, range_from};
+ghost use Rattle.hot_index_calls.specs.Asked.{last_try};
+ghost use Rattle.hot_index_calls.specs.Calls.{GetsOrCounts, GetsOrMakes, HasCause, IsOutcome, MakesTries};
+ghost use Rattle.hot_index_calls.specs.Calls.{IsCountRead, IsListRead, IsListReadBy, IsRangeRead, IsScanRead, IsScanReadBy, IsValuesRead};
 ghost use Rattle.hot_index_calls.specs.Census.{HasCounted};
 ghost use Rattle.hot_index.specs.Handles.{Stays, handle_at};
 ghost use Rattle.hot_index_calls.specs.Many.{AreNoted, HasGotMany, gets};
@@ -16,7 +18,9 @@ ghost use Rattle.hot_index_calls.specs.Passes.{Owns};
 ghost use Rattle.hot_index.specs.Ranges.{IsFirstFound};
 ghost use Rattle.hot_index.specs.Stamps.{HasSeenMore};
 ghost use Rattle.hot_index_calls.specs.Reverse.{IsLastFound};
-ghost use Rattle.hot_index_calls.specs.Traces.{HasCollected, HasGot, untold};
+ghost use Rattle.hot_index_calls.specs.Refusals.{as_tried};
+ghost use Rattle.hot_index_calls.specs.Rooms.{LeavesRoom};
+ghost use Rattle.hot_index_calls.specs.Traces.{HasCollected, HasGot, HasMade, HasTold, untold};
 ghost use Rattle.key_ranges.specs.Ranges.{last_with};
 
 use crate::index::{Index, Pass};
@@ -115,7 +119,8 @@ impl<I: ShowsIndex> Handle<I> {
 
     /// The value of `key`, or `None` if it is absent, as `Index::get` returns.
     pub fn get(&mut self, key: &Key) -> Option<u64>
-        ensures { Stays (λ index k j. IsNoted index.layout k j (Get key.now) (got result) × HasGot index untold (k, tt) (j, tt)) self.old self.new }
+        ensures call { Stays (λ index k j. IsNoted index.layout k j (Get key.now) (got result)) self.old self.new }
+        ensures made { Stays (λ index k j. HasGot index untold (k, tt) (j, tt)) self.old self.new }
     {
         self.index.show().get(&mut self.pass, key)
     }
@@ -123,22 +128,30 @@ impl<I: ShowsIndex> Handle<I> {
     /// Looks up `keys`, and writes to `found`, at each key's place, its value or `None`, as `Index::get_many` does. Both have one length.
     pub fn get_many(&mut self, keys: &[Key], found: &mut [Option<u64>])
         requires { length found.old ≡ length keys.now }
-        ensures { Stays (λ index k j. AreNoted index.layout k j (gets keys.now found.new) × HasGotMany index untold (length keys.now) (k, tt) (j, tt))
-            self.old self.new }
+        ensures call { Stays (λ index k j. AreNoted index.layout k j (gets keys.now found.new)) self.old self.new }
+        ensures made { Stays (λ index k j. HasGotMany index untold (length keys.now) (k, tt) (j, tt)) self.old self.new }
     {
         self.index.show().get_many(&mut self.pass, keys, found)
     }
 
     /// Inserts `key` with `value` if it is absent, and returns what `Index::insert` does.
     pub fn insert<R: Wait>(&mut self, rt: &R, key: &Key, value: u64) -> Result<Reply, Full>
-        ensures { Stays (IsAwaited (Insert key.now value) result) self.old self.new }
+        ensures call { Stays (IsOutcome (Insert key.now value) (last_try result)) self.old self.new }
+        ensures cause { Stays (HasCause (Insert key.now value) (last_try result)) self.old self.new }
+        ensures tries { Stays (λ index k j. MakesTries (Insert key.now value) result index untold (k, tt) (j, tt)) self.old self.new }
+        ensures told { Stays (λ index k j. HasTold index untold (k, tt) (j, tt)) self.old self.new }
+        ensures room { Stays (λ index k j. LeavesRoom index.layout (Insert key.now value) (last_try result) k.seat j.seat) self.old self.new }
     {
         self.index.show().insert(rt, &mut self.pass, key, value)
     }
 
     /// Gives `key` the value `value`, and returns what `Index::upsert` does.
     pub fn upsert<R: Wait>(&mut self, rt: &R, key: &Key, value: u64) -> Result<Reply, Full>
-        ensures { Stays (IsAwaited (Upsert key.now value) result) self.old self.new }
+        ensures call { Stays (IsOutcome (Upsert key.now value) (last_try result)) self.old self.new }
+        ensures cause { Stays (HasCause (Upsert key.now value) (last_try result)) self.old self.new }
+        ensures tries { Stays (λ index k j. MakesTries (Upsert key.now value) result index untold (k, tt) (j, tt)) self.old self.new }
+        ensures told { Stays (λ index k j. HasTold index untold (k, tt) (j, tt)) self.old self.new }
+        ensures room { Stays (λ index k j. LeavesRoom index.layout (Upsert key.now value) (last_try result) k.seat j.seat) self.old self.new }
     {
         self.index.show().upsert(rt, &mut self.pass, key, value)
     }
@@ -151,7 +164,11 @@ impl<I: ShowsIndex> Handle<I> {
         expected: u64,
         value: u64,
     ) -> Result<Reply, Full>
-        ensures call { Stays (IsAwaited (Exchange key.now expected value) result) self.old self.new }
+        ensures call { Stays (IsOutcome (Exchange key.now expected value) (last_try result)) self.old self.new }
+        ensures cause { Stays (HasCause (Exchange key.now expected value) (last_try result)) self.old self.new }
+        ensures tries { Stays (λ index k j. MakesTries (Exchange key.now expected value) result index untold (k, tt) (j, tt)) self.old self.new }
+        ensures told { Stays (λ index k j. HasTold index untold (k, tt) (j, tt)) self.old self.new }
+        ensures room { Stays (λ index k j. LeavesRoom index.layout (Exchange key.now expected value) (last_try result) k.seat j.seat) self.old self.new }
         ensures made { IsOk result }
     {
         self.index
@@ -161,7 +178,11 @@ impl<I: ShowsIndex> Handle<I> {
 
     /// Adds `delta` to the value of `key`, if it has one, and returns what `Index::add` does.
     pub fn add<R: Wait>(&mut self, rt: &R, key: &Key, delta: u64) -> Result<Reply, Full>
-        ensures call { Stays (IsAwaited (Add key.now delta) result) self.old self.new }
+        ensures call { Stays (IsOutcome (Add key.now delta) (last_try result)) self.old self.new }
+        ensures cause { Stays (HasCause (Add key.now delta) (last_try result)) self.old self.new }
+        ensures tries { Stays (λ index k j. MakesTries (Add key.now delta) result index untold (k, tt) (j, tt)) self.old self.new }
+        ensures told { Stays (λ index k j. HasTold index untold (k, tt) (j, tt)) self.old self.new }
+        ensures room { Stays (λ index k j. LeavesRoom index.layout (Add key.now delta) (last_try result) k.seat j.seat) self.old self.new }
         ensures made { IsOk result }
     {
         self.index.show().add(rt, &mut self.pass, key, delta)
@@ -169,7 +190,11 @@ impl<I: ShowsIndex> Handle<I> {
 
     /// Removes `key`, and returns what `Index::remove` does.
     pub fn remove<R: Wait>(&mut self, rt: &R, key: &Key) -> Result<Reply, Full>
-        ensures call { Stays (IsAwaited (Remove key.now) result) self.old self.new }
+        ensures call { Stays (IsOutcome (Remove key.now) (last_try result)) self.old self.new }
+        ensures cause { Stays (HasCause (Remove key.now) (last_try result)) self.old self.new }
+        ensures tries { Stays (λ index k j. MakesTries (Remove key.now) result index untold (k, tt) (j, tt)) self.old self.new }
+        ensures told { Stays (λ index k j. HasTold index untold (k, tt) (j, tt)) self.old self.new }
+        ensures room { Stays (λ index k j. LeavesRoom index.layout (Remove key.now) (last_try result) k.seat j.seat) self.old self.new }
         ensures leafless { result ≢ Err Full.Leaves }
     {
         self.index.show().remove(rt, &mut self.pass, key)
@@ -177,7 +202,11 @@ impl<I: ShowsIndex> Handle<I> {
 
     /// Removes `key` if it has the value `expected`, and returns what `Index::remove_if` does.
     pub fn remove_if<R: Wait>(&mut self, rt: &R, key: &Key, expected: u64) -> Result<Reply, Full>
-        ensures call { Stays (IsAwaited (RemoveIf key.now expected) result) self.old self.new }
+        ensures call { Stays (IsOutcome (RemoveIf key.now expected) (last_try result)) self.old self.new }
+        ensures cause { Stays (HasCause (RemoveIf key.now expected) (last_try result)) self.old self.new }
+        ensures tries { Stays (λ index k j. MakesTries (RemoveIf key.now expected) result index untold (k, tt) (j, tt)) self.old self.new }
+        ensures told { Stays (λ index k j. HasTold index untold (k, tt) (j, tt)) self.old self.new }
+        ensures room { Stays (λ index k j. LeavesRoom index.layout (RemoveIf key.now expected) (last_try result) k.seat j.seat) self.old self.new }
         ensures leafless { result ≢ Err Full.Leaves }
     {
         self.index
@@ -187,21 +216,30 @@ impl<I: ShowsIndex> Handle<I> {
 
     /// Tries to insert `key` with `value` if it is absent, and returns what `Index::try_insert` does.
     pub fn try_insert(&mut self, key: &Key, value: u64) -> Result<Reply, TryFault>
-        ensures { Stays (IsTried (Insert key.now value) result) self.old self.new }
+        ensures call { Stays (IsOutcome (Insert key.now value) result) self.old self.new }
+        ensures cause { Stays (HasCause (Insert key.now value) result) self.old self.new }
+        ensures made { Stays (λ index k j. HasMade index untold (Insert key.now value) result (k, tt) (j, tt)) self.old self.new }
+        ensures room { Stays (λ index k j. LeavesRoom index.layout (Insert key.now value) result k.seat j.seat) self.old self.new }
     {
         self.index.show().try_insert(&mut self.pass, key, value)
     }
 
     /// Tries to give `key` the value `value`, and returns what `Index::try_upsert` does.
     pub fn try_upsert(&mut self, key: &Key, value: u64) -> Result<Reply, TryFault>
-        ensures { Stays (IsTried (Upsert key.now value) result) self.old self.new }
+        ensures call { Stays (IsOutcome (Upsert key.now value) result) self.old self.new }
+        ensures cause { Stays (HasCause (Upsert key.now value) result) self.old self.new }
+        ensures made { Stays (λ index k j. HasMade index untold (Upsert key.now value) result (k, tt) (j, tt)) self.old self.new }
+        ensures room { Stays (λ index k j. LeavesRoom index.layout (Upsert key.now value) result k.seat j.seat) self.old self.new }
     {
         self.index.show().try_upsert(&mut self.pass, key, value)
     }
 
     /// Tries to give `key` the value `value` if it has the value `expected`, and returns what `Index::try_exchange` does.
     pub fn try_exchange(&mut self, key: &Key, expected: u64, value: u64) -> Result<Reply, TryFault>
-        ensures call { Stays (IsTried (Exchange key.now expected value) result) self.old self.new }
+        ensures call { Stays (IsOutcome (Exchange key.now expected value) result) self.old self.new }
+        ensures cause { Stays (HasCause (Exchange key.now expected value) result) self.old self.new }
+        ensures made { Stays (λ index k j. HasMade index untold (Exchange key.now expected value) result (k, tt) (j, tt)) self.old self.new }
+        ensures room { Stays (λ index k j. LeavesRoom index.layout (Exchange key.now expected value) result k.seat j.seat) self.old self.new }
         ensures busy { IfErr result (λ fault. fault ≡ Busy) }
     {
         self.index
@@ -211,7 +249,10 @@ impl<I: ShowsIndex> Handle<I> {
 
     /// Tries to add `delta` to the value of `key`, if it has one, and returns what `Index::try_add` does.
     pub fn try_add(&mut self, key: &Key, delta: u64) -> Result<Reply, TryFault>
-        ensures call { Stays (IsTried (Add key.now delta) result) self.old self.new }
+        ensures call { Stays (IsOutcome (Add key.now delta) result) self.old self.new }
+        ensures cause { Stays (HasCause (Add key.now delta) result) self.old self.new }
+        ensures made { Stays (λ index k j. HasMade index untold (Add key.now delta) result (k, tt) (j, tt)) self.old self.new }
+        ensures room { Stays (λ index k j. LeavesRoom index.layout (Add key.now delta) result k.seat j.seat) self.old self.new }
         ensures busy { IfErr result (λ fault. fault ≡ Busy) }
     {
         self.index.show().try_add(&mut self.pass, key, delta)
@@ -219,7 +260,10 @@ impl<I: ShowsIndex> Handle<I> {
 
     /// Tries to remove `key`, and returns what `Index::try_remove` does.
     pub fn try_remove(&mut self, key: &Key) -> Result<Reply, TryFault>
-        ensures call { Stays (IsTried (Remove key.now) result) self.old self.new }
+        ensures call { Stays (IsOutcome (Remove key.now) result) self.old self.new }
+        ensures cause { Stays (HasCause (Remove key.now) result) self.old self.new }
+        ensures made { Stays (λ index k j. HasMade index untold (Remove key.now) result (k, tt) (j, tt)) self.old self.new }
+        ensures room { Stays (λ index k j. LeavesRoom index.layout (Remove key.now) result k.seat j.seat) self.old self.new }
         ensures leafless { result ≢ Err TryFault.FullLeaves }
     {
         self.index.show().try_remove(&mut self.pass, key)
@@ -227,7 +271,10 @@ impl<I: ShowsIndex> Handle<I> {
 
     /// Tries to remove `key` if it has the value `expected`, and returns what `Index::try_remove_if` does.
     pub fn try_remove_if(&mut self, key: &Key, expected: u64) -> Result<Reply, TryFault>
-        ensures call { Stays (IsTried (RemoveIf key.now expected) result) self.old self.new }
+        ensures call { Stays (IsOutcome (RemoveIf key.now expected) result) self.old self.new }
+        ensures cause { Stays (HasCause (RemoveIf key.now expected) result) self.old self.new }
+        ensures made { Stays (λ index k j. HasMade index untold (RemoveIf key.now expected) result (k, tt) (j, tt)) self.old self.new }
+        ensures room { Stays (λ index k j. LeavesRoom index.layout (RemoveIf key.now expected) result k.seat j.seat) self.old self.new }
         ensures leafless { result ≢ Err TryFault.FullLeaves }
     {
         self.index
@@ -237,14 +284,20 @@ impl<I: ShowsIndex> Handle<I> {
 
     /// Tries to make `call`, and returns the reply, or why the call was refused, as `Index::try_call` does. A get is never refused.
     pub fn try_call(&mut self, call: &Call) -> Result<Reply, TryFault>
-        ensures { Stays (IsCallTried call.now result) self.old self.new }
+        ensures call { Stays (IsOutcome call.now result) self.old self.new }
+        ensures cause { Stays (HasCause call.now result) self.old self.new }
+        ensures may { IfErr result (MayRefuse call.now) }
+        ensures made { Stays (λ index k j. GetsOrMakes call.now result index untold (k, tt) (j, tt)) self.old self.new }
     {
         self.index.show().try_call(&mut self.pass, call)
     }
 
     /// Tries to make `call`, and counts all records if it found none free, as `Index::try_counted` does. A get is never refused.
     pub fn try_counted(&mut self, call: &Call) -> Result<Reply, Refusal>
-        ensures { Stays (IsCallCounted call.now result) self.old self.new }
+        ensures call { Stays (IsOutcome call.now (as_tried result)) self.old self.new }
+        ensures cause { Stays (HasCause call.now (as_tried result)) self.old self.new }
+        ensures may { IfErr (as_tried result) (MayRefuse call.now) }
+        ensures made { Stays (λ index k j. GetsOrCounts call.now result index untold (k, tt) (j, tt)) self.old self.new }
     {
         self.index.show().try_counted(&mut self.pass, call)
     }
@@ -367,15 +420,16 @@ impl<I: ShowsIndex> Handle<I> {
 
     /// Makes one round of collection, and returns how many records it gave back, as `Index::collect` does.
     pub fn collect(&mut self) -> Given
-        ensures { Stays (λ index k j. IsUnnoted index.layout k j × HasCollected index untold (k, tt) (j, tt) result.nodes result.leaves)
-            self.old self.new }
+        ensures call { Stays (λ index k j. IsUnnoted index.layout k j) self.old self.new }
+        ensures made { Stays (λ index k j. HasCollected index untold (k, tt) (j, tt) result.nodes result.leaves) self.old self.new }
     {
         self.index.show().collect(&mut self.pass)
     }
 
     /// How many records of each kind and class are in each state, and the bytes of the table, as `Index::census` returns.
     pub fn census(&mut self) -> RecordCounts
-        ensures { Stays (λ index k j. IsUnnoted index.layout k j × HasCounted index untold (k, tt) (j, tt) result) self.old self.new }
+        ensures call { Stays (λ index k j. IsUnnoted index.layout k j) self.old self.new }
+        ensures made { Stays (λ index k j. HasCounted index untold (k, tt) (j, tt) result) self.old self.new }
     {
         self.index.show().census(&mut self.pass)
     }

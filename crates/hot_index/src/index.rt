@@ -1,16 +1,22 @@
 //! The index and the passes by which threads use it, and the calls on it.
 
-ghost use Rattle.std.specs.Prelude.{◌≡◌, length};
+ghost use Rattle.std.specs.Prelude.{◌≡◌, ◌≢◌, Err, length};
 ghost use Rattle.finite_map.specs.declared.Call.TheVariants.{Get, Insert, Remove, Upsert};
 ghost use Rattle.finite_map.specs.Calls.{LegalCalls};
 ghost use Rattle.key_counts.specs.Counts.{IsCountOf};
 ghost use Rattle.rowex_table.specs.Seats.{IsShownAll};
+ghost use Rattle.rowex_writing.specs.Attempts.{IsLeafless};
+ghost use Rattle.rowex_writing.specs.declared.attempts.TryFault.TheVariants.{FullLeaves};
+ghost use Rattle.rowex_writing.specs.declared.plan.Full.TheVariants.{Leaves};
 ghost use Rattle.hot_index_calls.specs.Passes.{Owns};
 ghost use Rattle.hot_index_calls.specs.Answers.{IsNoted, IsUnnoted, HaveMet, got};
-ghost use Rattle.hot_index_calls.specs.Calls.{IsAwaited, IsAwaitedWith, IsCountedWith, IsTried, IsTriedWith};
+ghost use Rattle.hot_index_calls.specs.Asked.{last_try};
+ghost use Rattle.hot_index_calls.specs.Calls.{HasCause, IsOutcome, IsTriedAndCounted, MakesTries};
 ghost use Rattle.hot_index_calls.specs.Census.{HasCounted};
 ghost use Rattle.hot_index_calls.specs.Many.{AreNoted, HasGotMany, gets};
-ghost use Rattle.hot_index_calls.specs.Traces.{HasCollected, HasGot, untold};
+ghost use Rattle.hot_index_calls.specs.Refusals.{as_tried};
+ghost use Rattle.hot_index_calls.specs.Rooms.{LeavesRoom};
+ghost use Rattle.hot_index_calls.specs.Traces.{HasCollected, HasGot, HasMade, HasTold, untold};
 ghost use Rattle.hot_index.specs.Stamps.{HasSeenMore};
 
 use epochs::{Given, collect_round, pin, unpin};
@@ -132,7 +138,11 @@ impl Index {
     /// A refused call has changed nothing, and holds no lock and no record.
     pub fn try_insert(&self, pass: &mut Pass, key: &Key, value: u64) -> Result<Reply, TryFault>
         requires { Owns self.now pass.old }
-        ensures { IsTried (Insert key.now value) result self.now pass.old pass.new }
+        ensures own { Owns self.now pass.new }
+        ensures call { IsOutcome (Insert key.now value) result self.now pass.old pass.new }
+        ensures cause { HasCause (Insert key.now value) result self.now pass.old pass.new }
+        ensures made { HasMade self.now untold (Insert key.now value) result (pass.old, tt) (pass.new, tt) }
+        ensures room { LeavesRoom self.now.layout (Insert key.now value) result pass.old.seat pass.new.seat }
     {
         self.try_insert_with(pass, key, value, &mut NoGate)
     }
@@ -143,7 +153,11 @@ impl Index {
     /// `FullLeaves` only if its search found the key absent: the new value of a held key takes no record (`laws::held_is_never_full`).
     pub fn try_upsert(&self, pass: &mut Pass, key: &Key, value: u64) -> Result<Reply, TryFault>
         requires { Owns self.now pass.old }
-        ensures { IsTried (Upsert key.now value) result self.now pass.old pass.new }
+        ensures own { Owns self.now pass.new }
+        ensures call { IsOutcome (Upsert key.now value) result self.now pass.old pass.new }
+        ensures cause { HasCause (Upsert key.now value) result self.now pass.old pass.new }
+        ensures made { HasMade self.now untold (Upsert key.now value) result (pass.old, tt) (pass.new, tt) }
+        ensures room { LeavesRoom self.now.layout (Upsert key.now value) result pass.old.seat pass.new.seat }
     {
         self.try_upsert_with(pass, key, value, &mut NoGate)
     }
@@ -154,7 +168,12 @@ impl Index {
     /// never returns `FullLeaves`. It returns `FullNodes` only if its search found the key (`laws::absent_is_never_full`).
     pub fn try_remove(&self, pass: &mut Pass, key: &Key) -> Result<Reply, TryFault>
         requires { Owns self.now pass.old }
-        ensures { IsTried (Remove key.now) result self.now pass.old pass.new }
+        ensures own { Owns self.now pass.new }
+        ensures call { IsOutcome (Remove key.now) result self.now pass.old pass.new }
+        ensures cause { HasCause (Remove key.now) result self.now pass.old pass.new }
+        ensures leafless { result ≢ Err FullLeaves }
+        ensures made { HasMade self.now untold (Remove key.now) result (pass.old, tt) (pass.new, tt) }
+        ensures room { LeavesRoom self.now.layout (Remove key.now) result pass.old.seat pass.new.seat }
     {
         self.try_remove_with(pass, key, &mut NoGate)
     }
@@ -175,7 +194,12 @@ impl Index {
         value: u64,
     ) -> Result<Reply, Full>
         requires { Owns self.now pass.old }
-        ensures { IsAwaited (Insert key.now value) result self.now pass.old pass.new }
+        ensures own { Owns self.now pass.new }
+        ensures call { IsOutcome (Insert key.now value) (last_try result) self.now pass.old pass.new }
+        ensures cause { HasCause (Insert key.now value) (last_try result) self.now pass.old pass.new }
+        ensures tries { MakesTries (Insert key.now value) result self.now untold (pass.old, tt) (pass.new, tt) }
+        ensures told { HasTold self.now untold (pass.old, tt) (pass.new, tt) }
+        ensures room { LeavesRoom self.now.layout (Insert key.now value) (last_try result) pass.old.seat pass.new.seat }
     {
         self.retry_change_with(rt, pass, &mut NoGate, &Call::Insert(key.copy(), value))
     }
@@ -192,7 +216,12 @@ impl Index {
         value: u64,
     ) -> Result<Reply, Full>
         requires { Owns self.now pass.old }
-        ensures { IsAwaited (Upsert key.now value) result self.now pass.old pass.new }
+        ensures own { Owns self.now pass.new }
+        ensures call { IsOutcome (Upsert key.now value) (last_try result) self.now pass.old pass.new }
+        ensures cause { HasCause (Upsert key.now value) (last_try result) self.now pass.old pass.new }
+        ensures tries { MakesTries (Upsert key.now value) result self.now untold (pass.old, tt) (pass.new, tt) }
+        ensures told { HasTold self.now untold (pass.old, tt) (pass.new, tt) }
+        ensures room { LeavesRoom self.now.layout (Upsert key.now value) (last_try result) pass.old.seat pass.new.seat }
     {
         self.retry_change_with(rt, pass, &mut NoGate, &Call::Upsert(key.copy(), value))
     }
@@ -206,7 +235,13 @@ impl Index {
     /// `laws::one_pass_keeps_spare`).
     pub fn remove<R: Wait>(&self, rt: &R, pass: &mut Pass, key: &Key) -> Result<Reply, Full>
         requires { Owns self.now pass.old }
-        ensures { IsAwaited (Remove key.now) result self.now pass.old pass.new }
+        ensures own { Owns self.now pass.new }
+        ensures call { IsOutcome (Remove key.now) (last_try result) self.now pass.old pass.new }
+        ensures cause { HasCause (Remove key.now) (last_try result) self.now pass.old pass.new }
+        ensures leafless { result ≢ Err Leaves }
+        ensures tries { MakesTries (Remove key.now) result self.now untold (pass.old, tt) (pass.new, tt) }
+        ensures told { HasTold self.now untold (pass.old, tt) (pass.new, tt) }
+        ensures room { LeavesRoom self.now.layout (Remove key.now) (last_try result) pass.old.seat pass.new.seat }
     {
         self.retry_change_with(rt, pass, &mut NoGate, &Call::Remove(key.copy()))
     }
@@ -312,7 +347,11 @@ impl Index {
         gate: &mut G,
     ) -> Result<Reply, TryFault>
         requires { Owns self.now pass.old }
-        ensures { IsTriedWith (Insert key.now value) result self.now G.becomes (pass.old, gate.old) (pass.new, gate.new) }
+        ensures own { Owns self.now pass.new }
+        ensures call { IsOutcome (Insert key.now value) result self.now pass.old pass.new }
+        ensures cause { HasCause (Insert key.now value) result self.now pass.old pass.new }
+        ensures made { HasMade self.now G.becomes (Insert key.now value) result (pass.old, gate.old) (pass.new, gate.new) }
+        ensures room { LeavesRoom self.now.layout (Insert key.now value) result pass.old.seat pass.new.seat }
     {
         self.try_change_with(pass, gate, &Call::Insert(key.copy(), value))
     }
@@ -326,7 +365,11 @@ impl Index {
         gate: &mut G,
     ) -> Result<Reply, TryFault>
         requires { Owns self.now pass.old }
-        ensures { IsTriedWith (Upsert key.now value) result self.now G.becomes (pass.old, gate.old) (pass.new, gate.new) }
+        ensures own { Owns self.now pass.new }
+        ensures call { IsOutcome (Upsert key.now value) result self.now pass.old pass.new }
+        ensures cause { HasCause (Upsert key.now value) result self.now pass.old pass.new }
+        ensures made { HasMade self.now G.becomes (Upsert key.now value) result (pass.old, gate.old) (pass.new, gate.new) }
+        ensures room { LeavesRoom self.now.layout (Upsert key.now value) result pass.old.seat pass.new.seat }
     {
         self.try_change_with(pass, gate, &Call::Upsert(key.copy(), value))
     }
@@ -339,7 +382,12 @@ impl Index {
         gate: &mut G,
     ) -> Result<Reply, TryFault>
         requires { Owns self.now pass.old }
-        ensures { IsTriedWith (Remove key.now) result self.now G.becomes (pass.old, gate.old) (pass.new, gate.new) }
+        ensures own { Owns self.now pass.new }
+        ensures call { IsOutcome (Remove key.now) result self.now pass.old pass.new }
+        ensures cause { HasCause (Remove key.now) result self.now pass.old pass.new }
+        ensures leafless { result ≢ Err FullLeaves }
+        ensures made { HasMade self.now G.becomes (Remove key.now) result (pass.old, gate.old) (pass.new, gate.new) }
+        ensures room { LeavesRoom self.now.layout (Remove key.now) result pass.old.seat pass.new.seat }
     {
         self.try_change_with(pass, gate, &Call::Remove(key.copy()))
     }
@@ -374,7 +422,12 @@ impl Index {
         call: &Call,
     ) -> Result<Reply, TryFault>
         requires { Owns self.now pass.old }
-        ensures { IsTriedWith call.now result self.now G.becomes (pass.old, gate.old) (pass.new, gate.new) }
+        ensures own { Owns self.now pass.new }
+        ensures call { IsOutcome call.now result self.now pass.old pass.new }
+        ensures cause { HasCause call.now result self.now pass.old pass.new }
+        ensures leafless { IsLeafless FullLeaves call.now result }
+        ensures made { HasMade self.now G.becomes call.now result (pass.old, gate.old) (pass.new, gate.new) }
+        ensures room { LeavesRoom self.now.layout call.now result pass.old.seat pass.new.seat }
     {
         let answer = try_change(&self.table, &mut pass.seat, gate, &mut pass.scratch, call);
         pass.count.note_answer(&answer);
@@ -390,7 +443,11 @@ impl Index {
         call: &Call,
     ) -> Result<Reply, Refusal>
         requires { Owns self.now pass.old }
-        ensures { IsCountedWith call.now result self.now G.becomes (pass.old, gate.old) (pass.new, gate.new) }
+        ensures own { Owns self.now pass.new }
+        ensures call { IsOutcome call.now (as_tried result) self.now pass.old pass.new }
+        ensures cause { HasCause call.now (as_tried result) self.now pass.old pass.new }
+        ensures leafless { IsLeafless FullLeaves call.now (as_tried result) }
+        ensures made { IsTriedAndCounted call.now result self.now G.becomes (pass.old, gate.old) (pass.new, gate.new) }
     {
         let answer = try_and_count(&self.table, &mut pass.seat, gate, &mut pass.scratch, call);
         pass.count.note_answer(&answer);
@@ -407,7 +464,13 @@ impl Index {
         call: &Call,
     ) -> Result<Reply, Full>
         requires { Owns self.now pass.old }
-        ensures { IsAwaitedWith call.now result self.now G.becomes (pass.old, gate.old) (pass.new, gate.new) }
+        ensures own { Owns self.now pass.new }
+        ensures call { IsOutcome call.now (last_try result) self.now pass.old pass.new }
+        ensures cause { HasCause call.now (last_try result) self.now pass.old pass.new }
+        ensures leafless { IsLeafless Leaves call.now result }
+        ensures tries { MakesTries call.now result self.now G.becomes (pass.old, gate.old) (pass.new, gate.new) }
+        ensures told { HasTold self.now G.becomes (pass.old, gate.old) (pass.new, gate.new) }
+        ensures room { LeavesRoom self.now.layout call.now (last_try result) pass.old.seat pass.new.seat }
     {
         let answer = retry_change(
             rt,

@@ -84,10 +84,12 @@ module _ {G : Type 0} {table : TableView} {becomes : G → Event → G → Type 
     idle = (all.3.seat.0 ∙ replied.idle.0, counts_settled all some (pin ∙ replied.idle.1.pin) replied.idle.1);
     noted = tt;
     refused = record {
-      unnoted = unnoted_then table.layout (pass_of s) (pass_of m.0) (pass_of b.0) replied.refused.unnoted early (counts_unnoted all some replied.idle.1);
+      refused = record {
+        unnoted = unnoted_then table.layout (pass_of s) (pass_of m.0) (pass_of b.0) replied.refused.refused.unnoted early (counts_unnoted all some replied.idle.1);
+        full = λ full. may_take_from_before call (pass_of s) (pass_of s) (pass_of m.0) (pass_of b.0) (no_further refl)
+            (no_further (ap (λ (z : Known). z.front) all.3.rest)) (ap (λ (z : Known). z.fresh) all.3.rest) (replied.refused.refused.full full);
+      };
       cause = cause_counted (key_of call) (pass_of s) m b all.3 lacks replied.refused.cause;
-      full = λ full. may_take_from_before call (pass_of s) (pass_of s) (pass_of m.0) (pass_of b.0) (no_further refl)
-          (no_further (ap (λ (z : Known). z.front) all.3.rest)) (ap (λ (z : Known). z.fresh) all.3.rest) (replied.refused.full full);
     };
     leafless = replied.leafless;
     loaded = subst (λ (z : Fresh). s.known.steps ≤ z.step) (sym (ap (λ (z : Known). z.fresh) all.3.rest)) replied.loaded;
@@ -137,7 +139,7 @@ never_busy layout k j one conflict =
 -- each refusal is final
 pub passes_never : {G : Type 0} (call : Call) (refusal : Refusal) (table : TableView) (becomes : G → Event → G → Type 0) (a b : PassView × G) → table.layout.passes ≡ 1 →
     IsTriedAndCounted call (Err refusal) table becomes a b → IsPassing refusal → ⊥
-passes_never call IsBusy table becomes a b one it passing = never_busy table.layout a.0 it.mid.0 one it.tried.call.cause
+passes_never call IsBusy table becomes a b one it passing = never_busy table.layout a.0 it.mid.0 one it.tried.cause
 passes_never call (HeldBack lacks) table becomes a b one it passing = it.told.judged.1 (inl one)
 passes_never call (IsFull lacks counts) table becomes a b one it passing = passing
 

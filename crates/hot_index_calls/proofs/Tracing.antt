@@ -24,7 +24,7 @@ use Rattle.rowex_writing.specs.Changes.{HasTried}
 use Rattle.rowex_writing.specs.Locks.{targets_of}
 use Rattle.rowex_writing.specs.declared.attempts.TryFault.{TryFault}
 use Rattle.rowex_writing.specs.declared.plan.Full.{Full}
-use Rattle.hot_index_calls.specs.Answers.{IsRefused, fault_of}
+use Rattle.hot_index_calls.specs.Answers.{IsRefusedFor, fault_of}
 use Rattle.hot_index_calls.specs.Counts.{try_steps}
 use Rattle.hot_index_calls.specs.Many.{HasGotMany}
 use Rattle.hot_index_calls.specs.Noting.{change_notes}
@@ -213,7 +213,7 @@ module _ {G : Type 0} (table : TableView) (becomes : G → Event → G → Type 
 
   -- or it was refused as full; and there follow a round of collection and an attempt more
   pub ended_again : (call : Call) (r : Result Reply TryFault) (full : Full) (a b c d : SeatView × G) → HasEnded table becomes (IsAttempt table.layout) silent a b →
-      IsRefused table.layout call (pass_of a.0) (pass_of b.0) (fault_of full) → AreBetween table becomes b c → HasEnded table becomes (IsAttempt table.layout) (change_notes call r) c d →
+      IsRefusedFor table.layout call (pass_of a.0) (pass_of b.0) (fault_of full) → AreBetween table becomes b c → HasEnded table becomes (IsAttempt table.layout) (change_notes call r) c d →
       HasEnded table becomes (AreTries table becomes call r a d) (change_notes call r) a d
   ended_again call r full a b c d (acts, tries, (m, steps, last)) lacked round (more, tries_again, (n, rest, end)) =
       let between = round.first ∷ round.rest in

@@ -49,11 +49,11 @@ use Rattle.rowex_writing.specs.declared.plan.Full.TheVariants.{Nodes as OfNodes,
 use Rattle.rowex_writing.specs.declared.attempts.TryFault.{TryFault}
 use Rattle.rowex_writing.specs.declared.attempts.TryFault.TheVariants.{Busy, FullNodes, FullLeaves}
 use Rattle.rowex_writing.proofs.Keeping.{lacks_so}
-use Rattle.hot_index_calls.specs.Answers.{IsCause, IsNoted, IsRefused, IsUnnoted, MayLack, MayRefuse, MayTake, WasFound, fault_of}
+use Rattle.hot_index_calls.specs.Answers.{IsCause, IsNoted, IsRefused, IsRefusedFor, IsUnnoted, MayLack, MayRefuse, MayTake, WasFound, fault_of}
 use Rattle.hot_index_calls.specs.Asked.{HasAsked, HasLacked, HasReplied, last_try}
-use Rattle.hot_index_calls.specs.Calls.{AreTriesRefused, GetsOr, IsAwaitedWith, IsCountedWith, IsTriedAndCounted, IsTriedWith, MakesTries}
+use Rattle.hot_index_calls.specs.Calls.{AreTriesRefused, GetsOr, HasCause, IsOutcome, IsTried, IsTriedAndCounted, MakesTries}
 use Rattle.hot_index_calls.specs.declared.refusals.Refusal.{Refusal}
-use Rattle.hot_index_calls.specs.Refusals.{IsPassing, as_tried, fault_in}
+use Rattle.hot_index_calls.specs.Refusals.{IsPassing}
 use Rattle.hot_index_calls.specs.Counts.{once_steps, round_steps, try_steps, twice_steps}
 use Rattle.hot_index_calls.specs.Noting.{change_notes, place_by}
 use Rattle.hot_index_calls.specs.Passes.{IsSettled, Owns, PassView, pass_of}
@@ -205,11 +205,13 @@ module _ (layout : Layout) (k j i : PassView) (first : IsUnnoted layout k j) (st
     makers = n.makers;
   }
 
-  refused_then : (call : Call) (fault : TryFault) → IsRefused layout call j i fault → IsRefused layout call k i fault
+  refused_then : (call : Call) (fault : TryFault) → IsRefusedFor layout call j i fault → IsRefusedFor layout call k i fault
   refused_then call fault r = record {
-    unnoted = unnoted_then r.unnoted;
+    refused = record {
+      unnoted = unnoted_then r.refused.unnoted;
+      full = λ full. may_take_from_before call k j i i first.front (no_further refl) refl (r.refused.full full);
+    };
     cause = cause_from_before layout (key_of call) k j i i fault steps refl refl refl refl r.cause;
-    full = λ full. may_take_from_before call k j i i first.front (no_further refl) refl (r.full full);
   }
 
   noted_then : (call : Call) (reply : Reply) → IsNoted layout j i call reply → IsNoted layout k i call reply
@@ -229,7 +231,7 @@ module _ (layout : Layout) (k j i : PassView) (first : IsUnnoted layout k j) (st
     legal = n.legal;
   }
 
-  pub outcome_then : (call : Call) (r : Result Reply TryFault) → IfOk r (IsNoted layout j i call) → IfErr r (IsRefused layout call j i) → IfOk r (IsNoted layout k i call) × IfErr r (IsRefused layout call k i)
+  pub outcome_then : (call : Call) (r : Result Reply TryFault) → IfOk r (IsNoted layout j i call) → IfErr r (IsRefusedFor layout call j i) → IfOk r (IsNoted layout k i call) × IfErr r (IsRefusedFor layout call k i)
   outcome_then call (Ok reply) told refused = (noted_then call reply told, tt)
   outcome_then call (Err fault) told refused = (tt, refused_then call fault refused)
 
@@ -327,7 +329,7 @@ pub waited_out : (table : TableView) (s m t : SeatView) (call : Call) (r : Resul
 waited_out table s m t call r (inl none) last = record {
   idle = last.idle;
   noted = subst (λ (z : PassView). IfOk r (IsNoted table.layout z (pass_of t) call)) none last.noted;
-  refused = subst (λ (z : PassView). IfErr r (IsRefused table.layout call z (pass_of t))) none last.refused;
+  refused = subst (λ (z : PassView). IfErr r (IsRefusedFor table.layout call z (pass_of t))) none last.refused;
   leafless = last.leafless;
   loaded = subst (λ (z : PassView). z.steps ≤ t.known.fresh.step) none last.loaded;
 }
@@ -385,7 +387,7 @@ module _ {G : Type 0} {table : TableView} {becomes : G → Event → G → Type 
 
   -- what the call leaves that had this outcome
   abbrev Leaves : Call → Result Reply TryFault → Type 0
-  Leaves call r = (IfOk r (IsNoted table.layout (pass_of a.0) (pass_of d.0) call) × IfErr r (IsRefused table.layout call (pass_of a.0) (pass_of d.0))) × IsSettled d.0.known
+  Leaves call r = (IfOk r (IsNoted table.layout (pass_of a.0) (pass_of d.0) call) × IfErr r (IsRefusedFor table.layout call (pass_of a.0) (pass_of d.0))) × IsSettled d.0.known
 
   -- it found that nothing was to change
   when_looked : (call : Call) (reply : Reply) → tries.HasLooked c.0.known call reply → OthersGoOn b.0.known.pass b.0.known.front c.0.known.front →
@@ -469,7 +471,7 @@ module _ {G : Type 0} {table : TableView} {becomes : G → Event → G → Type 
   when_refused : (call : Call) (made : List Rec) (fault : TryFault) → HasRefused table.layout (key_of call) b.0.known c.0.known made fault → tries.IsFullOfNew c.0.known call fault →
       IsEvent table.layout ClearPin (change_notes call (Err fault)) c.0.known d.0.known → Leaves call (Err fault)
   when_refused call made fault h new event = (
-    (tt, record { unnoted = scan_refused a.0 d.0 settled (quiet h.others) event; cause = cause; full = λ full. may_take_seen call event (new full) }),
+    (tt, record { refused = record { unnoted = scan_refused a.0 d.0 settled (quiet h.others) event; full = λ full. may_take_seen call event (new full) }; cause = cause }),
     scan_settled a.0 d.0 settled (quiet h.others) event,
   )
     where
@@ -504,7 +506,7 @@ module _ {G : Type 0} {table : TableView} {becomes : G → Event → G → Type 
       let cleared : d.0.known.steps ≡ c.0.known.steps + 1 = ap (λ (z : Known). z.steps) step.event.learned_is in
       omega (arith, counted, loaded.from, loaded.upto, cleared)
 
-waited_leafless : (call : Call) (r : Result Reply Full) → IsLeafless FullLeaves call (last_try r) → IsLeafless OfLeaves call r
+pub waited_leafless : (call : Call) (r : Result Reply Full) → IsLeafless FullLeaves call (last_try r) → IsLeafless OfLeaves call r
 waited_leafless (Get key) r h = tt
 waited_leafless (Insert key value) r h = tt
 waited_leafless (Upsert key value) r h = tt
@@ -550,13 +552,8 @@ module _ (layout : Layout) (k j : PassView) (call : Call) (change : (key : Key) 
   may_refuse (Ok reply) h made = tt
   may_refuse (Err fault) h made = may call k j fault change h made.full
 
-  pub may_count : (r : Result Reply Refusal) → IsLeafless FullLeaves call (as_tried r) → MatchResult r (IsNoted layout k j call) (λ refusal. IsRefused layout call k j (fault_in refusal)) →
-      IfErr r (λ refusal. MayRefuse call (fault_in refusal))
-  may_count (Ok reply) h made = tt
-  may_count (Err refusal) h made = may call k j (fault_in refusal) change h made.full
-
   -- where it waits
-  pub waited_lacks : (r : Result Reply Full) → IsLeafless OfLeaves call r → MatchResult r (IsNoted layout k j call) (λ full. IsRefused layout call k j (fault_of full)) → IfErr r (MayLack call)
+  pub waited_lacks : (r : Result Reply Full) → IsLeafless OfLeaves call r → MatchResult (last_try r) (IsNoted layout k j call) (IsRefused layout call k j) → IfErr r (MayLack call)
   waited_lacks (Ok reply) h made = tt
   waited_lacks (Err full) h made = may call k j (fault_of full) change (waits_leafless call full h) made.full
 
@@ -577,34 +574,51 @@ unless_get (RemoveIf key expected) Gets Changes change is = is
 
 -- A call on the seat of a pass of an index, as the index and the pass see it.
 module _ {table index : TableView} {k : PassView} {s t : SeatView} {call : Call} (index_is : table ≡ index) (pass_is : pass_of s ≡ k) where
-  replied_own : {r : Result Reply TryFault} → HasReplied table call r s t → Owns index (pass_of t)
+  pub replied_own : {r : Result Reply TryFault} → HasReplied table call r s t → Owns index (pass_of t)
   replied_own h = h.idle.0 ∙ ap (λ (z : TableView). z.id) index_is
 
-  replied_call : (r : Result Reply TryFault) → HasReplied table call r s t → MatchResult r (IsNoted index.layout k (pass_of t) call) (IsRefused index.layout call k (pass_of t))
-  replied_call r h = subst (λ (x : TableView × PassView). MatchResult r (IsNoted x.0.layout x.1 (pass_of t) call) (IsRefused x.0.layout call x.1 (pass_of t))) (λ e. (index_is e, pass_is e)) (both r h.noted h.refused)
+  pub replied_outcome : (r : Result Reply TryFault) → HasReplied table call r s t → IsOutcome call r index k (pass_of t)
+  replied_outcome r h = subst (λ (x : TableView × PassView). IsOutcome call r x.0 x.1 (pass_of t)) (λ e. (index_is e, pass_is e)) (both r h.noted h.refused)
     where
-      both : (r : Result Reply TryFault) → IfOk r (IsNoted table.layout (pass_of s) (pass_of t) call) → IfErr r (IsRefused table.layout call (pass_of s) (pass_of t)) →
-          MatchResult r (IsNoted table.layout (pass_of s) (pass_of t) call) (IsRefused table.layout call (pass_of s) (pass_of t))
+      both : (r : Result Reply TryFault) → IfOk r (IsNoted table.layout (pass_of s) (pass_of t) call) → IfErr r (IsRefusedFor table.layout call (pass_of s) (pass_of t)) →
+          IsOutcome call r table (pass_of s) (pass_of t)
       both (Ok reply) noted refused = noted
-      both (Err fault) noted refused = refused
+      both (Err fault) noted refused = refused.refused
 
-  waited_call : (r : Result Reply Full) → HasReplied table call (last_try r) s t →
-      MatchResult r (IsNoted index.layout k (pass_of t) call) (λ full. IsRefused index.layout call k (pass_of t) (fault_of full))
-  waited_call (Ok reply) h = replied_call (Ok reply) h
-  waited_call (Err full) h = replied_call (Err (fault_of full)) h
+  pub replied_cause : (r : Result Reply TryFault) → HasReplied table call r s t → HasCause call r index k (pass_of t)
+  replied_cause r h = subst (λ (x : TableView × PassView). HasCause call r x.0 x.1 (pass_of t)) (λ e. (index_is e, pass_is e)) (why r h.refused)
+    where
+      why : (r : Result Reply TryFault) → IfErr r (IsRefusedFor table.layout call (pass_of s) (pass_of t)) → HasCause call r table (pass_of s) (pass_of t)
+      why (Ok reply) refused = tt
+      why (Err fault) refused = refused.cause
 
-  room_seen : (r : Result Reply TryFault) → KeepsSpare table.layout s t → FindsRoom table.layout call r s t → LeavesRoom index.layout call r k.seat t
+  pub room_seen : (r : Result Reply TryFault) → KeepsSpare table.layout s t → FindsRoom table.layout call r s t → LeavesRoom index.layout call r k.seat t
   room_seen r spares finds = subst (λ (x : TableView × PassView). LeavesRoom x.0.layout call r x.1.seat t) (λ e. (index_is e, pass_is e)) (record { spares = spares; finds = finds })
 
-  pub tried_seen : {G : Type 0} {becomes : G → Event → G → Type 0} {g h : G} {r : Result Reply TryFault} → HasAsked table becomes (AreAttempts table becomes call r) call r (s, g) (t, h) → t.known.steps ≤ s.known.steps + try_steps call table.layout → KeepsSpare table.layout s t → FindsRoom table.layout call r s t →
-      IsTriedWith call r index becomes (k, g) (pass_of t, h)
-  tried_seen {becomes = becomes} {g = g} {h = h} {r = r} asked few spares finds = record {
-    own = replied_own asked.replied;
-    call = replied_call r asked.replied;
-    made = subst (λ (x : TableView × PassView). HasMade x.0 becomes call r (x.1, g) (pass_of t, h)) (λ e. (index_is e, pass_is e)) (has_made table becomes (s, g) (t, h) asked.ended few asked.replied.loaded);
-    leafless = asked.replied.leafless;
-    room = room_seen r spares finds;
-  }
+  pub made_seen : {G : Type 0} {becomes : G → Event → G → Type 0} {g h : G} {r : Result Reply TryFault} → HasAsked table becomes (AreAttempts table becomes call r) call r (s, g) (t, h) → t.known.steps ≤ s.known.steps + try_steps call table.layout →
+      HasMade index becomes call r (k, g) (pass_of t, h)
+  made_seen {becomes = becomes} {g = g} {h = h} {r = r} asked few =
+      subst (λ (x : TableView × PassView). HasMade x.0 becomes call r (x.1, g) (pass_of t, h)) (λ e. (index_is e, pass_is e)) (has_made table becomes (s, g) (t, h) asked.ended few asked.replied.loaded)
+
+  -- a change that waits
+  pub tries_seen : {G : Type 0} {becomes : G → Event → G → Type 0} {g h : G} (r : Result Reply Full) → MakesTries call r table becomes (pass_of s, g) (pass_of t, h) → MakesTries call r index becomes (k, g) (pass_of t, h)
+  tries_seen {becomes = becomes} {g = g} {h = h} r made = subst (λ (x : TableView × PassView). MakesTries call r x.0 becomes (x.1, g) (pass_of t, h)) (λ e. (index_is e, pass_is e)) made
+
+  -- a change that was tried and counted
+  pub counted_seen : {G : Type 0} {becomes : G → Event → G → Type 0} {g h : G} (r : Result Reply Refusal) → IsTriedAndCounted call r table becomes (pass_of s, g) (pass_of t, h) → IsTriedAndCounted call r index becomes (k, g) (pass_of t, h)
+  counted_seen {becomes = becomes} {g = g} {h = h} r made = subst (λ (x : TableView × PassView). IsTriedAndCounted call r x.0 becomes (x.1, g) (pass_of t, h)) (λ e. (index_is e, pass_is e)) made
+
+-- a whole try of a change on its own seat
+pub has_tried : {table : TableView} {s t : SeatView} {call : Call} {G : Type 0} {becomes : G → Event → G → Type 0} {g h : G} {r : Result Reply TryFault} → HasAsked table becomes (AreAttempts table becomes call r) call r (s, g) (t, h) → t.known.steps ≤ s.known.steps + try_steps call table.layout →
+    KeepsSpare table.layout s t → FindsRoom table.layout call r s t → IsTried call r table becomes (pass_of s, g) (pass_of t, h)
+has_tried {r = r} asked few spares finds = record {
+  own = replied_own refl refl asked.replied;
+  call = replied_outcome refl refl r asked.replied;
+  cause = replied_cause refl refl r asked.replied;
+  leafless = asked.replied.leafless;
+  made = made_seen refl refl asked few;
+  room = record { spares = spares; finds = finds };
+}
 
 -- and its steps, as the index and the pass see them
 pub stepped_told : {table index : TableView} {k : PassView} {s t : SeatView} {G : Type 0} {becomes : G → Event → G → Type 0} {g h : G} {said : Known → List Note} → table ≡ index → pass_of s ≡ k →
@@ -618,30 +632,3 @@ pub refused_again : {G : Type 0} {call : Call} {index : TableView} {becomes : G 
 refused_again {G = G} {call = call} {index = index} {becomes = becomes} a b c [] refusal none last passing =
     (c, subst (λ (z : PassView × G). IsTriedAndCounted call (Err refusal) index becomes z c) none last, passing, refl)
 refused_again a b c (first ∷ refusals) refusal (m, one, passing, rest) last still = (m, one, passing, refused_again m b c refusals refusal rest last still)
-
--- a change that waits, as the index and the pass see it
-pub awaited_seen : {table index : TableView} {k : PassView} {s t : SeatView} {call : Call} {G : Type 0} {becomes : G → Event → G → Type 0} {g h : G} {said : Known → List Note} {r : Result Reply Full} →
-    table ≡ index → pass_of s ≡ k → HasReplied table call (last_try r) s t → HasStepped table becomes said (s, g) (t, h) → MakesTries call r table becomes (pass_of s, g) (pass_of t, h) →
-    KeepsSpare table.layout s t → FindsRoom table.layout call (last_try r) s t → IsAwaitedWith call r index becomes (k, g) (pass_of t, h)
-awaited_seen {t = t} {call = call} {becomes = becomes} {g = g} {h = h} {r = r} index_is pass_is replied stepped made spares finds = record {
-  own = replied_own index_is pass_is replied;
-  call = waited_call index_is pass_is r replied;
-  leafless = waited_leafless call r replied.leafless;
-  tries = subst (λ (x : TableView × PassView). MakesTries call r x.0 becomes (x.1, g) (pass_of t, h)) (λ e. (index_is e, pass_is e)) made;
-  told = stepped_told index_is pass_is stepped replied.loaded;
-  room = room_seen index_is pass_is (last_try r) spares finds;
-}
-
--- a change that was tried and counted, as the index and the pass see it
-pub counted_seen : {table index : TableView} {k : PassView} {s t : SeatView} {call : Call} {G : Type 0} {becomes : G → Event → G → Type 0} {g h : G} (r : Result Reply Refusal) →
-    table ≡ index → pass_of s ≡ k → HasReplied table call (as_tried r) s t → IsTriedAndCounted call r table becomes (pass_of s, g) (pass_of t, h) → IsCountedWith call r index becomes (k, g) (pass_of t, h)
-counted_seen {index = index} {k = k} {t = t} {call = call} {becomes = becomes} {g = g} {h = h} r index_is pass_is replied made = record {
-  own = replied_own index_is pass_is replied;
-  call = counted_call (IsNoted index.layout k (pass_of t) call) (IsRefused index.layout call k (pass_of t)) r (replied_call index_is pass_is (as_tried r) replied);
-  leafless = replied.leafless;
-  made = subst (λ (x : TableView × PassView). IsTriedAndCounted call r x.0 becomes (x.1, g) (pass_of t, h)) (λ e. (index_is e, pass_is e)) made;
-}
-  where
-    counted_call : (Noted : Reply → Type 0) (Refused : TryFault → Type 0) (r : Result Reply Refusal) → MatchResult (as_tried r) Noted Refused → MatchResult r Noted (λ refusal. Refused (fault_in refusal))
-    counted_call Noted Refused (Ok reply) it = it
-    counted_call Noted Refused (Err refusal) it = it

@@ -170,11 +170,15 @@ MayTake (Remove key) k j = (value : ℕ) × WasFound key (Some value) k j
 MayTake (RemoveIf key expected) k j = WasFound key (Some expected) k j
 MayTake call k j = ⊥
 
--- A call was refused: it has changed nothing and adds no note, and this is the cause.
+-- A call was refused: it has changed nothing and adds no note; and it was full only if it may lack a record.
 pub record IsRefused (layout : Layout) (call : Call) (k j : PassView) (fault : TryFault) : Type 0 where
   pub unnoted : IsUnnoted layout k j
-  pub cause : IsCause layout (key_of call) k j fault
   pub full : IsFullFault fault → MayTake call k j
+
+-- And this is the cause.
+pub record IsRefusedFor (layout : Layout) (call : Call) (k j : PassView) (fault : TryFault) : Type 0 where
+  pub refused : IsRefused layout call k j fault
+  pub cause : IsCause layout (key_of call) k j fault
 
 -- the refusal of a call that waits for others
 abbrev pub fault_of : Full → TryFault

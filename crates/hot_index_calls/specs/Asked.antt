@@ -13,7 +13,7 @@ use Rattle.versions.specs.declared.Rec.{Rec}
 use Rattle.rowex_writing.specs.declared.attempts.TryFault.{TryFault}
 use Rattle.rowex_writing.specs.declared.attempts.TryFault.TheVariants.{FullLeaves, FullNodes}
 use Rattle.rowex_writing.specs.declared.plan.Full.{Full}
-use Rattle.hot_index_calls.specs.Answers.{IsNoted, IsRefused, IsUnnoted, fault_of}
+use Rattle.hot_index_calls.specs.Answers.{IsNoted, IsRefusedFor, IsUnnoted, fault_of}
 use Rattle.hot_index_calls.specs.Noting.{change_notes}
 use Rattle.hot_index_calls.specs.Passes.{IsSettled, pass_of}
 use Rattle.hot_index_calls.specs.Traces.{HasEnded, IsAttempt}
@@ -26,7 +26,7 @@ IsIdle table s = IsSeatOf table s × IsSettled s.known
 pub record HasReplied (table : TableView) (call : Call) (result : Result Reply TryFault) (s t : SeatView) : Type 0 where
   pub idle : IsIdle table t
   pub noted : IfOk result (IsNoted table.layout (pass_of s) (pass_of t) call)
-  pub refused : IfErr result (IsRefused table.layout call (pass_of s) (pass_of t))
+  pub refused : IfErr result (IsRefusedFor table.layout call (pass_of s) (pass_of t))
   pub leafless : IsLeafless FullLeaves call result
   pub loaded : s.known.steps ≤ t.known.fresh.step
 

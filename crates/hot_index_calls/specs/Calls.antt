@@ -1,9 +1,10 @@
--- What a call of an index ensures, each of its clauses a field by the clause's name.
+-- What calls of an index ensure: what the map says of a call, and by which steps; and of a read of a range both, each clause a field by its name.
 use Rattle.std.specs.Prelude.{◌≡◌, ◌+◌, ◌≤◌, ℕ, Bool, List, [], ◌∷◌, Result, Ok, Err, MatchResult, IfOk, IfErr, OnErr}
 use Rattle.finite_map.specs.declared.Call.{Call}
 use Rattle.finite_map.specs.declared.Call.TheVariants.{Get}
 use Rattle.finite_map.specs.declared.Reply.{Reply}
 use Rattle.finite_map.specs.declared.Scan.{Scan}
+use Rattle.finite_map.specs.Maps.{key_of}
 use Rattle.finite_map.specs.Scans.{IsLawfulScan}
 use Rattle.record_words.specs.declared.layout.Layout.{Layout}
 use Rattle.rowex_core.specs.declared.event.Event.{Event}
@@ -12,33 +13,36 @@ use Rattle.rowex_writing.specs.Attempts.{IsLeafless}
 use Rattle.rowex_writing.specs.declared.attempts.TryFault.{TryFault}
 use Rattle.rowex_writing.specs.declared.attempts.TryFault.TheVariants.{FullLeaves}
 use Rattle.rowex_writing.specs.declared.plan.Full.{Full}
-use Rattle.rowex_writing.specs.declared.plan.Full.TheVariants.{Leaves}
 use Rattle.version_laws.specs.Scan.{Range}
 use Rattle.tries.specs.Keys.{Key}
 use Rattle.version_laws.specs.Directions.{ScanLaw}
-use Rattle.hot_index_calls.specs.Answers.{AreValuesListed, AreValuesListedInPart, HasFoundPair, IsListedBy, IsListedInPartBy, IsNoted, IsRangeCounted, IsRefused, IsScannedBy, IsUnnoted, MayRefuse, fault_of}
-use Rattle.hot_index_calls.specs.Refusals.{IsPassing, IsCountTold, as_tried, fault_in}
+use Rattle.hot_index_calls.specs.Answers.{AreValuesListed, AreValuesListedInPart, HasFoundPair, IsCause, IsListedBy, IsListedInPartBy, IsNoted, IsRangeCounted, IsRefused, IsScannedBy, IsUnnoted}
+use Rattle.hot_index_calls.specs.Refusals.{IsPassing, IsCountTold, as_tried}
 use Rattle.hot_index_calls.specs.declared.census.RecordCounts.{RecordCounts}
 use Rattle.hot_index_calls.specs.declared.refusals.Refusal.{Refusal}
 use Rattle.hot_index_calls.specs.declared.refusals.Refusal.TheVariants.{Full as IsFull}
-use Rattle.hot_index_calls.specs.Asked.{last_try}
 use Rattle.hot_index_calls.specs.Counts.{scan_steps}
 use Rattle.hot_index_calls.specs.Passes.{Owns, PassView}
 use Rattle.hot_index_calls.specs.Rooms.{LeavesRoom}
-use Rattle.hot_index_calls.specs.Traces.{HasGot, HasGotRange, HasMade, HasTold, untold}
+use Rattle.hot_index_calls.specs.Traces.{HasGot, HasGotRange, HasMade, untold}
 
--- A change that doesn't wait was answered or refused, by these steps, of which the gate was told.
-pub record IsTriedWith {G : Type 0} (asked : Call) (result : Result Reply TryFault) (index : TableView) (becomes : G → Event → G → Type 0)
+-- What the map says of a call with this result: it was answered, and is noted with this reply; or it was refused, and has changed nothing.
+abbrev pub IsOutcome : Call → Result Reply TryFault → TableView → PassView → PassView → Type 0
+IsOutcome asked result index k j = MatchResult result (IsNoted index.layout k j asked) (IsRefused index.layout asked k j)
+
+-- why it was refused, if it was, by what its steps have found
+abbrev pub HasCause : Call → Result Reply TryFault → TableView → PassView → PassView → Type 0
+HasCause asked result index k j = IfErr result (IsCause index.layout (key_of asked) k j)
+
+-- A change was tried by a whole call that doesn't wait: all that such a call ensures, each clause a field by its name.
+pub record IsTried {G : Type 0} (asked : Call) (result : Result Reply TryFault) (index : TableView) (becomes : G → Event → G → Type 0)
     (a b : PassView × G) : Type 0 where
   pub own : Owns index b.0
-  pub call : MatchResult result (IsNoted index.layout a.0 b.0 asked) (IsRefused index.layout asked a.0 b.0)
-  pub made : HasMade index becomes asked result a b
+  pub call : IsOutcome asked result index a.0 b.0
+  pub cause : HasCause asked result index a.0 b.0
   pub leafless : IsLeafless FullLeaves asked result
+  pub made : HasMade index becomes asked result a b
   pub room : LeavesRoom index.layout asked result a.0.seat b.0.seat
-
--- a change that doesn't wait, with no gate
-abbrev pub IsTried : Call → Result Reply TryFault → TableView → PassView → PassView → Type 0
-IsTried asked result index k j = IsTriedWith asked result index untold (k, tt) (j, tt)
 
 -- the first is said of a get, and the second of each other call
 abbrev pub GetsOr : Call → Type 0 → Type 0 → Type 0
@@ -46,26 +50,15 @@ GetsOr (Get key) Gets Changes = Gets
 GetsOr asked Gets Changes = Changes
 
 -- The steps of a call with this outcome, so many at most, of which the gate was told: those of a get, or of a change's attempts and rounds.
-abbrev pub MakesStepsWith : {G : Type 0} → Call → Result Reply TryFault → TableView → (G → Event → G → Type 0) → PassView × G → PassView × G → Type 0
-MakesStepsWith asked result index becomes a b = GetsOr asked (HasGot index becomes a b) (HasMade index becomes asked result a b)
-
--- the same of a call with no gate
-abbrev pub MakesSteps : Call → Result Reply TryFault → TableView → PassView → PassView → Type 0
-MakesSteps asked result index k j = MakesStepsWith asked result index untold (k, tt) (j, tt)
-
--- A call that doesn't wait, a get or a change, was answered, or refused where it may be, by its steps.
-pub record IsCallTried (asked : Call) (result : Result Reply TryFault) (index : TableView) (k j : PassView) : Type 0 where
-  pub own : Owns index j
-  pub call : MatchResult result (IsNoted index.layout k j asked) (IsRefused index.layout asked k j)
-  pub may : IfErr result (MayRefuse asked)
-  pub made : MakesSteps asked result index k j
+abbrev pub GetsOrMakes : {G : Type 0} → Call → Result Reply TryFault → TableView → (G → Event → G → Type 0) → PassView × G → PassView × G → Type 0
+GetsOrMakes asked result index becomes a b = GetsOr asked (HasGot index becomes a b) (HasMade index becomes asked result a b)
 
 -- A change was tried once, by a whole call that doesn't wait. If no record was free, all records were counted then, and the result says what
 -- the count says.
 pub record IsTriedAndCounted {G : Type 0} (asked : Call) (result : Result Reply Refusal) (index : TableView) (becomes : G → Event → G → Type 0)
     (a b : PassView × G) : Type 0 where
   pub mid : PassView × G
-  pub tried : IsTriedWith asked (as_tried result) index becomes a mid
+  pub tried : IsTried asked (as_tried result) index becomes a mid
   pub told : IsCountTold asked result index becomes a mid b
 
 -- Tries of a change were refused for these reasons, one after the other, and none of them is final.
@@ -96,36 +89,9 @@ pub record MakesTries {G : Type 0} (asked : Call) (result : Result Reply Full) (
 abbrev pub GetsOrTries : {G : Type 0} → Call → Result Reply Full → TableView → (G → Event → G → Type 0) → PassView × G → PassView × G → Type 0
 GetsOrTries asked result index becomes a b = GetsOr asked (HasGot index becomes a b) (MakesTries asked result index becomes a b)
 
--- A change that waits was answered or refused, by its steps, of which the gate was told: those of its tries. Its last load of the root has
--- shown the pass all that any pass had seen by then.
-pub record IsAwaitedWith {G : Type 0} (asked : Call) (result : Result Reply Full) (index : TableView) (becomes : G → Event → G → Type 0)
-    (a b : PassView × G) : Type 0 where
-  pub own : Owns index b.0
-  pub call : MatchResult result (IsNoted index.layout a.0 b.0 asked) (λ full. IsRefused index.layout asked a.0 b.0 (fault_of full))
-  pub leafless : IsLeafless Leaves asked result
-  pub tries : MakesTries asked result index becomes a b
-  pub told : HasTold index becomes a b
-  pub room : LeavesRoom index.layout asked (last_try result) a.0.seat b.0.seat
-
--- the same, where nobody is told of its steps
-abbrev pub IsAwaited : Call → Result Reply Full → TableView → PassView → PassView → Type 0
-IsAwaited asked result index k j = IsAwaitedWith asked result index untold (k, tt) (j, tt)
-
--- A change was tried once and counted, and was answered or refused.
-pub record IsCountedWith {G : Type 0} (asked : Call) (result : Result Reply Refusal) (index : TableView) (becomes : G → Event → G → Type 0)
-    (a b : PassView × G) : Type 0 where
-  pub own : Owns index b.0
-  pub call : MatchResult result (IsNoted index.layout a.0 b.0 asked) (λ refusal. IsRefused index.layout asked a.0 b.0 (fault_in refusal))
-  pub leafless : IsLeafless FullLeaves asked (as_tried result)
-  pub made : IsTriedAndCounted asked result index becomes a b
-
--- A call that doesn't wait, a get or a change, was answered, or refused where it may be. After a change that found no record free all records
--- were counted.
-pub record IsCallCounted (asked : Call) (result : Result Reply Refusal) (index : TableView) (k j : PassView) : Type 0 where
-  pub own : Owns index j
-  pub call : MatchResult result (IsNoted index.layout k j asked) (λ refusal. IsRefused index.layout asked k j (fault_in refusal))
-  pub may : IfErr result (λ refusal. MayRefuse asked (fault_in refusal))
-  pub made : GetsOr asked (HasGot index untold (k, tt) (j, tt)) (IsTriedAndCounted asked result index untold (k, tt) (j, tt))
+-- The steps of a call that doesn't wait and counts: those of a get, or a change's, with a count of all records if it found none free.
+abbrev pub GetsOrCounts : {G : Type 0} → Call → Result Reply Refusal → TableView → (G → Event → G → Type 0) → PassView × G → PassView × G → Type 0
+GetsOrCounts asked result index becomes a b = GetsOr asked (HasGot index becomes a b) (IsTriedAndCounted asked result index becomes a b)
 
 -- A range was read, with such an answer, or memory was refused for a pair that it had found, and such a part is left; by its steps, so
 -- many at most, of which the gate was told.

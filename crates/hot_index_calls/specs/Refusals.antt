@@ -61,6 +61,7 @@ fault_in IsBusy = Busy
 fault_in (HeldBack lacks) = fault_of lacks
 fault_in (IsFull lacks counts) = fault_of lacks
 
+-- what the try itself returned, before the count
 abbrev pub as_tried : Result Reply Refusal → Result Reply TryFault
 as_tried (Ok reply) = Ok reply
 as_tried (Err refusal) = Err (fault_in refusal)

@@ -22,7 +22,7 @@ use Rattle.rowex_writing.specs.Attempts.{AreAttemptSteps}
 use Rattle.rowex_writing.specs.declared.attempts.TryFault.{TryFault}
 use Rattle.rowex_writing.specs.declared.attempts.TryFault.TheVariants.{Busy, FullNodes, FullLeaves}
 use Rattle.rowex_writing.specs.declared.plan.Full.{Full}
-use Rattle.hot_index_calls.specs.Answers.{IsRefused, fault_of}
+use Rattle.hot_index_calls.specs.Answers.{IsRefusedFor, fault_of}
 use Rattle.hot_index_calls.specs.Counts.{round_steps, try_steps}
 use Rattle.hot_index_calls.specs.Noting.{change_notes}
 use Rattle.hot_index_calls.specs.Passes.{PassView, pass_of}
@@ -123,7 +123,7 @@ pub record AreTwoAttempts {G : Type 0} (table : TableView) (becomes : G → Even
   pub refused : SeatView × G
   pub tried : Ends table becomes first ClearPin silent a refused
   pub full : Full
-  pub lacked : IsRefused table.layout call (pass_of a.0) (pass_of refused.0) (fault_of full)
+  pub lacked : IsRefusedFor table.layout call (pass_of a.0) (pass_of refused.0) (fault_of full)
   pub goes_on : Ends table becomes (between ++ second) ClearPin (change_notes call result) refused b
 
 -- whether the call was refused as full

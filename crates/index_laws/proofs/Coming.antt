@@ -16,7 +16,7 @@ use Rattle.rowex_table.specs.Traces.{OthersStepOn, RunBeginsWith}
 use Rattle.rowex_table.proofs.Onward.{begins_itself, begins_on, next_begins, others_begin}
 use Rattle.hot_index_calls.specs.Traces.{untold}
 use Rattle.real_time.specs.Moments.{Happening, invokes, shows, steps}
-use Rattle.index_laws.specs.Joined.{HasEndedAs, IsNextTo, happenings_of, pass_in}
+use Rattle.index_laws.specs.Joined.{HasEndedAs, KeepCallsWhole, happenings_of, pass_in}
 use Rattle.index_laws.specs.Traced.{ContractsLeadOn, Instant, IsTracedExecution}
 use Rattle.index_laws.proofs.Reaching.{before, before-new, before-old, traced_more, upto, upto-new, upto-old}
 
@@ -125,7 +125,7 @@ pub record Reached (table : TableView) (whole : ℕ → List Happening) (done : 
   pub waits : (q : ℕ) → Waits at last q (left q).call
   pub own : (q : ℕ) → happenings_of q happens last ++ (left q).ahead ≡ whole q
   pub tip_is : tip_of happens last ≡ tip
-  pub next_to : (t : ℕ) → suc t < last → IsNextTo (happens t) (happens (suc t))
+  pub next_to : (t : ℕ) → suc t < last → KeepCallsWhole (happens t) (happens (suc t))
   pub named : (q : ℕ) → (left q).seat.known.pass ≡ q
   pub stands : (q : ℕ) → OthersStepOn q (left q).seat.trace done
 
@@ -140,7 +140,7 @@ pub record IsMore (table : TableView) (last : ℕ) (at : ℕ → Instant) (left 
   pub whose : pass_in h ≡ q
   pub ahead : (left q).ahead ≡ h ∷ r.ahead
   pub leads : ContractsLeadOn table (upto last at b) last h
-  pub follows : IsNextTo tip h
+  pub follows : KeepCallsWhole tip h
   pub named : r.seat.known.pass ≡ q
   pub stands : OthersStepOn q r.seat.trace done
   pub others : (p : ℕ) → p ≢ q → OthersStepOn p (left p).seat.trace done
@@ -177,17 +177,17 @@ own_other q p happens n h ahead whole mine ne is =
     mine))) in
     ap (λ l. l ++ ahead) now ∙ is
 
-next_to_more : (happens : ℕ → Happening) (n : ℕ) (tip h : Happening) → tip_of happens n ≡ tip → IsNextTo tip h → ((t : ℕ) → suc t < n →
-    IsNextTo (happens t) (happens (suc t))) →
-    (t : ℕ) → suc t < suc n → IsNextTo (before n happens h t) (before n happens h (suc t))
+next_to_more : (happens : ℕ → Happening) (n : ℕ) (tip h : Happening) → tip_of happens n ≡ tip → KeepCallsWhole tip h → ((t : ℕ) → suc t < n →
+    KeepCallsWhole (happens t) (happens (suc t))) →
+    (t : ℕ) → suc t < suc n → KeepCallsWhole (before n happens h t) (before n happens h (suc t))
 next_to_more happens n tip h is follows all t low = ⊎_elim
-    (λ (less : suc t < n). subst (λ z. IsNextTo z (before n happens h (suc t))) (sym (before-old n happens h t (omega (arith, less))))
-    (subst (IsNextTo (happens t)) (sym (before-old n happens h (suc t) less)) (all t less)))
+    (λ (less : suc t < n). subst (λ z. KeepCallsWhole z (before n happens h (suc t))) (sym (before-old n happens h t (omega (arith, less))))
+    (subst (KeepCallsWhole (happens t)) (sym (before-old n happens h (suc t) less)) (all t less)))
     (λ (more : n ≤ suc t).
     let e : n ≡ suc t = omega (arith, low, more) in
     let old : happens t ≡ tip = subst (λ k. tip_of happens k ≡ tip) e is in
     let new : before n happens h (suc t) ≡ h = subst (λ k. before n happens h k ≡ h) e (before-new n happens h) in
-    subst (λ z. IsNextTo z (before n happens h (suc t))) (sym (before-old n happens h t (omega (arith, low)) ∙ old)) (subst (IsNextTo tip) (sym new) follows))
+    subst (λ z. KeepCallsWhole z (before n happens h (suc t))) (sym (before-old n happens h t (omega (arith, low)) ∙ old)) (subst (KeepCallsWhole tip) (sym new) follows))
     (cases_lt (suc t) n)
 
 pub reached_more : (table : TableView) (whole : ℕ → List Happening) (done to : List Event) (left : ℕ → Rest) (tip h : Happening) (q : ℕ) (r : Rest) (b : Instant) →

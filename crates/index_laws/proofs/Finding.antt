@@ -47,7 +47,7 @@ use Rattle.publish_laws.proofs.Inserting.{first_made}
 use Rattle.hot_index_calls.specs.Answers.{IsNoted}
 use Rattle.hot_index_calls.specs.Passes.{AreByPasses, pass_of}
 use Rattle.real_time.specs.Moments.{Happening, responds}
-use Rattle.index_laws.specs.Joined.{AnInsertIsFound, HasDone, HaveEndedInOneRun, answered, call_of, called, new, of_two}
+use Rattle.index_laws.specs.Joined.{AnInsertIsFound, HasGoneThrough, HaveEndedInOneRun, answered, call_of, called, new, of_two}
 use Rattle.index_laws.proofs.Joining.{both_done, of_both}
 use Rattle.finite_map.specs.declared.Change.{Change}
 
@@ -560,11 +560,11 @@ module _ (table : TableView) (two : table.layout.passes ≡ 2) (value : ℕ) (fi
   abbrev theirs : List Happening
   theirs = call_of 1 (Get [] ∷ []) looking ClearPin (found ∷ []) (responds 1 (found ∷ []))
 
-  first_done : HasDone table 0 ours e0
+  first_done : HasGoneThrough table 0 ours e0
   first_done = called (new (refl, refl, refl, refl)) (Insert [] value ∷ []) changing ClearPin (λ k. inserted ∷ []) ends_so
       (answered (Insert [] value) Inserted refl insert_noted)
 
-  second_done : HasDone table 1 theirs e1
+  second_done : HasGoneThrough table 1 theirs e1
   second_done = called (new (refl, refl, refl, refl)) (Get [] ∷ []) looking ClearPin (λ k. found ∷ []) found_so (answered (Get []) (Value value) refl get_noted)
 
   behind_get : OthersStepOn 0 w12.run w16.run

@@ -25,7 +25,7 @@ use Rattle.rowex_table.proofs.Onward.{begins_on, others_begin}
 use Rattle.rowex_table.proofs.Running.{runs_same}
 use Rattle.hot_index_calls.specs.Traces.{untold}
 use Rattle.real_time.specs.Moments.{Happening, invokes, shows, steps}
-use Rattle.index_laws.specs.Joined.{HasDone, HasEndedAs, HaveEndedInOneRun, IsExecutionOf, IsNextTo, call_of, called, happenings_of, new, notes_of_end, shown, stamped, steps_of}
+use Rattle.index_laws.specs.Joined.{HasGoneThrough, HasEndedAs, HaveEndedInOneRun, IsExecutionOf, KeepCallsWhole, call_of, called, happenings_of, new, notes_of_end, shown, stamped, steps_of}
 use Rattle.index_laws.specs.Traced.{Instant}
 use Rattle.index_laws.proofs.Coming.{Begun, Life, MakesStep, Reached, Rest, Shows, Waits, asks, closes, goes, life_begins, over, put, put-other, put-own, sees}
 use Rattle.index_laws.proofs.Moving.{Calm, calm_step, end_more, ends_calm, ends_next, invoke_more, pass_is, rest, show_more, stands_is, step_more}
@@ -73,7 +73,7 @@ module _ (table : TableView) (whole : ℕ → List Happening) (q : ℕ) (below :
 
   go_on : {s e : SeatView} {o : Begun} {hs : List Happening} → Life table q s (Some o) hs e → (left : ℕ → Rest) (tip : Happening) →
       Reached table whole done left tip → left q ≡ rest s (Some o) hs →
-      ((act : Act) (notes : List Note) → IsNextTo tip (steps q act notes)) → OthersStepOn q e.trace (done ++ x ∷ todo) → Went table whole q left (done ++ x ∷ []) e
+      ((act : Act) (notes : List Note) → KeepCallsWhole tip (steps q act notes)) → OthersStepOn q e.trace (done ++ x ∷ todo) → Went table whole q left (done ++ x ∷ []) e
   go_on {o = o} (goes {s = s} {m = m} {e = e} {hs = hs} act notes made l) left tip r is next all =
       let f = is_next e made (pass_is table whole q below done left tip r s (Some o) (steps q act notes ∷ hs) is)
       (stands_is table whole q below done left tip r s (Some o) (steps q act notes ∷ hs) is) (life_begins l) all in
@@ -283,7 +283,7 @@ record IsLife (table : TableView) (q : ℕ) (hs : List Happening) (e : SeatView)
   pub fresh : IsNewSeatOf table q start
   pub life : Life table q start None hs e
 
-life_of : {table : TableView} {q : ℕ} {done : List Happening} {s : SeatView} → HasDone table q done s → (hs : List Happening) (e : SeatView) →
+life_of : {table : TableView} {q : ℕ} {done : List Happening} {s : SeatView} → HasGoneThrough table q done s → (hs : List Happening) (e : SeatView) →
     Life table q s None hs e → IsLife table q (done ++ hs) e
 life_of (new {s = s} is) hs e l = record { start = s; fresh = is; life = l }
 life_of {table} {q} (called {done = done} {s = s} {e = m} before_it calls acts last said ends {ended = h} so) hs e l =
@@ -300,7 +300,7 @@ life_of {table} {q} (stamped {done = done} {s = s} {e = m} before_it is) hs e l 
 runs_named : (table : TableView) (acts : List Act) (s e : SeatView) → Runs table untold acts (s, tt) (e, tt) → e.known.pass ≡ s.known.pass
 runs_named table acts s e runs = (runs_same table untold acts (s, tt) (e, tt) runs).2
 
-pub named_by : {table : TableView} {q : ℕ} {done : List Happening} {s : SeatView} → HasDone table q done s → s.known.pass ≡ q
+pub named_by : {table : TableView} {q : ℕ} {done : List Happening} {s : SeatView} → HasGoneThrough table q done s → s.known.pass ≡ q
 named_by (new is) = ap (λ (k : Known). k.pass) is.1
 named_by {table} (called {s = s} before_it calls acts last said ends so) = ends.2.seat.2 ∙ (runs_named table acts s ends.0.0 ends.1 ∙ named_by before_it)
 named_by (shown before_it all more known) = all.pass ∙ named_by before_it

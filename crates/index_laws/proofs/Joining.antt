@@ -11,7 +11,7 @@ use Rattle.rowex_table.specs.Traces.{OthersStepOn}
 use Rattle.hot_index_calls.specs.Traces.{untold}
 use Rattle.real_time.specs.Histories.{PendingEndOrChangeAsAsked}
 use Rattle.real_time.specs.Moments.{Happening, Moment, Pending}
-use Rattle.index_laws.specs.Joined.{HasDone, OneRunIsAnExecution, ShownHaveEnded, SilentStepsEnd, StepsNeedNoGate, TwoThatMeetHaveEnded, of_two}
+use Rattle.index_laws.specs.Joined.{HasGoneThrough, OneRunIsAnExecution, ShownHaveEnded, SilentStepsEnd, StepsNeedNoGate, TwoThatMeetHaveEnded, of_two}
 use Rattle.index_laws.specs.Traced.{moment_of}
 use Rattle.index_laws.proofs.Interleaving.{named_by, one_execution}
 use Rattle.index_laws.proofs.Placing.{others_between}
@@ -44,11 +44,11 @@ of_both P x y here there passes two q low = ⊎_elim
     (λ (ne : q ≢ 0). let e : 1 ≡ q = omega (arith, two, low, ne) in subst (λ k. P k (of_two x y k)) e there)
     (cases_eq q 0)
 
-pub both_done : (table : TableView) (ours theirs : List Happening) (s t : SeatView) → HasDone table 0 ours s → HasDone table 1 theirs t → (passes : ℕ) → passes ≡ 2 →
-    (q : ℕ) → q < passes → HasDone table q (of_two ours theirs q) (of_two s t q)
+pub both_done : (table : TableView) (ours theirs : List Happening) (s t : SeatView) → HasGoneThrough table 0 ours s → HasGoneThrough table 1 theirs t → (passes : ℕ) → passes ≡ 2 →
+    (q : ℕ) → q < passes → HasGoneThrough table q (of_two ours theirs q) (of_two s t q)
 both_done table ours theirs s t first second passes is q low = ⊎_elim
-    (λ (e : q ≡ 0). subst (λ k. HasDone table k (of_two ours theirs k) (of_two s t k)) (sym e) first)
-    (λ (ne : q ≢ 0). let e : 1 ≡ q = omega (arith, is, low, ne) in subst (λ k. HasDone table k (of_two ours theirs k) (of_two s t k)) e second)
+    (λ (e : q ≡ 0). subst (λ k. HasGoneThrough table k (of_two ours theirs k) (of_two s t k)) (sym e) first)
+    (λ (ne : q ≢ 0). let e : 1 ≡ q = omega (arith, is, low, ne) in subst (λ k. HasGoneThrough table k (of_two ours theirs k) (of_two s t k)) e second)
     (cases_eq q 0)
 
 pub two_that_meet_have_ended : TwoThatMeetHaveEnded

@@ -16,7 +16,7 @@ use Rattle.rowex_table.proofs.Onward.{others_more, others_none}
 use Rattle.hot_index_calls.specs.Traces.{untold}
 use Rattle.real_time.specs.Moments.{Happening, Pending, invokes, refuses, responds, shows, steps}
 use Rattle.index_laws.specs.Executions.{IsReturning}
-use Rattle.index_laws.specs.Joined.{HasEndedAs, IsNextTo, answered, looked_up, pass_in, quiet, refused}
+use Rattle.index_laws.specs.Joined.{HasEndedAs, KeepCallsWhole, answered, looked_up, pass_in, quiet, refused}
 use Rattle.index_laws.specs.Traced.{ContractsLeadOn, Instant, IsSeatShowing, IsSeatStep, IsSeatTurn, IsShownItself, IsShownSteps, moment_of}
 use Rattle.index_laws.proofs.Reaching.{upto, upto-new, upto-old}
 use Rattle.index_laws.proofs.Coming.{Begun, IsWaiting, MakesStep, Reached, Rest, Shows, Waits, put, reached_more, waits_on}
@@ -28,21 +28,21 @@ abbrev pub Calm : Happening → Type 0
 Calm (invokes q calls) = ⊥
 Calm _ = Unit {0}
 
-calm_show : (tip : Happening) (q : ℕ) (front : List Change) → Calm tip → IsNextTo tip (shows q front)
+calm_show : (tip : Happening) (q : ℕ) (front : List Change) → Calm tip → KeepCallsWhole tip (shows q front)
 calm_show (steps p act notes) q front c = tt
 calm_show (shows p others) q front c = tt
 calm_show (invokes p calls) q front c = absurd c
 calm_show (responds p notes) q front c = tt
 calm_show (refuses p) q front c = tt
 
-calm_invoke : (tip : Happening) (q : ℕ) (asked : List Call) → Calm tip → IsNextTo tip (invokes q asked)
+calm_invoke : (tip : Happening) (q : ℕ) (asked : List Call) → Calm tip → KeepCallsWhole tip (invokes q asked)
 calm_invoke (steps p act notes) q asked c = tt
 calm_invoke (shows p others) q asked c = tt
 calm_invoke (invokes p calls) q asked c = absurd c
 calm_invoke (responds p notes) q asked c = tt
 calm_invoke (refuses p) q asked c = tt
 
-pub calm_step : (tip : Happening) (q : ℕ) (act : Act) (notes : List Note) → Calm tip → IsNextTo tip (steps q act notes)
+pub calm_step : (tip : Happening) (q : ℕ) (act : Act) (notes : List Note) → Calm tip → KeepCallsWhole tip (steps q act notes)
 calm_step (steps p by told) q act notes c = tt
 calm_step (shows p others) q act notes c = tt
 calm_step (invokes p calls) q act notes c = absurd c
@@ -50,7 +50,7 @@ calm_step (responds p told) q act notes c = tt
 calm_step (refuses p) q act notes c = tt
 
 pub ends_next : {layout : Layout} {q : ℕ} {calls : List Call} {s e : SeatView} {h : Happening} (act : Act) (notes : List Note) →
-    HasEndedAs layout q calls s e h → IsNextTo (steps q act notes) h
+    HasEndedAs layout q calls s e h → KeepCallsWhole (steps q act notes) h
 ends_next act notes (answered asked reply is noted) = refl
 ends_next act notes (looked_up asked are noted) = refl
 ends_next act notes (quiet is same legal) = refl
@@ -202,7 +202,7 @@ module _ (table : TableView) (whole : ℕ → List Happening) (q : ℕ) (below :
   -- a step is made
 
   module _ (s m : SeatView) (o : Begun) (act : Act) (notes : List Note) (hs : List Happening) (is : left q ≡ rest s (Some o) (steps q act notes ∷ hs))
-      (made : MakesStep table act notes s m) (behind : made.step.next.before ≡ done) (next : IsNextTo tip (steps q act notes)) where
+      (made : MakesStep table act notes s m) (behind : made.step.next.before ≡ done) (next : KeepCallsWhole tip (steps q act notes)) where
     abbrev event : Event
     event = record { pass = q; act = act }
 
@@ -262,7 +262,7 @@ module _ (table : TableView) (whole : ℕ → List Happening) (q : ℕ) (below :
 
   module _ (m : SeatView) (o : Begun) (h : Happening) (hs : List Happening) (is : left q ≡ rest m (Some o) (h ∷ hs))
       (ends : HasEndedAs table.layout q o.calls o.from m h)
-      (next : IsNextTo tip h) where
+      (next : KeepCallsWhole tip h) where
     abbrev after_end : Instant
     after_end = record { run = a.run; seat = a.seat; pending = turned a.pending q None }
 

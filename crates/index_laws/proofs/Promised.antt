@@ -119,8 +119,8 @@ never_refused call fault may key = (
 refusals : Refusals
 refusals layout call k j fault refused legal =
     let own : own_changes j.number j.front ≡ own_changes k.number k.front =
-    refused.unnoted.legal.own ∙ ap (changes_of j.number) refused.unnoted.notes ∙ ap (λ q. changes_of q k.notes) refused.unnoted.number ∙ sym legal.own in (
-      refused.unnoted.notes,
+    refused.refused.unnoted.legal.own ∙ ap (changes_of j.number) refused.refused.unnoted.notes ∙ ap (λ q. changes_of q k.notes) refused.refused.unnoted.number ∙ sym legal.own in (
+      refused.refused.unnoted.notes,
       own,
       refused.cause,
       λ alone busy. one_pass_is_never_busy layout (key_of call) k j alone (subst (IsCause layout (key_of call) k j) busy refused.cause),

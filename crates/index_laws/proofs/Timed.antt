@@ -118,8 +118,8 @@ returned_responds layout last at happens run q t below within call notes (s, e, 
 refused_is_refused : RefusedIsRefused
 refused_is_refused layout at q t call (s, e, asked, fault, ends, calls, refused, may) = record {
   called = ends.pending;
-  noted = sym (ap (λ (z : Known). z.notes) ends.now) ∙ refused.unnoted.notes ∙ ap (λ (z : Known). z.notes) ends.before;
-  legal = legal_now q ((at t).known q) e.known ends.now ends.pass refused.unnoted.legal;
+  noted = sym (ap (λ (z : Known). z.notes) ends.now) ∙ refused.refused.unnoted.notes ∙ ap (λ (z : Known). z.notes) ends.before;
+  legal = legal_now q ((at t).known q) e.known ends.now ends.pass refused.refused.unnoted.legal;
 }
 
 lack_may_refuse : LackMayRefuse

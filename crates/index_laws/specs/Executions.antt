@@ -7,7 +7,7 @@ use Rattle.finite_map.specs.Calls.{LegalCalls}
 use Rattle.record_words.specs.declared.layout.Layout.{Layout}
 use Rattle.rowex_table.specs.Seats.{SeatView}
 use Rattle.rowex_writing.specs.declared.attempts.TryFault.{TryFault}
-use Rattle.hot_index_calls.specs.Answers.{IsNoted, IsRefused, MayRefuse}
+use Rattle.hot_index_calls.specs.Answers.{IsNoted, IsRefusedFor, MayRefuse}
 use Rattle.hot_index_calls.specs.Many.{AreNoted}
 use Rattle.hot_index_calls.specs.Passes.{PassView, pass_of}
 use Rattle.real_time.specs.Moments.{Continues, Happening, IsCallTurn, IsNewIndex, Moment, Pending, invokes, refuses, responds, shows, steps}
@@ -53,7 +53,7 @@ HasReturned layout at q t call notes =
 abbrev pub HasBeenRefused : Layout → (ℕ → Moment) → ℕ → ℕ → Pending → Type 0
 HasBeenRefused layout at q t call =
     (s : SeatView) × (e : SeatView) × (asked : Call) × (fault : TryFault) × IsReturning at q t call s e × (call.calls ≡ asked ∷ []) ×
-    IsRefused layout asked (pass_of s) (pass_of e) fault × MayRefuse asked fault
+    IsRefusedFor layout asked (pass_of s) (pass_of e) fault × MayRefuse asked fault
 
 -- what happens at moment t of an execution leads to the next one: as in a run, and each call that ends has ended as its contract says
 abbrev pub LeadsOn : Layout → (ℕ → Moment) → ℕ → Happening → Type 0

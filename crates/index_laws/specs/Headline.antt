@@ -34,7 +34,7 @@ use Rattle.version_laws.specs.Directions.{ScanLaw}
 use Rattle.versions.specs.State.{Stands}
 use Rattle.versions.specs.declared.Pin.{Pin}
 use Rattle.versions.specs.declared.Rec.TheVariants.{Leaf as a_leaf}
-use Rattle.hot_index_calls.specs.Answers.{HaveMet, IsCause, IsListedBy, IsNoted, IsRefused, IsScannedBy, MayRefuse, range_from}
+use Rattle.hot_index_calls.specs.Answers.{HaveMet, IsCause, IsListedBy, IsNoted, IsRefusedFor, IsScannedBy, MayRefuse, range_from}
 use Rattle.hot_index_calls.specs.declared.census.RecordCounts.{RecordCounts}
 use Rattle.hot_index_calls.specs.Census.{HasCounted}
 use Rattle.hot_index_calls.specs.Counts.{round_steps, try_steps}
@@ -97,7 +97,7 @@ ScansShow IsLawful IsReached =
 -- that it had locked, and one.
 abbrev pub Refusals : Type 0
 Refusals =
-    (layout : Layout) (call : Call) (k j : PassView) (fault : TryFault) → IsRefused layout call k j fault → LegalCalls k.front k.number k.notes →
+    (layout : Layout) (call : Call) (k j : PassView) (fault : TryFault) → IsRefusedFor layout call k j fault → LegalCalls k.front k.number k.notes →
     (j.notes ≡ k.notes) × (own_changes j.number j.front ≡ own_changes k.number k.front) × IsCause layout (key_of call) k j fault × (layout.passes ≡ 1 → fault ≢ Busy)
 
 -- A call that gives its key a value is full only if its key was absent: it is never refused as full if the key was held all the while, and in

@@ -18,7 +18,7 @@ use Rattle.rowex_table.specs.Runs.{Ends, Runs, silent}
 use Rattle.rowex_table.specs.Seats.{IsNewSeatOf, IsShownAll, SeatView, TableView}
 use Rattle.rowex_table.specs.Traces.{IsTableRun, OthersStepOn, RunBeginsWith}
 use Rattle.rowex_writing.specs.declared.attempts.TryFault.{TryFault}
-use Rattle.hot_index_calls.specs.Answers.{IsNoted, IsRefused, MayRefuse}
+use Rattle.hot_index_calls.specs.Answers.{IsNoted, IsRefusedFor, MayRefuse}
 use Rattle.hot_index_calls.specs.Many.{AreNoted}
 use Rattle.hot_index_calls.specs.Passes.{pass_of}
 use Rattle.hot_index_calls.specs.Traces.{untold}
@@ -36,7 +36,7 @@ pub data HasEndedAs (layout : Layout) (q : ℕ) (calls : List Call) (s e : SeatV
   looked_up : (asked : List (Call × Reply)) → map (λ x. x.0) asked ≡ calls → (noted : AreNoted layout (pass_of s) (pass_of e) asked) →
       HasEndedAs layout q calls s e (responds q noted.added)
   quiet : calls ≡ [] → e.known.notes ≡ s.known.notes → LegalCalls e.known.front e.known.pass e.known.notes → HasEndedAs layout q calls s e (responds q [])
-  refused : (asked : Call) (fault : TryFault) → calls ≡ asked ∷ [] → IsRefused layout asked (pass_of s) (pass_of e) fault → MayRefuse asked fault →
+  refused : (asked : Call) (fault : TryFault) → calls ≡ asked ∷ [] → IsRefusedFor layout asked (pass_of s) (pass_of e) fault → MayRefuse asked fault →
       HasEndedAs layout q calls s e (refuses q)
 
 -- these steps of pass q, with no notes
@@ -55,15 +55,15 @@ call_of q calls acts last notes ended = invokes q calls ∷ (steps_of q acts ++ 
 -- What pass q of the table has done since it was new, up to this seat. Its calls are made by their steps (`HasRead`, `HasMade`, `HasTold`), and
 -- ended as their contracts say. It may have met another pass (`IsShownAll`, `HasSeenMore`), followed a stamp (`HasCaughtUp`) or made one
 -- (`HasStamped`).
-pub data HasDone (table : TableView) (q : ℕ) : List Happening → SeatView → Type 0 where
-  new : {s : SeatView} → IsNewSeatOf table q s → HasDone table q [] s
-  called : {done : List Happening} {s e : SeatView} → HasDone table q done s → (calls : List Call) (acts : List Act) (last : Act) (said : Known → List Note) →
+pub data HasGoneThrough (table : TableView) (q : ℕ) : List Happening → SeatView → Type 0 where
+  new : {s : SeatView} → IsNewSeatOf table q s → HasGoneThrough table q [] s
+  called : {done : List Happening} {s e : SeatView} → HasGoneThrough table q done s → (calls : List Call) (acts : List Act) (last : Act) (said : Known → List Note) →
       (ends : Ends table untold acts last said (s, tt) (e, tt)) → {ended : Happening} → HasEndedAs table.layout q calls s e ended →
-      HasDone table q (done ++ call_of q calls acts last (notes_of_end table acts last said s e ends) ended) e
-  shown : {done : List Happening} {s e : SeatView} → HasDone table q done s → IsShownAll table.layout s e → BeginsWith e.known.front s.known.front →
-      e.known ≡ with_front e.known.front s.known → HasDone table q (done ++ shows q e.known.front ∷ []) e
-  stamped : {done : List Happening} {s e : SeatView} → HasDone table q done s → e ≡ record s { asides = suc s.asides } →
-      HasDone table q (done ++ shows q s.known.front ∷ []) e
+      HasGoneThrough table q (done ++ call_of q calls acts last (notes_of_end table acts last said s e ends) ended) e
+  shown : {done : List Happening} {s e : SeatView} → HasGoneThrough table q done s → IsShownAll table.layout s e → BeginsWith e.known.front s.known.front →
+      e.known ≡ with_front e.known.front s.known → HasGoneThrough table q (done ++ shows q e.known.front ∷ []) e
+  stamped : {done : List Happening} {s e : SeatView} → HasGoneThrough table q done s → e ≡ record s { asides = suc s.asides } →
+      HasGoneThrough table q (done ++ shows q s.known.front ∷ []) e
 
 -- What all have done
 
@@ -71,7 +71,7 @@ pub data HasDone (table : TableView) (q : ℕ) : List Happening → SeatView →
 -- there, and goes on by steps of others. So all steps of the passes stand in it.
 pub record HaveEndedInOneRun (table : TableView) (run : List Event) (done : ℕ → List Happening) (seat : ℕ → SeatView) : Type 0 where
   pub led : IsTableRun table.layout run
-  pub each : (q : ℕ) → q < table.layout.passes → HasDone table q (done q) (seat q)
+  pub each : (q : ℕ) → q < table.layout.passes → HasGoneThrough table q (done q) (seat q)
   pub others : (q : ℕ) → q < table.layout.passes → OthersStepOn q (seat q).trace run
 
 -- whose happening it is
@@ -93,11 +93,11 @@ IsStepOf q (steps p act notes) = p ≡ q
 IsStepOf q _ = ⊥
 
 -- If the first invokes a call, the second is a step of its pass. If the second ends a call, the first is a step of its pass.
-abbrev pub IsNextTo : Happening → Happening → Type 0
-IsNextTo (invokes q calls) y = IsStepOf q y
-IsNextTo x (responds q notes) = IsStepOf q x
-IsNextTo x (refuses q) = IsStepOf q x
-IsNextTo x y = Unit {0}
+abbrev pub KeepCallsWhole : Happening → Happening → Type 0
+KeepCallsWhole (invokes q calls) y = IsStepOf q y
+KeepCallsWhole x (responds q notes) = IsStepOf q x
+KeepCallsWhole x (refuses q) = IsStepOf q x
+KeepCallsWhole x y = Unit {0}
 
 -- The execution is of this run. In it each pass has done just this, up to this seat, and no call is pending at last. Each call is invoked right
 -- before its first step, and ends right after its last one. So the order of calls in time is that of their steps in the run.
@@ -108,7 +108,7 @@ pub record IsExecutionOf (table : TableView) (run : List Event) (done : ℕ → 
   pub does : (q : ℕ) → q < table.layout.passes → happenings_of q happens last ≡ done q
   pub seats : (q : ℕ) → q < table.layout.passes → (at last).seat q ≡ seat q
   pub idle : (q : ℕ) → q < table.layout.passes → (at last).pending q ≡ None
-  pub next_to : (t : ℕ) → suc t < last → IsNextTo (happens t) (happens (suc t))
+  pub next_to : (t : ℕ) → suc t < last → KeepCallsWhole (happens t) (happens (suc t))
 
 -- So calls of passes whose traces have ended in one run are an execution, and linearizable, with no premise about executions.
 abbrev pub OneRunIsAnExecution : Type 0
@@ -125,7 +125,7 @@ OneRunIsAnExecution =
 abbrev pub ShownHaveEnded : Type 0
 ShownHaveEnded =
     (table : TableView) (run : List Event) (done : ℕ → List Happening) (seat shown : ℕ → SeatView) → IsTableRun table.layout run →
-    ((q : ℕ) → q < table.layout.passes → HasDone table q (done q) (seat q)) → ((q : ℕ) → q < table.layout.passes → RunBeginsWith run (seat q).trace) →
+    ((q : ℕ) → q < table.layout.passes → HasGoneThrough table q (done q) (seat q)) → ((q : ℕ) → q < table.layout.passes → RunBeginsWith run (seat q).trace) →
     ((q : ℕ) → q < table.layout.passes → IsShownAll table.layout (seat q) (shown q)) → ((q : ℕ) → q < table.layout.passes → RunBeginsWith (shown q).trace run) →
     HaveEndedInOneRun table run done seat
 
@@ -137,7 +137,7 @@ of_two x y q = if nat_eq q 0 then x else y
 -- know then.
 abbrev pub TwoThatMeetHaveEnded : Type 0
 TwoThatMeetHaveEnded =
-    (table : TableView) (ours theirs : List Happening) (s t u v : SeatView) → table.layout.passes ≡ 2 → HasDone table 0 ours s → HasDone table 1 theirs t →
+    (table : TableView) (ours theirs : List Happening) (s t u v : SeatView) → table.layout.passes ≡ 2 → HasGoneThrough table 0 ours s → HasGoneThrough table 1 theirs t →
     IsShownAll table.layout s u → IsShownAll table.layout t v → u.trace ≡ v.trace → HaveEndedInOneRun table u.trace (of_two ours theirs) (of_two s t)
 
 -- Steps with no notes, as those of a round of collection and of a count, are the steps of a call: the last one is its end.
@@ -154,7 +154,7 @@ AnInsertIsFound =
     ((seat 0).known.notes ≡ record { place = 0; call = Insert [] value; reply = Inserted } ∷ []) ×
     ((seat 1).known.notes ≡ record { place = 1; call = Get []; reply = Value value } ∷ [])
 
--- Steps of which a gate is told are steps with no gate, too: so what contracts say of calls with a gate is what `HasDone` asks.
+-- Steps of which a gate is told are steps with no gate, too: so what contracts say of calls with a gate is what `HasGoneThrough` asks.
 abbrev pub StepsNeedNoGate : {G : Type 0} → (G → Event → G → Type 0) → Type 0
 StepsNeedNoGate {G = G} becomes =
     (table : TableView) (acts : List Act) (a b : SeatView × G) → (Runs table becomes acts a b → Runs table untold acts (a.0, tt) (b.0, tt)) ×

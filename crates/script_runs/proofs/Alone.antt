@@ -120,7 +120,7 @@ module _ (index : TableView) where
   told_alone becomes a b h (refused call full ∷ answers) (m, (may, u), steps, rest) =
       flat_map-cons lines_of_answer (refused call full) answers
       ∙ ap (λ text. line (full_text full) ++ text)
-      (told_alone becomes m b (alone_unnoted a.0 m.0 h u.unnoted) answers rest ∙ ap (λ n. text_told n answers) (same_unnoted a.0 m.0 h u.unnoted))
+      (told_alone becomes m b (alone_unnoted a.0 m.0 h u.refused.unnoted) answers rest ∙ ap (λ n. text_told n answers) (same_unnoted a.0 m.0 h u.refused.unnoted))
   told_alone becomes a b h (listed range scan before after ∷ answers) (m, (s, first, last), steps, rest) =
       flat_map-cons lines_of_answer (listed range scan before after) answers
       ∙ ap₂ (λ lines text. lines ++ text) (lines_of_scan (map_of a.0.front) range scan (first_alone a.0 m.0 h range.from range.upto range.limit scan s))

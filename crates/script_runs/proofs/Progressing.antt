@@ -88,7 +88,7 @@ module _ {G : Type 0} (index : TableView) (becomes : G → Event → G → Type 
   -- the pass keeps its number
   number_kept : (k j : PassView) (answer : Answered) → IsCommandTold index.layout k answer j → j.number ≡ k.number
   number_kept k j (called note) c = c.number
-  number_kept k j (refused call full) (may, u) = u.unnoted.number
+  number_kept k j (refused call full) (may, u) = u.refused.unnoted.number
   number_kept k j (listed range scan before after) (s, first, last) = s.on.number
 
   events_by : (q : ℕ) (acts : List Act) → All (λ e. e.pass ≡ q) (events_of q acts)
@@ -222,13 +222,13 @@ module _ {G : Type 0} (index : TableView) (becomes : G → Event → G → Type 
       let k = a.0 in
       let m = n.0 in
       let j = b.0 in
-      let later = told_stood n b answers u.unnoted.legal u.unnoted.makers rest in record {
-        number = later.number ∙ u.unnoted.number;
-        front = begins_on k.front m.front j.front u.unnoted.front later.front;
-        notes = later.notes ∙ ap (λ ns. ns ++ filter_map note_of answers) u.unnoted.notes;
+      let later = told_stood n b answers u.refused.unnoted.legal u.refused.unnoted.makers rest in record {
+        number = later.number ∙ u.refused.unnoted.number;
+        front = begins_on k.front m.front j.front u.refused.unnoted.front later.front;
+        notes = later.notes ∙ ap (λ ns. ns ++ filter_map note_of answers) u.refused.unnoted.notes;
         legal = later.legal;
         makers = later.makers;
-        stand = (may, stand_lower j.front (length k.front) (length m.front) answers (begins_length m.front k.front u.unnoted.front) later.stand);
+        stand = (may, stand_lower j.front (length k.front) (length m.front) answers (begins_length m.front k.front u.refused.unnoted.front) later.stand);
       }
   told_stood a b (listed range scan before after ∷ answers) legal makers (n, (s, first, last), steps, rest) =
       let k = a.0 in

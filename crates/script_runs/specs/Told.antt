@@ -10,7 +10,7 @@ use Rattle.record_words.specs.Leaf.{words_for}
 use Rattle.rowex_core.specs.declared.event.Event.{Event}
 use Rattle.rowex_table.specs.Runs.{IsTold}
 use Rattle.rowex_table.specs.Seats.{TableView}
-use Rattle.hot_index_calls.specs.Answers.{IsRefused, IsScanned, MayLack, fault_of, range_from}
+use Rattle.hot_index_calls.specs.Answers.{IsRefusedFor, IsScanned, MayLack, fault_of, range_from}
 use Rattle.hot_index_calls.specs.Passes.{PassView, AreByPasses, IsNewPass, Owns}
 use Rattle.hot_index_calls.specs.Traces.{HasTold}
 use Rattle.hot_index.specs.Kept.{with_one_kept}
@@ -31,7 +31,7 @@ pub record IsCalled (layout : Layout) (k j : PassView) (note : Note) : Type 0 wh
 -- of leaf records each with room for its key.
 abbrev pub IsCommandTold : Layout → PassView → Answered → PassView → Type 0
 IsCommandTold layout k (called note) j = IsCalled layout k j note
-IsCommandTold layout k (refused call full) j = MayLack call full × IsRefused layout call k j (fault_of full)
+IsCommandTold layout k (refused call full) j = MayLack call full × IsRefusedFor layout call k j (fault_of full)
 IsCommandTold layout k (listed range scan before after) j =
     IsScanned layout k j (range_from range.from range.upto range.limit) scan × (before ≡ length j.fresh.front) × (after ≡ length j.front)
 

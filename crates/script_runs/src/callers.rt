@@ -1,7 +1,9 @@
 //! How a pass makes the calls of its script: it waits for others, or has nobody to wait for.
 
-ghost use Rattle.std.specs.Prelude.{◌≡◌, IfErr, MatchResult};
-ghost use Rattle.hot_index_calls.specs.Answers.{IsNoted, IsRefused, MayLack, fault_of};
+ghost use Rattle.std.specs.Prelude.{◌≡◌, IfErr};
+ghost use Rattle.hot_index_calls.specs.Answers.{MayLack};
+ghost use Rattle.hot_index_calls.specs.Asked.{last_try};
+ghost use Rattle.hot_index_calls.specs.Calls.{HasCause, IsOutcome};
 ghost use Rattle.hot_index.specs.Handles.{Stays};
 ghost use Rattle.hot_index_calls.specs.Traces.{HasTold};
 
@@ -25,8 +27,8 @@ pub trait Caller {
         gate: &mut G,
     ) -> Result<Reply, Full>
         requires { fits self.now handle.old.index }
-        ensures call { Stays (λ index k j. MatchResult result (IsNoted index.layout k j call.now)
-            (λ full. IsRefused index.layout call.now k j (fault_of full))) handle.old handle.new }
+        ensures call { Stays (IsOutcome call.now (last_try result)) handle.old handle.new }
+        ensures cause { Stays (HasCause call.now (last_try result)) handle.old handle.new }
         ensures lacks { IfErr result (MayLack call.now) }
         ensures told { HasTold handle.old.index G.becomes (handle.old.pass, gate.old) (handle.new.pass, gate.new) };
 }

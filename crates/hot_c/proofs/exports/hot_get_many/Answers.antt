@@ -12,5 +12,5 @@ returns-clause-call c =
     omega (arith, c.get_many.auto.found, c.deref_mut.ensures.len, c.in-Ok-from_elem.ensures.len, c.len.ensures, ap length c.in-Ok.ensures, length-map c.args.lookups.now key_in) in
     let found : c.deref-2.result.now ≡ c.get_many.new.found = c.deref-2.ensures.value ∙ first_of _ c.get_many.new.found _ (omega (arith, c.get_many.auto.found, c.deref_mut.ensures.len, c.in-Ok-from_elem.ensures.len)) in
     let told : c.write_found_values.new.lookups ≡ are_answered c.args.lookups.now c.deref-2.result.now = c.write_found_values.ensures in
-    looked_up _ _ _ _ _ _ _ c.deref.result.now c.get_many.new.found c.lend.ensures.value refl (c.if-not-have_fitting_keys.ensures.0 refl) keys many c.get_many.ensures refl
+    looked_up _ _ _ _ _ _ _ c.deref.result.now c.get_many.new.found c.lend.ensures.value refl (c.if-not-have_fitting_keys.ensures.0 refl) keys many (record { index = c.get_many.ensures.call.index; pass = (c.get_many.ensures.call.pass, c.get_many.ensures.made.pass) }) refl
     (told ∙ ap (are_answered c.args.lookups.now) found) refl

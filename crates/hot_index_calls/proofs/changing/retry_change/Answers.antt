@@ -62,7 +62,7 @@ loop-preserved g c =
     record {
       idle = o.replied.idle;
       spares = λ was. o.spares (c.loop.invariant.spares was);
-      waited = waited_from_before c.args.table.now.layout (pass_of c.args.seat.now) (pass_of c.loop.seat) (pass_of c.try_and_count.new.seat) c.loop.invariant.waited o.replied.refused.unnoted o.later;
+      waited = waited_from_before c.args.table.now.layout (pass_of c.args.seat.now) (pass_of c.loop.seat) (pass_of c.try_and_count.new.seat) c.loop.invariant.waited o.replied.refused.refused.unnoted o.later;
       refused = (
         refusals ++ c.in-Err.refusal ∷ [],
         refused_again _ _ _ refusals c.in-Err.refusal so_far o.tried passing,

@@ -11,13 +11,13 @@ use Rattle.rowex_writing.specs.declared.attempts.TryFault.{TryFault}
 use Rattle.rowex_writing.specs.Walks.{nodes_among}
 use Rattle.hot_index_calls.specs.Answers.{fault_of}
 use Rattle.hot_index_calls.specs.Asked.{HasAsked, HasLacked, HasReplied}
-use Rattle.hot_index_calls.specs.Calls.{IsTriedWith}
+use Rattle.hot_index_calls.specs.Calls.{IsTried}
 use Rattle.hot_index_calls.specs.Census.{loads_in}
 use Rattle.hot_index_calls.specs.Passes.{pass_of}
 use Rattle.hot_index_calls.specs.Refusals.{Judges, fault_in}
 use Rattle.hot_index_calls.specs.Traces.{AreAttempts}
 use Rattle.hot_index_calls.proofs.Refusing.{counted_replied, judged_fault, nodes_most, stepped_on, told_after}
-use Rattle.hot_index_calls.proofs.Trying.{tried_seen}
+use Rattle.hot_index_calls.proofs.Trying.{has_tried}
 use Rattle.hot_index_calls.proofs.changing.try_and_count.Goals as goal
 
 pub try_change-requires : goal.try_change-requires
@@ -31,7 +31,7 @@ returns-in-Ok g c =
       replied = asked.replied;
       stepped = (acts, ClearPin, ends);
       later = asked.later;
-      tried = record { mid = (pass_of c.try_change.new.seat, c.try_change.new.gate); tried = tried_seen refl refl asked c.in-Ok.ensures.few c.in-Ok.ensures.spares c.in-Ok.ensures.room; told = refl };
+      tried = record { mid = (pass_of c.try_change.new.seat, c.try_change.new.gate); tried = has_tried asked c.in-Ok.ensures.few c.in-Ok.ensures.spares c.in-Ok.ensures.room; told = refl };
       spares = c.in-Ok.ensures.spares;
       room = λ removal one was early is. cc;
     }
@@ -46,7 +46,7 @@ returns-in_default g c =
       replied = asked.replied;
       stepped = (acts, ClearPin, ends);
       later = asked.later;
-      tried = record { mid = (pass_of c.try_change.new.seat, c.try_change.new.gate); tried = tried_seen refl refl asked c.in-Err.ensures.few c.in-Err.ensures.spares (λ removal one was early is. cc); told = refl };
+      tried = record { mid = (pass_of c.try_change.new.seat, c.try_change.new.gate); tried = has_tried asked c.in-Err.ensures.few c.in-Err.ensures.spares (λ removal one was early is. cc); told = refl };
       spares = c.in-Err.ensures.spares;
       room = λ removal one was early is. cc;
     }
@@ -87,8 +87,8 @@ returns-in-Some-clause-tried g c =
     omega (arith, c.saturating_add-needs.ensures, c.count_node_records.ensures, ap (λ (l : List Rec). length (nodes_among l)) c.as_slice.ensures.value, nodes_most c.as_slice.result.now, c.as_slice.ensures.fits) in
     record {
       mid = (pass_of c.try_change.new.seat, c.try_change.new.gate);
-      tried = subst (λ (f : TryFault). IsTriedWith call (Err f) table g.G.Gate.becomes (pass_of c.args.seat.now, c.args.gate.now) (pass_of c.try_change.new.seat, c.try_change.new.gate)) (sym (judged_fault _ _ _ _ _ c.judge_lack.result c.judge_lack.ensures))
-          (tried_seen refl refl asked c.in-Err.ensures.few c.in-Err.ensures.spares (λ removal one was early is. c.in-Err.ensures.room removal one was early (ap Err c.in-Some.ensures.some ∙ is)));
+      tried = subst (λ (f : TryFault). IsTried call (Err f) table g.G.Gate.becomes (pass_of c.args.seat.now, c.args.gate.now) (pass_of c.try_change.new.seat, c.try_change.new.gate)) (sym (judged_fault _ _ _ _ _ c.judge_lack.result c.judge_lack.ensures))
+          (has_tried asked c.in-Err.ensures.few c.in-Err.ensures.spares (λ removal one was early is. c.in-Err.ensures.room removal one was early (ap Err c.in-Some.ensures.some ∙ is)));
       told = told_after {m = (c.try_change.new.seat, c.try_change.new.gate)} {b = (c.count_records-counts.new.seat, c.count_records-counts.new.gate)} c.count_records-counts.ensures.steps table.layout.nodes_in_range.0 call c.args.seat.now c.args.gate.now c.in-Some.lacks
           c.try_change.new.scratch.build.made.items c.saturating_add-needs.result lacked needs c.judge_lack.result judged;
     }

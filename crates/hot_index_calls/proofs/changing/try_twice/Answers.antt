@@ -46,7 +46,7 @@ returns-then-collect_between g c =
     let first = subst (λ (z : Result Reply TryFault). HasAsked table g.G.Gate.becomes (IsOneAttempt table) call z (c.args.seat.now, c.args.gate.now) (c.make_attempt-first.new.seat, c.make_attempt-first.new.gate)) c.in-Some.ensures.some c.make_attempt-first.ensures.asked in
     let round = between c.collect_between.ensures.collects in
     let again = c.make_attempt.ensures.asked in
-    let unnoted = first.replied.refused.unnoted in
+    let unnoted = first.replied.refused.refused.unnoted in
     let later = round_later k (c.make_attempt-first.new.seat, c.make_attempt-first.new.gate) (c.collect_between.new.seat, c.collect_between.new.gate) unnoted first.later first.replied.idle.1 round in
     let both = outcome_then table.layout k (pass_of c.collect_between.new.seat) (pass_of c.make_attempt.new.seat) (then_collected k (c.make_attempt-first.new.seat, c.make_attempt-first.new.gate) (c.collect_between.new.seat, c.collect_between.new.gate) unnoted first.later first.replied.idle.1 round) later call c.make_attempt.result again.replied.noted again.replied.refused in
     record {
@@ -59,7 +59,7 @@ returns-then-collect_between g c =
           (nodes_among c.make_attempt.new.scratch.build.made.items) later refl refl (c.make_attempt.ensures.lacks is);
       few = (
           let count = round.few in
-          let twice = twice_few call table.layout k (pass_of c.make_attempt-first.new.seat) (first.replied.refused.full (full_fault c.in-Some.lacks)) in
+          let twice = twice_few call table.layout k (pass_of c.make_attempt-first.new.seat) (first.replied.refused.refused.full (full_fault c.in-Some.lacks)) in
           omega (arith, c.make_attempt-first.ensures.few, count, c.make_attempt.ensures.few, twice)
           );
       spares = λ was. c.make_attempt.ensures.spares (collects_spare c.args.table.now g.G.Gate.becomes (c.make_attempt-first.new.seat, c.make_attempt-first.new.gate) (c.collect_between.new.seat, c.collect_between.new.gate) c.collect_between.ensures.collects (c.make_attempt-first.ensures.spares was));
@@ -79,7 +79,7 @@ returns g c =
     let first = subst (λ (z : Result Reply TryFault). HasAsked table g.G.Gate.becomes (IsOneAttempt table) call z (c.args.seat.now, c.args.gate.now) (c.make_attempt-first.new.seat, c.make_attempt-first.new.gate)) c.in-Some.ensures.some c.make_attempt-first.ensures.asked in
     let round = between c.collect_between.ensures.collects in
     let again = c.pin_and_unpin.ensures.rested in
-    let unnoted = first.replied.refused.unnoted in
+    let unnoted = first.replied.refused.refused.unnoted in
     let later = round_later k (c.make_attempt-first.new.seat, c.make_attempt-first.new.gate) (c.collect_between.new.seat, c.collect_between.new.gate) unnoted first.later first.replied.idle.1 round in
     let collected = then_collected k (c.make_attempt-first.new.seat, c.make_attempt-first.new.gate) (c.collect_between.new.seat, c.collect_between.new.gate) unnoted first.later first.replied.idle.1 round in
     let cause = cause_still (key_of call) k (c.make_attempt-first.new.seat, c.make_attempt-first.new.gate) (c.collect_between.new.seat, c.collect_between.new.gate) (c.pin_and_unpin.new.seat, c.pin_and_unpin.new.gate) round again.failed again.unnoted.number fault (lacked_full c.in-Some.lacks) first.replied.refused.cause in
@@ -88,12 +88,14 @@ returns g c =
         idle = again.idle;
         noted = tt;
         refused = record {
-          unnoted = unnoted_then table.layout k (pass_of c.collect_between.new.seat) (pass_of c.pin_and_unpin.new.seat) collected later again.unnoted;
-          cause = cause;
-          full = λ full. may_take_from_before call k k (pass_of c.make_attempt-first.new.seat) (pass_of c.pin_and_unpin.new.seat) (no_further refl)
-              (begins_on c.make_attempt-first.new.seat.known.front c.collect_between.new.seat.known.front c.pin_and_unpin.new.seat.known.front
-              (no_further (ap (λ (z : Known). z.front) round.does.rest)) again.unnoted.front)
-              (again.fresh ∙ ap (λ (z : Known). z.fresh) round.does.rest) (first.replied.refused.full full);
+            cause = cause;
+            refused = record {
+              unnoted = unnoted_then table.layout k (pass_of c.collect_between.new.seat) (pass_of c.pin_and_unpin.new.seat) collected later again.unnoted;
+              full = λ full. may_take_from_before call k k (pass_of c.make_attempt-first.new.seat) (pass_of c.pin_and_unpin.new.seat) (no_further refl)
+                  (begins_on c.make_attempt-first.new.seat.known.front c.collect_between.new.seat.known.front c.pin_and_unpin.new.seat.known.front
+                  (no_further (ap (λ (z : Known). z.front) round.does.rest)) again.unnoted.front)
+                  (again.fresh ∙ ap (λ (z : Known). z.fresh) round.does.rest) (first.replied.refused.refused.full full);
+            };
         };
         leafless = first.replied.leafless;
         loaded = subst (λ (z : Fresh). c.args.seat.now.known.steps ≤ z.step) (sym (again.fresh ∙ ap (λ (z : Known). z.fresh) round.does.rest)) first.replied.loaded;
@@ -107,7 +109,7 @@ returns g c =
           (c.make_attempt-first.ensures.lacks is));
       few = (
           let count = round.few in
-          let twice = twice_few call table.layout k (pass_of c.make_attempt-first.new.seat) (first.replied.refused.full (full_fault c.in-Some.lacks)) in
+          let twice = twice_few call table.layout k (pass_of c.make_attempt-first.new.seat) (first.replied.refused.refused.full (full_fault c.in-Some.lacks)) in
           omega (arith, c.make_attempt-first.ensures.few, count, again.steps, twice)
           );
       spares = λ was. c.pin_and_unpin.ensures.spares (collects_spare c.args.table.now g.G.Gate.becomes (c.make_attempt-first.new.seat, c.make_attempt-first.new.gate) (c.collect_between.new.seat, c.collect_between.new.gate) c.collect_between.ensures.collects (c.make_attempt-first.ensures.spares was));

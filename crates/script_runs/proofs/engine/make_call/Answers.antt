@@ -10,4 +10,4 @@ returns-in-Ok-clause-told g c =
 pub returns-in-Err-clause-told : goal.returns-in-Err-clause-told
 returns-in-Err-clause-told g c =
     let call = c.in-Err.ensures.call in
-    record { index = call.index; pass = (0, (c.in-Err.ensures.lacks, call.pass)) }
+    record { index = call.index; pass = (0, (c.in-Err.ensures.lacks, record { refused = call.pass; cause = c.in-Err.ensures.cause.pass })) }

@@ -1,5 +1,11 @@
--- A removal needs no leaf record.
+-- The change is that of the index on the handle's pass.
+use Rattle.finite_map.specs.declared.Call.TheVariants.{Remove}
+use Rattle.hot_index_calls.specs.Calls.{HasCause}
+use Rattle.hot_index.proofs.Staying.{stays}
 use Rattle.hot_index.proofs.handle.Handle.try_remove.Goals as goal
 
 pub returns-clause-leafless : goal.returns-clause-leafless
 returns-clause-leafless g c = c.try_remove.ensures.leafless
+
+pub returns-clause-cause : goal.returns-clause-cause
+returns-clause-cause g c = stays (HasCause (Remove c.args.key.now) c.try_remove.result) _ _ _ _ _ c.show.ensures c.self.view_is c.try_remove.ensures.cause

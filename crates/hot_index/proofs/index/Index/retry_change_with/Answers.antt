@@ -1,5 +1,6 @@
 -- What the call leaves on the seat, as the pass sees it.
-use Rattle.hot_index_calls.proofs.Trying.{awaited_seen}
+use Rattle.hot_index_calls.proofs.Trying.{replied_cause, replied_outcome, replied_own, room_seen, stepped_told, tries_seen, waited_leafless}
+use Rattle.hot_index_calls.specs.Asked.{last_try}
 use Rattle.hot_index.proofs.Counted.{waited_on}
 use Rattle.hot_index.proofs.index.Index.retry_change_with.Goals as goal
 
@@ -9,4 +10,15 @@ invariant_of-pass g c =
     c.retry_change-answer.ensures.replied c.note_answer.ensures c.pass.invariant
 
 pub returns : goal.returns
-returns g c = awaited_seen c.self.view_is c.pass.view_is c.retry_change-answer.ensures.replied c.retry_change-answer.ensures.stepped c.retry_change-answer.ensures.tries c.retry_change-answer.ensures.spares c.retry_change-answer.ensures.room
+returns g c =
+    let o = c.retry_change-answer.ensures in
+    let last = last_try c.retry_change-answer.result in
+    record {
+      own = replied_own c.self.view_is c.pass.view_is o.replied;
+      call = replied_outcome c.self.view_is c.pass.view_is last o.replied;
+      cause = replied_cause c.self.view_is c.pass.view_is last o.replied;
+      leafless = waited_leafless c.args.call.now c.retry_change-answer.result o.replied.leafless;
+      tries = tries_seen c.self.view_is c.pass.view_is c.retry_change-answer.result o.tries;
+      told = stepped_told c.self.view_is c.pass.view_is o.stepped o.replied.loaded;
+      room = room_seen c.self.view_is c.pass.view_is last o.spares o.room;
+    }

@@ -4,7 +4,16 @@ use Rattle.hot_index.proofs.Held.{is_busy}
 use Rattle.hot_index.proofs.index.Index.try_add_with.Goals as goal
 
 pub returns-clause-call : goal.returns-clause-call
-returns-clause-call g c = rw c.copy.ensures.same at c.try_change_with.ensures
+returns-clause-call g c = rw c.copy.ensures.same at c.try_change_with.ensures.call
+
+pub returns-clause-cause : goal.returns-clause-cause
+returns-clause-cause g c = rw c.copy.ensures.same at c.try_change_with.ensures.cause
+
+pub returns-clause-made : goal.returns-clause-made
+returns-clause-made g c = rw c.copy.ensures.same at c.try_change_with.ensures.made
+
+pub returns-clause-room : goal.returns-clause-room
+returns-clause-room g c = rw c.copy.ensures.same at c.try_change_with.ensures.room
 
 pub returns-clause-busy : goal.returns-clause-busy
 returns-clause-busy g c = is_busy c.args.self.now.layout c.args.pass.now c.try_change_with.new.pass (Add c.copy.result c.args.delta) (λ may. may) c.try_change_with.result c.try_change_with.ensures.call

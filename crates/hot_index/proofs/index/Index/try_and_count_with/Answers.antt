@@ -1,5 +1,6 @@
 -- What the call leaves on the seat, as the pass sees it.
-use Rattle.hot_index_calls.proofs.Trying.{counted_seen}
+use Rattle.hot_index_calls.proofs.Trying.{counted_seen, replied_cause, replied_outcome, replied_own}
+use Rattle.hot_index_calls.specs.Refusals.{as_tried}
 use Rattle.hot_index.proofs.Counted.{counted_on}
 use Rattle.hot_index.proofs.index.Index.try_and_count_with.Goals as goal
 
@@ -9,4 +10,13 @@ invariant_of-pass g c =
     c.try_and_count-answer.ensures.replied c.note_answer.ensures c.pass.invariant
 
 pub returns : goal.returns
-returns g c = counted_seen c.try_and_count-answer.result c.self.view_is c.pass.view_is c.try_and_count-answer.ensures.replied c.try_and_count-answer.ensures.tried
+returns g c =
+    let o = c.try_and_count-answer.ensures in
+    let tried = as_tried c.try_and_count-answer.result in
+    record {
+      own = replied_own c.self.view_is c.pass.view_is o.replied;
+      call = replied_outcome c.self.view_is c.pass.view_is tried o.replied;
+      cause = replied_cause c.self.view_is c.pass.view_is tried o.replied;
+      leafless = o.replied.leafless;
+      made = counted_seen c.self.view_is c.pass.view_is c.try_and_count-answer.result o.tried;
+    }

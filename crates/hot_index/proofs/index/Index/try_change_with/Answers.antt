@@ -1,5 +1,5 @@
 -- What the call leaves on the seat, as the pass sees it.
-use Rattle.hot_index_calls.proofs.Trying.{tried_seen}
+use Rattle.hot_index_calls.proofs.Trying.{made_seen, replied_cause, replied_outcome, replied_own, room_seen}
 use Rattle.hot_index.proofs.Counted.{tried_on}
 use Rattle.hot_index.proofs.index.Index.try_change_with.Goals as goal
 
@@ -9,4 +9,14 @@ invariant_of-pass g c =
     c.try_change-answer.ensures.asked.replied c.note_answer.ensures c.pass.invariant
 
 pub returns : goal.returns
-returns g c = tried_seen c.self.view_is c.pass.view_is c.try_change-answer.ensures.asked c.try_change-answer.ensures.few c.try_change-answer.ensures.spares c.try_change-answer.ensures.room
+returns g c =
+    let o = c.try_change-answer.ensures in
+    let replied = o.asked.replied in
+    record {
+      own = replied_own c.self.view_is c.pass.view_is replied;
+      call = replied_outcome c.self.view_is c.pass.view_is c.try_change-answer.result replied;
+      cause = replied_cause c.self.view_is c.pass.view_is c.try_change-answer.result replied;
+      leafless = replied.leafless;
+      made = made_seen c.self.view_is c.pass.view_is o.asked o.few;
+      room = room_seen c.self.view_is c.pass.view_is c.try_change-answer.result o.spares o.room;
+    }

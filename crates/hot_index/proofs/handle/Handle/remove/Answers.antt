@@ -1,0 +1,9 @@
+-- The change is that of the index on the handle's pass.
+use Rattle.finite_map.specs.declared.Call.TheVariants.{Remove}
+use Rattle.hot_index_calls.specs.Asked.{last_try}
+use Rattle.hot_index_calls.specs.Calls.{HasCause}
+use Rattle.hot_index.proofs.Staying.{stays}
+use Rattle.hot_index.proofs.handle.Handle.remove.Goals as goal
+
+pub returns-clause-cause : goal.returns-clause-cause
+returns-clause-cause g c = stays (HasCause (Remove c.args.key.now) (last_try c.remove.result)) _ _ _ _ _ c.show.ensures c.self.view_is c.remove.ensures.cause
