@@ -18,6 +18,7 @@ use Rattle.rowex_writing.specs.declared.attempts.TryFault.TheVariants.{Busy, Ful
 use Rattle.rowex_writing.specs.declared.plan.Full.{Full}
 use Rattle.rowex_writing.specs.declared.plan.Full.TheVariants.{Nodes, Leaves}
 use Rattle.hot_index_calls.specs.Answers.{IsNoted, IsRefused, IsRefusedFor, MayTake, WasFound, fault_of}
+use Rattle.hot_index_calls.specs.Asked.{last_try}
 use Rattle.hot_index_calls.specs.Passes.{AreByPasses, PassView}
 use Rattle.hot_index_calls.proofs.Noting.{All-part}
 use Rattle.hot_index.specs.Statements.{AbsentIsNeverFull, GivesValue, HeldIsNeverFull, OnePassRefusesNewAlone}
