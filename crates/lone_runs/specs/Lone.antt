@@ -60,9 +60,11 @@ IsUnpublished act = Unit {0}
 
 -- steps that are no publishes leave one spare
 abbrev pub SpareStays : {G : Type 0} → (G → Event → G → Type 0) → Type 0
-SpareStays {G = G} becomes = (table : TableView) (acts : List Act) (a b : SeatView × G) → All IsUnpublished acts → Runs table becomes acts a b → KeepsSpare table.layout a.0 b.0
+SpareStays {G = G} becomes =
+    (table : TableView) (acts : List Act) (a b : SeatView × G) → All IsUnpublished acts → Runs table becomes acts a b → KeepsSpare table.layout a.0 b.0
 
 -- and free what was free, if the pass has no record after them
 abbrev pub FreeStays : {G : Type 0} → (G → Event → G → Type 0) → Type 0
-FreeStays {G = G} becomes = (table : TableView) (acts : List Act) (a b : SeatView × G) → All IsUnpublished acts → Runs table becomes acts a b → b.0.known.own ≡ [] →
+FreeStays {G = G} becomes =
+    (table : TableView) (acts : List Act) (a b : SeatView × G) → All IsUnpublished acts → Runs table becomes acts a b → b.0.known.own ≡ [] →
     (n : ℕ) → IsFreeAt table.layout a.0 n → IsFreeAt table.layout b.0 n

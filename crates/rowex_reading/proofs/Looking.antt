@@ -23,7 +23,7 @@ use Rattle.rowex_table.specs.Seats.{TableView, SeatView}
 use Rattle.rowex_reading.specs.Lookups.{HasFound, HasSearched}
 use Rattle.rowex_reading.specs.Reads.{Looks, Reads, ReadsRoot}
 use Rattle.rowex_reading.specs.Seen.{seen, Sure, since, IsAtRoot, IsCompared, IsLedTo, HasPlace}
-use Rattle.rowex_reading.specs.Together.{IsOnWay}
+use Rattle.rowex_reading.specs.Together.{HasComeTo}
 use Rattle.rowex_core.specs.Knowing.{IsPinnedSince}
 use Rattle.rowex_reading.proofs.Led.{led_shape, looks_first, looks_on, reads_later, reads_trans, root_pinned, same_since, shape_place}
 use Rattle.rowex_reading.proofs.Seeing.{sure_later, sure_map, since_later, seen_steady, led_stable, shaped_stable}
@@ -59,19 +59,19 @@ leaf_missed s m steady k n l v (o, fork p x y, lo, hi, st, pg, inl follows) r ne
 -- Of a pass
 
 -- the root's entry is on each key's way
-pub way_first : {k : Known} (key : Key) (e : Entry) → IsAtRoot k e → IsOnWay k key e
+pub way_first : {k : Known} (key : Key) (e : Entry) → IsAtRoot k e → HasComeTo k key e
 way_first {k} key e (pinned, rooted) = record {
   pinned = pinned;
   led = λ c lawful recalls. rooted_led (seen c k) (since k) (seen_steady lawful recalls pinned) key e (rooted c lawful recalls);
 }
 
 -- what the way has led to stood in the tree
-pub way_led : {k : Known} {key : Key} (e : Entry) → IsOnWay k key e → IsLedTo k (since k) e
+pub way_led : {k : Known} {key : Key} (e : Entry) → HasComeTo k key e → IsLedTo k (since k) e
 way_led {k} {key} e way = (way.pinned, sure_map (λ s h. led_seen s (since k) key e h) way.led)
 
 module _ {G : Type 0} {table : TableView} {becomes : G → Event → G → Type 0} where
   -- and it is on the way still after more loads
-  pub way_on : {f n : ℕ} {a b : SeatView × G} {key : Key} (e : Entry) → Reads table becomes f n a b → IsOnWay a.0.known key e → IsOnWay b.0.known key e
+  pub way_on : {f n : ℕ} {a b : SeatView × G} {key : Key} (e : Entry) → Reads table becomes f n a b → HasComeTo a.0.known key e → HasComeTo b.0.known key e
   way_on {a = a} {b = b} {key = key} e reads way =
       let kept : since b.0.known ≡ since a.0.known = same_since reads in
       record {
@@ -80,7 +80,7 @@ module _ {G : Type 0} {table : TableView} {becomes : G → Event → G → Type 
       }
 
   -- It has led to a node, whose forks are known: there is an entry at the key's place.
-  module _ {b c : SeatView × G} {key : Key} (n height : ℕ) (forks : Subtrie) (place : ℕ) (way : IsOnWay b.0.known key (Node n height)) {loads : ℕ} (reads : Reads table becomes 0 loads b c)
+  module _ {b c : SeatView × G} {key : Key} (n height : ℕ) (forks : Subtrie) (place : ℕ) (way : HasComeTo b.0.known key (Node n height)) {loads : ℕ} (reads : Reads table becomes 0 loads b c)
       (shaped : Sure c.0.known (λ s. IsShaped s (since b.0.known) n forks)) (leads : place ≡ spot key forks) where
     abbrev m : ℕ
     m = since b.0.known
@@ -89,7 +89,7 @@ module _ {G : Type 0} {table : TableView} {becomes : G → Event → G → Type 
     way_place = shape_place (led_shape m n height forks reads (way_led (Node n height) way) shaped) (subst (λ z. z < size forks) (sym leads) (spot_below key forks))
 
     -- one node down
-    pub way_next : {i : SeatView × G} (e : Entry) → Reads table becomes 1 1 c i → Sure i.0.known (λ s. IsPlaced s (since b.0.known) n place e) → IsOnWay i.0.known key e
+    pub way_next : {i : SeatView × G} (e : Entry) → Reads table becomes 1 1 c i → Sure i.0.known (λ s. IsPlaced s (since b.0.known) n place e) → HasComeTo i.0.known key e
     way_next {i} e one placed = record {
       pinned = subst (IsPinnedSince i.0.known) (sym kept) pinned;
       led = subst (λ o. Sure i.0.known (λ s. IsLed s o key e)) (sym kept)
@@ -113,7 +113,7 @@ module _ {G : Type 0} {table : TableView} {becomes : G → Event → G → Type 
         leads_on = sure_later (led_stable m key (Node n height)) (reads_later both) way.led
 
   -- it has led to a leaf, which has been compared
-  pub way_found : {b c : SeatView × G} {key : Key} (n : ℕ) {loads : ℕ} → IsOnWay b.0.known key (Leaf n) → Reads table becomes 0 loads b c → (found : Option ℕ) →
+  pub way_found : {b c : SeatView × G} {key : Key} (n : ℕ) {loads : ℕ} → HasComeTo b.0.known key (Leaf n) → Reads table becomes 0 loads b c → (found : Option ℕ) →
       ((m : ℕ) → IsLedTo b.0.known m (Leaf n) → Sure c.0.known (λ s. IsCompared s m n key found)) → HasFound c.0.known key found
   way_found {b} {c} {key} n way reads (Some v) told =
       let m : ℕ = since b.0.known in
@@ -136,7 +136,7 @@ pub record IsAt {G : Type 0} (table : TableView) (becomes : G → Event → G �
   pub low : height ≤ 9 * MAX_BYTES
   pub few : loaded ≤ 26 * passed
   pub looks : Looks table becomes passed loaded a b
-  pub way : IsOnWay b.0.known key e
+  pub way : HasComeTo b.0.known key e
 
 module _ {G : Type 0} {table : TableView} {becomes : G → Event → G → Type 0} where
   -- the load of the root
@@ -169,8 +169,8 @@ module _ {G : Type 0} {table : TableView} {becomes : G → Event → G → Type 
     -- It is a node, whose forks are known: there is an entry at the key's place.
     module _ {c : SeatView × G} (n height : ℕ) (forks : Subtrie) (place : ℕ) (is : d ≡ Node n height) {loads : ℕ} (most : loads ≤ HEAD_WORDS) (reads : Reads table becomes 0 loads b c)
         (shaped : Sure c.0.known (λ s. IsShaped s (since b.0.known) n forks)) (leads : place ≡ spot key forks) where
-      way : IsOnWay b.0.known key (Node n height)
-      way = subst (IsOnWay b.0.known key) is at.way
+      way : HasComeTo b.0.known key (Node n height)
+      way = subst (HasComeTo b.0.known key) is at.way
 
       pub place_of : HasPlace c.0.known (since b.0.known) n height place
       place_of = way_place n height forks place way reads shaped leads
@@ -200,4 +200,4 @@ module _ {G : Type 0} {table : TableView} {becomes : G → Event → G → Type 
       }
 
       pub leaf_found : (found : Option ℕ) → ((m : ℕ) → IsLedTo b.0.known m (Leaf n) → Sure c.0.known (λ s. IsCompared s m n key found)) → HasFound c.0.known key found
-      leaf_found found told = way_found n (subst (IsOnWay b.0.known key) is at.way) reads found told
+      leaf_found found told = way_found n (subst (HasComeTo b.0.known key) is at.way) reads found told

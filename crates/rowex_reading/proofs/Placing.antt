@@ -32,7 +32,7 @@ use Rattle.version_laws.proofs.Ends.{placed_falls}
 use Rattle.version_laws.proofs.Loads.{subtrie_at}
 use Rattle.version_laws.proofs.Scans.{record_node, shaped}
 use Rattle.rowex_reading.specs.Possible.{IsPossible}
-use Rattle.rowex_reading.specs.Seen.{seen, Sure, HasRoom, HasPlace, IsLedTo}
+use Rattle.rowex_reading.specs.Seen.{seen, Sure, HasMorePlaces, HasPlace, IsLedTo}
 use Rattle.rowex_table.specs.Made.{IsLater}
 use Rattle.rowex_reading.proofs.Seeing.{recalls_before, seen_steady, room_stable, seen_stable, sure_later, since_later}
 use Rattle.rowex_reading.proofs.Later.{event_knows, event_recalls}
@@ -109,7 +109,7 @@ module _ (layout : Layout) (k j : Known) (n i w : ℕ) (event : IsEvent layout (
           (λ a lo st. let f = (is.fact c known).1 a lo st in (f.0, f.1, f.2, f.3, f.4, f.5 ∙ word_is)) in
           let v = record_node n found.1 found.4.is_record in
           let st : Stood (seen c j) m n v.1 = stood_if_stands (seen c j) m n found.0 found.1 v.0 v.1 v.2 found.2 found.3 found.4 in
-          let room : HasRoom (seen c j) m n i = sure_later {P = λ s. HasRoom s m n i} (room_stable m n i) slot_later has.1 c lawful known in
+          let room : HasMorePlaces (seen c j) m n i = sure_later {P = λ s. HasMorePlaces s m n i} (room_stable m n i) slot_later has.1 c lawful known in
           let same : shape (subtrie v.1) ≡ room.0 = shaped (seen c j) m (seen_steady lawful known (since_later slot_later has.0.0)) n room.0 v.1 room.1 st in
           let inside : i < size (subtrie v.1) = place_below i (subtrie v.1) room.0 same room.2 in
           record {

@@ -24,7 +24,7 @@ use Rattle.rowex_core.specs.Cores.{Core, IsLawful}
 use Rattle.rowex_core.specs.Knowing.{Recalls, IsPinnedSince}
 use Rattle.version_laws.specs.Scan.{EntryStoodSince, IsRooted, IsPlaced, IsShaped, IsRead, IsBlank}
 use Rattle.version_laws.proofs.Persist.{rooted_grown, placed_grown, shaped_grown, read_grown}
-use Rattle.rowex_reading.specs.Seen.{seen, shape_of, Sure, HasRoom}
+use Rattle.rowex_reading.specs.Seen.{seen, shape_of, Sure, HasMorePlaces}
 use Rattle.rowex_table.specs.Made.{IsLater}
 pub use Rattle.rowex_table.proofs.ActsBefore.{later_trans, recalls_before}
 use Rattle.rowex_core.proofs.Loading.{view}
@@ -108,7 +108,7 @@ placed_stable m r j e a b g h = placed_grown a b g m r j e h
 pub shaped_stable : (m r : ℕ) (p : Subtrie) → IsStable (λ s. IsShaped s m r p)
 shaped_stable m r p a b g h = shaped_grown a b g m r p h
 
-pub room_stable : (m r i : ℕ) → IsStable (λ s. HasRoom s m r i)
+pub room_stable : (m r i : ℕ) → IsStable (λ s. HasMorePlaces s m r i)
 room_stable m r i a b g (x, shaped, low) = (x, shaped_stable m r x a b g shaped, low)
 
 pub read_stable : (m r : ℕ) (k : Key) (v : ℕ) → IsStable (λ s. IsRead s m r k v)

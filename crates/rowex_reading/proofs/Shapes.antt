@@ -12,7 +12,7 @@ use Rattle.rowex_core.proofs.Owning.{recalls}
 use Rattle.version_laws.specs.Scan.{IsShaped}
 use Rattle.version_laws.proofs.Scans.{shaped}
 use Rattle.rowex_reading.specs.Possible.{IsPossible}
-use Rattle.rowex_reading.specs.Seen.{HasPlace, HasRoom, Sure, seen, shape_of}
+use Rattle.rowex_reading.specs.Seen.{HasPlace, HasMorePlaces, Sure, seen, shape_of}
 use Rattle.rowex_reading.proofs.Seeing.{seen_steady}
 
 -- forks that were read twice
@@ -32,6 +32,6 @@ pub place_inside : (layout : Layout) (k : Known) (m n h i : ℕ) (x : Subtrie) �
 place_inside layout k m n h i x possible has shape_read =
     let c = possible.core in
     let known = recalls c k possible.knows in
-    let room : HasRoom (seen c k) m n i = has.1 c possible.lawful known in
+    let room : HasMorePlaces (seen c k) m n i = has.1 c possible.lawful known in
     let same : room.0 ≡ x = sym room.1.2 ∙ shaped (seen c k) m (seen_steady possible.lawful known has.0.0) n x room.1.0 (shape_read c possible.lawful known) room.1.1 in
     subst (λ z. i < size z) same room.2

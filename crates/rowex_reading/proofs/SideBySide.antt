@@ -20,7 +20,7 @@ use Rattle.version_laws.specs.Scan.{IsRooted}
 use Rattle.rowex_reading.specs.Lookups.{HasFound, HaveFound, HaveSearched}
 use Rattle.rowex_reading.specs.Reads.{IsReader, Reads, ReadsRoot}
 use Rattle.rowex_reading.specs.Seen.{IsAtRoot, Sure, since}
-use Rattle.rowex_reading.specs.Together.{AreLeaves, AreOnWay, IsOnWay, ReadsForAll, heights_in}
+use Rattle.rowex_reading.specs.Together.{AreLeaves, AreOnWay, HasComeTo, ReadsForAll, heights_in}
 use Rattle.rowex_reading.proofs.Led.{looks_first, looks_on, reader_then, reads_later, reads_trans, same_since}
 use Rattle.rowex_reading.proofs.Looking.{way_first, way_on}
 use Rattle.rowex_reading.proofs.Seeing.{held_stable, missed_stable, rooted_stable, since_later, sure_later}
@@ -123,13 +123,13 @@ module _ {G : Type 0} {table : TableView} {becomes : G → Event → G → Type 
 
 -- each key's way begins at the root
 pub ways_first : {k : Known} (keys : List Key) (n m : ℕ) (root : Entry) → IsAtRoot k root → AreOnWay k keys (take n (replicate m root))
-ways_first {k} keys n m root at i key e is there = subst (IsOnWay k key) (in_replicate n m i root e there) (way_first key root at)
+ways_first {k} keys n m root at i key e is there = subst (HasComeTo k key) (in_replicate n m i root e there) (way_first key root at)
 
 -- one goes on
-pub ways_more : {k : Known} (keys : List Key) (tips : List Entry) (i : ℕ) (key : Key) (e : Entry) → AreOnWay k keys tips → slice_get keys i ≡ Some key → IsOnWay k key e → AreOnWay k keys (set tips i e)
+pub ways_more : {k : Known} (keys : List Key) (tips : List Entry) (i : ℕ) (key : Key) (e : Entry) → AreOnWay k keys tips → slice_get keys i ≡ Some key → HasComeTo k key e → AreOnWay k keys (set tips i e)
 ways_more {k} keys tips i key e are here way j other d is at =
     ⊎_elim
-    (λ (both : (j ≡ i) × (e ≡ d)). subst (λ (z : Key × Entry). IsOnWay k z.0 z.1) (λ x. (same_there keys i j key other (sym both.0) here is x, both.1 x)) way)
+    (λ (both : (j ≡ i) × (e ≡ d)). subst (λ (z : Key × Entry). HasComeTo k z.0 z.1) (λ x. (same_there keys i j key other (sym both.0) here is x, both.1 x)) way)
     (λ (old : slice_get tips j ≡ Some d). are j other d is old)
     (in_set tips i j e d at)
 
@@ -162,7 +162,7 @@ module _ {G : Type 0} {table : TableView} {becomes : G → Event → G → Type 
     (gone : HaveGone table becomes keys a before i b tips lower) (low : i < length keys) where
   -- one more goes down
   pub gone_down : {c : SeatView × G} (key : Key) (n h : ℕ) (e : Entry) → slice_get keys i ≡ Some key → get_or tips i (Leaf 0) ≡ Node n h → (m : ℕ) → m ≤ 26 → Reads table becomes 1 m b c →
-      (height_of e < h) × IsOnWay c.0.known key e → HaveGone table becomes keys a before (i + 1) c (set tips i e) true
+      (height_of e < h) × HasComeTo c.0.known key e → HaveGone table becomes keys a before (i + 1) c (set tips i e) true
   gone_down {c} key n h e here is m most reads entered = record {
     reader = reader_then gone.reader reads;
     room = length-set tips i e ∙ gone.room;

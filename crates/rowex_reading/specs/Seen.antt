@@ -46,12 +46,12 @@ abbrev pub IsLedTo : Known → ℕ → Entry → Type 0
 IsLedTo k m e = IsPinnedSince k m × Sure k (λ s. EntryStoodSince s m e)
 
 -- the node stood since m with more places than this one
-abbrev pub HasRoom : Past → ℕ → ℕ → ℕ → Type 0
-HasRoom s m n i = (x : Subtrie) × IsShaped s m n x × (i < size x)
+abbrev pub HasMorePlaces : Past → ℕ → ℕ → ℕ → Type 0
+HasMorePlaces s m n i = (x : Subtrie) × IsShaped s m n x × (i < size x)
 
 -- it was led to the node, which has an entry at this place
 abbrev pub HasPlace : Known → ℕ → ℕ → ℕ → ℕ → Type 0
-HasPlace k m n h i = IsLedTo k m (Node n h) × Sure k (λ s. HasRoom s m n i)
+HasPlace k m n h i = IsLedTo k m (Node n h) × Sure k (λ s. HasMorePlaces s m n i)
 
 -- The pass has read this head of the node, which has this height: with its forks the node has stood since m.
 pub record IsHeadSeen (k : Known) (m n h : ℕ) (head : HeadView) : Type 0 where

@@ -15,13 +15,13 @@ use Rattle.rowex_reading.specs.Reads.{Reads}
 use Rattle.rowex_reading.specs.Seen.{Sure, since}
 
 -- The search for the key has led the pass to the entry, by loads since its last one of the root.
-pub record IsOnWay (k : Known) (key : Key) (e : Entry) : Type 0 where
+pub record HasComeTo (k : Known) (key : Key) (e : Entry) : Type 0 where
   pub pinned : IsPinnedSince k (since k)
   pub led : Sure k (λ s. IsLed s (since k) key e)
 
 -- each search has led to its entry
 abbrev pub AreOnWay : Known → List Key → List Entry → Type 0
-AreOnWay k keys tips = (i : ℕ) (key : Key) (e : Entry) → slice_get keys i ≡ Some key → slice_get tips i ≡ Some e → IsOnWay k key e
+AreOnWay k keys tips = (i : ℕ) (key : Key) (e : Entry) → slice_get keys i ≡ Some key → slice_get tips i ≡ Some e → HasComeTo k key e
 
 -- the first of these entries are leaves
 abbrev pub AreLeaves : ℕ → List Entry → Type 0

@@ -12,7 +12,7 @@ ghost use Rattle.versions.specs.State.{rec_of};
 ghost use Rattle.rowex_reading.specs.Lookups.{HaveFound, HaveSearched};
 ghost use Rattle.rowex_reading.specs.Reads.{IsReader, Reads};
 ghost use Rattle.rowex_reading.specs.Seen.{IsAtRoot};
-ghost use Rattle.rowex_reading.specs.Together.{AreLeaves, AreOnWay, IsOnWay, ReadsForAll, heights_in};
+ghost use Rattle.rowex_reading.specs.Together.{AreLeaves, AreOnWay, HasComeTo, ReadsForAll, heights_in};
 
 use crate::lookup::find_slot;
 use crate::reading::{load_entry, load_root, load_value, touch_entries};
@@ -122,9 +122,9 @@ fn enter_node<G: Gate>(
     key: &Key,
 ) -> Entry
     requires reader { IsReader table.now seat.old }
-    requires way { (h : ℕ) × IsOnWay seat.old.known key.now (NodeEntry number h) }
+    requires way { (h : ℕ) × HasComeTo seat.old.known key.now (NodeEntry number h) }
     ensures reads { (n : ℕ) × (n ≤ 26) × Reads table.now G.becomes 1 n (seat.old, gate.old) (seat.new, gate.new) }
-    ensures entry { (h : ℕ) → IsOnWay seat.old.known key.now (NodeEntry number h) → (height_of result < h) × IsOnWay seat.new.known key.now result }
+    ensures entry { (h : ℕ) → HasComeTo seat.old.known key.now (NodeEntry number h) → (height_of result < h) × HasComeTo seat.new.known key.now result }
 {
     let start = table.start_of(Rec::Node(number));
     let node = NodeAt { number, start };

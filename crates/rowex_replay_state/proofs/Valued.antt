@@ -35,7 +35,7 @@ use Rattle.replay_trees.specs.Versions.{read_item}
 use Rattle.rowex_replay_state.specs.declared.fate.Fate.TheVariants.{InTree as IsTree}
 use Rattle.rowex_replay_state.specs.Records.{AreRecordsOf, HasKeyIn, IsSpelledIn, with_words_in}
 use Rattle.rowex_replay_state.specs.States.{StateView, HasNamerLocked, IsStateOf, IsStepped}
-use Rattle.rowex_replay_state.specs.Publishing.{AreRevalued, with_value}
+use Rattle.rowex_replay_state.specs.Publishing.{AreRevalued, revalued_item}
 use Rattle.rowex_replay_state.proofs.Tables as table
 use Rattle.rowex_replay_state.proofs.LoadSteps.{record_word_at, word_from}
 use Rattle.rowex_replay_state.proofs.Reading.{lock_from, tree_from, words_from}
@@ -114,18 +114,18 @@ named_spelled s c q l law h named =
 
 -- ---- the leaves with the value
 
-items_revalued : (l w : ℕ) (t : Tree) → items (revalued l w t) ≡ map (with_value l w) (items t)
+items_revalued : (l w : ℕ) (t : Tree) → items (revalued l w t) ≡ map (revalued_item l w) (items t)
 items_revalued l w (leaf n k v) = refl
 items_revalued l w (node n x b) = items_revalued l w b
-items_revalued l w (fork p a b) = ap₂ (λ x y. x ++ y) (items_revalued l w a) (items_revalued l w b) ∙ sym (map-append (with_value l w) (items a) (items b))
+items_revalued l w (fork p a b) = ap₂ (λ x y. x ++ y) (items_revalued l w a) (items_revalued l w b) ∙ sym (map-append (revalued_item l w) (items a) (items b))
 
-list_revalued : (l w : ℕ) (old new : List ReadItem) → AreRevalued l w old new → map (with_value l w) (map read_item old) ≡ map read_item new
+list_revalued : (l w : ℕ) (old new : List ReadItem) → AreRevalued l w old new → map (revalued_item l w) (map read_item old) ≡ map read_item new
 list_revalued l w [] [] a = refl
 list_revalued l w [] (x ∷ xs) a = absurd (omega (arith, a.count))
 list_revalued l w (y ∷ ys) [] a = absurd (omega (arith, a.count))
 list_revalued l w (y ∷ ys) (x ∷ xs) a =
     let (z, at, is) = a.each 0 x refl in
-    ap₂ (λ u us. u ∷ us) (ap (λ i. with_value l w (read_item i)) (same_Some y z at) ∙ sym is)
+    ap₂ (λ u us. u ∷ us) (ap (λ i. revalued_item l w (read_item i)) (same_Some y z at) ∙ sym is)
     (list_revalued l w ys xs (record { count = omega (arith, a.count); each = λ i v e. a.each (suc i) v e }))
 
 -- ---- the answers
@@ -157,7 +157,7 @@ module _ (s : StateView) (q l w : ℕ) (fits : l < 2 ^ 32) (small : w < 2 ^ 64) 
     items_are : items_of (next_tree c (Value l) w) ≡ map read_item new
     items_are = ∥∥₁_elim lawful (Prim.hlevel props) (λ law.
         let t = value_tree c q l w law locked in
-        ap items_of t.2 ∙ (items_revalued l w t.0 ∙ (ap (map (with_value l w)) (ap items_of (sym t.1) ∙ h.items) ∙ list_revalued l w s.items new revalues)))
+        ap items_of t.2 ∙ (items_revalued l w t.0 ∙ (ap (map (revalued_item l w)) (ap items_of (sym t.1) ∙ h.items) ∙ list_revalued l w s.items new revalues)))
 
     records_are : AreRecordsOf then_.records c.layout (stored_words c (Value l) w) c.fate c.lock
     records_are = subst (λ z. AreRecordsOf then_.records c.layout (λ i. if Rattle.versions.specs.Steps.same_rec i (a_leaf l) then set z 0 w else c.words i) c.fate c.lock) (sym words_are)

@@ -42,10 +42,10 @@ IsPublishJudged true s t q root = (c : Core) (words : Rec → List ℕ) → IsWo
 IsPublishJudged false s t q root = (t ≡ s) × ((c : Core) (words : Rec → List ℕ) → IsWordStored s c words → AreWordsPacked c words → ¬ (MayMakeVersion c q words root))
 
 -- the leaf with this value, where it has this number
-abbrev pub with_value : ℕ → ℕ → Item → Item
-with_value l w x = item x.number x.key (if nat_eq x.number l then w else x.value)
+abbrev pub revalued_item : ℕ → ℕ → Item → Item
+revalued_item l w x = item x.number x.key (if nat_eq x.number l then w else x.value)
 
 -- each leaf of the list is so
 pub record AreRevalued (l w : ℕ) (old new : List ReadItem) : Type 0 where
   pub count : length new ≡ length old
-  pub each : (i : ℕ) (x : ReadItem) → slice_get new i ≡ Some x → (y : ReadItem) × (slice_get old i ≡ Some y) × (read_item x ≡ with_value l w (read_item y))
+  pub each : (i : ℕ) (x : ReadItem) → slice_get new i ≡ Some x → (y : ReadItem) × (slice_get old i ≡ Some y) × (read_item x ≡ revalued_item l w (read_item y))

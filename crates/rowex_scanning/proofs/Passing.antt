@@ -11,7 +11,7 @@ use Rattle.record_words.specs.declared.layout.Layout.{Layout}
 use Rattle.rowex_core.specs.declared.known.Known.{Known}
 use Rattle.rowex_table.specs.Made.{IsLater}
 use Rattle.version_laws.specs.Scan.{Range, EntryStoodSince, IsPlaced}
-use Rattle.rowex_reading.specs.Seen.{HasPlace, HasRoom, IsLedTo, Sure}
+use Rattle.rowex_reading.specs.Seen.{HasPlace, HasMorePlaces, IsLedTo, Sure}
 use Rattle.rowex_reading.proofs.Seeing.{placed_stable, room_stable, seen_stable, since_later, sure_later}
 use Rattle.rowex_scanning.specs.Ahead.{AreAhead, AreTaken, HasPlaces, HavePassed, IsNodeAhead}
 use Rattle.version_laws.specs.Directions.{first_key, gap_after, gap_before, gap_behind, place_ahead, to_come}
@@ -33,7 +33,7 @@ module _ (d : Direction) (m : ℕ) (top : PathNode) where
     pub places_later : HasPlaces d k m top → HasPlaces d j m top
     places_later has i low = let ((pinned, stood), room) = has i low in (
       (since_later l pinned, sure_later {P = λ s. EntryStoodSince s m (Node top.number top.height)} (seen_stable m (Node top.number top.height)) l stood),
-      sure_later {P = λ s. HasRoom s m top.number (place_ahead d top.at i)} (room_stable m top.number (place_ahead d top.at i)) l room,
+      sure_later {P = λ s. HasMorePlaces s m top.number (place_ahead d top.at i)} (room_stable m top.number (place_ahead d top.at i)) l room,
     )
 
     pub ahead_later : (count : ℕ) (leaves : List ℕ) → AreAhead d k m top count leaves → AreAhead d j m top count leaves

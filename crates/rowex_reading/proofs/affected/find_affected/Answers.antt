@@ -8,7 +8,7 @@ use Rattle.rowex_reading.proofs.Heading.{spelled_so}
 use Rattle.rowex_reading.proofs.Led.{led_on, reader_then, reads_later}
 use Rattle.rowex_reading.proofs.Seeing.{room_stable, sure_later}
 use Rattle.rowex_reading.proofs.Shapes.{place_inside, rows_are}
-use Rattle.rowex_reading.specs.Seen.{HasPlace, HasRoom}
+use Rattle.rowex_reading.specs.Seen.{HasPlace, HasMorePlaces}
 use Rattle.rowex_reading.proofs.affected.find_affected.Goals as goal
 
 pub load_head_words-requires-clause-led : goal.load_head_words-requires-clause-led
@@ -20,7 +20,7 @@ affected_slots-requires-clause-spelling g c = let (m, h, has) = c.requires.place
 pub affected_slots-requires-clause-in_range : goal.affected_slots-requires-clause-in_range
 affected_slots-requires-clause-in_range g c = λ node lawful same.
     let (m, h, has) = c.requires.place in let e = c.load_head_words.ensures in let are = e.words m h has.0 in
-    let here : HasPlace c.load_head_words.new.seat.known m c.args.number h c.args.found = (led_on m (Node c.args.number h) e.reads has.0, sure_later {P = λ s. HasRoom s m c.args.number c.args.found} (room_stable m c.args.number c.args.found) (reads_later e.reads) has.1) in
+    let here : HasPlace c.load_head_words.new.seat.known m c.args.number h c.args.found = (led_on m (Node c.args.number h) e.reads has.0, sure_later {P = λ s. HasMorePlaces s m c.args.number c.args.found} (room_stable m c.args.number c.args.found) (reads_later e.reads) has.1) in
     let inside = place_inside _ _ m c.args.number h c.args.found _ (reader_then c.requires.reader e.reads).1 here are.seen.shaped in
     let heads = same_head (node_of are.head (leaves (length are.head.rows))) node are.seen.lawful lawful (are.words_are ∙ sym same) in
     omega (arith, inside, rows_are are.head are.seen.lawful, ap (λ (v : HeadView). length v.rows) heads, same_count node lawful)

@@ -3,7 +3,7 @@ use Rattle.std.proofs.Common.{◌+◌, ◌<◌, arith}
 use Rattle.compound_node.specs.Nodes.{height_of}
 use Rattle.compound_node.specs.declared.entries.Entry.TheVariants.{Node}
 use Rattle.rowex_reading.specs.Seen.{since}
-use Rattle.rowex_reading.specs.Together.{IsOnWay}
+use Rattle.rowex_reading.specs.Together.{HasComeTo}
 use Rattle.rowex_reading.proofs.Led.{reader_then, reads_trans}
 use Rattle.rowex_reading.proofs.Looking.{way_led, way_next, way_place}
 use Rattle.rowex_reading.proofs.Standing.{led_in_table}
@@ -30,8 +30,8 @@ load_entry-entry-requires-clause-place g c =
     (m, way.0, way_place c.args.number way.0 p.0 c.find_slot-place.result way.1 e.reads.2 p.1 p.2)
 
 -- the entry is lower, and the way has led to it
-entered : (g : given.Over) (c : After-load_entry-entry g) → (h : _) → IsOnWay c.args.seat.now.known c.args.key.now (Node c.args.number h) →
-    (height_of c.load_entry-entry.result < h) × IsOnWay c.load_entry-entry.new.seat.known c.args.key.now c.load_entry-entry.result
+entered : (g : given.Over) (c : After-load_entry-entry g) → (h : _) → HasComeTo c.args.seat.now.known c.args.key.now (Node c.args.number h) →
+    (height_of c.load_entry-entry.result < h) × HasComeTo c.load_entry-entry.new.seat.known c.args.key.now c.load_entry-entry.result
 entered g c h way =
     let e = c.find_slot-place.ensures in let m = since c.args.seat.now.known in
     let p = e.place m h (way_led (Node c.args.number h) way) in

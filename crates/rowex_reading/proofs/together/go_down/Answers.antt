@@ -5,7 +5,7 @@ use Rattle.std.proofs.lemmas.Option.{slice_get_read, slice_get-get_or}
 use Rattle.compound_node.specs.declared.entries.Entry.{Entry}
 use Rattle.compound_node.specs.declared.entries.Entry.TheVariants.{Leaf, Node}
 use Rattle.rowex_table.specs.Seats.{SeatView}
-use Rattle.rowex_reading.specs.Together.{AreLeaves, IsOnWay}
+use Rattle.rowex_reading.specs.Together.{AreLeaves, HasComeTo}
 use Rattle.rowex_reading.proofs.Led.{reads_none}
 use Rattle.rowex_reading.proofs.SideBySide.{HaveGone, gone_down, gone_still}
 use Rattle.rowex_reading.proofs.together.go_down.Given as given
@@ -29,7 +29,7 @@ loop-index-init g c = record {
 }
 
 -- the key's way has led to the node
-way : (g : given.Over) (c : After-index-keys-index g) → IsOnWay c.loop-index.seat.known c.index-keys-index.result (Node c.in-Node.number c.in-Node.height)
+way : (g : given.Over) (c : After-index-keys-index g) → HasComeTo c.loop-index.seat.known c.index-keys-index.result (Node c.in-Node.number c.in-Node.height)
 way g c =
     let i = c.loop-index.index in let low = c.loop-index-test.true in let gone = c.loop-index.invariant.gone in
     gone.ways i c.index-keys-index.result (Node c.in-Node.number c.in-Node.height)

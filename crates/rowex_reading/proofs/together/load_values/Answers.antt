@@ -5,7 +5,7 @@ use Rattle.std.proofs.lemmas.List.{length-set}
 use Rattle.std.proofs.lemmas.Option.{slice_get_read, slice_get-get_or}
 use Rattle.compound_node.specs.declared.entries.Entry.TheVariants.{Leaf}
 use Rattle.rowex_reading.specs.Seen.{since}
-use Rattle.rowex_reading.specs.Together.{IsOnWay}
+use Rattle.rowex_reading.specs.Together.{HasComeTo}
 use Rattle.rowex_reading.proofs.Led.{reader_then, reads_trans}
 use Rattle.rowex_reading.proofs.Looking.{way_found, way_led}
 use Rattle.rowex_reading.proofs.SideBySide.{found_more, found_on, ways_on}
@@ -14,7 +14,7 @@ use Rattle.rowex_reading.proofs.together.load_values.Goals as goal
 use Rattle.rowex_reading.proofs.together.load_values.Goals.{After-index-keys-index}
 
 -- the key's way has led to the leaf
-way : (g : given.Over) (c : After-index-keys-index g) → IsOnWay c.loop-index.seat.known c.index-keys-index.result (Leaf c.in-Leaf.number)
+way : (g : given.Over) (c : After-index-keys-index g) → HasComeTo c.loop-index.seat.known c.index-keys-index.result (Leaf c.in-Leaf.number)
 way g c =
     let i = c.loop-index.index in let low = c.loop-index-test.true in
     c.loop-index.invariant.ways i c.index-keys-index.result (Leaf c.in-Leaf.number)

@@ -1,12 +1,12 @@
 use Rattle.std.proofs.Common.{◌≡◌, ℕ, ◌<◌, ◌≤◌, length, slice_get, Some}
 use Rattle.replay_trees.specs.declared.trees.Item.{Item}
 use Rattle.replay_trees.specs.Versions.{read_item}
-use Rattle.rowex_replay_state.specs.Publishing.{with_value}
+use Rattle.rowex_replay_state.specs.Publishing.{revalued_item}
 use Rattle.rowex_replay_state.proofs.publish.set_value.Given as goal
 
 abbrev pub invariant-loop-i : goal.invariant-loop-i
 invariant-loop-i l = record {
   count : length l.items.items ≡ length l.fn.items.items;
-  made : (k : ℕ) → k < l.i → (x : Item) → slice_get l.items.items k ≡ Some x → (y : Item) × (slice_get l.fn.items.items k ≡ Some y) × (read_item x ≡ with_value l.leaf l.value (read_item y));
+  made : (k : ℕ) → k < l.i → (x : Item) → slice_get l.items.items k ≡ Some x → (y : Item) × (slice_get l.fn.items.items k ≡ Some y) × (read_item x ≡ revalued_item l.leaf l.value (read_item y));
   left : (k : ℕ) → l.i ≤ k → slice_get l.items.items k ≡ slice_get l.fn.items.items k;
 }
