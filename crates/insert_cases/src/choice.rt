@@ -10,7 +10,7 @@ ghost use Rattle.insert_cases.specs.Levels.{IsLevel, IsChosen, IsChainEnd, IsPul
 ghost use Rattle.tries.specs.Search.{found};
 ghost use Rattle.insert_cases.specs.Ways.{IsWay, IsAffectedNode, case_of, stage, body};
 
-/// A node on the way of a search, HOT's path, topmost first, and the entry that the search took there.
+/// A node on the way of a search, topmost first, and the entry that the search took there.
 #[derive(Clone, Copy, Default)]
 pub struct PathNode {
     /// The node's record number.

@@ -1,4 +1,4 @@
--- A piece of a bit trie: a place, or a fork, HOT's BiNode, at a position.
+-- A piece of a bit trie: a place, or a fork at a position (the binary Patricia trie of the literature).
 use Rattle.std.specs.Prelude.{Bool, List, [], cond, eqb, false, map, true, ℕ, ◌++◌, ◌+◌, ◌<◌, ◌||◌, ◌∷◌, ◌≡◌}
 use Rattle.pieces.specs.Kept.{kept}
 use Rattle.pieces.specs.Positions.{has}
