@@ -511,68 +511,6 @@ pub word_of : (e : Entry) → HasNumber e → HasHeight e → HasEntryWord (Some
 word_of (LeafEntry n) number high = omega (arith, number)
 word_of (Node n h) number high = (omega (arith, number), high.0, omega (arith, high.1))
 
--- ---- a record that is filled anew
-filled_others : (r : Rec) (words : List ℕ) (us : List Made) → ¬ (IsOneOf r (recs_of us)) → map (fill_with r words) (map (held_as Held) us) ≡ map (held_as Held) us
-filled_others r words [] new = refl
-filled_others r words (u ∷ us) new =
-    let other : same_rec u.rec r ≡ false = other_rec u.rec r (λ e. new (inl (sym e))) in rw other (ap (λ z. held_as Held u ∷ z) (filled_others r words us (λ i. new (inr i))))
-
-filled_last : (r : Rec) (words : List ℕ) (us : List Made) (m : Made) → m.rec ≡ r → ¬ (IsOneOf r (recs_of us)) → map (fill_with r words) (map (held_as Held) (us ++ m ∷ [])) ≡ map (held_as Held) (us ++ record { rec = r; words = words } ∷ [])
-filled_last r words [] m is new = let same : same_rec m.rec r ≡ true = ap (λ z. same_rec z r) is ∙ same_rec_refl r in rw same (ap (λ z. record { rec = z; holding = Held; words = words } ∷ []) is)
-filled_last r words (u ∷ us) m is new =
-    let other : same_rec u.rec r ≡ false = other_rec u.rec r (λ e. new (inl (sym e))) in rw other (ap (λ z. held_as Held u ∷ z) (filled_last r words us m is (λ i. new (inr i))))
-
-recs_last : (us : List Made) (m z : Made) → z.rec ≡ m.rec → recs_of (us ++ m ∷ []) ≡ recs_of (us ++ z ∷ [])
-recs_last [] m z is = ap (λ r. r ∷ []) (sym is)
-recs_last (u ∷ us) m z is = ap (λ rs. u.rec ∷ rs) (recs_last us m z is)
-
-apart_last : (us : List Made) (m : Made) → AreApart (recs_of (us ++ m ∷ [])) → ¬ (IsOneOf m.rec (recs_of us))
-apart_last [] m apart i = i
-apart_last (u ∷ us) m apart (inl e) = apart.0 (subst (λ z. IsOneOf z (recs_of (us ++ m ∷ []))) e (last_there us m))
-  where
-    last_there : (us : List Made) (m : Made) → IsOneOf m.rec (recs_of (us ++ m ∷ []))
-    last_there [] m = inl refl
-    last_there (u ∷ us) m = inr (last_there us m)
-apart_last (u ∷ us) m apart (inr i) = apart_last us m apart.1 i
-
-packed_last : (layout : Layout) (us : List Made) (m z : Made) → AreMadePacked layout (us ++ m ∷ []) → IsPacked z.rec z.words × FitsIn layout z.rec z.words → AreMadePacked layout (us ++ z ∷ [])
-packed_last layout [] m z packed fits = (fits, tt)
-packed_last layout (u ∷ us) m z packed fits = (packed.0, packed_last layout us m z packed.1 fits)
-
-pub refilled : {G : Type 0} (table : TableView) (becomes : G → Event → G → Type 0) (a b : SeatView × G) (made : List Rec) (us : List Made) (m : Made) (n : ℕ) (words : List ℕ) → m.rec ≡ a_node n → SetsAll table becomes (a_node n) words a b →
-    IsPacked (a_node n) words → IsBuilding table a.0 made (us ++ m ∷ []) → IsBuilding table b.0 made (us ++ record { rec = a_node n; words = words } ∷ [])
-refilled table becomes a b made us m n words is sets packed was =
-    let goes = set_all_on table becomes (a_node n) words a b sets in
-    let newest : Made = record { rec = a_node n; words = words } in
-    let recs = recs_last us m newest (sym is) in
-    record {
-      seat = seat_of table becomes a b goes was.seat;
-      possible = goes_possible table becomes a b goes was.possible;
-      holds = (
-        sets.own ∙ (ap (map (fill_with (a_node n) words)) was.holds.0 ∙ filled_last (a_node n) words us m is (λ i. apart_last us m was.holds.1 (subst (λ z. IsOneOf z (recs_of us)) (sym is) i))),
-        subst AreApart recs was.holds.1,
-      );
-      packed = packed_last table.layout us m newest was.packed (packed, tt);
-      listed = was.listed ∙ ap reverse recs;
-    }
-
--- the list of the records that are made, where it has one of a node
-pub sole_made : (made : List Rec) (news : List Made) (n : ℕ) → made ≡ a_node n ∷ [] → made ≡ reverse (recs_of news) → (m : Made) × (news ≡ m ∷ []) × (m.rec ≡ a_node n)
-sole_made made [] n is listed = absurd (let z : length (a_node n ∷ []) ≡ 0 = ap length (sym is ∙ listed) in omega (arith, z))
-sole_made made (m ∷ []) n is listed = (m, refl, head_is m.rec (a_node n) (sym listed ∙ is))
-  where
-    head_is : (r s : Rec) → r ∷ [] ≡ s ∷ [] → r ≡ s
-    head_is r s e = cc
-sole_made made (m ∷ z ∷ news) n is listed =
-    absurd (let long : length (a_node n ∷ []) ≡ length (reverse (recs_of (m ∷ z ∷ news))) = ap length (sym is ∙ listed) in omega (arith, long, length-reverse (recs_of (m ∷ z ∷ news))))
-
-pub last_claimed : (us : List Made) (m : Made) → IsOneOf m.rec (recs_of (us ++ m ∷ []))
-last_claimed [] m = inl refl
-last_claimed (u ∷ us) m = inr (last_claimed us m)
-
-pub made_claimed : (table : TableView) (b : SeatView) (made : List Rec) (us : List Made) (m : Made) (n : ℕ) → m.rec ≡ a_node n → IsBuilding table b made (us ++ m ∷ []) → IsClaimed b.known (a_node n)
-made_claimed table b made us m n is building = subst (IsClaimed b.known) is (claimed table b made (us ++ m ∷ []) building m.rec (last_claimed us m))
-
 -- ---- one node of the two, some loads later
 module _ {G : Type 0} (table : TableView) (becomes : G → Event → G → Type 0) (a b : SeatView × G) (job : Job) (x : Merge) (goes : WorksOn table becomes a b) (w : IsWide table a.0 job x.number) (is : IsNeighbour a.0.known job x) (view : NodeView)
     (joined : (leaf : ℕ) (s : AreBeside a.0.known.locks job.key.now (upper job).number (lower job).number x.number leaf) → s.position ≡ x.position → IsBuiltFrom view (merged s)) where
@@ -596,20 +534,13 @@ module _ {G : Type 0} (table : TableView) (becomes : G → Event → G → Type 
   closes_for n = closes_fork table b.0 job x.number wide_now x refl beside_now (Node n view.height) (joined_stands table b.0 job x.number wide_now x refl beside_now view merged_for n)
 
   -- with the records for what is left of the upper one
-  pub closed_made : (made after : List Rec) (news : List Made) (n h : ℕ) (e : Entry) (c : SeatView) → h ≡ view.height → made ≡ a_node n ∷ [] → b.0.known.own ≡ a.0.known.own → IsBuilding table a.0 made news →
+  pub closed_made : (made after : List Rec) (n h : ℕ) (e : Entry) (c : SeatView) → h ≡ view.height → IsBuilding table b.0 made (made_of_node n view ∷ []) →
       ((key : Key) (words : List ℕ) (news : List Made) → ClosesFork b.0.known key (fork_at n h) → HasLocked b.0.known (upper job).number words → IsBuilding table b.0 made news →
       (us : List Made) × IsSide (subtrie_collapsed key (Node n h) (node_words_of words).subtrie) e us × IsBuilding table c after (us ++ news)) →
-      (us : List Made) × (m : Made) × (m.rec ≡ a_node n) × IsSide (subtrie_collapsed job.key.now (Node n view.height) (node_words_of is.words).subtrie) e us × IsBuilding table c after (us ++ m ∷ [])
-  closed_made made after news n h e c high sole own building raised =
-      let (m, news_is, rec_is) = sole_made made news n sole building.listed in
-      let now = building_on table becomes a b made news goes own building in
-      let (us, side, built) = raised job.key.now beside_now.words news (subst (λ z. ClosesFork b.0.known job.key.now (fork_at n z)) (sym high) (closes_for n)) beside_now.has now in (
-        us,
-        m,
-        rec_is,
-        subst (λ z. IsSide (subtrie_collapsed job.key.now (Node n z) (node_words_of is.words).subtrie) e us) high side,
-        subst (λ z. IsBuilding table c after (us ++ z)) news_is built,
-      )
+      (us : List Made) × IsSide (subtrie_collapsed job.key.now (Node n view.height) (node_words_of is.words).subtrie) e us × IsBuilding table c after (us ++ made_of_node n view ∷ [])
+  closed_made made after n h e c high building raised =
+      let (us, side, built) = raised job.key.now beside_now.words (made_of_node n view ∷ []) (subst (λ z. ClosesFork b.0.known job.key.now (fork_at n z)) (sym high) (closes_for n)) beside_now.has building in
+      (us, subst (λ z. IsSide (subtrie_collapsed job.key.now (Node n z) (node_words_of is.words).subtrie) e us) high side, built)
 
 -- so under the wider locks
 pub beside_wider : (table : TableView) (k : Known) (b : SeatView) (job : Job) (x : Merge) (w : IsWide table b job x.number) → w.taking.before.known.locks ≡ k.locks → IsNeighbour k job x → IsNeighbour b.known job x
