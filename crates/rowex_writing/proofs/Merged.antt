@@ -327,7 +327,7 @@ module _ (table : TableView) (b : SeatView) (job : Job) (number : ℕ) (w : IsWi
           }
 
 -- an entry for a subtrie of lower ones is no higher
-side_low : (x : Subtrie) (e : Entry) (us : List Made) (h : ℕ) → IsSide x e us → greatest_height (places x) < h → height_of e ≤ h
+pub side_low : (x : Subtrie) (e : Entry) (us : List Made) (h : ℕ) → IsSide x e us → greatest_height (places x) < h → height_of e ≤ h
 side_low x e us h (one d is) low = let g = ap (λ (z : Subtrie). greatest_height (places z)) is in omega (arith, low, g)
 side_low x e us h (anew m view built is) low =
     let g : greatest_height view.entries ≡ greatest_height (places x) = ap greatest_height built.0.lawful.shows.entries_are ∙ ap (λ (z : Subtrie). greatest_height (places z)) is in

@@ -279,7 +279,7 @@ module _ (table : TableView) (a : SeatView) (m : ℕ) (job : Job) (number value 
       ap (λ z. s ∷ z) (ap (λ i. slice_range job.way.now i job.span.len) e ∙ slice_none job.way.now job.span.len))
 
   -- what is left may take the node's place
-  module _ (c : SeatView) (made : List Rec) (news : List Made) (words : List ℕ) (h : HasLocked a.known s.number words) (e : Entry) (stays : StaysLocked a.known c.known) (building : IsBuilding table c made news)
+  module _ (c : SeatView) (made : List Rec) (news : List Made) (words : List ℕ) (h : HasLocked a.known s.number words) (e : Entry) (stays : IsLater a.known c.known × (c.known.locks ≡ a.known.locks) × (c.known.anchor ≡ a.known.anchor)) (building : IsBuilding table c made news)
       (side : IsSide (subtrie_without job.key.now (node_words_of words).subtrie) e news) (low : height_of e ≤ (node_words_of words).fixed.height) (word : HasEntryWord (Some e)) where
     abbrev gone : List Rec
     gone = a_node s.number ∷ a_leaf number ∷ []

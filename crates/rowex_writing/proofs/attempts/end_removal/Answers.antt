@@ -1,5 +1,5 @@
 -- What is left is published, as one with the node beside it or alone.
-use Rattle.std.proofs.Common.{◌<◌, ap, arith, subst, sym, ◌∙◌}
+use Rattle.std.proofs.Common.{◌<◌, ◌+◌, ◌*◌, ap, arith, subst, sym, ◌∙◌}
 use Rattle.record_words.specs.declared.TheConstants.{NODE_FIELDS}
 use Rattle.rowex_reading.proofs.Seeing.{later_trans}
 use Rattle.rowex_writing.specs.Changes.{IsTakeChange}
@@ -95,17 +95,17 @@ returns-then-try_merge-clause-spares g c = λ had.
     c.try_merge.ensures.spares (goes_spare c.args.table.now g.G.Gate.becomes (c.args.seat.now, c.args.gate.now) (c.find_merge.new.seat, c.find_merge.new.gate) c.find_merge.ensures.reads.goes had)
 
 -- ---- but it can't be made
-pub fill_left-raised-requires-else-try_merge-clause-still : goal.fill_left-raised-requires-else-try_merge-clause-still
-fill_left-raised-requires-else-try_merge-clause-still g c =
+pub fill_left-raised-requires-2-clause-still : goal.fill_left-raised-requires-2-clause-still
+fill_left-raised-requires-2-clause-still g c =
     let takes = takes_on c.args.table.now g.G.Gate.becomes (c.args.seat.now, c.args.gate.now) (c.find_merge.new.seat, c.find_merge.new.gate) c.args.job.now c.find_merge.ensures.reads.goes c.requires.takes in
     let s = c.try_merge.ensures.same c.if-try_merge.false in
     still_later c.args.table.now c.find_merge.new.seat c.try_merge.new.seat c.args.job.now (still_taking c.args.table.now c.find_merge.new.seat c.args.job.now takes) (c.try_merge.ensures.later c.if-try_merge.false) (s.0, s.1)
 
-pub fill_left-raised-requires-else-try_merge-clause-claimed : goal.fill_left-raised-requires-else-try_merge-clause-claimed
-fill_left-raised-requires-else-try_merge-clause-claimed g c = (c.try_merge.ensures.same c.if-try_merge.false).2
+pub fill_left-raised-requires-2-clause-claimed : goal.fill_left-raised-requires-2-clause-claimed
+fill_left-raised-requires-2-clause-claimed g c = (c.try_merge.ensures.same c.if-try_merge.false).2
 
-pub fill_left-raised-requires-else-try_merge-clause-left : goal.fill_left-raised-requires-else-try_merge-clause-left
-fill_left-raised-requires-else-try_merge-clause-left g c =
+pub fill_left-raised-requires-2-clause-left : goal.fill_left-raised-requires-2-clause-left
+fill_left-raised-requires-2-clause-left g c =
     left_on c.find_merge.new.seat.known c.try_merge.new.seat.known c.args.job.now c.args.left.now.words (c.try_merge.ensures.same c.if-try_merge.false).0
     (left_on c.args.seat.now.known c.find_merge.new.seat.known c.args.job.now c.args.left.now.words c.find_merge.ensures.reads.goes.stays.1 c.requires.left)
 
@@ -116,41 +116,41 @@ publish_or_undo-requires g c =
     let takes = takes_on table g.G.Gate.becomes (c.args.seat.now, c.args.gate.now) (c.find_merge.new.seat, c.find_merge.new.gate) job c.find_merge.ensures.reads.goes c.requires.takes in
     let s = c.try_merge.ensures.same c.if-try_merge.false in
     let still = still_later table c.find_merge.new.seat c.try_merge.new.seat job (still_taking table c.find_merge.new.seat job takes) (c.try_merge.ensures.later c.if-try_merge.false) (s.0, s.1) in
-    let (x, was, is, may) = c.fill_left-raised-else-try_merge.ensures.may in
+    let (x, was, is, may) = c.fill_left-raised-2.ensures.may in
     record {
-      held = still_holds table c.fill_left-raised-else-try_merge.new.seat job (still_on table g.G.Gate.becomes (c.try_merge.new.seat, c.try_merge.new.gate) (c.fill_left-raised-else-try_merge.new.seat, c.fill_left-raised-else-try_merge.new.gate) job c.fill_left-raised-else-try_merge.ensures.goes still);
+      held = still_holds table c.fill_left-raised-2.new.seat job (still_on table g.G.Gate.becomes (c.try_merge.new.seat, c.try_merge.new.gate) (c.fill_left-raised-2.new.seat, c.fill_left-raised-2.new.gate) job c.fill_left-raised-2.ensures.goes still);
       may = (x, was, may);
     }
 
-pub returns-else-try_merge-clause-tries : goal.returns-else-try_merge-clause-tries
-returns-else-try_merge-clause-tries g c =
+pub returns-clause-tries : goal.returns-clause-tries
+returns-clause-tries g c =
     let table = c.args.table.now in
     let last = c.requires.takes.0.below.last in
-    let (x, was, is, may) = c.fill_left-raised-else-try_merge.ensures.may in
+    let (x, was, is, may) = c.fill_left-raised-2.ensures.may in
     few_then table g.G.Gate.becomes (span_numbers c.args.job.now.way.now c.args.job.now.span) c.args.build.now.left_nodes (84 + 2 * NODE_FIELDS) (c.args.seat.now, c.args.gate.now) (c.try_merge.new.seat, c.try_merge.new.gate) (c.publish_or_undo.new.seat, c.publish_or_undo.new.gate)
     (few_before table g.G.Gate.becomes (span_numbers c.args.job.now.way.now c.args.job.now.span) c.args.build.now.left_nodes 53 63 (c.args.seat.now, c.args.gate.now) (c.find_merge.new.seat, c.find_merge.new.gate) (c.try_merge.new.seat, c.try_merge.new.gate)
     (goes_run table g.G.Gate.becomes (c.args.seat.now, c.args.gate.now) (c.find_merge.new.seat, c.find_merge.new.gate) c.find_merge.ensures.reads.goes) c.try_merge.ensures.tries (omega (arith, c.find_merge.ensures.few)))
-    (runs_trans table g.G.Gate.becomes (c.try_merge.new.seat, c.try_merge.new.gate) (c.fill_left-raised-else-try_merge.new.seat, c.fill_left-raised-else-try_merge.new.gate) (c.publish_or_undo.new.seat, c.publish_or_undo.new.gate)
-    (goes_run table g.G.Gate.becomes (c.try_merge.new.seat, c.try_merge.new.gate) (c.fill_left-raised-else-try_merge.new.seat, c.fill_left-raised-else-try_merge.new.gate) c.fill_left-raised-else-try_merge.ensures.goes) c.publish_or_undo.ensures.run)
-    (omega (arith, c.fill_left-raised-else-try_merge.ensures.few, c.publish_or_undo.ensures.few, may.few, last, held_few c.args.job.now.found))
+    (runs_trans table g.G.Gate.becomes (c.try_merge.new.seat, c.try_merge.new.gate) (c.fill_left-raised-2.new.seat, c.fill_left-raised-2.new.gate) (c.publish_or_undo.new.seat, c.publish_or_undo.new.gate)
+    (goes_run table g.G.Gate.becomes (c.try_merge.new.seat, c.try_merge.new.gate) (c.fill_left-raised-2.new.seat, c.fill_left-raised-2.new.gate) c.fill_left-raised-2.ensures.goes) c.publish_or_undo.ensures.run)
+    (omega (arith, c.fill_left-raised-2.ensures.few, c.publish_or_undo.ensures.few, may.few, last, held_few c.args.job.now.found))
 
-pub returns-else-try_merge-clause-done : goal.returns-else-try_merge-clause-done
-returns-else-try_merge-clause-done g c = λ ok.
+pub returns-clause-done : goal.returns-clause-done
+returns-clause-done g c = λ ok.
     let job = c.args.job.now in
-    let (x, was, is, may) = c.fill_left-raised-else-try_merge.ensures.may in
+    let (x, was, is, may) = c.fill_left-raised-2.ensures.may in
     let l = c.try_merge.ensures.later c.if-try_merge.false in
     let before = later_trans c.find_merge.ensures.reads.goes.stays.0 l.0 in
-    (x, was, subst (λ q. IsTakeChange q job.key.now job.found x was) before.pass is, changed_since c.args.seat.now.known c.fill_left-raised-else-try_merge.new.seat.known c.publish_or_undo.new.seat.known x was (later_trans before c.fill_left-raised-else-try_merge.ensures.goes.stays.0) (c.publish_or_undo.ensures.changed ok x was may))
+    (x, was, subst (λ q. IsTakeChange q job.key.now job.found x was) before.pass is, changed_since c.args.seat.now.known c.fill_left-raised-2.new.seat.known c.publish_or_undo.new.seat.known x was (later_trans before c.fill_left-raised-2.ensures.goes.stays.0) (c.publish_or_undo.ensures.changed ok x was may))
 
-pub returns-else-try_merge-clause-failed : goal.returns-else-try_merge-clause-failed
-returns-else-try_merge-clause-failed g c =
+pub returns-clause-failed : goal.returns-clause-failed
+returns-clause-failed g c =
     let l = c.try_merge.ensures.later c.if-try_merge.false in
-    let later = later_trans c.find_merge.ensures.reads.goes.stays.0 (later_trans l.0 c.fill_left-raised-else-try_merge.ensures.goes.stays.0) in
-    busy_since c.args.table.now.layout c.args.job.now c.args.seat.now.known c.fill_left-raised-else-try_merge.new.seat.known c.publish_or_undo.new.seat.known _ c.publish_or_undo.result later c.publish_or_undo.ensures.failed
+    let later = later_trans c.find_merge.ensures.reads.goes.stays.0 (later_trans l.0 c.fill_left-raised-2.ensures.goes.stays.0) in
+    busy_since c.args.table.now.layout c.args.job.now c.args.seat.now.known c.fill_left-raised-2.new.seat.known c.publish_or_undo.new.seat.known _ c.publish_or_undo.result later c.publish_or_undo.ensures.failed
 
-pub returns-else-try_merge-clause-spares : goal.returns-else-try_merge-clause-spares
-returns-else-try_merge-clause-spares g c = λ had.
+pub returns-clause-spares : goal.returns-clause-spares
+returns-clause-spares g c = λ had.
     let t = c.requires.takes.0 in
-    c.publish_or_undo.ensures.spares (omega (arith, c.fill_left-raised-else-try_merge.ensures.low, t.below.last))
-    (goes_spare c.args.table.now g.G.Gate.becomes (c.try_merge.new.seat, c.try_merge.new.gate) (c.fill_left-raised-else-try_merge.new.seat, c.fill_left-raised-else-try_merge.new.gate) c.fill_left-raised-else-try_merge.ensures.goes
+    c.publish_or_undo.ensures.spares (omega (arith, c.fill_left-raised-2.ensures.low, t.below.last))
+    (goes_spare c.args.table.now g.G.Gate.becomes (c.try_merge.new.seat, c.try_merge.new.gate) (c.fill_left-raised-2.new.seat, c.fill_left-raised-2.new.gate) c.fill_left-raised-2.ensures.goes
     (c.try_merge.ensures.spares (goes_spare c.args.table.now g.G.Gate.becomes (c.args.seat.now, c.args.gate.now) (c.find_merge.new.seat, c.find_merge.new.gate) c.find_merge.ensures.reads.goes had)))

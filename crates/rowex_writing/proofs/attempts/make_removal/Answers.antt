@@ -8,7 +8,7 @@ use Rattle.publish_laws.specs.Rises.{one}
 use Rattle.rowex_reading.proofs.Seeing.{later_trans}
 use Rattle.rowex_writing.specs.Building.{IsBuilding}
 use Rattle.rowex_writing.specs.Changes.{IsTakeChange}
-use Rattle.rowex_writing.specs.Deeds.{MayReplace}
+use Rattle.rowex_writing.specs.Deeds.{MayReplace, leaf_gone}
 use Rattle.rowex_writing.specs.Locks.{span_numbers}
 use Rattle.rowex_writing.specs.Spare.{by_gone}
 use Rattle.rowex_writing.specs.declared.job.Raised.{Raised}
@@ -102,31 +102,40 @@ pub returns-in-Some-clause-run : goal.returns-in-Some-clause-run
 returns-in-Some-clause-run g c =
     let table = c.args.table.now in
     let (t, same) = is_taking table c.args.seat.now c.args.job.now c.requires.taken c.requires.some in
-    let (x, was, may) = (publish_change-requires g c).may in
+    let gone = ap (λ (r : Raised). length (leaf_gone r.leaf)) (c.put_in_place.ensures.same t.number t.value t.found) in
     removal_changes table g.G.Gate.becomes c.args.job.now t 0 NODE_FIELDS 84 (c.args.seat.now, c.args.gate.now) (c.load_without_leaf.new.seat, c.load_without_leaf.new.gate) (c.publish_change.new.seat, c.publish_change.new.gate) (omega arith)
     (goes_run table g.G.Gate.becomes (c.args.seat.now, c.args.gate.now) (c.load_without_leaf.new.seat, c.load_without_leaf.new.gate) c.load_without_leaf.ensures.reads.goes) (omega (arith, c.load_without_leaf.ensures.few))
     (few_none table g.G.Gate.becomes (span_numbers c.args.job.now.way.now c.args.job.now.span) 0 84 (c.load_without_leaf.new.seat, c.load_without_leaf.new.gate) (c.publish_change.new.seat, c.publish_change.new.gate) c.publish_change.ensures.run
-    (omega (arith, c.publish_change.ensures.few, may.few, t.below.last)))
+    (omega (arith, c.publish_change.ensures.few, gone, ap length c.clear.ensures, t.below.last)))
 
 pub returns-in-Some-clause-done : goal.returns-in-Some-clause-done
 returns-in-Some-clause-done g c = λ ok.
+    let table = c.args.table.now in
     let job = c.args.job.now in
+    let reads = c.load_without_leaf.ensures.reads in
     let (m, aim, taken, planned) = c.requires.taken in
-    let (number, value, is, b) = taken_below c.args.table.now c.args.seat.now m job aim taken planned (let w = taken.within.0 in omega (arith, w, c.requires.some)) in
-    let (x, was, may) = (publish_change-requires g c).may in
+    let (number, value, is, b) = taken_below table c.args.seat.now m job aim taken planned (let w = taken.within.0 in omega (arith, w, c.requires.some)) in
+    let at = low_step table c.args.seat.now m job number value b in
+    let (words, h) = lowest_locked table c.args.seat.now m job number value b _ at in
+    let left = c.in-Some.ensures.left job.key.now words (lowest_leads table c.args.seat.now m job number value b _ at) h in
+    let building = subst (λ z. IsBuilding table c.load_without_leaf.new.seat z []) (sym c.clear.ensures)
+    (building_none table c.load_without_leaf.new.seat (seat_of table g.G.Gate.becomes (c.args.seat.now, c.args.gate.now) (c.load_without_leaf.new.seat, c.load_without_leaf.new.gate) reads.goes taken.seat)
+    (goes_possible table g.G.Gate.becomes (c.args.seat.now, c.args.gate.now) (c.load_without_leaf.new.seat, c.load_without_leaf.new.gate) reads.goes taken.possible) (reads.own ∙ taken.own)) in
+    let may = replaces_alone table c.args.seat.now m job number value b c.load_without_leaf.new.seat c.clear.new.self.items [] words h c.in-Some.entry (reads.goes.stays.0, reads.goes.stays.1, reads.goes.stays.2) building
+    (one c.in-Some.entry left.0) (word_of c.in-Some.entry c.put_in_place.ensures.number (entry_height c.in-Some.entry left.1)) (omega (arith, ap length c.clear.ensures)) in
+    let there = subst (λ (r : Raised). MayReplace table c.load_without_leaf.new.seat c.clear.new.self.items job r (removed_change c.args.seat.now.known.pass (item number job.key.now value)) (Some value)) (sym (c.put_in_place.ensures.same number value is)) may in
     let change = removed_change c.args.seat.now.known.pass (item number job.key.now value) in (
       change,
       Some value,
       subst (λ f. IsTakeChange c.args.seat.now.known.pass job.key.now f change (Some value)) (sym is) (refl, refl),
-      changed_since c.args.seat.now.known c.load_without_leaf.new.seat.known c.publish_change.new.seat.known change c.load_without_leaf.ensures.reads.goes.stays.0 (c.publish_change.ensures.changed change (Some value) may),
+      changed_since c.args.seat.now.known c.load_without_leaf.new.seat.known c.publish_change.new.seat.known change (Some value) c.load_without_leaf.ensures.reads.goes.stays.0 (c.publish_change.ensures.changed change (Some value) there),
     )
 
 pub returns-in-Some-clause-spares : goal.returns-in-Some-clause-spares
 returns-in-Some-clause-spares g c = λ had.
     let (t, same) = is_taking c.args.table.now c.args.seat.now c.args.job.now c.requires.taken c.requires.some in
-    let (x, was, may) = (publish_change-requires g c).may in
     let low = ap (λ (r : Raised). r.low) (c.put_in_place.ensures.same t.number t.value t.found) in
-    let (n, at) = gone_node c.args.job.now.way.now c.args.job.now.span c.put_in_place.result (omega (arith, low, t.below.last)) may.upto t.below.taken.within.1 in c.publish_change.ensures.spares (by_gone n at)
+    let (n, at) = gone_node c.args.job.now.way.now c.args.job.now.span c.put_in_place.result (omega (arith, low, t.below.last)) (omega (arith, low)) t.below.taken.within.1 in c.publish_change.ensures.spares (by_gone n at)
 
 -- ---- a record is claimed
 pub claim_for_left-requires-clause-takes : goal.claim_for_left-requires-clause-takes
@@ -158,12 +167,12 @@ returns-in_default-claim_for_left-clause-run g c =
 pub returns-in_default-claim_for_left-clause-failed : goal.returns-in_default-claim_for_left-clause-failed
 returns-in_default-claim_for_left-clause-failed g c =
     let reads = c.load_without_leaf.ensures.reads in
-    let none = no_room c.args.table.now g.G.Gate.becomes c.args.job.now.key.now (c.load_without_leaf.new.seat, c.load_without_leaf.new.gate) (c.claim_for_left.new.seat, c.claim_for_left.new.gate) (c.undo_change.new.seat, c.undo_change.new.gate) _ Nodes
+    let none = no_room c.args.table.now g.G.Gate.becomes c.args.job.now.key.now (c.load_without_leaf.new.seat, c.load_without_leaf.new.gate) (c.claim_for_left.new.seat, c.claim_for_left.new.gate) (c.undo_change.new.seat, c.undo_change.new.gate) c.claim_for_left.new.build.made.items Nodes
     c.claim_for_left.ensures.goes c.undo_change.ensures.works c.undo_change.ensures.rest c.in_default-claim_for_left.ensures.claims.full_of in
     record {
       rest = none.rest;
       later = later_trans reads.goes.stays.0 none.later;
-      full_of = full_since c.args.table.now.layout c.args.job.now.key.now c.args.seat.now.known c.load_without_leaf.new.seat.known c.undo_change.new.seat.known _ Nodes
+      full_of = full_since c.args.table.now.layout c.args.job.now.key.now c.args.seat.now.known c.load_without_leaf.new.seat.known c.undo_change.new.seat.known c.claim_for_left.new.build.made.items Nodes
           (steps_rise c.args.table.now g.G.Gate.becomes reads.goes.acts (c.args.seat.now, c.args.gate.now) (c.load_without_leaf.new.seat, c.load_without_leaf.new.gate) reads.goes.steps) none.full_of;
     }
 

@@ -1,5 +1,5 @@
 -- The rows round the place, the entry beside, and the count of what that names.
-use Rattle.std.proofs.Common.{rules, ◌<◌, ◌∙◌, arith, refl}
+use Rattle.std.proofs.Common.{rules, ◌<◌, ◌∙◌, arith}
 use Rattle.rowex_writing.proofs.Merged.{beside_on}
 use Rattle.publish_laws.proofs.Merging.{beside_in_table}
 use Rattle.rowex_writing.specs.Merging.{upper}

@@ -1,10 +1,10 @@
 -- The sibling is read, and joined with what is left.
-use Rattle.std.proofs.Common.{ap, arith, refl, subst, sym, ◌∙◌}
+use Rattle.std.proofs.Common.{ℕ, List, ap, arith, refl, subst, sym, ◌∙◌}
 use Rattle.compound_node.specs.Nodes.{IsBuiltFrom, piece}
 use Rattle.pieces.specs.Piece.{RisesFrom}
 use Rattle.tries.specs.Keys.{bit}
 use Rattle.tries.specs.Place.{fork_of}
-use Rattle.rowex_writing.specs.Going.{IsNodeOf}
+use Rattle.rowex_writing.specs.Going.{HasLocked, IsNodeOf}
 use Rattle.rowex_writing.specs.Merging.{lower}
 use Rattle.rowex_writing.proofs.Leaving.{left_built, lower_node}
 use Rattle.rowex_writing.proofs.Merged.{joined_rises, other_wide, same_words, shown_merged, too_many}
@@ -26,7 +26,7 @@ pub returns-then-count-gt32-clause-none : goal.returns-then-count-gt32-clause-no
 returns-then-count-gt32-clause-none g c = λ e node other (words, h, is) (also, k, there).
     let left = c.requires.left.built in
     let same = c.read_node-left.ensures.only left.node left.has left.spells in
-    let node_is = λ ws i. subst (λ z. IsNodeOf z node) (same_words c.args.table.now.layout c.args.seat.now.known (lower c.args.job.now).number words ws c.requires.wide.possible h i) is in
+    let node_is : (ws : List ℕ) → HasLocked c.args.seat.now.known (lower c.args.job.now).number ws → IsNodeOf ws node = λ ws i. subst (λ z. IsNodeOf z node) (same_words c.args.table.now.layout c.args.seat.now.known (lower c.args.job.now).number words ws c.requires.wide.possible h i) is in
     too_many words also node node c.read_locked_node-other.result other c.read_node-left.result (lower c.args.job.now).at is is (c.read_locked_node-other.ensures.node also k) there
     (left_built c.args.table.now c.args.seat.now c.args.job.now c.args.merge.now.number c.requires.wide c.args.left.now c.requires.left node node_is c.read_node-left.result same) (omega arith)
 

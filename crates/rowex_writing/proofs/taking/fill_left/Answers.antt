@@ -1,5 +1,5 @@
 -- The record spells what is left, and its entry may take the node's place.
-use Rattle.std.proofs.Common.{◌∷◌, [], ◌++◌, ◌≤◌, List, ℕ, Some, ap, arith, length, refl, subst, sym, ◌∙◌}
+use Rattle.std.proofs.Common.{◌≡◌, ◌∷◌, [], ◌++◌, ◌≤◌, List, ℕ, Some, ap, arith, length, refl, subst, sym, ◌∙◌}
 use Rattle.compound_node.specs.declared.entries.Entry.{Entry}
 use Rattle.compound_node.specs.declared.entries.Entry.TheVariants.{Node}
 use Rattle.record_words.proofs.Growing.{first_told}
@@ -14,7 +14,8 @@ use Rattle.rowex_writing.specs.Changes.{IsTakeChange}
 use Rattle.rowex_writing.specs.Deeds.{MayReplace}
 use Rattle.rowex_writing.specs.Merging.{HasHeight, lower}
 use Rattle.rowex_writing.specs.declared.job.Raised.{Raised}
-use Rattle.rowex_writing.proofs.Leaving.{claimed_filled, claimed_held, replaces_alone, still_on}
+use Rattle.publish_laws.proofs.Loops.{later_transitive}
+use Rattle.rowex_writing.proofs.Leaving.{claimed_filled, claimed_held, replaces_alone}
 use Rattle.rowex_writing.proofs.Locking.{locked_on}
 use Rattle.rowex_writing.proofs.Making.{set_all_on}
 use Rattle.rowex_writing.proofs.Merged.{word_of}
@@ -46,8 +47,7 @@ returns-clause-may g c =
     let left = c.requires.left.built in
     let goes = set_all_on table g.G.Gate.becomes _ _ _ _ c.fill_node.ensures.fills in
     let (t, own, possible, later, locks, anchor) = c.requires.still in
-    let now = still_on table g.G.Gate.becomes (c.args.seat.now, c.args.gate.now) (c.fill_node.new.seat, c.fill_node.new.gate) job goes c.requires.still in
-    let high = omega (arith, c.read_numbers.ensures.parts.2, (first_told left.node c.args.left.now.words left.has left.spells).1, left.has.lawful.bound) in
+    let high : c.read_numbers.result.height ≡ left.node.height = omega (arith, c.read_numbers.ensures.parts.2, (first_told left.node c.args.left.now.words left.has left.spells).1, left.has.lawful.bound) in
     let entry : Node n c.read_numbers.result.height ≡ Node n left.node.height = ap (Node n) high in
     let side = subst (λ e. IsSide (subtrie_without job.key.now (node_words_of c.requires.left.words).subtrie) e (made_of_node n left.node ∷ [])) (sym entry)
     (anew n left.node (left.has, left.built.height_is) left.built.shows_it) in
@@ -58,7 +58,7 @@ returns-clause-may g c =
     (subst (λ (ws : List ℕ). IsBuilding table c.fill_node.new.seat (a_node n ∷ []) (record { rec = a_node n; words = ws } ∷ [])) (sym left.spells) filled) in
     let x = removed_change t.before.known.pass (item t.number job.key.now t.value) in
     let may = replaces_alone table t.before t.since job t.number t.value t.below c.fill_node.new.seat c.push.new.self.items (made_of_node n left.node ∷ []) c.requires.left.words
-    (locked_on c.args.seat.now.known t.before.known (lower job).number c.requires.left.words (sym locks) c.requires.left.has) (Node n c.read_numbers.result.height) (now.3, now.4, now.5) building side
+    (locked_on c.args.seat.now.known t.before.known (lower job).number c.requires.left.words (sym locks) c.requires.left.has) (Node n c.read_numbers.result.height) (later_transitive t.before.known c.args.seat.now.known c.fill_node.new.seat.known later goes.stays.0, goes.stays.1 ∙ locks, goes.stays.2 ∙ anchor) building side
     (word_of (Node n c.read_numbers.result.height) c.put_in_place.ensures.number tall) (omega (arith, ap length made)) in (
       x,
       Some t.value,

@@ -1,12 +1,8 @@
 -- What is left of the last node takes its place.
-use Rattle.std.proofs.Common.{rules, ◌≡◌, ◌≤◌, ◌+◌, ◌*◌, [], ◌∷◌, ◌++◌, List, get_or, length, map, ap, sym, subst, Some, refl, arith, ◌∙◌, None}
+use Rattle.std.proofs.Common.{rules, ◌≡◌, ◌≤◌, ◌+◌, ◌*◌, [], length, ap, sym, subst, Some, refl, arith}
 use Rattle.std.proofs.lemmas.Option.{slice_get_within}
-use Rattle.insert_cases.specs.declared.choice.PathNode.{PathNode}
-use Rattle.record_words.specs.Entry.{HasEntryWord, entry_word}
+use Rattle.record_words.specs.Entry.{HasEntryWord}
 use Rattle.record_words.specs.declared.layout.Layout.{Layout}
-use Rattle.versions.specs.declared.Rec.TheVariants.{Node as a_node, Leaf as a_leaf}
-use Rattle.version_laws.specs.Writer.{removed_change}
-use Rattle.rowex_writing.specs.Changes.{MayPublishOnceReady}
 use Rattle.rowex_writing.specs.Building.{IsBuilding}
 use Rattle.rowex_writing.specs.Counts.{level_steps}
 use Rattle.rowex_writing.specs.Walks.{nodes_among}
@@ -14,11 +10,9 @@ use Rattle.rowex_writing.proofs.Growths.{lacks_nodes}
 use Rattle.rowex_writing.proofs.Keeping.{step_nodes}
 use Rattle.rowex_writing.proofs.Leaving.{replaces_alone}
 use Rattle.rowex_writing.proofs.Making.{building_none}
-use Rattle.rowex_writing.proofs.Removing.{IsRaised, last_one, left_raised, leaf_gone_record, low_step, lowest_leads, lowest_locked, may_remake, no_step}
+use Rattle.rowex_writing.proofs.Removing.{IsRaised, left_raised, low_step, lowest_leads, lowest_locked}
 use Rattle.rowex_writing.proofs.Walked.{walk_begins}
 use Rattle.rowex_writing.proofs.taking.remake_without_leaf.Goals as goal
-use Rattle.tries.specs.Content.{item}
-use Rattle.rowex_reading.specs.declared.descent.Found.TheVariants.{Leaf as FoundLeaf}
 
 pub raise_without_leaf-requires-clause-locked : goal.raise_without_leaf-requires-clause-locked
 raise_without_leaf-requires-clause-locked g c =
