@@ -1,7 +1,6 @@
 -- Under the wider locks: what the pass knows of the two nodes, and the store that makes them one.
-use Rattle.std.proofs.Common.{◌≡◌, ◌≢◌, inl, inr, ◌⊎◌, ℕ, ◌+◌, ◌-◌, ◌<◌, ◌≤◌, true, false, List, [], ◌∷◌, ◌++◌, map, reverse, length, nat_eq, Option, Some, None, refl, sym, ap, subst, ◌∙◌, arith}
+use Rattle.std.proofs.Common.{◌≡◌, ◌≢◌, inl, inr, ◌⊎◌, ℕ, ◌+◌, ◌-◌, ◌<◌, ◌≤◌, List, [], ◌∷◌, ◌++◌, length, nat_eq, Option, Some, None, refl, sym, ap, subst, ◌∙◌, arith}
 use Rattle.std.specs.Prelude.{IfSome, IsSome, MatchOption, slice_range}
-use Rattle.std.proofs.lemmas.List.{length-reverse}
 use Rattle.std.proofs.lemmas.Bool.{eq-eqb, ne_eqb}
 use Rattle.std.proofs.lemmas.List.Elements.{All-cons}
 use Rattle.std.proofs.lemmas.Option.{get_or_from_slice_get}
@@ -32,14 +31,9 @@ use Rattle.versions.specs.Trades.{AreApart, IsOneOf}
 use Rattle.versions.specs.declared.Rec.{Rec}
 use Rattle.versions.specs.declared.Rec.TheVariants.{Node as a_node, Leaf as a_leaf}
 use Rattle.versions.proofs.Members.{all_of, map_of, of_map}
-use Rattle.rowex_core.specs.Cores.{FitsIn, HasRecord}
-use Rattle.rowex_core.specs.declared.known.Holding.TheVariants.{Held}
-use Rattle.rowex_core.proofs.Having.{other_rec}
-use Rattle.versions.specs.Steps.{same_rec}
-use Rattle.versions.proofs.Legal.{same_rec_refl}
-use Rattle.rowex_records.specs.Records.{SetsAll, fill_with}
+use Rattle.rowex_core.specs.Cores.{HasRecord}
 use Rattle.rowex_core.specs.Having.{AreKept}
-use Rattle.rowex_core.specs.Reading.{IsPacked, node_words_of}
+use Rattle.rowex_core.specs.Reading.{node_words_of}
 use Rattle.rowex_core.specs.Sharing.{IsLocked}
 use Rattle.rowex_core.specs.declared.event.Event.{Event}
 use Rattle.rowex_core.specs.declared.event.Spot.{Spot}
@@ -47,7 +41,7 @@ use Rattle.rowex_core.specs.declared.event.Spot.TheVariants.{Root, Slot, Value}
 use Rattle.rowex_core.specs.declared.known.Known.{Known}
 use Rattle.rowex_core.specs.declared.known.Locked.{Locked}
 use Rattle.rowex_core.proofs.Owning.{knows_all}
-use Rattle.rowex_table.specs.Made.{IsLater, Made, held_as, nodes_of, recs_of}
+use Rattle.rowex_table.specs.Made.{IsLater, Made, nodes_of}
 use Rattle.rowex_table.specs.Publishes.{Publishes}
 use Rattle.rowex_table.specs.Seats.{TableView, SeatView, IsSeatOf}
 use Rattle.rowex_reading.specs.Possible.{IsPossible}
@@ -63,7 +57,7 @@ use Rattle.publish_laws.specs.Stages.{AreBeside, HasReady, merged}
 use Rattle.publish_laws.proofs.Loops.{later_transitive}
 use Rattle.publish_laws.proofs.Merging.{collapsed_low, merge, merged_low, merged_rises}
 use Rattle.version_laws.specs.Writer.{removed_change}
-use Rattle.rowex_writing.specs.Building.{AreMadePacked, HasNotMade, IsBuilding}
+use Rattle.rowex_writing.specs.Building.{HasNotMade, IsBuilding}
 use Rattle.rowex_writing.specs.Changes.{HasTakenPlan, IsTakeChange, MayPublishOnceReady}
 use Rattle.rowex_writing.specs.Growths.{HasNumber}
 use Rattle.rowex_writing.specs.Going.{HasLocked, IsNodeOf, WorksOn}
@@ -77,11 +71,9 @@ use Rattle.rowex_writing.specs.declared.merging.ClosedFork.{ClosedFork}
 use Rattle.rowex_writing.specs.declared.job.Merge.{Merge}
 use Rattle.rowex_writing.proofs.Above.{lower_entry}
 use Rattle.rowex_writing.proofs.Beside.{locked_node, lower_at, lower_locked, lower_range, upper_at, upper_locked, upper_range}
-use Rattle.rowex_table.specs.Rights.{IsClaimed}
 use Rattle.rowex_writing.proofs.Confirming.{span_later}
-use Rattle.rowex_writing.proofs.Keeping.{claimed}
 use Rattle.rowex_writing.proofs.Locking.{locked_on, seat_of}
-use Rattle.rowex_writing.proofs.Making.{building_on, goes_possible, set_all_on}
+use Rattle.rowex_writing.proofs.Making.{goes_possible}
 use Rattle.rowex_writing.proofs.Remade.{entries_under}
 use Rattle.rowex_writing.specs.Deeds.{MayReplace}
 use Rattle.rowex_writing.specs.declared.job.Raised.{Raised}

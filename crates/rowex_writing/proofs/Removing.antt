@@ -36,7 +36,6 @@ use Rattle.rowex_reading.specs.Possible.{IsPossible}
 use Rattle.rowex_reading.specs.Seen.{Sure}
 use Rattle.rowex_reading.proofs.Seeing.{read_stable, since_later}
 use Rattle.rowex_reading.proofs.Standing.{led_in_table}
-use Rattle.publish_laws.specs.Loops.{StaysLocked}
 use Rattle.publish_laws.specs.Rises.{IsSide, one, anew}
 use Rattle.publish_laws.specs.Stages.{HasLoaded, HasReady, IsLeafThere}
 use Rattle.publish_laws.proofs.Loops.{later_transitive}

@@ -1,5 +1,5 @@
 -- What is left is published, as one with the node beside it or alone.
-use Rattle.std.proofs.Common.{◌<◌, ◌+◌, ◌*◌, ap, arith, subst, sym, ◌∙◌}
+use Rattle.std.proofs.Common.{◌+◌, ◌*◌, arith, subst}
 use Rattle.record_words.specs.declared.TheConstants.{NODE_FIELDS}
 use Rattle.rowex_reading.proofs.Seeing.{later_trans}
 use Rattle.rowex_writing.specs.Changes.{IsTakeChange}

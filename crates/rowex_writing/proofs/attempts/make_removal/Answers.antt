@@ -1,5 +1,5 @@
 -- One entry that is left is published; for more a record is claimed; or all is given back.
-use Rattle.std.proofs.Common.{◌≡◌, ◌<◌, ◌+◌, ◌*◌, ◌-◌, [], Some, None, ap, arith, length, refl, rules, subst, sym, ◌∙◌}
+use Rattle.std.proofs.Common.{◌+◌, ◌*◌, [], Some, ap, arith, length, refl, rules, subst, sym, ◌∙◌}
 use Rattle.std.proofs.lemmas.Option.{slice_get_within}
 use Rattle.tries.specs.Content.{item}
 use Rattle.version_laws.specs.Writer.{removed_change}
@@ -18,12 +18,12 @@ use Rattle.rowex_writing.proofs.Beside.{takes_on}
 use Rattle.rowex_writing.proofs.Growths.{full_since, no_room}
 use Rattle.rowex_writing.proofs.Keeping.{changed_since}
 use Rattle.rowex_writing.proofs.Leaving.{left_on, replaces_alone}
-use Rattle.rowex_writing.proofs.Locking.{goes_more, goes_none, locked_on, seat_of}
+use Rattle.rowex_writing.proofs.Locking.{goes_more, locked_on, seat_of}
 use Rattle.rowex_writing.proofs.Making.{building_none, goes_possible, steps_rise}
 use Rattle.rowex_writing.proofs.Merged.{entry_height, holds_on, is_taking, takes_taken, word_of}
 use Rattle.rowex_writing.proofs.Named.{loaded_on}
 use Rattle.rowex_writing.proofs.Removing.{low_step, lowest_leads, lowest_locked, taken_below}
-use Rattle.rowex_writing.proofs.Runs.{goes_run, runs_trans, works_run}
+use Rattle.rowex_writing.proofs.Runs.{goes_run, works_run}
 use Rattle.rowex_writing.proofs.Spare.{goes_room, goes_spare, gone_node, works_spare}
 use Rattle.rowex_writing.proofs.Valued.{busy_leafless, busy_roomy, failed_before}
 use Rattle.rowex_writing.proofs.Wider.{few_none, removal_changes}

@@ -1,6 +1,5 @@
 -- The record spells what is left, and its entry may take the node's place.
-use Rattle.std.proofs.Common.{◌≡◌, ◌∷◌, [], ◌++◌, ◌≤◌, List, ℕ, Some, ap, arith, length, refl, subst, sym, ◌∙◌}
-use Rattle.compound_node.specs.declared.entries.Entry.{Entry}
+use Rattle.std.proofs.Common.{◌≡◌, ◌∷◌, [], ◌++◌, List, ℕ, Some, ap, arith, length, refl, subst, sym, ◌∙◌}
 use Rattle.compound_node.specs.declared.entries.Entry.TheVariants.{Node}
 use Rattle.record_words.proofs.Growing.{first_told}
 use Rattle.tries.specs.Content.{item}
