@@ -129,9 +129,9 @@ module _ (table : TableView) (a : SeatView) (job : Job) (takes : TakesOn table a
           sym (sibling_spot job.key.now shown) ∙ sibling_beside (spot job.key.now shown) place (get_or view.columns column 0) (Node number height) shown (spot_below job.key.now shown) forks_shown
           (sym (place_is shown place) ∙ (ap (λ (b : Bool). if b then Some (entry_at shown place) else None) (lt-ltb place (size shown) place_shown) ∙ ap Some (sym entry)))
 
-      pub found_beside : (number height position made : ℕ) → position ≡ position_at view.columns column → Node number height ≡ entry_at shown place →
-          IsNeighbour a.known job (record { place = place; position = position; number = number; made = made })
-      found_beside number height position made at entry =
+      pub found_beside : (number height position : ℕ) → position ≡ position_at view.columns column → Node number height ≡ entry_at shown place →
+          IsNeighbour a.known job (record { place = place; position = position; number = number })
+      found_beside number height position at entry =
           let is : get_or view.columns column 0 ≡ position = sym (at ∙ get_or_default view.columns column 65535 0 forks.in_range) in
           record {
             words = words;

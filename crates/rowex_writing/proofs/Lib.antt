@@ -37,5 +37,6 @@ pub mod Walked
 pub mod Wider
 pub mod Beside
 pub mod Merged
+pub mod Leaving
 pub mod Named
 pub mod Spare

@@ -1,7 +1,6 @@
 -- Under the wider locks: what the pass knows of the two nodes, and the store that makes them one.
-use Rattle.std.proofs.Common.{◌≡◌, ◌≢◌, inl, inr, ◌⊎◌, ℕ, ◌+◌, ◌-◌, ◌<◌, ◌≤◌, true, false, List, [], ◌∷◌, ◌++◌, map, reverse, length, nat_eq, Option, Some, None, refl, sym, ap, subst, ◌∙◌, arith}
+use Rattle.std.proofs.Common.{◌≡◌, ◌≢◌, inl, inr, ◌⊎◌, ℕ, ◌+◌, ◌-◌, ◌<◌, ◌≤◌, List, [], ◌∷◌, ◌++◌, length, nat_eq, Option, Some, None, refl, sym, ap, subst, ◌∙◌, arith}
 use Rattle.std.specs.Prelude.{IfSome, IsSome, MatchOption, slice_range}
-use Rattle.std.proofs.lemmas.List.{length-reverse}
 use Rattle.std.proofs.lemmas.Bool.{eq-eqb, ne_eqb}
 use Rattle.std.proofs.lemmas.List.Elements.{All-cons}
 use Rattle.std.proofs.lemmas.Option.{get_or_from_slice_get}
@@ -32,14 +31,9 @@ use Rattle.versions.specs.Trades.{AreApart, IsOneOf}
 use Rattle.versions.specs.declared.Rec.{Rec}
 use Rattle.versions.specs.declared.Rec.TheVariants.{Node as a_node, Leaf as a_leaf}
 use Rattle.versions.proofs.Members.{all_of, map_of, of_map}
-use Rattle.rowex_core.specs.Cores.{FitsIn, HasRecord}
-use Rattle.rowex_core.specs.declared.known.Holding.TheVariants.{Held}
-use Rattle.rowex_core.proofs.Having.{other_rec}
-use Rattle.versions.specs.Steps.{same_rec}
-use Rattle.versions.proofs.Legal.{same_rec_refl}
-use Rattle.rowex_records.specs.Records.{SetsAll, fill_with}
+use Rattle.rowex_core.specs.Cores.{HasRecord}
 use Rattle.rowex_core.specs.Having.{AreKept}
-use Rattle.rowex_core.specs.Reading.{IsPacked, node_words_of}
+use Rattle.rowex_core.specs.Reading.{node_words_of}
 use Rattle.rowex_core.specs.Sharing.{IsLocked}
 use Rattle.rowex_core.specs.declared.event.Event.{Event}
 use Rattle.rowex_core.specs.declared.event.Spot.{Spot}
@@ -47,7 +41,7 @@ use Rattle.rowex_core.specs.declared.event.Spot.TheVariants.{Root, Slot, Value}
 use Rattle.rowex_core.specs.declared.known.Known.{Known}
 use Rattle.rowex_core.specs.declared.known.Locked.{Locked}
 use Rattle.rowex_core.proofs.Owning.{knows_all}
-use Rattle.rowex_table.specs.Made.{IsLater, Made, held_as, nodes_of, recs_of}
+use Rattle.rowex_table.specs.Made.{IsLater, Made, nodes_of}
 use Rattle.rowex_table.specs.Publishes.{Publishes}
 use Rattle.rowex_table.specs.Seats.{TableView, SeatView, IsSeatOf}
 use Rattle.rowex_reading.specs.Possible.{IsPossible}
@@ -63,7 +57,7 @@ use Rattle.publish_laws.specs.Stages.{AreBeside, HasReady, merged}
 use Rattle.publish_laws.proofs.Loops.{later_transitive}
 use Rattle.publish_laws.proofs.Merging.{collapsed_low, merge, merged_low, merged_rises}
 use Rattle.version_laws.specs.Writer.{removed_change}
-use Rattle.rowex_writing.specs.Building.{AreMadePacked, HasNotMade, IsBuilding}
+use Rattle.rowex_writing.specs.Building.{HasNotMade, IsBuilding}
 use Rattle.rowex_writing.specs.Changes.{HasTakenPlan, IsTakeChange, MayPublishOnceReady}
 use Rattle.rowex_writing.specs.Growths.{HasNumber}
 use Rattle.rowex_writing.specs.Going.{HasLocked, IsNodeOf, WorksOn}
@@ -77,11 +71,9 @@ use Rattle.rowex_writing.specs.declared.merging.ClosedFork.{ClosedFork}
 use Rattle.rowex_writing.specs.declared.job.Merge.{Merge}
 use Rattle.rowex_writing.proofs.Above.{lower_entry}
 use Rattle.rowex_writing.proofs.Beside.{locked_node, lower_at, lower_locked, lower_range, upper_at, upper_locked, upper_range}
-use Rattle.rowex_table.specs.Rights.{IsClaimed}
 use Rattle.rowex_writing.proofs.Confirming.{span_later}
-use Rattle.rowex_writing.proofs.Keeping.{claimed}
 use Rattle.rowex_writing.proofs.Locking.{locked_on, seat_of}
-use Rattle.rowex_writing.proofs.Making.{building_on, goes_possible, set_all_on}
+use Rattle.rowex_writing.proofs.Making.{goes_possible}
 use Rattle.rowex_writing.proofs.Remade.{entries_under}
 use Rattle.rowex_writing.specs.Deeds.{MayReplace}
 use Rattle.rowex_writing.specs.declared.job.Raised.{Raised}
@@ -327,7 +319,7 @@ module _ (table : TableView) (b : SeatView) (job : Job) (number : ℕ) (w : IsWi
           }
 
 -- an entry for a subtrie of lower ones is no higher
-side_low : (x : Subtrie) (e : Entry) (us : List Made) (h : ℕ) → IsSide x e us → greatest_height (places x) < h → height_of e ≤ h
+pub side_low : (x : Subtrie) (e : Entry) (us : List Made) (h : ℕ) → IsSide x e us → greatest_height (places x) < h → height_of e ≤ h
 side_low x e us h (one d is) low = let g = ap (λ (z : Subtrie). greatest_height (places z)) is in omega (arith, low, g)
 side_low x e us h (anew m view built is) low =
     let g : greatest_height view.entries ≡ greatest_height (places x) = ap greatest_height built.0.lawful.shows.entries_are ∙ ap (λ (z : Subtrie). greatest_height (places z)) is in
@@ -511,68 +503,6 @@ pub word_of : (e : Entry) → HasNumber e → HasHeight e → HasEntryWord (Some
 word_of (LeafEntry n) number high = omega (arith, number)
 word_of (Node n h) number high = (omega (arith, number), high.0, omega (arith, high.1))
 
--- ---- a record that is filled anew
-filled_others : (r : Rec) (words : List ℕ) (us : List Made) → ¬ (IsOneOf r (recs_of us)) → map (fill_with r words) (map (held_as Held) us) ≡ map (held_as Held) us
-filled_others r words [] new = refl
-filled_others r words (u ∷ us) new =
-    let other : same_rec u.rec r ≡ false = other_rec u.rec r (λ e. new (inl (sym e))) in rw other (ap (λ z. held_as Held u ∷ z) (filled_others r words us (λ i. new (inr i))))
-
-filled_last : (r : Rec) (words : List ℕ) (us : List Made) (m : Made) → m.rec ≡ r → ¬ (IsOneOf r (recs_of us)) → map (fill_with r words) (map (held_as Held) (us ++ m ∷ [])) ≡ map (held_as Held) (us ++ record { rec = r; words = words } ∷ [])
-filled_last r words [] m is new = let same : same_rec m.rec r ≡ true = ap (λ z. same_rec z r) is ∙ same_rec_refl r in rw same (ap (λ z. record { rec = z; holding = Held; words = words } ∷ []) is)
-filled_last r words (u ∷ us) m is new =
-    let other : same_rec u.rec r ≡ false = other_rec u.rec r (λ e. new (inl (sym e))) in rw other (ap (λ z. held_as Held u ∷ z) (filled_last r words us m is (λ i. new (inr i))))
-
-recs_last : (us : List Made) (m z : Made) → z.rec ≡ m.rec → recs_of (us ++ m ∷ []) ≡ recs_of (us ++ z ∷ [])
-recs_last [] m z is = ap (λ r. r ∷ []) (sym is)
-recs_last (u ∷ us) m z is = ap (λ rs. u.rec ∷ rs) (recs_last us m z is)
-
-apart_last : (us : List Made) (m : Made) → AreApart (recs_of (us ++ m ∷ [])) → ¬ (IsOneOf m.rec (recs_of us))
-apart_last [] m apart i = i
-apart_last (u ∷ us) m apart (inl e) = apart.0 (subst (λ z. IsOneOf z (recs_of (us ++ m ∷ []))) e (last_there us m))
-  where
-    last_there : (us : List Made) (m : Made) → IsOneOf m.rec (recs_of (us ++ m ∷ []))
-    last_there [] m = inl refl
-    last_there (u ∷ us) m = inr (last_there us m)
-apart_last (u ∷ us) m apart (inr i) = apart_last us m apart.1 i
-
-packed_last : (layout : Layout) (us : List Made) (m z : Made) → AreMadePacked layout (us ++ m ∷ []) → IsPacked z.rec z.words × FitsIn layout z.rec z.words → AreMadePacked layout (us ++ z ∷ [])
-packed_last layout [] m z packed fits = (fits, tt)
-packed_last layout (u ∷ us) m z packed fits = (packed.0, packed_last layout us m z packed.1 fits)
-
-pub refilled : {G : Type 0} (table : TableView) (becomes : G → Event → G → Type 0) (a b : SeatView × G) (made : List Rec) (us : List Made) (m : Made) (n : ℕ) (words : List ℕ) → m.rec ≡ a_node n → SetsAll table becomes (a_node n) words a b →
-    IsPacked (a_node n) words → IsBuilding table a.0 made (us ++ m ∷ []) → IsBuilding table b.0 made (us ++ record { rec = a_node n; words = words } ∷ [])
-refilled table becomes a b made us m n words is sets packed was =
-    let goes = set_all_on table becomes (a_node n) words a b sets in
-    let newest : Made = record { rec = a_node n; words = words } in
-    let recs = recs_last us m newest (sym is) in
-    record {
-      seat = seat_of table becomes a b goes was.seat;
-      possible = goes_possible table becomes a b goes was.possible;
-      holds = (
-        sets.own ∙ (ap (map (fill_with (a_node n) words)) was.holds.0 ∙ filled_last (a_node n) words us m is (λ i. apart_last us m was.holds.1 (subst (λ z. IsOneOf z (recs_of us)) (sym is) i))),
-        subst AreApart recs was.holds.1,
-      );
-      packed = packed_last table.layout us m newest was.packed (packed, tt);
-      listed = was.listed ∙ ap reverse recs;
-    }
-
--- the list of the records that are made, where it has one of a node
-pub sole_made : (made : List Rec) (news : List Made) (n : ℕ) → made ≡ a_node n ∷ [] → made ≡ reverse (recs_of news) → (m : Made) × (news ≡ m ∷ []) × (m.rec ≡ a_node n)
-sole_made made [] n is listed = absurd (let z : length (a_node n ∷ []) ≡ 0 = ap length (sym is ∙ listed) in omega (arith, z))
-sole_made made (m ∷ []) n is listed = (m, refl, head_is m.rec (a_node n) (sym listed ∙ is))
-  where
-    head_is : (r s : Rec) → r ∷ [] ≡ s ∷ [] → r ≡ s
-    head_is r s e = cc
-sole_made made (m ∷ z ∷ news) n is listed =
-    absurd (let long : length (a_node n ∷ []) ≡ length (reverse (recs_of (m ∷ z ∷ news))) = ap length (sym is ∙ listed) in omega (arith, long, length-reverse (recs_of (m ∷ z ∷ news))))
-
-pub last_claimed : (us : List Made) (m : Made) → IsOneOf m.rec (recs_of (us ++ m ∷ []))
-last_claimed [] m = inl refl
-last_claimed (u ∷ us) m = inr (last_claimed us m)
-
-pub made_claimed : (table : TableView) (b : SeatView) (made : List Rec) (us : List Made) (m : Made) (n : ℕ) → m.rec ≡ a_node n → IsBuilding table b made (us ++ m ∷ []) → IsClaimed b.known (a_node n)
-made_claimed table b made us m n is building = subst (IsClaimed b.known) is (claimed table b made (us ++ m ∷ []) building m.rec (last_claimed us m))
-
 -- ---- one node of the two, some loads later
 module _ {G : Type 0} (table : TableView) (becomes : G → Event → G → Type 0) (a b : SeatView × G) (job : Job) (x : Merge) (goes : WorksOn table becomes a b) (w : IsWide table a.0 job x.number) (is : IsNeighbour a.0.known job x) (view : NodeView)
     (joined : (leaf : ℕ) (s : AreBeside a.0.known.locks job.key.now (upper job).number (lower job).number x.number leaf) → s.position ≡ x.position → IsBuiltFrom view (merged s)) where
@@ -596,20 +526,13 @@ module _ {G : Type 0} (table : TableView) (becomes : G → Event → G → Type 
   closes_for n = closes_fork table b.0 job x.number wide_now x refl beside_now (Node n view.height) (joined_stands table b.0 job x.number wide_now x refl beside_now view merged_for n)
 
   -- with the records for what is left of the upper one
-  pub closed_made : (made after : List Rec) (news : List Made) (n h : ℕ) (e : Entry) (c : SeatView) → h ≡ view.height → made ≡ a_node n ∷ [] → b.0.known.own ≡ a.0.known.own → IsBuilding table a.0 made news →
+  pub closed_made : (made after : List Rec) (n h : ℕ) (e : Entry) (c : SeatView) → h ≡ view.height → IsBuilding table b.0 made (made_of_node n view ∷ []) →
       ((key : Key) (words : List ℕ) (news : List Made) → ClosesFork b.0.known key (fork_at n h) → HasLocked b.0.known (upper job).number words → IsBuilding table b.0 made news →
       (us : List Made) × IsSide (subtrie_collapsed key (Node n h) (node_words_of words).subtrie) e us × IsBuilding table c after (us ++ news)) →
-      (us : List Made) × (m : Made) × (m.rec ≡ a_node n) × IsSide (subtrie_collapsed job.key.now (Node n view.height) (node_words_of is.words).subtrie) e us × IsBuilding table c after (us ++ m ∷ [])
-  closed_made made after news n h e c high sole own building raised =
-      let (m, news_is, rec_is) = sole_made made news n sole building.listed in
-      let now = building_on table becomes a b made news goes own building in
-      let (us, side, built) = raised job.key.now beside_now.words news (subst (λ z. ClosesFork b.0.known job.key.now (fork_at n z)) (sym high) (closes_for n)) beside_now.has now in (
-        us,
-        m,
-        rec_is,
-        subst (λ z. IsSide (subtrie_collapsed job.key.now (Node n z) (node_words_of is.words).subtrie) e us) high side,
-        subst (λ z. IsBuilding table c after (us ++ z)) news_is built,
-      )
+      (us : List Made) × IsSide (subtrie_collapsed job.key.now (Node n view.height) (node_words_of is.words).subtrie) e us × IsBuilding table c after (us ++ made_of_node n view ∷ [])
+  closed_made made after n h e c high building raised =
+      let (us, side, built) = raised job.key.now beside_now.words (made_of_node n view ∷ []) (subst (λ z. ClosesFork b.0.known job.key.now (fork_at n z)) (sym high) (closes_for n)) beside_now.has building in
+      (us, subst (λ z. IsSide (subtrie_collapsed job.key.now (Node n z) (node_words_of is.words).subtrie) e us) high side, built)
 
 -- so under the wider locks
 pub beside_wider : (table : TableView) (k : Known) (b : SeatView) (job : Job) (x : Merge) (w : IsWide table b job x.number) → w.taking.before.known.locks ≡ k.locks → IsNeighbour k job x → IsNeighbour b.known job x

@@ -36,7 +36,6 @@ use Rattle.rowex_reading.specs.Possible.{IsPossible}
 use Rattle.rowex_reading.specs.Seen.{Sure}
 use Rattle.rowex_reading.proofs.Seeing.{read_stable, since_later}
 use Rattle.rowex_reading.proofs.Standing.{led_in_table}
-use Rattle.publish_laws.specs.Loops.{StaysLocked}
 use Rattle.publish_laws.specs.Rises.{IsSide, one, anew}
 use Rattle.publish_laws.specs.Stages.{HasLoaded, HasReady, IsLeafThere}
 use Rattle.publish_laws.proofs.Loops.{later_transitive}
@@ -279,7 +278,7 @@ module _ (table : TableView) (a : SeatView) (m : ℕ) (job : Job) (number value 
       ap (λ z. s ∷ z) (ap (λ i. slice_range job.way.now i job.span.len) e ∙ slice_none job.way.now job.span.len))
 
   -- what is left may take the node's place
-  module _ (c : SeatView) (made : List Rec) (news : List Made) (words : List ℕ) (h : HasLocked a.known s.number words) (e : Entry) (stays : StaysLocked a.known c.known) (building : IsBuilding table c made news)
+  module _ (c : SeatView) (made : List Rec) (news : List Made) (words : List ℕ) (h : HasLocked a.known s.number words) (e : Entry) (stays : IsLater a.known c.known × (c.known.locks ≡ a.known.locks) × (c.known.anchor ≡ a.known.anchor)) (building : IsBuilding table c made news)
       (side : IsSide (subtrie_without job.key.now (node_words_of words).subtrie) e news) (low : height_of e ≤ (node_words_of words).fixed.height) (word : HasEntryWord (Some e)) where
     abbrev gone : List Rec
     gone = a_node s.number ∷ a_leaf number ∷ []

@@ -239,6 +239,11 @@ pub failed_before : (layout : Layout) (job : Job) (a b c : Known) (made : List R
 failed_before layout job a b c made (Ok x) _ h = tt
 failed_before layout job a b c made (Err fault) later h = failed_since layout job a b c made fault later h.0 h.1
 
+pub busy_since : (layout : Layout) (job : Job) (a b c : Known) (made : List Rec) (r : Result ⊤ TryFault) → IsLater a b → IfErr r (λ fault. (fault ≡ Busy) × HasFailed layout job b c made fault) →
+    IfErr r (λ fault. (fault ≡ Busy) × HasFailed layout job a c made fault)
+busy_since layout job a b c made (Ok x) later h = tt
+busy_since layout job a b c made (Err fault) later (is, h) = (is, failed_since layout job a b c made fault later is h)
+
 pub busy_leafless : {X : Type 0} (r : Result X TryFault) (P : TryFault → Type 0) → IfErr r (λ fault. (fault ≡ Busy) × P fault) → r ≢ Err FullLeaves
 busy_leafless (Ok x) P h = λ e. cc
 busy_leafless (Err Busy) P h = λ e. cc

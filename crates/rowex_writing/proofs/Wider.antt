@@ -158,9 +158,9 @@ module _ {G : Type 0} (table : TableView) (becomes : G → Event → G → Type 
       let (locks, tried, least, most, spent) = tries a h in (locks, once_then table becomes a c d tried rest, least, most, omega (arith, few, spent))
 
   -- so for a removal, once what is left of the lower node is made
-  pub removal_changes : (job : Job) (t : IsTaking table job) (left more : ℕ) (b m c : SeatView × G) → more ≤ 84 → HasTried table becomes [] b m → m.0.known.steps + 2 * left ≤ b.0.known.steps + 2 * table.layout.nodes + level_steps + 1 →
+  pub removal_changes : (job : Job) (t : IsTaking table job) (left spent more : ℕ) (b m c : SeatView × G) → spent + more ≤ level_steps + 85 → HasTried table becomes [] b m → m.0.known.steps + 2 * left ≤ b.0.known.steps + 2 * table.layout.nodes + spent →
       TriesFew table becomes (span_numbers job.way.now job.span) left more m c → ChangesOn table becomes (span_numbers job.way.now job.span) 1 b c
-  removal_changes job t left more b m c upto run walk tries a h =
+  removal_changes job t left spent more b m c upto run walk tries a h =
       let (locks, tried, least, most, few) = tries a (nodes_then table becomes (span_numbers job.way.now job.span) a b m h run) in
       let low = t.below.taken.within.0 in
       let last = t.below.last in

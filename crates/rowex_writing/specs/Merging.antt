@@ -8,18 +8,21 @@ use Rattle.insert_cases.specs.declared.choice.PathNode.{PathNode}
 use Rattle.pieces.specs.Piece.{Place, size}
 use Rattle.pieces.specs.Changes.{beside}
 use Rattle.record_words.specs.Entry.{entry_word}
+use Rattle.record_words.specs.Node.{SpellBuilt}
 use Rattle.tries.specs.Keys.{Key}
-use Rattle.tries.specs.Place.{spot, subtrie_sibling}
+use Rattle.tries.specs.Place.{spot, subtrie_sibling, subtrie_without}
 use Rattle.tries.specs.Search.{seek}
 use Rattle.tries.specs.Tree.{Subtrie}
 use Rattle.versions.specs.Trades.{IsOneOf}
 use Rattle.versions.specs.declared.Rec.{Rec}
 use Rattle.versions.specs.declared.Rec.TheVariants.{Node as a_node, Leaf as a_leaf}
+use Rattle.rowex_core.specs.Cores.{word_count_of}
 use Rattle.rowex_core.specs.Reading.{node_words_of}
 use Rattle.rowex_core.specs.declared.event.Event.{Event}
 use Rattle.rowex_core.specs.declared.event.Spot.{Spot}
 use Rattle.rowex_core.specs.declared.event.Target.{Target}
 use Rattle.rowex_core.specs.declared.event.Target.TheVariants.{Anchor, Node as NodeTarget}
+use Rattle.rowex_core.specs.declared.known.Holding.TheVariants.{Held}
 use Rattle.rowex_core.specs.declared.known.Known.{Known}
 use Rattle.rowex_core.specs.declared.known.Locked.{Locked}
 use Rattle.rowex_table.specs.Made.{IsLater, nodes_of}
@@ -66,6 +69,24 @@ pub record IsTaking (table : TableView) (job : Job) : Type 0 where
 -- and since then it has gone on, with these locks and no other
 abbrev pub TakesOn : TableView → SeatView → Job → Type 0
 TakesOn table a job = (t : IsTaking table job) × IsSeatOf table a × IsPossible table.layout a.known × StaysLocked t.before.known a.known
+
+-- and so far as its locks go, whatever it has loaded of values
+abbrev pub TakesStill : TableView → SeatView → Job → Type 0
+TakesStill table a job = (t : IsTaking table job) × IsSeatOf table a × IsPossible table.layout a.known ×
+    IsLater t.before.known a.known × (a.known.locks ≡ t.before.known.locks) × (a.known.anchor ≡ t.before.known.anchor)
+
+-- The pass has claimed this node record, whatever words are in it, and has no other.
+pub record HasClaimed (table : TableView) (k : Known) (n : ℕ) : Type 0 where
+  pub low : n < table.layout.nodes
+  pub words : List ℕ
+  pub sized : length words ≡ word_count_of (a_node n)
+  pub own : k.own ≡ record { rec = a_node n; holding = Held; words = words } ∷ []
+
+-- Without the leaf a node is left of the lower one, by the words under its lock, and these words spell it.
+pub record IsLeft (k : Known) (job : Job) (left : List ℕ) : Type 0 where
+  pub words : List ℕ
+  pub has : HasLocked k (lower job).number words
+  pub built : SpellBuilt left (subtrie_without job.key.now (node_words_of words).subtrie)
 
 -- In the upper node, by the words under its lock, the place alone is beside that of the lower one, and names the node.
 pub record IsNeighbour (k : Known) (job : Job) (b : Merge) : Type 0 where

@@ -17,7 +17,7 @@ ghost use Rattle.rowex_writing.specs.Deeds.{MayReplace, leaf_gone};
 ghost use Rattle.rowex_table.specs.Stays.{LeavesPin};
 ghost use Rattle.rowex_writing.specs.Building.{HasNotMade};
 ghost use Rattle.rowex_writing.specs.Changes.{HasChanged, HasPlanned, HasRun, HasTakenPlan, HasTakenSpan, HasTriedOnce};
-ghost use Rattle.rowex_writing.specs.Merging.{ChangesOn, EndsChange};
+ghost use Rattle.rowex_writing.specs.Merging.{ChangesOn, EndsChange, HasClaimed, IsLeft, TakesOn, TriesFew};
 ghost use Rattle.rowex_writing.specs.declared.plan.Deed.TheVariants.{Take};
 ghost use Rattle.rowex_writing.specs.Jobs.{HoldsSpan, IsJobFrom, IsWithinWay};
 ghost use Rattle.rowex_writing.specs.Locks.{HasMadeNoChange, HasMetLock, TriesNodesBy, Works, locks_of, span_numbers};
@@ -28,17 +28,19 @@ use crate::asking::{aim_of, found_value, new_value};
 use crate::checking::check_span;
 use crate::deeds::carry_out_deed;
 use crate::ending::release_records_and_locks;
-use crate::job::{Job, Raised};
+use crate::job::{Job, Left, Raised};
 use crate::kept::Build;
 use crate::locks::lock_span;
-use crate::merging::{plan_merge, try_merge};
+use crate::merging::{find_merge, try_merge};
 use crate::plan::{Deed, Full, Plan, find_plan};
 use crate::publishing::publish_change;
-use crate::taking::make_without_leaf;
+use crate::rising::load_without_leaf;
+use crate::taking::{claim_for_left, fill_left, put_in_place};
 use crate::valuing::{is_unchanged, load_found_again, store_value};
 use arrayvec::ArrayVec;
 use finite_map::{Call, Reply};
 use insert_cases::PathNode;
+use record_words::NODE_FIELDS;
 use rowex_core::Gate;
 use rowex_reading::{Found, MOST_NODES, search_way};
 use rowex_table::{HotTable, TableSeat};
@@ -216,8 +218,8 @@ fn change_span<G: Gate>(
     }
 }
 
-/// Makes a removal from a node that has one above it on the way. What is left of the node becomes one node with its sibling, or, if that
-/// can't be made, takes the node's place alone. If the removal can't be made, it is undone, and the fault tells why.
+/// Makes a removal from a node that has one above it on the way. One entry that is left takes the node's place. For more than one a record is
+/// claimed, and filled by [`end_removal`]. If none was free, the change is undone, and the fault tells so.
 fn make_removal<G: Gate>(
     table: &HotTable,
     seat: &mut TableSeat,
@@ -235,22 +237,55 @@ fn make_removal<G: Gate>(
     ensures spares { KeepsSpare table.now.layout seat.old seat.new }
     ensures finds { HasRoom table.now.layout seat.old → result ≢ Err TryFault.FullNodes }
 {
-    match make_without_leaf(table, seat, gate, build, job) {
-        Ok(raised) => {
-            let Some(merge) = plan_merge(table, seat, gate, build, job) else {
-                publish_change(table, seat, gate, build, job, raised);
-                return Ok(());
-            };
-            if try_merge(table, seat, gate, build, job, &merge) {
-                return Ok(());
-            }
-            publish_or_undo(table, seat, gate, build, job, raised)
-        }
-        Err(full) => {
-            undo_change(table, seat, gate, build, job);
-            Err(refusal_of(full))
-        }
+    let lowest = job.way[job.span.end];
+    let mut left = Left {
+        number: 0,
+        words: [0; NODE_FIELDS],
+    };
+    if let Some(entry) = load_without_leaf(table, seat, gate, lowest, &mut left.words) {
+        build.made.clear();
+        publish_change(table, seat, gate, build, job, put_in_place(job, entry));
+        return Ok(());
     }
+    let Some(number) = claim_for_left(table, seat, gate, build, job) else {
+        undo_change(table, seat, gate, build, job);
+        return Err(TryFault::FullNodes);
+    };
+    left.number = number;
+    end_removal(table, seat, gate, build, job, &left)
+}
+
+/// Ends a removal for which the record of `left` is claimed. What is left of the node becomes one node with its sibling, or, if that can't be
+/// made, takes the node's place alone. If the key has got another value meanwhile, the removal is undone, and the fault is `TryFault::Busy`.
+fn end_removal<G: Gate>(
+    table: &HotTable,
+    seat: &mut TableSeat,
+    gate: &mut G,
+    build: &mut Build,
+    job: &Job<'_>,
+    left: &Left,
+) -> Result<(), TryFault>
+    requires takes { TakesOn table.now seat.old job.now }
+    requires claimed { HasClaimed table.now seat.old.known left.now.number }
+    requires left { IsLeft seat.old.known job.now left.now.words }
+    requires loaded { HasLoadedFound seat.old.known job.now.found }
+    ensures tries { TriesFew table.now G.becomes (span_numbers job.now.way.now job.now.span) build.old.left_nodes (84 + 2 * NODE_FIELDS)
+        (seat.old, gate.old) (seat.new, gate.new) }
+    ensures done { result ≡ Ok tt → HasDoneDeed seat.old.known seat.new.known Take job.now.key.now job.now.value job.now.found }
+    ensures failed { IfErr result (λ fault. (fault ≡ TryFault.Busy) ×
+        HasFailed table.now.layout job.now seat.old.known seat.new.known build.new.made.items fault) }
+    ensures spares { KeepsSpare table.now.layout seat.old seat.new }
+{
+    let Some(merge) = find_merge(table, seat, gate, job) else {
+        let raised = fill_left(table, seat, gate, build, job, left);
+        publish_change(table, seat, gate, build, job, raised);
+        return Ok(());
+    };
+    if try_merge(table, seat, gate, build, job, &merge, left) {
+        return Ok(());
+    }
+    let raised = fill_left(table, seat, gate, build, job, left);
+    publish_or_undo(table, seat, gate, build, job, raised)
 }
 
 /// Publishes the change of `job`, for which all records are made. The value that was found is loaded once more before, since other locks have

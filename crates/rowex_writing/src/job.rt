@@ -1,9 +1,10 @@
-//! What an attempt has to do, once it is planned: the change, what comes in the place of its nodes, and the merge that may end a removal.
+//! What an attempt has to do, once it is planned: the change, what comes in the place of its nodes, and what a removal leaves.
 
 use crate::plan::Span;
 use compound_node::Entry;
 use insert_cases::PathNode;
 use key_bits::Key;
+use record_words::NODE_FIELDS;
 use rowex_reading::Found;
 
 /// What a change is made by: the way of the search for `key`, what it found, and the value that `key` is to get. `span` says which nodes
@@ -37,6 +38,13 @@ pub(crate) struct Merge {
     pub position: u16,
     /// The number of the sibling's record.
     pub number: u32,
-    /// The number of the record made for what is left of the lower node. The node of both is put there.
-    pub made: u32,
+}
+
+/// What is left of a node that loses a leaf, where that is a node, too.
+#[derive(Drop)]
+pub(crate) struct Left {
+    /// The number of the record that is claimed for it, or for the node of both where it is merged with its sibling.
+    pub number: u32,
+    /// The words of what is left, all but its state.
+    pub words: [u64; NODE_FIELDS],
 }

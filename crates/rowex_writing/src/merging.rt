@@ -6,7 +6,6 @@ ghost use Rattle.pieces.specs.Changes.{without};
 ghost use Rattle.pieces.specs.Piece.{RisesFrom};
 ghost use Rattle.tries.specs.Keys.{Key as KeyValue};
 ghost use Rattle.tries.specs.Place.{fork_of, subtrie_collapsed};
-ghost use Rattle.versions.specs.declared.Rec.TheVariants.{Node as a_node};
 ghost use Rattle.rowex_core.specs.Reading.{node_words_of};
 ghost use Rattle.rowex_reading.specs.Possible.{IsPossible};
 ghost use Rattle.rowex_reading.specs.declared.descent.Found.TheVariants.{Leaf as FoundLeaf};
@@ -19,13 +18,13 @@ ghost use Rattle.rowex_writing.specs.Attempts.{HasDoneDeed, HasLoadedFound};
 ghost use Rattle.rowex_writing.specs.Building.{IsBuilding};
 ghost use Rattle.rowex_writing.specs.Changes.{HasRun};
 ghost use Rattle.rowex_writing.specs.Going.{HasLocked, HasLockedNode, IsLockedBy, ReadsOn, WorksOn};
-ghost use Rattle.rowex_writing.specs.Locks.{HasTheSame, span_numbers};
-ghost use Rattle.rowex_writing.specs.Merging.{AreNoNode, ClosesFork, HasHeight, HasListed, IsNeighbour, IsWide, MayMergeInto, TakesOn, TriesFew, lower, upper};
+ghost use Rattle.rowex_writing.specs.Locks.{span_numbers};
+ghost use Rattle.rowex_writing.specs.Merging.{AreNoNode, ClosesFork, HasClaimed, HasHeight, HasListed, IsLeft, IsNeighbour, IsWide, MayMergeInto, TakesOn, TriesFew, lower, upper};
 ghost use Rattle.rowex_writing.specs.declared.plan.Deed.TheVariants.{Take};
 
 use crate::building::make_node_from_words;
 use crate::growing::show_number_fits;
-use crate::job::{Job, Merge};
+use crate::job::{Job, Left, Merge};
 use crate::kept::Build;
 use crate::locked::{
     load_locked_entry, load_locked_node_words, load_position, load_sibling, read_locked_node,
@@ -33,9 +32,9 @@ use crate::locked::{
 use crate::publishing::{Store, publish_entry, spot_above};
 use crate::valuing::is_unchanged;
 use crate::widening::{lock_for_merge, unlock_for_merge};
-use compound_node::{Entry, Half, Node};
+use compound_node::{Entry, Node};
 use insert_cases::PathNode;
-use record_words::{NODE_FIELDS, NUMBERS_OFFSET, close_fork, pack_node, read_numbers};
+use record_words::{NODE_FIELDS, NUMBERS_OFFSET, close_fork, pack_node, read_node, read_numbers};
 use rowex_core::{Gate, Rec};
 use rowex_reading::Found;
 use rowex_records::fill_node;
@@ -52,30 +51,10 @@ struct ClosedFork {
     entry: Entry,
 }
 
-/// Returns the merge by which a removal is to end: what is left of the leaf's node, in a record made for it, is to become one node with its
-/// sibling. `None` if something else is left, or [`find_merge`] finds none. No lock is tried.
-pub(crate) fn plan_merge<G: Gate>(
-    table: &HotTable,
-    seat: &mut TableSeat,
-    gate: &mut G,
-    build: &Build,
-    job: &Job<'_>,
-) -> Option<Merge>
-    requires takes { TakesOn table.now seat.old job.now }
-    ensures reads { ReadsOn table.now G.becomes (seat.old, gate.old) (seat.new, gate.new) }
-    ensures beside { IfSome result (λ m. IsNeighbour seat.new.known job.now m × (build.now.made.items ≡ a_node m.made ∷ [])) }
-    ensures few { seat.new.known.steps ≤ seat.old.known.steps + 10 }
-{
-    let Some(number) = sole_node(build.made.as_slice()) else {
-        return None;
-    };
-    find_merge(table, seat, gate, job, number)
-}
-
 /// Ends a removal by `merge`, and returns whether it did.
 ///
-/// It does only if both are nodes of at most 32 entries together, and no other pass is at work there. Another record must be free, if one
-/// is wanted. Else the pass has the records and locks that it had. The value is loaded once more, after the last lock.
+/// It does only if both have at most 32 entries together, and no other pass is at work there. Another record must be free, if one is wanted.
+/// Else the pass has the record and the locks that it had. The value is loaded once more, after the last lock.
 pub(crate) fn try_merge<G: Gate>(
     table: &HotTable,
     seat: &mut TableSeat,
@@ -83,15 +62,17 @@ pub(crate) fn try_merge<G: Gate>(
     build: &mut Build,
     job: &Job<'_>,
     merge: &Merge,
+    left: &Left,
 ) -> bool
     requires takes { TakesOn table.now seat.old job.now }
     requires beside { IsNeighbour seat.old.known job.now merge.now }
-    requires made { build.old.made.items ≡ a_node merge.now.made ∷ [] }
-    requires building { (news : List Made) × IsBuilding table.now seat.old build.old.made.items news }
+    requires claimed { HasClaimed table.now seat.old.known left.now.number }
+    requires left { IsLeft seat.old.known job.now left.now.words }
     ensures tries { TriesFew table.now G.becomes (span_numbers job.now.way.now job.now.span) build.old.left_nodes 53 (seat.old, gate.old) (seat.new, gate.new) }
     ensures done { result ≡ true → HasDoneDeed seat.old.known seat.new.known Take job.now.key.now job.now.value job.now.found }
     ensures later { result ≡ false → IsLater seat.old.known seat.new.known × IsSeatOf table.now seat.new × IsPossible table.now.layout seat.new.known }
-    ensures same { result ≡ false → HasTheSame seat.old.known seat.new.known × (build.new.made.items ≡ build.old.made.items) }
+    ensures same { result ≡ false → (seat.new.known.locks ≡ seat.old.known.locks) × (seat.new.known.anchor ≡ seat.old.known.anchor) ×
+        HasClaimed table.now seat.new.known left.now.number }
     ensures spares { KeepsSpare table.now.layout seat.old seat.new }
 {
     if !lock_for_merge(table, seat, gate, job, merge.number) {
@@ -101,36 +82,22 @@ pub(crate) fn try_merge<G: Gate>(
         unlock_for_merge(table, seat, gate, job, merge.number);
         return false;
     }
-    merge_under_locks(table, seat, gate, build, job, merge)
+    merge_under_locks(table, seat, gate, build, job, merge, left)
 }
 
-/// The number of the node record that is all of `made`; `None` if `made` has a leaf record, several records or none.
-fn sole_node(made: &[Rec]) -> Option<u32>
-    ensures { MatchOption result ((number : ℕ) → made.now ≢ a_node number ∷ []) (λ number. made.now ≡ a_node number ∷ []) }
-{
-    if made.len() != 1 {
-        return None;
-    }
-    match made[0] {
-        Rec::Node(number) => Some(number),
-        Rec::Leaf(_) => None,
-    }
-}
-
-/// Returns the merge of the node that loses a leaf with its sibling. `made` is the record of what is left of the node. `None` if the other
-/// side of the last fork is not one node, or both nodes have more than 33 entries together, with the leaf.
+/// Returns the merge of the node that loses a leaf with its sibling. `None` if the other side of the last fork is not one node, or both
+/// nodes have more than 33 entries together, with the leaf. No lock is tried.
 ///
 /// A full node has none, since 31 entries are left of it, and a sibling has two at least. The sibling isn't locked yet, and may change.
-fn find_merge<G: Gate>(
+pub(crate) fn find_merge<G: Gate>(
     table: &HotTable,
     seat: &mut TableSeat,
     gate: &mut G,
     job: &Job<'_>,
-    made: u32,
 ) -> Option<Merge>
     requires takes { TakesOn table.now seat.old job.now }
     ensures reads { ReadsOn table.now G.becomes (seat.old, gate.old) (seat.new, gate.new) }
-    ensures beside { IfSome result (λ m. IsNeighbour seat.new.known job.now m × (m.made ≡ made)) }
+    ensures beside { IfSome result (IsNeighbour seat.new.known job.now) }
     ensures few { seat.new.known.steps ≤ seat.old.known.steps + 10 }
 {
     let (above, low) = (job.way[job.span.end - 1], job.way[job.span.end]);
@@ -153,12 +120,11 @@ fn find_merge<G: Gate>(
         place,
         position,
         number,
-        made,
     })
 }
 
 /// Ends a removal by `merge`, under the locks that [`lock_for_merge`] has taken, and returns whether it did. If the merge's records can't be
-/// made, these locks are given back, and the pass has the records that it had.
+/// made, these locks are given back, and the pass has the record that it had.
 fn merge_under_locks<G: Gate>(
     table: &HotTable,
     seat: &mut TableSeat,
@@ -166,22 +132,23 @@ fn merge_under_locks<G: Gate>(
     build: &mut Build,
     job: &Job<'_>,
     merge: &Merge,
+    left: &Left,
 ) -> bool
     requires wide { IsWide table.now seat.old job.now merge.now.number }
     requires beside { IsNeighbour seat.old.known job.now merge.now }
-    requires made { build.old.made.items ≡ a_node merge.now.made ∷ [] }
-    requires building { (news : List Made) × IsBuilding table.now seat.old build.old.made.items news }
+    requires claimed { HasClaimed table.now seat.old.known left.now.number }
+    requires left { IsLeft seat.old.known job.now left.now.words }
     requires loaded { HasLoadedFound seat.old.known job.now.found }
     ensures run { HasRun table.now G.becomes (seat.old, gate.old) (seat.new, gate.new) }
     ensures done { result ≡ true → HasDoneDeed seat.old.known seat.new.known Take job.now.key.now job.now.value job.now.found }
     ensures later { result ≡ false → IsLater seat.old.known seat.new.known }
     ensures same { result ≡ false → (w : IsWide table.now seat.old job.now merge.now.number) →
         (seat.new.known.locks ≡ w.taking.before.known.locks) × (seat.new.known.anchor ≡ w.taking.before.known.anchor) ×
-        (seat.new.known.own ≡ seat.old.known.own) × (build.new.made.items ≡ build.old.made.items) }
+        HasClaimed table.now seat.new.known left.now.number }
     ensures few { seat.new.known.steps ≤ seat.old.known.steps + 2 * build.old.left_nodes + 500 }
     ensures spares { KeepsSpare table.now.layout seat.old seat.new }
 {
-    if let Some(entry) = make_merge_records(table, seat, gate, build, job, merge) {
+    if let Some(entry) = make_merge_records(table, seat, gate, build, job, merge, left) {
         list_merged_records(build, job, merge.number);
         publish_merge(table, seat, gate, build, job, entry);
         return true;
@@ -190,8 +157,8 @@ fn merge_under_locks<G: Gate>(
     false
 }
 
-/// Puts the node of both siblings into record `merge.made`. Returns the entry for what is left of the upper node, in a new record if that
-/// has other entries, too. `None` if [`merge_siblings`] has no node, or no record was free. Then the pass has the records that it had.
+/// Puts the node of both siblings into the record of `left`. Returns the entry for what is left of the upper node, in a new record if that
+/// has other entries, too. `None` if [`merge_siblings`] has no node, or no record was free. Then the pass has the record that it had.
 fn make_merge_records<G: Gate>(
     table: &HotTable,
     seat: &mut TableSeat,
@@ -199,42 +166,47 @@ fn make_merge_records<G: Gate>(
     build: &mut Build,
     job: &Job<'_>,
     merge: &Merge,
+    left: &Left,
 ) -> Option<Entry>
     requires wide { IsWide table.now seat.old job.now merge.now.number }
     requires beside { IsNeighbour seat.old.known job.now merge.now }
-    requires made { build.old.made.items ≡ a_node merge.now.made ∷ [] }
-    requires building { (news : List Made) × IsBuilding table.now seat.old build.old.made.items news }
+    requires claimed { HasClaimed table.now seat.old.known left.now.number }
+    requires left { IsLeft seat.old.known job.now left.now.words }
     ensures goes { WorksOn table.now G.becomes (seat.old, gate.old) (seat.new, gate.new) }
     ensures may { IfSome result (λ e. MayMergeInto table.now seat.new build.new.made.items job.now merge.now.number e) }
-    ensures same { result ≡ None → (seat.new.known.own ≡ seat.old.known.own) × (build.new.made.items ≡ build.old.made.items) }
+    ensures same { result ≡ None → HasClaimed table.now seat.new.known left.now.number }
     ensures few { seat.new.known.steps ≤ seat.old.known.steps + 2 * build.old.left_nodes + 420 }
 {
-    let joined = merge_siblings(table, seat, gate, job, merge)?;
+    let joined = merge_siblings(table, seat, gate, job, merge, &left.words)?;
+    fill_node(table, seat, gate, left.number, &pack_node(&joined));
+    build.made.clear();
+    build.made.push(Rec::Node(left.number));
     let fork = ClosedFork {
         step: job.way[job.span.end - 1],
         place: merge.place,
         entry: Entry::Node {
-            number: merge.made,
+            number: left.number,
             height: joined.height(),
         },
     };
     let entry = raise_closed_fork(table, seat, gate, build, fork)?;
     show_number_fits(entry);
-    fill_node(table, seat, gate, merge.made, &pack_node(&joined));
     Some(entry)
 }
 
-/// Returns what is left of the lower node and all of its sibling as one node, with a fork of the two at `merge.position`. `None` if they
-/// have more than 32 entries, or one entry alone is left of the lower node.
+/// Returns the node of the words `left`, what is left of the lower node, and all of its sibling as one node, with a fork of the two at
+/// `merge.position`. `None` if they have more than 32 entries.
 fn merge_siblings<G: Gate>(
     table: &HotTable,
     seat: &mut TableSeat,
     gate: &mut G,
     job: &Job<'_>,
     merge: &Merge,
+    left: &[u64; NODE_FIELDS],
 ) -> Option<Node>
     requires wide { IsWide table.now seat.old job.now merge.now.number }
     requires beside { IsNeighbour seat.old.known job.now merge.now }
+    requires left { IsLeft seat.old.known job.now left.now }
     ensures reads { ReadsOn table.now G.becomes (seat.old, gate.old) (seat.new, gate.new) }
     ensures joined { (leaf : ℕ) (b : AreBeside seat.old.known.locks job.now.key.now (upper job.now).number (lower job.now).number merge.now.number leaf) →
         b.position ≡ merge.now.position → IfSome result (λ node. IsBuiltFrom node (merged b)) }
@@ -242,12 +214,8 @@ fn merge_siblings<G: Gate>(
         HasLockedNode seat.old.known merge.now.number other → AreNoNode (without (lower job.now).at (piece node)) (piece other) }
     ensures few { seat.new.known.steps ≤ seat.old.known.steps + 114 }
 {
-    let low = job.way[job.span.end];
-    let node = read_locked_node(table, seat, gate, low.number);
     let other = read_locked_node(table, seat, gate, merge.number);
-    let Half::Many(left) = node.without(low.at) else {
-        return None;
-    };
+    let left = read_node(left);
     if left.count() + other.count() > 32 {
         return None;
     }

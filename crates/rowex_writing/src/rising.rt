@@ -1,14 +1,16 @@
 //! What takes the place of a span of nodes, from the lowest one up: a new node, or a fork that rises into the node above.
 
-ghost use Rattle.std.specs.Prelude.{◌≡◌, ◌<◌, ◌≤◌, ◌+◌, ◌-◌, ◌*◌, ◌∷◌, [], List, ℕ, length, slice_get, IfSome, MatchOption, None, Some};
+ghost use Rattle.std.specs.Prelude.{◌≡◌, ◌<◌, ◌≤◌, ◌+◌, ◌-◌, ◌*◌, ◌∷◌, [], List, ℕ, length, slice_get, IfSome, MatchOption, None, Some, replicate};
 ghost use Rattle.insert_cases.specs.declared.choice.PathNode.{PathNode as PathNodeView};
 ghost use Rattle.rowex_table.specs.Made.{Made};
 ghost use Rattle.publish_laws.specs.Rises.{IsSide};
 ghost use Rattle.rowex_writing.specs.Spare.{FindsOne};
 ghost use Rattle.rowex_writing.specs.Building.{IsBuilding, IsGrowing, IsLevelRisen, IsLowRisen, IsAtMostOneHigher, IsRaising, IsRisenAt, IsSplit, MakesGrown, newcomer_of, Rises, GetsFork, GetsLeaf, FitsAbove, FitsOnWay, HasNotMade, HasRisenTo, gone_unless_whole, gone_with_way, levels_above};
-ghost use Rattle.rowex_writing.specs.Going.{HasLocked, IsLockedBy, LeadsLocked};
+ghost use Rattle.rowex_writing.specs.Going.{HasLocked, IsLockedBy, LeadsLocked, ReadsOn};
 ghost use Rattle.rowex_writing.specs.Remaking.{AwaitsLeaf};
-ghost use Rattle.compound_node.specs.Nodes.{NodeView, height_of};
+ghost use Rattle.compound_node.specs.Nodes.{NodeView};
+ghost use Rattle.record_words.specs.Node.{SpellLeft};
+ghost use Rattle.rowex_table.specs.Seats.{IsSeatOf};
 ghost use Rattle.insert_cases.specs.Grown.{keeps_side, is_same};
 ghost use Rattle.pieces.specs.Piece.{Place as At};
 ghost use Rattle.tries.specs.Keys.{Key as KeyValue};
@@ -313,31 +315,51 @@ pub(crate) fn raise_with_leaf<G: Gate>(
     Some((entry, stays))
 }
 
-/// The entry for what is left of the locked node `number` without the leaf in slot `at`, to which some key's search leads. It is that of a
+/// Loads the words of the locked node of `step` into `words`, which are 0 before, and takes the leaf in its slot out of them, to which some
+/// key's search leads. Returns the only entry that is left, if it is one; the words are of no use then.
+pub(crate) fn load_without_leaf<G: Gate>(
+    table: &HotTable,
+    seat: &mut TableSeat,
+    gate: &mut G,
+    step: PathNode,
+    words: &mut [u64; NODE_FIELDS],
+) -> Option<Entry>
+    requires own { IsSeatOf table.now seat.old }
+    requires range { step.number < table.now.layout.nodes }
+    requires locked { IsLockedBy seat.old.known step.number }
+    requires place { (key : KeyValue) × LeadsLocked seat.old.known step.number key step.at }
+    requires empty { words.old ≡ replicate NODE_FIELDS 0 }
+    ensures reads { ReadsOn table.now G.becomes (seat.old, gate.old) (seat.new, gate.new) }
+    ensures left { (key : KeyValue) (shown : List ℕ) → LeadsLocked seat.old.known step.number key step.at → HasLocked seat.old.known step.number shown →
+        SpellLeft words.new result (subtrie_without key (node_words_of shown).subtrie) }
+    ensures few { seat.new.known.steps ≤ seat.old.known.steps + NODE_FIELDS }
+{
+    load_locked_node_words(table, seat, gate, step.number, words);
+    drop_entry(words, step.at)
+}
+
+/// The entry for what is left of the locked node of `step` without the leaf in its slot, to which some key's search leads. It is that of a
 /// new record, or the only entry left. `None` if no node record was free: none is made then.
 pub(crate) fn raise_without_leaf<G: Gate>(
     table: &HotTable,
     seat: &mut TableSeat,
     gate: &mut G,
     build: &mut Build,
-    number: u32,
-    at: u8,
+    step: PathNode,
 ) -> Option<Entry>
     requires building { IsBuilding table.now seat.old build.old.made.items [] }
-    requires range { number < table.now.layout.nodes }
-    requires locked { IsLockedBy seat.old.known number }
-    requires place { (key : KeyValue) × LeadsLocked seat.old.known number key at }
+    requires range { step.number < table.now.layout.nodes }
+    requires locked { IsLockedBy seat.old.known step.number }
+    requires place { (key : KeyValue) × LeadsLocked seat.old.known step.number key step.at }
     requires room { length build.old.made.items < MOST_MADE }
     ensures makes { Makes 1 level_steps table.now G.becomes ((seat.old, gate.old), build.old) ((seat.new, gate.new), build.new) result }
-    ensures made { (key : KeyValue) (words : List ℕ) → LeadsLocked seat.old.known number key at → HasLocked seat.old.known number words → MatchOption result
-        (HasNotMade table.now seat.new build.new.made.items)
+    ensures made { (key : KeyValue) (words : List ℕ) → LeadsLocked seat.old.known step.number key step.at → HasLocked seat.old.known step.number words →
+        MatchOption result (HasNotMade table.now seat.new build.new.made.items)
         (λ e. (news : List Made) × IsSide (subtrie_without key (node_words_of words).subtrie) e news × IsBuilding table.now seat.new build.new.made.items news) }
-    ensures low { (words : List ℕ) → HasLocked seat.old.known number words → IfSome result (λ e. height_of e ≤ (node_words_of words).fixed.height) }
     ensures finds { FindsOne table.now.layout build.old.left_nodes seat.old result }
 {
     let mut words = [0; NODE_FIELDS];
-    load_locked_node_words(table, seat, gate, number, &mut words);
-    if let Some(entry) = drop_entry(&mut words, at) {
+    if let Some(entry) = load_without_leaf(table, seat, gate, step, &mut words) {
         return Some(entry);
     }
     make_node_from_words(table, seat, gate, build, &words)

@@ -1,23 +1,34 @@
-//! The end of a leaf: its node is made anew without it, or the root is empty.
+//! The end of a leaf: its node is made anew without it, or the root is empty. A record may be claimed first, and filled when it is known
+//! with what.
 
-ghost use Rattle.std.specs.Prelude.{◌≡◌, ◌≢◌, Err, ◌<◌, ℕ, [], IfErr, IfOk, None, Some, ◌≤◌, ◌+◌, ◌*◌};
+ghost use Rattle.std.specs.Prelude.{◌≡◌, ◌≢◌, Err, ◌<◌, ℕ, [], IfErr, IfOk, MatchOption, None, Option, Some, ◌≤◌, ◌+◌, ◌*◌};
 ghost use Rattle.version_laws.specs.Writer.{removed_change};
 ghost use Rattle.tries.specs.Content.{item};
 ghost use Rattle.lone_runs.specs.Lone.{HasRoom, HasSpare};
 ghost use Rattle.rowex_writing.specs.Spare.{WillSpareOne};
-ghost use Rattle.rowex_writing.specs.Changes.{HasTakenPlan};
+ghost use Rattle.rowex_writing.specs.Changes.{HasTakenPlan, IsTakeChange};
 ghost use Rattle.rowex_writing.specs.Counts.{level_steps};
 ghost use Rattle.rowex_writing.specs.Deeds.{CarriesOut, HasNoneFree, MayReplace};
 ghost use Rattle.rowex_writing.specs.Going.{WorksOn};
 ghost use Rattle.rowex_writing.specs.Taking.{HasLeafBelow};
+ghost use Rattle.rowex_writing.specs.Growths.{HasNumber};
+ghost use Rattle.rowex_writing.specs.Merging.{HasClaimed, IsLeft, TakesOn, TakesStill};
+ghost use Rattle.finite_map.specs.declared.Change.{Change};
+ghost use Rattle.record_words.specs.declared.TheConstants.{NODE_FIELDS};
+ghost use Rattle.rowex_reading.specs.declared.descent.Found.TheVariants.{Leaf as FoundLeaf};
 ghost use Rattle.rowex_writing.specs.declared.plan.Deed.TheVariants.{Take};
 
-use crate::job::{Job, Raised};
+use crate::claims::claim_node;
+use crate::growing::show_number_fits;
+use crate::job::{Job, Left, Raised};
 use crate::kept::Build;
 use crate::plan::Full;
 use crate::rising::raise_without_leaf;
-use rowex_core::Gate;
+use compound_node::Entry;
+use record_words::read_numbers;
+use rowex_core::{Gate, Rec};
 use rowex_reading::Found;
+use rowex_records::fill_node;
 use rowex_table::{HotTable, TableSeat};
 
 /// Makes what is left of the found leaf's node without the leaf, and returns the entry for that, which is to take the node's place. If the
@@ -75,7 +86,7 @@ fn remake_without_leaf<G: Gate>(
     build.nodes.next = build.nodes.stretch.start();
     build.left_nodes = table.layout().nodes;
     let lowest = job.way[job.span.end];
-    let Some(entry) = raise_without_leaf(table, seat, gate, build, lowest.number, lowest.at) else {
+    let Some(entry) = raise_without_leaf(table, seat, gate, build, lowest) else {
         return Err(Full::Nodes);
     };
     Ok(Raised {
@@ -83,4 +94,74 @@ fn remake_without_leaf<G: Gate>(
         low: job.span.len,
         leaf: Some(number),
     })
+}
+
+/// Claims a record for what is left of the lower node of `job`'s span, or for the node that this is merged into. Returns its number. `None`
+/// if no node record was free.
+pub(crate) fn claim_for_left<G: Gate>(
+    table: &HotTable,
+    seat: &mut TableSeat,
+    gate: &mut G,
+    build: &mut Build,
+    job: &Job<'_>,
+) -> Option<u32>
+    requires takes { TakesOn table.now seat.old job.now }
+    requires none { seat.old.known.own ≡ [] }
+    ensures goes { WorksOn table.now G.becomes (seat.old, gate.old) (seat.new, gate.new) }
+    ensures claims { MatchOption result (HasNoneFree table.now seat.old.known seat.new build.new.made.items job.now Full.Nodes)
+        (HasClaimed table.now seat.new.known) }
+    ensures walk { seat.new.known.steps + 2 * build.new.left_nodes ≤ seat.old.known.steps + 2 * table.now.layout.nodes + 2 }
+    ensures finds { HasRoom table.now.layout seat.old → result ≢ None }
+{
+    build.made.clear();
+    build.nodes.next = build.nodes.stretch.start();
+    build.left_nodes = table.layout().nodes;
+    let number = claim_node(table, seat, gate, build)?;
+    Some(number)
+}
+
+/// Fills the record of `left`, which is the only one of the change then. What is left is to take the place of the lower node.
+pub(crate) fn fill_left<G: Gate>(
+    table: &HotTable,
+    seat: &mut TableSeat,
+    gate: &mut G,
+    build: &mut Build,
+    job: &Job<'_>,
+    left: &Left,
+) -> Raised
+    requires still { TakesStill table.now seat.old job.now }
+    requires claimed { HasClaimed table.now seat.old.known left.now.number }
+    requires left { IsLeft seat.old.known job.now left.now.words }
+    ensures goes { WorksOn table.now G.becomes (seat.old, gate.old) (seat.new, gate.new) }
+    ensures may { (x : Change) × (was : Option ℕ) × IsTakeChange seat.old.known.pass job.now.key.now job.now.found x was ×
+        MayReplace table.now seat.new build.new.made.items job.now result x was }
+    ensures low { result.low ≡ job.now.span.len }
+    ensures few { seat.new.known.steps ≤ seat.old.known.steps + 2 * NODE_FIELDS }
+{
+    fill_node(table, seat, gate, left.number, &left.words);
+    build.made.clear();
+    build.made.push(Rec::Node(left.number));
+    let entry = Entry::Node {
+        number: left.number,
+        height: read_numbers(left.words[0]).height,
+    };
+    put_in_place(job, entry)
+}
+
+/// What `entry` has to take the place of, where it is all that is left of the lower node of `job`'s span.
+pub(crate) fn put_in_place(job: &Job<'_>, entry: Entry) -> Raised
+    requires found { (leaf value : ℕ) × (job.now.found ≡ FoundLeaf leaf value None) }
+    ensures same { (leaf value : ℕ) → job.now.found ≡ FoundLeaf leaf value None →
+        result ≡ record { entry = Some entry; low = job.now.span.len; leaf = Some leaf } }
+    ensures number { HasNumber entry }
+{
+    show_number_fits(entry);
+    let Found::Leaf { number, .. } = job.found else {
+        unreachable!()
+    };
+    Raised {
+        entry: Some(entry),
+        low: job.span.len,
+        leaf: Some(number),
+    }
 }

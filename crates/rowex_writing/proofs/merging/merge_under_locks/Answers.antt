@@ -1,11 +1,12 @@
 -- The store, or the wider locks are given back.
 use Rattle.rowex_writing.proofs.Spare.{goes_spare}
-use Rattle.std.proofs.Common.{refl, sym, ◌∙◌, subst}
+use Rattle.std.proofs.Common.{refl, sym, subst}
 use Rattle.rowex_reading.proofs.Seeing.{later_trans}
 use Rattle.rowex_writing.specs.Changes.{IsDeedChange}
 use Rattle.rowex_writing.specs.Merging.{MayMergeInto}
 use Rattle.rowex_writing.specs.declared.plan.Deed.TheVariants.{Take}
 use Rattle.rowex_writing.proofs.Keeping.{changed_since}
+use Rattle.rowex_writing.proofs.Leaving.{claimed_same}
 use Rattle.rowex_writing.proofs.Merged.{wide_on}
 use Rattle.rowex_writing.proofs.Runs.{goes_run, runs_trans}
 use Rattle.rowex_writing.proofs.merging.merge_under_locks.Goals as goal
@@ -50,7 +51,7 @@ pub returns-clause-same : goal.returns-clause-same
 returns-clause-same g c = λ e w.
     let kept = c.in_default.ensures.same refl in
     let s = c.unlock_for_merge.ensures.same (wide_on c.args.table.now g.G.Gate.becomes (c.args.seat.now, c.args.gate.now) (c.make_merge_records.new.seat, c.make_merge_records.new.gate) c.args.job.now c.args.merge.now.number c.make_merge_records.ensures.goes w) in
-    (s.0, s.1, s.2 ∙ kept.0, kept.1)
+    (s.0, s.1, claimed_same kept s.2)
 
 pub returns-in-Some-clause-spares : goal.returns-in-Some-clause-spares
 returns-in-Some-clause-spares g c = λ was. c.publish_merge.ensures.spares

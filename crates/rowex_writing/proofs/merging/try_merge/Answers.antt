@@ -1,20 +1,21 @@
 -- The node beside, the wider locks, and the store under them.
 use Rattle.rowex_writing.proofs.Spare.{goes_spare}
-use Rattle.std.proofs.Common.{refl, sym, ◌∙◌, subst, arith}
+use Rattle.std.proofs.Common.{sym, ◌∙◌, subst, arith}
 use Rattle.rowex_reading.proofs.Seeing.{later_trans}
 use Rattle.rowex_writing.specs.Changes.{IsDeedChange}
 use Rattle.rowex_writing.specs.Locks.{span_numbers}
 use Rattle.rowex_writing.specs.Merging.{TriesMore}
 use Rattle.rowex_writing.specs.declared.plan.Deed.TheVariants.{Take}
 use Rattle.rowex_writing.proofs.Keeping.{changed_since}
-use Rattle.rowex_writing.proofs.Merged.{beside_wider, building_same, beside_on, way_wide, wide_on}
+use Rattle.rowex_writing.proofs.Leaving.{claimed_same, left_on, left_wider}
+use Rattle.rowex_writing.proofs.Merged.{beside_wider, beside_on, way_wide, wide_on}
 use Rattle.rowex_writing.proofs.Onward.{run_possible, run_seat}
 use Rattle.rowex_writing.proofs.Runs.{goes_run, run_none, runs_trans}
 use Rattle.rowex_writing.proofs.Wider.{few_both, few_more}
 use Rattle.rowex_writing.proofs.merging.try_merge.Goals as goal
 use Rattle.rowex_reading.specs.Ways.{IsWayOf}
 use Rattle.rowex_writing.proofs.Locking.{seat_of}
-use Rattle.rowex_writing.proofs.Making.{building_on, goes_possible}
+use Rattle.rowex_writing.proofs.Making.{goes_possible}
 use Rattle.rowex_writing.proofs.Valued.{held_few}
 
 pub returns-then-not-lock_for_merge-clause-tries : goal.returns-then-not-lock_for_merge-clause-tries
@@ -24,6 +25,9 @@ returns-then-not-lock_for_merge-clause-tries g c =
 
 pub returns-then-not-lock_for_merge-clause-later : goal.returns-then-not-lock_for_merge-clause-later
 returns-then-not-lock_for_merge-clause-later g c = λ e. (c.lock_for_merge.ensures.later.0, c.lock_for_merge.ensures.later.1, c.lock_for_merge.ensures.later.2)
+
+pub returns-then-not-lock_for_merge-clause-same : goal.returns-then-not-lock_for_merge-clause-same
+returns-then-not-lock_for_merge-clause-same g c = λ e. let s = c.lock_for_merge.ensures.same c.if-not-lock_for_merge.true in (s.0, s.1, claimed_same c.requires.claimed s.2)
 
 -- the value is loaded once more
 pub is_unchanged-requires-clause-own : goal.is_unchanged-requires-clause-own
@@ -71,7 +75,7 @@ returns-then-not-is_unchanged-clause-same g c = λ e.
     let (w, locks, anchor) = c.lock_for_merge.ensures.wide c.if-not-lock_for_merge.false in
     let s = c.unlock_for_merge.ensures.same
     (wide_on c.args.table.now g.G.Gate.becomes (c.lock_for_merge.new.seat, c.lock_for_merge.new.gate) (c.is_unchanged.new.seat, c.is_unchanged.new.gate) c.args.job.now c.args.merge.now.number c.is_unchanged.ensures.reads.goes w) in
-    ((s.0 ∙ locks, s.1 ∙ anchor, s.2 ∙ (c.is_unchanged.ensures.reads.own ∙ c.lock_for_merge.ensures.later.3)), refl)
+    (s.0 ∙ locks, s.1 ∙ anchor, claimed_same c.requires.claimed (s.2 ∙ (c.is_unchanged.ensures.reads.own ∙ c.lock_for_merge.ensures.later.3)))
 
 -- it is the same
 pub merge_under_locks-requires-clause-wide : goal.merge_under_locks-requires-clause-wide
@@ -85,14 +89,14 @@ merge_under_locks-requires-clause-beside g c =
     beside_on c.lock_for_merge.new.seat.known c.is_unchanged.new.seat.known c.args.job.now c.args.merge.now c.is_unchanged.ensures.reads.goes.stays.1
     (beside_wider c.args.table.now c.args.seat.now.known c.lock_for_merge.new.seat c.args.job.now c.args.merge.now w locks c.requires.beside)
 
-pub merge_under_locks-requires-clause-building : goal.merge_under_locks-requires-clause-building
-merge_under_locks-requires-clause-building g c =
-    let (news, b) = c.requires.building in
-    let l = c.lock_for_merge.ensures.later in (
-      news,
-      building_on c.args.table.now g.G.Gate.becomes (c.lock_for_merge.new.seat, c.lock_for_merge.new.gate) (c.is_unchanged.new.seat, c.is_unchanged.new.gate) c.args.build.now.made.items news c.is_unchanged.ensures.reads.goes c.is_unchanged.ensures.reads.own
-          (building_same c.args.table.now c.args.seat.now c.lock_for_merge.new.seat c.args.build.now.made.items news l.1 l.2 l.3 b),
-    )
+pub merge_under_locks-requires-clause-claimed : goal.merge_under_locks-requires-clause-claimed
+merge_under_locks-requires-clause-claimed g c = claimed_same c.requires.claimed (c.is_unchanged.ensures.reads.own ∙ c.lock_for_merge.ensures.later.3)
+
+pub merge_under_locks-requires-clause-left : goal.merge_under_locks-requires-clause-left
+merge_under_locks-requires-clause-left g c =
+    let (w, locks, anchor) = c.lock_for_merge.ensures.wide c.if-not-lock_for_merge.false in
+    left_on c.lock_for_merge.new.seat.known c.is_unchanged.new.seat.known c.args.job.now c.args.left.now.words c.is_unchanged.ensures.reads.goes.stays.1
+    (left_wider c.args.table.now c.lock_for_merge.new.seat c.args.job.now c.args.merge.now.number w c.args.seat.now.known c.args.left.now.words locks c.requires.left)
 
 pub merge_under_locks-requires-clause-loaded : goal.merge_under_locks-requires-clause-loaded
 merge_under_locks-requires-clause-loaded g c = c.is_unchanged.ensures.same c.if-not-is_unchanged.false
@@ -131,7 +135,7 @@ returns-clause-same g c = λ e.
     let (w, locks, anchor) = c.lock_for_merge.ensures.wide c.if-not-lock_for_merge.false in
     let s = c.merge_under_locks.ensures.same e
     (wide_on c.args.table.now g.G.Gate.becomes (c.lock_for_merge.new.seat, c.lock_for_merge.new.gate) (c.is_unchanged.new.seat, c.is_unchanged.new.gate) c.args.job.now c.args.merge.now.number c.is_unchanged.ensures.reads.goes w) in
-    ((s.0 ∙ locks, s.1 ∙ anchor, s.2 ∙ (c.is_unchanged.ensures.reads.own ∙ c.lock_for_merge.ensures.later.3)), s.3)
+    (s.0 ∙ locks, s.1 ∙ anchor, s.2)
 
 pub returns-then-not-is_unchanged-clause-spares : goal.returns-then-not-is_unchanged-clause-spares
 returns-then-not-is_unchanged-clause-spares g c = λ was.

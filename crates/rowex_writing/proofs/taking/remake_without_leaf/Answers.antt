@@ -1,23 +1,18 @@
 -- What is left of the last node takes its place.
-use Rattle.std.proofs.Common.{rules, ◌≡◌, ◌≤◌, ◌+◌, ◌*◌, [], ◌∷◌, ◌++◌, List, get_or, length, map, ap, sym, subst, Some, refl, arith, ◌∙◌, None}
+use Rattle.std.proofs.Common.{rules, ◌≡◌, ◌≤◌, ◌+◌, ◌*◌, [], length, ap, sym, subst, Some, refl, arith}
 use Rattle.std.proofs.lemmas.Option.{slice_get_within}
-use Rattle.insert_cases.specs.declared.choice.PathNode.{PathNode}
-use Rattle.record_words.specs.Entry.{HasEntryWord, entry_word}
+use Rattle.record_words.specs.Entry.{HasEntryWord}
 use Rattle.record_words.specs.declared.layout.Layout.{Layout}
-use Rattle.versions.specs.declared.Rec.TheVariants.{Node as a_node, Leaf as a_leaf}
-use Rattle.version_laws.specs.Writer.{removed_change}
-use Rattle.rowex_writing.specs.Changes.{MayPublishOnceReady}
 use Rattle.rowex_writing.specs.Building.{IsBuilding}
 use Rattle.rowex_writing.specs.Counts.{level_steps}
 use Rattle.rowex_writing.specs.Walks.{nodes_among}
 use Rattle.rowex_writing.proofs.Growths.{lacks_nodes}
 use Rattle.rowex_writing.proofs.Keeping.{step_nodes}
+use Rattle.rowex_writing.proofs.Leaving.{replaces_alone}
 use Rattle.rowex_writing.proofs.Making.{building_none}
-use Rattle.rowex_writing.proofs.Removing.{IsRaised, last_one, left_raised, leaf_gone_record, low_step, lowest_leads, lowest_locked, may_remake, no_step}
+use Rattle.rowex_writing.proofs.Removing.{IsRaised, left_raised, low_step, lowest_leads, lowest_locked}
 use Rattle.rowex_writing.proofs.Walked.{walk_begins}
 use Rattle.rowex_writing.proofs.taking.remake_without_leaf.Goals as goal
-use Rattle.tries.specs.Content.{item}
-use Rattle.rowex_reading.specs.declared.descent.Found.TheVariants.{Leaf as FoundLeaf}
 
 pub raise_without_leaf-requires-clause-locked : goal.raise_without_leaf-requires-clause-locked
 raise_without_leaf-requires-clause-locked g c =
@@ -60,21 +55,8 @@ returns-clause-raised g c = λ m value b.
     let (news, side, building) = c.in-Some.ensures.made job.key.now words (lowest_leads table c.args.seat.now m job c.args.number value b _ at) h in
     let low : IsRaised c.in-Some.entry = left_raised table.layout c.args.seat.now.known _ words job.key.now c.in-Some.entry news b.taken.possible h side in
     let word : HasEntryWord (Some c.in-Some.entry) = search (rules, low) in
-    let gone = ap (λ (steps : List PathNode). map (λ (s : PathNode). a_node s.number) steps ++ a_leaf c.args.number ∷ []) (last_one table c.args.seat.now m job c.args.number value b _ at) in
-    let now = ap (λ q. removed_change q (item c.args.number job.key.now value)) c.raise_without_leaf.ensures.makes.goes.stays.0.pass in
-    record {
-      from = omega (arith, b.last);
-      upto = omega arith;
-      most = omega arith;
-      leaf = leaf_gone_record table c.args.seat.now m job c.args.number value b _ at;
-      ends = λ spot over.
-          subst (MayPublishOnceReady table c.raise_without_leaf.new.seat c.raise_without_leaf.new.build.made.items spot (entry_word (Some c.in-Some.entry)) (removed_change c.args.seat.now.known.pass (item c.args.number job.key.now value)) (Some value)) (sym gone)
-          (subst (λ y. MayPublishOnceReady table c.raise_without_leaf.new.seat c.raise_without_leaf.new.build.made.items spot (entry_word (Some c.in-Some.entry)) y (Some value) (a_node (get_or job.way.now job.span.end no_step).number ∷ a_leaf c.args.number ∷ [])) now
-          (may_remake table c.args.seat.now m job c.args.number value b _ at c.raise_without_leaf.new.seat c.raise_without_leaf.new.build.made.items news words h c.in-Some.entry
-          c.raise_without_leaf.ensures.makes.goes.stays building side (c.in-Some.ensures.low words h) word spot over));
-      few = omega (arith, ap length c.requires.made, c.raise_without_leaf.ensures.makes.more);
-      takes = λ leaf is. (let same : c.args.number ≡ leaf = cc in (value, b.is_found ∙ ap (λ n. FoundLeaf n value None) same, refl));
-    }
+    replaces_alone table c.args.seat.now m job c.args.number value b c.raise_without_leaf.new.seat c.raise_without_leaf.new.build.made.items news words h c.in-Some.entry (let stays = c.raise_without_leaf.ensures.makes.goes.stays in (stays.0, stays.1, stays.2)) building side word
+    (omega (arith, ap length c.requires.made, c.raise_without_leaf.ensures.makes.more))
 
 pub raise_without_leaf-requires-clause-building : goal.raise_without_leaf-requires-clause-building
 raise_without_leaf-requires-clause-building g c =
