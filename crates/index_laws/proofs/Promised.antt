@@ -28,7 +28,7 @@ use Rattle.versions.proofs.States.{reach_later}
 use Rattle.hot_index_calls.specs.Answers.{IsCause, MayRefuse}
 use Rattle.hot_index.proofs.Alone.{one_pass_full_is_full, one_pass_is_never_busy}
 use Rattle.hot_index.proofs.Counted.{counts_add_up}
-use Rattle.hot_index.proofs.Held.{held_is_never_full, one_pass_refuses_new_alone}
+use Rattle.hot_index.proofs.Held.{absent_is_never_full, held_is_never_full, one_pass_refuses_new_alone}
 use Rattle.hot_index.proofs.Stamped.{returned_before_begun}
 use Rattle.real_time.specs.Moments.{Happening, IsWholeRun, Moment}
 use Rattle.real_time.specs.Scanning.{IsScanInTime}
@@ -175,7 +175,7 @@ headline = record {
   refusals = refusals;
   full_alone = one_pass_full_is_full;
   never_refused = never_refused;
-  new_values_fit = record { held = held_is_never_full; alone = one_pass_refuses_new_alone };
+  new_values_fit = record { held = held_is_never_full; absent = absent_is_never_full; alone = one_pass_refuses_new_alone };
   number_of_keys = counts_add_up;
   steps = steps;
   out_of_reach = in_reach;

@@ -41,7 +41,7 @@ use Rattle.hot_index_calls.specs.Counts.{round_steps, try_steps}
 use Rattle.hot_index_calls.specs.Many.{HasGotMany}
 use Rattle.hot_index_calls.specs.Passes.{PassView, pass_of}
 use Rattle.hot_index_calls.specs.Traces.{HasCollected, HasGot, HasGotRange, HasMade, untold}
-use Rattle.hot_index.specs.Statements.{CountsAddUp, HeldIsNeverFull, OnePassFullIsFull, OnePassRefusesNewAlone, ReturnedBeforeBegun}
+use Rattle.hot_index.specs.Statements.{AbsentIsNeverFull, CountsAddUp, HeldIsNeverFull, OnePassFullIsFull, OnePassRefusesNewAlone, ReturnedBeforeBegun}
 use Rattle.real_time.specs.Moments.{Happening, IsWholeRun, Moment, Pending}
 use Rattle.real_time.specs.Scanning.{IsScanInTime, map_at}
 use Rattle.index_laws.specs.Lives.{OneHistoryOfAll}
@@ -101,9 +101,10 @@ Refusals =
     (j.notes ≡ k.notes) × (own_changes j.number j.front ≡ own_changes k.number k.front) × IsCause layout (key_of call) k j fault × (layout.passes ≡ 1 → fault ≢ Busy)
 
 -- A call that gives its key a value is full only if its key was absent: it is never refused as full if the key was held all the while, and in
--- an index of one pass never at all if the key is held.
+-- an index of one pass never at all if the key is held. And a removal is never refused as full if its key was absent all the while.
 pub record NewValuesFit : Type 0 where
   pub held : HeldIsNeverFull
+  pub absent : AbsentIsNeverFull
   pub alone : OnePassRefusesNewAlone
 
 -- A get is never refused, an exchange or an addition only as busy, and no removal for want of a leaf record.

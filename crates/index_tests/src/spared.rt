@@ -1,0 +1,105 @@
+//! What a full call costs while another pass stays in a call: one sweep of all records, and no second one until it has gone on.
+
+ghost use Rattle.std.specs.Prelude.{Unit};
+
+use crate::shared::*;
+use hot_index::{Event, Gate, Handle, Index, Key, NoGate, Reply, TryFault};
+use rowex_core::Act;
+use std::process::Abort;
+use std::test::*;
+
+/// How many nodes are asked for. The index has one more.
+const NODES: u32 = 8;
+
+/// How many leaves there are.
+const LEAVES: u32 = 3;
+
+/// A handle: a pass with a reference to its index.
+type Guest<'a> = Handle<&'a Index>;
+
+/// A gate that counts steps.
+#[derive(Drop)]
+struct Counter {
+    steps: u64,
+}
+
+impl Gate for Counter {
+    ghost becomes = { λ _ _ _. Unit {0} };
+
+    fn at(&mut self, _event: &Event) {
+        self.steps = self.steps.wrapping_add(1);
+    }
+}
+
+/// A gate that lets another pass make three tries to insert `key` once its own pass is pinned, and then remove `held`.
+#[derive(Drop)]
+struct Stopper<'a> {
+    other: Guest<'a>,
+    key: Key,
+    held: Key,
+    /// How many steps each try made that was refused for want of a leaf; 0 for any other.
+    steps: [u64; 3],
+    /// Whether the key was removed.
+    removed: bool,
+    /// How many steps one more try made, after the removal.
+    after: u64,
+}
+
+impl<'a> Gate for Stopper<'a> {
+    ghost becomes = { λ _ _ _. Unit {0} };
+
+    fn at(&mut self, event: &Event) {
+        if matches!(event.act, Act::SetPin { .. }) {
+            self.steps = [
+                count_full_try(&mut self.other, &self.key),
+                count_full_try(&mut self.other, &self.key),
+                count_full_try(&mut self.other, &self.key),
+            ];
+            let (index, pass) = (self.other.index, &mut self.other.pass);
+            self.removed = matches!(index.try_remove(pass, &self.held), Ok(Reply::Removed(_)));
+            self.after = count_full_try(&mut self.other, &self.key);
+        }
+    }
+}
+
+/// Tries to insert `key`. Returns how many steps that made, if it was refused for want of a leaf; else 0.
+fn count_full_try(guest: &mut Guest, key: &Key) -> u64 {
+    let mut counter = Counter { steps: 0 };
+    let (index, pass) = (guest.index, &mut guest.pass);
+    match index.try_insert_with(pass, key, 1, &mut counter) {
+        Err(TryFault::FullLeaves) => counter.steps,
+        _ => 0,
+    }
+}
+
+/// An index of two passes is filled by one of them. While the other is in a call, a first try to insert sweeps all records: beside what it
+/// gives back it makes a load for each of them more than the next two. What is removed then stays held back, and no sweep follows. Once the
+/// call has ended, the next try finds it.
+#[test]
+fn a_full_call_sweeps_once_while_another_is_pinned(rt: HostRuntime) {
+    let (index, mut passes) = make_index_of_size(&rt, rt.alloc(), 2, NODES, LEAVES);
+    let mut pinned = pop_pass(&rt, &index, &mut passes);
+    let mut other = Handle::new(&index, pop_pass(&rt, &index, &mut passes));
+    for byte in [0u8, 1, 2] {
+        let (index, pass) = (other.index, &mut other.pass);
+        let told = index.try_insert(pass, &key(&rt, &[byte]), 1);
+        assert!(rt; matches!(told, Ok(Reply::Inserted)));
+    }
+    let mut gate = Stopper {
+        other,
+        key: key(&rt, &[3]),
+        held: key(&rt, &[1]),
+        steps: [0; 3],
+        removed: false,
+        after: 0,
+    };
+    let found = index.get_with(&mut pinned, &key(&rt, &[0]), &mut gate);
+    assert!(rt; found == Some(1));
+    let [first, second, third] = gate.steps;
+    assert!(rt; second > 0 && second == third);
+    assert!(rt; first.saturating_sub(second) >= u64::from(NODES + 1 + LEAVES));
+    assert!(rt; gate.removed && gate.after > 0 && gate.after <= second.saturating_add(64));
+    let (index, pass) = (gate.other.index, &mut gate.other.pass);
+    let told = index.try_insert_with(pass, &gate.key, 1, &mut NoGate);
+    assert!(rt; matches!(told, Ok(Reply::Inserted)));
+}
