@@ -82,8 +82,8 @@ pub fn collect_round<G: Gate>(table: &HotTable, seat: &mut TableSeat, gate: &mut
 /// index of several passes if the bound is no higher than that of the last round that this function has made for the pass.
 ///
 /// That round left no record below its bound retired, and none is retired below it later. A pass marks what it retires while it is pinned,
-/// with an epoch that it loads under this pin. If the round has seen the pin, it was no lower than the bound. If not, the pass was pinned
-/// after the round had loaded its epoch.
+/// with an epoch that it loads under this pin. If the round has seen the pin, it was no lower than the bound. Otherwise the pass was pinned
+/// after the round had loaded its epoch, or it had marked and unpinned before the round visited a record.
 pub fn collect_if_risen<G: Gate>(
     table: &HotTable,
     seat: &mut TableSeat,

@@ -133,7 +133,8 @@ impl Index {
     /// It returns `FullNodes` only if it found each node record not free when its turn came, beside those that it had claimed itself. One
     /// that is free is left for the removals. For `FullLeaves` the same holds of each leaf record with room for the key. It makes the round
     /// of collection first. Then it looks again, unless the round gave back none of the kind, and found none free or the index has one pass.
-    /// In an index of several passes the round visits nothing where no record could come back, and then it doesn't look again.
+    /// In an index of several passes the round visits nothing while its bound is that of the pass's last such round, since some call holds
+    /// what is retired back. Then it doesn't look again.
     ///
     /// A refused call has changed nothing, and holds no lock and no record.
     pub fn try_insert(&self, pass: &mut Pass, key: &Key, value: u64) -> Result<Reply, TryFault>

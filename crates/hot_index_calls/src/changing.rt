@@ -94,8 +94,8 @@ fn try_twice<G: Gate>(
 }
 
 /// Makes a round of collection for a call that found no record of the kind `lacks` free, and that `removes` a key or doesn't. Returns
-/// whether a second attempt may find one. In an index of several passes the round visits no record where it could give none back, and there
-/// is nothing new to find then.
+/// whether a second attempt may find one. In an index of several passes the round visits no record where it could give none back, and no
+/// second attempt is made then. What another pass has freed meanwhile is found by the count that follows.
 fn collect_between<G: Gate>(
     table: &HotTable,
     seat: &mut TableSeat,

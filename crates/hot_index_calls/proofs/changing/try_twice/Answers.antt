@@ -88,14 +88,14 @@ returns g c =
         idle = again.idle;
         noted = tt;
         refused = record {
-            cause = cause;
-            refused = record {
-              unnoted = unnoted_then table.layout k (pass_of c.collect_between.new.seat) (pass_of c.pin_and_unpin.new.seat) collected later again.unnoted;
-              full = λ full. may_take_from_before call k k (pass_of c.make_attempt-first.new.seat) (pass_of c.pin_and_unpin.new.seat) (no_further refl)
-                  (begins_on c.make_attempt-first.new.seat.known.front c.collect_between.new.seat.known.front c.pin_and_unpin.new.seat.known.front
-                  (no_further (ap (λ (z : Known). z.front) round.does.rest)) again.unnoted.front)
-                  (again.fresh ∙ ap (λ (z : Known). z.fresh) round.does.rest) (first.replied.refused.refused.full full);
-            };
+          cause = cause;
+          refused = record {
+            unnoted = unnoted_then table.layout k (pass_of c.collect_between.new.seat) (pass_of c.pin_and_unpin.new.seat) collected later again.unnoted;
+            full = λ full. may_take_from_before call k k (pass_of c.make_attempt-first.new.seat) (pass_of c.pin_and_unpin.new.seat) (no_further refl)
+                (begins_on c.make_attempt-first.new.seat.known.front c.collect_between.new.seat.known.front c.pin_and_unpin.new.seat.known.front
+                (no_further (ap (λ (z : Known). z.front) round.does.rest)) again.unnoted.front)
+                (again.fresh ∙ ap (λ (z : Known). z.fresh) round.does.rest) (first.replied.refused.refused.full full);
+          };
         };
         leafless = first.replied.leafless;
         loaded = subst (λ (z : Fresh). c.args.seat.now.known.steps ≤ z.step) (sym (again.fresh ∙ ap (λ (z : Known). z.fresh) round.does.rest)) first.replied.loaded;
