@@ -1,9 +1,7 @@
 //! What a full call costs while another pass stays in a call: one sweep of all records, and no second one until it has gone on.
 
-ghost use Rattle.std.specs.Prelude.{Unit};
-
 use crate::shared::*;
-use hot_index::{Event, Gate, Handle, Index, Key, NoGate, Reply, TryFault};
+use hot_index::{Event, Gate, Handle, Index, Key, Reply, TryFault};
 use rowex_core::Act;
 use std::process::Abort;
 use std::test::*;
@@ -55,8 +53,7 @@ impl<'a> Gate for Stopper<'a> {
                 count_full_try(&mut self.other, &self.key),
                 count_full_try(&mut self.other, &self.key),
             ];
-            let (index, pass) = (self.other.index, &mut self.other.pass);
-            self.removed = matches!(index.try_remove(pass, &self.held), Ok(Reply::Removed(_)));
+            self.removed = has_removed(&mut self.other, &self.held);
             self.after = count_full_try(&mut self.other, &self.key);
         }
     }
@@ -72,6 +69,18 @@ fn count_full_try(guest: &mut Guest, key: &Key) -> u64 {
     }
 }
 
+/// Tries to remove `key`. Returns whether it was removed.
+fn has_removed(guest: &mut Guest, key: &Key) -> bool {
+    let (index, pass) = (guest.index, &mut guest.pass);
+    matches!(index.try_remove(pass, key), Ok(Reply::Removed(_)))
+}
+
+/// Tries to insert `key`. Returns whether it was inserted.
+fn has_inserted(guest: &mut Guest, key: &Key) -> bool {
+    let (index, pass) = (guest.index, &mut guest.pass);
+    matches!(index.try_insert(pass, key, 1), Ok(Reply::Inserted))
+}
+
 /// An index of two passes is filled by one of them. While the other is in a call, a first try to insert sweeps all records: beside what it
 /// gives back it makes a load for each of them more than the next two. What is removed then stays held back, and no sweep follows. Once the
 /// call has ended, the next try finds it.
@@ -81,9 +90,7 @@ fn a_full_call_sweeps_once_while_another_is_pinned(rt: HostRuntime) {
     let mut pinned = pop_pass(&rt, &index, &mut passes);
     let mut other = Handle::new(&index, pop_pass(&rt, &index, &mut passes));
     for byte in [0u8, 1, 2] {
-        let (index, pass) = (other.index, &mut other.pass);
-        let told = index.try_insert(pass, &key(&rt, &[byte]), 1);
-        assert!(rt; matches!(told, Ok(Reply::Inserted)));
+        assert!(rt; has_inserted(&mut other, &key(&rt, &[byte])));
     }
     let mut gate = Stopper {
         other,
@@ -95,11 +102,16 @@ fn a_full_call_sweeps_once_while_another_is_pinned(rt: HostRuntime) {
     };
     let found = index.get_with(&mut pinned, &key(&rt, &[0]), &mut gate);
     assert!(rt; found == Some(1));
-    let [first, second, third] = gate.steps;
+    let Stopper {
+        mut other,
+        key: new,
+        held: _held,
+        steps: [first, second, third],
+        removed,
+        after,
+    } = gate;
     assert!(rt; second > 0 && second == third);
     assert!(rt; first.saturating_sub(second) >= u64::from(NODES + 1 + LEAVES));
-    assert!(rt; gate.removed && gate.after > 0 && gate.after <= second.saturating_add(64));
-    let (index, pass) = (gate.other.index, &mut gate.other.pass);
-    let told = index.try_insert_with(pass, &gate.key, 1, &mut NoGate);
-    assert!(rt; matches!(told, Ok(Reply::Inserted)));
+    assert!(rt; removed && after > 0 && after <= second.saturating_add(64));
+    assert!(rt; has_inserted(&mut other, &new));
 }
