@@ -1,7 +1,7 @@
 //! Atomic steps on the shared words, as events.
 
 use std::marker::Model;
-use versions::Rec;
+use versions::{Listed, Rec};
 
 /// What a writer locks.
 #[derive(Clone, Copy)]
@@ -23,7 +23,17 @@ pub enum Spot {
     Value { leaf: u32 },
 }
 
-/// One load, store or compare-exchange on one word. `word` is what a load found, or what a store puts there. `found` is the word that
+/// What the words of a table say that is made of sorted pairs. No value of it is made.
+pub struct BulkLoad {
+    /// The words of each node record but its state, by its number.
+    pub nodes: Listed<Listed<u64>>,
+    /// The words of each leaf record but its state, by its number.
+    pub leaves: Listed<Listed<u64>>,
+    /// The word of the root.
+    pub root: u64,
+}
+
+/// One load, store or compare-exchange on one word; or the bulk load with which a table was made, which is no atomic step. `word` is what a load found, or what a store puts there. `found` is the word that
 /// a compare-exchange found: if that isn't the expected one, it stays. `offset` counts the words of a record, from its state at 0 on.
 #[derive(Clone, Copy)]
 pub enum Act {
@@ -61,6 +71,8 @@ pub enum Act {
     LoadState { rec: Rec, word: u64 },
     /// Exchanges the state of a record from obsolete in this epoch to free.
     GiveBack { rec: Rec, epoch: u64, found: u64 },
+    /// Links all records of a tree at once, before any other step. No call makes this step, and no value of it can be made.
+    Load { load: &'static BulkLoad },
 }
 
 /// An atomic step of the pass of this number.

@@ -2,7 +2,7 @@
 use Rattle.std.proofs.Common.{◌≡◌, ◌⊎◌, inl, inr, ℕ, zero, suc, ◌-◌, ◌<◌, ◌≤◌, List, [], ◌∷◌, ◌++◌, length, map, take, if◌then◌else◌, refl, ap, sym, ◌∙◌, subst, arith, Option, Some, None, le_refl, append-nil, append_assoc}
 use Rattle.std.proofs.lemmas.Bool.{cases_lt}
 use Rattle.std.proofs.lemmas.Option.{none-some}
-use Rattle.std.proofs.lemmas.List.{take_all, take-map, length-map, map-append}
+use Rattle.std.proofs.lemmas.List.{take_all, take-map, length-append, length-map, map-append}
 use Rattle.finite_map.specs.declared.Change.{Change}
 use Rattle.finite_map.specs.Maps.{value_at, with_value}
 use Rattle.finite_map.specs.Fronts.{map_of, LegalFront}
@@ -91,6 +91,23 @@ first_built (leaf n k v) zero u e = absurd cc
 first_built (leaf n k v) (suc i) u e = subst IsBuilt (some_same e) tt
 first_built (node n x b) i u e = first_built b i u e
 first_built (fork p a b) i u e = built_forked p (first_leaves a i) (first_leaves b (i - length (items a))) (first_built a i) (first_built b (i - length (items a))) u e
+
+-- before the first leaf it is empty
+
+some_items : (t : Tree) → 0 < length (items t)
+some_items (leaf n k v) = omega arith
+some_items (node n x b) = some_items b
+some_items (fork p a b) = let some = some_items a in omega (arith, length-append (items a) (items b))
+
+none_first : (t : Tree) → first_leaves t 0 ≡ None
+none_first (leaf n k v) = refl
+none_first (node n x b) = none_first b
+none_first (fork p a b) = let e : 0 - length (items a) ≡ 0 = omega arith in
+    (λ z. forked p (none_first a z) (first_leaves b (0 - length (items a)))) ∙ (ap (first_leaves b) e ∙ none_first b)
+
+pub loaded_first : (t : Option Tree) → (loaded_past t).version 0 ≡ None
+loaded_first None = refl
+loaded_first (Some t) = version_old (first_leaves_of (Some t)) (length (items t)) (Some t) 0 (some_items t) ∙ none_first t
 
 -- Insertions in the order of the keys
 
