@@ -41,7 +41,6 @@ use Rattle.record_words.specs.declared.layout.Location.{Location}
 use Rattle.versions.specs.Loads.{loaded_past}
 use Rattle.versions.specs.Told.{added_change, items_of}
 use Rattle.record_words.specs.declared.layout.Layout.{Layout}
-use Rattle.rowex_core.specs.declared.event.BulkLoad.{BulkLoad}
 use Rattle.rowex_core.specs.Opening.{opening}
 use Rattle.rowex_core.proofs.BulkLoading.{loaded, load_grows, load_shares}
 use Rattle.rowex_core.proofs.Frames.{advance_frame, give_back_frame, unlocked_node}
@@ -313,13 +312,13 @@ mark_learns c k r epoch since last h e = subst (λ f. IsTrue (record c { shared 
     r (UnlinkedBy since last k.pass) (Marked since last epoch) (without_record r) (drop_at r) e refl refl (dropped r (c.words r) (holding_of k.pass (UnlinkedBy since last k.pass))))
 
 -- A bulk load
-load_learns : (layout : Layout) (k : Known) (b : BulkLoad) → Knows (opening layout) k → IsTrue (loaded layout k.pass b) (load_learned (opening layout) (loaded_tree b) k)
+load_learns : (layout : Layout) (k : Known) (b : List ℕ) → Knows (opening layout) k → IsTrue (loaded layout k.pass b) (load_learned (opening layout) (loaded_tree layout b) k)
 load_learns layout k b h = record {
   pass = h.pass;
   seen = record {
     front = ([], sym (append-nil _), All-from_recursion (λ z. z.pass ≢ k.pass) [] tt);
-    fresh = (map (added_change k.pass) (items_of (loaded_tree b)), refl);
-    facts = All-weaker (IsFact (opening layout).past) (IsFact (loaded_past (loaded_tree b))) (fact_grown (opening layout).past (loaded_past (loaded_tree b)) (load_grows layout k.pass b)) k.facts h.seen.facts;
+    fresh = (map (added_change k.pass) (items_of (loaded_tree layout b)), refl);
+    facts = All-weaker (IsFact (opening layout).past) (IsFact (loaded_past (loaded_tree layout b))) (fact_grown (opening layout).past (loaded_past (loaded_tree layout b)) (load_grows layout k.pass b)) k.facts h.seen.facts;
   };
   own = load_shares layout k.pass b k.pass ∙ h.own;
   values = no_values (loaded layout k.pass b) k.pass;
@@ -460,7 +459,7 @@ learns_by c k (LoadState r w) law h l = elim (cases_Bool (eqb w 0)) [ inl e ↦ 
 learns_by c k (GiveBack r epoch found) law h l = is_true (knows_kept c _ k (give_back_frame c k.pass r epoch (c.fate r) refl) h)
 
 learns_by c k (Load load) law h (a, (e, b)) =
-    subst (λ (z : Core). Knows z k → IsTrue (after z k.pass (Load load)) (load_learned z (loaded_tree load.now) k)) (sym e) (load_learns c.layout k load.now) h
+    subst (λ (z : Core). Knows z k → IsTrue (after z k.pass (Load load)) (load_learned z (loaded_tree z.layout load.now) k)) (sym e) (load_learns c.layout k load.now) h
 
 -- The step is counted, and with it the last load of the root and what failed.
 module _ (c : Core) (k : Known) (h : AreCounted k.steps k.fresh.step k.failed) where

@@ -35,7 +35,7 @@ use Rattle.rowex_core.specs.declared.known.FailedAct.{FailedAct}
 use Rattle.rowex_core.specs.declared.known.FailedAct.TheVariants.{Claim as a_claim, Lock as a_lock, LoadState as a_load}
 use Rattle.rowex_core.specs.declared.known.Known.{Known}
 use Rattle.rowex_core.specs.declared.known.View.{View}
-use Rattle.rowex_core.specs.declared.known.View.TheVariants.{Spent, Dealer, Pass, Pair, Witness, Follower}
+use Rattle.rowex_core.specs.declared.known.View.TheVariants.{Spent, Dealer, Founder, Pass, Pair, Witness, Follower}
 use Rattle.rowex_core.specs.Cores.{Core, IsLawful, holder_of, value_offset}
 use Rattle.rowex_core.specs.Reading.{entry_of, root_of, entry_in, head_value, HasWordAt}
 use Rattle.rowex_core.specs.Sharing.{share, known_share, nothing}
@@ -108,6 +108,7 @@ pub record IsUntouched (c : Core) (q : ℕ) : Type 0 where
 abbrev pub Knowing : Core → View → Type 0
 Knowing c Spent = Unit {0}
 Knowing c (Dealer m) = (q : ℕ) → m ≤ q → IsUntouched c q
+Knowing c (Founder k m) = Knows c k × ((q : ℕ) → m ≤ q → IsUntouched c q)
 Knowing c (Pass k) = Knows c k
 Knowing c (Pair j k) = Knows c j × Knows c k × (j.pass ≢ k.pass)
 Knowing c (Witness front) = BeginsWith c.changes front
@@ -117,6 +118,7 @@ Knowing c (Follower k front) = Knows c k × BeginsWith c.changes front
 abbrev pub IsViewOf : View → ℕ → Type 0
 IsViewOf Spent q = ⊥
 IsViewOf (Dealer m) q = m ≤ q
+IsViewOf (Founder k m) q = (k.pass ≡ q) ⊎ (m ≤ q)
 IsViewOf (Pass k) q = k.pass ≡ q
 IsViewOf (Pair j k) q = (j.pass ≡ q) ⊎ (k.pass ≡ q)
 IsViewOf (Witness front) q = ⊥
@@ -267,7 +269,7 @@ learned_by c ClearPin k = record k { pin = None }
 learned_by c (LoadPin o w) k = record k { round = with_seen k.round o (c.pins o) }
 learned_by c (LoadState r w) k = state_learned c r w k
 learned_by c (GiveBack r epoch found) k = k
-learned_by c (Load load) k = load_learned c (loaded_tree load.now) k
+learned_by c (Load words) k = load_learned c (loaded_tree c.layout words.now) k
 
 -- and it counts the step
 abbrev pub learned : Core → Act → Known → Known

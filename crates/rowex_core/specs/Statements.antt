@@ -91,8 +91,8 @@ RunsKeep = (c : Core) (events : List Event) (d : Core) (v : View) → IsLawful c
 abbrev pub Appends : Act → Core → Core → Type 0
 Appends (Publish spot w) c d =
     (x : Change) × (d.changes ≡ c.changes ++ x ∷ []) × (d.past.now ≡ suc c.past.now) × ((n : ℕ) → n ≤ c.past.now → d.past.version n ≡ c.past.version n)
-Appends (Load load) c d =
-    (q : ℕ) × (d.changes ≡ c.changes ++ map (added_change q) (items_of (loaded_tree load.now))) × (d.past ≡ loaded_past (loaded_tree load.now))
+Appends (Load words) c d =
+    (q : ℕ) × (d.changes ≡ c.changes ++ map (added_change q) (items_of (loaded_tree c.layout words.now))) × (d.past ≡ loaded_past (loaded_tree c.layout words.now))
 Appends _ c d = (d.changes ≡ c.changes) × (d.past ≡ c.past)
 
 abbrev pub OnlyPublishAppends : Type 0

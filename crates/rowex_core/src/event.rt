@@ -1,7 +1,7 @@
 //! Atomic steps on the shared words, as events.
 
 use std::marker::Model;
-use versions::{Listed, Rec};
+use versions::Rec;
 
 /// What a writer locks.
 #[derive(Clone, Copy)]
@@ -21,16 +21,6 @@ pub enum Spot {
     Slot { node: u32, entry: u8 },
     /// The value of leaf record `leaf`.
     Value { leaf: u32 },
-}
-
-/// What the words of a table say that is made of sorted pairs. No value of it is made.
-pub struct BulkLoad {
-    /// The words of each node record but its state, by its number.
-    pub nodes: Listed<Listed<u64>>,
-    /// The words of each leaf record but its state, by its number.
-    pub leaves: Listed<Listed<u64>>,
-    /// The word of the root.
-    pub root: u64,
 }
 
 /// One load, store or compare-exchange on one word; or the bulk load with which a table was made, which is no atomic step. `word` is what a load found, or what a store puts there. `found` is the word that
@@ -71,8 +61,8 @@ pub enum Act {
     LoadState { rec: Rec, word: u64 },
     /// Exchanges the state of a record from obsolete in this epoch to free.
     GiveBack { rec: Rec, epoch: u64, found: u64 },
-    /// Links all records of a tree at once, before any other step. No call makes this step, and no value of it can be made.
-    Load { load: &'static BulkLoad },
+    /// Links all records of the tree that the table's words, these ones, show. It stands before all steps, and none makes it.
+    Load { words: &'static [u64] },
 }
 
 /// An atomic step of the pass of this number.

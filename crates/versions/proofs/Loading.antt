@@ -1,10 +1,15 @@
 -- After a load the core is lawful.
-use Rattle.std.proofs.Common.{◌≡◌, ◌⊎◌, inl, inr, ℕ, zero, suc, ◌-◌, ◌<◌, ◌≤◌, List, [], ◌∷◌, ◌++◌, length, map, take, if◌then◌else◌, refl, ap, sym, ◌∙◌, subst, arith, Option, Some, None, le_refl, append-nil, append_assoc}
+use Rattle.std.proofs.Common.{◌≡◌, ◌⊎◌, inl, inr, ℕ, zero, suc, ◌+◌, ◌-◌, ◌<◌, ◌≤◌, List, [], ◌∷◌, ◌++◌, length, map, take, if◌then◌else◌, refl, ap, sym, ◌∙◌, subst, arith, Option, Some, None, le_refl, append-nil, append_assoc}
 use Rattle.std.proofs.lemmas.Bool.{cases_lt}
 use Rattle.std.proofs.lemmas.Option.{none-some}
 use Rattle.std.proofs.lemmas.List.{take_all, take-map, length-append, length-map, map-append}
 use Rattle.finite_map.specs.declared.Change.{Change}
-use Rattle.finite_map.specs.Maps.{value_at, with_value}
+use Rattle.finite_map.specs.Maps.{reply_of, step_where, value_at, with_value}
+use Rattle.finite_map.specs.declared.Call.TheVariants.{Insert}
+use Rattle.finite_map.specs.declared.Note.{Note}
+use Rattle.finite_map.specs.declared.Reply.TheVariants.{Inserted}
+use Rattle.finite_map.specs.Calls.{LegalCalls}
+use Rattle.finite_map.proofs.Legal.{legal_at_first, legal_change}
 use Rattle.finite_map.specs.Fronts.{map_of, LegalFront}
 use Rattle.finite_map.proofs.Growth.{map_of-push, legal_front_push}
 use Rattle.compound_node.specs.declared.entries.Entry.{Entry}
@@ -21,8 +26,8 @@ use Rattle.versions.specs.Heap.{Heap, IsCopied, IsShown}
 use Rattle.versions.specs.State.{Past, State, Life, Linked, Spans, last_of, Stands, IsSameRecord, IsTop, IsReach, IsLived, IsLinked, IsLawfulState}
 use Rattle.versions.specs.Core.{Fate, Free, InTree, life_of, view}
 use Rattle.versions.specs.Steps.{at_first, is_linked, IsLawfulCore}
-use Rattle.versions.specs.Told.{items_of, content, added_change, TellChanges}
-use Rattle.versions.specs.Loads.{forked, first_leaves, first_leaves_of, loaded_past, loaded_by, LoadIsLawful}
+use Rattle.versions.specs.Told.{items_of, content, added_change, added_notes, TellChanges}
+use Rattle.versions.specs.Loads.{forked, first_leaves, first_leaves_of, loaded_past, loaded_by, LoadIsLawful, LoadIsLegal}
 use Rattle.versions.proofs.Heaps.{shown_within, copied_if_shown, near_refl}
 use Rattle.versions.proofs.Legal.{linked_cases}
 use Rattle.versions.proofs.Publish.{version_old, version_new, links_within, within_links, same_step, top_shown}
@@ -121,12 +126,23 @@ rising_left (x ∷ xs) ys h = (each_left _ xs ys h.0, rising_left xs ys h.1)
 
 -- the changes that add these lead to their map, and each is legal
 abbrev AreTold : ℕ → List Item → Type 0
-AreTold q xs = (map_of (map (added_change q) xs) ≡ pairs xs) × LegalFront (map (added_change q) xs)
+AreTold q xs = (map_of (map (added_change q) xs) ≡ pairs xs) × LegalFront (map (added_change q) xs) × LegalCalls (map (added_change q) xs) q (added_notes 0 xs)
+
+-- one insertion more
+notes_push : (n : ℕ) (xs : List Item) (x : Item) → added_notes n (xs ++ x ∷ []) ≡ added_notes n xs ++ record { place = n + length xs; call = Insert x.key x.value; reply = Inserted } ∷ []
+notes_push n [] x = let e : n ≡ n + 0 = omega arith in (λ i. record { place = e i; call = Insert x.key x.value; reply = Inserted } ∷ [])
+notes_push n (y ∷ xs) x =
+    let e : suc n + length xs ≡ n + suc (length xs) = omega arith in
+    (λ i. record { place = n; call = Insert y.key y.value; reply = Inserted } ∷ notes_push (suc n) xs x i) ∙
+    (λ i. record { place = n; call = Insert y.key y.value; reply = Inserted } ∷ (added_notes (suc n) xs ++ record { place = e i; call = Insert x.key x.value; reply = Inserted } ∷ []))
 
 one_more : (q : ℕ) (x : Item) (done : List Item) → IsRising (done ++ x ∷ []) → AreKeys (done ++ x ∷ []) → AreTold q done → AreTold q (done ++ x ∷ [])
 one_more q x done rise keys told = (
   ap map_of split ∙ (map_of-push front (added_change q x) ∙ (ap (λ m. with_value m x.key x.value) told.0 ∙ more_inserts x done (done ++ x ∷ []) (more_after x done) rise keys)),
-  subst LegalFront (sym split) (legal_front_push front (added_change q x) told.1 (subst (λ m. value_at m x.key ≡ None) (sym told.0) (more_was_absent x done (done ++ x ∷ []) (more_after x done) rise keys))),
+  subst LegalFront (sym split) (legal_front_push front (added_change q x) told.1 absent),
+  subst (λ (ns : List Note). LegalCalls (map (added_change q) (done ++ x ∷ [])) q ns) (sym (notes_push 0 done x))
+      (subst (λ (cs : List Change). LegalCalls cs q (added_notes 0 done ++ note ∷ [])) (sym split)
+      (legal_change front q (added_notes 0 done) note (added_change q x) told.2 (let l = length-map done (added_change q) in omega (arith, l)) inserted refl)),
 )
   where
     front : List Change
@@ -134,6 +150,15 @@ one_more q x done rise keys told = (
 
     split : map (added_change q) (done ++ x ∷ []) ≡ front ++ added_change q x ∷ []
     split = map-append (added_change q) done (x ∷ [])
+
+    note : Note
+    note = record { place = 0 + length done; call = Insert x.key x.value; reply = Inserted }
+
+    absent : value_at (map_of front) x.key ≡ None
+    absent = subst (λ m. value_at m x.key ≡ None) (sym told.0) (more_was_absent x done (done ++ x ∷ []) (more_after x done) rise keys)
+
+    inserted : Inserted ≡ reply_of (map_of front) (Insert x.key x.value)
+    inserted = ap (λ o. (step_where o (map_of front) (Insert x.key x.value)).1) (sym absent)
 
 told_from : (q : ℕ) (done todo : List Item) → IsRising (done ++ todo) → AreKeys (done ++ todo) → AreTold q done → AreTold q (done ++ todo)
 told_from q done [] rise keys told = subst (AreTold q) (sym (append-nil done)) told
@@ -144,8 +169,8 @@ told_from q done (x ∷ todo) rise keys told =
     subst (AreTold q) e (told_from q (done ++ x ∷ []) todo r a (one_more q x done (rising_left (done ++ x ∷ []) todo r) (each_left _ (done ++ x ∷ []) todo a) told))
 
 all_told : (q : ℕ) (t : Option Tree) → ((u : Tree) → t ≡ Some u → IsTrie u) → AreTold q (items_of t)
-all_told q None law = (refl, tt)
-all_told q (Some t) law = told_from q [] (items t) (content_rises t (law t refl)) (are_keys t (law t refl)) (refl, tt)
+all_told q None law = (refl, tt, legal_at_first q)
+all_told q (Some t) law = told_from q [] (items t) (content_rises t (law t refl)) (are_keys t (law t refl)) (refl, tt, legal_at_first q)
 
 module _ (heap : Heap) (q : ℕ) (root : Option Entry) (t : Option Tree) (top : IsTop heap root t) (law : (u : Tree) → t ≡ Some u → IsTrie u × IsBuilt u) where
   abbrev last : ℕ
@@ -280,3 +305,6 @@ module _ (heap : Heap) (q : ℕ) (root : Option Entry) (t : Option Tree) (top : 
 
 pub load_is_lawful : LoadIsLawful
 load_is_lawful = lawful
+
+pub load_is_legal : LoadIsLegal
+load_is_legal q t law = (all_told q t law).2

@@ -6,7 +6,8 @@ use Rattle.tries.specs.Tree.{Tree, leaf, node, fork, IsTrie, IsBuilt}
 use Rattle.tries.specs.Content.{items}
 use Rattle.versions.specs.Heap.{Heap}
 use Rattle.versions.specs.State.{Past, IsTop, with_version}
-use Rattle.versions.specs.Told.{items_of, added_change}
+use Rattle.finite_map.specs.Calls.{LegalCalls}
+use Rattle.versions.specs.Told.{items_of, added_change, added_notes}
 use Rattle.versions.specs.Core.{InTree, Shared}
 use Rattle.versions.specs.Steps.{IsLawfulCore, at_first, is_linked}
 
@@ -39,6 +40,11 @@ loaded_by s q root t = record s {
   changes = s.changes ++ map (added_change q) (items_of t);
   fate = λ r. if is_linked t r then InTree (length (items_of t)) else s.fate r;
 }
+
+-- As answered insertions the leaves of a bit trie are legal calls of the pass that adds them.
+abbrev pub LoadIsLegal : Type 0
+LoadIsLegal =
+    (q : ℕ) (t : Option Tree) → ((u : Tree) → t ≡ Some u → IsTrie u) → LegalCalls (map (added_change q) (items_of t)) q (added_notes 0 (items_of t))
 
 -- The core is lawful after a load of a lawful tree that the words show.
 abbrev pub LoadIsLawful : Type 0
