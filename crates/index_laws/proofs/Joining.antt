@@ -74,7 +74,7 @@ silent_steps_end table act (next ∷ acts) s e (m, step, runs) =
 
 module _ {G : Type 0} (becomes : G → Event → G → Type 0) (table : TableView) where
   untell : (act : Act) (said : Known → List Note) (a b : SeatView × G) → StepsWith table becomes act said a b → StepsWith table untold act said (a.0, tt) (b.0, tt)
-  untell act said a b x = record { seat = x.seat; event = x.event; next = x.next; told = tt }
+  untell act said a b x = record { seat = x.seat; atomic = x.atomic; event = x.event; next = x.next; told = tt }
 
   untell_each : (acts : List Act) (a b : SeatView × G) → Runs table becomes acts a b → Runs table untold acts (a.0, tt) (b.0, tt)
   untell_each [] a b runs = ap (λ (z : SeatView × G). let y : SeatView × Unit {0} = (z.0, tt) in y) runs
