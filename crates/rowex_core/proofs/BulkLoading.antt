@@ -47,7 +47,7 @@ all_by P q h (x ∷ xs) = All-cons P (added_change q x) (map (added_change q) xs
 -- a word of the table, or 0
 word_small : (table : List ℕ) (i : ℕ) → All (λ w. w < 2 ^ 64) table → get_or table i 0 < 2 ^ 64
 word_small table i h = elim (cases_lt i (length table)) [
-  inl low ↦ All-get_or (λ w. w < 2 ^ 64) table i 0 low h
+  | inl low ↦ All-get_or (λ w. w < 2 ^ 64) table i 0 low h
   | inr past ↦ subst (λ w. w < 2 ^ 64) (sym (get_or_past {X = ℕ} table i 0 past)) (lit< tt)
 ]
 

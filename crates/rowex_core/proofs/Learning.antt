@@ -457,7 +457,6 @@ learns_by c k ClearPin law h l = pin_learns c k h None
 learns_by c k (LoadPin o w) law h l = round_learns c k h _ _ (ap (λ (s : Share). let z = s.round in let x : Round = record { epoch = z.epoch; version = z.version; bound = lowered z.bound (c.pins o); seen = o ∷ z.seen } in x) h.own)
 learns_by c k (LoadState r w) law h l = elim (cases_Bool (eqb w 0)) [ inl e ↦ rw e (is_true h) | inr e ↦ rw e (with_failed c k (a_load (holder_of (c.fate r))) (word_of r 0) w h) ]
 learns_by c k (GiveBack r epoch found) law h l = is_true (knows_kept c _ k (give_back_frame c k.pass r epoch (c.fate r) refl) h)
-
 learns_by c k (Load load) law h (a, (e, b)) =
     subst (λ (z : Core). Knows z k → IsTrue (after z k.pass (Load load)) (load_learned z (loaded_tree z.layout load.now) k)) (sym e) (load_learns c.layout k load.now) h
 

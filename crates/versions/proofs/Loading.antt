@@ -185,7 +185,7 @@ module _ (heap : Heap) (q : ℕ) (root : Option Entry) (t : Option Tree) (top : 
   -- a version is one of the first leaves, or the tree
   version_is : (n : ℕ) → n ≤ last → ((n < last) × (past.version n ≡ first_leaves_of t n)) ⊎ ((n ≡ last) × (past.version n ≡ t))
   version_is n h = elim (cases_lt n last) [
-    inl x ↦ inl (x, version_old (first_leaves_of t) last t n x)
+    | inl x ↦ inl (x, version_old (first_leaves_of t) last t n x)
     | inr x ↦ let e : n ≡ last = omega arith in inr (e, ap past.version e ∙ version_new (first_leaves_of t) last t)
   ]
 
@@ -207,7 +207,7 @@ module _ (heap : Heap) (q : ℕ) (root : Option Entry) (t : Option Tree) (top : 
   -- a life is that of a linked record, or none
   spans_linked : (r : Rec) (n : ℕ) → Spans last (life r) n → (n ≡ last) × IsLinked t r
   spans_linked r n h = elim (linked_cases t r) [
-    inl x ↦ (let y : (last ≤ n) × (n ≤ last) = rw x.1 at h in omega (arith, y.0, y.1), x.0)
+    | inl x ↦ (let y : (last ≤ n) × (n ≤ last) = rw x.1 at h in omega (arith, y.0, y.1), x.0)
     | inr x ↦ absurd (let y : ⊥ = rw x.1 at h in y)
   ]
 
