@@ -68,10 +68,7 @@ impl HotTable {
     }
 
     /// Makes the table that `founding` says, and deals the seats of its passes, in the order of their numbers from 0 on.
-    fn found(
-        alloc: Global,
-        founding: &Founding,
-    ) -> Result<(HotTable, Vec<TableSeat>), AllocError>
+    fn found(alloc: Global, founding: &Founding) -> Result<(HotTable, Vec<TableSeat>), AllocError>
         requires count { length founding.now.words.items ≡ word_count founding.now.layout }
         requires ruled { IsFounded founding.now.layout founding.now.loads founding.now.words.items }
         ensures table { IfOk result (λ made. made.0.layout ≡ founding.now.layout) }

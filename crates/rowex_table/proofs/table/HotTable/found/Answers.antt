@@ -4,7 +4,7 @@ use Rattle.std.proofs.Common.{[]}
 use Rattle.atomic_table.specs.Table.{opening as first_state}
 use mathlib.Core.Option.{some}
 use lib.ListN.{get_elem?}
-use Rattle.rowex_table.specs.Rule.{Ruled, dealt, dealer_at, dealt_at, first_view, next_dealer, known_of, trace_of}
+use Rattle.rowex_table.specs.Rule.{Ruled, dealt, first_view, next_dealer, known_of, trace_of}
 use Rattle.rowex_table.specs.Seats.{TableView, SeatView, IsDealtSeat}
 use Rattle.rowex_table.specs.declared.traces.TracedView.{TracedView}
 use Rattle.rowex_table.proofs.Dealing.{deals_next, dealer_next, dealt_next, each_longer}

@@ -1,5 +1,5 @@
 -- The opening of a new table.
-use Rattle.std.proofs.Common.{rules, ◌≡◌, ℕ, ap, ◌∙◌, sym, length}
+use Rattle.std.proofs.Common.{rules, ◌≡◌, ap, ◌∙◌, sym, length}
 use Rattle.std.proofs.lemmas.Result.{IfOk-weaker}
 use Rattle.record_words.specs.declared.layout.Layout.{Layout}
 use Rattle.rowex_table.proofs.Dealing.{opens, all_new, both_ok, dealt_new}
@@ -9,10 +9,10 @@ pub found-requires-clause-ruled : goal.found-requires-clause-ruled
 found-requires-clause-ruled c = opens c.args.layout _ (search rules)
 
 pub returns-clause-seats : goal.returns-clause-seats
-returns-clause-seats c = IfOk-weaker _ _ _ (λ made h q s e. dealt_new made.0 q s (h q s e)) c.found.ensures.seats
+returns-clause-seats c = IfOk-weaker c.found.result _ _ (λ made h q s e. dealt_new made.0 q s (h q s e)) c.found.ensures.seats
 
 pub returns-clause-each : goal.returns-clause-each
 returns-clause-each c =
-    both_ok _ _ _ _ (λ made long h. all_new made.0 made.1.items long (λ q s e. dealt_new made.0 q s (h q s e)))
-    (both_ok _ _ _ (λ made. length made.1.items ≡ made.0.layout.passes) (λ made same long. long ∙ ap (λ (l : Layout). l.passes) (sym same)) c.found.ensures.table c.found.ensures.count)
+    both_ok c.found.result _ _ _ (λ made long h. all_new made.0 made.1.items long (λ q s e. dealt_new made.0 q s (h q s e)))
+    (both_ok c.found.result _ _ (λ made. length made.1.items ≡ made.0.layout.passes) (λ made same long. long ∙ ap (λ (l : Layout). l.passes) (sym same)) c.found.ensures.table c.found.ensures.count)
     c.found.ensures.seats
