@@ -21,21 +21,21 @@ use Rattle.record_words.specs.declared.layout.Layout.{Layout}
 use Rattle.rowex_core.specs.declared.event.Act.{Act}
 use Rattle.rowex_core.specs.declared.event.Act.TheVariants.{Publish, Load}
 use Rattle.rowex_core.specs.Cores.{Core}
-use Rattle.rowex_core.specs.Events.{IsAtomic, Legal, after, loaded_tree}
+use Rattle.rowex_core.specs.Events.{IsAtomic, Legal, after as next_core, loaded_tree}
 use Rattle.rowex_core.specs.Statements.{Appends}
 use Rattle.tries.specs.Content.{Item}
 use Rattle.versions.specs.Told.{added_change, items_of}
 use Rattle.rowex_core.proofs.Appending.{only_publish_appends}
 use Rattle.rowex_core.proofs.Keeping.{seen_by}
 use Rattle.real_time.specs.Moments.{Continues, Happening, IsWholeRun, Moment, invokes, refuses, responds, shows, steps}
-use Rattle.real_time.specs.Scanning.{IsScanInTime, WasHeld}
+use Rattle.real_time.specs.Scanning.{IsScanInTime, WasHeld, WasThere}
 use Rattle.real_time.specs.Statements.{ScansInTime}
 use Rattle.real_time.proofs.Growing.{grown, loaded_since, longer, runs_stay_sound}
 
 -- A moment makes one change at most; or pairs are loaded at it, before any change
 
 -- at this moment pairs are loaded: no change was made before, and it makes only additions
-record IsLoading (a b : Core) : Type 0 where
+pub record IsLoading (a b : Core) : Type 0 where
   pub none : a.changes ≡ []
   pub adds : All (λ c. c.kind ≡ Added) b.changes
 
@@ -48,15 +48,15 @@ one_at_most (Publish spot w) c d plain h = let e : length d.changes ≡ length c
 one_at_most (Load words) c d plain h = absurd plain
 one_at_most act c d plain h = let e : length d.changes ≡ length c.changes = ap length h.0 in omega (arith, e)
 
-either : (c : Core) (q : ℕ) (act : Act) → Legal c q act → (length (after c q act).changes ≤ length c.changes + 1) ⊎ IsLoading c (after c q act)
+either : (c : Core) (q : ℕ) (act : Act) → Legal c q act → (length (next_core c q act).changes ≤ length c.changes + 1) ⊎ IsLoading c (next_core c q act)
 either c q (Load words) (low, (new, load)) =
     let none : c.changes ≡ [] = ap (λ (z : Core). z.changes) new in
     inr (record {
       none = none;
       adds = subst (λ (l : List Change). All (λ c. c.kind ≡ Added) (l ++ map (added_change q) (items_of (loaded_tree c.layout words.now)))) (sym none) (added_all q (items_of (loaded_tree c.layout words.now)));
     })
-either c q (Publish spot w) legal = inl (one_at_most (Publish spot w) c (after c q (Publish spot w)) tt (only_publish_appends c q (Publish spot w)))
-either c q act legal = inl (one_at_most act c (after c q act) tt (only_publish_appends c q act))
+either c q (Publish spot w) legal = inl (one_at_most (Publish spot w) c (next_core c q (Publish spot w)) tt (only_publish_appends c q (Publish spot w)))
+either c q act legal = inl (one_at_most act c (next_core c q act) tt (only_publish_appends c q act))
 
 same_at_most : (c d : Core) → d ≡ c → length d.changes ≤ length c.changes + 1
 same_at_most c d e = let same : length d.changes ≡ length c.changes = ap (λ (z : Core). length z.changes) e in omega (arith, same)
@@ -93,7 +93,7 @@ all_rest P [] ys h = h
 all_rest P (x ∷ xs) ys h = all_rest P xs ys (All-tail P x (xs ++ ys) h)
 
 -- what the first of legal additions lead to, all of them do
-held_by_all : (n : ℕ) (cs : List Change) (key : List ℕ) (value : ℕ) → LegalFront cs → All (λ c. c.kind ≡ Added) cs → value_at (map_of (take n cs)) key ≡ Some value → value_at (map_of cs) key ≡ Some value
+pub held_by_all : (n : ℕ) (cs : List Change) (key : List ℕ) (value : ℕ) → LegalFront cs → All (λ c. c.kind ≡ Added) cs → value_at (map_of (take n cs)) key ≡ Some value → value_at (map_of cs) key ≡ Some value
 held_by_all n cs key value legal adds held =
     let whole : take n cs ++ drop n cs ≡ cs = take-append-drop n cs in
     subst (λ (l : List Change). value_at (map_of l) key ≡ Some value) whole
@@ -169,7 +169,7 @@ module _ (layout : Layout) (last : ℕ) (at : ℕ → Moment) (happens : ℕ →
     least = longer before (at since).core.changes (loaded_since layout last at happens run since q pass until order within loaded)
 
     -- the first n changes that the pass has seen were all there were at some moment of the scan; or a load, at it, made more
-    WasAll : ℕ → ℕ → Type 0
+    abbrev WasAll : ℕ → ℕ → Type 0
     WasAll n t = (take n after ≡ (at t).core.changes) ⊎
         ((t < until) × IsLoading (at t).core (at (suc t)).core × ((m : ℕ) × (take n after ≡ take m (at (suc t)).core.changes)))
 
@@ -178,11 +178,15 @@ module _ (layout : Layout) (last : ℕ) (at : ℕ → Moment) (happens : ℕ →
         let most = longer (at until).core.changes after seen in
         let found = goes_through since n until order within (omega (arith, low, least)) (omega (arith, high, most)) in
         let t : ℕ = found.0 in
-        let front : take n (at until).core.changes ≡ take n after = ap (take n) seen.1 ∙ take-append-le n after seen.0 high in
-        (t, found.1, found.2, ⊎_elim
-        (λ is. inl (sym front ∙ whole n t found.2 is))
-        (λ more. inr (more.0, more.1, (n, sym front ∙ part n t more.0 more.2)))
-        found.3)
+        let front : take n (at until).core.changes ≡ take n after = ap (take n) seen.1 ∙ take-append-le n after seen.0 high in (
+          t,
+          found.1,
+          found.2,
+          ⊎_elim
+              (λ is. inl (sym front ∙ whole n t found.2 is))
+              (λ more. inr (more.0, more.1, (n, sym front ∙ part n t more.0 more.2)))
+              found.3,
+        )
       where
         whole : (n t : ℕ) → t ≤ until → count t ≡ n → take n (at until).core.changes ≡ (at t).core.changes
         whole n t low is =
@@ -200,10 +204,14 @@ module _ (layout : Layout) (last : ℕ) (at : ℕ → Moment) (happens : ℕ →
         let m = moment_of n low high in
         ⊎_elim
         (λ is. (m.0, m.1, m.2, subst (λ l. value_at (map_of l) key ≡ Some value) is held))
-        (λ more. (suc m.0, (let a = m.1 in omega (arith, a)), more.0,
-            held_by_all more.2.0 (at (suc m.0)).core.changes key value
-                (runs_stay_sound layout last at happens run (suc m.0) (let a = more.0 in omega (arith, a, within))).lawful.core.told.legal more.1.adds
-                (subst (λ l. value_at (map_of l) key ≡ Some value) more.2.1 held)))
+        (λ more. (
+          suc m.0,
+          (let a = m.1 in omega (arith, a)),
+          more.0,
+          held_by_all more.2.0 (at (suc m.0)).core.changes key value
+              (runs_stay_sound layout last at happens run (suc m.0) (let a = more.0 in omega (arith, a, within))).lawful.core.told.legal more.1.adds
+              (subst (λ l. value_at (map_of l) key ≡ Some value) more.2.1 held),
+        ))
         m.3
 
     -- and what is there at each moment is there after each of them
