@@ -1,21 +1,18 @@
 -- Marks are no later than the epoch, and the epoch is no greater than the number of steps.
-use Rattle.std.proofs.Common.{◌≡◌, Option, Some, None, ℕ, suc, ◌+◌, ◌≤◌, List, [], ◌∷◌, Bool, true, false, nat_eq, if◌then◌else◌, length, refl, sym, ap, subst, ◌∙◌, arith}
+use Rattle.std.proofs.Common.{◌≡◌, Option, Some, None, ℕ, suc, ◌+◌, ◌≤◌, List, [], ◌∷◌, Bool, true, false, nat_eq, if◌then◌else◌, length, refl, sym, subst, arith}
 use Rattle.versions.specs.Core.{Fate, Shared, Free, Held, Ready, InTree, Unlinked, Marked}
 use Rattle.versions.specs.Steps.{next_fate, is_linked, with_epoch}
 use Rattle.versions.specs.declared.Rec.{Rec}
 use Rattle.rowex_core.specs.declared.event.Act.{Act}
 use Rattle.rowex_core.specs.declared.event.Act.TheVariants.{Claim, Fill, Ready as MakeReady, Release, LoadRef, LoadFixed, Lock, Unlock, Publish, Mark, LoadEpoch, Advance, SetPin, ClearPin, LoadPin, LoadState, GiveBack, Load}
 use Rattle.rowex_core.specs.declared.event.Event.{Event}
-use Rattle.rowex_core.specs.declared.event.Spot.{Spot}
 use Rattle.rowex_core.specs.declared.event.Target.TheVariants.{Anchor, Node as NodeTarget}
 use Rattle.rowex_core.specs.Cores.{Core, IsLawful}
-use Rattle.rowex_core.specs.Events.{Legal, advanced, after, anchored, claimed, given_back, loaded_tree, locked_where, marked, next_tree}
+use Rattle.rowex_core.specs.Events.{Legal, after, anchored, claimed, given_back, loaded_tree, marked, next_tree}
 use Rattle.versions.specs.Told.{items_of}
-use Rattle.rowex_core.specs.Opening.{opening}
 use Rattle.rowex_core.specs.Runs.{EventsLead}
 use Rattle.rowex_core.proofs.Staying.{stays_lawful}
-use Rattle.lone_runs.specs.Lone.{IsUnpublished}
-use Rattle.lone_runs.proofs.Fates.{IsClosed, MarksWell, fate_kept}
+use Rattle.lone_runs.proofs.Fates.{IsClosed, fate_kept}
 
 -- the mark, where the record is retired, is no later than this epoch
 abbrev pub IsMarkedBy : ℕ → Fate → Type 0
