@@ -18,9 +18,9 @@ use Rattle.rowex_table.specs.Rule.{loader_of}
 use Rattle.rowex_table.specs.Seats.{SeatView}
 use Rattle.versions.specs.Told.{items_of}
 
--- A new pass has lived through no calls; pass 0 of a table that was loaded, through the insertions of its pairs; one whose call was answered, through it besides, and one whose many look-ups were, through these in
--- the order of their notes; and one that was refused, collected, met another or followed a stamp (`IsUnnoted`) or scanned (`IsScannedBy`,
--- `IsListedBy`), through the same as before.
+-- A new pass has lived through no calls; pass 0 of a table that was just loaded, through the insertions of its pairs; one whose call was
+-- answered, through it besides, and one whose many look-ups were, through these in the order of their notes; and one that was refused,
+-- collected, met another or followed a stamp (`IsUnnoted`) or scanned (`IsScannedBy`, `IsListedBy`), through the same as before.
 pub data HasLived : Layout → List (Call × Reply) → PassView → Type 0 where
   new : {layout : Layout} {q : ℕ} {j : PassView} → IsNewPass q j → HasLived layout [] j
   loaded : {layout : Layout} {words : List ℕ} {s : SeatView} → IsLoad layout words → s.known ≡ loader_of layout words →
