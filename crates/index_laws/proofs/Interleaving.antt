@@ -290,17 +290,17 @@ record IsLife (table : TableView) (q : ℕ) (hs : List Happening) (e : SeatView)
 life_of : {table : TableView} {q : ℕ} {done : List Happening} {s : SeatView} → q < table.layout.passes → HasDone table q done s → (hs : List Happening) (e : SeatView) →
     Life table q s None hs e → IsLife table q (done ++ hs) e
 life_of low (new {s = s} is) hs e l = record { start = s; fresh = is; life = l }
-life_of {table} {q} low (loader {s = m} zero words load is) hs e l =
+life_of {table} {q} low (loader {s = m} first words load is) hs e l =
     let notes : List Note = insertion_notes table.layout words in
     let start : SeatView = unloaded m in
     let made : MakesStep table (load_of words) notes start m = record {
       said = λ k. notes;
-      step = makes_load table words m (subst (λ p. p < table.layout.passes) zero low) load is;
+      step = makes_load table words m (subst (λ p. p < table.layout.passes) first low) load is;
       notes_are = refl;
     } in
     record {
       start = start;
-      fresh = (is.0, ap opening_of (sym zero), refl, refl);
+      fresh = (is.0, ap opening_of (sym first), refl, refl);
       life = asks (insertions table.layout words) (closes (load_of words) notes (responds q notes) made
           (loaded (record { words = words; load = load; new = refl; loader = is.1; calls_are = refl; notes_are = refl })) l);
     }
@@ -320,7 +320,7 @@ runs_named table acts s e runs = (runs_same table untold acts (s, tt) (e, tt) ru
 
 pub named_by : {table : TableView} {q : ℕ} {done : List Happening} {s : SeatView} → HasDone table q done s → s.known.pass ≡ q
 named_by (new is) = ap (λ (k : Known). k.pass) is.1
-named_by (loader zero words load is) = ap (λ (k : Known). k.pass) is.1 ∙ sym zero
+named_by (loader first words load is) = ap (λ (k : Known). k.pass) is.1 ∙ sym first
 named_by {table} (called {s = s} before_it calls acts last said ends so) = ends.2.seat.2 ∙ (runs_named table acts s ends.0.0 ends.1 ∙ named_by before_it)
 named_by (shown before_it all more known) = all.pass ∙ named_by before_it
 named_by (stamped before_it is) = ap (λ (z : SeatView). z.known.pass) is ∙ named_by before_it

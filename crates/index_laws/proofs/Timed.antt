@@ -12,7 +12,7 @@ use Rattle.record_words.specs.declared.layout.Layout.{Layout}
 use Rattle.rowex_core.specs.declared.known.Known.{Known}
 use Rattle.rowex_core.specs.Opening.{opening}
 use Rattle.rowex_core.proofs.Promises.{opening_is_lawful}
-use Rattle.rowex_table.specs.Rule.{loader_of, opening_of}
+use Rattle.rowex_table.specs.Rule.{opening_of}
 use Rattle.rowex_table.specs.Seats.{SeatView}
 use Rattle.rowex_table.proofs.Dealing.{new_knows}
 use Rattle.hot_index_calls.specs.Answers.{IsNoted}
@@ -107,7 +107,7 @@ loaded_is_response layout at q t call s e ends notes x = record {
   noted = noted_now ((at t).known q) ((at call.since).known q) e.known s.known notes ends.now ends.before
       (ap (λ (z : Known). z.notes) x.loader ∙ sym x.notes_are ∙ sym (ap (λ (z : Known). z.notes ++ notes) x.new));
   placed = λ i d inside. placed_since at q t call s e ends (subst (λ (z : Known × Known). z.0.steps ≤ z.1.fresh.step) (λ i. (sym x.new i, sym x.loader i)) (le_refl 1))
-      (get_or notes i d) (subst (λ (z : Known). length z.fresh.front ≤ (get_or notes i d).place) (sym x.loader) (omega arith));
+      (get_or notes i d) (subst (λ (z : Known). length z.fresh.front ≤ (get_or notes i d).place) (sym x.loader) (let low : 0 ≤ (get_or notes i d).place = omega arith in low));
   legal = legal_now q ((at t).known q) e.known ends.now ends.pass
       (subst (λ (z : Known). LegalCalls z.front z.pass z.notes) (sym x.loader) (loader_legal layout x.words x.load));
 }
