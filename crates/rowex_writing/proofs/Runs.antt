@@ -33,6 +33,7 @@ plain_recalls _ t = t
 
 plain_fresh : (act : Act) → LoadsNoRoot act → LeavesFresh act
 plain_fresh (LoadRef Root w) t = t
+plain_fresh (Load words) t = absurd t
 plain_fresh _ t = tt
 
 pub recalls_pin : (act : Act) → KeepsRecall act → LeavesPin act
