@@ -1,2 +1,5 @@
 -- Lemmas of the crate.
 mod Climbing
+mod Fields
+mod Stacking
+mod Putting

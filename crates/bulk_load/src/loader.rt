@@ -1,7 +1,7 @@
 //! A loader: the words of a table, made from pairs whose keys rise.
 
 use crate::records::{put_leaf, put_node};
-use crate::slots::{Slot, build_node};
+use crate::slots::{Slot, build_node, merge_slots};
 use compound_node::Entry;
 use key_bits::{Key, mismatch};
 use record_words::{
@@ -17,9 +17,9 @@ pub enum LoadFault {
     NotRising,
     /// No leaf record with room for the key is left.
     LeavesFull,
-    /// Too few node records are left.
+    /// Too few node records are left. So it is of each later pair, too.
     NodesFull,
-    /// Memory is refused.
+    /// Memory is refused. Each later pair meets `NodesFull`.
     Memory,
 }
 
@@ -28,6 +28,14 @@ pub enum LoadFault {
 pub(crate) struct Part {
     pub(crate) count: usize,
     pub(crate) height: u16,
+}
+
+/// How two pieces become one: which of them is closed before, and the height of a node of all.
+#[derive(Clone, Copy)]
+struct Plan {
+    closes_left: bool,
+    closes_right: bool,
+    height: u16,
 }
 
 /// The words of a table into which pairs are loaded.
@@ -39,7 +47,7 @@ pub struct Loader {
     slots: Vec<Slot>,
     parts: Vec<Part>,
     /// How many node records are taken: those with the lowest numbers.
-    pub(crate) nodes: u32,
+    nodes: u32,
     /// The number of the first leaf record of each class that is not taken.
     leaves: [u32; LEAF_CLASSES],
 }
@@ -68,30 +76,25 @@ impl Loader {
         })
     }
 
-    /// Takes `key` with `value`.
+    /// Takes `key` with `value`. The key is above all that were taken.
     pub fn push(&mut self, key: &Key, value: u64) -> Result<(), LoadFault>
     {
         let fork = self.fork_before(key)?;
         let Some(leaf) = self.find_leaf(count_leaf_words(key)) else {
             return Err(LoadFault::LeavesFull);
         };
+        if !self.has_room() {
+            return Err(LoadFault::NodesFull);
+        }
         self.join_behind(fork)?;
-        self.ensure_room()?;
-        put_leaf(self.words.as_mut_slice(), &self.layout, leaf, key, value);
-        self.slots.push_reserved(Slot {
-            fork,
-            entry: Entry::Leaf(leaf),
-        });
-        self.parts.push_reserved(Part {
-            count: 1,
-            height: 0,
-        });
-        self.last = key.copy();
-        self.leaves[self.layout.class_of(leaf).index()] = leaf + 1;
+        if self.slots.reserve(1).is_err() || self.parts.reserve(1).is_err() {
+            return Err(LoadFault::Memory);
+        }
+        self.add_leaf(fork, leaf, key, value);
         Ok(())
     }
 
-    /// The words, and the root's entry word among them. All pieces join.
+    /// The words of the table: all pieces have become one tree, and the root has its entry. One node record at least is free.
     pub fn finish(mut self) -> Result<Vec<u64>, LoadFault>
     {
         if self.parts.is_empty() {
@@ -100,7 +103,11 @@ impl Loader {
         while self.parts.len() > 1 {
             self.join_last()?;
         }
-        self.close(0)?;
+        let count = self.parts[0].count;
+        if count > 1 && self.count_nodes_left() == 0 {
+            return Err(LoadFault::NodesFull);
+        }
+        self.close_piece(0, count, count > 1);
         self.words[ROOT_WORD] = pack_entry(Some(self.slots[0].entry));
         Ok(self.words)
     }
@@ -117,14 +124,13 @@ impl Loader {
         }
     }
 
-    /// A leaf record that isn't taken and has at least `words` words: of the smallest class that has one.
+    /// A free leaf record that has at least `words` words: of the smallest class that has one.
     fn find_leaf(&self, words: usize) -> Option<u32>
     {
-        for class in 0..LEAF_CLASSES {
-            let number = self.leaves[class];
+        for number in self.leaves {
             if number < self.layout.leaves
                 && self.layout.leaf_size(number) >= words
-                && self.words[self.layout.leaf(number)] == 0
+                && self.words[self.layout.leaf(number)] == pack_state(Tag::Free)
             {
                 return Some(number);
             }
@@ -132,25 +138,54 @@ impl Loader {
         None
     }
 
-    /// Sees that there is room for one more piece: node records for all that has to be closed, and memory.
-    fn ensure_room(&mut self) -> Result<(), LoadFault>
+    /// How many more nodes may be made: one record is kept.
+    fn count_nodes_left(&self) -> usize
     {
-        let left = (self.layout.nodes - self.nodes) as usize;
-        if left <= 2 * self.parts.len() + 2 && left <= self.slots.len() + 1 {
-            return Err(LoadFault::NodesFull);
+        self.layout.nodes.saturating_sub(self.nodes + 1) as usize
+    }
+
+    /// Whether a new leaf may become a piece of its own. Node records are left for all that has to be closed then: two at each fork between
+    /// pieces, and one for two slots or more. The piece at the top is the last leaf, unless a pair was refused where pieces had joined.
+    fn has_room(&self) -> bool
+    {
+        if self.parts.is_empty() {
+            return true;
         }
-        if self.slots.reserve(1).is_err() || self.parts.reserve(1).is_err() {
-            return Err(LoadFault::Memory);
-        }
-        Ok(())
+        let left = self.count_nodes_left();
+        let is_leaf = matches!(self.slots[self.slots.len() - 1].entry, Entry::Leaf(_));
+        is_leaf
+            && self.parts[self.parts.len() - 1].count == 1
+            && (left > 2 * self.parts.len() || left >= self.slots.len())
+    }
+
+    /// Puts a leaf on top, as a piece of its own, behind a fork at `fork`. Its record is `leaf`.
+    fn add_leaf(&mut self, fork: u16, leaf: u32, key: &Key, value: u64)
+    {
+        put_leaf(
+            self.words.as_mut_slice(),
+            &self.layout,
+            leaf,
+            key,
+            value,
+        );
+        self.slots.push_reserved(Slot {
+            fork,
+            entry: Entry::Leaf(leaf),
+        });
+        self.parts.push_reserved(Part {
+            count: 1,
+            height: 0,
+        });
+        self.last = key.copy();
+        self.leaves[self.layout.class_of(leaf).index()] = leaf + 1;
     }
 
     /// Joins the pieces at forks behind `position`.
     fn join_behind(&mut self, position: u16) -> Result<(), LoadFault>
     {
         while self.parts.len() > 1 {
-            let top = self.parts[self.parts.len() - 1].count;
-            if self.slots[self.slots.len() - top].fork < position {
+            let count = self.parts[self.parts.len() - 1].count;
+            if self.slots[self.slots.len() - count].fork < position {
                 return Ok(());
             }
             self.join_last()?;
@@ -158,74 +193,67 @@ impl Loader {
         Ok(())
     }
 
-    /// Makes one piece of the last two.
+    /// Makes one piece of the last two, at the fork between them.
     fn join_last(&mut self) -> Result<(), LoadFault>
     {
-        let (left, right) = (self.part_from_top(1), self.part_from_top(0));
-        let height = left.height.max(right.height).max(1);
-        if right.height < height {
-            self.close(0)?;
-        }
-        if left.height < height {
-            self.close(1)?;
-        }
-        let mut above = height;
-        if self.part_from_top(0).count + self.part_from_top(1).count > MAX_ENTRIES {
-            self.close(0)?;
-            self.close(1)?;
-            above += 1;
-        }
-        let count = self.part_from_top(0).count + self.part_from_top(1).count;
-        let at = self.parts.len() - 2;
-        self.parts.truncate(at + 1);
-        self.parts[at] = Part {
-            count,
-            height: above,
-        };
-        Ok(())
-    }
-
-    /// The piece so many places below the top of the stack.
-    fn part_from_top(&self, below: usize) -> Part
-    {
-        self.parts[self.parts.len() - 1 - below]
-    }
-
-    /// Closes the piece at the top, or the one below it: its slots become one, with a node of them.
-    fn close(&mut self, below: usize) -> Result<(), LoadFault>
-    {
-        let count = self.part_from_top(below).count;
-        if count == 1 {
-            return Ok(());
-        }
-        let behind = if below == 0 {
-            0
-        } else {
-            self.part_from_top(0).count
-        };
-        let end = self.slots.len() - behind;
-        let entry = self.add_node(end - count, end)?;
-        self.slots[end - count].entry = entry;
-        self.slots.as_mut_slice().copy_within(end.., end - count + 1);
-        self.slots.truncate(end - count + 1 + behind);
-        let at = self.parts.len() - 1 - below;
-        self.parts[at].count = 1;
-        Ok(())
-    }
-
-    /// Writes the node of the slots from `start` to `end` into a record, and returns its entry.
-    fn add_node(&mut self, start: usize, end: usize) -> Result<Entry, LoadFault>
-    {
-        if self.nodes + 1 >= self.layout.nodes {
+        let top = self.parts.len() - 1;
+        let (left, right) = (self.parts[top - 1], self.parts[top]);
+        let plan = plan_join(left, right);
+        if self.count_nodes_left() < plan.closes_left as usize + plan.closes_right as usize {
             return Err(LoadFault::NodesFull);
         }
-        let node = build_node(&self.slots[start..end]);
+        let behind = self.close_piece(0, right.count, plan.closes_right);
+        let count = self.close_piece(behind, left.count, plan.closes_left) + behind;
+        let _ = self.parts.pop();
+        self.parts[top - 1] = Part {
+            count,
+            height: plan.height,
+        };
+        Ok(())
+    }
+
+    /// Closes the piece of `count` slots before the last `behind` ones, if `closes` is true: a node of them is written, and its entry takes
+    /// their place. Returns how many slots the piece has then.
+    fn close_piece(&mut self, behind: usize, count: usize, closes: bool) -> usize
+    {
+        if !closes {
+            return count;
+        }
+        let start = self.slots.len() - behind - count;
+        let node = build_node(&self.slots[start..start + count]);
         let number = self.nodes;
         put_node(self.words.as_mut_slice(), &self.layout, number, &node);
         self.nodes = number + 1;
-        Ok(Entry::Node {
-            number,
-            height: node.height(),
-        })
+        let height = node.height();
+        merge_slots(
+            &mut self.slots,
+            start,
+            count,
+            Entry::Node { number, height },
+        );
+        1
+    }
+}
+
+/// How `left` and `right` become one piece. The lower one is closed, so that it stands in a node as high as the other. Both are closed if
+/// they have too many slots for one node.
+fn plan_join(left: Part, right: Part) -> Plan
+{
+    let height = left.height.max(right.height).max(1);
+    let closes_left = left.height < height && left.count > 1;
+    let closes_right = right.height < height && right.count > 1;
+    let left_count = if closes_left { 1 } else { left.count };
+    let right_count = if closes_right { 1 } else { right.count };
+    if left_count + right_count <= MAX_ENTRIES {
+        return Plan {
+            closes_left,
+            closes_right,
+            height,
+        };
+    }
+    Plan {
+        closes_left: left.count > 1,
+        closes_right: right.count > 1,
+        height: height.saturating_add(1),
     }
 }

@@ -1,10 +1,12 @@
 //! Entries with the forks between them, and the node of such a list.
 
-ghost use Rattle.std.specs.Prelude.{ℕ, ◌≤◌, All, length};
-ghost use Rattle.bulk_load.specs.Slots.{AreSlotsOf, IsSlot};
+ghost use Rattle.std.specs.Prelude.{ℕ, ◌≡◌, ◌≤◌, ◌<◌, ◌+◌, All, length, get_or};
+ghost use Rattle.std.specs.Vec.{vec_len};
+ghost use Rattle.bulk_load.specs.Slots.{AreSlotsOf, IsSlot, slot};
 ghost use Rattle.compound_node.specs.Nodes.{IsBuiltFrom};
 ghost use Rattle.compound_node.specs.declared.entries.Entry.{Entry as EntryView};
 ghost use Rattle.pieces.specs.Piece.{Piece};
+ghost use Rattle.bulk_load.specs.declared.slots.Slot.{Slot as SlotView};
 
 use compound_node::{Entry, Node};
 
@@ -29,4 +31,18 @@ pub(crate) fn build_node(slots: &[Slot]) -> Node
         node.add_entry(first, last, position, true, slots[i].entry);
     }
     node
+}
+
+/// Puts `entry` in the place of the `count` slots from `start` on, behind the fork before the first of these.
+pub(crate) fn merge_slots(slots: &mut Vec<Slot>, start: usize, count: usize, entry: Entry)
+    requires { (1 ≤ count) × (start + count ≤ vec_len slots.old) }
+    ensures len { vec_len slots.new + count ≡ vec_len slots.old + 1 }
+    ensures before { (i : ℕ) (d : SlotView) → i < start → get_or slots.new.items i d ≡ get_or slots.old.items i d }
+    ensures here { (d : SlotView) → get_or slots.new.items start d ≡ slot (get_or slots.old.items start d).fork entry }
+    ensures behind { (i : ℕ) (d : SlotView) → get_or slots.new.items (start + 1 + i) d ≡ get_or slots.old.items (start + count + i) d }
+{
+    let left = slots.len() - (count - 1);
+    slots[start].entry = entry;
+    slots.as_mut_slice().copy_within(start + count.., start + 1);
+    slots.truncate(left);
 }
