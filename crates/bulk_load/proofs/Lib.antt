@@ -3,3 +3,4 @@ mod Climbing
 mod Fields
 mod Stacking
 mod Putting
+mod Closing

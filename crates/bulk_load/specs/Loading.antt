@@ -19,7 +19,7 @@ use Rattle.bulk_load.specs.declared.loader.LoadFault.{LoadFault}
 use Rattle.bulk_load.specs.declared.loader.Loader.{Loader}
 use Rattle.bulk_load.specs.declared.loader.Part.{Part}
 use Rattle.bulk_load.specs.Slots.{slots_of}
-use Rattle.bulk_load.specs.Stacks.{Level, joined, counts, position_of}
+use Rattle.bulk_load.specs.Stacks.{Level, joined, counts, position_of, with_right}
 use Rattle.bulk_load.specs.Tables.{HoldsTree, fields_in}
 
 -- ---- what stands at the end
@@ -100,3 +100,9 @@ pub record StandsFor (new old : Tree) (count : ℕ) : Type 0 where
   pub same_first : first new ≡ first old
   pub same_last : last_key new ≡ last_key old
   pub above : (p : ℕ) → IsAbove p old → IsAbove p new
+
+-- the loader's tree has this piece: of so many slots, before the last so many
+pub record IsPiece (l : Loader) (ls : List Level) (z : Tree) (right : Option Level) (count behind : ℕ) : Type 0 where
+  pub tree : IsTreeOf l (joined ls (with_right z right))
+  pub count_is : count ≡ size (subtrie z)
+  pub behind_is : behind ≡ size_right right

@@ -1,5 +1,11 @@
 //! A loader: the words of a table, made from pairs whose keys rise.
 
+ghost use Rattle.std.specs.Prelude.{ℕ, ◌≡◌, ◌+◌, ◌≤◌, ◌<◌, IsTrue, List, Option as Maybe};
+ghost use Rattle.std.specs.Vec.{vec_len};
+ghost use Rattle.bulk_load.specs.Loading.{IsPiece, IsTreeOf, StandsFor};
+ghost use Rattle.bulk_load.specs.Stacks.{Level, joined, with_right};
+ghost use Rattle.tries.specs.Tree.{Tree};
+
 use crate::records::{put_leaf, put_node};
 use crate::slots::{Slot, build_node, merge_slots};
 use compound_node::Entry;
@@ -215,6 +221,14 @@ impl Loader {
     /// Closes the piece of `count` slots before the last `behind` ones, if `closes` is true: a node of them is written, and its entry takes
     /// their place. Returns how many slots the piece has then.
     fn close_piece(&mut self, behind: usize, count: usize, closes: bool) -> usize
+        requires fits { behind + count ≤ vec_len self.old.slots }
+        requires room { IsTrue closes → (2 ≤ count) × (count ≤ 32) × (self.old.nodes < self.old.layout.nodes) }
+        requires piece { (ls : List Level) × (z : Tree) × (right : Maybe Level) × IsPiece self.old ls z right count behind }
+        ensures closed { (ls : List Level) (z : Tree) (right : Maybe Level) → IsPiece self.old ls z right count behind →
+            (y : Tree) × StandsFor y z result × IsTreeOf self.new (joined ls (with_right y right)) }
+        ensures parts { self.new.parts ≡ self.old.parts }
+        ensures layout { self.new.layout ≡ self.old.layout }
+        ensures last { self.new.last ≡ self.old.last }
     {
         if !closes {
             return count;

@@ -1,6 +1,6 @@
 //! Records written into the words of a table that nobody shares yet.
 
-ghost use Rattle.std.specs.Prelude.{ℕ, ◌≡◌, ◌⊎◌, ◌+◌, ◌<◌, ◌≤◌, get_or, length};
+ghost use Rattle.std.specs.Prelude.{ℕ, ◌≡◌, ◌⊎◌, ◌+◌, ◌<◌, ◌≤◌, ◌^◌, get_or, length};
 ghost use Rattle.bulk_load.specs.Tables.{IsPut, fields_in};
 ghost use Rattle.record_words.specs.Layout.{leaf_size, word_count};
 ghost use Rattle.record_words.specs.Leaf.{HasLeafWords, leaf_words, up_to_key, words_for};
@@ -31,6 +31,7 @@ pub(crate) fn put_node(words: &mut [u64], layout: &Layout, number: u32, node: &N
     requires number { number < layout.now.nodes }
     ensures put { IsPut layout.now words.old words.new (a_node number) }
     ensures fields { fields_in layout.now words.new (a_node number) ≡ node_words node.now }
+    ensures small { (i : ℕ) → get_or words.new i 0 < 2 ^ 64 }
     ensures fits { HasNodeWords node.now }
 {
     put_record(

@@ -1,0 +1,54 @@
+-- The node stands for the piece.
+use Rattle.std.proofs.Common.{◌≡◌, ℕ, ◌+◌, ◌-◌, List, Option, length, refl, ap, sym, subst, ◌∙◌, arith, rules}
+use Rattle.std.proofs.lemmas.List.{with_items_is, places}
+use Rattle.compound_node.specs.declared.entries.Entry.TheVariants.{Node}
+use Rattle.compound_node.specs.Nodes.{IsBuiltFrom}
+use Rattle.record_words.specs.Node.{node_words}
+use Rattle.tries.specs.Tree.{Tree, subtrie}
+use Rattle.versions.specs.declared.Rec.TheVariants.{Node as a_node}
+use Rattle.bulk_load.specs.Loading.{IsPiece}
+use Rattle.bulk_load.specs.Slots.{slot}
+use Rattle.bulk_load.specs.Stacks.{Level, position_of, front_slots}
+use Rattle.bulk_load.specs.Tables.{IsPut, fields_in}
+use Rattle.compound_node.specs.declared.entries.Entry.TheVariants.{Leaf}
+use Rattle.bulk_load.specs.Tables.{HoldsTree}
+use Rattle.bulk_load.proofs.Closing.{fits, taken_part, slots_given, each_given, merged, closed, holds_closed, local_closed, all_built, taken_closed, slots_closed}
+use Rattle.bulk_load.proofs.loader.Loader.close_piece.Goals as goal
+use Rattle.bulk_load.proofs.loader.Loader.close_piece.Goals.{After-deref}
+
+-- where the piece begins
+starts : (c : After-deref) (ls : List Level) (z : Tree) (right : Option Level) → IsPiece c.args.self.now ls z right c.args.count c.args.behind →
+    c.len.result - c.args.behind - c.args.count ≡ length (front_slots ls)
+starts c ls z right p = omega (arith, fits c.args.self.now ls z right c.args.count c.args.behind p, c.len.ensures, c.args.self.now.slots.ok.0)
+
+pub build_node-node-requires-clause-each : goal.build_node-node-requires-clause-each
+build_node-node-requires-clause-each c =
+    let (ls, z, right, p) = c.requires.piece in
+    each_given c.args.self.now ls z right c.args.count c.args.behind p _
+    (taken_part _ _ c.args.count (length (front_slots ls)) _ _ (omega arith) (starts (goal.at.build_node-node-requires-clause-each c).After-deref ls z right p) c.deref.ensures.value)
+
+pub build_node-node-requires-clause-shown : goal.build_node-node-requires-clause-shown
+build_node-node-requires-clause-shown c =
+    let (ls, z, right, p) = c.requires.piece in
+    (position_of ls, subtrie z, slots_given c.args.self.now ls z right c.args.count c.args.behind p _
+    (taken_part _ _ c.args.count (length (front_slots ls)) _ _ (omega arith) (starts (goal.at.build_node-node-requires-clause-shown c).After-deref ls z right p) c.deref.ensures.value))
+
+pub returns-clause-closed : goal.returns-clause-closed
+returns-clause-closed c = λ ls z right p.
+    let l = c.args.self.now in let v = c.build_node-node.result in let new = c.put_node.new.words in let e = Node l.nodes v.height in
+    let at = starts (goal.at.returns-clause-closed c).After-deref ls z right p in
+    let built : IsBuiltFrom v (subtrie z) = c.build_node-node.ensures (position_of ls) (subtrie z) (slots_given l ls z right c.args.count c.args.behind p _
+        (taken_part _ _ c.args.count (length (front_slots ls)) _ _ (omega arith) at c.deref.ensures.value)) in
+    let put : IsPut l.layout l.words.items new (a_node l.nodes) = subst (λ old. IsPut l.layout old new (a_node l.nodes)) c.as_mut_slice.ensures.value c.put_node.ensures.put in
+    let few = c.requires.room ? in
+    (
+      closed l ls z right c.args.count c.args.behind p v new built c.put_node.ensures.fits put c.put_node.ensures.fields c.put_node.ensures.small few.2,
+      record { count_is = refl; same_items = refl; same_first = refl; same_last = refl; above = λ q h. h },
+      record {
+        table = ?;
+        ordered = local_closed l ls z right c.args.count c.args.behind p v new built c.put_node.ensures.fits put c.put_node.ensures.fields c.put_node.ensures.small few.2;
+        built = all_built l ls z right c.args.count c.args.behind p v new built c.put_node.ensures.fits put c.put_node.ensures.fields c.put_node.ensures.small few.2;
+        slots_are = ?;
+        taken = taken_closed l ls z right c.args.count c.args.behind p v new built c.put_node.ensures.fits put c.put_node.ensures.fields c.put_node.ensures.small few.2;
+      },
+    )
