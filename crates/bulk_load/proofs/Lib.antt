@@ -4,3 +4,4 @@ mod Fields
 mod Stacking
 mod Putting
 mod Closing
+mod Pushing

@@ -1,7 +1,7 @@
 -- What a loader has loaded, and what a loaded table shows.
 use Rattle.std.specs.Prelude.{◌≡◌, ◌⊎◌, ℕ, ◌+◌, ◌^◌, ◌<◌, ◌≤◌, List, [], ◌∷◌, ◌++◌, All, map, length, if◌then◌else◌, Option, Some, None}
 use Rattle.pieces.specs.Piece.{size}
-use Rattle.tries.specs.Keys.{Key}
+use Rattle.tries.specs.Keys.{Key, IsParted}
 use Rattle.tries.specs.Content.{pairs, first, items, IsAbove, IsLocal}
 use Rattle.tries.specs.Tree.{Tree, leaf, node, fork, subtrie, IsTrie, IsBuilt}
 use Rattle.record_words.specs.declared.layout.Layout.{Layout}
@@ -106,3 +106,8 @@ pub record IsPiece (l : Loader) (ls : List Level) (z : Tree) (right : Option Lev
   pub tree : IsTreeOf l (joined ls (with_right z right))
   pub count_is : count ≡ size (subtrie z)
   pub behind_is : behind ≡ size_right right
+
+-- ---- a new leaf
+-- A key that parts from the last one at this position may be taken next: after no pair, or beside the piece at the top.
+abbrev pub MayTake : Loader → List (Key × ℕ) → ℕ → Key → Type 0
+MayTake l xs p k = (IsEmpty l xs × (p ≡ 0)) ⊎ (IsStackBehind l xs p × IsParted p l.last k)

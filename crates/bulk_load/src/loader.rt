@@ -1,10 +1,15 @@
 //! A loader: the words of a table, made from pairs whose keys rise.
 
-ghost use Rattle.std.specs.Prelude.{ℕ, ◌≡◌, ◌+◌, ◌≤◌, ◌<◌, IsTrue, List, Option as Maybe};
-ghost use Rattle.std.specs.Vec.{vec_len};
-ghost use Rattle.bulk_load.specs.Loading.{IsPiece, IsTreeOf, StandsFor};
+ghost use Rattle.std.specs.Prelude.{ℕ, ◌≡◌, ◌+◌, ◌≤◌, ◌<◌, ◌++◌, ◌∷◌, [], IsTrue, List, Option as Maybe, length};
+ghost use Rattle.std.specs.Vec.{vec_len, vec_capacity};
+ghost use Rattle.bulk_load.specs.Loading.{IsPiece, IsStack, IsTreeOf, MayTake, StandsFor};
 ghost use Rattle.bulk_load.specs.Stacks.{Level, joined, with_right};
+ghost use Rattle.bulk_load.specs.Tables.{IsBlank, state_in};
+ghost use Rattle.record_words.specs.Layout.{leaf_size};
+ghost use Rattle.record_words.specs.Leaf.{words_for};
+ghost use Rattle.tries.specs.Keys.{Key as KeyView};
 ghost use Rattle.tries.specs.Tree.{Tree};
+ghost use Rattle.versions.specs.declared.Rec.TheVariants.{Leaf as a_leaf};
 
 use crate::records::{put_leaf, put_node};
 use crate::slots::{Slot, build_node, merge_slots};
@@ -166,6 +171,13 @@ impl Loader {
 
     /// Puts a leaf on top, as a piece of its own, behind a fork at `fork`. Its record is `leaf`.
     fn add_leaf(&mut self, fork: u16, leaf: u32, key: &Key, value: u64)
+        requires slots_room { vec_len self.old.slots < vec_capacity self.old.slots }
+        requires parts_room { vec_len self.old.parts < vec_capacity self.old.parts }
+        requires leaf { leaf < self.old.layout.leaves }
+        requires room { words_for (length key.now) ≤ leaf_size self.old.layout leaf }
+        requires free { state_in self.old.layout self.old.words.items (a_leaf leaf) ≡ 0 }
+        requires table { IsBlank self.old.layout self.old.words.items }
+        ensures taken { (xs : List (KeyView × ℕ)) → MayTake self.old xs fork key.now → IsStack self.new (xs ++ (key.now, value) ∷ []) }
     {
         put_leaf(
             self.words.as_mut_slice(),
