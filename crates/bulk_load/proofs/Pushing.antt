@@ -1,5 +1,5 @@
 -- A new leaf behind the last one.
-use Rattle.std.proofs.Common.{◌≡◌, ◌⊎◌, inl, inr, ℕ, ◌+◌, ◌^◌, ◌<◌, ◌≤◌, List, [], ◌∷◌, ◌++◌, true, false, Some, get_or, length, map, refl, ap, sym, subst, ◌∙◌, arith}
+use Rattle.std.proofs.Common.{◌≡◌, ◌⊎◌, inl, inr, ℕ, ◌+◌, ◌^◌, ◌<◌, ◌≤◌, List, [], ◌∷◌, ◌++◌, true, false, Some, None, get_or, length, map, refl, ap, sym, subst, ◌∙◌, arith}
 use Rattle.std.specs.Prelude.{All}
 use Rattle.std.proofs.lemmas.List.{append_assoc}
 use Rattle.key_bits.specs.Key.{IsKey}
@@ -105,3 +105,24 @@ module _ (l : Loader) (ls : List Level) (top : Tree) (p n value : ℕ) (key : Ke
   content_grown =
       ap pairs (items_joined ls grown ∙ (sym (append_assoc (fronts ls) (items top) (items (leaf n key value))) ∙ ap (λ xs. xs ++ items (leaf n key value)) (sym (items_joined ls top)))) ∙
       pairs_append (items whole) (items (leaf n key value))
+
+-- ---- the first leaf
+module _ (l : Loader) (n value : ℕ) (key : Key) (new : List ℕ) (t : HoldsTree l.layout l.words.items None) (has : HasLeafWords (key, value)) (inside : n < l.layout.leaves)
+    (room : words_for (length key) ≤ leaf_size l.layout n)
+    (put : IsPut l.layout l.words.items new (a_leaf n)) (fields : leaf_words (key, value) ≡ up_to_key (fields_in l.layout new (a_leaf n))) where
+  first_addition : IsAddedTo l.layout l.words.items new None (a_leaf n)
+  unfolding IsPacked
+  first_addition = record {
+    holds = t;
+    has = inside;
+    unlinked = λ h. h;
+    put = put;
+    packed = ((key, value), has, fields);
+    fits = subst (λ m. words_for m ≤ leaf_size l.layout n) (sym (leaf_size_is (key, value) (fields_in l.layout new (a_leaf n)) fields)) room;
+  }
+
+  pub holds_first : HoldsTree l.layout new (Some (leaf n key value))
+  holds_first = added first_addition (leaf n key value) (λ i h. inr h) (λ i h. absurd h) refl (leaf_is (key, value) (fields_in l.layout new (a_leaf n)) has fields)
+
+pub no_node : (n i : ℕ) → a_node i ≡ a_leaf n → ⊥
+no_node n i e = node_leaf e
