@@ -1,7 +1,8 @@
 -- A new leaf behind the last one.
-use Rattle.std.proofs.Common.{◌≡◌, ◌⊎◌, inl, inr, ℕ, ◌+◌, ◌^◌, ◌<◌, ◌≤◌, List, [], ◌∷◌, ◌++◌, true, false, Some, None, get_or, length, map, refl, ap, sym, subst, ◌∙◌, arith}
+use Rattle.std.proofs.Common.{◌≡◌, ◌⊎◌, inl, inr, ℕ, ◌+◌, ◌^◌, ◌<◌, ◌≤◌, List, [], ◌∷◌, ◌++◌, Bool, true, false, Some, None, get_or, length, map, refl, ap, sym, subst, ◌∙◌, arith}
 use Rattle.std.specs.Prelude.{All}
 use Rattle.std.proofs.lemmas.List.{append_assoc}
+use Rattle.key_bits.specs.Bits.{bit_of, IsFirstDifference}
 use Rattle.key_bits.specs.Key.{IsKey}
 use Rattle.compound_node.specs.declared.entries.Entry.TheVariants.{Leaf}
 use Rattle.record_words.specs.Layout.{leaf_size}
@@ -126,3 +127,12 @@ module _ (l : Loader) (n value : ℕ) (key : Key) (new : List ℕ) (t : HoldsTre
 
 pub no_node : (n i : ℕ) → a_node i ≡ a_leaf n → ⊥
 no_node n i e = node_leaf e
+
+-- the keys part where they first differ, if the second has 1 there
+pub parted_by : (p : ℕ) (a b : Key) → IsFirstDifference a b p → bit_of b p ≡ true → IsParted p a b
+unfolding bit
+parted_by p a b d h = (d.agree, go (bit_of a p) refl, h)
+  where
+    go : (v : Bool) → bit_of a p ≡ v → bit_of a p ≡ false
+    go true e = absurd (d.differ (e ∙ sym h))
+    go false e = e

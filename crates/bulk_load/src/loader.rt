@@ -1,13 +1,13 @@
 //! A loader: the words of a table, made from pairs whose keys rise.
 
-ghost use Rattle.std.specs.Prelude.{ℕ, ◌≡◌, ◌+◌, ◌≤◌, ◌<◌, ◌++◌, ◌∷◌, [], IsTrue, List, Option as Maybe, length};
+ghost use Rattle.std.specs.Prelude.{ℕ, ◌≡◌, ◌+◌, ◌≤◌, ◌<◌, ◌++◌, ◌∷◌, [], ◌-◌, ◌^◌, if◌then◌else◌, IfErr, IfOk, IfSome, IsTrue, List, Option as Maybe, length};
 ghost use Rattle.std.specs.Vec.{vec_len, vec_capacity};
 ghost use Rattle.bulk_load.specs.Loading.{IsPiece, IsStack, IsTreeOf, MayTake, StandsFor};
 ghost use Rattle.bulk_load.specs.Stacks.{Level, joined, with_right};
 ghost use Rattle.bulk_load.specs.Tables.{IsBlank, state_in};
-ghost use Rattle.record_words.specs.Layout.{leaf_size};
+ghost use Rattle.record_words.specs.Layout.{leaf_size, word_count};
 ghost use Rattle.record_words.specs.Leaf.{words_for};
-ghost use Rattle.tries.specs.Keys.{Key as KeyView};
+ghost use Rattle.tries.specs.Keys.{IsParted, Key as KeyView};
 ghost use Rattle.tries.specs.Tree.{Tree};
 ghost use Rattle.versions.specs.declared.Rec.TheVariants.{Leaf as a_leaf};
 
@@ -125,6 +125,9 @@ impl Loader {
 
     /// The position of the fork between the last key and `key`; 0 for the first key.
     fn fork_before(&self, key: &Key) -> Result<u16, LoadFault>
+        ensures first { IfOk result (λ p. vec_len self.now.parts ≡ 0 → p ≡ 0) }
+        ensures parted { IfOk result (λ p. 0 < vec_len self.now.parts → IsParted p self.now.last key.now) }
+        ensures fault { IfErr result (λ fault. fault ≡ LoadFault.NotRising) }
     {
         if self.parts.is_empty() {
             return Ok(0);
@@ -137,6 +140,9 @@ impl Loader {
 
     /// A free leaf record that has at least `words` words: of the smallest class that has one.
     fn find_leaf(&self, words: usize) -> Option<u32>
+        requires { length self.now.words.items ≡ word_count self.now.layout }
+        ensures { IfSome result (λ n. (n < self.now.layout.leaves) × (words ≤ leaf_size self.now.layout n) ×
+            (state_in self.now.layout self.now.words.items (a_leaf n) ≡ 0)) }
     {
         for number in self.leaves {
             if number < self.layout.leaves
@@ -149,8 +155,10 @@ impl Loader {
         None
     }
 
-    /// How many more nodes may be made: one record is kept.
+    /// How many more nodes may be made, where one record is kept.
     fn count_nodes_left(&self) -> usize
+        requires { self.now.nodes < 2 ^ 32 - 1 }
+        ensures { result ≡ self.now.layout.nodes - (self.now.nodes + 1) }
     {
         self.layout.nodes.saturating_sub(self.nodes + 1) as usize
     }
@@ -264,6 +272,10 @@ impl Loader {
 /// How `left` and `right` become one piece. The lower one is closed, so that it stands in a node as high as the other. Both are closed if
 /// they have too many slots for one node.
 fn plan_join(left: Part, right: Part) -> Plan
+    requires { (left.count ≤ 32) × (right.count ≤ 32) }
+    ensures few { (if result.closes_left then 1 else left.count) + (if result.closes_right then 1 else right.count) ≤ 32 }
+    ensures left { IsTrue result.closes_left → 2 ≤ left.count }
+    ensures right { IsTrue result.closes_right → 2 ≤ right.count }
 {
     let height = left.height.max(right.height).max(1);
     let closes_left = left.height < height && left.count > 1;
