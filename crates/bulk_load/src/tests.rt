@@ -74,7 +74,6 @@ fn load(rt: &impl Abort, alloc: Global, what: u8, count: u64) {
         assert!(rt; loader.push(&key, *k ^ 5).is_ok());
         assert!(rt; matches!(loader.push(&key, *k ^ 5), Err(LoadFault::NotRising)));
     }
-    let _nodes = loader.nodes;
     let Ok(words) = loader.finish() else {
         return;
     };
