@@ -61,7 +61,7 @@ some_word : (layout : Layout) (i : Rec) → 0 < size_of layout i
 some_word layout (a_node n) = omega arith
 some_word layout (a_leaf n) = let s = size_fits layout n in omega (arith, s.0)
 
-state_stays : (layout : Layout) (old new : List ℕ) (r i : Rec) → IsPut layout old new r → HasRecord layout r → HasRecord layout i → i ≢ r →
+pub state_stays : (layout : Layout) (old new : List ℕ) (r i : Rec) → IsPut layout old new r → HasRecord layout r → HasRecord layout i → i ≢ r →
     state_in layout new i ≡ state_in layout old i
 state_stays layout old new r i p h g ne = p.others (start_of layout i)
     (elim (apart layout r i h g ne) [ inl a ↦ inl (omega (arith, a, some_word layout i)) | inr a ↦ inr a ])

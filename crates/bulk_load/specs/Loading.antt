@@ -1,7 +1,7 @@
 -- What a loader has loaded, and what a loaded table shows.
-use Rattle.std.specs.Prelude.{◌≡◌, ◌⊎◌, ℕ, ◌+◌, ◌^◌, ◌<◌, ◌≤◌, List, [], ◌∷◌, ◌++◌, All, map, length, if◌then◌else◌, Option, Some, None}
+use Rattle.std.specs.Prelude.{◌≡◌, ◌⊎◌, ℕ, ◌+◌, ◌^◌, ◌<◌, ◌≤◌, List, [], ◌∷◌, ◌++◌, All, map, length, if◌then◌else◌, Option, Some, None, false}
 use Rattle.pieces.specs.Piece.{size}
-use Rattle.tries.specs.Keys.{Key, IsParted}
+use Rattle.tries.specs.Keys.{Key, IsParted, bit}
 use Rattle.tries.specs.Content.{pairs, first, items, IsAbove, IsLocal}
 use Rattle.tries.specs.Tree.{Tree, leaf, node, fork, subtrie, IsTrie, IsBuilt}
 use Rattle.record_words.specs.declared.layout.Layout.{Layout}
@@ -62,6 +62,10 @@ pub record HasParts (l : Loader) (ls : List Level) (top : Tree) : Type 0 where
   pub counts_are : map (λ (p : Part). p.count) l.parts.items ≡ counts ls top
   pub few : All (λ n. n ≤ 32) (counts ls top)
 
+-- A node record is free. Where the table has none, none is taken.
+abbrev pub IsKept : Loader → Type 0
+IsKept l = (l.nodes ≡ 0) ⊎ (l.nodes < l.layout.nodes)
+
 -- the loader's pieces are those of a tree with these pairs, and its last key is the tree's
 pub record IsStack (l : Loader) (xs : List (Key × ℕ)) : Type 0 where
   pub levels : List Level
@@ -70,6 +74,7 @@ pub record IsStack (l : Loader) (xs : List (Key × ℕ)) : Type 0 where
   pub parts : HasParts l levels top
   pub content : pairs (items (joined levels top)) ≡ xs
   pub last : l.last ≡ last_key (joined levels top)
+  pub kept : IsKept l
 
 -- so, and a new leaf that parts from the last one at this position belongs beside the piece at the top
 pub record IsStackBehind (l : Loader) (xs : List (Key × ℕ)) (p : ℕ) : Type 0 where
@@ -83,6 +88,7 @@ pub record IsEmpty (l : Loader) (xs : List (Key × ℕ)) : Type 0 where
   pub table : HoldsTree l.layout l.words.items None
   pub no_parts : l.parts.items ≡ []
   pub no_slots : l.slots.items ≡ []
+  pub no_nodes : l.nodes ≡ 0
 
 abbrev pub IsLoading : Loader → List (Key × ℕ) → Type 0
 IsLoading l xs = IsEmpty l xs ⊎ IsStack l xs
@@ -111,3 +117,25 @@ pub record IsPiece (l : Loader) (ls : List Level) (z : Tree) (right : Option Lev
 -- A key that parts from the last one at this position may be taken next: after no pair, or beside the piece at the top.
 abbrev pub MayTake : Loader → List (Key × ℕ) → ℕ → Key → Type 0
 MayTake l xs p k = (IsEmpty l xs × (p ≡ 0)) ⊎ (IsStackBehind l xs p × IsParted p l.last k)
+
+-- ---- joining pieces
+-- the last two pieces have become one, at the fork between them
+pub record IsJoined (l : Loader) (xs : List (Key × ℕ)) (before : List Level) : Type 0 where
+  pub joint : Level
+  pub stack : IsStack l xs
+  pub were : before ≡ joint ∷ stack.levels
+  pub above : (p : ℕ) → p < joint.position → IsAbove p stack.top
+
+-- the piece at the top may stand beside a leaf that parts from the last one at this position
+pub record IsReady (l : Loader) (xs : List (Key × ℕ)) (p : ℕ) : Type 0 where
+  pub stack : IsStack l xs
+  pub above : IsAbove p stack.top
+  pub zero : bit l.last p ≡ false
+
+-- pieces may be joined at forks behind this position
+abbrev pub CanJoin : Loader → List (Key × ℕ) → ℕ → Type 0
+CanJoin l xs p = IsEmpty l xs ⊎ IsReady l xs p
+
+-- so, and this has been done
+abbrev pub IsParting : Loader → List (Key × ℕ) → ℕ → Type 0
+IsParting l xs p = IsEmpty l xs ⊎ IsStackBehind l xs p

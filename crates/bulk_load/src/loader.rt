@@ -2,11 +2,12 @@
 
 ghost use Rattle.std.specs.Prelude.{ℕ, ◌≡◌, ◌+◌, ◌≤◌, ◌<◌, ◌++◌, ◌∷◌, [], ◌-◌, ◌^◌, if◌then◌else◌, IfErr, IfOk, IfSome, IsTrue, List, Option as Maybe, length};
 ghost use Rattle.std.specs.Vec.{vec_len, vec_capacity};
-ghost use Rattle.bulk_load.specs.Loading.{IsPiece, IsStack, IsTreeOf, MayTake, StandsFor};
+ghost use Rattle.bulk_load.specs.Loading.{CanJoin, IsJoined, IsKept, IsLoading, IsParting, IsPiece, IsStack, IsTreeOf, MayTake, StandsFor};
 ghost use Rattle.bulk_load.specs.Stacks.{Level, joined, with_right};
 ghost use Rattle.bulk_load.specs.Tables.{IsBlank, state_in};
 ghost use Rattle.record_words.specs.Layout.{leaf_size, word_count};
 ghost use Rattle.record_words.specs.Leaf.{words_for};
+ghost use Rattle.tries.specs.Content.{IsAbove};
 ghost use Rattle.tries.specs.Keys.{IsParted, Key as KeyView};
 ghost use Rattle.tries.specs.Tree.{Tree};
 ghost use Rattle.versions.specs.declared.Rec.TheVariants.{Leaf as a_leaf};
@@ -157,7 +158,7 @@ impl Loader {
 
     /// How many more nodes may be made, where one record is kept.
     fn count_nodes_left(&self) -> usize
-        requires { self.now.nodes < 2 ^ 32 - 1 }
+        requires { IsKept self.now }
         ensures { result ≡ self.now.layout.nodes - (self.now.nodes + 1) }
     {
         self.layout.nodes.saturating_sub(self.nodes + 1) as usize
@@ -166,6 +167,8 @@ impl Loader {
     /// Whether a new leaf may become a piece of its own. Node records are left for all that has to be closed then: two at each fork between
     /// pieces, and one for two slots or more. The piece at the top is the last leaf, unless a pair was refused where pieces had joined.
     fn has_room(&self) -> bool
+        requires { (xs : List (KeyView × ℕ)) × IsLoading self.now xs }
+        ensures { IsTrue result → (xs : List (KeyView × ℕ)) (s : IsStack self.now xs) (p : ℕ) → IsAbove p s.top }
     {
         if self.parts.is_empty() {
             return true;
@@ -208,6 +211,13 @@ impl Loader {
 
     /// Joins the pieces at forks behind `position`.
     fn join_behind(&mut self, position: u16) -> Result<(), LoadFault>
+        requires { (xs : List (KeyView × ℕ)) × CanJoin self.old xs position }
+        ensures behind { IfOk result (λ done. (xs : List (KeyView × ℕ)) → CanJoin self.old xs position → IsParting self.new xs position) }
+        ensures kept { (xs : List (KeyView × ℕ)) → CanJoin self.old xs position → IsLoading self.new xs }
+        ensures layout { self.new.layout ≡ self.old.layout }
+        ensures last { self.new.last ≡ self.old.last }
+        ensures leaves { (n : ℕ) → n < self.old.layout.leaves →
+            state_in self.old.layout self.new.words.items (a_leaf n) ≡ state_in self.old.layout self.old.words.items (a_leaf n) }
     {
         while self.parts.len() > 1 {
             let count = self.parts[self.parts.len() - 1].count;
@@ -221,6 +231,15 @@ impl Loader {
 
     /// Makes one piece of the last two, at the fork between them.
     fn join_last(&mut self) -> Result<(), LoadFault>
+        requires several { 2 ≤ vec_len self.old.parts }
+        requires stack { (xs : List (KeyView × ℕ)) × IsStack self.old xs }
+        ensures joined { IfOk result (λ done. (xs : List (KeyView × ℕ)) (s : IsStack self.old xs) → IsJoined self.new xs s.levels) }
+        ensures parts { IfOk result (λ done. vec_len self.new.parts + 1 ≡ vec_len self.old.parts) }
+        ensures refused { IfErr result (λ fault. (fault ≡ LoadFault.NodesFull) × (self.new ≡ self.old)) }
+        ensures layout { self.new.layout ≡ self.old.layout }
+        ensures last { self.new.last ≡ self.old.last }
+        ensures leaves { (n : ℕ) → n < self.old.layout.leaves →
+            state_in self.old.layout self.new.words.items (a_leaf n) ≡ state_in self.old.layout self.old.words.items (a_leaf n) }
     {
         let top = self.parts.len() - 1;
         let (left, right) = (self.parts[top - 1], self.parts[top]);
@@ -249,6 +268,9 @@ impl Loader {
         ensures parts { self.new.parts ≡ self.old.parts }
         ensures layout { self.new.layout ≡ self.old.layout }
         ensures last { self.new.last ≡ self.old.last }
+        ensures nodes { self.new.nodes ≡ self.old.nodes + (if closes then 1 else 0) }
+        ensures leaves { (n : ℕ) → n < self.old.layout.leaves →
+            state_in self.old.layout self.new.words.items (a_leaf n) ≡ state_in self.old.layout self.old.words.items (a_leaf n) }
     {
         if !closes {
             return count;

@@ -39,6 +39,7 @@ returns c = record {
           };
           content = ap (λ ys. ys ++ (k, v) ∷ []) (sym e.0.none);
           last = c.copy-self.ensures.same;
+          kept = inl e.0.no_nodes;
         }
       | inr s ↦ (let ls = s.0.stack.levels in let top = s.0.stack.top in let t = s.0.stack.tree in
         let parted : IsParted p (last_key top) k = subst (λ key. IsParted p key k) (s.0.stack.last ∙ last_joined ls top) s.1 in
@@ -62,6 +63,7 @@ returns c = record {
           content = content_grown l ls top p n v k new t s.0.above s.0.low parted c.put_leaf.ensures.fits c.requires.leaf c.requires.free c.requires.room put c.put_leaf.ensures.fields ∙
               ap (λ ys. ys ++ (k, v) ∷ []) s.0.stack.content;
           last = c.copy-self.ensures.same ∙ sym (last_joined ls (fork p top (leaf n k v)));
+          kept = s.0.stack.kept;
         })
       ];
 }

@@ -9,10 +9,13 @@ use Rattle.versions.specs.declared.Rec.TheVariants.{Node as a_node}
 use Rattle.bulk_load.specs.Loading.{IsPiece}
 use Rattle.bulk_load.specs.Slots.{slot}
 use Rattle.bulk_load.specs.Stacks.{Level, joined, position_of, front_slots, with_right}
-use Rattle.bulk_load.specs.Tables.{IsPut, fields_in}
+use Rattle.bulk_load.specs.Tables.{IsPut, fields_in, state_in}
 use Rattle.compound_node.specs.declared.entries.Entry.TheVariants.{Leaf}
 use Rattle.bulk_load.specs.Tables.{HoldsTree}
 use Rattle.bulk_load.proofs.Closing.{fits, taken_part, slots_given, each_given, merged, closed, holds_closed, local_closed, all_built, taken_closed, slots_closed}
+use Rattle.bulk_load.proofs.Putting.{state_stays}
+use Rattle.versions.specs.declared.Rec.TheVariants.{Leaf as a_leaf}
+use Rattle.versions.proofs.Heaps.{node_leaf}
 use Rattle.bulk_load.proofs.loader.Loader.close_piece.Goals as goal
 use Rattle.bulk_load.proofs.loader.Loader.close_piece.Goals.{After-deref}
 
@@ -60,3 +63,11 @@ returns-clause-closed c = λ ls z right p.
         taken = taken_closed l ls z right c.args.count c.args.behind p v new built c.put_node.ensures.fits put c.put_node.ensures.fields c.put_node.ensures.small few.2;
       },
     )
+
+pub returns-clause-leaves : goal.returns-clause-leaves
+returns-clause-leaves c = λ n h.
+    let l = c.args.self.now in let new = c.put_node.new.words in
+    let put : IsPut l.layout l.words.items new (a_node l.nodes) = subst (λ old. IsPut l.layout old new (a_node l.nodes)) c.as_mut_slice.ensures.value c.put_node.ensures.put in
+    let few = c.requires.room (search rules) in
+    ap (λ ws. state_in l.layout ws (a_leaf n)) (with_items_is l.words new (search (rules, places))) ∙
+    state_stays l.layout l.words.items new (a_node l.nodes) (a_leaf n) put few.2 h (λ e. node_leaf (sym e))
