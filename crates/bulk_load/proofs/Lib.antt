@@ -5,3 +5,4 @@ mod Stacking
 mod Putting
 mod Closing
 mod Pushing
+mod Joining

@@ -269,6 +269,7 @@ impl Loader {
         ensures layout { self.new.layout ≡ self.old.layout }
         ensures last { self.new.last ≡ self.old.last }
         ensures nodes { self.new.nodes ≡ self.old.nodes + (if closes then 1 else 0) }
+        ensures count { result ≡ (if closes then 1 else count) }
         ensures leaves { (n : ℕ) → n < self.old.layout.leaves →
             state_in self.old.layout self.new.words.items (a_leaf n) ≡ state_in self.old.layout self.old.words.items (a_leaf n) }
     {
