@@ -5,14 +5,23 @@ use Rattle.std.proofs.lemmas.List.{get_or-append_right, get_or-map, length-appen
 use Rattle.std.proofs.lemmas.List.Elements.{All-get_or, All-push, All-take}
 use Rattle.std.proofs.Math.ListN.{get_or-append}
 use Rattle.pieces.specs.Piece.{size}
-use Rattle.tries.specs.Content.{items, pairs}
-use Rattle.tries.specs.Keys.{Key}
-use Rattle.tries.specs.Tree.{Tree, fork, subtrie}
+use Rattle.tries.specs.Content.{items, pairs, IsAbove}
+use Rattle.tries.specs.Keys.{Key, bit}
+use Rattle.tries.specs.Tree.{Tree, leaf, node, fork, subtrie}
 use Rattle.bulk_load.specs.declared.loader.Loader.{Loader}
 use Rattle.bulk_load.specs.declared.loader.Part.{Part}
-use Rattle.bulk_load.specs.Loading.{HasParts, IsJoined, IsKept, IsPiece, IsStack, IsTreeOf, StandsFor, last_key}
-use Rattle.bulk_load.specs.Stacks.{Level, level, joined, counts, with_right}
-use Rattle.bulk_load.proofs.Stacking.{fronts, items_joined, last_joined}
+use Rattle.std.proofs.lemmas.Bool.{cases_order}
+use Rattle.bulk_load.specs.Loading.{CanJoin, HasParts, IsJoined, IsKept, IsLoading, IsParting, IsReady, IsPiece, IsStack, IsTreeOf, StandsFor, last_key}
+use Rattle.bulk_load.specs.Stacks.{Level, level, joined, counts, position_of, front_slots, with_right}
+use Rattle.bulk_load.proofs.Stacking.{fronts, items_joined, last_joined, local_inner, slots_joined}
+use Rattle.bulk_load.proofs.Climbing.{head_entry, slots_split as piece_split}
+use Rattle.bulk_load.proofs.Closing.{fits}
+use Rattle.bulk_load.proofs.Pushing.{has_last}
+use Rattle.tries.proofs.Contents.{trie_if_local}
+use Rattle.pieces.proofs.Paths.{size_pos}
+use Rattle.compound_node.specs.declared.entries.Entry.TheVariants.{Leaf, Node}
+use Rattle.bulk_load.specs.declared.slots.Slot.{Slot}
+use Rattle.bulk_load.specs.Slots.{slot, slots_of}
 
 abbrev count_of : Part → ℕ
 count_of p = p.count
@@ -170,3 +179,103 @@ module _ (l between closed new : Loader) (xs : List (Key × ℕ)) (i : ℕ) (lef
         were = refl;
         above = λ p h. h;
       }
+
+-- ---- the slots of the piece at the top
+pub top_fits : (l : Loader) (ls : List Level) (top : Tree) → IsTreeOf l (joined ls top) → length (front_slots ls) + size (subtrie top) ≡ length l.slots.items
+top_fits l ls top t = let whole = fits l ls top None (size (subtrie top)) 0 (record { tree = t; count_is = refl; behind_is = refl }) in omega (arith, whole)
+
+first_slot : (l : Loader) (ls : List Level) (top : Tree) → IsTreeOf l (joined ls top) → (i : ℕ) (x : Slot) → i + size (subtrie top) ≡ length l.slots.items → x ≡ get_or l.slots.items i x →
+    x ≡ slot (position_of ls) (head_entry (subtrie top))
+first_slot l ls top t i x at is =
+    let start : length (front_slots ls) ≡ i = omega (arith, at, top_fits l ls top t) in
+    is ∙ (ap (λ ss. get_or ss i x) (t.slots_are ∙ slots_joined ls top) ∙
+    (get_or-append_right (front_slots ls) (slots_of (position_of ls) (subtrie top)) i i x start (omega arith) ∙
+    (ap (λ n. get_or (slots_of (position_of ls) (subtrie top)) n x) (let z : i - i ≡ 0 = omega arith in z) ∙
+    ap (λ ss. get_or ss 0 x) (piece_split (position_of ls) (subtrie top)))))
+
+pub fork_at_top : (l : Loader) (ls : List Level) (top : Tree) → IsTreeOf l (joined ls top) → (i : ℕ) (x : Slot) → i + size (subtrie top) ≡ length l.slots.items → x ≡ get_or l.slots.items i x →
+    x.fork ≡ position_of ls
+fork_at_top l ls top t i x at is = ap (λ (s : Slot). s.fork) (first_slot l ls top t i x at is)
+
+leaf_alone : (p n : ℕ) (top : Tree) → size (subtrie top) ≡ 1 → head_entry (subtrie top) ≡ Leaf n → IsAbove p top
+leaf_alone p n (leaf m k v) one e = tt
+leaf_alone p n (node m x b) one e = absurd (no_leaf m x.height n e)
+  where
+    no_leaf : (m h n : ℕ) → Node m h ≡ Leaf n → ⊥
+    no_leaf m h n e = cc
+leaf_alone p n (fork q a b) one e = absurd (omega (arith, one, size_pos (subtrie a), size_pos (subtrie b)))
+
+-- the one slot of a leaf has no forks
+pub above_leaf : (l : Loader) (ls : List Level) (top : Tree) → IsTreeOf l (joined ls top) → size (subtrie top) ≡ 1 → (i n : ℕ) (x : Slot) → i + 1 ≡ length l.slots.items →
+    x ≡ get_or l.slots.items i x → x.entry ≡ Leaf n → (p : ℕ) → IsAbove p top
+above_leaf l ls top t one i n x at is e p =
+    leaf_alone p n top one (sym (ap (λ (s : Slot). s.entry) (first_slot l ls top t i x (omega (arith, at, one)) is)) ∙ e)
+
+-- ---- forks behind a position
+-- the last key has 1 where the fork before the piece at the top is
+pub last_bit : (l : Loader) (xs : List (Key × ℕ)) (m : Level) (ms : List Level) (top : Tree) → IsTreeOf l (joined (m ∷ ms) top) → bit (last_key top) m.position ≡ true
+last_bit l xs m ms top t =
+    let trie = trie_if_local (fork m.position m.tree top) (local_inner ms (fork m.position m.tree top) t.ordered) in trie.4 (last_key top) (has_last top)
+
+last_is_set : (l : Loader) (ls : List Level) (top : Tree) (m : Level) (ms : List Level) → ls ≡ m ∷ ms → IsTreeOf l (joined ls top) → l.last ≡ last_key (joined ls top) → bit l.last m.position ≡ true
+last_is_set l ls top m ms e t last =
+    ap (λ k. bit k m.position) (last ∙ last_joined ls top) ∙ last_bit l [] m ms top (subst (λ us. IsTreeOf l (joined us top)) e t)
+
+-- a loader with parts has a stack
+pub stack_of : (l : Loader) (xs : List (Key × ℕ)) (p : ℕ) → 0 < length l.parts.items → CanJoin l xs p → IsReady l xs p
+stack_of l xs p h (inl e) = absurd (let none = ap length e.no_parts in omega (arith, h, none))
+stack_of l xs p h (inr r) = r
+
+pub stack_loaded : (l : Loader) (xs : List (Key × ℕ)) → 0 < length l.parts.items → IsLoading l xs → IsStack l xs
+stack_loaded l xs h (inl e) = absurd (let none = ap length e.no_parts in omega (arith, h, none))
+stack_loaded l xs h (inr s) = s
+
+-- the piece at the top has slots, which are among the loader's
+pub top_within : (l : Loader) (xs : List (Key × ℕ)) (s : IsStack l xs) (i : ℕ) (x : Part) → i + 1 ≡ length l.parts.items → x ≡ get_or l.parts.items i x →
+    (1 ≤ x.count) × (x.count ≤ length l.slots.items)
+top_within l xs s i x e is =
+    let count = top_count l s.levels s.top s.parts i x e is in let whole = top_fits l s.levels s.top s.tree in let some = size_pos (subtrie s.top) in
+    (omega (arith, count, some), omega (arith, count, whole))
+
+no_levels : (ls : List Level) → length ls ≡ 0 → ls ≡ []
+no_levels [] e = refl
+no_levels (m ∷ ms) e = absurd (omega (arith, e))
+
+-- no piece is left that may be joined
+pub parting_alone : (l : Loader) (xs : List (Key × ℕ)) (p : ℕ) → length l.parts.items ≤ 1 → CanJoin l xs p → IsParting l xs p
+parting_alone l xs p h (inl e) = inl e
+parting_alone l xs p h (inr r) = inr (record {
+  stack = r.stack;
+  above = r.above;
+  low = inl (no_levels r.stack.levels (omega (arith, h, parts_long l r.stack.levels r.stack.top r.stack.parts)));
+})
+
+pub parting_low : (l : Loader) (xs : List (Key × ℕ)) (p i : ℕ) (x : Part) (j : ℕ) (y : Slot) → i + 1 ≡ length l.parts.items → x ≡ get_or l.parts.items i x →
+    j + x.count ≡ length l.slots.items → y ≡ get_or l.slots.items j y → y.fork < p → CanJoin l xs p → IsParting l xs p
+parting_low l xs p i x j y e is at here less can =
+    let r = stack_of l xs p (omega (arith, e)) can in let s = r.stack in let count = top_count l s.levels s.top s.parts i x e is in
+    let fork = fork_at_top l s.levels s.top s.tree j y (omega (arith, at, count)) here in
+    inr (record { stack = s; above = r.above; low = inr (omega (arith, less, fork)) })
+
+-- the joined piece may stand beside the leaf, too
+pub next_ready : (l new : Loader) (xs : List (Key × ℕ)) (p i : ℕ) (x : Part) (j : ℕ) (y : Slot) → i + 1 ≡ length l.parts.items → x ≡ get_or l.parts.items i x →
+    j + x.count ≡ length l.slots.items → y ≡ get_or l.slots.items j y → p ≤ y.fork → new.last ≡ l.last → (r : IsReady l xs p) → IsJoined new xs r.stack.levels → IsReady new xs p
+next_ready l new xs p i x j y e is at here less last r joint =
+    let s = r.stack in let count = top_count l s.levels s.top s.parts i x e is in
+    let fork = fork_at_top l s.levels s.top s.tree j y (omega (arith, at, count)) here in
+    let same : position_of s.levels ≡ joint.joint.position = ap position_of joint.were in
+    let set : bit l.last joint.joint.position ≡ true = last_is_set l s.levels s.top joint.joint joint.stack.levels joint.were s.tree s.last in
+    elim (cases_order p joint.joint.position) [
+        inl equal ↦ absurd (not_both (bit l.last p) r.zero (ap (bit l.last) equal ∙ set))
+      | inr o ↦ elim o [
+          inl lower ↦ record { stack = joint.stack; above = joint.above p lower; zero = ap (λ k. bit k p) last ∙ r.zero }
+        | inr higher ↦ absurd (omega (arith, higher, less, fork, same)) ] ]
+  where
+    not_both : (b : Bool) → b ≡ false → b ≡ true → ⊥
+    not_both b e f = cc
+
+-- the last leaf stands alone
+pub leaf_on_top : (l : Loader) (xs : List (Key × ℕ)) (s : IsStack l xs) (i : ℕ) (x : Part) (j n : ℕ) (y : Slot) → i + 1 ≡ length l.parts.items → x ≡ get_or l.parts.items i x → x.count ≡ 1 →
+    j + 1 ≡ length l.slots.items → y ≡ get_or l.slots.items j y → y.entry ≡ Leaf n → (p : ℕ) → IsAbove p s.top
+leaf_on_top l xs s i x j n y e is one at here entry p =
+    above_leaf l s.levels s.top s.tree (let count = top_count l s.levels s.top s.parts i x e is in omega (arith, count, one)) j n y at here entry p

@@ -170,14 +170,18 @@ impl Loader {
         requires { (xs : List (KeyView × ℕ)) × IsLoading self.now xs }
         ensures { IsTrue result → (xs : List (KeyView × ℕ)) (s : IsStack self.now xs) (p : ℕ) → IsAbove p s.top }
     {
-        if self.parts.is_empty() {
+        let parts = self.parts.len();
+        if parts == 0 {
             return true;
         }
         let left = self.count_nodes_left();
-        let is_leaf = matches!(self.slots[self.slots.len() - 1].entry, Entry::Leaf(_));
-        is_leaf
-            && self.parts[self.parts.len() - 1].count == 1
-            && (left > 2 * self.parts.len() || left >= self.slots.len())
+        let Entry::Leaf(_) = self.slots[self.slots.len() - 1].entry else {
+            return false;
+        };
+        if self.parts[parts - 1].count != 1 {
+            return false;
+        }
+        left > 2 * parts || left >= self.slots.len()
     }
 
     /// Puts a leaf on top, as a piece of its own, behind a fork at `fork`. Its record is `leaf`.
@@ -219,7 +223,7 @@ impl Loader {
         ensures leaves { (n : ℕ) → n < self.old.layout.leaves →
             state_in self.old.layout self.new.words.items (a_leaf n) ≡ state_in self.old.layout self.old.words.items (a_leaf n) }
     {
-        while self.parts.len() > 1 {
+        'joins: while self.parts.len() > 1 {
             let count = self.parts[self.parts.len() - 1].count;
             if self.slots[self.slots.len() - count].fork < position {
                 return Ok(());
