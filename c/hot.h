@@ -14,8 +14,8 @@
  *
  * When the index is full. A key that is there gets a new value where it stands, which takes no record. Any other change writes new records
  * before it retires those that it replaces. Retired records can be used again once the calls that ran at that time, or began soon after,
- * have returned: the next collection gives them back, and a change that finds no record free makes a collection itself, tries again, and
- * then counts all records. If fewer are free than it needs, and none is claimed by a change that is under way or retired, it returns
+ * have returned: the next collection gives them back, and a change that finds no record free makes a collection itself and tries again,
+ * where that may help, and then counts all records. If fewer are free than it needs, and none is claimed by a change that is under way or retired, it returns
  * HOT_FULL_NODES or HOT_FULL_LEAVES: keys must be removed first. So it does where the index has one handle. Else other calls hold records
  * back, and it is to be tried again: hot_insert and the like do so, and hot_try_insert and the like return HOT_HELD_BACK. An index has one
  * node record more than asked, up to 4294967295, which insertions leave free for removals: so a full index can be emptied. A thread that is
