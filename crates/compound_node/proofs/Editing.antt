@@ -2,7 +2,7 @@
 use Rattle.std.proofs.Common.{List, [], ap, arith, drop, get_or, length, sym, take, ℕ, ◌++◌, ◌+◌, ◌<◌, ◌∙◌, ◌∷◌, ◌≡◌}
 use Rattle.std.proofs.lemmas.List.{append-nil, append_assoc, drop-drop, drop-take, drop_all, get_or-drop, get_or-take, take-append-drop, take-take, take_all}
 use Rattle.std.specs.List.{insert, refill}
-use Rattle.pieces.specs.Growth.{edited}
+use Rattle.node_tries.specs.Growth.{edited}
 
 module _ {X : Type 0} where
   -- what fills a whole list anew

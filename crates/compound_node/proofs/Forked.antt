@@ -10,10 +10,10 @@ use Rattle.compound_node.specs.declared.entries.Entry.TheVariants.{Leaf}
 use Rattle.partial_keys.proofs.Putting.{drop_pad}
 use Rattle.partial_keys.specs.Columns.{IsColumns}
 use Rattle.partial_keys.specs.Spread.{forked_rows, spread_row}
-use Rattle.pieces.proofs.Edits.{edited-left}
-use Rattle.pieces.proofs.Positions.{length-with_position}
-use Rattle.pieces.specs.Growth.{edited}
-use Rattle.pieces.specs.Positions.{front_below, has, with_position}
+use Rattle.node_tries.proofs.Edits.{edited-left}
+use Rattle.node_tries.proofs.Positions.{length-with_position}
+use Rattle.node_tries.specs.Growth.{edited}
+use Rattle.node_tries.specs.Positions.{front_below, has, with_position}
 
 -- there is room for the column
 pub room_for_column : (p : ℕ) (cs : List ℕ) → IsColumns (cond (has cs p) cs (with_position p cs)) → has cs p ≡ false → length cs < 31

@@ -20,10 +20,10 @@ use Rattle.partial_keys.specs.Columns.{IsColumns}
 use Rattle.partial_keys.specs.Shown.{piece_of}
 use Rattle.partial_keys.specs.Shows.{ShowsPiece}
 use Rattle.partial_keys.specs.Spread.{forked_rows, spread_row}
-use Rattle.pieces.proofs.Positions.{IsPlaceOf, front_below-place}
-use Rattle.pieces.specs.Growth.{IsAffected, affected_count, edited, forked_places, grown}
-use Rattle.pieces.specs.Piece.{Piece}
-use Rattle.pieces.specs.Positions.{front_below, has, with_position}
+use Rattle.node_tries.proofs.Positions.{IsPlaceOf, front_below-place}
+use Rattle.node_tries.specs.Growth.{IsAffected, affected_count, edited, forked_places, grown}
+use Rattle.node_tries.specs.Piece.{Piece}
+use Rattle.node_tries.specs.Positions.{front_below, has, with_position}
 
 -- parts that show some piece fit
 pub fit_from_shown : (columns rows : List ℕ) (entries : List Entry) (P : Piece Entry) → ShowsPiece columns rows entries P → 2 ≤ length entries → length entries ≤ 32 → IsColumns columns → All IsEntry entries →

@@ -10,8 +10,8 @@ use Rattle.key_bits.specs.Gather.{code}
 use Rattle.partial_keys.proofs.Codes.{squeezed-code}
 use Rattle.partial_keys.proofs.Squeezing.{kept_coded}
 use Rattle.partial_keys.specs.Squeezed.{IsRowOver, squeezed, used_bits}
-use Rattle.pieces.specs.Kept.{kept}
-use Rattle.pieces.specs.Positions.{all}
+use Rattle.node_tries.specs.Kept.{kept}
+use Rattle.node_tries.specs.Positions.{all}
 use Rattle.compound_node.proofs.Ladders.{full-code}
 
 -- the mask of the first columns

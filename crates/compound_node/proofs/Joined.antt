@@ -18,11 +18,11 @@ use Rattle.partial_keys.proofs.Showing.{covers_of, shown_columns}
 use Rattle.partial_keys.specs.Rows.{with_unused}
 use Rattle.partial_keys.specs.Shown.{piece_of}
 use Rattle.partial_keys.specs.Shows.{Covers, ShowsPiece}
-use Rattle.pieces.proofs.Positions.{same_rising}
-use Rattle.pieces.proofs.Tests.{all_at}
-use Rattle.pieces.specs.Changes.{AtRootFork}
-use Rattle.pieces.specs.Piece.{Fork, Piece, Place, RisesFrom, uses}
-use Rattle.pieces.specs.Positions.{front_below, has}
+use Rattle.node_tries.proofs.Positions.{same_rising}
+use Rattle.node_tries.proofs.Tests.{all_at}
+use Rattle.node_tries.specs.Changes.{AtRootFork}
+use Rattle.node_tries.specs.Piece.{Fork, Piece, Place, RisesFrom, uses}
+use Rattle.node_tries.specs.Positions.{front_below, has}
 
 root_after : (low first : ℕ) (P : Piece Entry) → AtRootFork (λ p zero one. first ≡ p) P → RisesFrom low P → low ≤ first
 root_after low first (Place x) root rises = elim root [ ]

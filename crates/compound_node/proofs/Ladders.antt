@@ -10,21 +10,21 @@ use Rattle.partial_keys.proofs.Codes.{code-falses}
 use Rattle.key_bits.proofs.Gathering.{code-lt}
 use Rattle.partial_keys.proofs.Reading.{row, row-set, row-skip}
 use Rattle.partial_keys.specs.Shown.{shown}
-use Rattle.pieces.proofs.Paths.{length-paths, none_before, RisesFrom-weaker, size_pos}
-use Rattle.pieces.proofs.Positions.{has_after, IsPlaceOf}
-use Rattle.pieces.proofs.Tests.{map_same}
-use Rattle.pieces.proofs.Using.{later_columns, UsesOnly-more}
-use Rattle.pieces.specs.Piece.{Piece, Place, Fork, paths, places, RisesFrom, size, UsesOnly}
-use Rattle.pieces.specs.Positions.{Ascends, front_below, has}
-use Rattle.pieces.proofs.Positions.{front_below-place}
+use Rattle.node_tries.proofs.Paths.{length-paths, none_before, RisesFrom-weaker, size_pos}
+use Rattle.node_tries.proofs.Positions.{has_after, IsPlaceOf}
+use Rattle.node_tries.proofs.Tests.{map_same}
+use Rattle.node_tries.proofs.Using.{later_columns, UsesOnly-more}
+use Rattle.node_tries.specs.Piece.{Piece, Place, Fork, paths, places, RisesFrom, size, UsesOnly}
+use Rattle.node_tries.specs.Positions.{Ascends, front_below, has}
+use Rattle.node_tries.proofs.Positions.{front_below-place}
 use Rattle.compound_node.specs.Ladders.{AreSparseKeys, IsLadder, IsNextRow}
 use Rattle.key_bits.specs.Gather.{code}
 use Rattle.partial_keys.proofs.Cutting.{or_all-piece}
 use Rattle.partial_keys.specs.Shown.{piece_of}
 use Rattle.partial_keys.specs.Shows.{ShowsPiece}
 use Rattle.partial_keys.specs.Squeezed.{or_all}
-use Rattle.pieces.specs.Piece.{uses}
-use Rattle.pieces.specs.Positions.{all}
+use Rattle.node_tries.specs.Piece.{uses}
+use Rattle.node_tries.specs.Positions.{all}
 use Rattle.std.specs.Prelude.{bit_or}
 use Rattle.std.proofs.Math.Nat.{mul-mod_left}
 use Rattle.std.proofs.lemmas.Nat.{le_or_l, le_or_r, or_mod, pow_below}

@@ -12,18 +12,18 @@ use Rattle.key_bits.proofs.Gathering.{code-lt}
 use Rattle.partial_keys.proofs.Search.{highest_leads}
 use Rattle.partial_keys.proofs.Reading.{piece_of_shown}
 use Rattle.partial_keys.proofs.Showing.{same_length, shows-replaced}
-use Rattle.pieces.specs.Changes.{replaced}
+use Rattle.node_tries.specs.Changes.{replaced}
 use Rattle.partial_keys.specs.Columns.{IsColumns}
 use Rattle.partial_keys.specs.Rows.{IsHighest, dense_of, row_of, with_unused}
 use Rattle.partial_keys.specs.Shown.{piece_of}
 use Rattle.partial_keys.specs.Shows.{ShowsPiece}
-use Rattle.pieces.proofs.Paths.{length-paths, length-places, size_pos}
-use Rattle.pieces.specs.Piece.{Fork, Piece, Place, leads_to, paths, size}
+use Rattle.node_tries.proofs.Paths.{length-paths, length-places, size_pos}
+use Rattle.node_tries.specs.Piece.{Fork, Piece, Place, leads_to, paths, size}
 use Rattle.partial_keys.proofs.Affected.{affected_is}
 use Rattle.partial_keys.specs.Runs.{IsRunEnd, IsRunStart}
-use Rattle.pieces.proofs.Positions.{front_below-place, IsPlaceOf}
-use Rattle.pieces.specs.Growth.{affected_count, affected_first}
-use Rattle.pieces.specs.Positions.{front_below, has}
+use Rattle.node_tries.proofs.Positions.{front_below-place, IsPlaceOf}
+use Rattle.node_tries.specs.Growth.{affected_count, affected_first}
+use Rattle.node_tries.specs.Positions.{front_below, has}
 
 pub length-leaves : (n : ℕ) → length (leaves n) ≡ n
 length-leaves n = length-replicate n (Leaf 0)

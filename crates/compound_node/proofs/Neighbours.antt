@@ -12,15 +12,15 @@ use Rattle.compound_node.proofs.Removing.{later_positive, several_forked}
 use Rattle.compound_node.specs.Beside.{AreRound, IsBesideIn, at_columns, column_before}
 use Rattle.compound_node.specs.Nodes.{IsLawfulNode, NodeView, piece}
 use Rattle.compound_node.specs.declared.entries.Entry.{Entry}
-use Rattle.pieces.proofs.Beside.{found}
+use Rattle.node_tries.proofs.Beside.{found}
 use Rattle.compound_node.specs.Ladders.{IsLadder}
 use Rattle.partial_keys.proofs.Reading.{row}
-use Rattle.pieces.proofs.Paths.{length-places, size_pos}
-use Rattle.pieces.proofs.Positions.{has_after, has-at}
-use Rattle.pieces.proofs.Seams.{beside_by, beside_seams, seam, seam_above, seam_between, seam_first, seam_left, seam_past, seam_right}
-use Rattle.pieces.proofs.Using.{later_columns}
-use Rattle.pieces.specs.Piece.{Fork, Piece, Place, paths, RisesFrom, size, UsesOnly}
-use Rattle.pieces.specs.Positions.{Ascends, front_below, has}
+use Rattle.node_tries.proofs.Paths.{length-places, size_pos}
+use Rattle.node_tries.proofs.Positions.{has_after, has-at}
+use Rattle.node_tries.proofs.Seams.{beside_by, beside_seams, seam, seam_above, seam_between, seam_first, seam_left, seam_past, seam_right}
+use Rattle.node_tries.proofs.Using.{later_columns}
+use Rattle.node_tries.specs.Piece.{Fork, Piece, Place, paths, RisesFrom, size, UsesOnly}
+use Rattle.node_tries.specs.Positions.{Ascends, front_below, has}
 
 -- ---- the place of the lowest 1
 module _ (w r : ℕ) where

@@ -11,9 +11,9 @@ use Rattle.compound_node.proofs.Lawful.{affected_range_is, rows_fit, same_count}
 use Rattle.compound_node.specs.Nodes.{AgreeBefore, HeadView, IsLawfulNode, NodeView, head_of, piece}
 use Rattle.compound_node.specs.declared.entries.Entry.TheVariants.{Leaf}
 use Rattle.partial_keys.specs.Runs.{IsRunEnd, IsRunStart}
-use Rattle.pieces.specs.Growth.{affected_count, affected_first}
-use Rattle.pieces.proofs.Positions.{ascends_back, front_below-place, IsPlaceOf}
-use Rattle.pieces.specs.Positions.{Ascends, front_below}
+use Rattle.node_tries.specs.Growth.{affected_count, affected_first}
+use Rattle.node_tries.proofs.Positions.{ascends_back, front_below-place, IsPlaceOf}
+use Rattle.node_tries.specs.Positions.{Ascends, front_below}
 
 -- ---- the first columns of rows
 shr_bit : (n k i : ℕ) → k ≤ i → bit_at n i ≡ bit_at (n / 2 ^ k) (i - k)

@@ -9,15 +9,15 @@ use Rattle.compound_node.proofs.Ladders.{front_at, ladder-rows, length-rows, rai
 use Rattle.compound_node.specs.Ladders.{IsLadder, IsNextRow}
 use Rattle.compound_node.specs.Removal.{bit_after, cleared_front, lowest, removed_row}
 use Rattle.partial_keys.proofs.Reading.{row}
-use Rattle.pieces.proofs.Paths.{length-places, size_pos}
-use Rattle.pieces.proofs.Positions.{has_after}
+use Rattle.node_tries.proofs.Paths.{length-places, size_pos}
+use Rattle.node_tries.proofs.Positions.{has_after}
 use Rattle.partial_keys.specs.Shows.{Covers, ShowsPiece}
-use Rattle.pieces.proofs.Removing.{RisesFrom-without, UsesOnly-without, places-without, size_alone, size_forked}
+use Rattle.node_tries.proofs.Removing.{RisesFrom-without, UsesOnly-without, places-without, size_alone, size_forked}
 use Rattle.std.specs.Prelude.{remove}
-use Rattle.pieces.proofs.Using.{later_columns}
-use Rattle.pieces.specs.Changes.{is_place, without}
-use Rattle.pieces.specs.Piece.{Fork, Piece, Place, paths, places, RisesFrom, size, UsesOnly}
-use Rattle.pieces.specs.Positions.{Ascends, has}
+use Rattle.node_tries.proofs.Using.{later_columns}
+use Rattle.node_tries.specs.Changes.{is_place, without}
+use Rattle.node_tries.specs.Piece.{Fork, Piece, Place, paths, places, RisesFrom, size, UsesOnly}
+use Rattle.node_tries.specs.Positions.{Ascends, has}
 
 -- ---- the lowest 1 of rows
 lowest-raised : (w r : ℕ) → 0 < r → r < 2 ^ w → lowest (2 ^ w + r) ≡ lowest r

@@ -4,10 +4,10 @@ use Rattle.compound_node.specs.Nodes.{HeadView, IsLawfulNode, NodeView, head_of,
 use Rattle.compound_node.specs.declared.entries.Entry.{Entry}
 use Rattle.partial_keys.proofs.Cutting.{root_first}
 use Rattle.partial_keys.specs.Shows.{ShowsPiece}
-use Rattle.pieces.proofs.Paths.{length-places}
-use Rattle.pieces.specs.Changes.{AtRootFork}
-use Rattle.pieces.specs.Piece.{Piece, Place, Fork, size}
-use Rattle.pieces.specs.Positions.{has, AllBelow}
+use Rattle.node_tries.proofs.Paths.{length-places}
+use Rattle.node_tries.specs.Changes.{AtRootFork}
+use Rattle.node_tries.specs.Piece.{Piece, Place, Fork, size}
+use Rattle.node_tries.specs.Positions.{has, AllBelow}
 
 -- the first column is the position of the root fork
 root_column : (columns rows : List ℕ) (entries : List Entry) (P : Piece Entry) → 2 ≤ size P → ShowsPiece columns rows entries P →

@@ -8,7 +8,7 @@ use Rattle.std.proofs.lemmas.Simd.{get_or-sel_l, get_or-zip2, length-sel_l, leng
 use Rattle.std.specs.List.{insert, range_with_len}
 use Rattle.compound_node.proofs.Editing.{part_first}
 use Rattle.partial_keys.specs.Spread.{forked_rows}
-use Rattle.pieces.specs.Growth.{edited}
+use Rattle.node_tries.specs.Growth.{edited}
 use Rattle.std.specs.Int.Bits.{or_zero_r}
 use lib.Lanes.{pick_l, sel_l, top, zip2}
 

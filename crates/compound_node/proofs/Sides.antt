@@ -16,10 +16,10 @@ use Rattle.partial_keys.specs.Columns.{IsColumns}
 use Rattle.partial_keys.specs.Shown.{piece_of}
 use Rattle.partial_keys.specs.Shows.{Covers, ShowsPiece}
 use Rattle.partial_keys.specs.Squeezed.{or_all, squeezed, used_bits}
-use Rattle.pieces.proofs.Paths.{length-places, size_pos}
-use Rattle.pieces.specs.Kept.{kept}
-use Rattle.pieces.specs.Piece.{Fork, Piece, Place, places, size}
-use Rattle.pieces.specs.Positions.{front_below}
+use Rattle.node_tries.proofs.Paths.{length-places, size_pos}
+use Rattle.node_tries.specs.Kept.{kept}
+use Rattle.node_tries.specs.Piece.{Fork, Piece, Place, places, size}
+use Rattle.node_tries.specs.Positions.{front_below}
 
 -- ---- the columns that rows use
 module _ (columns rows : List ℕ) (entries : List Entry) (P : Piece Entry) (covers : Covers columns rows entries P) (more : 2 ≤ length entries) where

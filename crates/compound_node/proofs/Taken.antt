@@ -17,10 +17,10 @@ use Rattle.partial_keys.proofs.Cutting.{half_shows}
 use Rattle.partial_keys.proofs.Reading.{piece_of_shown}
 use Rattle.partial_keys.specs.Shows.{Covers, ShowsPiece}
 use Rattle.partial_keys.specs.Squeezed.{IsRowOver, or_all, squeezed, used_bits}
-use Rattle.pieces.proofs.Paths.{one_place}
-use Rattle.pieces.specs.Changes.{without}
-use Rattle.pieces.specs.Kept.{kept}
-use Rattle.pieces.specs.Piece.{Place}
+use Rattle.node_tries.proofs.Paths.{one_place}
+use Rattle.node_tries.specs.Changes.{without}
+use Rattle.node_tries.specs.Kept.{kept}
+use Rattle.node_tries.specs.Piece.{Place}
 
 -- the head without the place, with this height
 abbrev pub head_without : ℕ → ℕ → HeadView → HeadView

@@ -1,15 +1,15 @@
 -- More columns in the rows of a node.
 use Rattle.std.proofs.Common.{Bool, List, [], ap, arith, cond, false, get_or, length, map, refl, subst, suc, sym, take, true, zero, ℕ, ⊎_elim, ◌++◌, ◌+◌, ◌<◌, ◌||◌, ◌∙◌, ◌∷◌, ◌≡◌, ◌≤◌, eqb}
 use Rattle.std.proofs.lemmas.Bool.{cases_Bool, eqb-true, false≢true, or_cases, or_left}
-use Rattle.pieces.proofs.Tests.{same_bools}
+use Rattle.node_tries.proofs.Tests.{same_bools}
 use Rattle.std.proofs.lemmas.List.{take-map}
 use Rattle.compound_node.specs.Joining.{IsWidened}
 use Rattle.partial_keys.proofs.Joining.{covers-new_column}
 use Rattle.partial_keys.proofs.Keeping.{IsColumns-with_position}
 use Rattle.partial_keys.specs.Columns.{IsColumns}
 use Rattle.partial_keys.specs.Spread.{spread_row}
-use Rattle.pieces.proofs.Positions.{has-with_position, length-with_position}
-use Rattle.pieces.specs.Positions.{AllBelow, front_below, has, with_position}
+use Rattle.node_tries.proofs.Positions.{has-with_position, length-with_position}
+use Rattle.node_tries.specs.Positions.{AllBelow, front_below, has, with_position}
 
 -- nothing new
 pub widened_none : (count : ℕ) (cs rows : List ℕ) → IsWidened count [] cs rows cs rows

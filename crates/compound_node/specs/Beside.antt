@@ -2,7 +2,7 @@
 use Rattle.std.specs.Int.{trailing_zeros, w32}
 use Rattle.std.specs.Prelude.{ℕ, ◌≡◌, ◌+◌, ◌-◌, ◌%◌, ◌<◌, List, Option, None, Some, IfSome, length, slice_index, slice_index_or}
 use Rattle.compound_node.specs.Nodes.{NodeView, piece}
-use Rattle.pieces.specs.Changes.{beside}
+use Rattle.node_tries.specs.Changes.{beside}
 
 -- A row's lowest 1 is of the fork between its entry and the one before. The column of that, counted from 1: 0 of the first row and of
 -- an unused place

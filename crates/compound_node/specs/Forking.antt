@@ -2,8 +2,8 @@
 use Rattle.std.specs.Prelude.{Bool, if◌then◌else◌, map, ℕ, ◌+◌, ◌-◌, ◌^◌}
 use Rattle.compound_node.specs.Nodes.{HeadView}
 use Rattle.partial_keys.specs.Spread.{forked_rows, spread_row}
-use Rattle.pieces.specs.Growth.{edited}
-use Rattle.pieces.specs.Positions.{front_below, has, with_position}
+use Rattle.node_tries.specs.Growth.{edited}
+use Rattle.node_tries.specs.Positions.{front_below, has, with_position}
 
 -- the head with a fork at the position over the rows from first to last, and with this height
 abbrev pub forked_head : ℕ → ℕ → ℕ → ℕ → Bool → HeadView → HeadView

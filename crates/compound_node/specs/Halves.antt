@@ -5,7 +5,7 @@ use Rattle.compound_node.specs.declared.entries.Entry.{Entry}
 use Rattle.compound_node.specs.declared.halves.Cut.{Cut}
 use Rattle.compound_node.specs.declared.halves.Half.{Half}
 use Rattle.compound_node.specs.declared.halves.Half.TheVariants.{One, Many, Same}
-use Rattle.pieces.specs.Piece.{Piece, Place, Fork}
+use Rattle.node_tries.specs.Piece.{Piece, Place, Fork}
 
 -- an entry alone is its place, and a node was built for the piece. A half made anew is never `Same`
 abbrev pub HalfShows : Half → Piece Entry → Type 0

@@ -3,8 +3,8 @@ use Rattle.std.specs.Prelude.{ℕ, ◌≡◌, ◌||◌, List, take}
 use Rattle.compound_node.specs.declared.entries.Entry.{Entry}
 use Rattle.partial_keys.specs.Columns.{IsColumns}
 use Rattle.partial_keys.specs.Shows.{Covers}
-use Rattle.pieces.specs.Piece.{Piece}
-use Rattle.pieces.specs.Positions.{has}
+use Rattle.node_tries.specs.Piece.{Piece}
+use Rattle.node_tries.specs.Positions.{has}
 
 -- the new columns are the old ones and these positions, and the first `count` rows show what they showed before
 pub record IsWidened (count : ℕ) (further old old_rows new new_rows : List ℕ) : Type 0 where

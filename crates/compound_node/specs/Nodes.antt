@@ -9,7 +9,7 @@ use Rattle.partial_keys.specs.Columns.{IsColumns}
 use Rattle.partial_keys.specs.Rows.{with_unused}
 use Rattle.partial_keys.specs.Shown.{piece_of}
 use Rattle.partial_keys.specs.Shows.{ShowsPiece}
-use Rattle.pieces.specs.Piece.{Piece}
+use Rattle.node_tries.specs.Piece.{Piece}
 
 -- ---- entries
 -- a leaf counts 0

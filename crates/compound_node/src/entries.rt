@@ -3,7 +3,7 @@
 ghost use Rattle.std.specs.List.{All};
 ghost use Rattle.std.specs.Prelude.{◌≡◌, ◌↔◌, ◌+◌, ◌-◌, ◌<◌, ◌≤◌, ◌++◌, IsTrue, length, remove, slice_set};
 ghost use Rattle.arrayvec.specs.ArrayVec.{array_vec_len};
-ghost use Rattle.pieces.specs.Growth.{edited, forked_places};
+ghost use Rattle.node_tries.specs.Growth.{edited, forked_places};
 ghost use Rattle.compound_node.specs.Nodes.{IsEntry, StandsBelow, greatest_height, height_of};
 
 use arrayvec::ArrayVec;

@@ -8,7 +8,7 @@ ghost use Rattle.compound_node.specs.declared.entries.Entry.TheVariants.{Leaf as
 ghost use Rattle.partial_keys.specs.Columns.{IsColumns};
 ghost use Rattle.partial_keys.specs.Shown.{piece_of};
 ghost use Rattle.partial_keys.specs.Shows.{Covers};
-ghost use Rattle.pieces.specs.Changes.{without};
+ghost use Rattle.node_tries.specs.Changes.{without};
 
 use super::building::build_node;
 use super::entries::{Entry, list_entries_without, list_items};

@@ -6,8 +6,8 @@ ghost use Rattle.compound_node.specs.Nodes.{FitsWords};
 ghost use Rattle.partial_keys.specs.Columns.{IsColumns};
 ghost use Rattle.partial_keys.specs.Spread.{spread_row};
 ghost use Rattle.partial_keys.specs.Squeezed.{IsRowOver, or_all, squeezed, used_bits};
-ghost use Rattle.pieces.specs.Kept.{kept};
-ghost use Rattle.pieces.specs.Positions.{front_below, has, with_position};
+ghost use Rattle.node_tries.specs.Kept.{kept};
+ghost use Rattle.node_tries.specs.Positions.{front_below, has, with_position};
 
 use super::rows::{
     are_sparse_keys, first_of_run, fork_rows, is_padded, last_of_run, or_rows, remove_row,
@@ -45,9 +45,9 @@ impl Head {
     ghost use Rattle.compound_node.specs.declared.entries.Entry.TheVariants.{Leaf as LeafEntry};
     ghost use Rattle.key_bits.specs.Bits.{bit_of};
     ghost use Rattle.partial_keys.specs.Rows.{with_unused};
-    ghost use Rattle.pieces.specs.Changes.{AtRootFork, without};
-    ghost use Rattle.pieces.specs.Growth.{IsAffected, affected_count, affected_first, grown};
-    ghost use Rattle.pieces.specs.Piece.{leads_to};
+    ghost use Rattle.node_tries.specs.Changes.{AtRootFork, without};
+    ghost use Rattle.node_tries.specs.Growth.{IsAffected, affected_count, affected_first, grown};
+    ghost use Rattle.node_tries.specs.Piece.{leads_to};
 
     /// The head of a node of `count` entries with these fields; `None` exactly if no node has them. `sparse` has the rows, and
     /// 4,294,967,295 at each unused slot.

@@ -3,7 +3,7 @@
 ghost use Rattle.std.specs.Prelude.{◌≡◌, ◌+◌, ◌<◌, ◌≤◌, ◌++◌, ◌∷◌, ℕ, bit_or, false, if◌then◌else◌, length, map};
 ghost use Rattle.compound_node.specs.Joining.{IsWidened};
 ghost use Rattle.partial_keys.specs.Spread.{spread_row};
-ghost use Rattle.pieces.specs.Positions.{front_below, has, with_position};
+ghost use Rattle.node_tries.specs.Positions.{front_below, has, with_position};
 
 use super::entries::list_items;
 use super::rows::spread_lanes;

@@ -39,10 +39,10 @@ impl Node {
     ghost use Rattle.compound_node.specs.Nodes.{AgreeBefore, IsBuiltFrom, IsEntry, IsLawfulNode, IsNode, StandsBelow, head_of, node_from, node_of, piece};
     ghost use Rattle.key_bits.specs.Bits.{bit_of};
     ghost use Rattle.partial_keys.specs.Rows.{with_unused};
-    ghost use Rattle.pieces.specs.Changes.{AtRootFork, beside, without};
-    ghost use Rattle.pieces.specs.Changes.{replaced as replaced_place};
-    ghost use Rattle.pieces.specs.Growth.{IsAffected, affected_count, affected_first, grown};
-    ghost use Rattle.pieces.specs.Piece.{Fork, Place, RisesFrom, leads_to};
+    ghost use Rattle.node_tries.specs.Changes.{AtRootFork, beside, without};
+    ghost use Rattle.node_tries.specs.Changes.{replaced as replaced_place};
+    ghost use Rattle.node_tries.specs.Growth.{IsAffected, affected_count, affected_first, grown};
+    ghost use Rattle.node_tries.specs.Piece.{Fork, Place, RisesFrom, leads_to};
 
     /// The node with these fields; `None` exactly if no node has them. A node has 2 to 32 entries, each lower than `height`. `sparse` has
     /// their rows, those of one piece that uses each of `columns`, and 4,294,967,295 at each unused slot.

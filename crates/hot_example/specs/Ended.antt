@@ -5,7 +5,7 @@ use Rattle.hot_index.specs.Handles.{HandleView}
 use Rattle.hot_index.specs.Stamps.{HasSeenMore}
 use Rattle.hot_index_calls.specs.Passes.{pass_of}
 use Rattle.index_laws.specs.Joined.{HasGoneThrough, HaveEndedInOneRun, of_two}
-use Rattle.real_time.specs.Moments.{Happening, invokes}
+use Rattle.linearizability.specs.Moments.{Happening, invokes}
 use Rattle.rowex_table.specs.Seats.{SeatView, TableView}
 
 -- the calls of the map that are asked, in order

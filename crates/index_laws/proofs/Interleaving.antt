@@ -24,7 +24,7 @@ use Rattle.rowex_table.specs.Traces.{OthersStepOn, RunBeginsWith}
 use Rattle.rowex_table.proofs.Onward.{begins_on, others_begin}
 use Rattle.rowex_table.proofs.Running.{runs_same}
 use Rattle.hot_index_calls.specs.Traces.{untold}
-use Rattle.real_time.specs.Moments.{Happening, invokes, shows, steps}
+use Rattle.linearizability.specs.Moments.{Happening, invokes, shows, steps}
 use Rattle.index_laws.specs.Joined.{HasGoneThrough, HasEndedAs, HaveEndedInOneRun, IsExecutionOf, KeepCallsWhole, call_of, called, happenings_of, new, notes_of_end, shown, stamped, steps_of}
 use Rattle.index_laws.specs.Traced.{Instant}
 use Rattle.index_laws.proofs.Coming.{Begun, Life, MakesStep, Reached, Rest, Shows, Waits, asks, closes, goes, life_begins, over, put, put-other, put-own, sees}

@@ -9,8 +9,8 @@ use Rattle.rowex_table.specs.Runs.{Runs, StepsWith, silent}
 use Rattle.rowex_table.specs.Seats.{SeatView, TableView}
 use Rattle.rowex_table.specs.Traces.{OthersStepOn}
 use Rattle.hot_index_calls.specs.Traces.{untold}
-use Rattle.real_time.specs.Histories.{PendingEndOrChangeAsAsked}
-use Rattle.real_time.specs.Moments.{Happening, Moment, Pending}
+use Rattle.linearizability.specs.Histories.{PendingEndOrChangeAsAsked}
+use Rattle.linearizability.specs.Moments.{Happening, Moment, Pending}
 use Rattle.index_laws.specs.Joined.{HasGoneThrough, OneRunIsAnExecution, ShownHaveEnded, SilentStepsEnd, StepsNeedNoGate, TwoThatMeetHaveEnded, of_two}
 use Rattle.index_laws.specs.Traced.{moment_of}
 use Rattle.index_laws.proofs.Interleaving.{named_by, one_execution}

@@ -19,8 +19,8 @@ use Rattle.rowex_table.specs.Runs.{root_load}
 use Rattle.rowex_table.specs.Seats.{SeatView, TableView}
 use Rattle.rowex_table.specs.Traces.{OthersStepOn, RunBeginsWith}
 use Rattle.rowex_table.proofs.Onward.{begins_on, others_more, others_none}
-use Rattle.real_time.specs.Moments.{Happening, IsSoundMoment, Pending, invokes, refuses, responds, shows, steps}
-use Rattle.real_time.proofs.Growing.{runs_stay_sound}
+use Rattle.linearizability.specs.Moments.{Happening, IsSoundMoment, Pending, invokes, refuses, responds, shows, steps}
+use Rattle.linearizability.proofs.Growing.{runs_stay_sound}
 use Rattle.index_laws.specs.Traced.{ContractsLeadOn, Instant, IsSeatShowing, IsSeatStep, IsSeatTurn, IsShownItself, IsShownSteps, IsTracedExecution, LoadsAreMoments, core_led_to, moment_of}
 use Rattle.index_laws.proofs.Timed.{executions_are_runs}
 use Rattle.index_laws.proofs.Traced.{core_is, traced_are_executions}

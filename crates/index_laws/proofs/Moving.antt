@@ -14,7 +14,7 @@ use Rattle.rowex_table.specs.Seats.{SeatView, TableView}
 use Rattle.rowex_table.specs.Traces.{OthersStepOn}
 use Rattle.rowex_table.proofs.Onward.{others_more, others_none}
 use Rattle.hot_index_calls.specs.Traces.{untold}
-use Rattle.real_time.specs.Moments.{Happening, Pending, invokes, refuses, responds, shows, steps}
+use Rattle.linearizability.specs.Moments.{Happening, Pending, invokes, refuses, responds, shows, steps}
 use Rattle.index_laws.specs.Executions.{IsReturning}
 use Rattle.index_laws.specs.Joined.{HasEndedAs, KeepCallsWhole, answered, looked_up, pass_in, quiet, refused}
 use Rattle.index_laws.specs.Traced.{ContractsLeadOn, Instant, IsSeatShowing, IsSeatStep, IsSeatTurn, IsShownItself, IsShownSteps, moment_of}

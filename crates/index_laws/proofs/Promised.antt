@@ -30,10 +30,10 @@ use Rattle.hot_index.proofs.Alone.{one_pass_full_is_full, one_pass_is_never_busy
 use Rattle.hot_index.proofs.Counted.{counts_add_up}
 use Rattle.hot_index.proofs.Held.{absent_is_never_full, held_is_never_full, one_pass_refuses_new_alone}
 use Rattle.hot_index.proofs.Stamped.{returned_before_begun}
-use Rattle.real_time.specs.Moments.{Happening, IsWholeRun, Moment}
-use Rattle.real_time.specs.Scanning.{IsScanInTime}
-use Rattle.real_time.proofs.Replies.{behind, effect, replies_in_time}
-use Rattle.real_time.proofs.Scanning.{scans_in_time}
+use Rattle.linearizability.specs.Moments.{Happening, IsWholeRun, Moment}
+use Rattle.linearizability.specs.Scanning.{IsScanInTime}
+use Rattle.linearizability.proofs.Replies.{behind, effect, replies_in_time}
+use Rattle.linearizability.proofs.Scanning.{scans_in_time}
 use Rattle.index_laws.specs.Headline.{BoundedSteps, Freshness, FreshnessOfMany, Headline, History, NeverRefused, OneHistory, Refusals, ScansShow, ValuesInReach}
 use Rattle.index_laws.proofs.Joining.{one_run_is_an_execution}
 use Rattle.index_laws.proofs.Living.{one_history_of_all}

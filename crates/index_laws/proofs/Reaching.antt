@@ -3,7 +3,7 @@ use Rattle.std.proofs.Common.{◌≡◌, ⊎_elim, ℕ, suc, ◌<◌, ◌≤◌,
 use Rattle.std.proofs.lemmas.Bool.{cases_lt, le-leb, lt-leb, lt-ltb, le-ltb}
 use Rattle.finite_map.specs.declared.Note.{Note}
 use Rattle.rowex_table.specs.Seats.{IsNewSeatOf, SeatView, TableView}
-use Rattle.real_time.specs.Moments.{Happening, Moment, Pending, invokes, refuses, responds, shows, steps}
+use Rattle.linearizability.specs.Moments.{Happening, Moment, Pending, invokes, refuses, responds, shows, steps}
 use Rattle.index_laws.specs.Executions.{HasReturned, IsReturning}
 use Rattle.index_laws.specs.Traced.{ContractsLeadOn, Instant, IsSeatShowing, IsSeatStep, IsSeatTurn, IsTracedExecution, moment_of}
 

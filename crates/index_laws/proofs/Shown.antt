@@ -24,12 +24,12 @@ use Rattle.rowex_table.proofs.Keeping.{learned_pass}
 use Rattle.rowex_table.proofs.Onward.{others_none}
 use Rattle.hot_index_calls.specs.Answers.{IsNoted}
 use Rattle.hot_index_calls.specs.Passes.{pass_of}
-use Rattle.real_time.specs.Moments.{Happening, IsCallTurn, IsMomentStep, IsSoundMoment, Moment, Pending, invokes, responds, shows, steps}
+use Rattle.linearizability.specs.Moments.{Happening, IsCallTurn, IsMomentStep, IsSoundMoment, Moment, Pending, invokes, responds, shows, steps}
 use Rattle.index_laws.specs.Executions.{LeadsOn, IsExecution}
 use Rattle.index_laws.specs.Statements.{AGetReturns}
 use Rattle.index_laws.specs.Traced.{AGetIsTraced, ContractsLeadOn, Instant, IsSeatStep, IsSeatTurn, IsTracedExecution}
 use Rattle.index_laws.proofs.Timed.{executions_are_runs, opening_is_new}
-use Rattle.real_time.proofs.Growing.{runs_stay_sound}
+use Rattle.linearizability.proofs.Growing.{runs_stay_sound}
 
 -- the moment after a step
 abbrev pub stepped : Moment → ℕ → Act → List Note → Moment

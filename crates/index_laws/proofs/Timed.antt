@@ -18,8 +18,8 @@ use Rattle.rowex_table.specs.Rule.{opening_of}
 use Rattle.rowex_table.specs.Seats.{SeatView}
 use Rattle.hot_index_calls.specs.Answers.{IsNoted}
 use Rattle.hot_index_calls.specs.Passes.{pass_of}
-use Rattle.real_time.specs.Moments.{Continues, Happening, IsPlacedSince, IsResponse, IsWholeRun, Moment, Pending, invokes, refuses, responds, shows, steps}
-use Rattle.real_time.proofs.Completing.{linearizable}
+use Rattle.linearizability.specs.Moments.{Continues, Happening, IsPlacedSince, IsResponse, IsWholeRun, Moment, Pending, invokes, refuses, responds, shows, steps}
+use Rattle.linearizability.proofs.Completing.{linearizable}
 use Rattle.index_laws.specs.Executions.{HasAnsweredMany, LeadsOn, IsExecution, IsQuiet, IsReturning}
 use Rattle.index_laws.specs.Statements.{ExecutionsAreLinearizable, ExecutionsAreRuns, LackMayRefuse, OpeningIsNew, RefusedIsRefused, Responses, ReturnedResponds}
 

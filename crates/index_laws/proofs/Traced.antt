@@ -35,8 +35,8 @@ use Rattle.rowex_table.proofs.Onward.{begins_on as run_begins_on, led_more, of_o
 use Rattle.rowex_table.proofs.Running.{runs_same}
 use Rattle.hot_index_calls.specs.Traces.{untold}
 use Rattle.hot_index_calls.proofs.Noting.{longer}
-use Rattle.real_time.specs.Moments.{Happening, IsCallTurn, IsMomentStep, IsNewIndex, IsShowing, IsSoundMoment, Moment, Pending, invokes, refuses, responds, shows, steps}
-use Rattle.real_time.proofs.Growing.{runs_stay_sound}
+use Rattle.linearizability.specs.Moments.{Happening, IsCallTurn, IsMomentStep, IsNewIndex, IsShowing, IsSoundMoment, Moment, Pending, invokes, refuses, responds, shows, steps}
+use Rattle.linearizability.proofs.Growing.{runs_stay_sound}
 use Rattle.index_laws.specs.Executions.{IsExecution, LeadsOn}
 use Rattle.index_laws.specs.Traced.{CallsMakeNoAsides, ContractsLeadOn, EndedBeforeLoaded, EndedOrLoadedBefore, EndedOrShownBefore, Instant, IsSeatShowing, IsSeatStep, IsSeatTurn, IsShownItself, IsShownSteps, IsTracedExecution, LoadsRootBehind, LoadsSeeAll, MetAreOfOneRun, TracedAreExecutions, core_led_to, moment_of}
 use Rattle.index_laws.proofs.Timed.{executions_are_runs, opening_is_new}

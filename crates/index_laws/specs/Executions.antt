@@ -10,7 +10,7 @@ use Rattle.rowex_writing.specs.declared.attempts.TryFault.{TryFault}
 use Rattle.hot_index_calls.specs.Answers.{IsNoted, IsRefusedFor, MayRefuse}
 use Rattle.hot_index_calls.specs.Many.{AreNoted}
 use Rattle.hot_index_calls.specs.Passes.{PassView, pass_of}
-use Rattle.real_time.specs.Moments.{Continues, Happening, IsCallTurn, IsNewIndex, Moment, Pending, invokes, refuses, responds, shows, steps}
+use Rattle.linearizability.specs.Moments.{Continues, Happening, IsCallTurn, IsNewIndex, Moment, Pending, invokes, refuses, responds, shows, steps}
 
 -- Pass q's call is pending at moment t. The seat s knows what the pass knew when it invoked the call, and e what it knows now.
 pub record IsReturning (at : ℕ → Moment) (q t : ℕ) (call : Pending) (s e : SeatView) : Type 0 where

@@ -42,8 +42,8 @@ use Rattle.hot_index_calls.specs.Many.{HasGotMany}
 use Rattle.hot_index_calls.specs.Passes.{PassView, pass_of}
 use Rattle.hot_index_calls.specs.Traces.{HasCollected, HasGot, HasGotRange, HasMade, untold}
 use Rattle.hot_index.specs.Statements.{AbsentIsNeverFull, CountsAddUp, HeldIsNeverFull, OnePassFullIsFull, OnePassRefusesNewAlone, ReturnedBeforeBegun}
-use Rattle.real_time.specs.Moments.{Happening, IsWholeRun, Moment, Pending}
-use Rattle.real_time.specs.Scanning.{IsScanInTime, map_at}
+use Rattle.linearizability.specs.Moments.{Happening, IsWholeRun, Moment, Pending}
+use Rattle.linearizability.specs.Scanning.{IsScanInTime, map_at}
 use Rattle.index_laws.specs.Lives.{OneHistoryOfAll}
 use Rattle.index_laws.specs.Executions.{HasAnsweredMany, IsReturning}
 use Rattle.index_laws.specs.Joined.{OneRunIsAnExecution}

@@ -22,8 +22,8 @@ use Rattle.hot_index_calls.specs.Answers.{IsNoted, IsRefusedFor, MayRefuse}
 use Rattle.hot_index_calls.specs.Many.{AreNoted}
 use Rattle.hot_index_calls.specs.Passes.{pass_of}
 use Rattle.hot_index_calls.specs.Traces.{untold}
-use Rattle.real_time.specs.Moments.{Happening, invokes, refuses, responds, shows, steps}
-use Rattle.real_time.specs.Statements.{IsLinearizable}
+use Rattle.linearizability.specs.Moments.{Happening, invokes, refuses, responds, shows, steps}
+use Rattle.linearizability.specs.Statements.{IsLinearizable}
 use Rattle.index_laws.specs.Traced.{Instant, IsTracedExecution, moment_of}
 
 -- What one pass has done

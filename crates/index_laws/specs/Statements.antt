@@ -10,9 +10,9 @@ use Rattle.rowex_core.specs.Opening.{opening}
 use Rattle.rowex_table.specs.Rule.{opening_of}
 use Rattle.rowex_writing.specs.declared.plan.Full.{Full}
 use Rattle.hot_index_calls.specs.Answers.{MayLack, MayRefuse, fault_of}
-use Rattle.real_time.specs.Histories.{PendingEndOrChangeAsAsked, complete_calls}
-use Rattle.real_time.specs.Moments.{Happening, IsNewIndex, IsRefusal, IsResponse, IsWholeRun, Moment, Pending}
-use Rattle.real_time.specs.Statements.{IsLinearizable}
+use Rattle.linearizability.specs.Histories.{PendingEndOrChangeAsAsked, complete_calls}
+use Rattle.linearizability.specs.Moments.{Happening, IsNewIndex, IsRefusal, IsResponse, IsWholeRun, Moment, Pending}
+use Rattle.linearizability.specs.Statements.{IsLinearizable}
 use Rattle.index_laws.specs.Executions.{HasBeenRefused, HasReturned, IsExecution}
 
 -- A run may begin where a table was just made, and no pass has made a step or a call.

@@ -17,7 +17,7 @@ use Rattle.rowex_table.specs.declared.traces.Trace.{Trace}
 use Rattle.rowex_table.specs.declared.traces.TracedView.{TracedView}
 use Rattle.rowex_table.specs.declared.traces.TracedView.TheVariants.{Pass}
 use Rattle.rowex_table.specs.Rule.{MayStep, Ruled, found_by}
-use Rattle.real_time.specs.Moments.{IsMomentStep, Moment, Pending}
+use Rattle.linearizability.specs.Moments.{IsMomentStep, Moment, Pending}
 
 -- the act as the pass makes it at this core: with the word that it finds there
 abbrev pub made_at : Core → Known → Act → Act

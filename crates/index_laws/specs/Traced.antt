@@ -26,8 +26,8 @@ use Rattle.rowex_table.specs.Traces.{RunBeginsWith}
 use Rattle.hot_index_calls.specs.Answers.{IsNoted}
 use Rattle.hot_index_calls.specs.Passes.{pass_of}
 use Rattle.hot_index_calls.specs.Traces.{untold}
-use Rattle.real_time.specs.Histories.{complete_calls}
-use Rattle.real_time.specs.Moments.{Happening, Moment, Pending, invokes, refuses, responds, shows, steps}
+use Rattle.linearizability.specs.Histories.{complete_calls}
+use Rattle.linearizability.specs.Moments.{Happening, Moment, Pending, invokes, refuses, responds, shows, steps}
 use Rattle.index_laws.specs.Executions.{HasBeenRefused, HasReturned, IsExecution}
 
 -- The index at a moment, as contracts see it: the steps so far, the seat of each pass, and the call of each pass that is pending, if one is.

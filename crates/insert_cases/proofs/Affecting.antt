@@ -2,9 +2,9 @@
 use Rattle.std.proofs.Common.{◌≡◌, ◌≢◌, ℕ, ◌+◌, ◌-◌, ◌<◌, Bool, true, false, nat_lt, refl, ap, sym, ◌∙◌, subst, arith, ⊎_elim}
 use Rattle.std.proofs.lemmas.Bool.{cases_Bool, lt-ltb, le-ltb}
 use Rattle.compound_node.specs.declared.entries.Entry.{Entry}
-use Rattle.pieces.proofs.Growing.{affected_fits}
-use Rattle.pieces.specs.Growth.{affected_first, affected_count, IsFresh, forked, grown}
-use Rattle.pieces.specs.Piece.{Place, Fork, size}
+use Rattle.node_tries.proofs.Growing.{affected_fits}
+use Rattle.node_tries.specs.Growth.{affected_first, affected_count, IsFresh, forked, grown}
+use Rattle.node_tries.specs.Piece.{Place, Fork, size}
 use Rattle.tries.specs.Affected.{subtrie_affected, subtrie_forked, subtrie_grown}
 use Rattle.tries.specs.Keys.{Key, bit}
 use Rattle.tries.specs.Place.{spot}

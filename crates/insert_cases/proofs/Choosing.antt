@@ -4,10 +4,10 @@ use Rattle.std.specs.Prelude.{slice_get}
 use Rattle.std.proofs.lemmas.Option.{slice_get_within}
 use Rattle.std.proofs.lemmas.Bool.{ltb-true, le-ltb, false≢true, cases_lt, cases_order}
 use Rattle.key_bits.specs.Bits.{IsFirstDifference}
-use Rattle.pieces.proofs.Affected.{affected_again}
-use Rattle.pieces.proofs.Paths.{size_pos}
-use Rattle.pieces.specs.Growth.{affected_first, affected_count, IsAffected, IsFresh}
-use Rattle.pieces.specs.Piece.{size}
+use Rattle.node_tries.proofs.Affected.{affected_again}
+use Rattle.node_tries.proofs.Paths.{size_pos}
+use Rattle.node_tries.specs.Growth.{affected_first, affected_count, IsAffected, IsFresh}
+use Rattle.node_tries.specs.Piece.{size}
 use Rattle.tries.specs.Affected.{affected, IsPart}
 use Rattle.tries.specs.Keys.{Key, bit, AgreeBelow}
 use Rattle.tries.specs.Place.{spot}

@@ -9,12 +9,12 @@ use Rattle.compound_node.specs.declared.halves.Cut.{Cut}
 use Rattle.compound_node.specs.declared.halves.Half.{Half}
 use Rattle.compound_node.specs.declared.halves.Half.TheVariants.{One, Many, Same}
 use Rattle.tries.proofs.Building.{greatest-append}
-use Rattle.pieces.specs.Changes.{replaced}
-use Rattle.pieces.specs.Growth.{forked, grown}
-use Rattle.pieces.specs.Piece.{Piece, Place, Fork, places, size}
-use Rattle.pieces.specs.Grafts.{grafted, IsAbovePath}
+use Rattle.node_tries.specs.Changes.{replaced}
+use Rattle.node_tries.specs.Growth.{forked, grown}
+use Rattle.node_tries.specs.Piece.{Piece, Place, Fork, places, size}
+use Rattle.node_tries.specs.Grafts.{grafted, IsAbovePath}
 use Rattle.insert_cases.specs.Grown.{is_same, half_piece}
-use Rattle.pieces.proofs.Grafting.{size-replaced}
+use Rattle.node_tries.proofs.Grafting.{size-replaced}
 
 pub height_positive : (n : NodeView) → IsLawfulNode n → 0 < n.height
 height_positive n l = let several = l.several in omega (arith, l.above 0 (Leaf 0) (omega arith))

@@ -2,7 +2,7 @@
 use Rattle.std.proofs.Common.{◌≡◌, ℕ, ◌*◌, ◌<◌, ap, subst, arith}
 use Rattle.std.specs.Prelude.{All}
 use Rattle.key_bits.specs.declared.TheConstants.{MAX_BYTES}
-use Rattle.pieces.specs.Piece.{Place, Fork, places}
+use Rattle.node_tries.specs.Piece.{Place, Fork, places}
 use Rattle.compound_node.specs.Nodes.{IsEntry, height_of}
 use Rattle.compound_node.specs.declared.entries.Entry.{Entry}
 use Rattle.tries.specs.Content.{first}

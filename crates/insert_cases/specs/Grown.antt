@@ -7,8 +7,8 @@ use Rattle.compound_node.specs.declared.entries.Entry.TheVariants.{Leaf}
 use Rattle.compound_node.specs.declared.halves.Cut.{Cut}
 use Rattle.compound_node.specs.declared.halves.Half.{Half}
 use Rattle.compound_node.specs.declared.halves.Half.TheVariants.{One, Many, Same}
-use Rattle.pieces.specs.Piece.{Piece, Place}
-use Rattle.pieces.specs.Changes.{AtRootFork}
+use Rattle.node_tries.specs.Piece.{Piece, Place}
+use Rattle.node_tries.specs.Changes.{AtRootFork}
 use Rattle.insert_cases.specs.declared.growth.Grown.{Grown}
 use Rattle.insert_cases.specs.declared.growth.Grown.TheVariants.{One as Whole, Two}
 

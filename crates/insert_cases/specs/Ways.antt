@@ -1,8 +1,8 @@
 -- The way of a key's search through the nodes of a tree, and which node an insertion affects.
 use Rattle.std.specs.Bool.{MatchBool}
 use Rattle.std.specs.Prelude.{◌≡◌, ℕ, zero, suc, ◌<◌, List, [], ◌∷◌, Bool, true, false, ◌&&◌, nat_lt, if◌then◌else◌}
-use Rattle.pieces.specs.Piece.{size}
-use Rattle.pieces.specs.Growth.{IsAffected, affected_first}
+use Rattle.node_tries.specs.Piece.{size}
+use Rattle.node_tries.specs.Growth.{IsAffected, affected_first}
 use Rattle.tries.specs.Affected.{affected, IsPart}
 use Rattle.tries.specs.Keys.{Key, bit}
 use Rattle.tries.specs.Place.{spot}

@@ -2,7 +2,7 @@
 
 ghost use Rattle.std.specs.Prelude.{◌≡◌, ◌↔◌, ℕ, ◌+◌, ◌<◌, IsTrue, length};
 ghost use Rattle.key_bits.specs.Bits.{IsFirstDifference};
-ghost use Rattle.pieces.specs.Growth.{affected_first, affected_count};
+ghost use Rattle.node_tries.specs.Growth.{affected_first, affected_count};
 ghost use Rattle.tries.specs.Keys.{Key as KeyBytes};
 ghost use Rattle.tries.specs.Place.{spot};
 ghost use Rattle.tries.specs.Tree.{Tree, IsTrie, IsBuilt, subtrie};

@@ -1,12 +1,12 @@
 //! A node with one entry more: whole, or cut in two where it was full.
 
 ghost use Rattle.std.specs.Prelude.{◌≡◌, ◌↔◌, ◌<◌, IsTrue, length, false, true, if◌then◌else◌};
-ghost use Rattle.pieces.specs.Piece.{size, Place as At, Fork};
-ghost use Rattle.pieces.specs.Growth.{grown, IsAffected};
-ghost use Rattle.pieces.specs.Changes.{AtRootFork};
+ghost use Rattle.node_tries.specs.Piece.{size, Place as At, Fork};
+ghost use Rattle.node_tries.specs.Growth.{grown, IsAffected};
+ghost use Rattle.node_tries.specs.Changes.{AtRootFork};
 ghost use Rattle.compound_node.specs.Halves.{HalfShows, CutShows};
 ghost use Rattle.compound_node.specs.Nodes.{piece, IsEntry, IsLawfulNode, IsBuiltFrom};
-ghost use Rattle.pieces.specs.Grafts.{grafted, IsAbovePath};
+ghost use Rattle.node_tries.specs.Grafts.{grafted, IsAbovePath};
 ghost use Rattle.insert_cases.specs.Grown.{GrownShows, IsCutOf, is_whole, keeps_node, keeps_side, half_piece};
 
 use compound_node::{Cut, Entry, Half, Node};

@@ -10,15 +10,15 @@ use Rattle.partial_keys.proofs.Reading.{row, row-set}
 use Rattle.partial_keys.specs.Rows.{row_of}
 use Rattle.partial_keys.specs.Runs.{agree_in, IsRunStart, IsRunEnd}
 use Rattle.partial_keys.specs.Shows.{ShowsPiece}
-use Rattle.pieces.proofs.Affected.{within, within_past, within_before, within_shift, within_all, within_in, within_true, rises_after, whole_first}
-use Rattle.pieces.proofs.Growing.{affected_fits}
-use Rattle.pieces.proofs.Paths.{NoneHas, only_path, length-paths, paths-left, paths-right, none_before}
-use Rattle.pieces.proofs.Positions.{has_after, Ascends-front, below_front, ascends_back, IsPlaceOf}
-use Rattle.pieces.proofs.Tests.{same_bools}
-use Rattle.pieces.proofs.Using.{later_columns}
-use Rattle.pieces.specs.Growth.{affected_first, affected_count}
-use Rattle.pieces.specs.Piece.{Piece, Place, Fork, size, paths, RisesFrom, UsesOnly}
-use Rattle.pieces.specs.Positions.{has, Ascends, AllBelow}
+use Rattle.node_tries.proofs.Affected.{within, within_past, within_before, within_shift, within_all, within_in, within_true, rises_after, whole_first}
+use Rattle.node_tries.proofs.Growing.{affected_fits}
+use Rattle.node_tries.proofs.Paths.{NoneHas, only_path, length-paths, paths-left, paths-right, none_before}
+use Rattle.node_tries.proofs.Positions.{has_after, Ascends-front, below_front, ascends_back, IsPlaceOf}
+use Rattle.node_tries.proofs.Tests.{same_bools}
+use Rattle.node_tries.proofs.Using.{later_columns}
+use Rattle.node_tries.specs.Growth.{affected_first, affected_count}
+use Rattle.node_tries.specs.Piece.{Piece, Place, Fork, size, paths, RisesFrom, UsesOnly}
+use Rattle.node_tries.specs.Positions.{has, Ascends, AllBelow}
 
 eqb_add : (m a b : ℕ) → eqb (m + a) (m + b) ≡ eqb a b
 eqb_add m a b = same_bools _ _ (λ e. eq-eqb a b (let f : m + a ≡ m + b = eqb-true (m + a) (m + b) e in omega arith)) (λ e. eq-eqb (m + a) (m + b) (let f : a ≡ b = eqb-true a b e in omega arith))

@@ -13,11 +13,11 @@ use Rattle.partial_keys.proofs.Squeezing.{is_one, is_zero}
 use Rattle.partial_keys.specs.Rows.{row_of}
 use Rattle.partial_keys.specs.Shows.{Covers}
 use Rattle.partial_keys.specs.Squeezed.{IsRowOver, bits_of, closed_row, or_all, squeezed}
-use Rattle.pieces.proofs.Positions.{kept-pad, length-kept}
-use Rattle.pieces.proofs.Tests.{map_same}
-use Rattle.pieces.specs.Kept.{kept}
-use Rattle.pieces.specs.Piece.{Piece, paths, uses}
-use Rattle.pieces.specs.Positions.{has}
+use Rattle.node_tries.proofs.Positions.{kept-pad, length-kept}
+use Rattle.node_tries.proofs.Tests.{map_same}
+use Rattle.node_tries.specs.Kept.{kept}
+use Rattle.node_tries.specs.Piece.{Piece, paths, uses}
+use Rattle.node_tries.specs.Positions.{has}
 
 regroup : (h d p r : ℕ) → h * (p * 2) + (d * p + r) ≡ (h * 2 + d) * p + r
 regroup h d p r = omega arith

@@ -9,11 +9,11 @@ use Rattle.key_bits.proofs.Gathering.{code-lt, code-shifted}
 use Rattle.key_bits.specs.Gather.{code}
 use Rattle.partial_keys.specs.Rows.{complies}
 use Rattle.partial_keys.specs.Squeezed.{bits_of, squeezed}
-use Rattle.pieces.proofs.Paths.{inside}
-use Rattle.pieces.proofs.Positions.{kept-pad}
-use Rattle.pieces.proofs.Tests.{same_bools, all_at, all_from, all_weaker}
-use Rattle.pieces.specs.Kept.{kept}
-use Rattle.pieces.specs.Positions.{has, all}
+use Rattle.node_tries.proofs.Paths.{inside}
+use Rattle.node_tries.proofs.Positions.{kept-pad}
+use Rattle.node_tries.proofs.Tests.{same_bools, all_at, all_from, all_weaker}
+use Rattle.node_tries.specs.Kept.{kept}
+use Rattle.node_tries.specs.Positions.{has, all}
 
 -- 1 or 0
 abbrev pub digit : Bool → ℕ

@@ -12,13 +12,13 @@ use Rattle.partial_keys.proofs.Squeezing.{kept_coded}
 use Rattle.partial_keys.specs.Rows.{row_of, rows_of}
 use Rattle.partial_keys.specs.Shows.{ShowsPiece, Covers}
 use Rattle.partial_keys.specs.Squeezed.{used_bits, squeezed, or_all}
-use Rattle.pieces.proofs.Paths.{NoneHas, length-places, length-paths, RisesFrom-weaker, none_before}
-use Rattle.pieces.proofs.Positions.{has_after, Ascends-kept, map-kept, length-kept}
-use Rattle.pieces.proofs.Tests.{map_same}
-use Rattle.pieces.proofs.Using.{uses_after, any-uses, all-used, UsesOnly-used}
-use Rattle.pieces.specs.Kept.{kept}
-use Rattle.pieces.specs.Piece.{Piece, Fork, places, size, paths, RisesFrom, UsesOnly, uses, used_columns}
-use Rattle.pieces.specs.Positions.{has, all, any, Ascends, front_below}
+use Rattle.node_tries.proofs.Paths.{NoneHas, length-places, length-paths, RisesFrom-weaker, none_before}
+use Rattle.node_tries.proofs.Positions.{has_after, Ascends-kept, map-kept, length-kept}
+use Rattle.node_tries.proofs.Tests.{map_same}
+use Rattle.node_tries.proofs.Using.{uses_after, any-uses, all-used, UsesOnly-used}
+use Rattle.node_tries.specs.Kept.{kept}
+use Rattle.node_tries.specs.Piece.{Piece, Fork, places, size, paths, RisesFrom, UsesOnly, uses, used_columns}
+use Rattle.node_tries.specs.Positions.{has, all, any, Ascends, front_below}
 
 pub row_of-used : {A : Type 0} (P : Piece A) (cs path : List ℕ) → length cs ≤ 32 → row_of (used_columns P cs) path ≡ squeezed (code 32 (map (uses P) cs)) (row_of cs path)
 row_of-used P cs path l =

@@ -7,10 +7,10 @@ use Rattle.partial_keys.proofs.Showing.{shown_columns, affected_range, shows-gro
 use Rattle.partial_keys.specs.Rows.{row_of}
 use Rattle.partial_keys.specs.Shows.{ShowsPiece}
 use Rattle.partial_keys.specs.Spread.{spread_row, forked_rows}
-use Rattle.pieces.proofs.Positions.{front_below-place, with_position-split, Ascends-with_position, has-at, IsPlaceOf}
-use Rattle.pieces.specs.Growth.{affected_count, IsAffected, grown, edited, forked_places}
-use Rattle.pieces.specs.Piece.{Piece}
-use Rattle.pieces.specs.Positions.{has, Ascends, front_below, with_position}
+use Rattle.node_tries.proofs.Positions.{front_below-place, with_position-split, Ascends-with_position, has-at, IsPlaceOf}
+use Rattle.node_tries.specs.Growth.{affected_count, IsAffected, grown, edited, forked_places}
+use Rattle.node_tries.specs.Piece.{Piece}
+use Rattle.node_tries.specs.Positions.{has, Ascends, front_below, with_position}
 
 -- the 1 of column j
 abbrev pub weight : ℕ → ℕ

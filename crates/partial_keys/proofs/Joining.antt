@@ -9,12 +9,12 @@ use Rattle.partial_keys.proofs.Rowing.{rows-new_column}
 use Rattle.partial_keys.specs.Rows.{row_of, rows_of}
 use Rattle.partial_keys.specs.Shows.{Covers, ShowsPiece}
 use Rattle.partial_keys.specs.Spread.{spread_row}
-use Rattle.pieces.proofs.Paths.{none_has}
-use Rattle.pieces.proofs.Positions.{Ascends-with_position, IsPlaceOf, front_below-place, has-with_position, length-with_position, with_position-split}
-use Rattle.pieces.proofs.Tests.{map_same}
-use Rattle.pieces.proofs.Using.{UsesOnly-more}
-use Rattle.pieces.specs.Piece.{Fork, Piece, paths, RisesFrom, uses}
-use Rattle.pieces.specs.Positions.{all, front_below, has, with_position}
+use Rattle.node_tries.proofs.Paths.{none_has}
+use Rattle.node_tries.proofs.Positions.{Ascends-with_position, IsPlaceOf, front_below-place, has-with_position, length-with_position, with_position-split}
+use Rattle.node_tries.proofs.Tests.{map_same}
+use Rattle.node_tries.proofs.Using.{UsesOnly-more}
+use Rattle.node_tries.specs.Piece.{Fork, Piece, paths, RisesFrom, uses}
+use Rattle.node_tries.specs.Positions.{all, front_below, has, with_position}
 
 -- the path through one fork more has its bit, too
 row_of-below : (cs : List ℕ) (p : ℕ) (path : List ℕ) → row_of cs (p ∷ path) ≡ bit_or (row_of cs path) (row_of cs (p ∷ []))

@@ -7,7 +7,7 @@ use Rattle.std.proofs.lemmas.Simd.{leading_from_mask_l, mask_l-lt, mask_l-mod, t
 use Rattle.std.specs.Int.Count.{trailing_of_zero}
 use Rattle.std.specs.List.{prefix_len}
 use Rattle.partial_keys.specs.Columns.{AreColumnLanes}
-use Rattle.pieces.specs.Positions.{front_below}
+use Rattle.node_tries.specs.Positions.{front_below}
 use lib.Count.{count_trailing_zeros}
 use lib.Lanes.{mask_l, top, zip2}
 

@@ -7,12 +7,12 @@ use Rattle.key_bits.proofs.Gathering.{code-lt}
 use Rattle.key_bits.specs.Gather.{code}
 use Rattle.partial_keys.specs.Shown.{shown, piece_of}
 use Rattle.partial_keys.specs.Shows.{ShowsPiece, Covers}
-use Rattle.pieces.proofs.Paths.{NoneHas, size_pos, length-places, length-paths, none_before}
-use Rattle.pieces.proofs.Positions.{has-later, has_after}
-use Rattle.pieces.proofs.Tests.{map_same}
-use Rattle.pieces.proofs.Using.{later_columns}
-use Rattle.pieces.specs.Piece.{Piece, Place, Fork, places, paths, RisesFrom, UsesOnly}
-use Rattle.pieces.specs.Positions.{has, Ascends, front_below}
+use Rattle.node_tries.proofs.Paths.{NoneHas, size_pos, length-places, length-paths, none_before}
+use Rattle.node_tries.proofs.Positions.{has-later, has_after}
+use Rattle.node_tries.proofs.Tests.{map_same}
+use Rattle.node_tries.proofs.Using.{later_columns}
+use Rattle.node_tries.specs.Piece.{Piece, Place, Fork, places, paths, RisesFrom, UsesOnly}
+use Rattle.node_tries.specs.Positions.{has, Ascends, front_below}
 
 -- the row of a path over the columns, of w bits
 abbrev pub row : ℕ → List ℕ → List ℕ → ℕ

@@ -9,14 +9,14 @@ use Rattle.key_bits.specs.Gather.{code}
 use Rattle.partial_keys.proofs.Codes.{code-join, code-or}
 use Rattle.partial_keys.specs.Rows.{row_of, rows_of}
 use Rattle.partial_keys.specs.Spread.{spread_row, forked_rows}
-use Rattle.pieces.proofs.Edits.{edited-map}
-use Rattle.pieces.proofs.Growing.{affected_fits, paths-grown, forked_paths}
-use Rattle.pieces.proofs.Paths.{NoneHas, length-paths}
-use Rattle.pieces.proofs.Positions.{has_after, has-with_position}
-use Rattle.pieces.proofs.Tests.{map_same}
-use Rattle.pieces.specs.Growth.{affected_first, affected_count, grown, edited}
-use Rattle.pieces.specs.Piece.{Piece, size, paths, RisesFrom}
-use Rattle.pieces.specs.Positions.{has, Ascends, with_position}
+use Rattle.node_tries.proofs.Edits.{edited-map}
+use Rattle.node_tries.proofs.Growing.{affected_fits, paths-grown, forked_paths}
+use Rattle.node_tries.proofs.Paths.{NoneHas, length-paths}
+use Rattle.node_tries.proofs.Positions.{has_after, has-with_position}
+use Rattle.node_tries.proofs.Tests.{map_same}
+use Rattle.node_tries.specs.Growth.{affected_first, affected_count, grown, edited}
+use Rattle.node_tries.specs.Piece.{Piece, size, paths, RisesFrom}
+use Rattle.node_tries.specs.Positions.{has, Ascends, with_position}
 
 pub spread_code : (xs ys : List Bool) → length xs + length ys ≤ 31 → code 32 (xs ++ false ∷ ys) ≡ spread_row (length xs) (code 32 (xs ++ ys))
 spread_code xs ys l =

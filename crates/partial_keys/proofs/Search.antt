@@ -12,13 +12,13 @@ use Rattle.partial_keys.specs.Leads.{IsPlaceForDense, IsPlaceForKey}
 use Rattle.partial_keys.specs.Rows.{dense_of, row_of, rows_of, complies, IsHighest, with_unused, dense_bit}
 use Rattle.partial_keys.specs.Shows.{ShowsPiece}
 use Rattle.partial_keys.specs.Squeezed.{bits_of}
-use Rattle.pieces.proofs.Highest.{highest-append, highest-map, highest_at, highest_agree}
-use Rattle.pieces.proofs.Paths.{size_pos, length-paths, first_path, highest-paths, AllInside, inside, leads_to-agree}
-use Rattle.pieces.proofs.Positions.{front_below-column}
-use Rattle.pieces.proofs.Tests.{Agree, same_from_flags}
-use Rattle.pieces.specs.Highest.{highest}
-use Rattle.pieces.specs.Piece.{Piece, paths, leads_to}
-use Rattle.pieces.specs.Positions.{has, all, any, Ascends}
+use Rattle.node_tries.proofs.Highest.{highest-append, highest-map, highest_at, highest_agree}
+use Rattle.node_tries.proofs.Paths.{size_pos, length-paths, first_path, highest-paths, AllInside, inside, leads_to-agree}
+use Rattle.node_tries.proofs.Positions.{front_below-column}
+use Rattle.node_tries.proofs.Tests.{Agree, same_from_flags}
+use Rattle.node_tries.specs.Highest.{highest}
+use Rattle.node_tries.specs.Piece.{Piece, paths, leads_to}
+use Rattle.node_tries.specs.Positions.{has, all, any, Ascends}
 
 -- the unused places comply with no dense key whose bit 0 is 0
 unused_fail : (d n : ℕ) → d < 2 ^ 32 → d % 2 ≡ 0 → any (complies d) (replicate n 4294967295) ≡ false

@@ -7,16 +7,16 @@ use Rattle.partial_keys.proofs.Rowing.{rows-grown, rows-new_column}
 use Rattle.partial_keys.specs.Rows.{row_of}
 use Rattle.partial_keys.specs.Shows.{ShowsPiece, Covers}
 use Rattle.partial_keys.specs.Spread.{spread_row, forked_rows}
-use Rattle.pieces.proofs.Growing.{affected_fits, places-grown, UsesOnly-grown, RisesFrom-grown, uses-grown, fresh_from_columns}
-use Rattle.pieces.proofs.Paths.{length-places, length-paths, none_has}
-use Rattle.pieces.proofs.Positions.{has-bigger, has-here}
-use Rattle.pieces.proofs.Replacing.{paths-replaced, places-replaced, uses-replaced, UsesOnly-replaced, RisesFrom-replaced}
-use Rattle.pieces.proofs.Tests.{all_weaker, all-put}
-use Rattle.pieces.proofs.Using.{fewer_columns, UsesOnly-more}
-use Rattle.pieces.specs.Changes.{replaced}
-use Rattle.pieces.specs.Growth.{affected_first, affected_count, IsFresh, IsAffected, grown, edited, forked_places}
-use Rattle.pieces.specs.Piece.{Piece, Place, Fork, size, paths, uses}
-use Rattle.pieces.specs.Positions.{has, Ascends}
+use Rattle.node_tries.proofs.Growing.{affected_fits, places-grown, UsesOnly-grown, RisesFrom-grown, uses-grown, fresh_from_columns}
+use Rattle.node_tries.proofs.Paths.{length-places, length-paths, none_has}
+use Rattle.node_tries.proofs.Positions.{has-bigger, has-here}
+use Rattle.node_tries.proofs.Replacing.{paths-replaced, places-replaced, uses-replaced, UsesOnly-replaced, RisesFrom-replaced}
+use Rattle.node_tries.proofs.Tests.{all_weaker, all-put}
+use Rattle.node_tries.proofs.Using.{fewer_columns, UsesOnly-more}
+use Rattle.node_tries.specs.Changes.{replaced}
+use Rattle.node_tries.specs.Growth.{affected_first, affected_count, IsFresh, IsAffected, grown, edited, forked_places}
+use Rattle.node_tries.specs.Piece.{Piece, Place, Fork, size, paths, uses}
+use Rattle.node_tries.specs.Positions.{has, Ascends}
 
 module _ {A : Type 0} where
   pub covered_length : (cs rows : List ℕ) (es : List A) (Q : Piece A) → Covers cs rows es Q → length rows ≡ length es

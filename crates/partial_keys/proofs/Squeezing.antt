@@ -9,8 +9,8 @@ use Rattle.std.specs.Int.{bit_at}
 use Rattle.key_bits.specs.Gather.{code}
 use Rattle.partial_keys.proofs.Codes.{bits_of-code, get_or-bits_of}
 use Rattle.partial_keys.specs.Squeezed.{bits_of, used_bits, or_all}
-use Rattle.pieces.proofs.Positions.{kept_suc, kept_over}
-use Rattle.pieces.specs.Kept.{kept}
+use Rattle.node_tries.proofs.Positions.{kept_suc, kept_over}
+use Rattle.node_tries.specs.Kept.{kept}
 
 pub is_one : (n v : ℕ) → bit_and (n / 2 ^ v) 1 ≢ 0 → eqb (bit_at n v) 1 ≡ true
 is_one n v h = let e : bit_and (n / 2 ^ v) 1 ≡ bit_at n v = shr_and_one n v in eq-eqb (bit_at n v) 1 (omega (arith, e, h, bit_at-lt n v))

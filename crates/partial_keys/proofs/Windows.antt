@@ -19,7 +19,7 @@ use Rattle.std.specs.List.{range_with_len}
 use lib.Lanes.{zip2, sel_l, pick_l, mask_l, top, Each1, chunk}
 use Rattle.key_bits.specs.Gather.{code, gathered}
 use Rattle.key_bits.proofs.Gathering.{code-lt, code-shifted}
-use Rattle.pieces.specs.Positions.{Ascends}
+use Rattle.node_tries.specs.Positions.{Ascends}
 use Rattle.partial_keys.specs.Columns.{AreColumnLanes, HoldsColumns, IsColumns}
 use Rattle.partial_keys.proofs.Codes.{code-append, code-falses}
 use Rattle.partial_keys.specs.declared.gathering.TheConstants.{MASKS}

@@ -1,6 +1,6 @@
 -- What the columns of a node, its discriminative bits, are.
 use Rattle.std.specs.Prelude.{List, length, replicate, take, ℕ, ◌++◌, ◌-◌, ◌<◌, ◌≡◌, ◌≤◌}
-use Rattle.pieces.specs.Positions.{Ascends, AllBelow}
+use Rattle.node_tries.specs.Positions.{Ascends, AllBelow}
 
 -- 1 to 31 positions that rise strictly, each below 65,535
 pub record IsColumns (positions : List ℕ) : Type 0 where

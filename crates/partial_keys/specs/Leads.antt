@@ -2,8 +2,8 @@
 use Rattle.std.specs.Prelude.{Bool, List, ℕ, ◌%◌, ◌≡◌}
 use Rattle.partial_keys.specs.Rows.{IsHighest, complies, dense_bit, dense_of, with_unused}
 use Rattle.partial_keys.specs.Shows.{ShowsPiece}
-use Rattle.pieces.specs.Highest.{highest}
-use Rattle.pieces.specs.Piece.{Piece, leads_to}
+use Rattle.node_tries.specs.Highest.{highest}
+use Rattle.node_tries.specs.Piece.{Piece, leads_to}
 
 -- for each piece whose rows these words are, with the unused places: place i is where its forks lead by the dense key
 abbrev pub IsPlaceForDense : List ℕ → ℕ → ℕ → Type 0

@@ -2,8 +2,8 @@
 use Rattle.std.specs.Int.{bit_at}
 use Rattle.std.specs.Prelude.{Bool, List, bit_and, eqb, false, length, map, replicate, slice_index, ℕ, ◌++◌, ◌-◌, ◌<◌, ◌≡◌}
 use Rattle.key_bits.specs.Gather.{gathered}
-use Rattle.pieces.specs.Piece.{Piece, paths}
-use Rattle.pieces.specs.Positions.{has, front_below}
+use Rattle.node_tries.specs.Piece.{Piece, paths}
+use Rattle.node_tries.specs.Positions.{has, front_below}
 
 -- the key's bits at the columns, column j as bit 31-j
 abbrev pub dense_of : List ℕ → (ℕ → Bool) → ℕ

@@ -1,7 +1,7 @@
 -- What rows over columns show, read column by column.
 use Rattle.std.specs.Prelude.{List, [], cond, drop, length, map, nat_eq, slice_index_or, suc, take, zero, ℕ, ◌-◌, ◌^◌, ◌∷◌}
-use Rattle.pieces.specs.Piece.{Piece, Place, Fork}
-use Rattle.pieces.specs.Positions.{front_below}
+use Rattle.node_tries.specs.Piece.{Piece, Place, Fork}
+use Rattle.node_tries.specs.Positions.{front_below}
 
 -- The piece that the rows show, where the first of the remaining columns is bit w - 1 of each row.
 -- Where no row has a 1 in the first column, what the other columns show. Otherwise a fork there: the rows with 0

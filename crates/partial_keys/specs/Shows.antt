@@ -1,8 +1,8 @@
 -- Rows over columns that show a piece.
 use Rattle.std.specs.Prelude.{List, length, true, ℕ, ◌≡◌, ◌≤◌}
 use Rattle.partial_keys.specs.Rows.{rows_of}
-use Rattle.pieces.specs.Piece.{Piece, places, RisesFrom, UsesOnly, uses}
-use Rattle.pieces.specs.Positions.{all, Ascends}
+use Rattle.node_tries.specs.Piece.{Piece, places, RisesFrom, UsesOnly, uses}
+use Rattle.node_tries.specs.Positions.{all, Ascends}
 
 -- the rows over the columns show the piece, and the entries stand at its places
 pub record ShowsPiece {A : Type 0} (columns rows : List ℕ) (entries : List A) (piece : Piece A) : Type 0 where

@@ -2,7 +2,7 @@
 use Rattle.std.specs.Int.{bit_at}
 use Rattle.std.specs.Prelude.{Bool, List, [], bit_or, eqb, length, suc, zero, ℕ, ◌%◌, ◌*◌, ◌+◌, ◌-◌, ◌/◌, ◌^◌, ◌∷◌, ◌≡◌}
 use Rattle.key_bits.specs.Gather.{code}
-use Rattle.pieces.specs.Kept.{kept}
+use Rattle.node_tries.specs.Kept.{kept}
 
 -- the w lowest bits of a number, the highest first
 abbrev pub bits_of : ℕ → ℕ → List Bool

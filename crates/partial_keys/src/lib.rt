@@ -2,8 +2,8 @@
 #![tactic(auto)]
 
 ghost use Rattle.std.specs.Prelude.{◌≡◌, ◌+◌, ◌-◌, ◌++◌, ◌∷◌, ◌<◌, ◌≤◌, drop, insert, length, map, remove, replicate, slice_index, take};
-ghost use Rattle.pieces.specs.Kept.{kept};
-ghost use Rattle.pieces.specs.Positions.{front_below};
+ghost use Rattle.node_tries.specs.Kept.{kept};
+ghost use Rattle.node_tries.specs.Positions.{front_below};
 ghost use Rattle.partial_keys.specs.Columns.{with_free};
 ghost use Rattle.partial_keys.specs.Leads.{IsFound};
 ghost use Rattle.partial_keys.specs.Rows.{complies};
@@ -43,8 +43,8 @@ impl Model for Columns {
 impl Columns {
     ghost use Rattle.std.specs.Prelude.{◌≡◌, ◌<◌, ◌≤◌, false, length, slice_index, take};
     ghost use Rattle.key_bits.specs.Bits.{bit_of};
-    ghost use Rattle.pieces.specs.Kept.{kept};
-    ghost use Rattle.pieces.specs.Positions.{front_below, has, with_position};
+    ghost use Rattle.node_tries.specs.Kept.{kept};
+    ghost use Rattle.node_tries.specs.Positions.{front_below, has, with_position};
     ghost use Rattle.partial_keys.specs.Columns.{HoldsColumns, IsColumns, with_free};
     ghost use Rattle.partial_keys.specs.Rows.{dense_of};
     ghost use Rattle.partial_keys.specs.Squeezed.{used_bits};

@@ -3,7 +3,7 @@ use Rattle.std.proofs.Common.{◌≡◌, ℕ, List, [], ◌∷◌, ◌++◌, len
 use Rattle.std.specs.Prelude.{slice_get}
 use Rattle.key_bits.specs.Bits.{IsFirstDifference}
 use Rattle.key_bits.specs.Key.{IsKey}
-use Rattle.pieces.specs.Piece.{Place}
+use Rattle.node_tries.specs.Piece.{Place}
 use Rattle.compound_node.specs.Nodes.{NodeView}
 use Rattle.compound_node.specs.declared.entries.Entry.{Entry}
 use Rattle.finite_map.specs.Maps.{Map, with_value, value_at, step_where, reply_of, map_after}

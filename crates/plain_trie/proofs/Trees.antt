@@ -2,7 +2,7 @@
 use Rattle.std.proofs.Common.{◌≡◌, ◌≢◌, ℕ, refl, ap, sym, ◌∙◌, subst, Option, Some, None, [], get_or}
 use Rattle.std.specs.Prelude.{IsSomeAnd, MatchOption, option_and_then}
 use Rattle.std.specs.Vec.{vec_capacity}
-use Rattle.pieces.specs.Piece.{Place}
+use Rattle.node_tries.specs.Piece.{Place}
 use Rattle.compound_node.specs.Nodes.{height_of}
 use Rattle.compound_node.specs.declared.entries.Entry.{Entry}
 use Rattle.finite_map.specs.Maps.{value_at}

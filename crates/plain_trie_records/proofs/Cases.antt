@@ -2,9 +2,9 @@
 use Rattle.std.proofs.Common.{◌≡◌, ◌≢◌, ◌⊎◌, inl, inr, ℕ, zero, suc, ◌+◌, ◌<◌, ◌≤◌, max, Bool, true, false, List, length, nat_lt, refl, ap, ap₂, sym, ◌∙◌, subst, arith, Some, if◌then◌else◌}
 use Rattle.std.specs.Prelude.{◌↔◌, IsTrue, MatchBool, not, slice_get, slice_set}
 use Rattle.std.proofs.lemmas.Bool.{lt-ltb, le-ltb, cases_lt, false≢true}
-use Rattle.pieces.specs.Growth.{affected_first, affected_count, grown}
-use Rattle.pieces.specs.Grafts.{grafted}
-use Rattle.pieces.specs.Piece.{Place, Fork, places, size}
+use Rattle.node_tries.specs.Growth.{affected_first, affected_count, grown}
+use Rattle.node_tries.specs.Grafts.{grafted}
+use Rattle.node_tries.specs.Piece.{Place, Fork, places, size}
 use Rattle.compound_node.specs.Nodes.{NodeView, piece, height_of, greatest_height, IsEntry, IsBuiltFrom}
 use Rattle.compound_node.specs.declared.entries.Entry.{Entry}
 use Rattle.compound_node.specs.declared.entries.Entry.TheVariants.{Leaf, Node}

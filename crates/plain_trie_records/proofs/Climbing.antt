@@ -3,9 +3,9 @@ use Rattle.std.proofs.Common.{◌≡◌, ◌⊎◌, inl, inr, ℕ, suc, ◌+◌,
 use Rattle.std.proofs.lemmas.Option.{slice_get_within}
 use Rattle.std.specs.Prelude.{slice_get, cond, nat_lt, ◌-◌}
 use Rattle.key_bits.specs.Bits.{IsFirstDifference, bit_of}
-use Rattle.pieces.specs.Changes.{replaced}
-use Rattle.pieces.specs.Growth.{affected_first, affected_count, IsAffected, grown as piece_grown}
-use Rattle.pieces.specs.Piece.{Place, Fork, places, size, leads_to}
+use Rattle.node_tries.specs.Changes.{replaced}
+use Rattle.node_tries.specs.Growth.{affected_first, affected_count, IsAffected, grown as piece_grown}
+use Rattle.node_tries.specs.Piece.{Place, Fork, places, size, leads_to}
 use Rattle.compound_node.specs.Nodes.{NodeView, piece, IsLawfulNode, IsBuiltFrom, StandsBelow, greatest_height, height_of, head_of}
 use Rattle.compound_node.specs.declared.entries.Entry.{Entry}
 use Rattle.compound_node.specs.declared.entries.Entry.TheVariants.{Leaf, Node}
@@ -23,7 +23,7 @@ use Rattle.tries.proofs.Places.{grown, leads_spot, spot_below}
 use Rattle.tries.proofs.Tries.{rises, trie_within, built_within, within_child, subtrie_child}
 use Rattle.plain_trie_records.specs.declared.leaf.LeafRecord.{LeafRecord}
 use Rattle.insert_cases.specs.declared.raising.Risen.{Risen}
-use Rattle.pieces.specs.Grafts.{grafted, IsAbovePath}
+use Rattle.node_tries.specs.Grafts.{grafted, IsAbovePath}
 use Rattle.plain_trie_records.specs.Rising.{IsRaised, IsAddable, IsLifting, IsNew, level, records}
 use Rattle.insert_cases.specs.Risen.{subtrie_of}
 use Rattle.plain_trie_records.specs.Risen.{IsNamed, RisenShows, OthersStay}

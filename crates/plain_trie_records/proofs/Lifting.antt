@@ -19,7 +19,7 @@ use Rattle.tries.proofs.Fitting.{lower_positive}
 use Rattle.tries.proofs.Places.{grown}
 use Rattle.tries.proofs.Puts.{lower_in_own_subtrie, built_in_own_subtrie}
 use Rattle.tries.proofs.Tries.{built_within}
-use Rattle.pieces.specs.Grafts.{grafted}
+use Rattle.node_tries.specs.Grafts.{grafted}
 use Rattle.insert_cases.specs.Ways.{WayBelow}
 use Rattle.plain_trie_records.specs.declared.leaf.LeafRecord.{LeafRecord}
 use Rattle.insert_cases.specs.declared.raising.Risen.{Risen}

@@ -3,7 +3,7 @@ use Rattle.std.proofs.Common.{◌≡◌, ◌≢◌, inl, inr, ℕ, ◌<◌, List
 use Rattle.std.specs.Prelude.{slice_get}
 use Rattle.std.proofs.lemmas.Bool.{false≢true}
 use Rattle.std.proofs.lemmas.Option.{slice_get_within}
-use Rattle.pieces.specs.Piece.{places}
+use Rattle.node_tries.specs.Piece.{places}
 use Rattle.compound_node.specs.Nodes.{NodeView, greatest_height}
 use Rattle.tries.proofs.Changes.{put}
 use Rattle.tries.specs.Content.{Item}

@@ -2,7 +2,7 @@
 use Rattle.std.proofs.Common.{◌≡◌, ◌⊎◌, inl, inr, ℕ, suc, ◌+◌, ◌*◌, ◌<◌, ◌≤◌, Bool, true, false, List, refl, ap, ap₂, sym, ◌∙◌, arith, if◌then◌else◌, MatchBool}
 use Rattle.std.proofs.lemmas.Bool.{lt-ltb, false≢true}
 use Rattle.key_bits.specs.declared.TheConstants.{MAX_BYTES}
-use Rattle.pieces.specs.Piece.{Place, Fork, places, size}
+use Rattle.node_tries.specs.Piece.{Place, Fork, places, size}
 use Rattle.compound_node.specs.Nodes.{NodeView, piece, greatest_height, head_of}
 use Rattle.compound_node.specs.declared.entries.Entry.{Entry}
 use Rattle.tries.specs.Affected.{affected}
@@ -16,7 +16,7 @@ use Rattle.tries.specs.Search.{child}
 use Rattle.tries.specs.Tree.{Subtrie, Fixed, Tree, leaf, node, fork, subtrie, IsTrie, IsBuilt, IsLower, first_position, Within, here, inside, zero_side, one_side, IsTip}
 use Rattle.tries.proofs.Spots.{path_spot, grafted_spot}
 use Rattle.tries.proofs.Tries.{has_within}
-use Rattle.pieces.specs.Grafts.{grafted, IsAbovePath}
+use Rattle.node_tries.specs.Grafts.{grafted, IsAbovePath}
 use Rattle.insert_cases.specs.Ways.{WayBelow}
 use Rattle.tries.proofs.Building.{size-piece, body_bound, greatest_if_lower, node_built, fork_of_two_places}
 use Rattle.plain_trie_records.specs.declared.leaf.LeafRecord.{LeafRecord}

@@ -3,8 +3,8 @@ use Rattle.std.proofs.Common.{◌≡◌, ℕ, ◌+◌, ◌<◌, true, false, Lis
 use Rattle.std.specs.Prelude.{slice_get}
 use Rattle.std.proofs.lemmas.Option.{get_or_from_slice_get, slice_get_within}
 use Rattle.std.proofs.lemmas.List.{get_or_append_left, get_or-append-add}
-use Rattle.pieces.proofs.Paths.{length-places}
-use Rattle.pieces.specs.Piece.{Place, Fork, places, size, leads_to}
+use Rattle.node_tries.proofs.Paths.{length-places}
+use Rattle.node_tries.specs.Piece.{Place, Fork, places, size, leads_to}
 use Rattle.key_bits.specs.Bits.{bit_of}
 use Rattle.compound_node.specs.Nodes.{NodeView, piece, IsLawfulNode, height_of}
 use Rattle.compound_node.specs.declared.entries.Entry.{Entry}

@@ -3,10 +3,10 @@ use Rattle.std.proofs.Common.{◌≡◌, ◌≢◌, ℕ, ◌+◌, ◌-◌, ◌<�
 use Rattle.std.specs.Prelude.{◌↔◌, IsTrue}
 use Rattle.std.proofs.lemmas.Bool.{cases_Bool, lt-ltb, ltb-true, ltb-false, false≢true}
 use Rattle.std.proofs.lemmas.List.{length-map}
-use Rattle.pieces.proofs.Paths.{length-paths}
-use Rattle.pieces.specs.Changes.{AtRootFork}
-use Rattle.pieces.specs.Growth.{IsAffected, IsFresh, forked, grown}
-use Rattle.pieces.specs.Piece.{Piece, Place, Fork, size, paths, RisesFrom}
+use Rattle.node_tries.proofs.Paths.{length-paths}
+use Rattle.node_tries.specs.Changes.{AtRootFork}
+use Rattle.node_tries.specs.Growth.{IsAffected, IsFresh, forked, grown}
+use Rattle.node_tries.specs.Piece.{Piece, Place, Fork, size, paths, RisesFrom}
 use Rattle.partial_keys.specs.Rows.{row_of}
 use Rattle.compound_node.specs.Halves.{HalfShows}
 use Rattle.compound_node.specs.Nodes.{NodeView, piece, IsLawfulNode}
@@ -15,12 +15,12 @@ use Rattle.compound_node.specs.declared.halves.Cut.{Cut}
 use Rattle.compound_node.specs.declared.halves.Half.{Half}
 use Rattle.compound_node.specs.declared.halves.Half.TheVariants.{One, Many, Same}
 use Rattle.tries.specs.Tree.{Subtrie, first_position}
-use Rattle.pieces.specs.Grafts.{grafted, IsAbovePath}
+use Rattle.node_tries.specs.Grafts.{grafted, IsAbovePath}
 use Rattle.insert_cases.specs.Grown.{GrownShows, SidesShow, is_whole, keeps_node}
 use Rattle.plain_trie_records.specs.Heights.{KeepsHeight, IsHalfSteady, IsGrownSteady}
 use Rattle.insert_cases.specs.declared.growth.Grown.{Grown}
 use Rattle.insert_cases.specs.declared.growth.Grown.TheVariants.{One as Whole, Two}
-use Rattle.pieces.proofs.Grafting.{size-grown}
+use Rattle.node_tries.proofs.Grafting.{size-grown}
 use Rattle.tries.proofs.Building.{size-piece}
 use Rattle.compound_node.proofs.Roots.{first_column}
 

@@ -5,7 +5,7 @@ use Rattle.std.specs.Prelude.{slice_get}
 use Rattle.std.proofs.lemmas.List.{get_or-set_same, get_or-set_other, get_or_append_left}
 use Rattle.std.proofs.Math.Seq.{get_or-append_seam}
 use Rattle.std.proofs.lemmas.Option.{slice_get-get_or, get_or_from_slice_get, slice_get_within}
-use Rattle.pieces.specs.Piece.{Piece, Place, Fork, places, size}
+use Rattle.node_tries.specs.Piece.{Piece, Place, Fork, places, size}
 use Rattle.compound_node.specs.Halves.{HalfShows}
 use Rattle.compound_node.specs.Nodes.{NodeView, piece, IsLawfulNode, IsBuiltFrom, greatest_height}
 use Rattle.compound_node.specs.declared.entries.Entry.{Entry}

@@ -1,9 +1,9 @@
 -- The case of an insertion: how it is chosen at a node, and what is done there.
 use Rattle.std.specs.Prelude.{◌≡◌, ◌⊎◌, ℕ, zero, suc, ◌<◌, ◌≤◌, Bool, List, length, slice_get, slice_set, Some, false, true}
-use Rattle.pieces.specs.Changes.{AtRootFork}
-use Rattle.pieces.specs.Grafts.{grafted}
-use Rattle.pieces.specs.Growth.{grown}
-use Rattle.pieces.specs.Piece.{Place, Fork}
+use Rattle.node_tries.specs.Changes.{AtRootFork}
+use Rattle.node_tries.specs.Grafts.{grafted}
+use Rattle.node_tries.specs.Growth.{grown}
+use Rattle.node_tries.specs.Piece.{Place, Fork}
 use Rattle.compound_node.specs.Nodes.{NodeView, piece, height_of, IsBuiltFrom}
 use Rattle.compound_node.specs.declared.entries.Entry.{Entry}
 use Rattle.compound_node.specs.declared.entries.Entry.TheVariants.{Leaf, Node}

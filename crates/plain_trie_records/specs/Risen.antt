@@ -1,7 +1,7 @@
 -- What records show where a node gave way to what an entry added below it has made.
 use Rattle.std.specs.Prelude.{◌≡◌, ◌≢◌, ◌⊎◌, ℕ, ◌+◌, List, [], ◌∷◌, ◌++◌, slice_get, slice_set, Some}
-use Rattle.pieces.specs.Changes.{AtRootFork}
-use Rattle.pieces.specs.Piece.{Place, places}
+use Rattle.node_tries.specs.Changes.{AtRootFork}
+use Rattle.node_tries.specs.Piece.{Place, places}
 use Rattle.compound_node.specs.Nodes.{NodeView, piece, IsLawfulNode, greatest_height}
 use Rattle.compound_node.specs.declared.entries.Entry.{Entry}
 use Rattle.compound_node.specs.declared.entries.Entry.TheVariants.{Node}

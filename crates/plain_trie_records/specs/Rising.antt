@@ -2,7 +2,7 @@
 use Rattle.std.specs.Prelude.{◌≡◌, ◌≢◌, ℕ, suc, ◌<◌, List, ◌∷◌, [], ◌++◌, length, slice_get, Some}
 use Rattle.key_bits.specs.Key.{IsKey}
 use Rattle.key_bits.specs.Bits.{IsFirstDifference}
-use Rattle.pieces.specs.Piece.{Place}
+use Rattle.node_tries.specs.Piece.{Place}
 use Rattle.compound_node.specs.Nodes.{NodeView, IsBuiltFrom}
 use Rattle.compound_node.specs.declared.entries.Entry.{Entry}
 use Rattle.compound_node.specs.declared.entries.Entry.TheVariants.{Node}

@@ -2,7 +2,7 @@
 
 ghost use Rattle.std.specs.Prelude.{◌≡◌, ◌+◌, ◌^◌, ◌<◌, ◌≤◌, [], ◌∷◌, ◌++◌, Some, MatchBool, not, true, slice_get, slice_set};
 ghost use Rattle.std.specs.Vec.{vec_len, vec_capacity};
-ghost use Rattle.pieces.specs.Piece.{Piece, Fork, Place as At, size};
+ghost use Rattle.node_tries.specs.Piece.{Piece, Fork, Place as At, size};
 ghost use Rattle.compound_node.specs.Nodes.{NodeView, IsLawfulNode, IsEntry, IsBuiltFrom};
 ghost use Rattle.compound_node.specs.declared.entries.Entry.{Entry as EntryView};
 ghost use Rattle.insert_cases.specs.Grown.{GrownShows, is_whole};

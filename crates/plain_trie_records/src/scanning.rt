@@ -3,7 +3,7 @@
 ghost use Rattle.std.specs.Prelude.{◌≡◌, ◌≢◌, [], ◌∷◌, ◌++◌, take, MatchResult};
 ghost use Rattle.finite_map.specs.Maps.{Map};
 ghost use Rattle.finite_map.specs.Scans.{IsScanOf, is_within, range_of};
-ghost use Rattle.pieces.specs.Piece.{Place as At};
+ghost use Rattle.node_tries.specs.Piece.{Place as At};
 ghost use Rattle.plain_trie_records.specs.Store.{ShowsSound};
 ghost use Rattle.tries.specs.Content.{items, pairs};
 ghost use Rattle.tries.specs.Tree.{Tree, subtrie};

@@ -2,7 +2,7 @@
 use Rattle.std.proofs.Common.{◌≡◌, ℕ, ◌+◌, ◌*◌, ◌≤◌, List, sym, ap, subst, ◌∙◌, arith}
 use Rattle.compound_node.specs.Nodes.{NodeView, greatest_height, piece}
 use Rattle.key_bits.specs.declared.TheConstants.{MAX_BYTES}
-use Rattle.pieces.specs.Piece.{size, places}
+use Rattle.node_tries.specs.Piece.{size, places}
 use Rattle.tries.proofs.Building.{fork_of, fork_of_two_places, new_bound, size-piece}
 use Rattle.record_words.specs.declared.layout.Layout.{Layout}
 use Rattle.tries.specs.Tree.{Subtrie, Tree, fork, subtrie, IsTrie, IsBuilt, first_position}

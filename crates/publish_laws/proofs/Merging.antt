@@ -4,7 +4,7 @@ use Rattle.compound_node.specs.Nodes.{NodeView, greatest_height, height_of, piec
 use Rattle.compound_node.specs.declared.entries.Entry.{Entry}
 use Rattle.compound_node.specs.declared.entries.Entry.TheVariants.{Node}
 use Rattle.finite_map.specs.declared.Change.{Change}
-use Rattle.pieces.specs.Piece.{Fork, Place, RisesFrom, places}
+use Rattle.node_tries.specs.Piece.{Fork, Place, RisesFrom, places}
 use Rattle.record_words.specs.declared.layout.Layout.{Layout}
 use Rattle.tries.specs.Content.{item}
 use Rattle.tries.specs.Keys.{Key, bit}

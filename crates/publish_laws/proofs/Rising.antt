@@ -4,7 +4,7 @@ use Rattle.versions.specs.declared.Rec.{Rec}
 use Rattle.compound_node.specs.Nodes.{piece, NodeView}
 use Rattle.compound_node.specs.declared.entries.Entry.{Entry}
 use Rattle.compound_node.specs.declared.entries.Entry.TheVariants.{Node, Leaf}
-use Rattle.pieces.specs.Piece.{Place, Fork}
+use Rattle.node_tries.specs.Piece.{Place, Fork}
 use Rattle.record_words.specs.declared.layout.Layout.{Layout}
 use Rattle.tries.specs.Keys.{bit}
 use Rattle.tries.specs.Tree.{Subtrie, Tree, fork, subtrie, IsTrie, IsBuilt}

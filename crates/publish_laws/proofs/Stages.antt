@@ -5,7 +5,7 @@ use Rattle.compound_node.specs.declared.entries.Entry.{Entry}
 use Rattle.compound_node.specs.declared.entries.Entry.TheVariants.{Leaf, Node}
 use Rattle.compound_node.specs.Nodes.{NodeView, StandsBelow, height_of, piece}
 use Rattle.key_bits.specs.declared.TheConstants.{MAX_BYTES}
-use Rattle.pieces.specs.Piece.{Place, Fork, size, places}
+use Rattle.node_tries.specs.Piece.{Place, Fork, size, places}
 use Rattle.partial_keys.specs.Shows.{ShowsPiece}
 use Rattle.record_words.specs.declared.layout.Layout.{Layout}
 use Rattle.record_words.specs.Entry.{HasEntryWord, entry_word}

@@ -1,7 +1,7 @@
 -- Locks and loads under them, and what a pass recalls after an act.
 use Rattle.std.specs.Prelude.{◌≡◌, ℕ, ◌+◌, List, Some, get_or}
 use Rattle.compound_node.specs.declared.entries.Entry.TheVariants.{Node}
-use Rattle.pieces.specs.Piece.{Place}
+use Rattle.node_tries.specs.Piece.{Place}
 use Rattle.record_words.specs.declared.layout.Layout.{Layout}
 use Rattle.record_words.specs.declared.TheConstants.{HEAD_WORDS}
 use Rattle.tries.specs.Keys.{Key}

@@ -3,7 +3,7 @@ use Rattle.std.specs.Prelude.{◌≡◌, ℕ, List, [], ◌∷◌, ◌++◌, Non
 use Rattle.compound_node.specs.Nodes.{NodeView, piece}
 use Rattle.compound_node.specs.declared.entries.Entry.{Entry}
 use Rattle.compound_node.specs.declared.entries.Entry.TheVariants.{Leaf, Node}
-use Rattle.pieces.specs.Piece.{Place, Fork}
+use Rattle.node_tries.specs.Piece.{Place, Fork}
 use Rattle.record_words.specs.declared.layout.Layout.{Layout}
 use Rattle.tries.specs.Keys.{bit}
 use Rattle.tries.specs.Tree.{Subtrie}

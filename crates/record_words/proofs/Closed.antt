@@ -6,10 +6,10 @@ use Rattle.std.proofs.lemmas.List.{set-append_right}
 use Rattle.compound_node.specs.declared.entries.Entry.{Entry}
 use Rattle.compound_node.specs.Nodes.{NodeView, StandsBelow, head_of, piece}
 use Rattle.compound_node.proofs.Lawful.{piece-replaced, replaced_lawful}
-use Rattle.pieces.proofs.Beside.{beside_elsewhere, without-beside}
-use Rattle.pieces.proofs.Paths.{length-places}
-use Rattle.pieces.specs.Changes.{collapsed, replaced, without}
-use Rattle.pieces.specs.Piece.{size}
+use Rattle.node_tries.proofs.Beside.{beside_elsewhere, without-beside}
+use Rattle.node_tries.proofs.Paths.{length-places}
+use Rattle.node_tries.specs.Changes.{collapsed, replaced, without}
+use Rattle.node_tries.specs.Piece.{size}
 use Rattle.record_words.specs.Entry.{HasEntryWord, entry_word}
 use Rattle.record_words.specs.Node.{CanCloseAt, HasNodeWords, entry_words, head_words, node_words}
 use Rattle.record_words.proofs.Entries.{entry_words_at, entry_words_made, length-entry_words}

@@ -13,8 +13,8 @@ use Rattle.compound_node.specs.Nodes.{FitsHead, HeadView, IsBuiltFrom, NodeView,
 use Rattle.compound_node.specs.Removal.{removed_row}
 use Rattle.partial_keys.specs.Rows.{with_unused}
 use Rattle.partial_keys.specs.Squeezed.{IsRowOver, or_all, squeezed, used_bits}
-use Rattle.pieces.specs.Changes.{without}
-use Rattle.pieces.specs.Kept.{kept}
+use Rattle.node_tries.specs.Changes.{without}
+use Rattle.node_tries.specs.Kept.{kept}
 use Rattle.record_words.specs.Dropping.{CanDropAt}
 
 module _ {words : List ℕ} {node : NodeView} {at : ℕ} (can : CanDropAt words node at) (count : ℕ) (counted : count ≡ length node.entries) (old : List ℕ) (old_are : old ≡ with_unused node.rows) where

@@ -12,8 +12,8 @@ use Rattle.compound_node.specs.declared.entries.Entry.TheVariants.{Leaf, Node}
 use Rattle.compound_node.specs.Nodes.{HeadView, IsEntry, IsLawfulNode, NodeView, StandsBelow, greatest_height, head_of, height_of, piece}
 use Rattle.compound_node.proofs.Lawful.{same_count}
 use Rattle.compound_node.proofs.Taken.{one_left}
-use Rattle.pieces.specs.Changes.{without}
-use Rattle.pieces.specs.Piece.{Place}
+use Rattle.node_tries.specs.Changes.{without}
+use Rattle.node_tries.specs.Piece.{Place}
 use Rattle.record_words.specs.Entry.{HasEntryWord, entry_word}
 use Rattle.record_words.specs.Node.{HasHeadWords, HasNodeWords, HaveEntryWords, SpellEntries, entry_words, head_words, node_words}
 use Rattle.record_words.specs.Reading.{IsSpelledBy}

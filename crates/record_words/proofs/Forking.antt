@@ -10,8 +10,8 @@ use Rattle.compound_node.specs.declared.entries.Entry.TheVariants.{Leaf}
 use Rattle.partial_keys.proofs.Reaching.{front_below-columns}
 use Rattle.partial_keys.specs.Rows.{with_unused}
 use Rattle.partial_keys.specs.Spread.{forked_rows, spread_row}
-use Rattle.pieces.specs.Growth.{edited, grown}
-use Rattle.pieces.specs.Positions.{front_below, has, with_position}
+use Rattle.node_tries.specs.Growth.{edited, grown}
+use Rattle.node_tries.specs.Positions.{front_below, has, with_position}
 use Rattle.record_words.specs.Kinds.{head_size, kind_in, kind_of, kind_part, rows_from}
 use Rattle.record_words.specs.Node.{CanGrowAt, HasHead, head_words}
 use Rattle.record_words.specs.Packed.{meta_word, row_words}

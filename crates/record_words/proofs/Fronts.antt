@@ -11,10 +11,10 @@ use Rattle.compound_node.proofs.Lawful.{affected_range_is, same_count}
 use Rattle.partial_keys.proofs.Reaching.{front_below-filled}
 use Rattle.partial_keys.specs.Rows.{with_unused}
 use Rattle.partial_keys.specs.Runs.{IsRunEnd, IsRunStart}
-use Rattle.pieces.proofs.Positions.{front_below-place, IsPlaceOf}
-use Rattle.pieces.proofs.Tests.{same_bools}
-use Rattle.pieces.specs.Growth.{affected_count, affected_first}
-use Rattle.pieces.specs.Positions.{front_below}
+use Rattle.node_tries.proofs.Positions.{front_below-place, IsPlaceOf}
+use Rattle.node_tries.proofs.Tests.{same_bools}
+use Rattle.node_tries.specs.Growth.{affected_count, affected_first}
+use Rattle.node_tries.specs.Positions.{front_below}
 use Rattle.record_words.proofs.Lawful.{get_or-padded, length-with_unused, row-lt}
 
 -- ---- numbers that rise

@@ -7,7 +7,7 @@ use lib.Lanes.{Each1, chunk, digits_l, mask_l, number_l}
 use Rattle.std.proofs.Common.{ap₂, inl, inr}
 use Rattle.std.proofs.Math.ListN.{get_or-append}
 use Rattle.std.proofs.lemmas.Bool.{cases_lt, eq-eqb, eqb-false, eqb-true, ne_eqb}
-use Rattle.pieces.specs.Positions.{has}
+use Rattle.node_tries.specs.Positions.{has}
 use Rattle.compound_node.specs.Nodes.{NodeView, IsLawfulNode}
 use Rattle.compound_node.proofs.Lawful.{same_count}
 use Rattle.record_words.specs.Kinds.{with_free_to_16}

@@ -3,8 +3,8 @@ use Rattle.std.proofs.Common.{ℕ, ◌≡◌, ◌-◌, ◌^◌, ◌<◌, ◌≤�
 use Rattle.std.proofs.lemmas.Bool.{cases_lt}
 use Rattle.std.proofs.lemmas.List.{length-map, length-replicate, get_or-map, get_or_past, get_or_append_left, get_or-append_right, get_or-replicate}
 use Rattle.key_bits.proofs.Gathering.{code-lt}
-use Rattle.pieces.specs.Positions.{AllBelow}
-use Rattle.pieces.specs.Piece.{paths}
+use Rattle.node_tries.specs.Positions.{AllBelow}
+use Rattle.node_tries.specs.Piece.{paths}
 use Rattle.partial_keys.specs.Rows.{row_of, with_unused}
 use Rattle.compound_node.specs.Nodes.{NodeView, IsLawfulNode, piece}
 use Rattle.record_words.specs.Packed.{row_at}

@@ -5,7 +5,7 @@ use Rattle.std.specs.List.{range_with_len}
 use Rattle.std.proofs.lemmas.Bool.{cases_lt, ne_eqb}
 use Rattle.std.proofs.lemmas.List.{get_or-map, get_or_default, get_or_past}
 use Rattle.std.proofs.lemmas.List.FromFn.{get_or-range_with_len}
-use Rattle.pieces.specs.Positions.{Ascends}
+use Rattle.node_tries.specs.Positions.{Ascends}
 use Rattle.partial_keys.specs.Columns.{IsColumns}
 use Rattle.partial_keys.proofs.Windows.{rise_low}
 use Rattle.record_words.specs.Kinds.{bit_mask, first_byte, index_lanes, mask_lanes, near_position}

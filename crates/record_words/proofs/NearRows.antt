@@ -11,7 +11,7 @@ use lib.Lanes.{mask_l, sel_l, top, zip2}
 use Rattle.compound_node.proofs.Lawful.{same_count}
 use Rattle.compound_node.specs.Nodes.{IsLawfulNode, NodeView, piece}
 use Rattle.partial_keys.specs.Rows.{complies, dense_of, with_unused}
-use Rattle.pieces.specs.Piece.{leads_to}
+use Rattle.node_tries.specs.Piece.{leads_to}
 use Rattle.record_words.specs.Kinds.{kind_of}
 use Rattle.record_words.specs.Packed.{row_lanes}
 use Rattle.record_words.specs.declared.kind.Kind.TheVariants.{Middle, Narrow}

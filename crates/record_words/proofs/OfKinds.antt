@@ -3,7 +3,7 @@ use Rattle.std.proofs.Common.{ℕ, zero, suc, ◌≡◌, ◌≢◌, ◌+◌, ◌
 use Rattle.std.specs.Prelude.{nat_le}
 use Rattle.std.proofs.lemmas.Bool.{eqb-false, false≢true, le-leb, leb-true, ltb-true}
 use Rattle.partial_keys.specs.Columns.{IsColumns}
-use Rattle.pieces.specs.Positions.{all}
+use Rattle.node_tries.specs.Positions.{all}
 use Rattle.record_words.specs.Kinds.{HasNearLanes, are_near, first_byte, is_near, kind_of}
 use Rattle.record_words.specs.declared.kind.Kind.{Kind}
 use Rattle.record_words.specs.declared.kind.Kind.TheVariants.{Middle, Narrow, Wide}

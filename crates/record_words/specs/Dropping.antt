@@ -4,8 +4,8 @@ use Rattle.std.specs.Prelude.{ℕ, ◌≡◌, ◌+◌, ◌<◌, List, length, re
 use Rattle.compound_node.specs.Nodes.{HeadView, IsBuiltFrom, IsLawfulNode, NodeView, greatest_height, head_of, node_of, piece}
 use Rattle.partial_keys.specs.Columns.{IsColumns}
 use Rattle.partial_keys.specs.Squeezed.{IsRowOver, used_bits}
-use Rattle.pieces.specs.Changes.{without}
-use Rattle.pieces.specs.Kept.{kept}
+use Rattle.node_tries.specs.Changes.{without}
+use Rattle.node_tries.specs.Kept.{kept}
 use Rattle.record_words.specs.Node.{HasHead, head_words}
 use Rattle.record_words.specs.declared.TheConstants.{HEAD_WORDS}
 

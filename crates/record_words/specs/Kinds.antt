@@ -4,7 +4,7 @@ use Rattle.std.specs.List.{range_with_len}
 use lib.Lanes.{digits_l, number_l}
 use Rattle.key_bits.specs.declared.TheConstants.{MAX_BYTES}
 use Rattle.partial_keys.specs.Columns.{IsColumns}
-use Rattle.pieces.specs.Positions.{all}
+use Rattle.node_tries.specs.Positions.{all}
 use Rattle.record_words.specs.declared.kind.Kind.{Kind}
 use Rattle.record_words.specs.declared.kind.Kind.TheVariants.{Wide, Narrow, Middle}
 use Rattle.record_words.specs.declared.TheConstants.{FIRST_MIDDLE_ROWS, FIRST_NARROW_ROWS, FIRST_POSITIONS, FIRST_ROWS, HEAD_WORDS, MIDDLE_COLUMNS, MIDDLE_HEAD_WORDS, NARROW_COLUMNS, NARROW_HEAD_WORDS, WINDOW_BYTES}

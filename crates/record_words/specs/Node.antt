@@ -3,9 +3,9 @@ use Rattle.std.specs.List.{All, range_with_len}
 use Rattle.std.specs.Prelude.{ℕ, ◌≡◌, ◌<◌, ◌≤◌, ◌++◌, List, Option, Some, None, drop, length, map, slice_get}
 use Rattle.compound_node.specs.declared.entries.Entry.{Entry}
 use Rattle.compound_node.specs.Nodes.{NodeView, HeadView, IsBuiltFrom, IsEntry, IsLawfulNode, StandsBelow, head_of, piece}
-use Rattle.pieces.specs.Changes.{beside}
-use Rattle.pieces.specs.Growth.{IsAffected}
-use Rattle.pieces.specs.Piece.{Piece, Place}
+use Rattle.node_tries.specs.Changes.{beside}
+use Rattle.node_tries.specs.Growth.{IsAffected}
+use Rattle.node_tries.specs.Piece.{Piece, Place}
 use Rattle.record_words.specs.Entry.{HasEntryWord, entry_word}
 use Rattle.record_words.specs.Packed.{fixed_words}
 use Rattle.record_words.specs.declared.TheConstants.{HEAD_WORDS, MAX_ENTRIES}

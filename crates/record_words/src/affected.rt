@@ -2,7 +2,7 @@
 
 ghost use Rattle.std.specs.Prelude.{◌≡◌, ◌+◌, ◌<◌, count_by, length, nat_lt};
 ghost use Rattle.compound_node.specs.Nodes.{piece};
-ghost use Rattle.pieces.specs.Growth.{affected_count, affected_first};
+ghost use Rattle.node_tries.specs.Growth.{affected_count, affected_first};
 ghost use Rattle.record_words.specs.Node.{HasHeadWords, InNodesOf, head_words};
 ghost use Rattle.record_words.specs.Packed.{row_at};
 ghost use Rattle.record_words.specs.Reading.{IsSpelling};

@@ -7,9 +7,9 @@ ghost use Rattle.compound_node.specs.declared.entries.Entry.TheVariants.{Leaf as
 ghost use Rattle.partial_keys.specs.Columns.{IsColumns};
 ghost use Rattle.partial_keys.specs.Rows.{with_unused};
 ghost use Rattle.partial_keys.specs.Squeezed.{squeezed, used_bits};
-ghost use Rattle.pieces.specs.Changes.{collapsed, without};
-ghost use Rattle.pieces.specs.Growth.{grown};
-ghost use Rattle.pieces.specs.Kept.{kept};
+ghost use Rattle.node_tries.specs.Changes.{collapsed, without};
+ghost use Rattle.node_tries.specs.Growth.{grown};
+ghost use Rattle.node_tries.specs.Kept.{kept};
 ghost use Rattle.record_words.specs.Entry.{HasEntryWord, entry_word};
 ghost use Rattle.record_words.specs.Dropping.{CanDropAt, CanDropColumns, HasHeadWithout};
 ghost use Rattle.record_words.specs.Node.{CanCloseAt, CanTakeLeaf, HasHeadWords, HasNodeWords, CanGrowAt, HasHead, SpellBuilt, SpellEntries, SpellLeft, head_words, node_words};

@@ -3,7 +3,7 @@ use Rattle.std.proofs.Common.{◌≡◌, ◌↔◌, ◌⊎◌, inl, inr, ℕ, �
 use Rattle.std.proofs.lemmas.Bool.{false≢true}
 use Rattle.std.proofs.lemmas.List.{length-map}
 use Rattle.key_bits.specs.declared.TheConstants.{MAX_BYTES}
-use Rattle.pieces.specs.Piece.{Place, Fork}
+use Rattle.node_tries.specs.Piece.{Place, Fork}
 use Rattle.compound_node.specs.Nodes.{NodeView, head_of, piece}
 use Rattle.compound_node.specs.Halves.{HalfShows, CutShows}
 use Rattle.compound_node.specs.declared.entries.Entry.TheVariants.{Leaf, Node}

@@ -2,8 +2,8 @@
 use Rattle.std.proofs.Common.{◌≡◌, ◌⊎◌, inl, inr, ℕ, ◌+◌, ◌*◌, ◌<◌, ◌≤◌, List, [], length, get_or, refl, ap, sym, ◌∙◌, subst, arith}
 use Rattle.std.specs.Prelude.{All}
 use Rattle.key_bits.specs.declared.TheConstants.{MAX_BYTES}
-use Rattle.pieces.specs.Piece.{Place, Fork, places}
-use Rattle.pieces.proofs.Paths.{length-places}
+use Rattle.node_tries.specs.Piece.{Place, Fork, places}
+use Rattle.node_tries.proofs.Paths.{length-places}
 use Rattle.partial_keys.specs.Shows.{ShowsPiece}
 use Rattle.compound_node.specs.Nodes.{NodeView, head_of, piece, height_of, IsLawfulNode}
 use Rattle.compound_node.specs.declared.entries.Entry.TheVariants.{Leaf, Node}

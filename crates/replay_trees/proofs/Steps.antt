@@ -7,8 +7,8 @@ use Rattle.compound_node.specs.declared.entries.Entry.TheVariants.{Leaf, Node}
 use Rattle.compound_node.specs.declared.halves.Cut.{Cut}
 use Rattle.compound_node.specs.declared.halves.Half.{Half}
 use Rattle.compound_node.specs.declared.halves.Half.TheVariants.{One, Many, Same}
-use Rattle.pieces.specs.Piece.{Place, Fork, size, places}
-use Rattle.pieces.proofs.Paths.{size_pos, length-places}
+use Rattle.node_tries.specs.Piece.{Place, Fork, size, places}
+use Rattle.node_tries.proofs.Paths.{size_pos, length-places}
 use Rattle.tries.specs.Tree.{Subtrie}
 use Rattle.replay_trees.proofs.Lists.{all_parts}
 

@@ -3,7 +3,7 @@
 ghost use Rattle.std.specs.Prelude.{IfOk, IsTrue, length, ◌≡◌, ◌↔◌};
 ghost use Rattle.tries.specs.Keys.{IsParted};
 ghost use Rattle.compound_node.specs.Halves.{CutShows, HalfShows};
-ghost use Rattle.pieces.specs.Piece.{Place};
+ghost use Rattle.node_tries.specs.Piece.{Place};
 ghost use Rattle.replay_trees.specs.Parts.{AddsLeaf, HasGrown, HasMarks, IsNodeAt, IsPartRead, table_of};
 
 use crate::leaf::unpack_leaf;

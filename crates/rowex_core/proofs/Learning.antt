@@ -6,7 +6,7 @@ use Rattle.std.proofs.lemmas.List.Elements.{All-cons, All-weaker, All-from_recur
 use Rattle.finite_map.specs.declared.Change.{Change}
 use Rattle.finite_map.specs.Fronts.{BeginsWith, OthersGoOn}
 use Rattle.compound_node.specs.declared.entries.Entry.{Entry}
-use Rattle.pieces.specs.Piece.{Place}
+use Rattle.node_tries.specs.Piece.{Place}
 use Rattle.tries.specs.Tree.{Tree, leaf, node, fork, subtrie}
 use Rattle.versions.specs.declared.Rec.{Rec}
 use Rattle.versions.specs.declared.Rec.TheVariants.{Node as a_node, Leaf as a_leaf}

@@ -1,7 +1,7 @@
 -- What the words of a record in reach say of it in a version since the pin.
 use Rattle.std.proofs.Common.{◌≡◌, ℕ, zero, suc, ◌+◌, ◌-◌, ◌<◌, ◌≤◌, length, get_or, Some, None, nat_lt, if◌then◌else◌, sym, ap, ◌∙◌, arith, le_refl, le_trans}
 use Rattle.compound_node.specs.Nodes.{piece}
-use Rattle.pieces.specs.Piece.{size}
+use Rattle.node_tries.specs.Piece.{size}
 use Rattle.record_words.specs.Leaf.{leaf_words}
 use Rattle.record_words.specs.Packed.{fixed_words}
 use Rattle.record_words.proofs.UpToKey.{up_to_key_before}

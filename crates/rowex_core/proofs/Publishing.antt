@@ -6,7 +6,7 @@ use Rattle.std.proofs.lemmas.List.Elements.{filter-append}
 use Rattle.finite_map.specs.declared.Kind.TheVariants.{Removed}
 use Rattle.compound_node.specs.declared.entries.Entry.{Entry}
 use Rattle.compound_node.specs.declared.entries.Entry.TheVariants.{Leaf, Node}
-use Rattle.pieces.specs.Piece.{Place}
+use Rattle.node_tries.specs.Piece.{Place}
 use Rattle.tries.specs.Tree.{Tree, leaf, node, fork, subtrie, Has, IsTrie, IsBuilt, IsLower}
 use Rattle.tries.specs.Content.{Item, IsMore, added, behind, first}
 use Rattle.tries.proofs.Contents.{within_has}

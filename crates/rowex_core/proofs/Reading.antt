@@ -12,7 +12,7 @@ use Rattle.compound_node.specs.declared.entries.Entry.TheVariants.{Leaf, Node}
 use Rattle.compound_node.specs.Nodes.{NodeView, head_of, piece}
 use Rattle.compound_node.proofs.Lawful.{same_count}
 use Rattle.partial_keys.specs.Shown.{piece_of}
-use Rattle.pieces.specs.Piece.{Place, Fork, size, places}
+use Rattle.node_tries.specs.Piece.{Place, Fork, size, places}
 use Rattle.record_words.specs.Entry.{HasEntryWord, entry_word}
 use Rattle.record_words.specs.Node.{HasNodeWords, head_words, entry_words, node_words}
 use Rattle.record_words.specs.Kinds.{kind_in, kind_of, mask_index, position_index}
@@ -26,7 +26,7 @@ use Rattle.tries.specs.Tree.{Subtrie}
 use Rattle.tries.specs.Place.{entry_at}
 use Rattle.versions.specs.Heap.{NodeWords}
 use Rattle.rowex_core.specs.Reading.{column_byte, column_in, entry_of, entries_of, fixed_of, node_words_of, row_in}
-use Rattle.pieces.proofs.Paths.{length-places}
+use Rattle.node_tries.proofs.Paths.{length-places}
 
 -- Entries
 

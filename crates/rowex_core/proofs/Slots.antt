@@ -8,8 +8,8 @@ use Rattle.std.proofs.lemmas.List.Elements.{All-set}
 use Rattle.compound_node.specs.declared.entries.Entry.{Entry}
 use Rattle.compound_node.specs.Nodes.{NodeView, StandsBelow, head_of, piece}
 use Rattle.compound_node.proofs.Lawful.{replaced_lawful, piece-replaced}
-use Rattle.pieces.specs.Piece.{Place, Fork, size}
-use Rattle.pieces.specs.Changes.{replaced}
+use Rattle.node_tries.specs.Piece.{Place, Fork, size}
+use Rattle.node_tries.specs.Changes.{replaced}
 use Rattle.record_words.specs.Entry.{HasEntryWord, entry_word}
 use Rattle.record_words.specs.Node.{HasNodeWords, head_words, entry_words, node_words}
 use Rattle.record_words.proofs.Entries.{length-entry_words, entry_words_at, entry_words_made}

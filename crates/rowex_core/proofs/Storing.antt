@@ -7,8 +7,8 @@ use Rattle.std.proofs.Math.Seq.{take-set-lt}
 use Rattle.compound_node.specs.declared.entries.Entry.{Entry}
 use Rattle.compound_node.specs.declared.entries.Entry.TheVariants.{Leaf}
 use Rattle.partial_keys.specs.Shown.{shown}
-use Rattle.pieces.specs.Positions.{front_below}
-use Rattle.pieces.specs.Piece.{Fork}
+use Rattle.node_tries.specs.Positions.{front_below}
+use Rattle.node_tries.specs.Piece.{Fork}
 use Rattle.tries.specs.Place.{Swap, swap, in_zero, in_one}
 use Rattle.versions.specs.declared.Rec.TheVariants.{Node as a_node}
 use Rattle.versions.specs.Heap.{IsNear}

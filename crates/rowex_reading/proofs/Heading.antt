@@ -5,9 +5,9 @@ use Rattle.compound_node.specs.declared.entries.Entry.{Entry}
 use Rattle.compound_node.specs.declared.entries.Entry.TheVariants.{Leaf, Node}
 use Rattle.compound_node.specs.Nodes.{NodeView, HeadView, IsLawfulNode, head_of, leaves, node_of, piece}
 use Rattle.compound_node.proofs.Lawful.{same_count, with_leaves}
-use Rattle.pieces.specs.Piece.{Place, Fork, places, uses}
-use Rattle.pieces.proofs.Mapping.{places-map_places, paths-map_places, uses-map_places, UsesOnly-map_places, RisesFrom-map_places, map_places}
-use Rattle.pieces.proofs.Tests.{all_weaker}
+use Rattle.node_tries.specs.Piece.{Place, Fork, places, uses}
+use Rattle.node_tries.proofs.Mapping.{places-map_places, paths-map_places, uses-map_places, UsesOnly-map_places, RisesFrom-map_places, map_places}
+use Rattle.node_tries.proofs.Tests.{all_weaker}
 use Rattle.partial_keys.specs.Rows.{row_of}
 use Rattle.partial_keys.specs.Shows.{ShowsPiece}
 use Rattle.partial_keys.proofs.Reading.{piece_of_shown}

@@ -4,7 +4,7 @@ use Rattle.key_bits.specs.declared.TheConstants.{MAX_BYTES}
 use Rattle.compound_node.specs.Nodes.{height_of}
 use Rattle.compound_node.specs.declared.entries.Entry.{Entry}
 use Rattle.compound_node.specs.declared.entries.Entry.TheVariants.{Leaf, Node}
-use Rattle.pieces.specs.Piece.{size}
+use Rattle.node_tries.specs.Piece.{size}
 use Rattle.tries.specs.Keys.{Key}
 use Rattle.tries.specs.Tree.{Subtrie, Tree, leaf, node, fork, Has, here}
 use Rattle.tries.specs.Search.{Follows}

@@ -7,7 +7,7 @@ use Rattle.compound_node.specs.Nodes.{height_of}
 use Rattle.key_bits.specs.declared.TheConstants.{MAX_BYTES}
 use Rattle.finite_map.specs.declared.Change.{Change}
 use Rattle.finite_map.specs.Fronts.{map_of}
-use Rattle.pieces.specs.Piece.{Place}
+use Rattle.node_tries.specs.Piece.{Place}
 use Rattle.record_words.specs.declared.layout.Layout.{Layout}
 use Rattle.record_words.specs.Entry.{HasEntryWord, entry_word}
 use Rattle.record_words.specs.Reading.{IsSpelling}

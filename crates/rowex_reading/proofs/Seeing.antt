@@ -2,7 +2,7 @@
 use Rattle.std.proofs.Common.{◌≡◌, inl, inr, ℕ, suc, zero, ◌≤◌, List, [], ◌∷◌, ◌++◌, length, take, refl, ap, sym, ◌∙◌, arith, le_trans}
 use Rattle.std.proofs.lemmas.List.{length-append}
 use Rattle.key_bits.specs.Bits.{bit_of}
-use Rattle.pieces.specs.Piece.{leads_to}
+use Rattle.node_tries.specs.Piece.{leads_to}
 use Rattle.compound_node.specs.Nodes.{HeadView, NodeView, IsLawfulNode, head_of, leaves, node_of, piece}
 use Rattle.compound_node.specs.declared.entries.Entry.{Entry}
 use Rattle.finite_map.specs.declared.Change.{Change}

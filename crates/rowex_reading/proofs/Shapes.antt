@@ -2,7 +2,7 @@
 use Rattle.std.proofs.Common.{◌≡◌, ℕ, ◌<◌, length, subst, sym, ◌∙◌}
 use Rattle.compound_node.specs.Nodes.{HeadView, node_of, leaves, IsLawfulNode}
 use Rattle.compound_node.proofs.Lawful.{same_count}
-use Rattle.pieces.specs.Piece.{size}
+use Rattle.node_tries.specs.Piece.{size}
 use Rattle.record_words.specs.declared.layout.Layout.{Layout}
 use Rattle.tries.proofs.Building.{size-piece}
 use Rattle.tries.specs.Tree.{Subtrie}

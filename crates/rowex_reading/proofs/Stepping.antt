@@ -7,7 +7,7 @@ use Rattle.compound_node.specs.Nodes.{NodeView, IsLawfulNode, head_of, leaves, n
 use Rattle.insert_cases.specs.declared.choice.PathNode.{PathNode}
 use Rattle.key_bits.specs.Bits.{bit_of}
 use Rattle.partial_keys.specs.Rows.{dense_of}
-use Rattle.pieces.specs.Piece.{leads_to}
+use Rattle.node_tries.specs.Piece.{leads_to}
 use Rattle.record_words.specs.declared.layout.Layout.{Layout}
 use Rattle.record_words.specs.declared.TheConstants.{FIRST_ROWS, HEAD_WORDS, ROW_WORDS}
 use Rattle.record_words.specs.HeadParts.{AreNumbersOf, HasHeadOf, InNodesOfKind, InNodesWith, back_words, front_words}

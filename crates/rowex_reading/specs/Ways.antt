@@ -6,7 +6,7 @@ use Rattle.compound_node.specs.Nodes.{HeadView, height_of}
 use Rattle.compound_node.specs.declared.entries.Entry.{Entry}
 use Rattle.compound_node.specs.declared.entries.Entry.TheVariants.{Leaf as LeafEntry, Node}
 use Rattle.insert_cases.specs.declared.choice.PathNode.{PathNode}
-use Rattle.pieces.specs.Piece.{size}
+use Rattle.node_tries.specs.Piece.{size}
 use Rattle.record_words.specs.declared.layout.Layout.{Layout}
 use Rattle.tries.specs.Keys.{Key, bit, AgreeBelow}
 use Rattle.tries.specs.Place.{spot}

@@ -1,7 +1,7 @@
 //! The entries of a node that a position affects, by a look at the node's head.
 
 ghost use Rattle.std.specs.Prelude.{◌≡◌, ◌+◌, ℕ};
-ghost use Rattle.pieces.specs.Growth.{affected_count, affected_first};
+ghost use Rattle.node_tries.specs.Growth.{affected_count, affected_first};
 ghost use Rattle.record_words.specs.declared.TheConstants.{HEAD_WORDS};
 ghost use Rattle.version_laws.specs.Scan.{IsShaped};
 ghost use Rattle.rowex_reading.specs.Reads.{IsReader, Reads};

@@ -7,8 +7,8 @@ use Rattle.std.proofs.lemmas.Bool.{cases_lt, lt-ltb, le-ltb}
 use Rattle.std.proofs.lemmas.List.{get_or_default, get_or_past, get_or-map, length-map}
 use Rattle.std.proofs.lemmas.Option.{slice_get-get_or, slice_get_past}
 use Rattle.key_bits.specs.Gather.{code}
-use Rattle.pieces.specs.Piece.{paths}
-use Rattle.pieces.specs.Positions.{has}
+use Rattle.node_tries.specs.Piece.{paths}
+use Rattle.node_tries.specs.Positions.{has}
 use Rattle.partial_keys.specs.Rows.{row_of}
 use Rattle.compound_node.specs.declared.entries.Entry.{Entry}
 use Rattle.compound_node.specs.declared.entries.Entry.TheVariants.{Leaf, Node}

@@ -10,7 +10,7 @@ use Rattle.compound_node.specs.declared.entries.Entry.TheVariants.{Leaf}
 use Rattle.compound_node.specs.Nodes.{NodeView, piece}
 use Rattle.finite_map.specs.declared.Change.{Change}
 use Rattle.finite_map.specs.declared.Kind.TheVariants.{Replaced}
-use Rattle.pieces.specs.Piece.{size}
+use Rattle.node_tries.specs.Piece.{size}
 use Rattle.record_words.specs.Entry.{entry_word}
 use Rattle.record_words.specs.Node.{HasNodeWords, node_words}
 use Rattle.tries.specs.Place.{entry_at}

@@ -11,10 +11,10 @@ use Rattle.insert_cases.specs.declared.choice.PathNode.{PathNode}
 use Rattle.insert_cases.specs.Levels.{IsLevel, IsChosen}
 use Rattle.insert_cases.proofs.Affecting.{first_zero, first_one, key_part}
 use Rattle.insert_cases.proofs.Choosing.{some_injective, some_at}
-use Rattle.pieces.proofs.Growing.{affected_fits}
-use Rattle.pieces.proofs.Paths.{size_pos}
-use Rattle.pieces.specs.Growth.{affected_first, affected_count}
-use Rattle.pieces.specs.Piece.{Place, Fork, size}
+use Rattle.node_tries.proofs.Growing.{affected_fits}
+use Rattle.node_tries.proofs.Paths.{size_pos}
+use Rattle.node_tries.specs.Growth.{affected_first, affected_count}
+use Rattle.node_tries.specs.Piece.{Place, Fork, size}
 use Rattle.record_words.specs.declared.layout.Layout.{Layout}
 use Rattle.key_bits.specs.Bits.{bit_of}
 use Rattle.tries.specs.Affected.{subtrie_affected}

@@ -17,8 +17,8 @@ use Rattle.key_bits.proofs.Order.{first_difference, greater_by_first, less_iff_f
 use Rattle.compound_node.specs.Nodes.{HeadView, IsLawfulNode, node_of, leaves}
 use Rattle.compound_node.specs.declared.entries.Entry.{Entry}
 use Rattle.compound_node.specs.declared.entries.Entry.TheVariants.{Leaf, Node}
-use Rattle.pieces.specs.Piece.{size}
-use Rattle.pieces.proofs.Paths.{length-places}
+use Rattle.node_tries.specs.Piece.{size}
+use Rattle.node_tries.proofs.Paths.{length-places}
 use Rattle.tries.specs.Keys.{Key, bit, IsBefore, IsAtMost}
 use Rattle.versions.specs.State.{IsSteady}
 use Rattle.rowex_core.specs.declared.event.Event.{Event}

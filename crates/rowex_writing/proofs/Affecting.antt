@@ -6,8 +6,8 @@ use Rattle.std.specs.Prelude.{slice_get}
 use Rattle.insert_cases.specs.declared.choice.PathNode.{PathNode}
 use Rattle.insert_cases.specs.Levels.{IsLevel}
 use Rattle.insert_cases.proofs.Choosing.{some_at}
-use Rattle.pieces.specs.Growth.{affected_first, affected_count}
-use Rattle.pieces.proofs.Growing.{affected_fits}
+use Rattle.node_tries.specs.Growth.{affected_first, affected_count}
+use Rattle.node_tries.proofs.Growing.{affected_fits}
 use Rattle.record_words.specs.declared.layout.Layout.{Layout}
 use Rattle.tries.specs.Keys.{Key}
 use Rattle.tries.specs.Place.{spot}

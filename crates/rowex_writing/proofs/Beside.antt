@@ -7,9 +7,9 @@ use Rattle.std.proofs.lemmas.Option.{slice_get-get_or}
 use Rattle.compound_node.specs.Beside.{IsBesideIn}
 use Rattle.compound_node.specs.Nodes.{NodeView, piece}
 use Rattle.compound_node.specs.declared.entries.Entry.TheVariants.{Node}
-use Rattle.pieces.specs.Changes.{beside}
-use Rattle.pieces.specs.Piece.{Place, size}
-use Rattle.pieces.proofs.Beside.{beside_elsewhere, sibling_beside}
+use Rattle.node_tries.specs.Changes.{beside}
+use Rattle.node_tries.specs.Piece.{Place, size}
+use Rattle.node_tries.proofs.Beside.{beside_elsewhere, sibling_beside}
 use Rattle.record_words.specs.declared.layout.Layout.{Layout}
 use Rattle.record_words.specs.Packed.{position_at}
 use Rattle.tries.specs.Place.{entry_at, spot, subtrie_sibling}

@@ -18,8 +18,8 @@ use Rattle.versions.specs.Frames.{IsGrown}
 use Rattle.versions.specs.State.{Past}
 use Rattle.versions.specs.declared.Rec.TheVariants.{Node as a_node}
 use Rattle.versions.proofs.Members.{all_of}
-use Rattle.pieces.proofs.Paths.{size_pos}
-use Rattle.pieces.specs.Piece.{Place, Fork, size}
+use Rattle.node_tries.proofs.Paths.{size_pos}
+use Rattle.node_tries.specs.Piece.{Place, Fork, size}
 use Rattle.record_words.specs.Leaf.{HasLeafWords}
 use Rattle.record_words.specs.declared.layout.Layout.{Layout}
 use Rattle.rowex_core.specs.Cores.{IsWhole}

@@ -13,7 +13,7 @@ use Rattle.versions.specs.Trades.{IsOneOf, AreApart}
 use Rattle.versions.specs.declared.Rec.{Rec}
 use Rattle.versions.specs.declared.Rec.TheVariants.{Node as a_node}
 use Rattle.versions.proofs.Members.{map_of, of_append, of_left, of_map, of_right}
-use Rattle.pieces.specs.Piece.{Place, places}
+use Rattle.node_tries.specs.Piece.{Place, places}
 use Rattle.record_words.specs.Entry.{HasEntryWord, entry_word}
 use Rattle.record_words.specs.declared.layout.Layout.{Layout}
 use Rattle.tries.specs.Content.{Item, item}

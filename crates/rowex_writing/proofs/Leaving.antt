@@ -4,8 +4,8 @@ use Rattle.std.specs.Prelude.{Contains}
 use Rattle.compound_node.specs.Nodes.{NodeView, IsBuiltFrom, greatest_height, height_of, piece}
 use Rattle.compound_node.specs.declared.entries.Entry.{Entry}
 use Rattle.insert_cases.specs.declared.choice.PathNode.{PathNode}
-use Rattle.pieces.specs.Changes.{without}
-use Rattle.pieces.specs.Piece.{places}
+use Rattle.node_tries.specs.Changes.{without}
+use Rattle.node_tries.specs.Piece.{places}
 use Rattle.record_words.specs.Entry.{HasEntryWord, entry_word}
 use Rattle.tries.specs.Content.{item}
 use Rattle.tries.specs.Place.{spot, subtrie_without}

@@ -13,8 +13,8 @@ use Rattle.compound_node.specs.declared.entries.Entry.TheVariants.{Leaf as LeafE
 use Rattle.finite_map.specs.declared.Change.{Change}
 use Rattle.insert_cases.specs.declared.choice.PathNode.{PathNode}
 use Rattle.insert_cases.proofs.Choosing.{some_injective}
-use Rattle.pieces.specs.Changes.{beside, collapsed, without}
-use Rattle.pieces.specs.Piece.{Place, RisesFrom, places, size}
+use Rattle.node_tries.specs.Changes.{beside, collapsed, without}
+use Rattle.node_tries.specs.Piece.{Place, RisesFrom, places, size}
 use Rattle.record_words.specs.declared.layout.Layout.{Layout}
 use Rattle.record_words.specs.Entry.{HasEntryWord, entry_word}
 use Rattle.record_words.specs.Node.{CanCloseAt, HasNodeWords, node_words}

@@ -14,8 +14,8 @@ use Rattle.insert_cases.specs.Levels.{IsLevel, IsChosen}
 use Rattle.insert_cases.specs.Ways.{case_of}
 use Rattle.insert_cases.proofs.Affecting.{key_part}
 use Rattle.key_bits.specs.Key.{IsKey}
-use Rattle.pieces.specs.Piece.{Place, Fork, size, places}
-use Rattle.pieces.proofs.Paths.{size_pos}
+use Rattle.node_tries.specs.Piece.{Place, Fork, size, places}
+use Rattle.node_tries.proofs.Paths.{size_pos}
 use Rattle.record_words.specs.Entry.{entry_word}
 use Rattle.tries.specs.Affected.{subtrie_affected, subtrie_forked, IsTipSubtrie}
 use Rattle.tries.specs.Content.{Item, item}

@@ -12,8 +12,8 @@ use Rattle.insert_cases.specs.declared.growth.Grown.{Grown}
 use Rattle.insert_cases.specs.declared.growth.Grown.TheVariants.{One as Single, Two}
 use Rattle.insert_cases.specs.declared.raising.Risen.{Risen}
 use Rattle.insert_cases.specs.declared.raising.Risen.TheVariants.{Whole, Split}
-use Rattle.pieces.specs.Changes.{AtRootFork}
-use Rattle.pieces.specs.Piece.{Place, Fork}
+use Rattle.node_tries.specs.Changes.{AtRootFork}
+use Rattle.node_tries.specs.Piece.{Place, Fork}
 use Rattle.record_words.specs.declared.layout.Layout.{Layout}
 use Rattle.tries.specs.Affected.{subtrie_forked, subtrie_grown}
 use Rattle.tries.specs.Keys.{Key, bit}

@@ -3,11 +3,11 @@ use Rattle.std.proofs.Common.{◌≡◌, inl, inr, ℕ, suc, Option, ◌+◌, �
 use Rattle.std.specs.Prelude.{All}
 use Rattle.key_bits.specs.Bits.{bit_of}
 use Rattle.key_bits.specs.declared.TheConstants.{MAX_BYTES}
-use Rattle.pieces.specs.Grafts.{grafted, IsAbovePath}
-use Rattle.pieces.specs.Growth.{affected_first, affected_count, grown, IsAffected, IsFresh}
-use Rattle.pieces.specs.Changes.{without}
-use Rattle.pieces.specs.Piece.{Place, Fork, leads_to, places, size}
-use Rattle.pieces.proofs.Affected.{affected_again}
+use Rattle.node_tries.specs.Grafts.{grafted, IsAbovePath}
+use Rattle.node_tries.specs.Growth.{affected_first, affected_count, grown, IsAffected, IsFresh}
+use Rattle.node_tries.specs.Changes.{without}
+use Rattle.node_tries.specs.Piece.{Place, Fork, leads_to, places, size}
+use Rattle.node_tries.proofs.Affected.{affected_again}
 use Rattle.compound_node.specs.Halves.{HalfShows}
 use Rattle.compound_node.specs.Nodes.{NodeView, piece, IsLawfulNode, IsBuiltFrom, IsEntry, height_of, greatest_height}
 use Rattle.compound_node.specs.declared.entries.Entry.{Entry}

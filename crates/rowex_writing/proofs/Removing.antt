@@ -9,7 +9,7 @@ use Rattle.compound_node.specs.declared.entries.Entry.TheVariants.{Leaf as LeafE
 use Rattle.finite_map.specs.declared.Change.{Change as MapChange}
 use Rattle.insert_cases.specs.declared.choice.PathNode.{PathNode}
 use Rattle.insert_cases.proofs.Choosing.{some_injective}
-use Rattle.pieces.specs.Piece.{Place, Fork, places}
+use Rattle.node_tries.specs.Piece.{Place, Fork, places}
 use Rattle.record_words.specs.declared.layout.Layout.{Layout}
 use Rattle.record_words.specs.Entry.{HasEntryWord, entry_word}
 use Rattle.tries.specs.Keys.{Key, bit}

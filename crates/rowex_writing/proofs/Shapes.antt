@@ -3,8 +3,8 @@ use Rattle.std.proofs.Common.{◌≡◌, ℕ, ◌+◌, ◌-◌, ◌≤◌, List,
 use Rattle.compound_node.specs.declared.entries.Entry.{Entry}
 use Rattle.compound_node.specs.declared.entries.Entry.TheVariants.{Node}
 use Rattle.insert_cases.specs.declared.choice.PathNode.{PathNode}
-use Rattle.pieces.specs.Piece.{Place, Fork, size}
-use Rattle.pieces.specs.Growth.{affected_first, affected_count}
+use Rattle.node_tries.specs.Piece.{Place, Fork, size}
+use Rattle.node_tries.specs.Growth.{affected_first, affected_count}
 use Rattle.record_words.specs.declared.layout.Layout.{Layout}
 use Rattle.tries.specs.Keys.{Key}
 use Rattle.tries.specs.Place.{shape, spot}

@@ -11,8 +11,8 @@ use Rattle.insert_cases.specs.Grown.{GrownShows, is_whole, keeps_node}
 use Rattle.insert_cases.specs.Risen.{subtrie_of}
 use Rattle.insert_cases.specs.declared.raising.Risen.{Risen}
 use Rattle.insert_cases.specs.declared.raising.Risen.TheVariants.{Whole, Split}
-use Rattle.pieces.specs.Changes.{AtRootFork}
-use Rattle.pieces.specs.Piece.{Place, size}
+use Rattle.node_tries.specs.Changes.{AtRootFork}
+use Rattle.node_tries.specs.Piece.{Place, size}
 use Rattle.insert_cases.specs.declared.choice.PathNode.{PathNode}
 use Rattle.versions.specs.Trades.{IsOneOf}
 use Rattle.rowex_core.specs.declared.known.Known.{Known}

@@ -5,8 +5,8 @@ use Rattle.compound_node.specs.declared.entries.Entry.{Entry}
 use Rattle.compound_node.specs.declared.entries.Entry.TheVariants.{Leaf as LeafEntry, Node}
 use Rattle.finite_map.specs.declared.Change.{Change}
 use Rattle.insert_cases.specs.declared.choice.PathNode.{PathNode}
-use Rattle.pieces.specs.Piece.{Place, size}
-use Rattle.pieces.specs.Changes.{beside}
+use Rattle.node_tries.specs.Piece.{Place, size}
+use Rattle.node_tries.specs.Changes.{beside}
 use Rattle.record_words.specs.Entry.{entry_word}
 use Rattle.record_words.specs.Node.{SpellBuilt}
 use Rattle.tries.specs.Keys.{Key}

@@ -10,8 +10,8 @@ use Rattle.compound_node.specs.declared.entries.Entry.TheVariants.{Leaf}
 use Rattle.rowex_writing.specs.Going.{IsNodeOf}
 use Rattle.rowex_writing.specs.declared.remaking.Fork.{Fork}
 use Rattle.rowex_writing.specs.declared.remaking.NewLeaf.{NewLeaf}
-use Rattle.pieces.specs.Piece.{Place, Fork as Branch}
-use Rattle.pieces.specs.Growth.{affected_first, affected_count}
+use Rattle.node_tries.specs.Piece.{Place, Fork as Branch}
+use Rattle.node_tries.specs.Growth.{affected_first, affected_count}
 use Rattle.tries.specs.Affected.{subtrie_grown}
 use Rattle.tries.specs.Keys.{Key}
 use Rattle.tries.specs.Place.{spot, with_subtrie}

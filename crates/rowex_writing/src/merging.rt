@@ -2,8 +2,8 @@
 
 ghost use Rattle.std.specs.Prelude.{◌≡◌, ◌≢◌, ◌<◌, ◌≤◌, ◌+◌, ◌-◌, ◌*◌, ◌++◌, ◌∷◌, [], ℕ, List, IfSome, MatchOption, None, false, true, length};
 ghost use Rattle.compound_node.specs.Nodes.{IsBuiltFrom, NodeView, piece};
-ghost use Rattle.pieces.specs.Changes.{without};
-ghost use Rattle.pieces.specs.Piece.{RisesFrom};
+ghost use Rattle.node_tries.specs.Changes.{without};
+ghost use Rattle.node_tries.specs.Piece.{RisesFrom};
 ghost use Rattle.tries.specs.Keys.{Key as KeyValue};
 ghost use Rattle.tries.specs.Place.{fork_of, subtrie_collapsed};
 ghost use Rattle.rowex_core.specs.Reading.{node_words_of};

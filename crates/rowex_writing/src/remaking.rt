@@ -1,8 +1,8 @@
 //! What a node becomes with a new leaf, or with a fork in the place of an entry.
 
 ghost use Rattle.std.specs.Prelude.{◌≡◌, ◌↔◌, ◌<◌, ◌≤◌, IsTrue, length, false};
-ghost use Rattle.pieces.specs.Changes.{AtRootFork};
-ghost use Rattle.pieces.specs.Piece.{Place as At};
+ghost use Rattle.node_tries.specs.Changes.{AtRootFork};
+ghost use Rattle.node_tries.specs.Piece.{Place as At};
 ghost use Rattle.compound_node.specs.Nodes.{piece, height_of, IsBuiltFrom};
 ghost use Rattle.tries.specs.Affected.{subtrie_forked};
 ghost use Rattle.tries.specs.Keys.{bit};

@@ -12,7 +12,7 @@ ghost use Rattle.compound_node.specs.Nodes.{NodeView};
 ghost use Rattle.record_words.specs.Node.{SpellLeft};
 ghost use Rattle.rowex_table.specs.Seats.{IsSeatOf};
 ghost use Rattle.insert_cases.specs.Grown.{keeps_side, is_same};
-ghost use Rattle.pieces.specs.Piece.{Place as At};
+ghost use Rattle.node_tries.specs.Piece.{Place as At};
 ghost use Rattle.tries.specs.Keys.{Key as KeyValue};
 ghost use Rattle.tries.specs.Place.{subtrie_without};
 ghost use Rattle.insert_cases.specs.Risen.{subtrie_of};

@@ -6,8 +6,8 @@ use Rattle.key_bits.specs.declared.TheConstants.{MAX_BYTES}
 use Rattle.compound_node.specs.Nodes.{NodeView, piece, head_of, IsLawfulNode, IsBuiltFrom, height_of, greatest_height}
 use Rattle.compound_node.specs.declared.entries.Entry.{Entry}
 use Rattle.partial_keys.specs.Shows.{ShowsPiece}
-use Rattle.pieces.specs.Piece.{Fork, Place, places, size}
-use Rattle.pieces.proofs.Paths.{length-places}
+use Rattle.node_tries.specs.Piece.{Fork, Place, places, size}
+use Rattle.node_tries.proofs.Paths.{length-places}
 use Rattle.tries.specs.Keys.{Key, bit, AgreeBelow}
 use Rattle.tries.specs.Tree.{Subtrie, Tree, leaf, node, fork, subtrie, Has, IsTrie, IsBuilt, IsFork, IsLower, first_position, Within, here, inside}
 use Rattle.tries.specs.Content.{first}

@@ -5,7 +5,7 @@ use Rattle.std.proofs.Common.{◌≡◌, ◌⊎◌, inl, inr, ℕ, ◌+◌, ◌-
 use Rattle.std.proofs.lemmas.Bool.{cond-true, cond-false, lt-ltb, le-ltb}
 use Rattle.tries.specs.Keys.{Key, bit, AgreeBelow}
 use Rattle.tries.specs.Tree.{Subtrie, Tree, leaf, node, fork, Has, IsTrie}
-use Rattle.pieces.specs.Piece.{Place, Fork, size, leads_to}
+use Rattle.node_tries.specs.Piece.{Place, Fork, size, leads_to}
 use Rattle.tries.specs.Search.{seek}
 use Rattle.tries.specs.Place.{spot, entry_at, shape}
 use Rattle.tries.specs.Content.{Item, items, IsMore, added, behind}

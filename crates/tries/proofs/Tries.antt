@@ -3,7 +3,7 @@ use Rattle.std.proofs.Common.{◌≡◌, ◌⊎◌, inl, inr, ℕ, ◌+◌, ◌<
 use Rattle.std.proofs.lemmas.Bool.{false≢true, cases_order, cond-true, cond-false, lt-ltb, le-ltb}
 use Rattle.tries.specs.Keys.{Key, bit, AgreeBelow, IsParted}
 use Rattle.tries.specs.Tree.{Subtrie, Tree, leaf, node, fork, subtrie, Has, IsTrie, IsFork, IsBuilt, Within, here, inside, zero_side, one_side}
-use Rattle.pieces.specs.Piece.{Place, Fork, size}
+use Rattle.node_tries.specs.Piece.{Place, Fork, size}
 use Rattle.tries.specs.Search.{Follows, child, seek, Kin, tips, forks, between, IsUnder}
 use mathlib.Core.List.{List-discrete}
 use Rattle.std.proofs.Math.Decide.{ℕ_discrete}

@@ -3,7 +3,7 @@ use Rattle.std.specs.Prelude.{ℕ, ◌<◌, Bool, true, false, if◌then◌else�
 use Rattle.tries.specs.Keys.{Key, bit}
 use Rattle.compound_node.specs.declared.entries.Entry.{Entry}
 use Rattle.compound_node.specs.declared.entries.Entry.TheVariants.{Leaf, Node}
-use Rattle.pieces.specs.Piece.{Place, Fork}
+use Rattle.node_tries.specs.Piece.{Place, Fork}
 use Rattle.tries.specs.Tree.{Subtrie, Tree, leaf, node, fork}
 
 -- The part of a body that an insertion with first mismatch `p` affects: below the forks before `p` on the key's way.

@@ -4,7 +4,7 @@ use Rattle.tries.specs.Keys.{Key, bit}
 use Rattle.compound_node.specs.declared.entries.Entry.{Entry}
 use Rattle.compound_node.specs.declared.entries.Entry.TheVariants.{Leaf}
 use Rattle.tries.specs.Tree.{Subtrie}
-use Rattle.pieces.specs.Piece.{Place, Fork, size}
+use Rattle.node_tries.specs.Piece.{Place, Fork, size}
 
 -- The place to which a key's search leads.
 abbrev pub spot : Key → Subtrie → ℕ

@@ -1,7 +1,7 @@
 -- The tree that a subtrie shows, where each of its entries shows one or nothing.
 use Rattle.std.specs.Prelude.{ℕ, Option, Some, None}
 use Rattle.compound_node.specs.declared.entries.Entry.{Entry}
-use Rattle.pieces.specs.Piece.{Place, Fork}
+use Rattle.node_tries.specs.Piece.{Place, Fork}
 use Rattle.tries.specs.Tree.{Fixed, Subtrie, Tree, node, fork}
 
 abbrev pub join_fork : ℕ → Option Tree → Option Tree → Option Tree

@@ -2,7 +2,7 @@
 use Rattle.std.specs.Prelude.{◌≡◌, ◌⊎◌, ℕ, ◌+◌, ◌-◌, if◌then◌else◌, nat_lt}
 use Rattle.tries.specs.Keys.{Key, bit, AgreeBelow}
 use Rattle.tries.specs.Tree.{Subtrie, Tree, leaf, node, fork, subtrie, Has, IsTip}
-use Rattle.pieces.specs.Piece.{Place, Fork, size}
+use Rattle.node_tries.specs.Piece.{Place, Fork, size}
 use Rattle.compound_node.specs.declared.entries.Entry.{Entry}
 use Rattle.tries.specs.Content.{Item}
 

@@ -3,7 +3,7 @@ use Rattle.key_bits.specs.Key.{IsKey}
 use Rattle.std.specs.Prelude.{◌≡◌, ◌⊎◌, ℕ, ◌<◌, true, false, ◌+◌, ◌*◌, ◌≤◌}
 use Rattle.tries.specs.Keys.{Key, bit, AgreeBelow}
 use Rattle.key_bits.specs.declared.TheConstants.{MAX_BYTES}
-use Rattle.pieces.specs.Piece.{Piece, Place, Fork, size, places}
+use Rattle.node_tries.specs.Piece.{Piece, Place, Fork, size, places}
 use Rattle.partial_keys.specs.Columns.{IsColumns}
 use Rattle.partial_keys.specs.Shows.{ShowsPiece}
 use Rattle.compound_node.specs.Nodes.{HeadView}

@@ -3,7 +3,7 @@
 ghost use Rattle.std.specs.Prelude.{◌≡◌, ◌≤◌, length};
 ghost use Rattle.compound_node.specs.Nodes.{piece};
 ghost use Rattle.compound_node.specs.declared.entries.Entry.TheVariants.{Leaf as LeafEntry};
-ghost use Rattle.pieces.specs.Piece.{Fork, Place};
+ghost use Rattle.node_tries.specs.Piece.{Fork, Place};
 
 use compound_node::{Entry, Half, Node};
 use insert_cases::{Grown, grow};

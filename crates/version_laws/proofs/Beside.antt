@@ -4,8 +4,8 @@ use Rattle.tries.specs.Keys.{Key, bit, AgreeBelow}
 use Rattle.compound_node.specs.declared.entries.Entry.{Entry}
 use Rattle.compound_node.specs.declared.entries.Entry.TheVariants.{Node}
 use Rattle.compound_node.specs.Nodes.{greatest_height}
-use Rattle.pieces.specs.Piece.{Place, Fork, RisesFrom, places}
-use Rattle.pieces.proofs.Removing.{RisesFrom-without}
+use Rattle.node_tries.specs.Piece.{Place, Fork, RisesFrom, places}
+use Rattle.node_tries.proofs.Removing.{RisesFrom-without}
 use Rattle.tries.specs.Tree.{Fixed, Tree, leaf, node, fork, subtrie, Has, IsLower, IsTrie, IsBuilt, Subtrie, Within, here, inside, zero_side, one_side}
 use Rattle.tries.specs.Search.{child, seek}
 use Rattle.tries.proofs.Changes.{put, IsInOwnSubtrie}

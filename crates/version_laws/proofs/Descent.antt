@@ -3,7 +3,7 @@ use Rattle.std.proofs.Common.{◌≡◌, ℕ, ◌<◌, refl, ap, sym, ◌∙◌,
 use Rattle.tries.specs.Keys.{Key, AgreeBelow}
 use Rattle.tries.specs.Tree.{Fixed, Subtrie, Tree, leaf, node, fork, subtrie, Has, Within, here, inside}
 use Rattle.compound_node.specs.declared.entries.Entry.TheVariants.{Leaf, Node}
-use Rattle.pieces.specs.Piece.{Place}
+use Rattle.node_tries.specs.Piece.{Place}
 use Rattle.tries.specs.Search.{seek, Follows, child, Kin, tips, forks}
 use Rattle.versions.specs.Heap.{NodeWords, LeafWords}
 use Rattle.versions.specs.State.{Life, Out, Linked, Retired, Spans, last_of, IsLived, Stands, IsReach, IsLawfulState, StoodWithKeys}

@@ -5,7 +5,7 @@ use Rattle.tries.specs.Keys.{IsAtMost, Key, IsBefore}
 use Rattle.tries.specs.Tree.{node, subtrie, IsBuilt}
 use Rattle.compound_node.specs.declared.entries.Entry.{Entry}
 use Rattle.compound_node.specs.declared.entries.Entry.TheVariants.{Leaf, Node}
-use Rattle.pieces.specs.Piece.{Place}
+use Rattle.node_tries.specs.Piece.{Place}
 use Rattle.versions.specs.State.{Past, IsKeptSince, IsSameRecord, IsSteady}
 use Rattle.versions.specs.declared.Rec.TheVariants.{Node as a_node}
 use Rattle.compound_node.specs.Nodes.{height_of}

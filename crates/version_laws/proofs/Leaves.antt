@@ -3,7 +3,7 @@ use Rattle.std.proofs.Common.{◌≡◌, ◌≢◌, inl, inr, ℕ, [], ◌∷◌
 use Rattle.key_bits.specs.Key.{IsKey}
 use Rattle.tries.specs.Keys.{Key, bit, AgreeBelow}
 use Rattle.compound_node.specs.declared.entries.Entry.TheVariants.{Leaf, Node}
-use Rattle.pieces.specs.Piece.{Place}
+use Rattle.node_tries.specs.Piece.{Place}
 use Rattle.tries.specs.Tree.{Tree, leaf, node, subtrie, IsTrie, IsBuilt}
 use Rattle.tries.specs.Content.{Item, item}
 use Rattle.tries.specs.Changes.{IsAdded}

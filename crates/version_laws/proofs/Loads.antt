@@ -4,7 +4,7 @@ use Rattle.std.proofs.lemmas.Bool.{cases_lt, cond-true, cond-false, lt-ltb, le-l
 use Rattle.tries.specs.Tree.{Fixed, Tree, leaf, node, fork, subtrie, IsLower, IsBuilt, here}
 use Rattle.compound_node.specs.declared.entries.Entry.{Entry}
 use Rattle.compound_node.specs.declared.entries.Entry.TheVariants.{Node}
-use Rattle.pieces.specs.Piece.{Place, size}
+use Rattle.node_tries.specs.Piece.{Place, size}
 use Rattle.versions.specs.Heap.{NodeWords, IsCopied}
 use Rattle.versions.specs.State.{Past, State, Stands, IsSameRecord, IsTop, IsReach, IsLawfulState, last_of}
 use Rattle.versions.specs.declared.Rec.TheVariants.{Node as a_node, Leaf as a_leaf}

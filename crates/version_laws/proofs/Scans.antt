@@ -5,8 +5,8 @@ use Rattle.tries.specs.Keys.{IsAtMost, Key, bit, AgreeBelow, IsParted, IsBefore}
 use Rattle.tries.specs.Tree.{Fixed, Subtrie, Tree, leaf, node, fork, subtrie, Has, IsTip, IsTrie, IsFork, IsBuilt, Within, here, inside, zero_side, one_side, first_position}
 use Rattle.compound_node.specs.declared.entries.Entry.{Entry}
 use Rattle.compound_node.specs.declared.entries.Entry.TheVariants.{Leaf, Node}
-use Rattle.pieces.proofs.Paths.{size_pos}
-use Rattle.pieces.specs.Piece.{Place, Fork, size}
+use Rattle.node_tries.proofs.Paths.{size_pos}
+use Rattle.node_tries.specs.Piece.{Place, Fork, size}
 use Rattle.tries.specs.Search.{Follows, child, Kin, tips, forks, between, IsUnder}
 use Rattle.versions.specs.State.{rec_of, IsRecord, Past, Stands, IsHeldSince, IsKeptSince, WasAbsentSince, IsLed, IsSteady}
 use Rattle.versions.specs.declared.Rec.TheVariants.{Node as a_node, Leaf as a_leaf}

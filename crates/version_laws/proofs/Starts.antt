@@ -1,8 +1,8 @@
 -- Where a scan starts: a fork parts its first key from those that stand beside the key that was found.
 use Rattle.std.proofs.Common.{◌≡◌, ◌⊎◌, inl, inr, ℕ, suc, ◌+◌, ◌-◌, ◌<◌, ◌≤◌, List, [], ◌∷◌, Bool, true, false, refl, ap, sym, ◌∙◌, subst, arith, if◌then◌else◌, ltb, le_refl, ⊎_elim}
 use Rattle.std.proofs.lemmas.Bool.{cases_lt, ltb-true, ltb-false}
-use Rattle.pieces.proofs.Paths.{size_pos}
-use Rattle.pieces.specs.Piece.{Place, Fork, size}
+use Rattle.node_tries.proofs.Paths.{size_pos}
+use Rattle.node_tries.specs.Piece.{Place, Fork, size}
 use Rattle.compound_node.specs.declared.entries.Entry.TheVariants.{Node}
 use Rattle.tries.specs.Affected.{subtrie_affected}
 use Rattle.tries.specs.Keys.{Key, bit, AgreeBelow, IsParted, IsBefore}

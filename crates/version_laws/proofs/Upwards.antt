@@ -3,7 +3,7 @@ use Rattle.std.proofs.Common.{◌≡◌, inl, inr, ℕ, ◌<◌, ◌≤◌, ap, 
 use Rattle.std.proofs.lemmas.Bool.{cases_lt, le-ltb}
 use Rattle.tries.specs.Keys.{Key}
 use Rattle.compound_node.specs.declared.entries.Entry.TheVariants.{Node}
-use Rattle.pieces.specs.Piece.{Fork}
+use Rattle.node_tries.specs.Piece.{Fork}
 use Rattle.tries.specs.Tree.{Fixed, Subtrie, Tree, leaf, node, fork, subtrie, IsTrie, IsFork, Within, here, inside, zero_side, one_side}
 use Rattle.tries.specs.Search.{seek}
 use Rattle.tries.proofs.Changes.{IsPathBelow}

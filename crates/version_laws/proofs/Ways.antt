@@ -3,7 +3,7 @@ use Rattle.std.proofs.Common.{◌≡◌, ◌⊎◌, inl, inr, ℕ, ◌<◌, ◌�
 use Rattle.std.proofs.lemmas.Bool.{false≢true, cases_lt}
 use Rattle.compound_node.specs.declared.entries.Entry.{Entry}
 use Rattle.compound_node.specs.declared.entries.Entry.TheVariants.{Node}
-use Rattle.pieces.specs.Piece.{Place}
+use Rattle.node_tries.specs.Piece.{Place}
 use Rattle.tries.specs.Keys.{Key, bit, AgreeBelow}
 use Rattle.tries.specs.Tree.{Fixed, Subtrie, Tree, leaf, node, fork, subtrie, Has, IsTrie, IsFork, IsBuilt, Within, here, inside, zero_side, one_side, first_position}
 use Rattle.tries.specs.Search.{child, seek, Kin, tips, forks, found}

@@ -4,7 +4,7 @@ use Rattle.tries.specs.Keys.{IsAtMost, Key, AgreeBelow}
 use Rattle.tries.specs.Tree.{Fixed, Subtrie, Tree, leaf, node, fork, subtrie, Has}
 use Rattle.compound_node.specs.declared.entries.Entry.{Entry}
 use Rattle.compound_node.specs.declared.entries.Entry.TheVariants.{Node}
-use Rattle.pieces.specs.Piece.{Place, Fork, size}
+use Rattle.node_tries.specs.Piece.{Place, Fork, size}
 use Rattle.tries.specs.Search.{IsUnder}
 use Rattle.versions.specs.State.{rec_of, Past, Stands}
 use Rattle.versions.specs.declared.Rec.{Rec}

@@ -7,7 +7,7 @@ use Rattle.tries.specs.Place.{spot, with_entry}
 use Rattle.tries.specs.Affected.{subtrie_affected, IsLowerSubtrie, FirstForkIsBefore, IsTipSubtrie}
 use Rattle.compound_node.specs.declared.entries.Entry.{Entry}
 use Rattle.compound_node.specs.declared.entries.Entry.TheVariants.{Leaf, Node}
-use Rattle.pieces.specs.Piece.{Place}
+use Rattle.node_tries.specs.Piece.{Place}
 use Rattle.versions.specs.Heap.{Heap}
 use Rattle.versions.specs.declared.Rec.TheVariants.{Node as a_node}
 use Rattle.versions.specs.Core.{InTree, BareCore}

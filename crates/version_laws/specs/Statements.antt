@@ -5,7 +5,7 @@ use Rattle.finite_map.specs.declared.Scan.{Scan as Answer}
 use Rattle.key_bits.specs.Key.{IsKey}
 use Rattle.compound_node.specs.declared.entries.Entry.{Entry}
 use Rattle.compound_node.specs.declared.entries.Entry.TheVariants.{Leaf, Node}
-use Rattle.pieces.specs.Piece.{Place, size}
+use Rattle.node_tries.specs.Piece.{Place, size}
 use Rattle.tries.specs.Keys.{Key, bit, AgreeBelow}
 use Rattle.tries.specs.Tree.{Fixed, Tree, Subtrie}
 use Rattle.tries.specs.Content.{Item, item}

@@ -3,7 +3,7 @@ use Rattle.std.proofs.Common.{◌≡◌, ◌⊎◌, inl, inr, ℕ, ◌<◌, refl
 use Rattle.tries.specs.Keys.{Key}
 use Rattle.compound_node.specs.declared.entries.Entry.TheVariants.{Leaf, Node}
 use Rattle.tries.specs.Tree.{Subtrie, Tree, leaf, node, fork, subtrie, Has, IsTrie, IsBuilt, Within, here, inside, zero_side, one_side}
-use Rattle.pieces.specs.Piece.{Place, Fork}
+use Rattle.node_tries.specs.Piece.{Place, Fork}
 use Rattle.tries.specs.Search.{Kin, tips, forks}
 use Rattle.tries.proofs.Tries.{has_within}
 use Rattle.versions.specs.Heap.{NodeWords, LeafWords, Heap, IsCopied, IsShown, IsNear}

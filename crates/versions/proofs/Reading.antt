@@ -5,7 +5,7 @@ use Rattle.tries.specs.Keys.{Key}
 use Rattle.tries.specs.Tree.{Fixed, Tree, leaf, node, subtrie, IsBuilt}
 use Rattle.compound_node.specs.declared.entries.Entry.{Entry}
 use Rattle.compound_node.specs.declared.entries.Entry.TheVariants.{Leaf, Node}
-use Rattle.pieces.specs.Piece.{Place}
+use Rattle.node_tries.specs.Piece.{Place}
 use Rattle.versions.specs.Heap.{NodeWords, LeafWords, Heap, IsShown}
 use Rattle.versions.specs.Read.{read}
 use Rattle.tries.specs.Read.{join_node, read_subtrie}

@@ -5,7 +5,7 @@ use Rattle.tries.specs.Keys.{Key}
 use Rattle.tries.specs.Tree.{Fixed, Tree, leaf, node, fork, subtrie, Has, IsTrie, IsFork, IsLower, IsBuilt, IsFit, Within, here, inside, zero_side, one_side}
 use Rattle.tries.specs.Content.{Item, item, items, IsExchange, exchanged}
 use Rattle.tries.proofs.Contents.{put_exchange}
-use Rattle.pieces.specs.Piece.{Fork}
+use Rattle.node_tries.specs.Piece.{Fork}
 use Rattle.versions.specs.declared.Rec.{Rec}
 use Rattle.versions.specs.declared.Rec.TheVariants.{Node as a_node, Leaf as a_leaf}
 use Rattle.versions.specs.Heap.{NodeWords, LeafWords, Heap, IsShown}

@@ -4,7 +4,7 @@ use Rattle.tries.specs.Keys.{Key, IsParted}
 use Rattle.tries.specs.Tree.{Fixed, Tree, leaf, node, fork, subtrie, Has, IsTrie, IsBuilt, here, inside}
 use Rattle.compound_node.specs.declared.entries.Entry.{Entry}
 use Rattle.compound_node.specs.declared.entries.Entry.TheVariants.{Leaf, Node}
-use Rattle.pieces.specs.Piece.{Place}
+use Rattle.node_tries.specs.Piece.{Place}
 use Rattle.tries.specs.Search.{Follows, child, seek, between, IsUnder}
 use Rattle.versions.specs.Heap.{NodeWords, IsCopied}
 use Rattle.versions.specs.State.{rec_of, IsRecord, Life, Out, Linked, Retired, Spans, last_of, State, Stands, IsSameRecord, IsReach, IsLawfulState, WasAbsentSince, IsLed, IsLived, IsSteady}

@@ -3,7 +3,7 @@ use Rattle.std.proofs.Common.{◌≡◌, ◌≢◌, inl, inr, ℕ, ◌<◌, refl
 use Rattle.std.proofs.lemmas.Bool.{false≢true}
 use Rattle.tries.specs.Tree.{Fixed, Tree, leaf, node, fork, Has, IsTrie, IsFork, IsLower, IsBuilt, Within, here, inside, zero_side, one_side, IsFit}
 use Rattle.compound_node.specs.declared.entries.Entry.TheVariants.{Leaf, Node}
-use Rattle.pieces.specs.Piece.{Place}
+use Rattle.node_tries.specs.Piece.{Place}
 use Rattle.versions.specs.Heap.{NodeWords, Heap, IsShown}
 use Rattle.versions.specs.State.{IsRecord, Links, Out, IsLawfulState}
 use Rattle.versions.specs.declared.Rec.TheVariants.{Node as a_node}

@@ -5,7 +5,7 @@ use Rattle.finite_map.specs.declared.Change.{Change}
 use Rattle.finite_map.specs.declared.Kind.TheVariants.{Replaced}
 use Rattle.compound_node.specs.declared.entries.Entry.{Entry}
 use Rattle.compound_node.specs.declared.entries.Entry.TheVariants.{Leaf}
-use Rattle.pieces.specs.Piece.{Place, size}
+use Rattle.node_tries.specs.Piece.{Place, size}
 use Rattle.tries.specs.Content.{item}
 use Rattle.tries.specs.Place.{entry_at}
 use Rattle.tries.specs.Tree.{Tree, leaf, node, fork, subtrie, IsTrie, IsBuilt}

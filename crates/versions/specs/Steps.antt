@@ -2,7 +2,7 @@
 use Rattle.std.specs.Prelude.{◌<◌, ◌≡◌, ◌⊎◌, ◌≢◌, ◌||◌, ℕ, suc, [], ◌∷◌, ◌++◌, Option, Some, None, Bool, true, false, if◌then◌else◌, nat_eq, min}
 use Rattle.compound_node.specs.declared.entries.Entry.{Entry}
 use Rattle.compound_node.specs.declared.entries.Entry.TheVariants.{Leaf}
-use Rattle.pieces.specs.Piece.{size}
+use Rattle.node_tries.specs.Piece.{size}
 use Rattle.tries.specs.Place.{entry_at}
 use Rattle.tries.specs.Tree.{Tree, leaf, node, fork, IsTrie, IsBuilt}
 use Rattle.versions.specs.Heap.{Heap, IsNear}

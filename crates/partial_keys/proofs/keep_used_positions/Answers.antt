@@ -5,8 +5,8 @@ use Rattle.std.proofs.lemmas.List.Edits.{fill_from_more}
 use Rattle.partial_keys.proofs.Keeping.{filled_behind, more_behind, same_behind}
 use Rattle.partial_keys.proofs.Squeezing.{kept_clear, kept_set}
 use Rattle.partial_keys.specs.Squeezed.{used_bits}
-use Rattle.pieces.proofs.Positions.{kept_nil}
-use Rattle.pieces.specs.Kept.{kept}
+use Rattle.node_tries.proofs.Positions.{kept_nil}
+use Rattle.node_tries.specs.Kept.{kept}
 use lib.Seq.{paste}
 use Rattle.partial_keys.proofs.keep_used_positions.Goals as goal
 use Rattle.partial_keys.proofs.keep_used_positions.Goals.{then-used-j-eq1, else-used-j-eq1}

@@ -7,7 +7,7 @@ use Rattle.compound_node.proofs.Sides.{Parts, parts}
 use Rattle.compound_node.specs.Nodes.{IsEntry}
 use Rattle.compound_node.specs.declared.entries.Entry.TheVariants.{Leaf}
 use Rattle.partial_keys.specs.Shown.{piece_of}
-use Rattle.pieces.specs.Positions.{front_below}
+use Rattle.node_tries.specs.Positions.{front_below}
 use Rattle.compound_node.proofs.halves.make_cut.Goals as goal
 
 pub make_half-zero-requires-clause-some : goal.make_half-zero-requires-clause-some

@@ -9,7 +9,7 @@ use Rattle.partial_keys.proofs.Closing.{rows_over, used_over}
 use Rattle.partial_keys.proofs.Cutting.{half_shows}
 use Rattle.partial_keys.proofs.Reading.{piece_of_shown}
 use Rattle.partial_keys.specs.Squeezed.{or_all, squeezed}
-use Rattle.pieces.proofs.Paths.{one_place}
+use Rattle.node_tries.proofs.Paths.{one_place}
 use Rattle.compound_node.proofs.halves.make_half.Goals as goal
 use Rattle.compound_node.proofs.halves.make_half.Goals.{After-as_slice-2}
 

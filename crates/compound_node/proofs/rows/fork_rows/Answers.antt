@@ -1,7 +1,7 @@
 -- A row of the bit comes behind the others, and one without it before them.
 use Rattle.std.proofs.Common.{[], ap, arith, bit_or, drop, get_or, insert, map, sym, take, ◌++◌, ◌+◌, ◌-◌, ◌∙◌, ◌∷◌, ◌≡◌}
 use Rattle.compound_node.proofs.Editing.{part_first, put-behind}
-use Rattle.pieces.specs.Growth.{edited}
+use Rattle.node_tries.specs.Growth.{edited}
 use Rattle.compound_node.proofs.rows.fork_rows.Goals as goal
 use Rattle.compound_node.proofs.rows.fork_rows.Goals.{then-bit, else-bit}
 

@@ -1,7 +1,7 @@
 -- The fork stands in the half that has the entry.
 use Rattle.std.proofs.Common.{arith, ap, false, ◌||◌}
-use Rattle.pieces.specs.Piece.{size}
-use Rattle.pieces.proofs.Paths.{size_pos}
+use Rattle.node_tries.specs.Piece.{size}
+use Rattle.node_tries.proofs.Paths.{size_pos}
 use Rattle.compound_node.specs.Nodes.{piece}
 use Rattle.insert_cases.specs.Grown.{half_piece}
 use Rattle.tries.proofs.Building.{size-piece}

@@ -3,11 +3,11 @@ use Rattle.std.proofs.Common.{◌≡◌, ℕ, ◌+◌, ◌<◌, ◌≤◌, ap, s
 use Rattle.compound_node.specs.Nodes.{NodeView, piece, IsLawfulNode, IsBuiltFrom, height_of, greatest_height}
 use Rattle.compound_node.specs.declared.entries.Entry.{Entry}
 use Rattle.compound_node.specs.declared.entries.Entry.TheVariants.{Leaf}
-use Rattle.pieces.specs.Changes.{replaced}
-use Rattle.pieces.specs.Growth.{forked, grown, IsAffected}
-use Rattle.pieces.specs.Piece.{Place, size, places}
-use Rattle.pieces.specs.Grafts.{grafted, IsAbovePath}
-use Rattle.pieces.proofs.Grafting.{old_at, size-replaced, size-grown, affected_alone, replaced-grown}
+use Rattle.node_tries.specs.Changes.{replaced}
+use Rattle.node_tries.specs.Growth.{forked, grown, IsAffected}
+use Rattle.node_tries.specs.Piece.{Place, size, places}
+use Rattle.node_tries.specs.Grafts.{grafted, IsAbovePath}
+use Rattle.node_tries.proofs.Grafting.{old_at, size-replaced, size-grown, affected_alone, replaced-grown}
 use Rattle.tries.proofs.Building.{size-piece}
 use Rattle.insert_cases.proofs.NodeFacts.{height_positive, greatest-grown, greatest-grafted}
 use Rattle.insert_cases.proofs.growth.put_fork.Goals as goal

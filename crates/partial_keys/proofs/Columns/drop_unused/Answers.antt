@@ -2,7 +2,7 @@
 use Rattle.std.proofs.Common.{List, length, subst, sym, take, ℕ, ◌<◌}
 use Rattle.partial_keys.proofs.Keeping.{IsColumns-kept, holds_front}
 use Rattle.partial_keys.specs.Squeezed.{used_bits}
-use Rattle.pieces.specs.Kept.{kept}
+use Rattle.node_tries.specs.Kept.{kept}
 use Rattle.partial_keys.proofs.Columns.drop_unused.Goals as goal
 
 pub invariant_of-self : goal.invariant_of-self

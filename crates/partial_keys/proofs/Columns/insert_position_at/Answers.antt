@@ -3,8 +3,8 @@ use Rattle.std.proofs.Common.{ap, arith, false, length, subst, sym, take, â—Œ<â—
 use Rattle.std.specs.List.{insert}
 use Rattle.partial_keys.proofs.Keeping.{put_holds, put_shown}
 use Rattle.partial_keys.specs.Columns.{HoldsColumns}
-use Rattle.pieces.proofs.Positions.{IsPlaceOf, front_below-place}
-use Rattle.pieces.specs.Positions.{front_below, has, with_position}
+use Rattle.node_tries.proofs.Positions.{IsPlaceOf, front_below-place}
+use Rattle.node_tries.specs.Positions.{front_below, has, with_position}
 use Rattle.partial_keys.proofs.Columns.insert_position_at.Goals as goal
 use Rattle.partial_keys.proofs.Columns.insert_position_at.Goals.{After-self-1}
 

@@ -2,10 +2,10 @@
 use Rattle.std.proofs.Common.{◌≡◌, ◌⊎◌, inl, inr, ℕ, ◌+◌, ◌<◌, ◌≤◌, Bool, true, false, List, length, refl, suc, ap, sym, ◌∙◌, subst, arith}
 use Rattle.std.specs.Prelude.{◌↔◌, IsTrue, slice_get, Some}
 use Rattle.std.proofs.lemmas.Bool.{cases_lt, false≢true}
-use Rattle.pieces.specs.Changes.{AtRootFork}
-use Rattle.pieces.specs.Growth.{affected_first, affected_count, grown, IsAffected}
-use Rattle.pieces.specs.Piece.{Place, Fork, size}
-use Rattle.pieces.proofs.Grafting.{size-grown}
+use Rattle.node_tries.specs.Changes.{AtRootFork}
+use Rattle.node_tries.specs.Growth.{affected_first, affected_count, grown, IsAffected}
+use Rattle.node_tries.specs.Piece.{Place, Fork, size}
+use Rattle.node_tries.proofs.Grafting.{size-grown}
 use Rattle.compound_node.specs.Nodes.{NodeView, piece, height_of, IsLawfulNode}
 use Rattle.compound_node.specs.declared.entries.Entry.{Entry}
 use Rattle.compound_node.specs.declared.entries.Entry.TheVariants.{Leaf, Node}

@@ -3,8 +3,8 @@ use Rattle.std.proofs.Common.{◌≡◌, ◌≢◌, inr, suc, ◌+◌, ◌<◌, 
 use Rattle.std.specs.Prelude.{slice_get, slice_set}
 use Rattle.std.proofs.lemmas.Bool.{false≢true}
 use Rattle.std.proofs.lemmas.Option.{slice_get_within}
-use Rattle.pieces.specs.Grafts.{grafted, IsAbovePath}
-use Rattle.pieces.specs.Piece.{Place, Fork, size}
+use Rattle.node_tries.specs.Grafts.{grafted, IsAbovePath}
+use Rattle.node_tries.specs.Piece.{Place, Fork, size}
 use Rattle.compound_node.specs.Nodes.{NodeView, piece, IsBuiltFrom, IsLawfulNode}
 use Rattle.insert_cases.specs.Grown.{GrownShows, is_whole}
 use Rattle.insert_cases.specs.Risen.{subtrie_of}

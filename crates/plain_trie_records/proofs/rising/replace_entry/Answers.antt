@@ -2,8 +2,8 @@
 use Rattle.std.proofs.Common.{◌≡◌, inl, inr, ap, sym, ◌∙◌, arith}
 use Rattle.std.specs.Prelude.{slice_get, slice_set, Some}
 use Rattle.std.proofs.lemmas.Option.{slice_get_within}
-use Rattle.pieces.specs.Changes.{replaced}
-use Rattle.pieces.specs.Piece.{size}
+use Rattle.node_tries.specs.Changes.{replaced}
+use Rattle.node_tries.specs.Piece.{size}
 use Rattle.compound_node.specs.Nodes.{NodeView, piece}
 use Rattle.plain_trie_records.proofs.Climbing.{replaced_named}
 use Rattle.plain_trie_records.proofs.Heights.{heights_set}

@@ -2,7 +2,7 @@
 use Rattle.std.proofs.Common.{◌≡◌, ◌++◌, take}
 use Rattle.finite_map.specs.Maps.{Map}
 use Rattle.finite_map.specs.Scans.{IsScanOf}
-use Rattle.pieces.specs.Piece.{Place}
+use Rattle.node_tries.specs.Piece.{Place}
 use Rattle.compound_node.specs.Nodes.{height_of}
 use Rattle.tries.specs.Content.{pairs}
 use Rattle.tries.specs.Tree.{Tree, subtrie}

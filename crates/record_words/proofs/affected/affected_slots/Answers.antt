@@ -7,8 +7,8 @@ use Rattle.std.specs.Int.Bits.{or_add_and}
 use Rattle.compound_node.proofs.Lawful.{same_count}
 use Rattle.compound_node.specs.Nodes.{IsLawfulNode, NodeView, head_of, piece}
 use Rattle.partial_keys.specs.Rows.{with_unused}
-use Rattle.pieces.specs.Growth.{affected_count, affected_first}
-use Rattle.pieces.specs.Positions.{front_below}
+use Rattle.node_tries.specs.Growth.{affected_count, affected_first}
+use Rattle.node_tries.specs.Positions.{front_below}
 use Rattle.record_words.specs.Node.{head_words}
 use Rattle.record_words.proofs.Fronts.{affected_by_counts, columns_below, end_some, few_below, rows_in_front}
 use Rattle.record_words.proofs.Lawful.{row-lt}

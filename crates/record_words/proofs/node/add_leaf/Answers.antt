@@ -4,7 +4,7 @@ use Rattle.std.specs.Prelude.{if◌then◌else◌}
 use Rattle.compound_node.specs.Forking.{forked_head}
 use Rattle.compound_node.specs.Nodes.{IsBuiltFrom, NodeView, head_of, node_of, piece}
 use Rattle.compound_node.specs.declared.entries.Entry.TheVariants.{Leaf}
-use Rattle.pieces.specs.Growth.{grown}
+use Rattle.node_tries.specs.Growth.{grown}
 use Rattle.record_words.proofs.Forking.{grown_leaf}
 use Rattle.record_words.proofs.Growing.{has_words, place_within, words_grown}
 use Rattle.record_words.proofs.Spelled.{entries_counted}

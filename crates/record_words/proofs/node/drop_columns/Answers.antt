@@ -6,7 +6,7 @@ use Rattle.partial_keys.proofs.Keeping.{holds_front}
 use Rattle.partial_keys.specs.Columns.{IsColumns, with_free}
 use Rattle.partial_keys.specs.Rows.{with_unused}
 use Rattle.partial_keys.specs.Squeezed.{IsRowOver, squeezed, used_bits}
-use Rattle.pieces.specs.Kept.{kept}
+use Rattle.node_tries.specs.Kept.{kept}
 use Rattle.record_words.specs.Dropping.{CanDropColumns}
 use Rattle.record_words.specs.HeadParts.{AreNumbersOf}
 use Rattle.record_words.specs.Node.{head_words}

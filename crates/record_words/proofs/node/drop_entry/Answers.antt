@@ -3,7 +3,7 @@ use Rattle.std.proofs.Common.{rules, List, ℕ, ◌≢◌, ◌≡◌, ◌+◌, �
 use Rattle.std.specs.Prelude.{remove}
 use Rattle.compound_node.specs.Nodes.{IsBuiltFrom, IsLawfulNode, NodeView, greatest_height, head_of, node_of, piece}
 use Rattle.compound_node.specs.declared.entries.Entry.TheVariants.{Leaf}
-use Rattle.pieces.specs.Changes.{without}
+use Rattle.node_tries.specs.Changes.{without}
 use Rattle.record_words.specs.HeadParts.{AreNumbersOf}
 use Rattle.record_words.specs.Dropping.{CanDropAt, HasHeadWithout}
 use Rattle.record_words.specs.Node.{HasNodeWords, SpellBuilt, SpellEntries, head_words, node_words}

@@ -6,7 +6,7 @@ use Rattle.partial_keys.specs.Columns.{IsColumns}
 use Rattle.record_words.specs.Node.{head_words}
 use Rattle.record_words.specs.declared.numbers.HeadNumbers.{HeadNumbers}
 use Rattle.partial_keys.specs.Squeezed.{IsRowOver, or_all, squeezed, used_bits}
-use Rattle.pieces.specs.Kept.{kept}
+use Rattle.node_tries.specs.Kept.{kept}
 use Rattle.std.proofs.lemmas.List.{length-map, take_at}
 use Rattle.partial_keys.specs.Rows.{with_unused}
 use Rattle.record_words.proofs.Written.{head_put}

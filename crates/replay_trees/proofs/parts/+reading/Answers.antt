@@ -3,7 +3,7 @@ use Rattle.std.proofs.Common.{◌+◌, inl, inr, true, arith, ap, sym, ◌∙◌
 use Rattle.std.specs.Vec.{with_item}
 use Rattle.std.proofs.lemmas.Result.{IfOk-weaker}
 use Rattle.compound_node.specs.Nodes.{piece}
-use Rattle.pieces.specs.Piece.{Place}
+use Rattle.node_tries.specs.Piece.{Place}
 use Rattle.replay_trees.specs.Parts.{IsTreeRead, ShowsPart, table_of}
 use Rattle.replay_trees.proofs.Steps.{cut_steps, node_steps, steps}
 use Rattle.replay_trees.proofs.Shown.{no_node}

@@ -1,6 +1,6 @@
 -- A half has more steps to go than its cut, a cut more than each of its sides, and an entry more than the node that it leads to.
 use Rattle.std.proofs.Common.{◌+◌, ◌*◌, max}
-use Rattle.pieces.specs.Piece.{Place}
+use Rattle.node_tries.specs.Piece.{Place}
 use Rattle.replay_trees.proofs.Steps.{steps, half_steps}
 use Rattle.replay_trees.proofs.parts.+reading.Given as goal
 

@@ -1,6 +1,6 @@
 -- What was read from the root is told exactly of a lawful version.
 use Rattle.std.proofs.Common.{Some, None, refl, subst, sym}
-use Rattle.pieces.specs.Piece.{Place}
+use Rattle.node_tries.specs.Piece.{Place}
 use Rattle.replay_trees.specs.declared.trees.Linked.{Linked}
 use Rattle.replay_trees.specs.Versions.{IsReadVersion, Table}
 use Rattle.replay_trees.specs.Parts.{IsTreeRead, ShowsPart}

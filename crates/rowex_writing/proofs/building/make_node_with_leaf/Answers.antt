@@ -3,7 +3,7 @@ use Rattle.std.proofs.Common.{◌≡◌, ◌+◌, ◌∙◌, ℕ, List, ap, arit
 use Rattle.compound_node.specs.Nodes.{HeadView, NodeView, head_of, piece}
 use Rattle.compound_node.specs.declared.entries.Entry.TheVariants.{Leaf}
 use Rattle.compound_node.proofs.Lawful.{same_count}
-use Rattle.pieces.specs.Growth.{affected_count, affected_first}
+use Rattle.node_tries.specs.Growth.{affected_count, affected_first}
 use Rattle.record_words.specs.Node.{InNodesOf, SpellBuilt}
 use Rattle.record_words.proofs.Nodes.{head_part, same_head}
 use Rattle.rowex_writing.specs.Remaking.{AffectsJust, AwaitsLeaf, subtrie_with_leaf}

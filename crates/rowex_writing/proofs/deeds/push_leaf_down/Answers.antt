@@ -6,7 +6,7 @@ use Rattle.record_words.specs.declared.layout.Layout.{Layout}
 use Rattle.publish_laws.specs.Rises.{made_of_leaf, made_of_node}
 use Rattle.versions.specs.declared.Rec.{Rec}
 use Rattle.compound_node.specs.declared.entries.Entry.TheVariants.{Leaf as LeafEntry}
-use Rattle.pieces.specs.Piece.{Place}
+use Rattle.node_tries.specs.Piece.{Place}
 use Rattle.tries.specs.Affected.{subtrie_forked}
 use Rattle.tries.specs.Keys.{bit}
 use Rattle.version_laws.specs.Writer.{added_change}

@@ -1,7 +1,7 @@
 -- The sibling is read, and joined with what is left.
 use Rattle.std.proofs.Common.{ℕ, List, ap, arith, refl, subst, sym, ◌∙◌}
 use Rattle.compound_node.specs.Nodes.{IsBuiltFrom, piece}
-use Rattle.pieces.specs.Piece.{RisesFrom}
+use Rattle.node_tries.specs.Piece.{RisesFrom}
 use Rattle.tries.specs.Keys.{bit}
 use Rattle.tries.specs.Place.{fork_of}
 use Rattle.rowex_writing.specs.Going.{HasLocked, IsNodeOf}

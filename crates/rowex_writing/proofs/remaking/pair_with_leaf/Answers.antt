@@ -2,7 +2,7 @@
 use Rattle.std.proofs.Common.{◌≡◌, true, false, ◌∙◌, sym, subst, arith}
 use Rattle.compound_node.specs.Nodes.{IsBuiltFrom}
 use Rattle.compound_node.specs.declared.entries.Entry.TheVariants.{Leaf}
-use Rattle.pieces.specs.Piece.{Place}
+use Rattle.node_tries.specs.Piece.{Place}
 use Rattle.tries.specs.Affected.{subtrie_forked}
 use Rattle.tries.specs.Keys.{bit}
 use Rattle.rowex_writing.proofs.Remade.{pair_is_lawful}

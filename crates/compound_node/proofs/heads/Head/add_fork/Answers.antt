@@ -4,8 +4,8 @@ use Rattle.compound_node.proofs.Forked.{new_fits, new_rows, room_for_column, wor
 use Rattle.compound_node.specs.Forking.{forked_head}
 use Rattle.compound_node.specs.Nodes.{FitsHead, HeadView, IsLawfulNode, leaves, node_of}
 use Rattle.partial_keys.specs.Spread.{forked_rows}
-use Rattle.pieces.specs.Growth.{edited}
-use Rattle.pieces.specs.Positions.{has}
+use Rattle.node_tries.specs.Growth.{edited}
+use Rattle.node_tries.specs.Positions.{has}
 use Rattle.compound_node.proofs.heads.Head.add_fork.Goals as goal
 use Rattle.compound_node.proofs.heads.Head.add_fork.Goals.{After-self-3-1}
 

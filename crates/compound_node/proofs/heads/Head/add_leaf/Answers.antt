@@ -5,7 +5,7 @@ use Rattle.compound_node.proofs.Forks.{head_leaf}
 use Rattle.compound_node.specs.Forking.{forked_head}
 use Rattle.compound_node.specs.Nodes.{HeadView, IsBuiltFrom, IsLawfulNode, leaves, node_of, piece}
 use Rattle.compound_node.specs.declared.entries.Entry.TheVariants.{Leaf}
-use Rattle.pieces.specs.Growth.{grown}
+use Rattle.node_tries.specs.Growth.{grown}
 use Rattle.compound_node.proofs.heads.Head.add_leaf.Goals as goal
 
 pub add_fork-requires-clause-range : goal.add_fork-requires-clause-range

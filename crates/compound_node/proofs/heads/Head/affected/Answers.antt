@@ -4,7 +4,7 @@ use Rattle.compound_node.proofs.Lawful.{length-leaves}
 use Rattle.compound_node.proofs.Ranges.{IsRange, range_of_head}
 use Rattle.compound_node.specs.Nodes.{HeadView, IsLawfulNode, NodeView, head_of}
 use Rattle.partial_keys.specs.Runs.{IsRunEnd, IsRunStart}
-use Rattle.pieces.specs.Positions.{front_below}
+use Rattle.node_tries.specs.Positions.{front_below}
 use Rattle.compound_node.proofs.heads.Head.affected.Goals as goal
 use Rattle.compound_node.proofs.heads.Head.affected.Goals.{After-last_of_run}
 

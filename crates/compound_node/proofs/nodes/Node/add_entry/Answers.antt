@@ -4,7 +4,7 @@ use Rattle.std.specs.List.{All}
 use Rattle.compound_node.proofs.Forks.{NewFork, new_fork}
 use Rattle.compound_node.proofs.Lawful.{same_count}
 use Rattle.compound_node.specs.Nodes.{IsBuiltFrom, IsEntry, NodeView, greatest_height, node_of, piece}
-use Rattle.pieces.specs.Growth.{edited, forked_places, grown}
+use Rattle.node_tries.specs.Growth.{edited, forked_places, grown}
 use Rattle.compound_node.proofs.nodes.Node.add_entry.Goals as goal
 use Rattle.compound_node.proofs.nodes.Node.add_entry.Goals.{After-add_fork, After-add_fork-arg-1, After-height, After-insert_entry_beside-arg-1}
 

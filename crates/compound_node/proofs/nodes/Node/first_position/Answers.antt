@@ -1,6 +1,6 @@
 -- The head's root fork is the node's.
 use Rattle.std.proofs.Common.{refl, subst, ◌≡◌}
-use Rattle.pieces.specs.Changes.{AtRootFork}
+use Rattle.node_tries.specs.Changes.{AtRootFork}
 use Rattle.compound_node.specs.Nodes.{piece}
 use Rattle.compound_node.proofs.nodes.Node.first_position.Goals as goal
 

@@ -5,7 +5,7 @@ use Rattle.compound_node.proofs.Joined.{join_below, join_columns, join_fits, joi
 use Rattle.compound_node.specs.Joining.{IsWidened}
 use Rattle.partial_keys.proofs.Growing.{weight}
 use Rattle.partial_keys.specs.Rows.{with_unused}
-use Rattle.pieces.specs.Positions.{front_below}
+use Rattle.node_tries.specs.Positions.{front_below}
 use Rattle.compound_node.specs.Nodes.{IsBuiltFrom, NodeView}
 use Rattle.compound_node.proofs.nodes.Node.merge.Goals as goal
 use Rattle.compound_node.proofs.nodes.Node.merge.Goals.{After-as_slice-3, After-count_columns_below}

@@ -5,7 +5,7 @@ use Rattle.std.specs.List.{refill}
 use Rattle.compound_node.proofs.Editing.{refill_same}
 use Rattle.compound_node.proofs.Lawful.{piece-replaced, replaced_lawful}
 use Rattle.compound_node.specs.Nodes.{IsLawfulNode, NodeView, StandsBelow, node_of, piece}
-use Rattle.pieces.specs.Changes.{replaced}
+use Rattle.node_tries.specs.Changes.{replaced}
 use Rattle.compound_node.proofs.nodes.Node.set_entry.Goals as goal
 use Rattle.compound_node.proofs.nodes.Node.set_entry.Goals.{After-self-1}
 

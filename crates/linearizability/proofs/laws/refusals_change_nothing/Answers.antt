@@ -1,0 +1,5 @@
+use Rattle.linearizability.proofs.Asking.{refused_change_nothing}
+use Rattle.linearizability.proofs.laws.refusals_change_nothing.Goals as goal
+
+pub returns : goal.returns
+returns c = refused_change_nothing

@@ -1,0 +1,5 @@
+use Rattle.linearizability.proofs.Growing.{runs_are_events}
+use Rattle.linearizability.proofs.laws.runs_are_events.Goals as goal
+
+pub returns : goal.returns
+returns c = runs_are_events

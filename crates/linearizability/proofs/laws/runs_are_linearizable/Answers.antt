@@ -1,0 +1,5 @@
+use Rattle.linearizability.proofs.Completing.{linearizable}
+use Rattle.linearizability.proofs.laws.runs_are_linearizable.Goals as goal
+
+pub returns : goal.returns
+returns c = linearizable

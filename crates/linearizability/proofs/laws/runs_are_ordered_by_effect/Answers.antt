@@ -1,0 +1,5 @@
+use Rattle.linearizability.proofs.Completing.{ordered_by_effect}
+use Rattle.linearizability.proofs.laws.runs_are_ordered_by_effect.Goals as goal
+
+pub returns : goal.returns
+returns c = ordered_by_effect

@@ -1,0 +1,5 @@
+use Rattle.linearizability.proofs.Growing.{runs_stay_sound}
+use Rattle.linearizability.proofs.laws.runs_stay_sound.Goals as goal
+
+pub returns : goal.returns
+returns c = runs_stay_sound

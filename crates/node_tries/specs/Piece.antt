@@ -1,0 +1,47 @@
+-- A piece of a bit trie: a place, or a fork at a position (the binary Patricia trie of the literature).
+use Rattle.std.specs.Prelude.{Bool, List, [], cond, eqb, false, map, true, ℕ, ◌++◌, ◌+◌, ◌<◌, ◌||◌, ◌∷◌, ◌≡◌}
+use Rattle.node_tries.specs.Kept.{kept}
+use Rattle.node_tries.specs.Positions.{has}
+
+pub data Piece (A : Type 0) : Type 0 where
+  Place : A → Piece A
+  Fork : ℕ → Piece A → Piece A → Piece A
+
+module _ {A : Type 0} where
+  -- what stands at the places, from left to right
+  abbrev pub places : Piece A → List A
+  places (Place x) = x ∷ []
+  places (Fork p a b) = places a ++ places b
+
+  abbrev pub size : Piece A → ℕ
+  size (Place x) = 1
+  size (Fork p a b) = size a + size b
+
+  -- of each place the positions at which its path takes the 1 side
+  abbrev pub paths : Piece A → List (List ℕ)
+  paths (Place x) = [] ∷ []
+  paths (Fork p a b) = paths a ++ map (λ path. p ∷ path) (paths b)
+
+  -- the place to which the forks lead, where a fork at p follows the key's bit at p
+  abbrev pub leads_to : (ℕ → Bool) → Piece A → ℕ
+  leads_to bit (Place x) = 0
+  leads_to bit (Fork p a b) = cond (bit p) (size a + leads_to bit b) (leads_to bit a)
+
+  -- along each path the positions rise strictly, from `low` on
+  abbrev pub RisesFrom : ℕ → Piece A → Type 0
+  RisesFrom low (Place x) = Unit {0}
+  RisesFrom low (Fork p a b) = (low < p + 1) × RisesFrom (p + 1) a × RisesFrom (p + 1) b
+
+  -- each fork's position is one of these
+  abbrev pub UsesOnly : List ℕ → Piece A → Type 0
+  UsesOnly ps (Place x) = Unit {0}
+  UsesOnly ps (Fork p a b) = (has ps p ≡ true) × UsesOnly ps a × UsesOnly ps b
+
+  -- some fork has this position
+  abbrev pub uses : Piece A → ℕ → Bool
+  uses (Place x) q = false
+  uses (Fork p a b) q = eqb p q || (uses a q || uses b q)
+
+  -- of these columns the ones that the piece uses
+  abbrev pub used_columns : Piece A → List ℕ → List ℕ
+  used_columns piece columns = kept (map (uses piece) columns) columns

@@ -1,5 +1,0 @@
-use Rattle.real_time.proofs.Asking.{answered_calls_change_as_asked}
-use Rattle.real_time.proofs.laws.answered_calls_change_as_asked.Goals as goal
-
-pub returns : goal.returns
-returns c = answered_calls_change_as_asked

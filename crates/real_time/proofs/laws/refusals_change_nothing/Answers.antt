@@ -1,5 +1,0 @@
-use Rattle.real_time.proofs.Asking.{refused_change_nothing}
-use Rattle.real_time.proofs.laws.refusals_change_nothing.Goals as goal
-
-pub returns : goal.returns
-returns c = refused_change_nothing

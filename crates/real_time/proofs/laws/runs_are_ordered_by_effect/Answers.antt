@@ -1,5 +1,0 @@
-use Rattle.real_time.proofs.Completing.{ordered_by_effect}
-use Rattle.real_time.proofs.laws.runs_are_ordered_by_effect.Goals as goal
-
-pub returns : goal.returns
-returns c = ordered_by_effect

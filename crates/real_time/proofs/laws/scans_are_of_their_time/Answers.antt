@@ -1,5 +1,0 @@
-use Rattle.real_time.proofs.Scanning.{scans_in_time}
-use Rattle.real_time.proofs.laws.scans_are_of_their_time.Goals as goal
-
-pub returns : goal.returns
-returns c = scans_in_time
