@@ -118,7 +118,7 @@ module _ {G : Type 0} (table : TableView) (becomes : G → Event → G → Type 
   -- Nobody need be told.
 
   step_untold : (act : Act) (said : Known → List Note) (a b : SeatView × G) → StepsWith table becomes act said a b → StepsWith table untold act said (a.0, tt) (b.0, tt)
-  step_untold act said a b x = record { seat = x.seat; event = x.event; next = x.next; told = tt }
+  step_untold act said a b x = record { seat = x.seat; atomic = x.atomic; event = x.event; next = x.next; told = tt }
 
   runs_untold : (acts : List Act) (a b : SeatView × G) → Runs table becomes acts a b → Runs table untold acts (a.0, tt) (b.0, tt)
   runs_untold [] a b run = ap (λ (z : SeatView × G). (z.0, tt)) run

@@ -10,14 +10,12 @@ use Rattle.rowex_core.specs.declared.event.Event.{Event}
 use Rattle.rowex_core.specs.declared.known.Known.{Known}
 use Rattle.rowex_core.specs.Knowing.{learned}
 use Rattle.rowex_table.specs.Rule.{with_front}
-use Rattle.rowex_table.specs.Runs.{StepsWith}
 use Rattle.rowex_table.specs.Seats.{IsShownAll, SeatView, TableView}
 use Rattle.rowex_table.specs.Traces.{OthersStepOn, RunBeginsWith}
 use Rattle.rowex_table.proofs.Onward.{begins_itself, begins_on, next_begins, others_begin}
-use Rattle.hot_index_calls.specs.Traces.{untold}
 use Rattle.linearizability.specs.Moments.{Happening, invokes, shows, steps}
-use Rattle.index_laws.specs.Joined.{HasEndedAs, KeepCallsWhole, happenings_of, pass_in}
-use Rattle.index_laws.specs.Traced.{ContractsLeadOn, Instant, IsTracedExecution}
+use Rattle.index_laws.specs.Joined.{HasEndedAs, IsNextTo, happenings_of, pass_in, KeepCallsWhole}
+use Rattle.index_laws.specs.Traced.{ContractsLeadOn, Instant, IsTracedExecution, MakesEvent}
 use Rattle.index_laws.proofs.Reaching.{before, before-new, before-old, traced_more, upto, upto-new, upto-old}
 
 -- Lives, from a seat on
@@ -29,7 +27,7 @@ pub record Begun : Type 0 where
 
 pub record MakesStep (table : TableView) (act : Act) (notes : List Note) (s e : SeatView) : Type 0 where
   pub said : Known → List Note
-  pub step : StepsWith table untold act said (s, tt) (e, tt)
+  pub step : MakesEvent table act said s e
   pub notes_are : notes ≡ said (learned step.event.core act s.known)
 
 -- the pass is shown what others did, or makes a stamp

@@ -18,7 +18,7 @@ use Rattle.rowex_core.specs.declared.event.Target.TheVariants.{Anchor}
 use Rattle.rowex_core.specs.declared.known.Known.{Known}
 use Rattle.rowex_core.specs.declared.known.View.TheVariants.{Pass}
 use Rattle.rowex_core.specs.Cores.{Core, IsLawful}
-use Rattle.rowex_core.specs.Events.{Legal, after, next_change}
+use Rattle.rowex_core.specs.Events.{IsAtomic, Legal, after, next_change}
 use Rattle.rowex_core.specs.Knowing.{Knows, learned}
 use Rattle.rowex_core.specs.Opening.{opening}
 use Rattle.rowex_core.specs.Reading.{IsPacked}
@@ -27,7 +27,6 @@ use Rattle.rowex_core.proofs.Keeping.{keeps}
 use Rattle.rowex_core.proofs.Learning.{learns}
 use Rattle.rowex_core.proofs.Promises.{opening_is_lawful}
 use Rattle.rowex_core.proofs.Staying.{stays_lawful}
-use Rattle.rowex_core.proofs.Writing.{step_writes}
 use Rattle.rowex_table.specs.Rule.{opening_of}
 use Rattle.rowex_table.specs.Runs.{StepsWith, Ends, Runs}
 use Rattle.rowex_table.specs.Seats.{SeatView, TableView}
@@ -91,7 +90,7 @@ first_true layout w act notes x legal =
     let own : Legal w.core w.one.pass act = subst (λ p. Legal w.core p act) (sym x.zero_is) legal in
     record {
       lawful = stays_lawful w.core 0 act x.lawful legal;
-      layout_is = (step_writes w.core 0 act x.lawful legal).layout ∙ x.layout_is;
+      layout_is = x.layout_is;
       led = led_more (opening layout) w.run w.core 0 act x.led legal;
       one = renoted (after w.core 0 act) (learned w.core act w.one) (w.one.notes ++ notes)
           (subst (λ p. Knows (after w.core p act) (learned w.core act w.one)) x.zero_is (learns w.core w.one act x.lawful x.one own));
@@ -105,7 +104,7 @@ second_true layout w act notes x legal =
     let own : Legal w.core w.other.pass act = subst (λ p. Legal w.core p act) (sym x.one_is) legal in
     record {
       lawful = stays_lawful w.core 1 act x.lawful legal;
-      layout_is = (step_writes w.core 1 act x.lawful legal).layout ∙ x.layout_is;
+      layout_is = x.layout_is;
       led = led_more (opening layout) w.run w.core 1 act x.led legal;
       one = keeps w.core 1 act (Pass w.one) x.lawful legal (λ e. let no : 0 ≡ 1 = sym x.zero_is ∙ e in absurd (omega (arith, no))) x.one;
       other = renoted (after w.core 1 act) (learned w.core act w.other) (w.other.notes ++ notes)
@@ -117,9 +116,9 @@ second_true layout w act notes x legal =
 abbrev seat_at : TableId → ℕ → Known → List Event → SeatView
 seat_at id n k trace = record { table = id; id = n; known = k; trace = trace; asides = 0 }
 
-first_step : (table : TableView) (w : World) (act : Act) (notes : List Note) → IsTrue table.layout w → Legal w.core 0 act →
+first_step : (table : TableView) (w : World) (act : Act) (notes : List Note) → IsTrue table.layout w → Legal w.core 0 act → IsAtomic act →
     StepsWith table untold act (λ k. notes) (seat_at table.id 0 w.one w.run, tt) (seat_at table.id 0 (first w act notes).one (first w act notes).run, tt)
-first_step table w act notes x legal = record {
+first_step table w act notes x legal plain = record {
   seat = (refl, refl, learned_pass w.core act w.one, refl);
   event = record {
     core = w.core;
@@ -137,12 +136,13 @@ first_step table w act notes x legal = record {
         (sym x.zero_is);
   };
   told = tt;
+  atomic = plain;
 }
 
 second_step : (table : TableView) (w : World) (act : Act) (notes : List Note) (trace : List Event) → IsTrue table.layout w → Legal w.core 1 act →
-    OthersStepOn 1 trace w.run →
+    OthersStepOn 1 trace w.run → IsAtomic act →
     StepsWith table untold act (λ k. notes) (seat_at table.id 1 w.other trace, tt) (seat_at table.id 1 (second w act notes).other (second w act notes).run, tt)
-second_step table w act notes trace x legal others = record {
+second_step table w act notes trace x legal others plain = record {
   seat = (refl, refl, learned_pass w.core act w.other, refl);
   event = record {
     core = w.core;
@@ -159,6 +159,7 @@ second_step table w act notes trace x legal others = record {
     next_is = ap (λ p. w.run ++ record { pass = p; act = act } ∷ []) (sym x.one_is);
   };
   told = tt;
+  atomic = plain;
 }
 
 -- The steps
@@ -300,7 +301,7 @@ module _ (table : TableView) (two : table.layout.passes ≡ 2) (value : ℕ) (fi
   t9 = first_true layout w8 (Publish Root 1) [] t8 l9
 
   published : HasPublished w8.one w9.one change None [] []
-  published = may.gives w9.one [] (record { only = λ n h. inl h; each = λ n h. absurd h }) (first_step table w8 (Publish Root 1) [] t8 l9).event
+  published = may.gives w9.one [] (record { only = λ n h. inl h; each = λ n h. absurd h }) (first_step table w8 (Publish Root 1) [] t8 l9 tt).event
 
   one_only : (a b : Change) (before : List Change) → a ∷ [] ≡ before ++ b ∷ [] → a ≡ b
   one_only a b [] e = cc
@@ -421,37 +422,37 @@ module _ (table : TableView) (two : table.layout.passes ≡ 2) (value : ℕ) (fi
   changes_so : Runs table untold changing (s0, tt) (one_at w11)
   changes_so = (
     one_at w1,
-    first_step table w0 (LoadEpoch 1) [] t0 l1,
+    first_step table w0 (LoadEpoch 1) [] t0 l1 tt,
     (
       one_at w2,
-      first_step table w1 (SetPin 1) [] t1 l2,
+      first_step table w1 (SetPin 1) [] t1 l2 tt,
       (
         one_at w3,
         first_step table w2
-            (LoadRef Root 0) [] t2 l3,
+            (LoadRef Root 0) [] t2 l3 tt,
         (
           one_at w4,
-          first_step table w3 (Lock Anchor (state_word Live)) [] t3 l4,
+          first_step table w3 (Lock Anchor (state_word Live)) [] t3 l4 tt,
           (
             one_at w5,
-            first_step table w4 (LoadRef Root 0) [] t4 l5,
+            first_step table w4 (LoadRef Root 0) [] t4 l5 tt,
             (
               one_at w6,
-              first_step table w5 (Claim (a_leaf 0) (state_word Free)) [] t5 l6,
+              first_step table w5 (Claim (a_leaf 0) (state_word Free)) [] t5 l6 tt,
               (
                 one_at w7,
-                first_step table w6 (Fill (a_leaf 0) 1 value) [] t6 l7,
+                first_step table w6 (Fill (a_leaf 0) 1 value) [] t6 l7 tt,
                 (
                   one_at w8,
-                  first_step table w7 (Ready (a_leaf 0)) [] t7 l8,
+                  first_step table w7 (Ready (a_leaf 0)) [] t7 l8 tt,
                   (
                     one_at w9,
-                    first_step table w8 (Publish Root 1) [] t8 l9,
+                    first_step table w8 (Publish Root 1) [] t8 l9 tt,
                     (
                       one_at w10,
                       first_step table w9
-                          (LoadEpoch 1) [] t9 l10,
-                      (one_at w11, first_step table w10 (Unlock Anchor) [] t10 l11, refl),
+                          (LoadEpoch 1) [] t9 l10 tt,
+                      (one_at w11, first_step table w10 (Unlock Anchor) [] t10 l11 tt, refl),
                     ),
                   ),
                 ),
@@ -464,7 +465,7 @@ module _ (table : TableView) (two : table.layout.passes ≡ 2) (value : ℕ) (fi
   )
 
   ends_so : Ends table untold changing ClearPin (λ k. inserted ∷ []) (s0, tt) (e0, tt)
-  ends_so = (one_at w11, changes_so, first_step table w11 ClearPin (inserted ∷ []) t11 l12)
+  ends_so = (one_at w11, changes_so, first_step table w11 ClearPin (inserted ∷ []) t11 l12 tt)
 
   zero_not : let z : ℕ = 0 in z ≢ 1
   zero_not e = absurd (omega (arith, e))
@@ -483,17 +484,17 @@ module _ (table : TableView) (two : table.layout.passes ≡ 2) (value : ℕ) (fi
   looks_so : Runs table untold looking (s1, tt) (other_at w15)
   looks_so = (
     other_at w13,
-    second_step table w12 (LoadEpoch 1) [] [] t12 l13 behind_insert,
+    second_step table w12 (LoadEpoch 1) [] [] t12 l13 behind_insert tt,
     (
       other_at w14,
       second_step table w13 (SetPin 1) [] w13.run t13 l14
-          (others_none 1 w13.run),
-      (other_at w15, second_step table w14 (LoadRef Root root) [] w14.run t14 l15 (others_none 1 w14.run), refl),
+          (others_none 1 w13.run) tt,
+      (other_at w15, second_step table w14 (LoadRef Root root) [] w14.run t14 l15 (others_none 1 w14.run) tt, refl),
     ),
   )
 
   found_so : Ends table untold looking ClearPin (λ k. found ∷ []) (s1, tt) (e1, tt)
-  found_so = (other_at w15, looks_so, second_step table w15 ClearPin (found ∷ []) w15.run t15 l16 (others_none 1 w15.run))
+  found_so = (other_at w15, looks_so, second_step table w15 ClearPin (found ∷ []) w15.run t15 l16 (others_none 1 w15.run) tt)
 
   -- of a list of this one change
   at_change : (P : List Change → Type 0) → P (change ∷ []) → P (made ∷ [])

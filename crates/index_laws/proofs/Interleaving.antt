@@ -16,17 +16,18 @@ use Rattle.rowex_core.specs.Opening.{opening}
 use Rattle.rowex_core.specs.Runs.{EventsLead}
 use Rattle.rowex_core.proofs.Promises.{opening_is_lawful}
 use Rattle.rowex_core.proofs.Staying.{stays_lawful}
-use Rattle.rowex_core.proofs.Writing.{step_writes}
-use Rattle.rowex_table.specs.Rule.{opening_of}
+use Rattle.rowex_table.specs.Rule.{load_of, opening_of}
 use Rattle.rowex_table.specs.Runs.{Ends, Runs, StepsWith, silent}
 use Rattle.rowex_table.specs.Seats.{IsNewSeatOf, SeatView, TableView}
 use Rattle.rowex_table.specs.Traces.{OthersStepOn, RunBeginsWith}
 use Rattle.rowex_table.proofs.Onward.{begins_on, others_begin}
 use Rattle.rowex_table.proofs.Running.{runs_same}
 use Rattle.hot_index_calls.specs.Traces.{untold}
-use Rattle.linearizability.specs.Moments.{Happening, invokes, shows, steps}
-use Rattle.index_laws.specs.Joined.{HasGoneThrough, HasEndedAs, HaveEndedInOneRun, IsExecutionOf, KeepCallsWhole, call_of, called, happenings_of, new, notes_of_end, shown, stamped, steps_of}
-use Rattle.index_laws.specs.Traced.{Instant}
+use Rattle.linearizability.specs.Moments.{Happening, invokes, responds, shows, steps}
+use Rattle.index_laws.specs.Joined.{HasGoneThrough, HasEndedAs, HaveEndedInOneRun, IsExecutionOf, IsNextTo, call_of, called, happenings_of, loaded, loader, new, notes_of_end, shown, stamped, steps_of, HasGoneThrough, KeepCallsWhole}
+use Rattle.index_laws.specs.Traced.{Instant, MakesEvent}
+use Rattle.index_laws.specs.Executions.{insertion_notes, insertions}
+use Rattle.index_laws.proofs.Loaded.{makes_load, unloaded}
 use Rattle.index_laws.proofs.Coming.{Begun, Life, MakesStep, Reached, Rest, Shows, Waits, asks, closes, goes, life_begins, over, put, put-other, put-own, sees}
 use Rattle.index_laws.proofs.Moving.{Calm, calm_step, end_more, ends_calm, ends_next, invoke_more, pass_is, rest, show_more, stands_is, step_more}
 use Rattle.index_laws.proofs.Placing.{no_step_left, none_next, shown_last, shown_next, step_next}
@@ -254,8 +255,11 @@ module _ (table : TableView) (whole : ℕ → List Happening) (end : ℕ → Sea
 
 -- Lives from what passes have done
 
+event_of : {table : TableView} {act : Act} {said : Known → List Note} {s m : SeatView} → StepsWith table untold act said (s, tt) (m, tt) → MakesEvent table act said s m
+event_of x = record { seat = x.seat; event = x.event; next = x.next }
+
 silent_step : {table : TableView} {act : Act} {s m : SeatView} → StepsWith table untold act silent (s, tt) (m, tt) → MakesStep table act [] s m
-silent_step x = record { said = silent; step = x; notes_are = refl }
+silent_step x = record { said = silent; step = event_of x; notes_are = refl }
 
 along : (table : TableView) (q : ℕ) (acts : List Act) (s f e : SeatView) (o : Begun) (hs : List Happening) → Runs table untold acts (s, tt) (f, tt) →
     Life table q f (Some o) hs e → Life table q s (Some o) (steps_of q acts ++ hs) e
@@ -272,7 +276,7 @@ one_call : (table : TableView) (q : ℕ) (s m e : SeatView) (hs : List Happening
 one_call table q s m e hs calls acts last said ends h so l =
     let notes : List Note = notes_of_end table acts last said s m ends in
     let o : Begun = record { calls = calls; from = s } in
-    let made : MakesStep table last notes ends.0.0 m = record { said = said; step = ends.2; notes_are = refl } in
+    let made : MakesStep table last notes ends.0.0 m = record { said = said; step = event_of ends.2; notes_are = refl } in
     let ended : Life table q ends.0.0 (Some o) (steps q last notes ∷ h ∷ hs) e = closes last notes h made so l in
     subst (λ z. Life table q s None z e) (sym (call_of-rest q calls acts last notes h hs))
     (asks calls (along table q acts s ends.0.0 e o (steps q last notes ∷ h ∷ hs) ends.1 ended))
@@ -283,18 +287,32 @@ record IsLife (table : TableView) (q : ℕ) (hs : List Happening) (e : SeatView)
   pub fresh : IsNewSeatOf table q start
   pub life : Life table q start None hs e
 
-life_of : {table : TableView} {q : ℕ} {done : List Happening} {s : SeatView} → HasGoneThrough table q done s → (hs : List Happening) (e : SeatView) →
+life_of : {table : TableView} {q : ℕ} {done : List Happening} {s : SeatView} → q < table.layout.passes → HasGoneThrough table q done s → (hs : List Happening) (e : SeatView) →
     Life table q s None hs e → IsLife table q (done ++ hs) e
-life_of (new {s = s} is) hs e l = record { start = s; fresh = is; life = l }
-life_of {table} {q} (called {done = done} {s = s} {e = m} before_it calls acts last said ends {ended = h} so) hs e l =
+life_of low (new {s = s} is) hs e l = record { start = s; fresh = is; life = l }
+life_of {table} {q} low (loader {s = m} first words load is) hs e l =
+    let notes : List Note = insertion_notes table.layout words in
+    let start : SeatView = unloaded m in
+    let made : MakesStep table (load_of words) notes start m = record {
+      said = λ k. notes;
+      step = makes_load table words m (subst (λ p. p < table.layout.passes) first low) load is;
+      notes_are = refl;
+    } in
+    record {
+      start = start;
+      fresh = (is.0, ap opening_of (sym first), refl, refl);
+      life = asks (insertions table.layout words) (closes (load_of words) notes (responds q notes) made
+          (loaded (record { words = words; load = load; new = refl; loader = is.1; calls_are = refl; notes_are = refl })) l);
+    }
+life_of {table} {q} low (called {done = done} {s = s} {e = m} before_it calls acts last said ends {ended = h} so) hs e l =
     let this : List Happening = call_of q calls acts last (notes_of_end table acts last said s m ends) h in
-    subst (λ z. IsLife table q z e) (sym (append_assoc done this hs)) (life_of before_it (this ++ hs) e (one_call table q s m e hs calls acts last said ends h so l))
-life_of {table} {q} (shown {done = done} {s = s} {e = m} before_it all more known) hs e l =
-    subst (λ z. IsLife table q z e) (sym (append_assoc done (shows q m.known.front ∷ []) hs)) (life_of before_it (shows q m.known.front ∷ hs) e (sees m.known.front
+    subst (λ z. IsLife table q z e) (sym (append_assoc done this hs)) (life_of low before_it (this ++ hs) e (one_call table q s m e hs calls acts last said ends h so l))
+life_of {table} {q} low (shown {done = done} {s = s} {e = m} before_it all more known) hs e l =
+    subst (λ z. IsLife table q z e) (sym (append_assoc done (shows q m.known.front ∷ []) hs)) (life_of low before_it (shows q m.known.front ∷ hs) e (sees m.known.front
     (inl (all, more, known)) l))
-life_of {table} {q} (stamped {done = done} {s = s} {e = m} before_it is) hs e l =
+life_of {table} {q} low (stamped {done = done} {s = s} {e = m} before_it is) hs e l =
     subst (λ z. IsLife table q z e) (sym (append_assoc done (shows q s.known.front ∷ []) hs))
-    (life_of before_it (shows q s.known.front ∷ hs) e (sees s.known.front (inr (ap (λ (z : SeatView). z.known) is, ap (λ (z : SeatView). z.trace) is, refl)) l))
+    (life_of low before_it (shows q s.known.front ∷ hs) e (sees s.known.front (inr (ap (λ (z : SeatView). z.known) is, ap (λ (z : SeatView). z.trace) is, refl)) l))
 
 -- the seat at last is the pass's
 runs_named : (table : TableView) (acts : List Act) (s e : SeatView) → Runs table untold acts (s, tt) (e, tt) → e.known.pass ≡ s.known.pass
@@ -302,6 +320,7 @@ runs_named table acts s e runs = (runs_same table untold acts (s, tt) (e, tt) ru
 
 pub named_by : {table : TableView} {q : ℕ} {done : List Happening} {s : SeatView} → HasGoneThrough table q done s → s.known.pass ≡ q
 named_by (new is) = ap (λ (k : Known). k.pass) is.1
+named_by (loader first words load is) = ap (λ (k : Known). k.pass) is.1 ∙ sym first
 named_by {table} (called {s = s} before_it calls acts last said ends so) = ends.2.seat.2 ∙ (runs_named table acts s ends.0.0 ends.1 ∙ named_by before_it)
 named_by (shown before_it all more known) = all.pass ∙ named_by before_it
 named_by (stamped before_it is) = ap (λ (z : SeatView). z.known.pass) is ∙ named_by before_it
@@ -312,7 +331,7 @@ all_below : (layout : Layout) (c : Core) (xs : List Event) (d : Core) → IsLawf
     All (λ (x : Event). x.pass < layout.passes) xs
 all_below layout c [] d lawful is led = All-nil (λ (x : Event). x.pass < layout.passes)
 all_below layout c (x ∷ xs) d lawful is (legal, led) = All-cons (λ (x : Event). x.pass < layout.passes) x xs (subst (λ (l : Layout). x.pass < l.passes) is legal.0)
-    (all_below layout (after c x.pass x.act) xs d (stays_lawful c x.pass x.act lawful legal) ((step_writes c x.pass x.act lawful legal).layout ∙ is) led)
+    (all_below layout (after c x.pass x.act) xs d (stays_lawful c x.pass x.act lawful legal) is led)
 
 -- The execution
 
@@ -333,7 +352,7 @@ module _ (table : TableView) (run : List Event) (done : ℕ → List Happening) 
       (λ (low : q < table.layout.passes). record {
         hs = done q ++ [];
         end = seat q;
-        life = life_of (x.each q low) [] (seat q) over;
+        life = life_of low (x.each q low) [] (seat q) over;
         others = x.others q low;
         same = λ _. (append-nil (done q), refl);
       })

@@ -1,18 +1,23 @@
 -- Where passes have ended in one run, and that their calls are linearizable then.
-use Rattle.std.proofs.Common.{◌≡◌, ◌≢◌, ⊎_elim, ℕ, ◌<◌, List, [], ◌∷◌, None, Some, refl, sym, ap, subst, ◌∙◌, arith, le_refl}
-use Rattle.std.proofs.lemmas.Bool.{cases_eq}
+use Rattle.std.proofs.Common.{◌≡◌, ◌≢◌, ⊎_elim, ℕ, ◌<◌, ◌≤◌, List, [], ◌∷◌, if◌then◌else◌, None, Some, refl, sym, ap, subst, ◌∙◌, arith, le_refl}
+use Rattle.std.proofs.lemmas.Bool.{cases_eq, ne_eqb}
+use Rattle.std.proofs.lemmas.List.Elements.{All-cons, All-nil}
 use Rattle.rowex_core.specs.declared.event.Act.{Act}
 use Rattle.rowex_core.specs.declared.event.Event.{Event}
 use Rattle.rowex_core.specs.declared.known.Known.{Known}
 use Rattle.finite_map.specs.declared.Note.{Note}
+use Rattle.rowex_core.specs.Events.{after}
+use Rattle.rowex_core.specs.Opening.{opening}
+use Rattle.rowex_table.specs.Rule.{load_of}
 use Rattle.rowex_table.specs.Runs.{Runs, StepsWith, silent}
 use Rattle.rowex_table.specs.Seats.{SeatView, TableView}
 use Rattle.rowex_table.specs.Traces.{OthersStepOn}
 use Rattle.hot_index_calls.specs.Traces.{untold}
 use Rattle.linearizability.specs.Histories.{PendingEndOrChangeAsAsked}
 use Rattle.linearizability.specs.Moments.{Happening, Moment, Pending}
-use Rattle.index_laws.specs.Joined.{HasGoneThrough, OneRunIsAnExecution, ShownHaveEnded, SilentStepsEnd, StepsNeedNoGate, TwoThatMeetHaveEnded, of_two}
+use Rattle.index_laws.specs.Joined.{HasGoneThrough, LoadedHaveEnded, OneRunIsAnExecution, ShownHaveEnded, SilentStepsEnd, StepsNeedNoGate, TwoThatMeetHaveEnded, load_call, loader, new, of_two, HasGoneThrough}
 use Rattle.index_laws.specs.Traced.{moment_of}
+use Rattle.rowex_table.proofs.Onward.{others_none}
 use Rattle.index_laws.proofs.Interleaving.{named_by, one_execution}
 use Rattle.index_laws.proofs.Placing.{others_between}
 use Rattle.index_laws.proofs.Timed.{executions_are_linearizable}
@@ -63,6 +68,29 @@ two_that_meet_have_ended table ours theirs s t u v two first second shown other 
           (subst (λ l. OthersStepOn 1 t.trace l) (sym same) (subst (λ p. OthersStepOn p t.trace v.trace) (named_by second) other.run.others)) n two;
     }
 
+pub loaded_have_ended : LoadedHaveEnded
+loaded_have_ended table words seat some load is fresh = record {
+  led = (after (opening table.layout) 0 (load_of words), ((some, (refl, load)), refl));
+  each = λ q low. ⊎_elim
+      (λ (e : q ≡ 0). subst (λ k. HasGoneThrough table k (of_two ours [] k) (seat k)) (sym e) (loader refl words load is))
+      (λ (ne : q ≢ 0). subst (λ d. HasGoneThrough table q d (seat q)) (sym (ap (λ b. if b then ours else []) (ne_eqb q 0 ne))) (new (fresh q (omega (arith, ne)) low)))
+      (cases_eq q 0);
+  others = λ q low. ⊎_elim
+      (λ (e : q ≡ 0). subst (λ k. OthersStepOn k (seat k).trace run) (sym e) (subst (λ l. OthersStepOn 0 l run) (sym is.2) (others_none 0 run)))
+      (λ (ne : q ≢ 0). subst (λ l. OthersStepOn q l run) (sym (fresh q (omega (arith, ne)) low).2)
+      (run, refl, All-cons (λ x. x.pass ≢ q) the_load [] (λ e. ne (sym e)) (All-nil (λ x. x.pass ≢ q))))
+      (cases_eq q 0);
+}
+  where
+    the_load : Event
+    the_load = record { pass = 0; act = load_of words }
+
+    run : List Event
+    run = the_load ∷ []
+
+    ours : List Happening
+    ours = load_call table.layout 0 words
+
 pub silent_steps_end : SilentStepsEnd
 silent_steps_end table act [] s e (m, step, is) =
     ([], act, refl, ((s, tt), refl, subst (λ (z : SeatView × Unit {0}). StepsWith table untold act silent (s, tt) z) (sym is) step))
@@ -74,7 +102,7 @@ silent_steps_end table act (next ∷ acts) s e (m, step, runs) =
 
 module _ {G : Type 0} (becomes : G → Event → G → Type 0) (table : TableView) where
   untell : (act : Act) (said : Known → List Note) (a b : SeatView × G) → StepsWith table becomes act said a b → StepsWith table untold act said (a.0, tt) (b.0, tt)
-  untell act said a b x = record { seat = x.seat; event = x.event; next = x.next; told = tt }
+  untell act said a b x = record { seat = x.seat; atomic = x.atomic; event = x.event; next = x.next; told = tt }
 
   untell_each : (acts : List Act) (a b : SeatView × G) → Runs table becomes acts a b → Runs table untold acts (a.0, tt) (b.0, tt)
   untell_each [] a b runs = ap (λ (z : SeatView × G). let y : SeatView × Unit {0} = (z.0, tt) in y) runs

@@ -1,4 +1,5 @@
 -- The lemmas of the crate.
+pub mod Loaded
 pub mod Timed
 pub mod Shown
 pub mod Stepping

@@ -1,10 +1,12 @@
 -- Lives have one history.
-use Rattle.std.proofs.Common.{◌≡◌, ◌≢◌, ℕ, List, [], ◌∷◌, ◌++◌, map, refl, sym, ap, ap₂, subst, ◌∙◌}
+use Rattle.std.proofs.Common.{◌≡◌, ◌≢◌, ℕ, suc, List, [], ◌∷◌, ◌++◌, map, refl, sym, ap, ap₂, subst, ◌∙◌}
 use Rattle.std.proofs.lemmas.List.Elements.{All-map}
 use Rattle.finite_map.specs.declared.Call.{Call}
+use Rattle.finite_map.specs.declared.Call.TheVariants.{Insert}
 use Rattle.finite_map.specs.declared.Change.{Change}
 use Rattle.finite_map.specs.declared.Note.{Note}
 use Rattle.finite_map.specs.declared.Reply.{Reply}
+use Rattle.finite_map.specs.declared.Reply.TheVariants.{Inserted}
 use Rattle.finite_map.specs.Calls.{LegalCalls}
 use Rattle.finite_map.specs.Weaves.{AllLegal, Event, answered, calls_of}
 use Rattle.finite_map.proofs.Legal.{legal_at_first}
@@ -12,8 +14,13 @@ use Rattle.finite_map.proofs.Weaving.{weave-legal}
 use Rattle.plain_index.specs.Orders.{AreWoven, CallsAreWoven}
 use Rattle.plain_index.proofs.Together.{woven-in_order}
 use Rattle.record_words.specs.declared.layout.Layout.{Layout}
+use Rattle.tries.specs.Content.{Item}
+use Rattle.versions.specs.Told.{added_notes, items_of}
+use Rattle.rowex_core.specs.declared.known.Known.{Known}
+use Rattle.rowex_core.specs.Events.{loaded_tree}
 use Rattle.hot_index_calls.specs.Passes.{PassView}
-use Rattle.index_laws.specs.Lives.{AreLives, HasLived, PassLife, LivesAreWoven, OneHistoryOfAll, called, looked_up, new, scanned, went_on}
+use Rattle.index_laws.proofs.Loaded.{loader_legal}
+use Rattle.index_laws.specs.Lives.{AreLives, HasLived, PassLife, LivesAreWoven, OneHistoryOfAll, called, loaded, looked_up, new, scanned, went_on}
 
 -- the calls of notes, with their replies
 abbrev asked_in : List Note → List (Call × Reply)
@@ -32,6 +39,10 @@ events-are : (ns : List Note) → calls_of ns ≡ map (λ (x : Call × Reply). a
 events-are [] = refl
 events-are (n ∷ ns) = ap (λ (z : List Event). answered n.call n.reply ∷ z) (events-are ns)
 
+asked-added : (n : ℕ) (xs : List Item) → asked_in (added_notes n xs) ≡ map (λ (x : Item). (Insert x.key x.value, Inserted)) xs
+asked-added n [] = refl
+asked-added n (x ∷ xs) = ap (λ (z : List (Call × Reply)). (Insert x.key x.value, Inserted) ∷ z) (asked-added (suc n) xs)
+
 -- a pass's notes are those of the calls that it has lived through, and legal
 record IsLived (calls : List (Call × Reply)) (j : PassView) : Type 0 where
   pub same : asked_in j.notes ≡ calls
@@ -44,6 +55,10 @@ lived : {layout : Layout} {calls : List (Call × Reply)} {j : PassView} → HasL
 lived {j = j} (new is) = record {
   same = ap asked_in is.2;
   legal = subst (λ f. LegalCalls f j.number j.notes) (sym is.1) (subst (LegalCalls [] j.number) (sym is.2) (legal_at_first j.number));
+}
+lived (loaded {layout = layout} {words = words} {s = s} load is) = record {
+  same = ap (λ (k : Known). asked_in k.notes) is ∙ asked-added 0 (items_of (loaded_tree layout words));
+  legal = subst (λ (k : Known). LegalCalls k.front k.pass k.notes) (sym is) (loader_legal layout words load);
 }
 lived (called {calls = calls} {k = k} {j = j} {call = call} {reply = reply} h noted) = record {
   same = ap asked_in noted.notes ∙ asked-append k.notes (record { place = noted.place; call = call; reply = reply } ∷ []) ∙ ap (λ (z : List (Call × Reply)). z ++ (call, reply) ∷ []) (lived h).same;

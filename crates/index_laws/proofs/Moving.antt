@@ -9,15 +9,13 @@ use Rattle.rowex_core.specs.declared.event.Act.{Act}
 use Rattle.rowex_core.specs.declared.event.Event.{Event}
 use Rattle.rowex_core.specs.declared.known.Known.{Known}
 use Rattle.rowex_core.specs.Knowing.{learned}
-use Rattle.rowex_table.specs.Runs.{StepsWith}
 use Rattle.rowex_table.specs.Seats.{SeatView, TableView}
 use Rattle.rowex_table.specs.Traces.{OthersStepOn}
 use Rattle.rowex_table.proofs.Onward.{others_more, others_none}
-use Rattle.hot_index_calls.specs.Traces.{untold}
 use Rattle.linearizability.specs.Moments.{Happening, Pending, invokes, refuses, responds, shows, steps}
 use Rattle.index_laws.specs.Executions.{IsReturning}
-use Rattle.index_laws.specs.Joined.{HasEndedAs, KeepCallsWhole, answered, looked_up, pass_in, quiet, refused}
-use Rattle.index_laws.specs.Traced.{ContractsLeadOn, Instant, IsSeatShowing, IsSeatStep, IsSeatTurn, IsShownItself, IsShownSteps, moment_of}
+use Rattle.index_laws.specs.Joined.{HasEndedAs, IsNextTo, answered, loaded, looked_up, pass_in, quiet, refused, KeepCallsWhole}
+use Rattle.index_laws.specs.Traced.{ContractsLeadOn, Instant, IsSeatShowing, IsSeatStep, IsSeatTurn, IsShownItself, IsShownSteps, MakesEvent, moment_of}
 use Rattle.index_laws.proofs.Reaching.{upto, upto-new, upto-old}
 use Rattle.index_laws.proofs.Coming.{Begun, IsWaiting, MakesStep, Reached, Rest, Shows, Waits, put, reached_more, waits_on}
 
@@ -54,18 +52,21 @@ pub ends_next : {layout : Layout} {q : ℕ} {calls : List Call} {s e : SeatView}
 ends_next act notes (answered asked reply is noted) = refl
 ends_next act notes (looked_up asked are noted) = refl
 ends_next act notes (quiet is same legal) = refl
+ends_next act notes (loaded x) = refl
 ends_next act notes (refused asked fault is denied may) = refl
 
 pub ends_calm : {layout : Layout} {q : ℕ} {calls : List Call} {s e : SeatView} {h : Happening} → HasEndedAs layout q calls s e h → Calm h
 ends_calm (answered asked reply is noted) = tt
 ends_calm (looked_up asked are noted) = tt
 ends_calm (quiet is same legal) = tt
+ends_calm (loaded x) = tt
 ends_calm (refused asked fault is denied may) = tt
 
 ends_own : {layout : Layout} {q : ℕ} {calls : List Call} {s e : SeatView} {h : Happening} → HasEndedAs layout q calls s e h → pass_in h ≡ q
 ends_own (answered asked reply is noted) = refl
 ends_own (looked_up asked are noted) = refl
 ends_own (quiet is same legal) = refl
+ends_own (loaded x) = refl
 ends_own (refused asked fault is denied may) = refl
 
 -- The moves
@@ -89,7 +90,7 @@ at_both P n at b h = subst (λ z. P z (upto n at b (suc n))) (sym (upto-old n at
 -- a step, with what was before it
 record StepHere (table : TableView) (act : Act) (notes : List Note) (run : List Event) (u v : SeatView) : Type 0 where
   pub said : Known → List Note
-  pub step : StepsWith table untold act said (u, tt) (v, tt)
+  pub step : MakesEvent table act said u v
   pub notes_are : notes ≡ said (learned step.event.core act u.known)
   pub behind : step.next.before ≡ run
 
@@ -298,7 +299,8 @@ module _ (table : TableView) (whole : ℕ → List Happening) (q : ℕ) (below :
         (call, (o.from, m, returning, inl (record { asked = asked; reply = reply; calls = calls; noted = noted; notes_are = refl })), turn)
     leads_on (looked_up asked are noted) =
         (call, (o.from, m, returning, inr (inl (record { asked = asked; calls = are; noted = noted; notes_are = refl }))), turn)
-    leads_on (quiet calls same legal) = (call, (o.from, m, returning, inr (inr (record { calls = calls; same = same; legal = legal; notes_are = refl }))), turn)
+    leads_on (quiet calls same legal) = (call, (o.from, m, returning, inr (inr (inl (record { calls = calls; same = same; legal = legal; notes_are = refl })))), turn)
+    leads_on (loaded y) = (call, (o.from, m, returning, inr (inr (inr y))), turn)
     leads_on (refused asked fault calls denied may) = (call, (o.from, m, asked, fault, returning, calls, denied, may), turn)
 
     pub end_more : Reached table whole done (put left q (rest m None hs)) h

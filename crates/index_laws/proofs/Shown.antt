@@ -170,7 +170,6 @@ module _ (layout : Layout) (below : 0 < layout.passes) (table : TableId) (key : 
       seat = (refl, refl, ap (λ (z : Known). z.pass) x.own ∙ learned_pass a.core act (a.known 0), refl);
       event = record { core = a.core; lawful = s.lawful; layout_is = s.layout_is; knows = s.knows 0 below; legal = subst (λ p. Legal a.core p act) (sym (s.named 0 below)) x.legal; learned_is = x.own };
       next = record { before = run; led = led; others = others_none (a.known 0).pass run; next_is = ap (λ p. run ++ record { pass = p; act = act } ∷ []) (sym (s.named 0 below)) };
-      told = tt;
     };
     pass = s.named 0 below;
     notes_are = refl;

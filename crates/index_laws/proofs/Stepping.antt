@@ -14,17 +14,17 @@ use Rattle.rowex_core.specs.Events.{Legal, after, location_of, writes}
 use Rattle.rowex_core.specs.Knowing.{Knows, learned}
 use Rattle.rowex_core.specs.Opening.{opening}
 use Rattle.rowex_core.proofs.Staying.{stays_lawful}
-use Rattle.rowex_core.proofs.Writing.{in_table, step_writes, writes_one}
+use Rattle.rowex_core.proofs.Writing.{in_table, writes_one}
 use Rattle.rowex_table.specs.declared.traces.TracedView.{TracedView}
 use Rattle.rowex_table.specs.declared.traces.TracedView.TheVariants.{Pass}
 use Rattle.rowex_table.specs.Rule.{IsTrueOf, found_by}
-use Rattle.rowex_table.proofs.Keeping.{apart_set, each_set, found_place, found_writes, learned_pass, still_true, true_after}
+use Rattle.rowex_table.proofs.Keeping.{apart_set, each_set, found_atomic, found_place, found_writes, learned_pass, still_true, true_after}
 use Rattle.rowex_table.proofs.Onward.{led_more}
 use Rattle.index_laws.proofs.Shown.{is_step, stepped}
 use Rattle.index_laws.specs.Steps.{StepsAreMoments, StepsFollow, known_after, made_at, run_after, view_after}
 
 pub steps_follow : StepsFollow
-steps_follow layout s r id k t here act notes may =
+steps_follow layout s r id k t here act notes plain may =
     let c : Core = r.core in
     let i : ℕ = address layout (location_of k.pass act) in
     let w : ℕ = get_or s.words i 0 in
@@ -42,10 +42,10 @@ steps_follow layout s r id k t here act notes may =
       record {
         core = after c k.pass does;
         lawful = stays_lawful c k.pass does r.lawful found;
-        layout_is = (step_writes c k.pass does r.lawful found).layout ∙ r.layout_is;
+        layout_is = r.layout_is;
         shows = subst (λ (z : ℕ × ℕ). Shows (after c k.pass does) (set s.words z.0 z.1))
             (λ e. ((ap (λ z. address c.layout z) (found_place k.pass act at) ∙ sym there) e, (found_writes act at (word_at c (location_of k.pass does)) ∙ (ap (λ z. writes act (word_at c z)) (found_place k.pass act at) ∙ ap (writes act) (sym word))) e))
-            (writes_one c k.pass does s.words r.lawful found r.shows);
+            (writes_one c k.pass does s.words (found_atomic act at plain) r.lawful found r.shows);
         run = run;
         led = led_more (opening layout) r.run c k.pass does r.led found;
         knows = λ m w e. ⊎_elim
@@ -60,8 +60,8 @@ steps_follow layout s r id k t here act notes may =
     )
 
 pub steps_are_moments : StepsAreMoments
-steps_are_moments layout s r id k t here act notes may a core known call called =
-    let x = steps_follow layout s r id k t here act notes may in
+steps_are_moments layout s r id k t here act notes plain may a core known call called =
+    let x = steps_follow layout s r id k t here act notes plain may in
     let q : ℕ = k.pass in
     let does : Act = made_at r.core k act in
     let step = is_step a q does notes call (subst (λ c. Legal c q does) (sym core) x.0) called in (

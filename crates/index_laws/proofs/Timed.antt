@@ -1,8 +1,8 @@
 -- The opening of a run, and calls whose contracts say how they ended as calls of a run.
-use Rattle.std.proofs.Common.{◌≡◌, inl, inr, ℕ, zero, suc, ◌<◌, ◌≤◌, List, [], ◌∷◌, ◌++◌, length, map, refl, sym, ap, subst, ◌∙◌, arith, ⊎_elim, le_refl, append-nil}
+use Rattle.std.proofs.Common.{◌≡◌, inl, inr, ℕ, zero, suc, ◌<◌, ◌≤◌, List, [], ◌∷◌, ◌++◌, get_or, length, map, refl, sym, ap, subst, ◌∙◌, arith, ⊎_elim, le_refl, append-nil}
 use Rattle.std.proofs.lemmas.Bool.{cases_eq}
 use Rattle.std.specs.List.Sorted.{IsPermutation}
-use Rattle.std.proofs.lemmas.List.Elements.{All-cons, All-from_recursion, All-nil, All-weaker}
+use Rattle.std.proofs.lemmas.List.Elements.{All-cons, All-nil, All-weaker}
 use Rattle.std.proofs.lemmas.List.Sorted.{IsPermutation-map, IsPermutation-refl}
 use Rattle.finite_map.specs.declared.Call.{Call}
 use Rattle.finite_map.specs.declared.Note.{Note}
@@ -10,27 +10,18 @@ use Rattle.finite_map.specs.declared.Reply.{Reply}
 use Rattle.finite_map.specs.Calls.{LegalCalls}
 use Rattle.record_words.specs.declared.layout.Layout.{Layout}
 use Rattle.rowex_core.specs.declared.known.Known.{Known}
-use Rattle.rowex_core.specs.Cores.{Core}
-use Rattle.rowex_core.specs.Knowing.{IsFact, IsUntouched, Knows, IsStillLoaded}
 use Rattle.rowex_core.specs.Opening.{opening}
 use Rattle.rowex_core.proofs.Promises.{opening_is_lawful}
 use Rattle.rowex_table.specs.Rule.{opening_of}
 use Rattle.rowex_table.specs.Seats.{SeatView}
+use Rattle.rowex_table.proofs.Dealing.{new_knows}
 use Rattle.hot_index_calls.specs.Answers.{IsNoted}
 use Rattle.hot_index_calls.specs.Passes.{pass_of}
 use Rattle.linearizability.specs.Moments.{Continues, Happening, IsPlacedSince, IsResponse, IsWholeRun, Moment, Pending, invokes, refuses, responds, shows, steps}
 use Rattle.linearizability.proofs.Completing.{linearizable}
-use Rattle.index_laws.specs.Executions.{HasAnsweredMany, LeadsOn, IsExecution, IsQuiet, IsReturning}
+use Rattle.index_laws.specs.Executions.{HasAnsweredMany, HasLoaded, LeadsOn, IsExecution, IsQuiet, IsReturning, insertions}
 use Rattle.index_laws.specs.Statements.{ExecutionsAreLinearizable, ExecutionsAreRuns, LackMayRefuse, OpeningIsNew, RefusedIsRefused, Responses, ReturnedResponds}
-
-new_knows : (c : Core) (m : ℕ) → m < c.layout.passes → IsUntouched c m → Knows c (opening_of m)
-new_knows c m low h = record {
-  pass = low;
-  counted = record { loaded = omega arith; failed = All-from_recursion (λ f. f.step < 1) [] tt };
-  seen = record { front = (c.changes, refl, h.changes); fresh = ([], refl); facts = All-from_recursion (IsFact c.past) [] tt };
-  own = h.own;
-  values = All-from_recursion (IsStillLoaded m c) [] tt;
-}
+use Rattle.index_laws.proofs.Loaded.{insertion_calls, loader_legal}
 
 pub opening_is_new : OpeningIsNew
 opening_is_new layout = record {
@@ -107,12 +98,28 @@ quiet_is_response layout at q t call s e ends notes x = record {
   legal = legal_now q ((at t).known q) e.known ends.now ends.pass x.legal;
 }
 
+loaded_is_response : (layout : Layout) (at : ℕ → Moment) (q t : ℕ) (call : Pending) (s e : SeatView) → IsReturning at q t call s e → (notes : List Note) →
+    HasLoaded layout call.calls s.known e.known notes → IsResponse at t q call notes
+loaded_is_response layout at q t call s e ends notes x = record {
+  called = ends.pending;
+  calls = subst (λ (z : List Call × List Call). IsPermutation z.0 z.1)
+      (λ i. (sym x.calls_are i, sym (ap (map (λ (n : Note). n.call)) x.notes_are ∙ insertion_calls layout x.words) i)) (IsPermutation-refl (insertions layout x.words));
+  noted = noted_now ((at t).known q) ((at call.since).known q) e.known s.known notes ends.now ends.before
+      (ap (λ (z : Known). z.notes) x.loader ∙ sym x.notes_are ∙ sym (ap (λ (z : Known). z.notes ++ notes) x.new));
+  placed = λ i d inside. placed_since at q t call s e ends (subst (λ (z : Known × Known). z.0.steps ≤ z.1.fresh.step) (λ i. (sym x.new i, sym x.loader i)) (le_refl 1))
+      (get_or notes i d) (subst (λ (z : Known). length z.fresh.front ≤ (get_or notes i d).place) (sym x.loader) (let low : 0 ≤ (get_or notes i d).place = omega arith in low));
+  legal = legal_now q ((at t).known q) e.known ends.now ends.pass
+      (subst (λ (z : Known). LegalCalls z.front z.pass z.notes) (sym x.loader) (loader_legal layout x.words x.load));
+}
+
 pub returned_responds : ReturnedResponds
 returned_responds layout last at happens run q t below within call notes (s, e, ends, inl x) =
     subst (IsResponse at t q call) (sym x.notes_are) (noted_is_response layout at q t call s e ends x.asked x.reply x.calls x.noted)
 returned_responds layout last at happens run q t below within call notes (s, e, ends, inr (inl x)) =
     many_are_response layout at q t call s e ends notes x
-returned_responds layout last at happens run q t below within call notes (s, e, ends, inr (inr x)) =
+returned_responds layout last at happens run q t below within call notes (s, e, ends, inr (inr (inr x))) =
+    loaded_is_response layout at q t call s e ends notes x
+returned_responds layout last at happens run q t below within call notes (s, e, ends, inr (inr (inl x))) =
     subst (IsResponse at t q call) (sym x.notes_are) (quiet_is_response layout at q t call s e ends notes x)
 
 refused_is_refused : RefusedIsRefused

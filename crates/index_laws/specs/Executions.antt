@@ -1,11 +1,16 @@
 -- Executions of an index: runs in which calls end as their contracts say.
 use Rattle.std.specs.Prelude.{◌≡◌, ◌⊎◌, ℕ, suc, ◌<◌, ◌≤◌, List, [], ◌∷◌, None, Some, map}
 use Rattle.finite_map.specs.declared.Call.{Call}
+use Rattle.finite_map.specs.declared.Call.TheVariants.{Insert}
 use Rattle.finite_map.specs.declared.Note.{Note}
 use Rattle.finite_map.specs.declared.Reply.{Reply}
 use Rattle.finite_map.specs.Calls.{LegalCalls}
 use Rattle.record_words.specs.declared.layout.Layout.{Layout}
+use Rattle.rowex_core.specs.declared.known.Known.{Known}
+use Rattle.rowex_core.specs.Events.{IsLoad, loaded_tree}
+use Rattle.rowex_table.specs.Rule.{loader_of, opening_of}
 use Rattle.rowex_table.specs.Seats.{SeatView}
+use Rattle.versions.specs.Told.{added_notes, items_of}
 use Rattle.rowex_writing.specs.declared.attempts.TryFault.{TryFault}
 use Rattle.hot_index_calls.specs.Answers.{IsNoted, IsRefusedFor, MayRefuse}
 use Rattle.hot_index_calls.specs.Many.{AreNoted}
@@ -42,12 +47,30 @@ pub record IsQuiet (call : Pending) (k j : PassView) (notes : List Note) : Type 
   pub legal : LegalCalls j.front j.number j.notes
   pub notes_are : notes ≡ []
 
+-- the insertions of the pairs that these words of a table show, in the order of their keys
+abbrev pub insertions : Layout → List ℕ → List Call
+insertions layout words = map (λ x. Insert x.key x.value) (items_of (loaded_tree layout words))
+
+-- and the notes of these, where nothing was before
+abbrev pub insertion_notes : Layout → List ℕ → List Note
+insertion_notes layout words = added_notes 0 (items_of (loaded_tree layout words))
+
+-- It was the bulk load with which the table was made (`IsLoaderSeat`): pass 0 was new, and it asked for these insertions.
+pub record HasLoaded (layout : Layout) (calls : List Call) (k j : Known) (notes : List Note) : Type 0 where
+  pub words : List ℕ
+  pub load : IsLoad layout words
+  pub new : k ≡ opening_of 0
+  pub loader : j ≡ loader_of layout words
+  pub calls_are : calls ≡ insertions layout words
+  pub notes_are : notes ≡ insertion_notes layout words
+
 -- The call returns at moment t with these notes.
 abbrev pub HasReturned : Layout → (ℕ → Moment) → ℕ → ℕ → Pending → List Note → Type 0
 HasReturned layout at q t call notes =
     (s : SeatView) × (e : SeatView) × IsReturning at q t call s e ×
     (IsAnswered layout call (pass_of s) (pass_of e) notes ⊎
-    (HasAnsweredMany layout call (pass_of s) (pass_of e) notes ⊎ IsQuiet call (pass_of s) (pass_of e) notes))
+    (HasAnsweredMany layout call (pass_of s) (pass_of e) notes ⊎
+    (IsQuiet call (pass_of s) (pass_of e) notes ⊎ HasLoaded layout call.calls s.known e.known notes)))
 
 -- The call asked one of the map, and is refused at moment t.
 abbrev pub HasBeenRefused : Layout → (ℕ → Moment) → ℕ → ℕ → Pending → Type 0

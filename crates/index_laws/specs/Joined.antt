@@ -1,6 +1,6 @@
 -- Passes whose traces have ended in one run of the table: what each has done, as the contracts of its calls say one after the other, and the
 -- execution that they make together.
-use Rattle.std.specs.Prelude.{◌≡◌, ℕ, zero, suc, ◌<◌, ◌^◌, List, [], ◌∷◌, ◌++◌, None, if◌then◌else◌, map, nat_eq}
+use Rattle.std.specs.Prelude.{◌≡◌, ℕ, zero, suc, ◌<◌, ◌≤◌, ◌^◌, List, [], ◌∷◌, ◌++◌, None, if◌then◌else◌, map, nat_eq}
 use Rattle.finite_map.specs.declared.Call.{Call}
 use Rattle.finite_map.specs.declared.Call.TheVariants.{Get, Insert}
 use Rattle.finite_map.specs.declared.Note.{Note}
@@ -12,10 +12,11 @@ use Rattle.record_words.specs.declared.layout.Layout.{Layout}
 use Rattle.rowex_core.specs.declared.event.Act.{Act}
 use Rattle.rowex_core.specs.declared.event.Event.{Event}
 use Rattle.rowex_core.specs.declared.known.Known.{Known}
+use Rattle.rowex_core.specs.Events.{IsLoad}
 use Rattle.rowex_core.specs.Knowing.{learned}
-use Rattle.rowex_table.specs.Rule.{with_front}
+use Rattle.rowex_table.specs.Rule.{load_of, load_trace, with_front}
 use Rattle.rowex_table.specs.Runs.{Ends, Runs, silent}
-use Rattle.rowex_table.specs.Seats.{IsNewSeatOf, IsShownAll, SeatView, TableView}
+use Rattle.rowex_table.specs.Seats.{IsLoaderSeat, IsNewSeatOf, IsShownAll, SeatView, TableView}
 use Rattle.rowex_table.specs.Traces.{IsTableRun, OthersStepOn, RunBeginsWith}
 use Rattle.rowex_writing.specs.declared.attempts.TryFault.{TryFault}
 use Rattle.hot_index_calls.specs.Answers.{IsNoted, IsRefusedFor, MayRefuse}
@@ -24,18 +25,20 @@ use Rattle.hot_index_calls.specs.Passes.{pass_of}
 use Rattle.hot_index_calls.specs.Traces.{untold}
 use Rattle.linearizability.specs.Moments.{Happening, invokes, refuses, responds, shows, steps}
 use Rattle.linearizability.specs.Statements.{IsLinearizable}
+use Rattle.index_laws.specs.Executions.{HasLoaded, insertion_notes, insertions}
 use Rattle.index_laws.specs.Traced.{Instant, IsTracedExecution, moment_of}
 
 -- What one pass has done
 
 -- How pass q's call, which asks these calls of the map, ended: the seat was s when it began, and is e now. It was answered as one call, or as
--- look-ups, with the notes that were added; it asked nothing of the map; or it was refused.
+-- look-ups, with the notes that were added; it asked nothing of the map; it was the load of the table; or it was refused.
 pub data HasEndedAs (layout : Layout) (q : ℕ) (calls : List Call) (s e : SeatView) : Happening → Type 0 where
   answered : (asked : Call) (reply : Reply) → calls ≡ asked ∷ [] → (noted : IsNoted layout (pass_of s) (pass_of e) asked reply) →
       HasEndedAs layout q calls s e (responds q (record { place = noted.place; call = asked; reply = reply } ∷ []))
   looked_up : (asked : List (Call × Reply)) → map (λ x. x.0) asked ≡ calls → (noted : AreNoted layout (pass_of s) (pass_of e) asked) →
       HasEndedAs layout q calls s e (responds q noted.added)
   quiet : calls ≡ [] → e.known.notes ≡ s.known.notes → LegalCalls e.known.front e.known.pass e.known.notes → HasEndedAs layout q calls s e (responds q [])
+  loaded : {notes : List Note} → HasLoaded layout calls s.known e.known notes → HasEndedAs layout q calls s e (responds q notes)
   refused : (asked : Call) (fault : TryFault) → calls ≡ asked ∷ [] → IsRefusedFor layout asked (pass_of s) (pass_of e) fault → MayRefuse asked fault →
       HasEndedAs layout q calls s e (refuses q)
 
@@ -52,11 +55,18 @@ notes_of_end table acts last said s e ends = said (learned ends.2.event.core las
 abbrev pub call_of : ℕ → List Call → List Act → Act → List Note → Happening → List Happening
 call_of q calls acts last notes ended = invokes q calls ∷ (steps_of q acts ++ steps q last notes ∷ ended ∷ [])
 
--- What pass q of the table has done since it was new, up to this seat. Its calls are made by their steps (`HasRead`, `HasMade`, `HasTold`), and
--- ended as their contracts say. It may have met another pass (`IsShownAll`, `HasSeenMore`), followed a stamp (`HasCaughtUp`) or made one
--- (`HasStamped`).
+-- the bulk load of these words by pass q, with which its table is made: a call of many insertions and of one step
+abbrev pub load_call : Layout → ℕ → List ℕ → List Happening
+load_call layout q words =
+    let notes = insertion_notes layout words in invokes q (insertions layout words) ∷ steps q (load_of words) notes ∷ responds q notes ∷ []
+
+-- What pass q of the table has done since it was new, up to this seat. Pass 0 of a table that was loaded has made this load first. Its calls
+-- are made by their steps (`HasRead`, `HasMade`, `HasTold`), and ended as their contracts say. It may have met another pass (`IsShownAll`,
+-- `HasSeenMore`), followed a stamp (`HasCaughtUp`) or made one (`HasStamped`).
 pub data HasGoneThrough (table : TableView) (q : ℕ) : List Happening → SeatView → Type 0 where
   new : {s : SeatView} → IsNewSeatOf table q s → HasGoneThrough table q [] s
+  loader : {s : SeatView} → q ≡ 0 → (words : List ℕ) → IsLoad table.layout words → IsLoaderSeat table words s →
+      HasGoneThrough table q (load_call table.layout q words) s
   called : {done : List Happening} {s e : SeatView} → HasGoneThrough table q done s → (calls : List Call) (acts : List Act) (last : Act) (said : Known → List Note) →
       (ends : Ends table untold acts last said (s, tt) (e, tt)) → {ended : Happening} → HasEndedAs table.layout q calls s e ended →
       HasGoneThrough table q (done ++ call_of q calls acts last (notes_of_end table acts last said s e ends) ended) e
@@ -139,6 +149,14 @@ abbrev pub TwoThatMeetHaveEnded : Type 0
 TwoThatMeetHaveEnded =
     (table : TableView) (ours theirs : List Happening) (s t u v : SeatView) → table.layout.passes ≡ 2 → HasGoneThrough table 0 ours s → HasGoneThrough table 1 theirs t →
     IsShownAll table.layout s u → IsShownAll table.layout t v → u.trace ≡ v.trace → HaveEndedInOneRun table u.trace (of_two ours theirs) (of_two s t)
+
+-- The passes of a table that was just made by a bulk load, pass 0 with the seat that has loaded and the others new, have ended in one run: the
+-- load is its one step.
+abbrev pub LoadedHaveEnded : Type 0
+LoadedHaveEnded =
+    (table : TableView) (words : List ℕ) (seat : ℕ → SeatView) → 0 < table.layout.passes → IsLoad table.layout words → IsLoaderSeat table words (seat 0) →
+    ((q : ℕ) → 1 ≤ q → q < table.layout.passes → IsNewSeatOf table q (seat q)) →
+    HaveEndedInOneRun table (load_trace words).events (of_two (load_call table.layout 0 words) []) seat
 
 -- Steps with no notes, as those of a round of collection and of a count, are the steps of a call: the last one is its end.
 abbrev pub SilentStepsEnd : Type 0

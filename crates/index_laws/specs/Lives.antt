@@ -1,22 +1,30 @@
 -- What passes have lived through, as the contracts of their calls say one after the other, and the one history of it.
 use Rattle.std.specs.Prelude.{◌≡◌, ◌≢◌, ℕ, All, List, [], ◌∷◌, ◌++◌, map}
 use Rattle.finite_map.specs.declared.Call.{Call}
+use Rattle.finite_map.specs.declared.Call.TheVariants.{Insert}
 use Rattle.finite_map.specs.declared.Change.{Change}
 use Rattle.finite_map.specs.declared.Note.{Note}
 use Rattle.finite_map.specs.declared.Reply.{Reply}
+use Rattle.finite_map.specs.declared.Reply.TheVariants.{Inserted}
 use Rattle.finite_map.specs.Calls.{LegalCalls}
 use Rattle.finite_map.specs.Weaves.{Event, LegalHistory, answered, notes_of, weave}
 use Rattle.plain_index.specs.Orders.{AreWoven, calls_in}
 use Rattle.record_words.specs.declared.layout.Layout.{Layout}
 use Rattle.hot_index_calls.specs.Answers.{GoesOn, IsNoted, IsUnnoted}
 use Rattle.hot_index_calls.specs.Many.{AreNoted}
-use Rattle.hot_index_calls.specs.Passes.{IsNewPass, PassView}
+use Rattle.hot_index_calls.specs.Passes.{IsNewPass, PassView, pass_of}
+use Rattle.rowex_core.specs.Events.{IsLoad, loaded_tree}
+use Rattle.rowex_table.specs.Rule.{loader_of}
+use Rattle.rowex_table.specs.Seats.{SeatView}
+use Rattle.versions.specs.Told.{items_of}
 
--- A new pass has lived through no calls; one whose call was answered, through it besides, and one whose many look-ups were, through these in
--- the order of their notes; and one that was refused, collected, met another or followed a stamp (`IsUnnoted`) or scanned (`IsScannedBy`,
--- `IsListedBy`), through the same as before.
+-- A new pass has lived through no calls; pass 0 of a table that was just loaded, through the insertions of its pairs; one whose call was
+-- answered, through it besides, and one whose many look-ups were, through these in the order of their notes; and one that was refused,
+-- collected, met another or followed a stamp (`IsUnnoted`) or scanned (`IsScannedBy`, `IsListedBy`), through the same as before.
 pub data HasLived : Layout → List (Call × Reply) → PassView → Type 0 where
   new : {layout : Layout} {q : ℕ} {j : PassView} → IsNewPass q j → HasLived layout [] j
+  loaded : {layout : Layout} {words : List ℕ} {s : SeatView} → IsLoad layout words → s.known ≡ loader_of layout words →
+      HasLived layout (map (λ x. (Insert x.key x.value, Inserted)) (items_of (loaded_tree layout words))) (pass_of s)
   called : {layout : Layout} {calls : List (Call × Reply)} {k j : PassView} {call : Call} {reply : Reply} →
       HasLived layout calls k → IsNoted layout k j call reply → HasLived layout (calls ++ (call, reply) ∷ []) j
   looked_up : {layout : Layout} {calls asked : List (Call × Reply)} {k j : PassView} →

@@ -10,7 +10,7 @@ use Rattle.rowex_core.specs.declared.event.Act.{Act}
 use Rattle.rowex_core.specs.declared.event.Event.{Event}
 use Rattle.rowex_core.specs.declared.known.Known.{Known}
 use Rattle.rowex_core.specs.Cores.{Core}
-use Rattle.rowex_core.specs.Events.{Legal, after, location_of, writes}
+use Rattle.rowex_core.specs.Events.{IsAtomic, Legal, after, location_of, writes}
 use Rattle.rowex_core.specs.Knowing.{learned}
 use Rattle.rowex_core.specs.Words.{word_at}
 use Rattle.rowex_table.specs.declared.traces.Trace.{Trace}
@@ -40,13 +40,13 @@ state_after layout s id k act v =
 abbrev pub view_after : List Event → Core → Known → Trace → Act → List Note → TracedView
 view_after run c k t act notes = Pass (known_after c k act notes) (record { events = run_after run c k act; asides = t.asides })
 
--- By the rule of the table a core shows its state, to which its run leads. A step that a pass may make, by what it knows, is legal
+-- By the rule of the table a core shows its state, to which its run leads. An atomic step that a pass may make, by what it knows, is legal
 -- in this very core; and the core after it shows the state that the step leads to, and what the pass then knows. The table's run has one step
 -- more. So cores of steps follow one another.
 abbrev pub StepsFollow : Type 0
 StepsFollow =
     (layout : Layout) (s : State (Unit {0}) TracedView) (r : Ruled layout s) (id : ℕ) (k : Known) (t : Trace) → get_elem? s.views id ≡ some (Pass k t) →
-    (act : Act) (notes : List Note) → MayStep layout (found_by act) k → Legal r.core k.pass (made_at r.core k act) ×
+    (act : Act) (notes : List Note) → IsAtomic act → MayStep layout (found_by act) k → Legal r.core k.pass (made_at r.core k act) ×
     (next : Ruled layout (state_after layout s id k act (view_after r.run r.core k t act notes))) × (next.core ≡ after r.core k.pass (made_at r.core k act)) ×
     (next.run ≡ run_after r.run r.core k act)
 
@@ -55,7 +55,7 @@ StepsFollow =
 abbrev pub StepsAreMoments : Type 0
 StepsAreMoments =
     (layout : Layout) (s : State (Unit {0}) TracedView) (r : Ruled layout s) (id : ℕ) (k : Known) (t : Trace) → get_elem? s.views id ≡ some (Pass k t) →
-    (act : Act) (notes : List Note) → MayStep layout (found_by act) k →
+    (act : Act) (notes : List Note) → IsAtomic act → MayStep layout (found_by act) k →
     (a : Moment) → a.core ≡ r.core → a.known k.pass ≡ k → (call : Pending) → a.pending k.pass ≡ Some call →
     (next : Ruled layout (state_after layout s id k act (view_after r.run r.core k t act notes))) × (b : Moment) ×
     (b.core ≡ next.core) × (b.known k.pass ≡ known_after r.core k act notes) × IsMomentStep a b k.pass (made_at r.core k act) notes

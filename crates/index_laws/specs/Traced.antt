@@ -17,12 +17,12 @@ use Rattle.rowex_core.specs.declared.event.Spot.TheVariants.{Root}
 use Rattle.rowex_core.specs.declared.known.Known.{Known}
 use Rattle.rowex_core.specs.Cores.{Core}
 use Rattle.rowex_core.specs.Events.{after}
-use Rattle.rowex_core.specs.Knowing.{learned}
+use Rattle.rowex_core.specs.Knowing.{IsEvent, learned}
 use Rattle.rowex_core.specs.Opening.{opening}
 use Rattle.rowex_table.specs.Rule.{with_front}
-use Rattle.rowex_table.specs.Runs.{Ends, SeesAllOfRun, StepsWith, root_load}
-use Rattle.rowex_table.specs.Seats.{IsNewSeatOf, IsShownAll, SeatView, TableView}
-use Rattle.rowex_table.specs.Traces.{RunBeginsWith}
+use Rattle.rowex_table.specs.Runs.{Ends, SeesAllOfRun, root_load}
+use Rattle.rowex_table.specs.Seats.{IsNewSeatOf, IsSame, IsShownAll, SeatView, TableView}
+use Rattle.rowex_table.specs.Traces.{IsNextStep, RunBeginsWith}
 use Rattle.hot_index_calls.specs.Answers.{IsNoted}
 use Rattle.hot_index_calls.specs.Passes.{pass_of}
 use Rattle.hot_index_calls.specs.Traces.{untold}
@@ -36,11 +36,18 @@ pub record Instant : Type 0 where
   pub seat : ℕ → SeatView
   pub pending : ℕ → Option Pending
 
+-- The pass of the seat makes this event, as the contract of a step says (`StepsWith`), or of a table that is made by a bulk load
+-- (`IsLoaderSeat`). It is the next one of a run, and `said` are the notes that come with it.
+pub record MakesEvent (table : TableView) (act : Act) (said : Known → List Note) (s t : SeatView) : Type 0 where
+  pub seat : IsSame s t
+  pub event : IsEvent table.layout act said s.known t.known
+  pub next : IsNextStep table.layout s.known.pass act event.core s.trace t.trace
+
 -- Pass q, which has a call pending, makes the step, as the contract of a step says, with these notes. It comes behind all steps so far: that
 -- the steps of all passes have one order is a premise here, which no contract gives.
 pub record IsSeatStep (table : TableView) (a b : Instant) (q : ℕ) (act : Act) (notes : List Note) : Type 0 where
   pub said : Known → List Note
-  pub step : StepsWith table untold act said (a.seat q, tt) (b.seat q, tt)
+  pub step : MakesEvent table act said (a.seat q) (b.seat q)
   pub pass : (a.seat q).known.pass ≡ q
   pub notes_are : notes ≡ said (learned step.event.core act (a.seat q).known)
   pub behind : step.next.before ≡ a.run

@@ -1,6 +1,6 @@
 //! Laws of the index over whole runs. The functions do nothing: their contracts are the laws.
 ghost use Rattle.index_laws.specs.Headline.{Headline};
-ghost use Rattle.index_laws.specs.Joined.{AnInsertIsFound, OneRunIsAnExecution, ShownHaveEnded, SilentStepsEnd, StepsNeedNoGate, TwoThatMeetHaveEnded};
+ghost use Rattle.index_laws.specs.Joined.{AnInsertIsFound, LoadedHaveEnded, OneRunIsAnExecution, ShownHaveEnded, SilentStepsEnd, StepsNeedNoGate, TwoThatMeetHaveEnded};
 ghost use Rattle.index_laws.specs.Statements.{AGetReturns, Responses};
 ghost use Rattle.index_laws.specs.Steps.{StepsAreMoments, StepsFollow};
 ghost use Rattle.index_laws.specs.Traced.{AGetIsTraced, CallsMakeNoAsides, EndedBeforeLoaded, EndedOrLoadedBefore, EndedOrShownBefore, LoadsAreMoments, LoadsSeeAll, MetAreOfOneRun, TracedAreExecutions};
@@ -55,6 +55,11 @@ pub fn shown_passes_have_ended_in_one_run()
 /// Let the two passes of an index meet that has no other. Their traces have ended in the run of which both know then.
 pub fn two_that_meet_have_ended_in_one_run()
     ensures { TwoThatMeetHaveEnded }
+{}
+
+/// The passes of a table that was just made by a bulk load have ended in one run: the load is its one step.
+pub fn loaded_passes_have_ended_in_one_run()
+    ensures { LoadedHaveEnded }
 {}
 
 /// In each index of two passes there are calls that have ended in one run: one pass inserts a key, with any value, and the other finds it.

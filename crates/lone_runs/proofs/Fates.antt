@@ -6,7 +6,7 @@ use Rattle.versions.specs.declared.Rec.{Rec}
 use Rattle.versions.specs.Core.{Fate, Shared, Free, Held, Ready, InTree, Unlinked, Marked}
 use Rattle.versions.specs.Steps.{with_fate, with_lock, with_epoch, unlocked, next_fate}
 use Rattle.rowex_core.specs.declared.event.Act.{Act}
-use Rattle.rowex_core.specs.declared.event.Act.TheVariants.{Claim, Fill, Ready as MakeReady, Release, LoadRef, LoadFixed, Lock, Unlock, Publish, Mark, LoadEpoch, Advance, SetPin, ClearPin, LoadPin, LoadState, GiveBack}
+use Rattle.rowex_core.specs.declared.event.Act.TheVariants.{Claim, Fill, Ready as MakeReady, Release, LoadRef, LoadFixed, Lock, Unlock, Publish, Mark, LoadEpoch, Advance, SetPin, ClearPin, LoadPin, LoadState, GiveBack, Load}
 use Rattle.rowex_core.specs.declared.event.Target.TheVariants.{Anchor, Node as NodeTarget}
 use Rattle.rowex_core.specs.Cores.{Core}
 use Rattle.rowex_core.specs.Events.{after, anchored, claimed, given_back, marked}
@@ -88,6 +88,7 @@ module _ (P : Fate → Type 0) (closed : IsClosed P) where
   fate_kept c q (Unlock Anchor) plain well i = λ was. was
   fate_kept c q (Unlock (NodeTarget n)) plain well i = λ was. was
   fate_kept c q (Publish spot w) plain well i = absurd plain
+  fate_kept c q (Load words) plain well i = absurd plain
   fate_kept c q (Mark r epoch) plain well i = mark_kept c.shared r epoch well (c.fate r) refl i
   fate_kept c q (LoadEpoch w) plain well i = λ was. was
   fate_kept c q (Advance expected found) plain well i = λ was. either (nat_eq c.epoch expected) (with_epoch c.shared (suc c.epoch)) c.shared i was was

@@ -1,20 +1,18 @@
 -- Marks are no later than the epoch, and the epoch is no greater than the number of steps.
-use Rattle.std.proofs.Common.{◌≡◌, Option, Some, None, ℕ, suc, ◌+◌, ◌≤◌, List, [], ◌∷◌, Bool, true, false, nat_eq, if◌then◌else◌, length, refl, sym, ap, subst, ◌∙◌, arith}
+use Rattle.std.proofs.Common.{◌≡◌, Option, Some, None, ℕ, suc, ◌+◌, ◌≤◌, List, [], ◌∷◌, Bool, true, false, nat_eq, if◌then◌else◌, length, refl, sym, subst, arith}
 use Rattle.versions.specs.Core.{Fate, Shared, Free, Held, Ready, InTree, Unlinked, Marked}
 use Rattle.versions.specs.Steps.{next_fate, is_linked, with_epoch}
 use Rattle.versions.specs.declared.Rec.{Rec}
 use Rattle.rowex_core.specs.declared.event.Act.{Act}
-use Rattle.rowex_core.specs.declared.event.Act.TheVariants.{Claim, Fill, Ready as MakeReady, Release, LoadRef, LoadFixed, Lock, Unlock, Publish, Mark, LoadEpoch, Advance, SetPin, ClearPin, LoadPin, LoadState, GiveBack}
+use Rattle.rowex_core.specs.declared.event.Act.TheVariants.{Claim, Fill, Ready as MakeReady, Release, LoadRef, LoadFixed, Lock, Unlock, Publish, Mark, LoadEpoch, Advance, SetPin, ClearPin, LoadPin, LoadState, GiveBack, Load}
 use Rattle.rowex_core.specs.declared.event.Event.{Event}
-use Rattle.rowex_core.specs.declared.event.Spot.{Spot}
 use Rattle.rowex_core.specs.declared.event.Target.TheVariants.{Anchor, Node as NodeTarget}
 use Rattle.rowex_core.specs.Cores.{Core, IsLawful}
-use Rattle.rowex_core.specs.Events.{Legal, advanced, after, anchored, claimed, given_back, locked_where, marked, next_tree}
-use Rattle.rowex_core.specs.Opening.{opening}
+use Rattle.rowex_core.specs.Events.{Legal, after, anchored, claimed, given_back, loaded_tree, marked, next_tree}
+use Rattle.versions.specs.Told.{items_of}
 use Rattle.rowex_core.specs.Runs.{EventsLead}
 use Rattle.rowex_core.proofs.Staying.{stays_lawful}
-use Rattle.lone_runs.specs.Lone.{IsUnpublished}
-use Rattle.lone_runs.proofs.Fates.{IsClosed, MarksWell, fate_kept}
+use Rattle.lone_runs.proofs.Fates.{IsClosed, fate_kept}
 
 -- the mark, where the record is retired, is no later than this epoch
 abbrev pub IsMarkedBy : ℕ → Fate → Type 0
@@ -101,9 +99,15 @@ epoch_rises c q (SetPin w) = (omega arith, omega arith)
 epoch_rises c q ClearPin = (omega arith, omega arith)
 epoch_rises c q (LoadPin o w) = (omega arith, omega arith)
 epoch_rises c q (LoadState r w) = (omega arith, omega arith)
+epoch_rises c q (Load words) = (omega arith, omega arith)
 
 plain_or_not : (c : Core) (q : ℕ) (act : Act) → IsLawful c → Legal c q act → (r : Rec) → IsMarkedBy c.epoch (c.fate r) → IsMarkedBy c.epoch ((after c q act).fate r)
 plain_or_not c q (Publish spot w) lawful legal r by = next_by c.epoch c.past.now q (is_linked (next_tree c spot w) r) (c.fate r) by
+plain_or_not c q (Load words) lawful legal r by = load_by (is_linked (loaded_tree c.layout words.now) r)
+  where
+    load_by : (b : Bool) → IsMarkedBy c.epoch (if b then InTree (length (items_of (loaded_tree c.layout words.now))) else c.fate r)
+    load_by true = tt
+    load_by false = by
 plain_or_not c q (Mark s epoch) lawful legal r by = fate_kept (IsMarkedBy c.epoch) (by_closed c.epoch) c q (Mark s epoch) tt (λ since last p h. (let now = legal.1.1 in let low = (lawful.core.paced.loads q).0 in omega (arith, now, low))) r by
 plain_or_not c q (Claim s found) lawful legal r by = fate_kept (IsMarkedBy c.epoch) (by_closed c.epoch) c q (Claim s found) tt tt r by
 plain_or_not c q (Fill s offset w) lawful legal r by = by

@@ -4,7 +4,7 @@ use Rattle.record_words.specs.declared.layout.Layout.{Layout}
 use Rattle.versions.specs.Core.{Fate, Free, Held, Ready, InTree}
 use Rattle.versions.specs.declared.Rec.TheVariants.{Node as a_node}
 use Rattle.rowex_core.specs.declared.event.Act.{Act}
-use Rattle.rowex_core.specs.declared.event.Act.TheVariants.{Publish}
+use Rattle.rowex_core.specs.declared.event.Act.TheVariants.{Publish, Load}
 use Rattle.rowex_core.specs.declared.event.Event.{Event}
 use Rattle.rowex_core.specs.Cores.{Core}
 use Rattle.rowex_core.specs.Opening.{opening}
@@ -53,9 +53,10 @@ HasRoom layout s = (layout.passes ≡ 1) × HasFree layout s
 abbrev pub KeepsSpare : Layout → SeatView → SeatView → Type 0
 KeepsSpare layout s t = HasSpare layout s → HasSpare layout t
 
--- the step is no publish
+-- the step is no publish, and no bulk load
 abbrev pub IsUnpublished : Act → Type 0
 IsUnpublished (Publish spot w) = ⊥
+IsUnpublished (Load words) = ⊥
 IsUnpublished act = Unit {0}
 
 -- steps that are no publishes leave one spare

@@ -4,7 +4,7 @@ use Rattle.versions.specs.declared.Rec.{Rec}
 use Rattle.versions.specs.Core.{Shared, Fate, Free, Unlinked, Marked}
 use Rattle.versions.specs.Steps.{with_fate, with_lock, with_epoch}
 use Rattle.versions.proofs.Publish.{version_old}
-use Rattle.rowex_core.specs.declared.event.Act.TheVariants.{Claim, Lock, Unlock, Publish, Mark, Advance, GiveBack}
+use Rattle.rowex_core.specs.declared.event.Act.TheVariants.{Claim, Lock, Unlock, Publish, Mark, Advance, GiveBack, Load}
 use Rattle.rowex_core.specs.declared.event.Target.TheVariants.{Anchor, Node as NodeTarget}
 use Rattle.rowex_core.specs.Events.{claimed, marked, given_back, anchored, locked_where, advanced, next_tree, next_change}
 use Rattle.rowex_core.specs.Statements.{OnlyPublishAppends}
@@ -49,4 +49,5 @@ only_publish_appends c q (Unlock (NodeTarget n)) = (refl, refl)
 only_publish_appends c q (Mark r epoch) = marked_leaves c.shared r epoch (c.fate r)
 only_publish_appends c q (Advance expected found) = advanced_leaves c.shared expected
 only_publish_appends c q (GiveBack r epoch found) = given_leaves c.shared r epoch (c.fate r)
+only_publish_appends c q (Load load) = (q, refl, refl)
 only_publish_appends c q _ = (refl, refl)

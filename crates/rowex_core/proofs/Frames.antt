@@ -16,7 +16,7 @@ use Rattle.versions.specs.Core.{Fate, Free, Held, Ready as ReadyBy, InTree, Unli
 use Rattle.versions.specs.Steps.{IsLockable, with_fate, with_lock, with_pin, with_round, unlocked, with_anchor}
 use Rattle.versions.proofs.Publish.{version_old}
 use Rattle.rowex_core.specs.declared.event.Act.{Act}
-use Rattle.rowex_core.specs.declared.event.Act.TheVariants.{Claim, Fill, Ready, Release, LoadRef, LoadFixed, Lock, Unlock, Publish, Mark, LoadEpoch, Advance, SetPin, ClearPin, LoadPin, LoadState, GiveBack}
+use Rattle.rowex_core.specs.declared.event.Act.TheVariants.{Claim, Fill, Ready, Release, LoadRef, LoadFixed, Lock, Unlock, Publish, Mark, LoadEpoch, Advance, SetPin, ClearPin, LoadPin, LoadState, GiveBack, Load}
 use Rattle.rowex_core.specs.declared.event.Target.TheVariants.{Anchor, Node as NodeTarget}
 use Rattle.rowex_core.specs.declared.event.Spot.{Spot}
 use Rattle.rowex_core.specs.declared.event.Spot.TheVariants.{Root, Slot, Value}
@@ -27,6 +27,7 @@ use Rattle.rowex_core.specs.Events.{Legal, after, with_word, claimed, marked, gi
 use Rattle.rowex_core.specs.Frames.{IsFrame}
 use Rattle.rowex_core.specs.Sharing.{share, holding_of, is_by, is_in_tree, anchored_at}
 use Rattle.versions.proofs.Values.{one_locker}
+use Rattle.rowex_core.proofs.BulkLoading.{load_frame}
 use Rattle.rowex_core.proofs.Publishing.{publish_share}
 use Rattle.rowex_core.proofs.Valuing.{legal_publish, value_left}
 use Rattle.rowex_core.proofs.Sharing.{same_share, same_fate, same_word, same_lock, same_unlocked, by_another}
@@ -176,3 +177,4 @@ frame c p q ClearPin ne law l = pin_frame c p q None ne
 frame c p q (LoadPin o w) ne law l = round_frame c p q _ ne
 frame c p q (LoadState r w) ne law l = unchanged q c
 frame c p q (GiveBack r epoch found) ne law l = give_back_frame c q r epoch (c.fate r) refl
+frame c p q (Load load) ne law (a, (e, b)) = subst (λ (z : Core). IsFrame q z (after z p (Load load))) (sym e) (load_frame c.layout p load.now q ne)

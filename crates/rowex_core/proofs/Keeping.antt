@@ -12,7 +12,7 @@ use Rattle.rowex_core.specs.declared.known.Fact.{Fact}
 use Rattle.rowex_core.specs.declared.known.Fact.TheVariants.{Rooted, Placed, Fixed, Valued}
 use Rattle.rowex_core.specs.declared.known.Known.{Known}
 use Rattle.rowex_core.specs.declared.known.View.{View}
-use Rattle.rowex_core.specs.declared.known.View.TheVariants.{Spent, Dealer, Pass, Pair, Witness, Follower}
+use Rattle.rowex_core.specs.declared.known.View.TheVariants.{Spent, Dealer, Founder, Pass, Pair, Witness, Follower}
 use Rattle.finite_map.specs.declared.Change.{Change}
 use Rattle.finite_map.specs.Fronts.{BeginsWith}
 use Rattle.record_words.specs.declared.layout.Layout.{Layout}
@@ -85,6 +85,10 @@ sees_all c k w law h l = (refl, refl, λ o known. seen_by c o known)
 pub keeps : (c : Core) (p : ℕ) (act : Act) (v : View) → IsLawful c → Legal c p act → ¬ (IsViewOf v p) → Knowing c v → Knowing (after c p act) v
 keeps c p act Spent law l n k = tt
 keeps c p act (Dealer m) law l n k = λ q low. untouched_kept c (after c p act) q (frame c p q act (λ e. n (subst (λ z. m ≤ z) (sym e) low)) law l) (k q low)
+keeps c p act (Founder k m) law l n h = (
+  knows_kept c (after c p act) k (frame c p k.pass act (λ e. n (inl (sym e))) law l) h.0,
+  λ q low. untouched_kept c (after c p act) q (frame c p q act (λ e. n (inr (subst (λ z. m ≤ z) (sym e) low))) law l) (h.1 q low),
+)
 keeps c p act (Pass k) law l n h = knows_kept c (after c p act) k (frame c p k.pass act (λ e. n (sym e)) law l) h
 keeps c p act (Pair j k) law l n h = (
   knows_kept c (after c p act) j (frame c p j.pass act (λ e. n (inl (sym e))) law l) h.0,

@@ -18,7 +18,7 @@ use Rattle.versions.specs.Core.{Fate, Free, Held as HeldBy, Ready as ReadyBy, In
 use Rattle.versions.specs.Steps.{same_rec, is_linked, next_fate, IsLockable, lowered, with_fate, with_lock, with_pin, with_round, unlocked, with_anchor}
 use Rattle.versions.proofs.Legal.{same_rec_refl, same_rec_true}
 use Rattle.rowex_core.specs.declared.event.Act.{Act}
-use Rattle.rowex_core.specs.declared.event.Act.TheVariants.{Claim, Fill, Ready, Release, LoadRef, LoadFixed, Lock, Unlock, Publish, Mark, LoadEpoch, Advance, SetPin, ClearPin, LoadPin, LoadState, GiveBack}
+use Rattle.rowex_core.specs.declared.event.Act.TheVariants.{Claim, Fill, Ready, Release, LoadRef, LoadFixed, Lock, Unlock, Publish, Mark, LoadEpoch, Advance, SetPin, ClearPin, LoadPin, LoadState, GiveBack, Load}
 use Rattle.rowex_core.specs.declared.event.Target.TheVariants.{Anchor, Node as NodeTarget}
 use Rattle.rowex_core.specs.declared.event.Spot.TheVariants.{Root, Slot, Value}
 use Rattle.rowex_core.specs.declared.known.Fact.{Fact}
@@ -35,9 +35,14 @@ use Rattle.rowex_core.specs.Cores.{Core, IsLawful, heap_of, holder_of}
 use Rattle.rowex_core.specs.Words.{record_word}
 use Rattle.versions.proofs.Publish.{version_old}
 use Rattle.rowex_core.specs.declared.event.Spot.{Spot}
-use Rattle.rowex_core.specs.Events.{IsLegalPublish, IsLockedAt, stored_words, stored_root, next_tree, next_change, Legal, after, with_word, claimed, marked, anchored, word_of, target_word, IsInTree}
-use Rattle.rowex_core.specs.Knowing.{IsFact, IsStillLoaded, HasSeen, facts_with, AreCounted, Knows, learned_by, learned, entry_learned, with_holding, with_filled_word, without_record, failed_with, claim_learned, anchor_learned, node_learned, blocking_pass_of, without_lock, records_in, owned_unlinked, own_after, locked_with_words, locks_after, anchor_after, publish_learned}
+use Rattle.rowex_core.specs.Events.{IsLegalPublish, IsLockedAt, stored_words, stored_root, next_tree, next_change, loaded_tree, Legal, after, with_word, claimed, marked, anchored, word_of, target_word, IsInTree}
+use Rattle.rowex_core.specs.Knowing.{IsFact, IsStillLoaded, HasSeen, facts_with, AreCounted, Knows, learned_by, learned, entry_learned, with_holding, with_filled_word, without_record, failed_with, claim_learned, load_learned, anchor_learned, node_learned, blocking_pass_of, without_lock, records_in, owned_unlinked, own_after, locked_with_words, locks_after, anchor_after, publish_learned}
 use Rattle.record_words.specs.declared.layout.Location.{Location}
+use Rattle.versions.specs.Loads.{loaded_past}
+use Rattle.versions.specs.Told.{added_change, items_of}
+use Rattle.record_words.specs.declared.layout.Layout.{Layout}
+use Rattle.rowex_core.specs.Opening.{opening}
+use Rattle.rowex_core.proofs.BulkLoading.{loaded, load_grows, load_shares}
 use Rattle.rowex_core.proofs.Frames.{advance_frame, give_back_frame, unlocked_node}
 use Rattle.rowex_core.proofs.Keeping.{fact_grown, knows_kept}
 use Rattle.rowex_core.proofs.Loading.{slot_fact, fixed_fact, value_fact, view}
@@ -306,6 +311,19 @@ mark_learns c k r epoch since last h e = subst (λ f. IsTrue (record c { shared 
     })
     r (UnlinkedBy since last k.pass) (Marked since last epoch) (without_record r) (drop_at r) e refl refl (dropped r (c.words r) (holding_of k.pass (UnlinkedBy since last k.pass))))
 
+-- A bulk load
+load_learns : (layout : Layout) (k : Known) (b : List ℕ) → Knows (opening layout) k → IsTrue (loaded layout k.pass b) (load_learned (opening layout) (loaded_tree layout b) k)
+load_learns layout k b h = record {
+  pass = h.pass;
+  seen = record {
+    front = ([], sym (append-nil _), All-from_recursion (λ z. z.pass ≢ k.pass) [] tt);
+    fresh = (map (added_change k.pass) (items_of (loaded_tree layout b)), refl);
+    facts = All-weaker (IsFact (opening layout).past) (IsFact (loaded_past (loaded_tree layout b))) (fact_grown (opening layout).past (loaded_past (loaded_tree layout b)) (load_grows layout k.pass b)) k.facts h.seen.facts;
+  };
+  own = load_shares layout k.pass b k.pass ∙ h.own;
+  values = no_values (loaded layout k.pass b) k.pass;
+}
+
 -- Publish
 module _ (c : Core) (k : Known) (spot : Spot) (w : ℕ) (law : IsLawful c) (h : Knows c k) (l : IsLegalPublish c k.pass spot w) where
   abbrev gone : Rec → Bool
@@ -439,6 +457,8 @@ learns_by c k ClearPin law h l = pin_learns c k h None
 learns_by c k (LoadPin o w) law h l = round_learns c k h _ _ (ap (λ (s : Share). let z = s.round in let x : Round = record { epoch = z.epoch; version = z.version; bound = lowered z.bound (c.pins o); seen = o ∷ z.seen } in x) h.own)
 learns_by c k (LoadState r w) law h l = elim (cases_Bool (eqb w 0)) [ inl e ↦ rw e (is_true h) | inr e ↦ rw e (with_failed c k (a_load (holder_of (c.fate r))) (word_of r 0) w h) ]
 learns_by c k (GiveBack r epoch found) law h l = is_true (knows_kept c _ k (give_back_frame c k.pass r epoch (c.fate r) refl) h)
+learns_by c k (Load load) law h (a, (e, b)) =
+    subst (λ (z : Core). Knows z k → IsTrue (after z k.pass (Load load)) (load_learned z (loaded_tree z.layout load.now) k)) (sym e) (load_learns c.layout k load.now) h
 
 -- The step is counted, and with it the last load of the root and what failed.
 module _ (c : Core) (k : Known) (h : AreCounted k.steps k.fresh.step k.failed) where
@@ -473,6 +493,7 @@ module _ (c : Core) (k : Known) (h : AreCounted k.steps k.fresh.step k.failed) w
   next_by (Lock (NodeTarget n) found) = either_next (nat_eq found 2) _ _ same_next (failed_next (a_lock (blocking_pass_of c n (c.fate (a_node n)))) (target_word (NodeTarget n)) found)
   next_by (LoadState r w) = either_next (nat_eq w 0) _ _ same_next (failed_next (a_load (holder_of (c.fate r))) (word_of r 0) w)
   next_by (LoadRef Root w) = before k.steps (omega arith)
+  next_by (Load load) = before k.steps (omega arith)
   next_by (LoadRef (Slot n j) w) = same_next
   next_by (LoadRef (Value l) w) = same_next
   next_by (Unlock Anchor) = same_next

@@ -25,3 +25,4 @@ pub mod Slots
 pub mod Leading
 pub mod Having
 pub mod Kept
+pub mod BulkLoading

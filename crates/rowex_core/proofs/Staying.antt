@@ -12,12 +12,13 @@ use Rattle.versions.specs.Steps.{same_rec, IsLawfulCore, claims, fills, readies,
 use Rattle.versions.proofs.Legal.{same_rec_true}
 use Rattle.versions.proofs.Stepping.{step_lawful}
 use Rattle.rowex_core.specs.declared.event.Act.{Act}
-use Rattle.rowex_core.specs.declared.event.Act.TheVariants.{Claim, Fill, Ready, Release, LoadRef, LoadFixed, Lock, Unlock, Publish, Mark, LoadEpoch, Advance, SetPin, ClearPin, LoadPin, LoadState, GiveBack}
+use Rattle.rowex_core.specs.declared.event.Act.TheVariants.{Claim, Fill, Ready, Release, LoadRef, LoadFixed, Lock, Unlock, Publish, Mark, LoadEpoch, Advance, SetPin, ClearPin, LoadPin, LoadState, GiveBack, Load}
 use Rattle.rowex_core.specs.declared.event.Target.TheVariants.{Anchor, Node as NodeTarget}
 use Rattle.rowex_core.specs.Reading.{node_words_of, leaf_of, IsPacked}
 use Rattle.rowex_core.specs.Cores.{Core, IsLawful, bare, heap_of, HasRecord, HasWord, FitsIn, IsWhole, holder_of}
 use Rattle.rowex_core.specs.Words.{tag_of}
 use Rattle.rowex_core.specs.Events.{Legal, IsOffset, after, with_word, claimed, marked, given_back, anchored, locked_where, advanced}
+use Rattle.rowex_core.proofs.BulkLoading.{load_stays}
 use Rattle.rowex_core.proofs.Records.{word_at_record, sized_after}
 use Rattle.rowex_core.proofs.Published.{publish_stays}
 use Rattle.rowex_core.proofs.Valuing.{legal_publish}
@@ -277,3 +278,4 @@ stays_lawful c q ClearPin law (a, b) = go (c.pins q) refl b
 stays_lawful c q (LoadPin o w) law l = round_stays c q _ law (step_lawful (bare c) q _ law.core (loads_pin o)) (law.epochs.loads q)
 stays_lawful c q (LoadState r w) law l = law
 stays_lawful c q (GiveBack r epoch found) law (a, b) = give_back_stays c q r epoch (c.fate r) law b.0 refl b.3 b.4
+stays_lawful c q (Load load) law (a, (e, b)) = subst (λ (z : Core). IsLawful (after z q (Load load))) (sym e) (load_stays c.layout q load.now a b)

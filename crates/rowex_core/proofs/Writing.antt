@@ -18,13 +18,13 @@ use Rattle.versions.specs.Core.{Fate, Free, Held, Ready as ReadyBy, InTree, Unli
 use Rattle.versions.specs.Steps.{same_rec, is_linked, next_fate, IsLockable, with_fate, with_lock, with_pin, with_round, with_anchor, with_epoch, after_mark}
 use Rattle.versions.proofs.Legal.{same_rec_refl, same_rec_true}
 use Rattle.rowex_core.specs.declared.event.Act.{Act}
-use Rattle.rowex_core.specs.declared.event.Act.TheVariants.{Claim, Fill, Ready, Release, LoadRef, LoadFixed, Lock, Unlock, Publish, Mark, LoadEpoch, Advance, SetPin, ClearPin, LoadPin, LoadState, GiveBack}
+use Rattle.rowex_core.specs.declared.event.Act.TheVariants.{Claim, Fill, Ready, Release, LoadRef, LoadFixed, Lock, Unlock, Publish, Mark, LoadEpoch, Advance, SetPin, ClearPin, LoadPin, LoadState, GiveBack, Load}
 use Rattle.rowex_core.specs.declared.event.Target.TheVariants.{Anchor, Node as NodeTarget}
 use Rattle.rowex_core.specs.declared.event.Spot.{Spot}
 use Rattle.rowex_core.specs.declared.event.Spot.TheVariants.{Root, Slot, Value}
 use Rattle.rowex_core.specs.Cores.{Core, IsLawful, HasRecord}
 use Rattle.rowex_core.specs.Words.{lock_tag, tag_of, lock_of, state_at, pin_word, record_word, word_at, Shows}
-use Rattle.rowex_core.specs.Events.{Legal, after, with_word, claimed, marked, given_back, anchored, stored_words, stored_root, next_tree, IsInTree, IsOffset, IsLegalPublish, word_of, spot_word, location_of, exchanged, writes, locked_where, advanced}
+use Rattle.rowex_core.specs.Events.{IsAtomic, Legal, after, with_word, claimed, marked, given_back, anchored, stored_words, stored_root, next_tree, IsInTree, IsOffset, IsLegalPublish, word_of, spot_word, location_of, exchanged, writes, locked_where, advanced}
 use Rattle.rowex_core.proofs.Valuing.{legal_publish}
 
 -- From core c to core d the word at this location becomes w, and every other one stays.
@@ -293,14 +293,14 @@ publish_write c q (Value m) w law l =
     stored_write c q (Value m) w (a_leaf m) 1 (omega arith) (let x = (law.records.sized (a_leaf m)).0 in omega arith) refl (λ i. refl)
 
 -- A legal step changes its own word alone, as `writes` says.
-pub step_writes : (c : Core) (q : ℕ) (act : Act) → IsLawful c → Legal c q act → IsWrite c (after c q act) (location_of q act) (writes act (word_at c (location_of q act)))
-step_writes c q (Claim r found) law l = claim_write c q r (c.fate r) refl
-step_writes c q (Fill r offset w) law (a, b) = go r b.2 (law.records.sized r)
+pub step_writes : (c : Core) (q : ℕ) (act : Act) → IsAtomic act → IsLawful c → Legal c q act → IsWrite c (after c q act) (location_of q act) (writes act (word_at c (location_of q act)))
+step_writes c q (Claim r found) atomic law l = claim_write c q r (c.fate r) refl
+step_writes c q (Fill r offset w) atomic law (a, b) = go r b.2 (law.records.sized r)
   where
     go : (r : Rec) → IsOffset r offset → Rattle.rowex_core.specs.Cores.IsSized r (c.words r) → IsWrite c (record c { words = with_word c.words r offset w }) (word_of r offset) w
     go (a_node n) h s = fill_write c (a_node n) offset w h.0 (let x = s.0 in let y = h.1 in omega arith)
     go (a_leaf n) h s = fill_write c (a_leaf n) offset w h.0 (let x = s.0 in let y = h.1 in omega arith)
-step_writes c q (Ready r) law (a, b) = fate_write c r (ReadyBy q) 2 (ap (λ z. state_word (lock_tag z)) (free r b.1))
+step_writes c q (Ready r) atomic law (a, b) = fate_write c r (ReadyBy q) 2 (ap (λ z. state_word (lock_tag z)) (free r b.1))
   where
     free : (r : Rec) → c.fate r ≡ Held q → lock_of c r ≡ None
     free (a_leaf n) e = refl
@@ -309,22 +309,23 @@ step_writes c q (Ready r) law (a, b) = fate_write c r (ReadyBy q) 2 (ap (λ z. s
         go : (o : Option ℕ) → c.lock n ≡ o → o ≡ None
         go None x = refl
         go (Some p) x = absurd (subst (IsLockable p) e (law.core.locked n p x))
-step_writes c q (Release r) law l = fate_write c r Free 0 refl
-step_writes c q (LoadRef spot w) law l = nothing c (spot_word spot) _ refl
-step_writes c q (LoadFixed r offset w) law l = nothing c (word_of r offset) _ refl
-step_writes c q (Lock Anchor found) law l = anchored_write c q c.anchor refl
-step_writes c q (Lock (NodeTarget n) found) law (a, b) = lock_exchange c q n found b.1 b.2
-step_writes c q (Unlock Anchor) law l = anchor_write c None 2 refl
-step_writes c q (Unlock (NodeTarget n)) law (a, b) = lock_write c n None 2 (ap (λ z. state_word (tag_of None z)) b.2.1)
-step_writes c q (Publish spot w) law (a, b) = publish_write c q spot w law (legal_publish c q spot w law b)
-step_writes c q (Mark r epoch) law (a, b) = subst (λ f. IsWrite c (record c { shared = marked c.shared r epoch f }) (word_of r 0) (8 * epoch + 4)) (sym b.2.2) (mark_write c r b.2.0 b.2.1 epoch)
-step_writes c q (LoadEpoch w) law l = round_write c q _ Epoch _ refl
-step_writes c q (Advance expected found) law l = advance_write c expected
-step_writes c q (SetPin w) law l = pin_write c q _ w refl
-step_writes c q ClearPin law l = pin_write c q None 0 refl
-step_writes c q (LoadPin o w) law l = round_write c q _ (PinOf o) _ refl
-step_writes c q (LoadState r w) law l = nothing c (word_of r 0) _ refl
-step_writes c q (GiveBack r epoch found) law l = give_back_write c r epoch (c.fate r) refl
+step_writes c q (Release r) atomic law l = fate_write c r Free 0 refl
+step_writes c q (LoadRef spot w) atomic law l = nothing c (spot_word spot) _ refl
+step_writes c q (LoadFixed r offset w) atomic law l = nothing c (word_of r offset) _ refl
+step_writes c q (Lock Anchor found) atomic law l = anchored_write c q c.anchor refl
+step_writes c q (Lock (NodeTarget n) found) atomic law (a, b) = lock_exchange c q n found b.1 b.2
+step_writes c q (Unlock Anchor) atomic law l = anchor_write c None 2 refl
+step_writes c q (Unlock (NodeTarget n)) atomic law (a, b) = lock_write c n None 2 (ap (λ z. state_word (tag_of None z)) b.2.1)
+step_writes c q (Publish spot w) atomic law (a, b) = publish_write c q spot w law (legal_publish c q spot w law b)
+step_writes c q (Mark r epoch) atomic law (a, b) = subst (λ f. IsWrite c (record c { shared = marked c.shared r epoch f }) (word_of r 0) (8 * epoch + 4)) (sym b.2.2) (mark_write c r b.2.0 b.2.1 epoch)
+step_writes c q (LoadEpoch w) atomic law l = round_write c q _ Epoch _ refl
+step_writes c q (Advance expected found) atomic law l = advance_write c expected
+step_writes c q (SetPin w) atomic law l = pin_write c q _ w refl
+step_writes c q ClearPin atomic law l = pin_write c q None 0 refl
+step_writes c q (LoadPin o w) atomic law l = round_write c q _ (PinOf o) _ refl
+step_writes c q (LoadState r w) atomic law l = nothing c (word_of r 0) _ refl
+step_writes c q (GiveBack r epoch found) atomic law l = give_back_write c r epoch (c.fate r) refl
+step_writes c q (Load load) atomic law l = absurd atomic
 
 -- The word is in the table.
 
@@ -358,6 +359,7 @@ in_table c q ClearPin (a, b) = a
 in_table c q (LoadPin o w) (a, b) = b.0
 in_table c q (LoadState r w) (a, b) = any_state c.layout r b.0
 in_table c q (GiveBack r epoch found) (a, b) = any_state c.layout r b.0
+in_table c q (Load load) l = tt
 
 -- The words of the table show the core after the step.
 shows_after : (c d : Core) (location : Location) (w : ℕ) (words : List ℕ) → IsWrite c d location w → IsInTable c.layout location → Shows c words → Shows d (set words (address c.layout location) w)
@@ -380,6 +382,6 @@ shows_after c d location w words x inside shows = record {
         (shows.each other h ∙ sym (x.others other (λ z. false≢true (sym e ∙ eq-eqb _ _ (ap (address c.layout) z))))))
 
 -- A legal step changes one word, and its words show the core after it.
-pub writes_one : (c : Core) (q : ℕ) (act : Act) (words : List ℕ) → IsLawful c → Legal c q act → Shows c words →
+pub writes_one : (c : Core) (q : ℕ) (act : Act) (words : List ℕ) → IsAtomic act → IsLawful c → Legal c q act → Shows c words →
     Shows (after c q act) (set words (address c.layout (location_of q act)) (writes act (word_at c (location_of q act))))
-writes_one c q act words law l shows = shows_after c (after c q act) (location_of q act) _ words (step_writes c q act law l) (in_table c q act l) shows
+writes_one c q act words atomic law l shows = shows_after c (after c q act) (location_of q act) _ words (step_writes c q act atomic law l) (in_table c q act l) shows

@@ -1,5 +1,6 @@
 -- The state of the shared words and of all versions so far.
-use Rattle.std.specs.Prelude.{◌≡◌, ◌⊎◌, ℕ, ◌<◌, ◌≤◌, ◌^◌, List, length, get_or, All, Option, Some, None}
+use Rattle.std.specs.Prelude.{◌≡◌, ◌⊎◌, ℕ, ◌+◌, ◌<◌, ◌≤◌, ◌^◌, List, length, get_or, map, All, if◌then◌else◌, nat_lt, Option, Some, None}
+use Rattle.std.specs.List.{range_with_len}
 use Rattle.record_words.specs.declared.TheConstants.{EPOCHS, NODE_WORDS, NODE_FIELDS, LEAF_FIELDS}
 use Rattle.record_words.specs.declared.layout.Layout.{Layout}
 use Rattle.versions.specs.declared.Rec.{Rec}
@@ -9,7 +10,7 @@ use Rattle.versions.specs.declared.Round.{Round}
 use Rattle.versions.specs.Heap.{Heap}
 use Rattle.versions.specs.Steps.{IsLawfulCore}
 use Rattle.record_words.specs.Entry.{HasEntryWord}
-use Rattle.record_words.specs.Layout.{leaf_size}
+use Rattle.record_words.specs.Layout.{node_start, leaf_start, leaf_size}
 use Rattle.record_words.specs.Leaf.{words_for}
 use Rattle.versions.specs.Core.{BareCore as Versions, Shared, Fate, Free, Held, Ready, InTree, Unlinked, Marked}
 use Rattle.rowex_core.specs.Reading.{node_words_of, leaf_of, IsPacked}
@@ -55,6 +56,12 @@ value_offset = 1
 abbrev pub word_count_of : Rec → ℕ
 word_count_of (a_node n) = NODE_FIELDS
 word_count_of (a_leaf n) = LEAF_FIELDS
+
+-- the words of a record behind its state, in the words of a table; a leaf has 0 for those past the record's
+unfoldable pub fields_in : Layout → List ℕ → Rec → List ℕ
+fields_in layout table (a_node n) = map (λ i. get_or table (node_start layout n + (1 + i)) 0) (range_with_len 0 NODE_FIELDS)
+fields_in layout table (a_leaf n) =
+    map (λ i. if nat_lt (1 + i) (leaf_size layout n) then get_or table (leaf_start layout n + (1 + i)) 0 else 0) (range_with_len 0 LEAF_FIELDS)
 
 abbrev pub IsSized : Rec → List ℕ → Type 0
 IsSized r words = (length words ≡ word_count_of r) × All (λ w. w < 2 ^ 64) words

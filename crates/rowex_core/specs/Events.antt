@@ -1,35 +1,39 @@
--- When an atomic step of a pass is legal, and what it makes of the core.
-use Rattle.std.specs.Prelude.{◌≡◌, ℕ, suc, ◌+◌, ◌-◌, ◌^◌, ◌<◌, ◌≤◌, List, [], ◌∷◌, set, true, nat_eq, if◌then◌else◌, Option, Some, None, IsSome}
+-- When an atomic step of a pass is legal, or the bulk load with which a table was made, and what it makes of the core.
+use Rattle.std.specs.Prelude.{◌≡◌, ℕ, suc, ◌+◌, ◌-◌, ◌^◌, ◌<◌, ◌≤◌, List, [], ◌∷◌, set, get_or, All, true, nat_eq, if◌then◌else◌, Option, Some, None, IsSome}
 use Rattle.std.specs.declared.cmp.Ordering.{Ordering}
 use Rattle.std.specs.declared.cmp.Ordering.TheVariants.{Less, Equal, Greater}
 use Rattle.compound_node.specs.declared.entries.Entry.{Entry}
 use Rattle.finite_map.specs.declared.Change.{Change}
 use Rattle.finite_map.specs.declared.Kind.TheVariants.{Replaced, Removed}
 use Rattle.finite_map.specs.Maps.{key_order}
-use Rattle.record_words.specs.declared.TheConstants.{EPOCHS, FIRST_ENTRY, MAX_ENTRIES, NODE_WORDS, LEAF_WORDS}
+use Rattle.record_words.specs.declared.TheConstants.{EPOCHS, ROOT_WORD, FIRST_ENTRY, MAX_ENTRIES, NODE_WORDS, LEAF_WORDS}
 use Rattle.record_words.specs.Entry.{HasEntryWord, entry_word}
 use Rattle.record_words.specs.State.{state_word}
 use Rattle.record_words.specs.declared.state.Tag.TheVariants.{Free as FreeTag, Held as HeldTag, Live, Locked, Obsolete}
 use Rattle.record_words.specs.declared.layout.Location.{Location}
 use Rattle.record_words.specs.declared.layout.Location.TheVariants.{Epoch, Root as RootWord, Anchor as AnchorWord, Pin as PinOf, NodeWord, LeafWord}
-use Rattle.tries.specs.Tree.{Tree}
+use Rattle.tries.specs.Tree.{Tree, IsTrie, IsBuilt}
 use Rattle.tries.specs.Content.{Item, IsIn}
 use Rattle.versions.specs.Told.{items_of, added_change, replaced_change, removed_change}
 use Rattle.versions.specs.declared.Rec.{Rec}
 use Rattle.versions.specs.declared.Rec.TheVariants.{Node as a_node, Leaf as a_leaf}
 use Rattle.versions.specs.Heap.{Heap}
+use Rattle.versions.specs.Loads.{loaded_by}
 use Rattle.versions.specs.Read.{read}
+use Rattle.versions.specs.State.{IsLinked, IsTop}
 use Rattle.compound_node.specs.Nodes.{height_of}
+use Rattle.record_words.specs.declared.layout.Layout.{Layout}
 use Rattle.versions.specs.Core.{Shared, Fate, Free, Held, Ready as ReadyBy, InTree, Unlinked, Marked, has_seen}
 use Rattle.versions.specs.Steps.{same_rec, HasLockedNamer, IsNextVersion, with_fate, with_anchor, with_lock, after_mark, with_epoch, with_pin, after_set_pin, after_load_epoch, after_load_pin, published_by}
 use Rattle.rowex_core.specs.declared.event.Act.{Act}
-use Rattle.rowex_core.specs.declared.event.Act.TheVariants.{Claim, Fill, Ready, Release, LoadRef, LoadFixed, Lock, Unlock, Publish, Mark, LoadEpoch, Advance, SetPin, ClearPin, LoadPin, LoadState, GiveBack}
+use Rattle.rowex_core.specs.declared.event.Act.TheVariants.{Claim, Fill, Ready, Release, LoadRef, LoadFixed, Lock, Unlock, Publish, Mark, LoadEpoch, Advance, SetPin, ClearPin, LoadPin, LoadState, GiveBack, Load}
 use Rattle.rowex_core.specs.declared.event.Target.{Target}
 use Rattle.rowex_core.specs.declared.event.Target.TheVariants.{Anchor, Node as NodeTarget}
 use Rattle.rowex_core.specs.declared.event.Spot.{Spot}
 use Rattle.rowex_core.specs.declared.event.Spot.TheVariants.{Root, Slot, Value}
 use Rattle.rowex_core.specs.Reading.{entry_of, leaf_of, IsPacked}
-use Rattle.rowex_core.specs.Cores.{Core, bare, heap_of, HasRecord, HasWord, FitsIn, value_offset}
+use Rattle.rowex_core.specs.Cores.{Core, bare, heap_of, fields_in, HasRecord, HasWord, FitsIn, value_offset}
+use Rattle.rowex_core.specs.Opening.{opening}
 use Rattle.rowex_core.specs.Words.{lock_tag, state_at, pin_word, record_word}
 
 -- What a step changes
@@ -88,6 +92,23 @@ value_change c q l w = record { pass = q; key = (leaf_of (c.words (a_leaf l))).k
 abbrev pub next_change : Core → ℕ → Spot → ℕ → Change
 next_change c q (Value l) w = value_change c q l w
 next_change c q spot w = change_between q (items_of (c.past.version c.past.now)) (items_of (next_tree c spot w))
+
+-- A bulk load: what the words of a table show that is made of sorted pairs
+
+abbrev pub loaded_root : List ℕ → Option Entry
+loaded_root words = entry_of (get_or words ROOT_WORD 0)
+
+-- the tree that is loaded; none where there is no pair
+abbrev pub loaded_tree : Layout → List ℕ → Option Tree
+loaded_tree layout words = tree_of (heap_of (fields_in layout words)) (loaded_root words)
+
+-- The words show a lawful tree from the root. Its records are of the table, and their words spell values for which it has room.
+pub record IsLoad (layout : Layout) (words : List ℕ) : Type 0 where
+  pub small : All (λ w. w < 2 ^ 64) words
+  pub root : HasEntryWord (loaded_root words) × (entry_word (loaded_root words) ≡ get_or words ROOT_WORD 0)
+  pub top : IsTop (heap_of (fields_in layout words)) (loaded_root words) (loaded_tree layout words)
+  pub tree : (u : Tree) → loaded_tree layout words ≡ Some u → IsTrie u × IsBuilt u
+  pub records : (r : Rec) → IsLinked (loaded_tree layout words) r → HasRecord layout r × IsPacked r (fields_in layout words r) × FitsIn layout r (fields_in layout words r)
 
 -- Legality
 
@@ -160,6 +181,7 @@ LegalAct c q (LoadState r w) = HasRecord c.layout r × (w ≡ state_at c r)
 LegalAct c q (GiveBack r epoch found) =
     HasRecord c.layout r × (found ≡ state_at c r) × (1 ≤ epoch) × (epoch < (c.rounds q).bound) ×
     ((o : ℕ) → o < c.layout.passes → has_seen (c.rounds q).seen o ≡ true)
+LegalAct c q (Load words) = (c ≡ opening c.layout) × IsLoad c.layout words.now
 
 -- the step of pass q is legal
 abbrev pub Legal : Core → ℕ → Act → Type 0
@@ -199,6 +221,7 @@ advanced s expected = if nat_eq s.epoch expected then with_epoch s (suc s.epoch)
 abbrev pub words_after : Core → Act → Rec → List ℕ
 words_after c (Fill r offset w) = with_word c.words r offset w
 words_after c (Publish spot w) = stored_words c spot w
+words_after c (Load words) = fields_in c.layout words.now
 words_after c _ = c.words
 
 -- all else that passes share after a step of pass q
@@ -222,9 +245,15 @@ shared_after c q ClearPin = with_pin c.shared q None
 shared_after c q (LoadPin o w) = after_load_pin c.shared q o
 shared_after c q (LoadState r w) = c.shared
 shared_after c q (GiveBack r epoch found) = given_back c.shared r epoch (c.fate r)
+shared_after c q (Load words) = loaded_by c.shared q (loaded_root words.now) (loaded_tree c.layout words.now)
 
 abbrev pub after : Core → ℕ → Act → Core
 after c q act = record { layout = c.layout; words = words_after c act; shared = shared_after c q act }
+
+-- A load is no atomic step: it changes many words.
+abbrev pub IsAtomic : Act → Type 0
+IsAtomic (Load words) = ⊥
+IsAtomic act = Unit {0}
 
 -- The word of a step: which it is, what the step leaves there, and what its caller is told
 
@@ -263,6 +292,7 @@ location_of q ClearPin = PinOf q
 location_of q (LoadPin o w) = PinOf o
 location_of q (LoadState r w) = state_of r
 location_of q (GiveBack r epoch found) = state_of r
+location_of q (Load words) = RootWord
 
 -- what a compare-exchange leaves
 abbrev pub exchanged : ℕ → ℕ → ℕ → ℕ
@@ -287,3 +317,4 @@ writes ClearPin w = pin_word None
 writes (LoadPin o word) w = w
 writes (LoadState r word) w = w
 writes (GiveBack r epoch found) w = exchanged w (state_word (Obsolete epoch)) (state_word FreeTag)
+writes (Load words) w = get_or words.now ROOT_WORD 0

@@ -16,8 +16,9 @@ use Rattle.versions.specs.declared.Pin.{Pin}
 use Rattle.versions.specs.State.{Past, Stands}
 use Rattle.versions.specs.Core.{Fate, Free, InTree, Marked}
 use Rattle.versions.specs.Steps.{same_rec, is_linked, begun_round, with_seen}
+use Rattle.versions.specs.Told.{added_change, items_of}
 use Rattle.rowex_core.specs.declared.event.Act.{Act}
-use Rattle.rowex_core.specs.declared.event.Act.TheVariants.{Claim, Fill, Ready, Release, LoadRef, LoadFixed, Lock, Unlock, Publish, Mark, LoadEpoch, Advance, SetPin, ClearPin, LoadPin, LoadState, GiveBack}
+use Rattle.rowex_core.specs.declared.event.Act.TheVariants.{Claim, Fill, Ready, Release, LoadRef, LoadFixed, Lock, Unlock, Publish, Mark, LoadEpoch, Advance, SetPin, ClearPin, LoadPin, LoadState, GiveBack, Load}
 use Rattle.rowex_core.specs.declared.event.Target.{Target}
 use Rattle.rowex_core.specs.declared.event.Target.TheVariants.{Anchor, Node as NodeTarget}
 use Rattle.rowex_core.specs.declared.event.Spot.{Spot}
@@ -34,12 +35,12 @@ use Rattle.rowex_core.specs.declared.known.FailedAct.{FailedAct}
 use Rattle.rowex_core.specs.declared.known.FailedAct.TheVariants.{Claim as a_claim, Lock as a_lock, LoadState as a_load}
 use Rattle.rowex_core.specs.declared.known.Known.{Known}
 use Rattle.rowex_core.specs.declared.known.View.{View}
-use Rattle.rowex_core.specs.declared.known.View.TheVariants.{Spent, Dealer, Pass, Pair, Witness, Follower}
+use Rattle.rowex_core.specs.declared.known.View.TheVariants.{Spent, Dealer, Founder, Pass, Pair, Witness, Follower}
 use Rattle.rowex_core.specs.Cores.{Core, IsLawful, holder_of, value_offset}
 use Rattle.rowex_core.specs.Reading.{entry_of, root_of, entry_in, head_value, HasWordAt}
 use Rattle.rowex_core.specs.Sharing.{share, known_share, nothing}
 use Rattle.rowex_core.specs.Words.{record_word}
-use Rattle.rowex_core.specs.Events.{Legal, IsLockedAt, stored_words, stored_root, next_change, next_tree, state_of, target_word}
+use Rattle.rowex_core.specs.Events.{loaded_tree, Legal, IsLockedAt, stored_words, stored_root, next_change, next_tree, state_of, target_word}
 
 -- Facts of past versions
 
@@ -107,6 +108,7 @@ pub record IsUntouched (c : Core) (q : ℕ) : Type 0 where
 abbrev pub Knowing : Core → View → Type 0
 Knowing c Spent = Unit {0}
 Knowing c (Dealer m) = (q : ℕ) → m ≤ q → IsUntouched c q
+Knowing c (Founder k m) = Knows c k × ((q : ℕ) → m ≤ q → IsUntouched c q)
 Knowing c (Pass k) = Knows c k
 Knowing c (Pair j k) = Knows c j × Knows c k × (j.pass ≢ k.pass)
 Knowing c (Witness front) = BeginsWith c.changes front
@@ -116,6 +118,7 @@ Knowing c (Follower k front) = Knows c k × BeginsWith c.changes front
 abbrev pub IsViewOf : View → ℕ → Type 0
 IsViewOf Spent q = ⊥
 IsViewOf (Dealer m) q = m ≤ q
+IsViewOf (Founder k m) q = (k.pass ≡ q) ⊎ (m ≤ q)
 IsViewOf (Pass k) q = k.pass ≡ q
 IsViewOf (Pair j k) q = (j.pass ≡ q) ⊎ (k.pass ≡ q)
 IsViewOf (Witness front) q = ⊥
@@ -238,6 +241,14 @@ publish_learned c spot w k = record k {
   values = [];
 }
 
+-- a load leaves its pass all leaves of the tree, as if it had loaded the root just before
+abbrev pub load_learned : Core → Option Tree → Known → Known
+load_learned c t k = record k {
+  front = c.changes ++ map (added_change k.pass) (items_of t);
+  fresh = record { front = c.changes; step = k.steps; pinned = version_of k.pin };
+  values = [];
+}
+
 abbrev pub learned_by : Core → Act → Known → Known
 learned_by c (Claim r found) k = claim_learned c r found (c.fate r) k
 learned_by c (Fill r offset w) k = record k { own = map (with_filled_word r offset w) k.own }
@@ -258,6 +269,7 @@ learned_by c ClearPin k = record k { pin = None }
 learned_by c (LoadPin o w) k = record k { round = with_seen k.round o (c.pins o) }
 learned_by c (LoadState r w) k = state_learned c r w k
 learned_by c (GiveBack r epoch found) k = k
+learned_by c (Load words) k = load_learned c (loaded_tree c.layout words.now) k
 
 -- and it counts the step
 abbrev pub learned : Core → Act → Known → Known

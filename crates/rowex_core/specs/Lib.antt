@@ -3,7 +3,8 @@
 pub mod Reading
 pub mod Cores
 pub mod Words
--- Then what happens: when a step is legal and what it makes, whose each thing is, what a pass knows and is taught, and lists of steps.
+-- Then what happens: the core of a new table, when a step is legal and what it makes, whose each thing is, what a pass knows and is taught, and lists of steps.
+pub mod Opening
 pub mod Events
 pub mod Sharing
 pub mod Knowing
@@ -11,7 +12,6 @@ pub mod Runs
 -- Then what a pass may count on: what others' steps leave to it, and what it has, by lists.
 pub mod Frames
 pub mod Having
--- At last the core of a new table, and the laws.
-pub mod Opening
+-- At last the laws.
 pub mod Statements
 pub mod Writers

@@ -1,5 +1,5 @@
 -- The laws of the core.
-use Rattle.std.specs.Prelude.{◌≡◌, ◌≢◌, ℕ, suc, ◌+◌, ◌<◌, ◌≤◌, List, [], ◌∷◌, ◌++◌, set, Some}
+use Rattle.std.specs.Prelude.{◌≡◌, ◌≢◌, ℕ, suc, ◌+◌, ◌<◌, ◌≤◌, List, [], ◌∷◌, ◌++◌, map, set, Some}
 use Rattle.compound_node.specs.declared.entries.Entry.TheVariants.{Node}
 use Rattle.finite_map.specs.declared.Call.{Call}
 use Rattle.finite_map.specs.declared.Call.TheVariants.{Upsert, Remove}
@@ -21,9 +21,10 @@ use Rattle.versions.specs.declared.Rec.TheVariants.{Node as a_node}
 use Rattle.versions.specs.declared.Pin.{Pin}
 use Rattle.versions.specs.State.{Past, Spans, Stands, IsSameRecord, IsLed, IsTop}
 use Rattle.versions.specs.Core.{Free, Held, life_of}
-use Rattle.versions.specs.Told.{content, items_of, IsChange}
+use Rattle.versions.specs.Told.{added_change, content, items_of, IsChange}
+use Rattle.versions.specs.Loads.{loaded_past}
 use Rattle.rowex_core.specs.declared.event.Act.{Act}
-use Rattle.rowex_core.specs.declared.event.Act.TheVariants.{LoadRef, Lock, Publish}
+use Rattle.rowex_core.specs.declared.event.Act.TheVariants.{LoadRef, Lock, Publish, Load}
 use Rattle.rowex_core.specs.declared.event.Target.TheVariants.{Node as NodeTarget}
 use Rattle.rowex_core.specs.declared.event.Spot.{Spot}
 use Rattle.rowex_core.specs.declared.event.Spot.TheVariants.{Root}
@@ -33,7 +34,7 @@ use Rattle.rowex_core.specs.declared.known.View.TheVariants.{Dealer}
 use Rattle.rowex_core.specs.Reading.{entry_of, node_words_of, entry_in, HasWordAt}
 use Rattle.rowex_core.specs.Cores.{Core, IsLawful, heap_of}
 use Rattle.rowex_core.specs.Words.{record_word, word_at, Shows}
-use Rattle.rowex_core.specs.Events.{IsFixedOffset, IsOfEntry, Legal, after, location_of, writes, stored_words, stored_root, next_tree, next_change}
+use Rattle.rowex_core.specs.Events.{loaded_tree, IsAtomic, IsFixedOffset, IsOfEntry, Legal, after, location_of, writes, stored_words, stored_root, next_tree, next_change}
 use Rattle.rowex_core.specs.Sharing.{HasAll}
 use Rattle.rowex_core.specs.Frames.{IsFrame}
 use Rattle.rowex_core.specs.Knowing.{Knows, Knowing, IsViewOf, learned}
@@ -68,10 +69,10 @@ SeesAll =
 abbrev pub KnowsAll : Type 0
 KnowsAll = (c : Core) (k : Known) → Knows c k → HasAll c k
 
--- a legal step writes one word at most, and the words then show the core after it
+-- a legal atomic step writes one word at most, and the words then show the core after it
 abbrev pub WritesOne : Type 0
 WritesOne =
-    (c : Core) (q : ℕ) (act : Act) (words : List ℕ) → IsLawful c → Legal c q act → Shows c words →
+    (c : Core) (q : ℕ) (act : Act) (words : List ℕ) → IsAtomic act → IsLawful c → Legal c q act → Shows c words →
     Shows (after c q act) (set words (address c.layout (location_of q act)) (writes act (word_at c (location_of q act))))
 
 -- the opening core is lawful, the opening words show it, and no pass has done anything
@@ -86,10 +87,12 @@ RunsStayLawful = (layout : Layout) (events : List Event) (d : Core) → EventsLe
 abbrev pub RunsKeep : Type 0
 RunsKeep = (c : Core) (events : List Event) (d : Core) (v : View) → IsLawful c → EventsLead c events d → AreOthers v events → Knowing c v → Knowing d v
 
--- what a step does to the changes and the versions: a publish appends one of each, any other leaves both as they are
+-- what a step does to the changes and the versions: a publish appends one of each, a load one for each leaf, any other leaves both as they are
 abbrev pub Appends : Act → Core → Core → Type 0
 Appends (Publish spot w) c d =
     (x : Change) × (d.changes ≡ c.changes ++ x ∷ []) × (d.past.now ≡ suc c.past.now) × ((n : ℕ) → n ≤ c.past.now → d.past.version n ≡ c.past.version n)
+Appends (Load words) c d =
+    (q : ℕ) × (d.changes ≡ c.changes ++ map (added_change q) (items_of (loaded_tree c.layout words.now))) × (d.past ≡ loaded_past (loaded_tree c.layout words.now))
 Appends _ c d = (d.changes ≡ c.changes) × (d.past ≡ c.past)
 
 abbrev pub OnlyPublishAppends : Type 0

@@ -23,7 +23,7 @@ pub enum Spot {
     Value { leaf: u32 },
 }
 
-/// One load, store or compare-exchange on one word. `word` is what a load found, or what a store puts there. `found` is the word that
+/// One load, store or compare-exchange on one word; or the bulk load with which a table was made, which is no atomic step. `word` is what a load found, or what a store puts there. `found` is the word that
 /// a compare-exchange found: if that isn't the expected one, it stays. `offset` counts the words of a record, from its state at 0 on.
 #[derive(Clone, Copy)]
 pub enum Act {
@@ -61,6 +61,8 @@ pub enum Act {
     LoadState { rec: Rec, word: u64 },
     /// Exchanges the state of a record from obsolete in this epoch to free.
     GiveBack { rec: Rec, epoch: u64, found: u64 },
+    /// Links all records of the tree that the table's words, these ones, show. It stands before all steps, and none makes it.
+    Load { words: &'static [u64] },
 }
 
 /// An atomic step of the pass of this number.

@@ -122,6 +122,8 @@ pub enum View {
     Spent,
     /// That it hands out the pass numbers from this one on.
     Dealer(u64),
+    /// What a pass knows, which it hands out first, and then the pass numbers from this one on.
+    Founder(Known, u64),
     Pass(Known),
     /// What two passes know that have been joined.
     Pair(Known, Known),

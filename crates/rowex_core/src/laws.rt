@@ -32,7 +32,7 @@ pub fn pass_knows_all_it_has()
     ensures { KnowsAll }
 {}
 
-/// A legal step changes at most one word of the table. If the words showed the core before it, they then show the core after it.
+/// A legal atomic step changes at most one word of the table. If the words showed the core before it, they then show the core after it.
 pub fn steps_write_one_word()
     ensures { WritesOne }
 {}
@@ -52,7 +52,7 @@ pub fn runs_keep_knowledge()
     ensures { RunsKeep }
 {}
 
-/// A publish appends one change and one version and leaves all earlier ones; every other step leaves both lists.
+/// A publish appends one change and one version, a load one for each leaf; all earlier ones stay. Every other step leaves both lists.
 pub fn only_publish_appends()
     ensures { OnlyPublishAppends }
 {}

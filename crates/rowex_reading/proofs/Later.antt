@@ -9,7 +9,6 @@ use Rattle.rowex_core.specs.Knowing.{Knows, Recalls, IsEvent, learned}
 use Rattle.rowex_core.proofs.Learning.{learns}
 use Rattle.rowex_core.proofs.Owning.{recalls}
 use Rattle.rowex_core.proofs.Staying.{stays_lawful}
-use Rattle.rowex_core.proofs.Writing.{step_writes}
 use Rattle.rowex_reading.specs.Possible.{IsPossible}
 use Rattle.rowex_table.specs.Made.{IsLater}
 use Rattle.rowex_table.proofs.Keeping.{renoted}
@@ -31,7 +30,7 @@ module _ {layout : Layout} {act : Act} {said : Known → List Note} {k j : Known
   event_possible = record {
     core = after e.core k.pass act;
     lawful = stays_lawful e.core k.pass act e.lawful e.legal;
-    layout_is = (step_writes e.core k.pass act e.lawful e.legal).layout ∙ e.layout_is;
+    layout_is = e.layout_is;
     knows = event_knows;
   }
 

@@ -35,7 +35,7 @@ impl Model for Replay {
 impl Replay {
     ghost use Rattle.finite_map.specs.Fronts.{map_of};
     ghost use Rattle.versions.specs.Told.{content};
-    ghost use Rattle.rowex_core.specs.Events.{Legal};
+    ghost use Rattle.rowex_core.specs.Events.{IsAtomic, Legal};
     ghost use Rattle.rowex_replay.specs.Runs.{core_of, new_run, with_event};
     ghost use Rattle.rowex_replay.specs.Replays.{MayWantMemory};
 
@@ -50,11 +50,13 @@ impl Replay {
     }
 
     /// Makes `event` if it is legal where the run so far leads, and returns Ok. `Illegal` if it isn't; `Memory` if memory was refused,
-    /// which only a publish under the lock of its word takes. A fault changes nothing. Only a publish takes time linear in the table.
+    /// which only a publish under the lock of its word takes; `Load` if it is a bulk load. A fault changes nothing. Only a publish takes
+    /// time linear in the table.
     pub fn step(&mut self, event: Event) -> Result<(), ReplayFault>
         ensures ok { OnOk result (Legal (core_of self.old) event.pass event.act × (self.new ≡ with_event self.old event)) }
         ensures illegal { result ≡ Err ReplayFault.Illegal → ¬ Legal (core_of self.old) event.pass event.act }
         ensures memory { result ≡ Err ReplayFault.Memory → MayWantMemory (core_of self.old) event.pass event.act }
+        ensures load { result ≡ Err ReplayFault.Load → ¬ IsAtomic event.act }
         ensures refused { OnErr result (self.new ≡ self.old) }
     {
         self.state.step(event)?;

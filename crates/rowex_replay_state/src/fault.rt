@@ -13,6 +13,8 @@ pub enum ReplayFault {
     Illegal = 1,
     /// Memory was refused to a publish. Whether it is legal stays open.
     Memory = 2,
+    /// The event is a bulk load, which is no atomic step. Whether it is legal stays open.
+    Load = 3,
 }
 
 impl fmt::Display for ReplayFault {
@@ -22,6 +24,7 @@ impl fmt::Display for ReplayFault {
         match self {
             ReplayFault::Illegal => write!(f, "illegal event"),
             ReplayFault::Memory => write!(f, "out of memory"),
+            ReplayFault::Load => write!(f, "bulk load"),
         }
     }
 }

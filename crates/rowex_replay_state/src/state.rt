@@ -1,6 +1,7 @@
 //! The state of a replay: what it keeps of the core that its events lead to.
 
-ghost use Rattle.std.specs.Prelude.{◌≡◌, ◌<◌, IfOk, OnErr, OnOk, length};
+ghost use Rattle.std.specs.Prelude.{◌≡◌, ◌<◌, IfOk, OnErr, OnOk, length, true, false};
+ghost use Rattle.rowex_core.specs.Events.{IsAtomic as IsAtomicAct};
 
 use crate::fault::ReplayFault;
 use crate::passes::PassState;
@@ -47,7 +48,7 @@ impl Model for State {
 impl State {
     ghost use Rattle.versions.specs.Told.{content};
     ghost use Rattle.rowex_core.specs.Cores.{Core, IsLawful};
-    ghost use Rattle.rowex_core.specs.Events.{Legal, after};
+    ghost use Rattle.rowex_core.specs.Events.{IsAtomic, Legal, after};
     ghost use Rattle.rowex_core.specs.Opening.{opening};
     ghost use Rattle.rowex_replay_state.specs.States.{IsLockedPublish, IsStateOf, IsStepped};
 
@@ -68,17 +69,21 @@ impl State {
     }
 
     /// Makes `event` if it is legal, and returns Ok. `Illegal` if it isn't; `Memory` if memory was refused, which only a publish under the
-    /// lock of its word takes. A fault changes nothing. Only a publish takes time linear in the table.
+    /// lock of its word takes; `Load` if it is a bulk load. A fault changes nothing. Only a publish takes time linear in the table.
     pub fn step(&mut self, event: Event) -> Result<(), ReplayFault>
         ensures ok { OnOk result ((c : Core) → ∥ IsLawful c ∥₁ → IsStateOf self.old c
             → Legal c event.pass event.act × IsStateOf self.new (after c event.pass event.act)) }
         ensures illegal { result ≡ Err ReplayFault.Illegal → (c : Core) → IsLawful c → IsStateOf self.old c
             → ¬ Legal c event.pass event.act }
         ensures memory { result ≡ Err ReplayFault.Memory → IsLockedPublish self.old event.pass event.act }
+        ensures load { result ≡ Err ReplayFault.Load → ¬ IsAtomic event.act }
         ensures refused { OnErr result (self.new ≡ self.old) }
     {
         if event.pass as usize >= self.passes.len() {
             return Err(ReplayFault::Illegal);
+        }
+        if is_load(event.act) {
+            return Err(ReplayFault::Load);
         }
         match self.make_act(event.pass, event.act) {
             Ok(true) => Ok(()),
@@ -90,7 +95,8 @@ impl State {
     /// Makes the act `act` of `pass` if it is legal, and returns whether it was; if not, nothing changes. An error, which changes nothing,
     /// if memory is refused to a publish under the lock of its word.
     fn make_act(&mut self, pass: u16, act: Act) -> Result<bool, AllocError>
-        requires { pass < length self.old.passes }
+        requires pass { pass < length self.old.passes }
+        requires atomic { IsAtomic act }
         ensures ok { IfOk result (λ made. IsStepped made self.old self.new pass act) }
         ensures err { OnErr result (IsLockedPublish self.old pass act) }
         ensures kept { OnErr result (self.new ≡ self.old) }
@@ -113,6 +119,7 @@ impl State {
             Act::LoadPin { of, word } => Ok(self.load_pin(pass, of, word)),
             Act::LoadState { rec, word } => Ok(self.load_state(pass, rec, word)),
             Act::GiveBack { rec, epoch, found } => Ok(self.give_back(pass, rec, epoch, found)),
+            Act::Load { .. } => Ok(false),
         }
     }
 
@@ -132,5 +139,20 @@ impl State {
             pairs.push((item.key.copy(), item.value))?;
         }
         Ok(pairs)
+    }
+}
+
+/// Whether `act` is a bulk load, which is no atomic step.
+fn is_load(act: Act) -> bool
+    ensures load { result ≡ true → ¬ IsAtomicAct act }
+    ensures atomic { result ≡ false → IsAtomicAct act }
+{
+    match act {
+        Act::Load { .. } => true,
+        Act::Claim { .. } | Act::Fill { .. } | Act::Ready { .. } | Act::Release { .. } => false,
+        Act::LoadRef { .. } | Act::LoadFixed { .. } | Act::LoadState { .. } => false,
+        Act::Lock { .. } | Act::Unlock { .. } | Act::Publish { .. } | Act::Mark { .. } => false,
+        Act::LoadEpoch { .. } | Act::Advance { .. } | Act::GiveBack { .. } => false,
+        Act::SetPin { .. } | Act::ClearPin | Act::LoadPin { .. } => false,
     }
 }

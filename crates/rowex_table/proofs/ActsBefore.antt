@@ -16,7 +16,7 @@ use Rattle.versions.specs.State.{Past}
 use Rattle.versions.specs.Core.{Fate, InTree}
 use Rattle.versions.proofs.Legal.{same_rec_refl}
 use Rattle.rowex_core.specs.declared.event.Act.{Act}
-use Rattle.rowex_core.specs.declared.event.Act.TheVariants.{Claim, Fill, Ready, Release, LoadRef, LoadFixed, Lock, Unlock, Publish, Mark, LoadEpoch, Advance, SetPin, ClearPin, LoadPin, LoadState, GiveBack}
+use Rattle.rowex_core.specs.declared.event.Act.TheVariants.{Claim, Fill, Ready, Release, LoadRef, LoadFixed, Lock, Unlock, Publish, Mark, LoadEpoch, Advance, SetPin, ClearPin, LoadPin, LoadState, GiveBack, Load}
 use Rattle.rowex_core.specs.declared.event.Spot.TheVariants.{Root, Slot, Value}
 use Rattle.rowex_core.specs.declared.event.Target.TheVariants.{Anchor, Node as NodeTarget}
 use Rattle.rowex_core.specs.declared.known.Fact.{Fact}
@@ -197,6 +197,7 @@ module _ (layout : Layout) (said : Known → List Note) (k j : Known) where
   act_seen c (Publish spot w) o t = absurd t
   act_seen c (SetPin w) o t = absurd t
   act_seen c ClearPin o t = absurd t
+  act_seen c (Load words) o t = absurd t
 
   -- whatever a pass does but publish, pin and unpin, it recalls what it did
   pub recalls_on : (act : Act) → KeepsRecall act → IsEvent layout act said k j → IsLater k j

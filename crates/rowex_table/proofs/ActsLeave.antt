@@ -7,7 +7,7 @@ use Rattle.record_words.specs.declared.layout.Layout.{Layout}
 use Rattle.versions.specs.declared.Rec.{Rec}
 use Rattle.versions.specs.Core.{Fate, Free, Held as HeldBy, Ready as ReadyBy, InTree, Unlinked as UnlinkedBy, Marked}
 use Rattle.rowex_core.specs.declared.event.Act.{Act}
-use Rattle.rowex_core.specs.declared.event.Act.TheVariants.{Claim, Fill, Ready, Release, LoadRef, LoadFixed, Lock, Unlock, Publish, Mark, LoadEpoch, Advance, SetPin, ClearPin, LoadPin, LoadState, GiveBack}
+use Rattle.rowex_core.specs.declared.event.Act.TheVariants.{Claim, Fill, Ready, Release, LoadRef, LoadFixed, Lock, Unlock, Publish, Mark, LoadEpoch, Advance, SetPin, ClearPin, LoadPin, LoadState, GiveBack, Load}
 use Rattle.rowex_core.specs.declared.event.Spot.TheVariants.{Root, Slot, Value}
 use Rattle.rowex_core.specs.declared.event.Target.TheVariants.{Anchor, Node as NodeTarget}
 use Rattle.rowex_core.specs.declared.known.Known.{Known}
@@ -62,6 +62,7 @@ module _ (k : Known) where
       (record { pass = refl; steps = refl; notes = refl; front = λ t. refl; fresh = λ t. refl; failed = λ t. absurd t; own = λ t. refl; locks = λ t. refl; anchor = λ t. refl; values = λ t. refl; pin = λ t. refl; round = λ t. refl; facts = λ t. refl })
       (record { pass = refl; steps = refl; notes = refl; front = λ t. refl; fresh = λ t. refl; failed = λ t. absurd t; own = λ t. refl; locks = λ t. refl; anchor = λ t. refl; values = λ t. refl; pin = λ t. refl; round = λ t. refl; facts = λ t. refl })
   as_before c (GiveBack r epoch found) = record { pass = refl; steps = refl; notes = refl; front = λ t. refl; fresh = λ t. refl; failed = λ t. refl; own = λ t. refl; locks = λ t. refl; anchor = λ t. refl; values = λ t. refl; pin = λ t. refl; round = λ t. refl; facts = λ t. refl }
+  as_before c (Load words) = record { pass = refl; steps = refl; notes = refl; front = λ t. absurd t; fresh = λ t. absurd t; failed = λ t. refl; own = λ t. refl; locks = λ t. refl; anchor = λ t. refl; values = λ t. absurd t; pin = λ t. refl; round = λ t. refl; facts = λ t. absurd t }
 
 module _ (layout : Layout) (k j : Known) where
   pub act_leaves : (act : Act) → IsEvent layout act silent k j → IsNext act k j

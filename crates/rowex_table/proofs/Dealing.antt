@@ -2,7 +2,7 @@
 use Rattle.std.proofs.Common.{◌≡◌, ◌≢◌, ◌⊎◌, ℕ, zero, suc, ◌+◌, ◌<◌, ◌≤◌, List, [], ◌∷◌, ◌++◌, length, set, get_or, Bool, true, false, eqb, Option, Some, None, refl, sym, ap, subst, ◌∙◌, arith, inl, inr, ⊎_elim}
 use Rattle.std.proofs.lemmas.List.{set-get_or}
 use Rattle.std.proofs.lemmas.List.Elements.{All-from_recursion, All-nil, All-cons, All-weaker}
-use Rattle.std.specs.Prelude.{All}
+use Rattle.std.specs.Prelude.{All, IfOk, Result, Ok, Err}
 use mathlib.Core.Option.{none, some, some-ne-none, some-injective}
 use lib.ListN.{get_elem?}
 use Rattle.atomic_table.specs.Table.{State, Me, Step, Allows, Splits, Joins, opening as first_state}
@@ -18,15 +18,21 @@ use Rattle.rowex_core.specs.declared.known.Known.{Known}
 use Rattle.rowex_core.specs.Cores.{Core}
 use Rattle.rowex_core.specs.Words.{Shows}
 use Rattle.rowex_core.specs.Knowing.{IsFact, IsStillLoaded, IsUntouched, Knows, IsViewOf}
+use Rattle.rowex_core.specs.declared.known.View.TheVariants as seen
+use Rattle.rowex_core.specs.declared.event.Act.{Act}
+use Rattle.rowex_core.specs.Cores.{IsLawful}
+use Rattle.rowex_core.specs.Events.{IsLoad, Legal, after}
+use Rattle.rowex_core.proofs.Keeping.{keeps}
+use Rattle.rowex_core.proofs.Staying.{stays_lawful}
 use Rattle.rowex_core.specs.Opening.{opening, opening_words}
 use Rattle.rowex_core.proofs.Promises.{opening_is_lawful}
 use Rattle.rowex_table.specs.declared.traces.Trace.{Trace}
 use Rattle.rowex_table.specs.declared.traces.TracedView.{TracedView}
-use Rattle.rowex_table.specs.declared.traces.TracedView.TheVariants.{Spent, Dealer, Pass, Pair}
-use Rattle.rowex_table.specs.Rule.{Ruled, IsTrueOf, opening_of, next_dealer, dealt, paired, first_of_two, second_of_two, with_front, HasBeenShown, SeatsHaveMet, Meeting, met, IsSomeSeats}
+use Rattle.rowex_table.specs.declared.traces.TracedView.TheVariants.{Spent, Dealer, Founder, Pass, Pair}
+use Rattle.rowex_table.specs.Rule.{Ruled, IsTrueOf, dealer_at, dealt_at, first_view, load_of, load_trace, loader_of, opening_of, next_dealer, dealt, paired, first_of_two, second_of_two, with_front, HasBeenShown, SeatsHaveMet, Meeting, met, IsSomeSeats}
 use Rattle.rowex_table.specs.Traces.{HasTraces, IsShownRun, OthersStepOn, untraced, view_of}
-use Rattle.rowex_table.specs.Seats.{TableView, SeatView, IsNewSeatOf, IsNewSeat}
-use Rattle.rowex_table.proofs.Keeping.{Apart, apart_set, each_set, set_at}
+use Rattle.rowex_table.specs.Seats.{TableView, SeatView, IsDealtSeat, IsNewSeatOf, IsNewSeat}
+use Rattle.rowex_table.proofs.Keeping.{Apart, apart_set, each_set, set_at, true_after}
 use Rattle.rowex_table.proofs.Onward.{others_none}
 
 -- Seats by their numbers, and each of them
@@ -43,6 +49,11 @@ pub all_new : (table : TableView) (items : List SeatView) → length items ≡ t
 all_new table items long h = All-weaker (λ s. (q : ℕ) × (q < 0 + length items) × IsNewSeatOf table q s) (IsNewSeat table)
     (λ s u. let low = u.1 in let is : s.known.pass ≡ u.0 = ap (λ (k : Known). k.pass) u.2.1 in ((u.2.0, omega arith), u.2.1 ∙ ap opening_of (sym is), u.2.2, u.2.3))
     items (numbered (IsNewSeatOf table) 0 items (λ q s e. subst (λ z. IsNewSeatOf table z s) (omega arith) (h q s e)))
+
+-- two facts of a result that has a value
+pub both_ok : {X Y : Type 0} (r : Result X Y) (P Q R : X → Type 0) → ((x : X) → P x → Q x → R x) → IfOk r P → IfOk r Q → IfOk r R
+both_ok (Ok x) P Q R f p q = f x p q
+both_ok (Err e) P Q R f p q = tt
 
 -- The opening
 
@@ -66,6 +77,65 @@ opens {S = S} layout words is = record {
     first : (i : ℕ) (v : TracedView) → get_elem? (Dealer 0 ∷ []) i ≡ some v → i ≡ 0
     first zero v e = refl
     first (suc i) v e = absurd (some-ne-none v (sym e))
+
+-- what a new pass knows is true where it has made no step
+pub new_knows : (c : Core) (m : ℕ) → m < c.layout.passes → IsUntouched c m → Knows c (opening_of m)
+new_knows c m low h = record {
+  pass = low;
+  counted = record { loaded = omega arith; failed = All-from_recursion (λ f. f.step < 1) [] tt };
+  seen = record { front = (c.changes, refl, h.changes); fresh = ([], refl); facts = All-from_recursion (IsFact c.past) [] tt };
+  own = h.own;
+  values = All-from_recursion (IsStillLoaded m c) [] tt;
+}
+
+-- The opening of a loaded table: pass 0 has made the load, and all others are new
+
+module _ (layout : Layout) (words : List ℕ) (some_pass : 0 < layout.passes) (load : IsLoad layout words) (shows : Shows (after (opening layout) 0 (load_of words)) words) where
+  abbrev act : Act
+  act = load_of words
+
+  abbrev new_core : Core
+  new_core = after (opening layout) 0 act
+
+  legal : Legal (opening layout) 0 act
+  legal = (some_pass, (refl, load))
+
+  abbrev lawful : IsLawful (opening layout)
+  lawful = (opening_is_lawful layout).0
+
+  founder_true : IsTrueOf new_core (load_trace words).events (Founder (loader_of layout words) (load_trace words) 1)
+  founder_true =
+      let first = true_after (opening layout) [] (opening_of 0) (loader_of layout words) untraced act lawful (new_knows (opening layout) 0 some_pass ((opening_is_lawful layout).2 0 (omega arith))) legal (loader_of layout words).notes refl in
+      let rest = keeps (opening layout) 0 act (seen.Dealer 1) lawful legal (λ low. omega arith) (λ q low. (opening_is_lawful layout).2 q (omega arith)) in
+      ((first.0, rest), (first.1, All-cons (λ x. x.pass < 1) _ [] (omega arith) (All-nil (λ x. x.pass < 1))))
+
+  abbrev founder : TracedView
+  founder = Founder (loader_of layout words) (load_trace words) 1
+
+  pub opens_loaded : {S : Type 0} → Ruled {S = S} layout (first_state words [] (first_view layout true words))
+  opens_loaded = record {
+    core = new_core;
+    lawful = stays_lawful (opening layout) 0 act lawful legal;
+    layout_is = refl;
+    shows = shows;
+    run = (load_trace words).events;
+    led = (legal, refl);
+    knows = λ i v e. only (λ v. IsTrueOf new_core (load_trace words).events v) founder_true i v e;
+    apart = λ i j q v w a b ov ow. first i v a ∙ sym (first j w b);
+    each = λ q low. (0, founder, refl, owned q (cases_lt 0 q));
+  }
+    where
+      owned : (q : ℕ) → ((0 < q) ⊎ (q ≤ 0)) → (0 ≡ q) ⊎ (1 ≤ q)
+      owned q (inl h) = inr (omega arith)
+      owned q (inr h) = inl (omega arith)
+
+      only : (P : TracedView → Type 0) → P founder → (i : ℕ) (v : TracedView) → get_elem? (founder ∷ []) i ≡ some v → P v
+      only P p zero v e = subst P (some-injective founder v e) p
+      only P p (suc i) v e = absurd (some-ne-none v (sym e))
+
+      first : (i : ℕ) (v : TracedView) → get_elem? (founder ∷ []) i ≡ some v → i ≡ 0
+      first zero v e = refl
+      first (suc i) v e = absurd (some-ne-none v (sym e))
 
 -- Splitting
 
@@ -144,16 +214,6 @@ module _ {S : Type 0} (layout : Layout) (id : ℕ) (v left right : TracedView) w
       (λ (n : (eqb seat.0 id ≡ false) × (seat.0 ≢ id)). (seat.0, seat.1, at_longer views (right ∷ []) seat.0 seat.1 (set_else s.views id seat.0 left n.1 ∙ seat.2), seat.3))
       (eqb_tells seat.0 id))
 
--- what a new pass knows is true where it has made no step
-pub new_knows : (c : Core) (m : ℕ) → m < c.layout.passes → IsUntouched c m → Knows c (opening_of m)
-new_knows c m low h = record {
-  pass = low;
-  counted = record { loaded = omega arith; failed = All-from_recursion (λ f. f.step < 1) [] tt };
-  seen = record { front = (c.changes, refl, h.changes); fresh = ([], refl); facts = All-from_recursion (IsFact c.past) [] tt };
-  own = h.own;
-  values = All-from_recursion (IsStillLoaded m c) [] tt;
-}
-
 -- the run of a table some of whose passes are still to be dealt: the next of them has made no step
 deals_trace : (m : ℕ) (run : List Event) → All (λ x. x.pass < m) run → HasTraces run (Dealer (m + 1)) × HasTraces run (Pass (opening_of m) untraced)
 deals_trace m run h = (All-weaker (λ x. x.pass < m) (λ x. x.pass < m + 1) (λ x low. omega (arith, low)) run h, (run, refl, All-weaker (λ x. x.pass < m) (λ x. x.pass ≢ m) (λ x low e. omega (arith, low, e)) run h))
@@ -166,6 +226,41 @@ deals {S = S} layout id v m low is = subst (λ (z : TracedView). Splits {S = S} 
     (λ q e. omega arith)
     (λ q low e. omega arith)
     (λ q low. ⊎_elim (λ (h : m < q). inl (omega arith)) (λ (h : q ≤ m). inr (omega arith)) (cases_lt m q)))
+
+-- the first pass, and then those that are still to be dealt
+deals_founder : {S : Type 0} (layout : Layout) (id : ℕ) (k : Known) (t : Trace) (m : ℕ) → k.pass < m → Splits {S = S} {V = TracedView} (Ruled layout) id (Founder k t m) (Dealer m) (Pass k t)
+deals_founder {S = S} layout id k t m low = splits layout id (Founder k t m) (Dealer m) (Pass k t)
+    (λ c run at h. ((h.0.1, h.1.1), (h.0.0, h.1.0)))
+    (λ q o. inr o)
+    (λ q o. inl o)
+    (λ q o e. omega (arith, o, e, low))
+    (λ q. ⊎_elim (λ e. inr e) (λ o. inl o))
+
+pub deals_next : {S : Type 0} (layout : Layout) (id : ℕ) (v : TracedView) (made : Layout) (loads : Bool) (words : List ℕ) (m : ℕ) → m < layout.passes → v ≡ dealer_at (first_view made loads words) m →
+    Splits {S = S} {V = TracedView} (Ruled layout) id v (next_dealer v) (dealt v)
+deals_next layout id v made false words zero low is = deals layout id v 0 low is
+deals_next {S = S} layout id v made true words zero low is = subst (λ (z : TracedView). Splits {S = S} {V = TracedView} (Ruled layout) id z (next_dealer z) (dealt z)) (sym is)
+    (deals_founder layout id (loader_of made words) (load_trace words) 1 (omega arith))
+deals_next layout id v made loads words (suc m) low is = deals layout id v (suc m) low is
+
+pub dealer_next : (layout : Layout) (loads : Bool) (words : List ℕ) (m : ℕ) → next_dealer (dealer_at (first_view layout loads words) m) ≡ dealer_at (first_view layout loads words) (m + 1)
+dealer_next layout false words zero = refl
+dealer_next layout true words zero = refl
+dealer_next layout loads words (suc m) = let e : suc (suc m) ≡ suc m + 1 = omega arith in
+    sym (ap Dealer e) ∙ ap (λ n. dealer_at (first_view layout loads words) n) e
+
+pub dealt_next : (first : TracedView) (m : ℕ) → dealt (dealer_at first m) ≡ dealt_at first m
+dealt_next first zero = refl
+dealt_next first (suc m) = refl
+
+-- of a new table all seats are new, and of a loaded one all but the first
+pub dealt_new : (table : TableView) (q : ℕ) (s : SeatView) → IsDealtSeat table (Dealer 0) q s → IsNewSeatOf table q s
+dealt_new table zero s h = h
+dealt_new table (suc q) s h = h
+
+pub dealt_other : (table : TableView) (first : TracedView) (q : ℕ) (s : SeatView) → 1 ≤ q → IsDealtSeat table first q s → IsNewSeatOf table q s
+dealt_other table first zero s low h = absurd (omega arith)
+dealt_other table first (suc q) s low h = h
 
 pub parts : {S : Type 0} (layout : Layout) (id : ℕ) (v : TracedView) (j : Known) (t : Trace) (k : Known) (u : Trace) → v ≡ Pair j t k u → j.pass ≢ k.pass →
     Splits {S = S} {V = TracedView} (Ruled layout) id v (first_of_two v) (second_of_two v)

@@ -13,12 +13,12 @@ use Rattle.record_words.specs.declared.layout.Layout.{Layout}
 use Rattle.record_words.specs.declared.layout.Location.{Location}
 use Rattle.record_words.proofs.Locations.{address-below}
 use Rattle.rowex_core.specs.declared.event.Act.{Act}
-use Rattle.rowex_core.specs.declared.event.Act.TheVariants.{Claim, Fill, Ready, Release, LoadRef, LoadFixed, Lock, Unlock, Publish, Mark, LoadEpoch, Advance, SetPin, ClearPin, LoadPin, LoadState, GiveBack}
+use Rattle.rowex_core.specs.declared.event.Act.TheVariants.{Claim, Fill, Ready, Release, LoadRef, LoadFixed, Lock, Unlock, Publish, Mark, LoadEpoch, Advance, SetPin, ClearPin, LoadPin, LoadState, GiveBack, Load}
 use Rattle.rowex_core.specs.declared.event.Event.{Event}
 use Rattle.rowex_core.specs.declared.known.Known.{Known}
 use Rattle.rowex_core.specs.Cores.{Core, IsLawful}
 use Rattle.rowex_core.specs.Words.{Shows, word_at}
-use Rattle.rowex_core.specs.Events.{Legal, after, location_of, writes}
+use Rattle.rowex_core.specs.Events.{IsAtomic, Legal, after, location_of, writes}
 use Rattle.rowex_core.specs.Knowing.{Knows, IsViewOf, IsEvent, learned}
 use Rattle.rowex_core.specs.Opening.{opening}
 use Rattle.rowex_core.proofs.Keeping.{keeps}
@@ -63,6 +63,12 @@ found_same q ClearPin w x = (refl, refl)
 found_same q (LoadPin o y) w x = (refl, refl)
 found_same q (LoadState r y) w x = (refl, refl)
 found_same q (GiveBack r epoch found) w x = (refl, refl)
+found_same q (Load words) w x = (refl, refl)
+
+-- and it stays atomic
+pub found_atomic : (act : Act) (w : ℕ) → IsAtomic act → IsAtomic (found_by act w)
+found_atomic (Load words) w h = h
+found_atomic _ w h = tt
 
 pub found_place : (q : ℕ) (act : Act) (w : ℕ) → location_of q (found_by act w) ≡ location_of q act
 found_place q act w = (found_same q act w 0).0
@@ -120,9 +126,9 @@ module _ {S : Type 0} (layout : Layout) (slots id i : ℕ) (k : Known) (t : Trac
   st = table.step 0 0 0 0 none
 
   -- the step keeps the rule, and is the event
-  pub allows : i ≡ address layout (location_of k.pass act) → ((w : ℕ) → f w ≡ writes act w) → ((w : ℕ) → found_by act (tell w) ≡ found_by act w) → MayStep layout (found_by act) k
+  pub allows : i ≡ address layout (location_of k.pass act) → ((w : ℕ) → f w ≡ writes act w) → ((w : ℕ) → found_by act (tell w) ≡ found_by act w) → IsAtomic act → MayStep layout (found_by act) k
       → Allows {S = S} {V = TracedView} (Ruled layout) slots id (Pass k t, []) i f (λ n m'. did (Some layout) act said st (Pass k t, []) (tell n) m')
-  allows place new says apt s r deep here low =
+  allows place new says atomic apt s r deep here low =
       let c : Core = r.core in
       let w : ℕ = get_or s.words i 0 in
       let at : ℕ = word_at c (location_of k.pass act) in
@@ -132,6 +138,7 @@ module _ {S : Type 0} (layout : Layout) (slots id i : ℕ) (k : Known) (t : Trac
       let there : i ≡ address c.layout (location_of k.pass act) = place ∙ ap (λ (z : Layout). address z (location_of k.pass act)) (sym r.layout_is) in
       let word : w ≡ at = ap (λ z. get_or s.words z 0) there ∙ r.shows.each (location_of k.pass act) inside in
       let does : Act = found_by act at in
+      let plain : IsAtomic does = found_atomic act at atomic in
       let j : Known = record (learned c does k) { notes = k.notes ++ said (learned c does k) } in
       let x : Event = record { pass = k.pass; act = does } in
       let u : Trace = record { events = r.run ++ x ∷ []; asides = t.asides } in
@@ -143,10 +150,10 @@ module _ {S : Type 0} (layout : Layout) (slots id i : ℕ) (k : Known) (t : Trac
         record {
           core = after c k.pass does;
           lawful = stays_lawful c k.pass does r.lawful found;
-          layout_is = (step_writes c k.pass does r.lawful found).layout ∙ r.layout_is;
+          layout_is = (step_writes c k.pass does plain r.lawful found).layout ∙ r.layout_is;
           shows = subst (λ (z : ℕ × ℕ). Shows (after c k.pass does) (set s.words z.0 z.1))
               (λ e. ((ap (λ z. address c.layout z) (found_place k.pass act at) ∙ sym there) e, (found_writes act at (word_at c (location_of k.pass does)) ∙ (ap (λ z. writes act (word_at c z)) (found_place k.pass act at) ∙ (ap (writes act) (sym word) ∙ sym (new w)))) e))
-              (writes_one c k.pass does s.words r.lawful found r.shows);
+              (writes_one c k.pass does s.words plain r.lawful found r.shows);
           run = r.run ++ x ∷ [];
           led = led_more (opening layout) r.run c k.pass does r.led found;
           knows = λ m v e. ⊎_elim
@@ -161,12 +168,12 @@ module _ {S : Type 0} (layout : Layout) (slots id i : ℕ) (k : Known) (t : Trac
 
   -- the same for a seat that is a pass's
   pub allows_me : (me : Me S TracedView) (key : Layout) (of : Option Layout) → key ≡ layout → of ≡ Some layout → me ≡ (Pass (known_of me.0) (trace_of me.0), []) → k ≡ known_of me.0 → t ≡ trace_of me.0 → i ≡ address layout (location_of k.pass act) → ((w : ℕ) → f w ≡ writes act w)
-      → ((w : ℕ) → found_by act (tell w) ≡ found_by act w) → MayStep layout (found_by act) k
+      → ((w : ℕ) → found_by act (tell w) ≡ found_by act w) → IsAtomic act → MayStep layout (found_by act) k
       → Allows {S = S} {V = TracedView} (Ruled key) slots id me i f (λ n m'. did of act said st me (tell n) m')
-  allows_me me key of count is_of is same traced place new says apt = subst (λ (x : Layout). Allows {S = S} {V = TracedView} (Ruled x) slots id me i f (λ n m'. did of act said st me (tell n) m')) (sym count)
+  allows_me me key of count is_of is same traced place new says atomic apt = subst (λ (x : Layout). Allows {S = S} {V = TracedView} (Ruled x) slots id me i f (λ n m'. did of act said st me (tell n) m')) (sym count)
       (subst (λ (x : Option Layout). Allows {S = S} {V = TracedView} (Ruled layout) slots id me i f (λ n m'. did x act said st me (tell n) m')) (sym is_of)
       (subst (λ (m : Me S TracedView). Allows {S = S} {V = TracedView} (Ruled layout) slots id m i f (λ n m'. did (Some layout) act said st m (tell n) m'))
-      ((λ e. (Pass (same e) (traced e), [])) ∙ sym is) (allows place new says apt)))
+      ((λ e. (Pass (same e) (traced e), [])) ∙ sym is) (allows place new says atomic apt)))
 
 -- the word of a location of the table is one of the table's words
 pub in_words : (words : ℕ) (own layout : Layout) (location : Location) (word : ℕ) → words ≡ word_count own → own ≡ layout → IsAddressOf layout location word → word < words
@@ -188,14 +195,15 @@ stepped_me {S = S} layout act said of is_of me m' is h =
 abbrev pub seat_of : {S : Type 0} → TableId → ℕ → Me S TracedView → SeatView
 seat_of table id me = record { table = table; id = id; known = known_of me.0; trace = (trace_of me.0).events; asides = (trace_of me.0).asides }
 
-pub steps_with : {G S : Type 0} (table : TableView) (becomes : G → Event → G → Type 0) (act : Act) (said : Known → List Note) (of : Option Layout) → of ≡ Some table.layout → (x y : TableId) (i j : ℕ) (me m' : Me S TracedView) →
+pub steps_with : {G S : Type 0} (table : TableView) (becomes : G → Event → G → Type 0) (act : Act) (said : Known → List Note) (of : Option Layout) → IsAtomic act → of ≡ Some table.layout → (x y : TableId) (i j : ℕ) (me m' : Me S TracedView) →
     me ≡ (Pass (known_of me.0) (trace_of me.0), []) → y ≡ x → j ≡ i → (m'.1 ≡ me.1) × Happens of act said me.0 m'.0 → (s : SeatView) → seat_of x i me ≡ s → (g h : G) (told : Act) → told ≡ act →
     becomes g (record { pass = (known_of m'.0).pass; act = told }) h → StepsWith table becomes act said (s, g) (seat_of y j m', h)
-steps_with {G = G} table becomes act said of is_of x y i j me m' is tables ids did s seen g h told same tells =
+steps_with {G = G} table becomes act said of plain is_of x y i j me m' is tables ids did s seen g h told same tells =
     let e = stepped_me table.layout act said of is_of me m' is did.1 in
     let pass : (known_of m'.0).pass ≡ (known_of me.0).pass = ap (λ (z : Known). z.pass) e.0.learned_is ∙ learned_pass e.0.core act (known_of me.0) in
     subst (λ (z : SeatView). StepsWith table becomes act said (z, g) (seat_of y j m', h)) seen (record {
       seat = (tables, ids, pass, e.2);
+      atomic = plain;
       event = e.0;
       next = e.1;
       told = subst (λ (z : ℕ × Act). becomes g (record { pass = z.0; act = z.1 }) h) (λ i. (pass i, same i)) tells;

@@ -9,7 +9,7 @@ use Rattle.rowex_core.specs.Events.{Legal, after}
 use Rattle.rowex_core.specs.Knowing.{IsViewOf}
 use Rattle.rowex_core.specs.Runs.{EventsLead}
 use Rattle.rowex_table.specs.declared.traces.TracedView.{TracedView}
-use Rattle.rowex_table.specs.declared.traces.TracedView.TheVariants.{Spent, Dealer, Pass, Pair, Witness, Follower}
+use Rattle.rowex_table.specs.declared.traces.TracedView.TheVariants.{Spent, Dealer, Founder, Pass, Pair, Witness, Follower}
 use Rattle.rowex_table.specs.Traces.{HasTraces, IsNextStep, OthersStepOn, RunBeginsWith, view_of}
 
 -- Steps one after the other
@@ -63,6 +63,10 @@ pub traces_more : (run : List Event) (x : Event) (v : TracedView) → ¬ IsViewO
 traces_more run x Spent none h = tt
 traces_more run x (Dealer m) none h =
     All-append (λ y. y.pass < m) run (x ∷ []) h (All-cons (λ y. y.pass < m) x [] (⊎_elim (λ low. low) (λ high. absurd (none high)) (cases_lt x.pass m)) (All-nil (λ y. y.pass < m)))
+traces_more run x (Founder k t m) none h = (
+  others_more k.pass t.events run x (λ e. none (inl (sym e))) h.0,
+  All-append (λ y. y.pass < m) run (x ∷ []) h.1 (All-cons (λ y. y.pass < m) x [] (⊎_elim (λ low. low) (λ high. absurd (none (inr high))) (cases_lt x.pass m)) (All-nil (λ y. y.pass < m))),
+)
 traces_more run x (Pass k t) none h = others_more k.pass t.events run x (λ e. none (sym e)) h
 traces_more run x (Pair j t k u) none h = (others_more j.pass t.events run x (λ e. none (inl (sym e))) h.0, others_more k.pass u.events run x (λ e. none (inr (sym e))) h.1)
 traces_more run x (Witness front events) none h = begins_more events run x h

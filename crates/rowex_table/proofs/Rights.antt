@@ -8,7 +8,6 @@ use Rattle.record_words.specs.declared.layout.Layout.{Layout}
 use Rattle.record_words.specs.State.{state_word}
 use Rattle.versions.specs.declared.Rec.{Rec}
 use Rattle.versions.specs.declared.Rec.TheVariants.{Node as a_node, Leaf as a_leaf}
-use Rattle.versions.specs.Core.{Fate, Free, Held as HeldBy, Ready as ReadyBy, InTree, Unlinked as UnlinkedBy, Marked}
 use Rattle.rowex_core.specs.declared.event.Act.TheVariants.{Fill, Ready, Release, Unlock}
 use Rattle.rowex_core.specs.declared.event.Target.TheVariants.{Anchor}
 use Rattle.rowex_core.specs.declared.known.Holding.{Holding}
@@ -16,7 +15,7 @@ use Rattle.rowex_core.specs.declared.known.Holding.TheVariants.{Held}
 use Rattle.rowex_core.specs.declared.known.Owned.{Owned}
 use Rattle.rowex_core.specs.declared.known.Known.{Known}
 use Rattle.rowex_core.specs.Cores.{Core, HasRecord, HasWord, FitsIn}
-use Rattle.rowex_core.specs.Words.{lock_tag, state_at, tag_of, word_at}
+use Rattle.rowex_core.specs.Words.{lock_tag, state_at, word_at}
 use Rattle.rowex_core.specs.Reading.{IsPacked}
 use Rattle.rowex_core.specs.Events.{IsOffset, state_of}
 use Rattle.rowex_core.specs.Sharing.{IsOwned}

@@ -6,7 +6,7 @@ use Rattle.finite_map.specs.declared.Note.{Note}
 use Rattle.finite_map.specs.Fronts.{BeginsWith}
 use Rattle.record_words.specs.declared.layout.Layout.{Layout}
 use Rattle.rowex_core.specs.declared.event.Act.{Act}
-use Rattle.rowex_core.specs.declared.event.Act.TheVariants.{LoadRef}
+use Rattle.rowex_core.specs.declared.event.Act.TheVariants.{LoadRef, Load}
 use Rattle.rowex_core.specs.declared.event.Event.{Event}
 use Rattle.rowex_core.specs.declared.event.Spot.TheVariants.{Root, Slot}
 use Rattle.rowex_core.specs.declared.known.Fresh.{Fresh}
@@ -164,6 +164,7 @@ module _ {G : Type 0} (table : TableView) (becomes : G → Event → G → Type 
   pub step_shows : (act : Act) (said : Known → List Note) (a b : SeatView × G) → StepsWith table becomes act said a b → Shows table.layout a.0 b.0
   step_shows (LoadRef Root w) said a b step = inr (root_shows w said a b step)
   step_shows (LoadRef (Slot n i) w) said a b step = inl (step_none (LoadRef (Slot n i) w) said a b step tt)
+  step_shows (Load words) said a b step = absurd step.atomic
   step_shows act said a b step = inl (step_none act said a b step tt)
 
   -- Steps one after the other

@@ -1,8 +1,8 @@
 -- The rule of the table, and what its steps tell.
-use Rattle.std.specs.Prelude.{◌≡◌, ◌≢◌, ℕ, suc, ◌+◌, ◌<◌, List, [], All, Option, Some, None}
+use Rattle.std.specs.Prelude.{◌≡◌, ◌≢◌, ℕ, zero, suc, ◌+◌, ◌<◌, Bool, true, false, List, [], ◌∷◌, All, Option, Some, None}
 use mathlib.Core.Option.{some}
 use lib.ListN.{get_elem?}
-use Rattle.atomic_table.specs.Table.{State, Me, Step}
+use Rattle.atomic_table.specs.Table.{State, Me, Step, opening as first_state}
 use Rattle.finite_map.specs.declared.Change.{Change}
 use Rattle.finite_map.specs.declared.Note.{Note}
 use Rattle.finite_map.specs.Fronts.{BeginsWith, LegalFront, OthersGoOn}
@@ -12,20 +12,21 @@ use Rattle.record_words.specs.declared.layout.Location.{Location}
 use Rattle.record_words.specs.Layout.{address, IsInTable}
 use Rattle.versions.specs.declared.Rec.{Rec}
 use Rattle.rowex_core.specs.declared.event.Act.{Act}
-use Rattle.rowex_core.specs.declared.event.Act.TheVariants.{Claim, LoadRef, LoadFixed, Lock, LoadEpoch, Advance, LoadPin, LoadState, GiveBack}
+use Rattle.rowex_core.specs.declared.event.Act.TheVariants.{Claim, LoadRef, LoadFixed, Lock, LoadEpoch, Advance, LoadPin, LoadState, GiveBack, Load}
 use Rattle.rowex_core.specs.declared.event.Spot.{Spot}
 use Rattle.rowex_core.specs.declared.event.Spot.TheVariants.{Root, Slot, Value}
 use Rattle.rowex_core.specs.declared.event.Event.{Event}
 use Rattle.rowex_core.specs.declared.known.Known.{Known}
 use Rattle.rowex_core.specs.Cores.{Core, HasRecord, IsLawful}
 use Rattle.rowex_core.specs.Words.{Shows, word_at}
-use Rattle.rowex_core.specs.Events.{Legal, location_of, word_of}
-use Rattle.rowex_core.specs.Knowing.{Knows, Knowing, IsViewOf, IsEvent}
+use Rattle.rowex_core.specs.Events.{Legal, loaded_tree, location_of, word_of}
+use Rattle.versions.specs.Told.{added_notes, items_of}
+use Rattle.rowex_core.specs.Knowing.{Knows, Knowing, IsViewOf, IsEvent, learned}
 use Rattle.rowex_core.specs.Opening.{opening}
 use Rattle.rowex_core.specs.Runs.{EventsLead}
 use Rattle.rowex_table.specs.declared.traces.Trace.{Trace}
 use Rattle.rowex_table.specs.declared.traces.TracedView.{TracedView}
-use Rattle.rowex_table.specs.declared.traces.TracedView.TheVariants.{Spent, Dealer, Pass, Pair, Witness, Follower}
+use Rattle.rowex_table.specs.declared.traces.TracedView.TheVariants.{Spent, Dealer, Founder, Pass, Pair, Witness, Follower}
 use Rattle.rowex_table.specs.Traces.{HasTraces, IsNextStep, IsShownRun, RunBeginsWith, untraced, view_of}
 
 -- some seat has this number
@@ -66,6 +67,22 @@ opening_of q = record {
   pin = None;
   round = record { epoch = 0; version = 0; bound = 0; seen = [] };
 }
+
+-- the load of these words of a table
+abbrev pub load_of : List ℕ → Act
+load_of words = Load (record { ref_ptr = (0, 0); now = words })
+
+-- What pass 0 knows of a table that was made of these words: it has loaded the leaves of the tree that they show, by an insertion of each.
+abbrev pub loader_of : Layout → List ℕ → Known
+loader_of layout words = record (learned (opening layout) (load_of words) (opening_of 0)) { notes = added_notes 0 (items_of (loaded_tree layout words)) }
+
+abbrev pub load_trace : List ℕ → Trace
+load_trace words = record { events = record { pass = 0; act = load_of words } ∷ []; asides = 0 }
+
+-- the first view of a table of these words, where they show loaded pairs or a new table
+abbrev pub first_view : Layout → Bool → List ℕ → TracedView
+first_view layout true words = Founder (loader_of layout words) (load_trace words) 1
+first_view layout false words = Dealer 0
 
 -- what a pass's seat knows, and its trace
 abbrev pub known_of : TracedView → Known
@@ -133,11 +150,26 @@ did layout act said st m told m' = (m'.1 ≡ m.1) × Happens layout (found_by ac
 
 abbrev pub next_dealer : TracedView → TracedView
 next_dealer (Dealer m) = Dealer (m + 1)
+next_dealer (Founder k t m) = Dealer m
 next_dealer v = v
 
 abbrev pub dealt : TracedView → TracedView
 dealt (Dealer m) = Pass (opening_of m) untraced
+dealt (Founder k t m) = Pass k t
 dealt _ = Spent
+
+-- The rule holds of a table of these words with its first view.
+abbrev pub IsFounded : Layout → Bool → List ℕ → Type 0
+IsFounded layout loads words = Ruled {S = Unit {0}} layout (first_state words [] (first_view layout loads words))
+
+-- The view once the passes below this number have been dealt, and that of the pass of this number, where the table had this view first.
+abbrev pub dealer_at : TracedView → ℕ → TracedView
+dealer_at first zero = first
+dealer_at first (suc q) = Dealer (suc q)
+
+abbrev pub dealt_at : TracedView → ℕ → TracedView
+dealt_at first zero = dealt first
+dealt_at first (suc q) = Pass (opening_of (suc q)) untraced
 
 abbrev pub paired : TracedView → TracedView → TracedView
 paired (Pass j t) (Pass k u) = Pair j t k u

@@ -7,7 +7,7 @@ use Rattle.rowex_core.specs.declared.event.Act.TheVariants.{LoadRef}
 use Rattle.rowex_core.specs.declared.event.Event.{Event}
 use Rattle.rowex_core.specs.declared.event.Spot.TheVariants.{Root}
 use Rattle.rowex_core.specs.declared.known.Known.{Known}
-use Rattle.rowex_core.specs.Events.{Legal}
+use Rattle.rowex_core.specs.Events.{IsAtomic, Legal}
 use Rattle.rowex_core.specs.Knowing.{IsEvent, SeesAllAtRoot}
 use Rattle.rowex_core.specs.Opening.{opening}
 use Rattle.rowex_core.specs.Runs.{EventsLead}
@@ -28,10 +28,11 @@ IsTold {G = G} becomes (event ∷ events) g h = (f : G) × becomes g event f × 
 abbrev pub events_of : ℕ → List Act → List Event
 events_of q acts = map (λ act. record { pass = q; act = act }) acts
 
--- The seat stays one seat; its pass makes this one step, and `said` are the notes that come with it; and the gate is told it. The step is
+-- The seat stays one seat; its pass makes this one atomic step, and `said` are the notes that come with it; and the gate is told it. The step is
 -- the next one of a run. The steps before it lead from a new table to its core, and begin with those of which the pass knew.
 pub record StepsWith {G : Type 0} (table : TableView) (becomes : G → Event → G → Type 0) (act : Act) (said : Known → List Note) (a b : SeatView × G) : Type 0 where
   pub seat : IsSame a.0 b.0
+  pub atomic : IsAtomic act
   pub event : IsEvent table.layout act said a.0.known b.0.known
   pub next : IsNextStep table.layout a.0.known.pass act event.core a.0.trace b.0.trace
   pub told : becomes a.1 (record { pass = a.0.known.pass; act = act }) b.1

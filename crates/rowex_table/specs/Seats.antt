@@ -5,7 +5,8 @@ use Rattle.finite_map.specs.declared.Change.{Change}
 use Rattle.record_words.specs.declared.layout.Layout.{Layout}
 use Rattle.rowex_core.specs.declared.event.Event.{Event}
 use Rattle.rowex_core.specs.declared.known.Known.{Known}
-use Rattle.rowex_table.specs.Rule.{opening_of}
+use Rattle.rowex_table.specs.declared.traces.TracedView.{TracedView}
+use Rattle.rowex_table.specs.Rule.{opening_of, loader_of, load_trace, dealt_at, known_of, trace_of}
 use Rattle.rowex_table.specs.Traces.{IsShownRun}
 
 -- a table: which one it is, and how many passes and records it has
@@ -62,3 +63,13 @@ IsNewSeat table s = IsPassOf table s × (s.known ≡ opening_of s.known.pass) ×
 -- and its pass has this number
 abbrev pub IsNewSeatOf : TableView → ℕ → SeatView → Type 0
 IsNewSeatOf table q s = IsSeatOf table s × (s.known ≡ opening_of q) × (s.trace ≡ []) × (s.asides ≡ 0)
+
+-- The seat of pass 0 of a table that was made of these words: it has loaded the leaves of the tree that they show.
+abbrev pub IsLoaderSeat : TableView → List ℕ → SeatView → Type 0
+IsLoaderSeat table words s =
+    IsSeatOf table s × (s.known ≡ loader_of table.layout words) × (s.trace ≡ (load_trace words).events) × (s.asides ≡ 0)
+
+-- the seat of the pass of this number, of a table that had this view first
+abbrev pub IsDealtSeat : TableView → TracedView → ℕ → SeatView → Type 0
+IsDealtSeat table first q s =
+    IsSeatOf table s × (s.known ≡ known_of (dealt_at first q)) × (s.trace ≡ (trace_of (dealt_at first q)).events) × (s.asides ≡ (trace_of (dealt_at first q)).asides)

@@ -1,21 +1,23 @@
 -- What each act leaves its pass of what it knew.
 use Rattle.std.specs.Prelude.{◌≡◌, ◌+◌}
 use Rattle.rowex_core.specs.declared.event.Act.{Act}
-use Rattle.rowex_core.specs.declared.event.Act.TheVariants.{Claim, Fill, Ready, Release, LoadRef, LoadFixed, Lock, Unlock, Publish, Mark, LoadEpoch, SetPin, ClearPin, LoadPin, LoadState}
+use Rattle.rowex_core.specs.declared.event.Act.TheVariants.{Claim, Fill, Ready, Release, LoadRef, LoadFixed, Lock, Unlock, Publish, Mark, LoadEpoch, SetPin, ClearPin, LoadPin, LoadState, Load}
 use Rattle.rowex_core.specs.declared.event.Spot.TheVariants.{Root, Value}
 use Rattle.rowex_core.specs.declared.event.Target.TheVariants.{Anchor, Node as NodeTarget}
 use Rattle.rowex_core.specs.declared.known.Known.{Known}
 
--- a step that shows no change: neither a load of a record or of the root, nor a publish
+-- a step that shows no change: neither a load of a record or of the root, nor a publish, nor a bulk load
 abbrev pub LeavesFront : Act → Type 0
 LeavesFront (LoadRef spot w) = ⊥
 LeavesFront (LoadFixed r offset w) = ⊥
 LeavesFront (Publish spot w) = ⊥
+LeavesFront (Load words) = ⊥
 LeavesFront act = Unit {0}
 
--- a step that is no load of the root
+-- a step that is no load of the root, nor a bulk load
 abbrev pub LeavesFresh : Act → Type 0
 LeavesFresh (LoadRef Root w) = ⊥
+LeavesFresh (Load words) = ⊥
 LeavesFresh act = Unit {0}
 
 -- a step that can't fail
@@ -56,6 +58,7 @@ LeavesValues (Lock target found) = ⊥
 LeavesValues (Unlock target) = ⊥
 LeavesValues (Publish spot w) = ⊥
 LeavesValues (Mark r epoch) = ⊥
+LeavesValues (Load words) = ⊥
 LeavesValues act = Unit {0}
 
 -- its pin,
@@ -70,9 +73,10 @@ LeavesRound (LoadEpoch w) = ⊥
 LeavesRound (LoadPin o w) = ⊥
 LeavesRound act = Unit {0}
 
--- a step after which the pass recalls all that it did before: neither a publish, nor a pin, nor an unpin
+-- a step after which the pass recalls all that it did before: neither a publish, nor a bulk load, nor a pin, nor an unpin
 abbrev pub KeepsRecall : Act → Type 0
 KeepsRecall (Publish spot w) = ⊥
+KeepsRecall (Load words) = ⊥
 KeepsRecall (SetPin w) = ⊥
 KeepsRecall ClearPin = ⊥
 KeepsRecall act = Unit {0}

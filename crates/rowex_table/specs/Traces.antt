@@ -6,7 +6,7 @@ use Rattle.rowex_core.specs.declared.event.Act.{Act}
 use Rattle.rowex_core.specs.declared.event.Event.{Event}
 use Rattle.rowex_core.specs.declared.known.Known.{Known}
 use Rattle.rowex_core.specs.declared.known.View.{View}
-use Rattle.rowex_core.specs.declared.known.View.TheVariants.{Spent as a_spent, Dealer as a_dealer, Pass as a_pass, Pair as a_pair, Witness as a_witness, Follower as a_follower}
+use Rattle.rowex_core.specs.declared.known.View.TheVariants.{Spent as a_spent, Dealer as a_dealer, Founder as a_founder, Pass as a_pass, Pair as a_pair, Witness as a_witness, Follower as a_follower}
 use Rattle.rowex_core.specs.Cores.{Core}
 use Rattle.rowex_core.specs.Events.{after}
 use Rattle.rowex_core.specs.Knowing.{learned}
@@ -14,7 +14,7 @@ use Rattle.rowex_core.specs.Opening.{opening}
 use Rattle.rowex_core.specs.Runs.{EventsLead}
 use Rattle.rowex_table.specs.declared.traces.Trace.{Trace}
 use Rattle.rowex_table.specs.declared.traces.TracedView.{TracedView}
-use Rattle.rowex_table.specs.declared.traces.TracedView.TheVariants.{Spent, Dealer, Pass, Pair, Witness, Follower}
+use Rattle.rowex_table.specs.declared.traces.TracedView.TheVariants.{Spent, Dealer, Founder, Pass, Pair, Witness, Follower}
 
 -- Lists of steps
 
@@ -50,6 +50,7 @@ untraced = record { events = []; asides = 0 }
 abbrev pub view_of : TracedView → View
 view_of Spent = a_spent
 view_of (Dealer m) = a_dealer m
+view_of (Founder k t m) = a_founder k m
 view_of (Pass k t) = a_pass k
 view_of (Pair j t k u) = a_pair j k
 view_of (Witness front events) = a_witness front
@@ -60,6 +61,7 @@ view_of (Follower k t front events) = a_follower k front
 abbrev pub HasTraces : List Event → TracedView → Type 0
 HasTraces run Spent = Unit {0}
 HasTraces run (Dealer m) = All (λ x. x.pass < m) run
+HasTraces run (Founder k t m) = OthersStepOn k.pass t.events run × All (λ x. x.pass < m) run
 HasTraces run (Pass k t) = OthersStepOn k.pass t.events run
 HasTraces run (Pair j t k u) = OthersStepOn j.pass t.events run × OthersStepOn k.pass u.events run
 HasTraces run (Witness front events) = RunBeginsWith run events

@@ -2,6 +2,7 @@
 #![tactic(auto)]
 
 mod epoch_steps;
+mod founding;
 pub mod laws;
 mod locations;
 mod plays;

@@ -6,22 +6,23 @@ ghost use Rattle.record_words.specs.declared.layout.Layout.{Layout as Laid};
 ghost use Rattle.rowex_core.specs.declared.event.Act.{Act as Deed};
 ghost use Rattle.rowex_core.specs.declared.event.Act.TheVariants.{ClearPin};
 ghost use Rattle.rowex_core.specs.declared.known.Known.{Known};
-ghost use Rattle.rowex_table.specs.declared.traces.TracedView.TheVariants.{Dealer, Spent};
-ghost use Rattle.rowex_table.specs.Rule.{Ruled, did, met, next_dealer, dealt, paired, first_of_two, second_of_two, stamped, stamping, following, followed};
+ghost use Rattle.rowex_table.specs.declared.traces.TracedView.TheVariants.{Spent};
+ghost use Rattle.rowex_table.specs.Rule.{Ruled, did, first_view, met, next_dealer, dealt, paired, first_of_two, second_of_two, stamped, stamping, following, followed};
 
+use crate::founding::Founding;
 use crate::traces::TracedView;
 use atomic_table::{Join, Play, Split, TableRule};
-use record_words::Layout;
 use std::marker::{Brand, PhantomData};
 
 /// The rule of a table with a layout: there is a lawful core which its words show, and a list of steps that leads to it from a new
-/// table. What each seat knows is true of both, no two seats are of one pass, and each pass has a seat.
+/// table. Where the table's first words show loaded pairs, the first of these is the load. What each seat knows is true of both, no two
+/// seats are of one pass, and each pass has a seat.
 pub(crate) struct RowexRule;
 
-impl TableRule<(), TracedView, Layout> for RowexRule {
-    ghost holds = { Ruled };
+impl TableRule<(), TracedView, Founding> for RowexRule {
+    ghost holds = { λ founding. Ruled founding.layout };
 
-    ghost first = { λ _. Dealer 0 };
+    ghost first = { λ founding. first_view founding.layout founding.loads founding.words.items };
 }
 
 /// Which event a step makes, at a table of which layout, and the notes that its caller adds to what is known after it.

@@ -1,11 +1,16 @@
 //! How a table is made with the seats of its passes, and how two of these meet.
 
-ghost use Rattle.std.specs.Prelude.{◌≡◌, ℕ, IfOk, Some, All, length};
+ghost use Rattle.std.specs.Prelude.{◌≡◌, ◌≤◌, ℕ, IfOk, Some, All, length};
 ghost use mathlib.Core.Option.{some};
 ghost use lib.ListN.{get_elem?};
-ghost use Rattle.rowex_table.specs.Rule.{SeatsHaveMet};
-ghost use Rattle.rowex_table.specs.Seats.{SeatView, IsNewSeatOf, IsNewSeat, IsSeatOf, IsShownAll};
+ghost use Rattle.record_words.specs.Layout.{word_count};
+ghost use Rattle.rowex_core.specs.Events.{IsLoad, after};
+ghost use Rattle.rowex_core.specs.Opening.{opening};
+ghost use Rattle.rowex_core.specs.Words.{Shows};
+ghost use Rattle.rowex_table.specs.Rule.{IsFounded, SeatsHaveMet, first_view, load_of};
+ghost use Rattle.rowex_table.specs.Seats.{SeatView, IsDealtSeat, IsLoaderSeat, IsNewSeatOf, IsNewSeat, IsSeatOf, IsShownAll};
 
+use crate::founding::Founding;
 use crate::plays::{Deal, Meets, Part, Step};
 use crate::table::{HotTable, TableSeat};
 use atomic_table::Table;
@@ -25,7 +30,54 @@ impl HotTable {
         let mut words = Vec::from_elem(alloc, 0u64, layout.words())?;
         words[EPOCH_WORD] = 1;
         words[ANCHOR_WORD] = pack_state(Tag::Live);
-        let (table, mut dealer) = Table::of_words(alloc, words.as_slice(), &layout)?;
+        let loads = false;
+        HotTable::found(
+            alloc,
+            &Founding {
+                layout,
+                loads,
+                words,
+            },
+        )
+    }
+
+    /// Makes a table of `layout` and `words`, which show pairs that were loaded. Returns it and the seats of its passes, in the order of
+    /// their numbers from 0 on. Pass 0 has loaded the pairs, by an insertion of each in the order of their keys. An error if memory is
+    /// refused.
+    pub fn new_loaded(
+        alloc: Global,
+        layout: Layout,
+        words: Vec<u64>,
+    ) -> Result<(HotTable, Vec<TableSeat>), AllocError>
+        requires load { IsLoad layout words.items }
+        requires shows { Shows (after (opening layout) 0 (load_of words.items)) words.items }
+        ensures table { IfOk result (λ made. made.0.layout ≡ layout) }
+        ensures count { IfOk result (λ made. length made.1.items ≡ layout.passes) }
+        ensures first { IfOk result (λ made. (s : SeatView) → get_elem? made.1.items 0 ≡ some s → IsLoaderSeat made.0 words.items s) }
+        ensures others { IfOk result (λ made. (q : ℕ) (s : SeatView) → 1 ≤ q → get_elem? made.1.items q ≡ some s → IsNewSeatOf made.0 q s) }
+    {
+        let loads = true;
+        HotTable::found(
+            alloc,
+            &Founding {
+                layout,
+                loads,
+                words,
+            },
+        )
+    }
+
+    /// Makes the table that `founding` says, and deals the seats of its passes, in the order of their numbers from 0 on.
+    fn found(alloc: Global, founding: &Founding) -> Result<(HotTable, Vec<TableSeat>), AllocError>
+        requires count { length founding.now.words.items ≡ word_count founding.now.layout }
+        requires ruled { IsFounded founding.now.layout founding.now.loads founding.now.words.items }
+        ensures table { IfOk result (λ made. made.0.layout ≡ founding.now.layout) }
+        ensures count { IfOk result (λ made. length made.1.items ≡ founding.now.layout.passes) }
+        ensures seats { let first = first_view founding.now.layout founding.now.loads founding.now.words.items in
+            IfOk result (λ made. (q : ℕ) (s : SeatView) → get_elem? made.1.items q ≡ some s → IsDealtSeat made.0 first q s) }
+    {
+        let layout = founding.layout;
+        let (table, mut dealer) = Table::of_words(alloc, founding.words.as_slice(), founding)?;
         let mut seats = Vec::new(alloc);
         for number in 0..layout.passes {
             let seat = table.shared.split_seat::<Deal>(&mut dealer);

@@ -3,7 +3,7 @@
 
 ghost use Rattle.std.specs.Prelude.{◌≡◌, ℕ, Some};
 ghost use Rattle.record_words.specs.Layout.{IsInTable};
-ghost use Rattle.rowex_core.specs.Events.{exchanged, location_of, writes};
+ghost use Rattle.rowex_core.specs.Events.{IsAtomic, exchanged, location_of, writes};
 ghost use Rattle.rowex_table.specs.Rule.{IsAddressOf, MayStep, found_by};
 ghost use Rattle.rowex_table.specs.Runs.{StepsWith};
 ghost use Rattle.rowex_table.specs.Seats.{IsSeatOf};
@@ -42,6 +42,7 @@ impl HotTable {
         requires own { IsSeatOf self.now seat.old }
         requires place { IsAddressOf self.now.layout (location_of seat.old.known.pass Q.act) address }
         requires writes { (w : ℕ) → w ≡ writes Q.act w }
+        requires atomic { IsAtomic Q.act }
         requires apt { (Q.layout ≡ Some self.now.layout) × (act ≡ Q.act) × MayStep self.now.layout (found_by Q.act) seat.old.known }
         ensures { StepsWith self.now G.becomes (found_by Q.act result) Q.said (seat.old, gate.old) (seat.new, gate.new) }
     {
@@ -65,6 +66,7 @@ impl HotTable {
         requires own { IsSeatOf self.now seat.old }
         requires place { IsAddressOf self.now.layout (location_of seat.old.known.pass Q.act) address }
         requires writes { ((w : ℕ) → new ≡ writes Q.act w) × ((w : ℕ) → found_by Q.act w ≡ Q.act) }
+        requires atomic { IsAtomic Q.act }
         requires apt { (Q.layout ≡ Some self.now.layout) × (act ≡ Q.act) × MayStep self.now.layout (found_by Q.act) seat.old.known }
         ensures { StepsWith self.now G.becomes (found_by Q.act new) Q.said (seat.old, gate.old) (seat.new, gate.new) }
     {
@@ -87,6 +89,7 @@ impl HotTable {
         requires own { IsSeatOf self.now seat.old }
         requires place { IsAddressOf self.now.layout (location_of seat.old.known.pass Q.act) address }
         requires writes { (w : ℕ) → exchanged w exchange.expected exchange.new ≡ writes Q.act w }
+        requires atomic { IsAtomic Q.act }
         requires apt { (Q.layout ≡ Some self.now.layout) × (act ≡ Q.act) × MayStep self.now.layout (found_by Q.act) seat.old.known }
         ensures { StepsWith self.now G.becomes (found_by Q.act result) Q.said (seat.old, gate.old) (seat.new, gate.new) }
     {
@@ -138,6 +141,6 @@ fn act_with_found(act: Act, word: u64) -> Act
         },
         Act::Fill { .. } | Act::Ready { .. } | Act::Release { .. } => act,
         Act::Unlock { .. } | Act::Publish { .. } | Act::Mark { .. } => act,
-        Act::SetPin { .. } | Act::ClearPin => act,
+        Act::SetPin { .. } | Act::ClearPin | Act::Load { .. } => act,
     }
 }

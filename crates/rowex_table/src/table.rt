@@ -2,6 +2,7 @@
 
 ghost use Rattle.std.specs.Prelude.{◌≡◌};
 
+use crate::founding::Founding;
 use crate::plays::RowexRule;
 use crate::traces::TracedView;
 use atomic_table::{Seat, Table};
@@ -47,7 +48,7 @@ impl TableSeat {
 /// The shared words of an index, which passes step on through a `&`.
 #[derive(Drop)]
 pub struct HotTable {
-    pub(crate) table: Table<(), TracedView, Layout, RowexRule, Global>,
+    pub(crate) table: Table<(), TracedView, Founding, RowexRule, Global>,
     /// What is fixed of the layout, added up once: each step finds its word by this.
     pub(crate) origins: Origins,
 }
@@ -62,7 +63,7 @@ impl Model for HotTable {
 
     ghost view = { λ t. record { id = t.table.shared.table_id; layout = t.origins.layout } };
 
-    ghost invariant = { λ t. (t.table.shared.table_id.words ≡ word_count t.origins.layout) × (t.table.shared.key ≡ t.origins.layout) };
+    ghost invariant = { λ t. (t.table.shared.table_id.words ≡ word_count t.origins.layout) × (t.table.shared.key.layout ≡ t.origins.layout) };
 }
 
 impl HotTable {

@@ -19,6 +19,8 @@ pub enum TracedView {
     Spent,
     /// That it hands out the pass numbers from this one on.
     Dealer(u64),
+    /// What a pass knows, which it hands out first, and then the pass numbers from this one on.
+    Founder(Known, Trace, u64),
     Pass(Known, Trace),
     /// What two passes know that have been joined.
     Pair(Known, Trace, Known, Trace),

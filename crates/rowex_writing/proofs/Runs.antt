@@ -1,5 +1,5 @@
 -- Steps of a pass, one after the other: what they leave as it was, and what only grows.
-use Rattle.std.proofs.Common.{◌≡◌, ◌≤◌, ℕ, List, [], ◌∷◌, ◌++◌, refl, sym, ap, subst, ◌∙◌, arith, ◌<◌, ◌+◌}
+use Rattle.std.proofs.Common.{◌≡◌, ◌≤◌, ℕ, List, [], ◌∷◌, ◌++◌, map, refl, sym, ap, subst, ◌∙◌, arith, ◌<◌, ◌+◌}
 use Rattle.std.specs.Prelude.{All}
 use Rattle.std.proofs.lemmas.List.Elements.{All-head, All-tail, All-weaker}
 use Rattle.finite_map.specs.Fronts.{BeginsWith}
@@ -7,13 +7,14 @@ use Rattle.finite_map.proofs.Growth.{begins_itself, begins_on, begins_push}
 use Rattle.record_words.specs.declared.layout.Layout.{Layout}
 use Rattle.versions.specs.Trades.{AreApart}
 use Rattle.rowex_core.specs.declared.event.Act.{Act}
-use Rattle.rowex_core.specs.declared.event.Act.TheVariants.{Claim, Fill, Ready, Release, LoadRef, LoadFixed, Lock, Unlock, Publish, Mark, LoadEpoch, Advance, SetPin, ClearPin, LoadPin, LoadState, GiveBack}
+use Rattle.rowex_core.specs.declared.event.Act.TheVariants.{Claim, Fill, Ready, Release, LoadRef, LoadFixed, Lock, Unlock, Publish, Mark, LoadEpoch, Advance, SetPin, ClearPin, LoadPin, LoadState, GiveBack, Load}
 use Rattle.rowex_core.specs.declared.event.Event.{Event}
 use Rattle.rowex_core.specs.declared.event.Spot.TheVariants.{Root, Slot, Value}
 use Rattle.rowex_core.specs.declared.event.Target.{Target}
 use Rattle.rowex_core.specs.declared.known.Fresh.{Fresh}
 use Rattle.rowex_core.specs.declared.known.Known.{Known}
-use Rattle.rowex_core.specs.Events.{next_change}
+use Rattle.versions.specs.Told.{added_change, items_of}
+use Rattle.rowex_core.specs.Events.{loaded_tree, next_change}
 use Rattle.rowex_core.specs.Knowing.{IsEvent, version_of}
 use Rattle.rowex_table.specs.Runs.{Runs, Steps, silent}
 use Rattle.rowex_table.specs.Seats.{TableView, SeatView}
@@ -32,6 +33,7 @@ plain_recalls _ t = t
 
 plain_fresh : (act : Act) → LoadsNoRoot act → LeavesFresh act
 plain_fresh (LoadRef Root w) t = t
+plain_fresh (Load words) t = absurd t
 plain_fresh _ t = tt
 
 pub recalls_pin : (act : Act) → KeepsRecall act → LeavesPin act
@@ -77,6 +79,9 @@ module _ (layout : Layout) (k j : Known) where
       grown (LoadPin o w) is e = same (is tt)
       grown (LoadState r w) is e = same (is tt)
       grown (GiveBack r epoch found) is e = same (is tt)
+      grown (Load words) is e =
+          let f = e.knows.seen.front in let more = map (added_change k.pass) (items_of (loaded_tree e.core.layout words.now)) in
+          subst (λ z. BeginsWith z k.front) (sym (ap (λ (z : Known). z.front) e.learned_is)) (begins_on k.front e.core.changes (e.core.changes ++ more) (f.0, f.1) (more, refl))
 
   -- the root was loaded since, and what was seen then is what is known of it
   module _ (first : Known) (h : HasLoadedRoot first k) where
@@ -123,6 +128,17 @@ module _ (layout : Layout) (k j : Known) where
         loaded (LoadPin o w) is e = same (LoadPin o w) e (is tt)
         loaded (LoadState r w) is e = same (LoadState r w) e (is tt)
         loaded (GiveBack r epoch found) is e = same (GiveBack r epoch found) e (is tt)
+        loaded (Load words) is e =
+            let more = map (added_change k.pass) (items_of (loaded_tree e.core.layout words.now)) in
+            let now : j.fresh ≡ record { front = e.core.changes; step = k.steps; pinned = version_of k.pin } = ap (λ (z : Known). z.fresh) e.learned_is in
+            let seen : j.front ≡ e.core.changes ++ more = ap (λ (z : Known). z.front) e.learned_is in
+            let f = e.knows.seen.front in
+            record {
+              from = subst (λ (z : Fresh). first.steps ≤ z.step) (sym now) (omega (arith, h.from, h.upto));
+              upto = subst (λ (z : Fresh). z.step < j.steps) (sym now) (omega (arith, next (Load words) e));
+              old = subst (λ (z : Fresh). BeginsWith z.front first.front) (sym now) (begins_on first.front k.front e.core.changes (begins_on first.front k.fresh.front k.front h.old h.new) (f.0, f.1));
+              new = subst (λ (z : Fresh). BeginsWith j.front z.front) (sym now) (subst (λ z. BeginsWith z e.core.changes) (sym seen) (more, refl));
+            }
 
 -- ---- many
 module _ {G : Type 0} (table : TableView) (becomes : G → Event → G → Type 0) where

@@ -12,7 +12,7 @@ use Rattle.versions.specs.declared.Rec.{Rec}
 use Rattle.versions.specs.declared.Rec.TheVariants.{Node as a_node, Leaf as a_leaf}
 use Rattle.versions.proofs.Members.{all_of, map_of, of_left, of_map}
 use Rattle.rowex_core.specs.declared.event.Act.{Act}
-use Rattle.rowex_core.specs.declared.event.Act.TheVariants.{Claim, LoadRef, LoadState, Publish}
+use Rattle.rowex_core.specs.declared.event.Act.TheVariants.{Claim, LoadRef, LoadState, Publish, Load}
 use Rattle.rowex_core.specs.declared.event.Event.{Event}
 use Rattle.rowex_core.specs.declared.event.Spot.{Spot}
 use Rattle.rowex_core.specs.declared.event.Spot.TheVariants.{Root}
@@ -56,10 +56,12 @@ use Rattle.rowex_writing.proofs.Runs.{plain_recalls, quiet_recalls}
 -- ---- kinds of steps
 recalls_unpublished : (act : Act) → KeepsRecall act → IsUnpublished act
 recalls_unpublished (Publish spot w) t = absurd t
+recalls_unpublished (Load words) t = absurd t
 recalls_unpublished _ t = tt
 
 below_unpublished : (act : Act) → IsBelowRoot act → IsUnpublished act
 below_unpublished (Publish spot w) t = absurd t
+below_unpublished (Load words) t = absurd t
 below_unpublished _ t = tt
 
 goes_plain : (acts : List Act) → All TriesNoLock acts → All IsUnpublished acts

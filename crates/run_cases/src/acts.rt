@@ -140,6 +140,7 @@ fn line_of_act(act: &Act) -> Line {
             detail: Some(("of", epoch)),
             ..Line::of_number("give_back", object_of_record(rec), found)
         },
+        Act::Load { words } => Line::of_number("load", Object::Nothing, words.len() as u64),
     }
 }
 

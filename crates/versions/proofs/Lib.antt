@@ -14,3 +14,4 @@ pub mod Reading
 pub mod Stepping
 pub mod Members
 pub mod Counting
+pub mod Loading

@@ -102,7 +102,7 @@ next_last now L l m (goes x) h = inr (x, refl)
 next_last now L l m (gone x) h = inr (x, refl)
 
 -- One record in two heaps, the second of which differs by one entry a subtrie, and by values of leaves.
-same_step : (m o : Heap) → IsNear m o → (r : Rec) (u v : Tree) → IsRecord r u → IsRecord r v → IsBuilt u → IsTrie u → IsTrie v →
+pub same_step : (m o : Heap) → IsNear m o → (r : Rec) (u v : Tree) → IsRecord r u → IsRecord r v → IsBuilt u → IsTrie u → IsTrie v →
     IsShown m u → IsShown o v → IsSameRecord u v
 same_step m o near r (fork p a b) v x y c l k i j = elim x [ ]
 same_step m o near r (leaf n a b) (fork q e f) x y c l k i j = elim y [ ]

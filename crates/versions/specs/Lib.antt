@@ -5,6 +5,7 @@ pub mod Core
 pub mod Frames
 pub mod Told
 pub mod Steps
+pub mod Loads
 pub mod Read
 pub mod Trades
 pub mod Counts

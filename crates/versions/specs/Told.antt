@@ -1,8 +1,11 @@
 -- The content of a version, and how the versions tell the changes.
-use Rattle.std.specs.Prelude.{◌≡◌, ℕ, ◌≤◌, List, [], length, take, Option, Some, None}
+use Rattle.std.specs.Prelude.{◌≡◌, ℕ, suc, ◌≤◌, List, [], ◌∷◌, length, take, Option, Some, None}
+use Rattle.finite_map.specs.declared.Call.TheVariants.{Insert}
 use Rattle.finite_map.specs.declared.Change.{Change}
 use Rattle.finite_map.specs.declared.Kind.{Kind}
 use Rattle.finite_map.specs.declared.Kind.TheVariants.{Added, Replaced, Removed}
+use Rattle.finite_map.specs.declared.Note.{Note}
+use Rattle.finite_map.specs.declared.Reply.TheVariants.{Inserted}
 use Rattle.finite_map.specs.Maps.{Map}
 use Rattle.finite_map.specs.Fronts.{map_of, LegalFront}
 use Rattle.tries.specs.Tree.{Tree}
@@ -30,6 +33,11 @@ replaced_change q x = record { pass = q; key = x.key; value = x.value; kind = Re
 
 abbrev pub removed_change : ℕ → Item → Change
 removed_change q x = record { pass = q; key = x.key; value = x.value; kind = Removed }
+
+-- the answered insertions of these leaves, one after the other, from a place on
+abbrev pub added_notes : ℕ → List Item → List Note
+added_notes n [] = []
+added_notes n (x ∷ xs) = record { place = n; call = Insert x.key x.value; reply = Inserted } ∷ added_notes (suc n) xs
 
 -- What a change of this kind makes of the leaves: one more, or one for another of the same key, or one less.
 abbrev pub IsChanged : Kind → Item → List Item → List Item → Type 0

@@ -1,6 +1,7 @@
 //! The laws of lawful cores: of versions and of the lives of records. The functions do nothing: their contracts are the laws.
 
 ghost use Rattle.versions.specs.Counts.{NodesInTreeAreFewer};
+ghost use Rattle.versions.specs.Loads.{LoadIsLawful, LoadIsLegal};
 ghost use Rattle.versions.specs.Statements.{ContentIsMap, StateHindsight, BareOpeningIsLawful, StateParting, BareReachIsKept, ReachIsSteady, StepKeepsLawful};
 
 /// Let each record of a version since m still be in the life that it had there. If a search was led to a node of such a version, the node's
@@ -17,6 +18,16 @@ pub fn keys_part_at_fork_between_slots()
 /// The opening core is lawful, whatever the words of records are.
 pub fn opening_is_lawful()
     ensures { BareOpeningIsLawful }
+{}
+
+/// After a load of a lawful tree into an index in which nothing has happened, the core is lawful.
+pub fn load_is_lawful()
+    ensures { LoadIsLawful }
+{}
+
+/// The leaves of a loaded tree, as insertions in the order of the keys, are legal calls of the pass that loads them.
+pub fn load_is_legal_calls()
+    ensures { LoadIsLegal }
 {}
 
 /// Each legal step of a lawful core leads to a lawful core.

@@ -14,6 +14,11 @@ returns-in_err-step-clause-memory c =
     let p = err_from_is_err_and c.from_residual.result c.from_residual.ensures.1 in
     rw (sym c.self.view_is, p.1, p.2) (λ e. wants_memory c.self.inside.state c.self.inside.history.run c.args.event.pass c.args.event.act c.self.invariant (c.in_err-step.ensures.memory e))
 
+pub returns-in_err-step-clause-load : goal.returns-in_err-step-clause-load
+returns-in_err-step-clause-load c =
+    let p = err_from_is_err_and c.from_residual.result c.from_residual.ensures.1 in
+    rw (p.1, p.2) c.in_err-step.ensures.load
+
 pub invariant_of-self-2 : goal.invariant_of-self-2
 invariant_of-self-2 c =
     rw c.append_event-self-inside.ensures (goes_on c.self.inside.state c.step.new.self c.self.inside.history.run c.args.event c.self.invariant c.in_ok-step.ensures.ok)

@@ -1,0 +1,5 @@
+use Rattle.versions.proofs.Loading.{load_is_legal}
+use Rattle.versions.proofs.laws.load_is_legal_calls.Goals as goal
+
+pub returns : goal.returns
+returns c = load_is_legal
