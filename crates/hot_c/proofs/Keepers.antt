@@ -1,4 +1,4 @@
--- A new index whose passes are kept by the handle of the last one.
+-- An index whose passes are kept by the handle of the last one.
 use Rattle.std.proofs.Common.{◌≡◌, ℕ, zero, suc, ◌+◌, List, [], ◌∷◌, ◌++◌, length, map, reverse, All, Box, Some, Result, Ok, Err, IfOk, IsErrAnd, MatchResult, refl, sym, ap, ◌∙◌, subst, arith, length-append}
 use Rattle.std.specs.Global.{Global}
 use Rattle.std.specs.List.{slice_get}
@@ -6,9 +6,9 @@ use Rattle.std.proofs.lemmas.List.{length-map, length-reverse, reverse-reverse}
 use Rattle.std.proofs.lemmas.List.Elements.{All-nil, All-cons}
 use Rattle.record_words.specs.declared.layout.Layout.{Layout}
 use Rattle.rowex_table.specs.Seats.{TableView}
-use Rattle.hot_index_calls.specs.Passes.{IsNewPass, Owns, PassView}
+use Rattle.hot_index_calls.specs.Passes.{Owns, PassView}
 use Rattle.hot_index.specs.Handles.{HandleView, handle_at}
-use Rattle.hot_c.specs.Calls.{IsKeeper}
+use Rattle.hot_c.specs.Calls.{KeepsPasses}
 use Rattle.hot_c.specs.declared.opened.Opened.{Opened}
 use Rattle.hot_c.proofs.Places.{mapped}
 
@@ -26,10 +26,10 @@ at_end [] x = refl
 at_end (y ∷ xs) x = at_end xs x
 
 -- these passes of an index, each as a handle there
-module _ (index : TableView) (passes : ℕ) (HasRecords : Layout → Type 0) (closed : List PassView) where
-  pub is_keeper : (index.layout.passes ≡ passes) × HasRecords index.layout → length closed ≡ passes → ((q : ℕ) (p : PassView) → slice_get closed q ≡ Some p → Owns index p × IsNewPass q p)
-      → (b : Opened) → reverse b.kept.items ++ b.handle ∷ [] ≡ map (handle_at index) closed → IsKeeper passes HasRecords b
-  is_keeper layout count each b all =
+module _ (IsPass : TableView → ℕ → PassView → Type 0) (index : TableView) (passes : ℕ) (HasRecords : Layout → Type 0) (closed : List PassView) where
+  keeps_passes : (index.layout.passes ≡ passes) × HasRecords index.layout → length closed ≡ passes → ((q : ℕ) (p : PassView) → slice_get closed q ≡ Some p → Owns index p × IsPass index q p)
+      → (b : Opened) → reverse b.kept.items ++ b.handle ∷ [] ≡ map (handle_at index) closed → KeepsPasses IsPass passes HasRecords b
+  keeps_passes layout count each b all =
       let kept = b.kept.items in let handle = b.handle in
       let found = λ (q : ℕ) (h : HandleView) (got : slice_get (reverse kept ++ handle ∷ []) q ≡ Some h).
       mapped (handle_at index) closed q h (subst (λ l. slice_get l q ≡ Some h) all got) in
@@ -40,12 +40,18 @@ module _ (index : TableView) (passes : ℕ) (HasRecords : Layout → Type 0) (cl
         layout = subst (λ (i : TableView). (i.layout.passes ≡ passes) × HasRecords i.layout) (sym mine) layout;
         count = omega (arith, long, short, same, more, count);
         each = λ q h got. let it = found q h got in
-            (ap (λ (x : HandleView). x.index) (sym it.2) ∙ sym mine, subst (λ (x : HandleView). IsNewPass q x.pass) it.2 (each q it.0 it.1).1);
+            (ap (λ (x : HandleView). x.index) (sym it.2) ∙ sym mine, subst (λ (i : TableView). IsPass i q h.pass) (sym mine) (subst (λ (x : HandleView). IsPass index q x.pass) it.2 (each q it.0 it.1).1));
       }
 
-  pub keeper_made : {E D : Type 0} (Q : E → D → Type 0) (r : Result (Box Opened Global) E) (s : Result (Box Opened Global) D) → MatchResult r (λ x. s ≡ Ok x) (λ e. IsErrAnd s (Q e))
-      → (index.layout.passes ≡ passes) × HasRecords index.layout → length closed ≡ passes → ((q : ℕ) (p : PassView) → slice_get closed q ≡ Some p → Owns index p × IsNewPass q p)
-      → IfOk r (λ b. reverse b.value.kept.items ++ b.value.handle ∷ [] ≡ map (handle_at index) closed) → IfOk s (λ b. IsKeeper passes HasRecords b.value)
-  keeper_made Q (Ok x) s same layout count each all = subst (λ t. IfOk t (λ b. IsKeeper passes HasRecords b.value)) (sym same) (is_keeper layout count each x.value all)
-  keeper_made Q (Err e) (Err d) same layout count each all = tt
-  keeper_made Q (Err e) (Ok x) same layout count each all = absurd same
+  pub passes_kept : {E : Type 0} (r : Result (Box Opened Global) E) → (index.layout.passes ≡ passes) × HasRecords index.layout → length closed ≡ passes
+      → ((q : ℕ) (p : PassView) → slice_get closed q ≡ Some p → Owns index p × IsPass index q p) → IfOk r (λ b. reverse b.value.kept.items ++ b.value.handle ∷ [] ≡ map (handle_at index) closed)
+      → IfOk r (λ b. KeepsPasses IsPass passes HasRecords b.value)
+  passes_kept (Ok x) layout count each all = keeps_passes layout count each x.value all
+  passes_kept (Err e) layout count each all = tt
+
+-- with the fault told by another name
+pub told_as : {E D : Type 0} (Q : E → D → Type 0) (IsMade : Box Opened Global → Type 0) (r : Result (Box Opened Global) E) (s : Result (Box Opened Global) D) → MatchResult r (λ x. s ≡ Ok x) (λ e. IsErrAnd s (Q e))
+    → IfOk r IsMade → IfOk s IsMade
+told_as Q IsMade (Ok x) s same made = subst (λ t. IfOk t IsMade) (sym same) made
+told_as Q IsMade (Err e) (Err d) same made = tt
+told_as Q IsMade (Err e) (Ok x) same made = absurd same

@@ -12,3 +12,4 @@ pub mod LookedUp
 pub mod Keepers
 pub mod Sectioned
 pub mod Numbered
+pub mod Pushed

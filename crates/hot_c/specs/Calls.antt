@@ -118,13 +118,17 @@ HaveOpened nodes leaves = HaveOpenedOn (HasCounts nodes leaves)
 abbrev pub HaveOpenedStock : Stock → List Handle → Type 0
 HaveOpenedStock stock = HaveOpenedOn (λ layout. HasStock layout (kept_stock stock))
 
--- The first handle of a new index, with the last of so many passes. It keeps the others, the one with the least number as the next to
--- be opened.
-pub record IsKeeper (passes : ℕ) (HasRecords : Layout → Type 0) (opened : Opened) : Type 0 where
+-- The first handle of an index, with the last of so many passes. It keeps the others, the one with the least number as the next to be
+-- opened. This holds of each pass, by its number.
+pub record KeepsPasses (IsPass : TableView → ℕ → PassView → Type 0) (passes : ℕ) (HasRecords : Layout → Type 0) (opened : Opened) : Type 0 where
   pub layout : (opened.handle.index.layout.passes ≡ passes) × HasRecords opened.handle.index.layout
   pub count : length opened.kept.items + 1 ≡ passes
   pub each : (q : ℕ) (h : HandleView) → slice_get (reverse opened.kept.items ++ opened.handle ∷ []) q ≡ Some h →
-      (h.index ≡ opened.handle.index) × IsNewPass q h.pass
+      (h.index ≡ opened.handle.index) × IsPass opened.handle.index q h.pass
+
+-- all of them are new
+abbrev pub IsKeeper : ℕ → (Layout → Type 0) → Opened → Type 0
+IsKeeper = KeepsPasses (λ index. IsNewPass)
 
 -- a handle was opened that keeps the others of a new index with this stock
 abbrev pub HasOpenedKeeper : ℕ → Stock → Option Opened → Type 0

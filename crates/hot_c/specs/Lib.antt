@@ -16,3 +16,4 @@ pub mod Stocks
 pub mod Lookups
 pub mod Following
 pub mod Sections
+pub mod Loads

@@ -8,6 +8,7 @@ mod exports;
 mod following;
 mod handle;
 mod lending;
+mod loading;
 mod lookups;
 mod opened;
 mod opening;

@@ -111,7 +111,7 @@ pub fn make_keeper(
 
 /// The last of `passes`, which are those of `index`, opened, with its share. It keeps the others, the first one last. An error if memory
 /// is refused, or there is no pass.
-fn keep_passes(
+pub fn keep_passes(
     alloc: Global,
     index: Index,
     passes: Vec<ClosedPass>,

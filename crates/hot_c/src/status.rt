@@ -52,6 +52,8 @@ pub const INSIDE: u32 = 22;
 pub const OUTSIDE: u32 = 23;
 /// A section that was open at the moment may still be open.
 pub const NOT_PAST: u32 = 24;
+/// The key isn't above the last one of the load.
+pub const NOT_RISING: u32 = 25;
 
 /// The status of `reply`. If the reply has a value, it is written to `value`; else `value` stays.
 pub fn write_reply(reply: Reply, value: &mut u64) -> u32

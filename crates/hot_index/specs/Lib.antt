@@ -5,4 +5,5 @@ pub mod Cursors
 pub mod Stamps
 pub mod Handles
 pub mod Kept
+pub mod Loads
 pub mod Statements

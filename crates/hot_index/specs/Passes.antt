@@ -1,10 +1,21 @@
 -- What is true of a pass between two calls.
+use Rattle.std.specs.Prelude.{◌≡◌, All, List, [], ◌∷◌}
 use Rattle.key_counts.specs.Counts.{IsCountOf}
 use Rattle.key_counts.specs.declared.KeyCount.{KeyCount}
 use Rattle.rowex_core.specs.declared.known.Known.{Known}
+use Rattle.rowex_table.specs.Seats.{SeatView}
 use Rattle.hot_index_calls.specs.Passes.{IsSettled}
 
 -- The pass is between two calls, and the count is that of its answered calls.
 pub record IsSettledWith (k : Known) (count : KeyCount) : Type 0 where
   pub settled : IsSettled k
   pub counts : IsCountOf k.pass k.notes count
+
+-- the pass is between two calls, and was answered none
+abbrev pub HasNoCall : SeatView → Type 0
+HasNoCall s = IsSettled s.known × (s.known.notes ≡ [])
+
+-- The passes of these seats are between two calls. The count is that of the first one's; none other was answered one.
+abbrev pub AreSettled : KeyCount → List SeatView → Type 0
+AreSettled count [] = Unit {0}
+AreSettled count (s ∷ ss) = IsSettledWith s.known count × All HasNoCall ss

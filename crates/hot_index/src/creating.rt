@@ -1,14 +1,12 @@
 //! How an index is made, with its passes.
 
-ghost use Rattle.std.specs.Prelude.{◌≡◌, ◌↔◌, ℕ, Some, Ok, Err, IfOk, IsOk, length, slice_get};
-ghost use mathlib.Core.Option.{some};
-ghost use lib.ListN.{get_elem?};
+ghost use Rattle.std.specs.Prelude.{◌≡◌, ◌↔◌, ℕ, Some, Ok, Err, IfOk, IsOk, length, map, slice_get};
 ghost use Rattle.record_words.specs.Layout.{HasStock, leaves_of};
 ghost use Rattle.record_words.specs.Limits.{IsPassCount, IsStockPassCount, IsNodeCount, IsLeafCount, IsRecordCount};
 ghost use Rattle.record_words.specs.declared.layout.Layout.{Layout as LayoutView};
-ghost use Rattle.rowex_table.specs.Seats.{IsNewSeatOf, SeatView};
 ghost use Rattle.hot_index.specs.Kept.{HasOneKept, kept_stock, with_one_kept};
-ghost use Rattle.hot_index_calls.specs.Passes.{PassView, Owns, IsNewPass};
+ghost use Rattle.hot_index_calls.specs.Passes.{PassView, Owns, IsNewPass, pass_of};
+ghost use Rattle.hot_index.specs.Passes.{AreSettled};
 
 use crate::closed::ClosedPass;
 use crate::index::{Index, Pass};
@@ -172,24 +170,25 @@ fn make_index(alloc: Global, layout: Layout) -> Result<(Index, Vec<ClosedPass>),
     ensures each { IfOk result (λ made. (q : ℕ) (p : PassView) → slice_get made.1.items q ≡ Some p → Owns made.0 p × IsNewPass q p) }
 {
     let (table, seats) = HotTable::new(alloc, layout)?;
-    let passes = make_closed_passes(alloc, &table, seats)?;
+    let passes = make_closed_passes(alloc, seats, KeyCount::new())?;
     Ok((Index { table }, passes))
 }
 
-/// The closed passes of `seats`, the new seats of `table`, in their order; an error if memory is refused.
-fn make_closed_passes(
+/// The closed passes of `seats`, in their order; an error if memory is refused. The first has the count `first`, and each other one that of
+/// no call.
+pub(crate) fn make_closed_passes(
     alloc: Global,
-    table: &HotTable,
     seats: Vec<TableSeat>,
+    first: KeyCount,
 ) -> Result<Vec<ClosedPass>, AllocError>
-    requires { (q : ℕ) (s : SeatView) → get_elem? seats.items q ≡ some s → IsNewSeatOf table.now q s }
-    ensures count { IfOk result (λ passes. length passes.items ≡ length seats.items) }
-    ensures each { IfOk result (λ passes. (q : ℕ) (p : PassView) → slice_get passes.items q ≡ Some p → Owns table.now p × IsNewPass q p) }
+    requires { AreSettled first seats.items }
+    ensures { IfOk result (λ passes. passes.items ≡ map pass_of seats.items) }
 {
     let mut passes = Vec::new(alloc);
+    let mut count = first;
     for seat in seats {
-        let count = KeyCount::new();
         passes.push(ClosedPass { seat, count })?;
+        count = KeyCount::new();
     }
     Ok(passes)
 }

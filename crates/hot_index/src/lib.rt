@@ -7,7 +7,8 @@
 //! [`create_with`] by a [`Stock`]: how many node records, and how many leaf records of each size. Each thread works through
 //! a pass of its own: a [`Pass`] with the index beside it, or a [`Handle`], which has both. There are as many passes as the index was
 //! made with. A call takes its pass by `&mut`, so each pass makes one call at a time. A pass has buffers of some 118 KB. One that waits
-//! for its thread needs none as a [`ClosedPass`] or [`ClosedHandle`], which [`create_closed`] makes.
+//! for its thread needs none as a [`ClosedPass`] or [`ClosedHandle`], which [`create_closed`] makes. A [`Load`] takes sorted pairs, and
+//! makes an index that has them.
 //!
 //! # Calls
 //!
@@ -42,6 +43,7 @@ mod expecting;
 mod handle;
 mod index;
 pub mod laws;
+mod loading;
 mod range_counts;
 mod range_values;
 mod ranges;
@@ -49,6 +51,7 @@ mod reverse;
 mod scans;
 mod stamp;
 
+pub use bulk_load::LoadFault;
 pub use closed::{ClosedHandle, ClosedPass};
 pub use creating::{IndexFault, create, create_closed, create_with, keep_one_node};
 pub use cursor::{Cursor, Rest};
@@ -60,6 +63,7 @@ pub use index::{Index, Pass};
 pub use key_bits::Key;
 pub use key_counts::{KeyCount, total};
 pub use key_ranges::{last_with_prefix, next_key, previous_key};
+pub use loading::Load;
 pub use packed_pairs::Pairs;
 pub use record_words::{LayoutFault, Stock};
 pub use rowex_core::{Event, Gate, NoGate};

@@ -1,0 +1,146 @@
+//! The calls of a load, for programs in C: an index is made of pairs whose keys rise.
+
+ghost use Rattle.std.specs.Prelude.{◌≡◌, ◌≢◌, ◌⊎◌, Err, IfErr, IfOk, IsErr, IsSome, None, Some};
+ghost use Rattle.hot_c.specs.Calls.{IsStockSize};
+ghost use Rattle.hot_c.specs.Loads.{HasBegunLoad, HasOpenedLoaded, IsNewLoad, KeepsLoadedPasses, LoadsPair, TellsPush};
+ghost use Rattle.hot_c.specs.Stocks.{stock_in};
+ghost use Rattle.load_handles.specs.declared.open_load.OpenLoad.{OpenLoad as LoadContent};
+
+use crate::handle::Handle;
+use crate::opened::Opened;
+use crate::opening::{is_stock_in_range, keep_passes};
+use crate::status::{
+    CLOSED, DONE, FULL_LEAVES, FULL_NODES, KEY_TOO_LONG, NO_MEMORY, NOT_RISING, OPEN, OUT_OF_RANGE,
+};
+use crate::stock::HotStock;
+use hot_index::{IndexFault, Load, LoadFault};
+use key_bits::Key;
+use load_handles::{LoadHandle, OpenLoad};
+use record_words::Stock;
+use std::alloc::{AllocError, Global};
+
+/// Begins an index with the records of `stock` and `passes` passes, and opens `load` for its pairs: `DONE`. Else it stays as it was:
+/// `OUT_OF_RANGE` as of `hot_create_with`, `OPEN` if it is open, or `NO_MEMORY`.
+#[unsafe(no_mangle)]
+pub extern "C" fn hot_begin_load(
+    alloc: Global,
+    stock: &HotStock,
+    passes: usize,
+    load: &mut LoadHandle,
+) -> u32
+    ensures range { ¬ IsStockSize passes (stock_in stock.now) → (result ≡ OUT_OF_RANGE) × (load.new ≡ load.old) }
+    ensures open { IsStockSize passes (stock_in stock.now) → IsSome load.old.slot.opened → (result ≡ OPEN) × (load.new ≡ load.old) }
+    ensures begun { load.old.slot.opened ≡ None → IsStockSize passes (stock_in stock.now) →
+        ((result ≡ DONE) × HasBegunLoad passes (stock_in stock.now) load.new.slot.opened) ⊎ ((result ≡ NO_MEMORY) × (load.new ≡ load.old)) }
+{
+    let records = stock.to_stock();
+    if !is_stock_in_range(passes, &records) {
+        return OUT_OF_RANGE;
+    }
+    if load.is_open() {
+        return OPEN;
+    }
+    match begin_load(alloc, passes as u32, records) {
+        Ok(begun) => {
+            load.open(begun);
+            DONE
+        }
+        Err(IndexFault::Layout(_)) => OUT_OF_RANGE,
+        Err(IndexFault::Memory) => NO_MEMORY,
+    }
+}
+
+/// Pushes `key` with `value`: `DONE`. Else the load stays as it was, with its pairs, and goes on: `CLOSED` if it is closed; `KEY_TOO_LONG` if
+/// `key` has more than 240 bytes; `NOT_RISING` if it isn't above the last key; `KEY_TOO_LONG` too if no leaf record of the index has room for
+/// it; `FULL_LEAVES` if all that have are taken; `FULL_NODES` if too few node records may be left; or `NO_MEMORY`.
+#[unsafe(no_mangle)]
+pub extern "C" fn hot_load_pair(load: &mut LoadHandle, key: &[u8], value: u64) -> u32
+    ensures { LoadsPair key.now value load.old.slot.opened load.new.slot.opened result }
+{
+    if !load.is_open() {
+        return CLOSED;
+    }
+    let mut pushed = Key::empty();
+    match pushed.set_bytes(key) {
+        Ok(()) => push_pair(load.slot.lend(), &pushed, value),
+        Err(_) => KEY_TOO_LONG,
+    }
+}
+
+/// Ends the load: closes it, makes the index of its pairs, and opens `handle` with the last pass: `DONE`. The handle keeps the others,
+/// closed, for `hot_open_kept`. `CLOSED` if `load` is closed, or `OPEN` if `handle` is open: then both stay as they were. With `NO_MEMORY` the
+/// load is closed, and its pairs are gone.
+#[unsafe(no_mangle)]
+pub extern "C" fn hot_end_load(alloc: Global, load: &mut LoadHandle, handle: &mut Handle) -> u32
+    ensures closed { load.old.slot.opened ≡ None → (result ≡ CLOSED) × (load.new ≡ load.old) × (handle.new ≡ handle.old) }
+    ensures open { IsSome load.old.slot.opened → IsSome handle.old.slot.opened → (result ≡ OPEN) × (load.new ≡ load.old) × (handle.new ≡ handle.old) }
+    ensures ended { (was : LoadContent) → load.old.slot.opened ≡ Some was → handle.old.slot.opened ≡ None → (load.new.slot.opened ≡ None) ×
+        (((result ≡ DONE) × HasOpenedLoaded was.load handle.new.slot.opened) ⊎ ((result ≡ NO_MEMORY) × (handle.new ≡ handle.old))) }
+    ensures place { handle.new.place ≡ handle.old.place }
+{
+    if !load.is_open() {
+        return CLOSED;
+    }
+    if handle.is_open() {
+        return OPEN;
+    }
+    match end_load(alloc, load.close(alloc)) {
+        Ok(keeper) => {
+            handle.open(keeper);
+            DONE
+        }
+        Err(_) => NO_MEMORY,
+    }
+}
+
+/// Gives a load up: closes it and frees its pairs: `DONE`, or `CLOSED` if it was closed.
+#[unsafe(no_mangle)]
+pub extern "C" fn hot_give_up_load(alloc: Global, load: &mut LoadHandle) -> u32
+    ensures closed { load.old.slot.opened ≡ None → result ≡ CLOSED }
+    ensures done { IsSome load.old.slot.opened → result ≡ DONE }
+    ensures gone { load.new.slot.opened ≡ None }
+{
+    if !load.is_open() {
+        return CLOSED;
+    }
+    drop(load.close(alloc));
+    DONE
+}
+
+/// A box of a load that has begun, of an index with `passes` passes and the records of `stock`. `IndexFault::Layout` if a number is out of
+/// range (`is_stock_in_range`); `Memory` if memory is refused.
+fn begin_load(alloc: Global, passes: u32, stock: Stock) -> Result<Box<OpenLoad, Global>, IndexFault>
+    ensures size { IsStockSize passes stock → IfErr result (λ fault. fault ≡ IndexFault.Memory) }
+    ensures range { ¬ IsStockSize passes stock → IsErr result × result ≢ Err IndexFault.Memory }
+    ensures begun { IfOk result (λ b. IsNewLoad passes stock b.value.load) }
+{
+    let load = Load::new(alloc, passes, stock)?;
+    match Box::new(alloc, OpenLoad { load }) {
+        Ok(begun) => Ok(begun),
+        Err(_) => Err(IndexFault::Memory),
+    }
+}
+
+/// Pushes `key` with `value`, and returns the status, as `hot_load_pair` does.
+fn push_pair(opened: &mut OpenLoad, key: &Key, value: u64) -> u32
+    ensures { TellsPush key.now value opened.old.load opened.new.load result }
+{
+    match opened.load.push(key, value) {
+        Ok(()) => DONE,
+        Err(LoadFault::NotRising) => NOT_RISING,
+        Err(LoadFault::LeavesFull) if !opened.load.has_leaf_for(key) => KEY_TOO_LONG,
+        Err(LoadFault::LeavesFull) => FULL_LEAVES,
+        Err(LoadFault::NodesFull) => FULL_NODES,
+        Err(LoadFault::Memory) => NO_MEMORY,
+    }
+}
+
+/// The last pass of the index of the pairs of `opened`, opened, with its share of the index. It keeps the others. An error if memory is
+/// refused.
+fn end_load(alloc: Global, opened: Box<OpenLoad, Global>) -> Result<Box<Opened, Global>, AllocError>
+    ensures { IfOk result (λ b. KeepsLoadedPasses opened.value.load b.value) }
+{
+    let OpenLoad { load } = Box::into_inner(opened);
+    let (index, passes) = load.finish(alloc)?;
+    keep_passes(alloc, index, passes)
+}

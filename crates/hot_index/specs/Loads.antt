@@ -1,0 +1,61 @@
+-- What stands in an index that was made of sorted pairs.
+use Rattle.std.specs.Prelude.{◌≡◌, ◌<◌, ℕ, zero, suc, List, [], ◌∷◌, length, map}
+use Rattle.finite_map.specs.declared.Call.TheVariants.{Insert}
+use Rattle.finite_map.specs.declared.Change.{Change}
+use Rattle.finite_map.specs.declared.Kind.TheVariants.{Added}
+use Rattle.finite_map.specs.declared.Note.{Note}
+use Rattle.finite_map.specs.declared.Reply.TheVariants.{Inserted}
+use Rattle.finite_map.specs.Calls.{LegalCalls}
+use Rattle.finite_map.specs.Fronts.{map_of}
+use Rattle.bulk_load.specs.Views.{LoadView, with_item}
+use Rattle.record_words.specs.declared.layout.Layout.{Layout}
+use Rattle.record_words.specs.Layout.{leaf_size}
+use Rattle.record_words.specs.Leaf.{words_for}
+use Rattle.tries.specs.Content.{Item, item}
+use Rattle.tries.specs.Keys.{Key}
+use Rattle.versions.specs.Told.{added_notes}
+use Rattle.key_counts.specs.Counts.{IsCountOf}
+use Rattle.key_counts.specs.declared.KeyCount.{KeyCount}
+use Rattle.rowex_core.specs.Events.{IsLoad}
+use Rattle.rowex_table.specs.Seats.{IsLoaderSeat, TableView}
+use Rattle.lone_runs.specs.Lone.{HasSpare}
+use Rattle.hot_index_calls.specs.Passes.{IsNewPass, PassView}
+
+-- the load has taken this pair besides, behind those that it had, for a leaf record of some number
+abbrev pub HasTakenPair : Key → ℕ → LoadView → LoadView → Type 0
+HasTakenPair key value old new = (n : ℕ) × (new ≡ with_item old (item n key value))
+
+-- no leaf record of the index has room for the key, taken or not
+abbrev pub HasNoLeafFor : Layout → Key → Type 0
+HasNoLeafFor layout key = (n : ℕ) → n < layout.leaves → leaf_size layout n < words_for (length key)
+
+-- the count is that of a pass that has inserted these pairs
+abbrev pub CountsItems : List Item → KeyCount → Type 0
+CountsItems items count = (q : ℕ) → IsCountOf q (added_notes 0 items) count
+
+-- the change by which pass 0 inserts a pair
+abbrev pub inserted_pair : Key × ℕ → Change
+inserted_pair x = record { pass = 0; key = x.0; value = x.1; kind = Added }
+
+-- the answered insertions of these pairs, one after the other, from a place on
+abbrev pub pairs_noted : ℕ → List (Key × ℕ) → List Note
+pairs_noted place [] = []
+pairs_noted place (x ∷ xs) = record { place = place; call = Insert x.0 x.1; reply = Inserted } ∷ pairs_noted (suc place) xs
+
+-- Pass 0 of an index that was made of these pairs: it has inserted each of them, in their order, and has seen nothing else. Its calls are legal,
+-- and the map has just these pairs. Its seat is that of a load, its one step. As in a new index, one node record stands in no tree.
+pub record IsLoaderPass (index : TableView) (xs : List (Key × ℕ)) (p : PassView) : Type 0 where
+  pub number : p.number ≡ 0
+  pub front : p.front ≡ map inserted_pair xs
+  pub notes : p.notes ≡ pairs_noted 0 xs
+  pub legal : LegalCalls p.front p.number p.notes
+  pub content : map_of p.front ≡ xs
+  pub words : List ℕ
+  pub load : IsLoad index.layout words
+  pub seat : IsLoaderSeat index words p.seat
+  pub spare : HasSpare index.layout p.seat
+
+-- the pass of this number of such an index: all but pass 0 are new
+abbrev pub IsPassOfLoad : TableView → List (Key × ℕ) → ℕ → PassView → Type 0
+IsPassOfLoad index xs zero p = IsLoaderPass index xs p
+IsPassOfLoad index xs (suc q) p = IsNewPass (suc q) p

@@ -1,0 +1,121 @@
+//! How an index is made of sorted pairs: a bulk load.
+
+ghost use Rattle.std.specs.Prelude.{◌≡◌, ◌≤◌, ◌<◌, ◌↔◌, ℕ, [], Some, Err, IfOk, IsTrue, OnErr, OnOk, length, slice_get};
+ghost use Rattle.bulk_load.specs.Views.{HasNoRoomFor, IsAboveLast};
+ghost use Rattle.record_words.specs.Layout.{HasStock, leaf_size, leaves_of};
+ghost use Rattle.record_words.specs.Leaf.{words_for};
+ghost use Rattle.record_words.specs.Limits.{IsRecordCount, IsStockPassCount};
+ghost use Rattle.tries.specs.Content.{pairs};
+ghost use Rattle.hot_index.specs.Kept.{kept_stock};
+ghost use Rattle.hot_index.specs.Loads.{HasNoLeafFor, HasTakenPair, IsPassOfLoad};
+ghost use Rattle.hot_index_calls.specs.Passes.{Owns, PassView};
+
+use crate::closed::ClosedPass;
+use crate::creating::{IndexFault, keep_one_node, make_closed_passes};
+use crate::index::Index;
+use bulk_load::{LoadFault, Loader};
+use finite_map::Reply;
+use key_bits::Key;
+use key_counts::KeyCount;
+use record_words::{Layout, LayoutFault, Stock, count_leaf_words};
+use rowex_table::HotTable;
+use std::alloc::{AllocError, Global};
+use std::marker::Model;
+
+/// Pairs that become an index. They are pushed in the order of their keys. Each takes a leaf record of the smallest class with room for its
+/// key that has one left, and nodes are made as full as they can be. Contracts see the layout of the index, and the leaf records that were
+/// taken, each with its pair.
+#[derive(Drop)]
+pub struct Load {
+    layout: Layout,
+    loader: Loader,
+    count: KeyCount,
+}
+
+impl Model for Load {
+    ghost use Rattle.bulk_load.specs.Views.{LoadView};
+    ghost use Rattle.hot_index.specs.Loads.{CountsItems};
+    ghost use Rattle.std.specs.Prelude.{◌≡◌};
+
+    ghost Value = { LoadView };
+
+    ghost view = { λ l. l.loader };
+
+    ghost invariant = { λ l. (l.layout ≡ l.loader.layout) × CountsItems l.loader.items l.count };
+}
+
+impl Load {
+    /// Begins an index with `passes` passes (1 to 1,024) and the records of `stock`, with the bounds and the faults of `create_with`. No pair
+    /// has been pushed.
+    pub fn new(alloc: Global, passes: u32, stock: Stock) -> Result<Load, IndexFault>
+        ensures layout { IfOk result (λ load. (load.layout.passes ≡ passes) × HasStock load.layout (kept_stock stock)) }
+        ensures none { IfOk result (λ load. load.items ≡ []) }
+        ensures passes { (result ≡ Err (IndexFault.Layout LayoutFault.Passes)) ↔ ¬ IsStockPassCount passes }
+        ensures nodes { (result ≡ Err (IndexFault.Layout LayoutFault.Nodes)) ↔ (IsStockPassCount passes × ¬ IsRecordCount stock.nodes) }
+        ensures leaves { (result ≡ Err (IndexFault.Layout LayoutFault.Leaves)) ↔ (IsStockPassCount passes × IsRecordCount stock.nodes × ¬ IsRecordCount (leaves_of stock)) }
+        ensures memory { result ≡ Err IndexFault.Memory → IsStockPassCount passes × IsRecordCount stock.nodes × IsRecordCount (leaves_of stock) }
+    {
+        match Layout::with_stock(passes, stock) {
+            Ok(asked) => match Load::begin(alloc, keep_one_node(asked)) {
+                Ok(load) => Ok(load),
+                Err(_) => Err(IndexFault::Memory),
+            },
+            Err(fault) => Err(IndexFault::Layout(fault)),
+        }
+    }
+
+    /// Begins an index of `layout`; an error if memory is refused.
+    fn begin(alloc: Global, layout: Layout) -> Result<Load, AllocError>
+        ensures { IfOk result (λ load. (load.layout ≡ layout) × (load.items ≡ [])) }
+    {
+        let loader = Loader::new(alloc, layout)?;
+        let count = KeyCount::new();
+        Ok(Load {
+            layout,
+            loader,
+            count,
+        })
+    }
+
+    /// Pushes `key` with `value`, behind the pairs that were pushed before. If it is refused, the load stays as it was, and goes on with the next.
+    ///
+    /// The fault is `NotRising` if the key isn't above the last one. `LeavesFull` if each leaf record with room for it is taken; `NodesFull` if
+    /// too few node records may be left, which is never so while there are fewer pairs than node records; `Memory` if memory is refused.
+    pub fn push(&mut self, key: &Key, value: u64) -> Result<(), LoadFault>
+        ensures taken { OnOk result (HasTakenPair key.now value self.old self.new) }
+        ensures refused { OnErr result (self.new ≡ self.old) }
+        ensures rising { (result ≡ Err LoadFault.NotRising) ↔ ¬ IsAboveLast self.old.items key.now }
+        ensures leaves { result ≡ Err LoadFault.LeavesFull → HasNoRoomFor self.old key.now }
+        ensures nodes { result ≡ Err LoadFault.NodesFull → self.old.layout.nodes ≤ length self.old.items }
+    {
+        self.loader.push(key, value)?;
+        self.count.note(Reply::Inserted);
+        Ok(())
+    }
+
+    /// Whether the index has a leaf record, taken or not, with room for `key`.
+    pub fn has_leaf_for(&self, key: &Key) -> bool
+        ensures some { IsTrue result → (n : ℕ) × (n < self.now.layout.leaves) × (words_for (length key.now) ≤ leaf_size self.now.layout n) }
+        ensures none { ¬ IsTrue result → HasNoLeafFor self.now.layout key.now }
+    {
+        self.layout.first_leaf_with(count_leaf_words(key)) < self.layout.leaves
+    }
+
+    /// Makes the index of the pairs that were pushed. Returns it with its passes, closed, in their order, from 0 on. Pass 0 has inserted each pair
+    /// in the order of the keys, and its `count` is their number. All others are new. An error if memory is refused.
+    pub fn finish(self, alloc: Global) -> Result<(Index, Vec<ClosedPass>), AllocError>
+        ensures layout { IfOk result (λ made. made.0.layout ≡ self.layout) }
+        ensures count { IfOk result (λ made. length made.1.items ≡ self.layout.passes) }
+        ensures each { IfOk result (λ made. (q : ℕ) (p : PassView) → slice_get made.1.items q ≡ Some p → Owns made.0 p × IsPassOfLoad made.0 (pairs self.items) q p) }
+    {
+        let Load {
+            layout,
+            loader,
+            count,
+        } = self;
+        let words = loader.finish();
+        let (table, seats) = HotTable::new_loaded(alloc, layout, words)?;
+        let passes = make_closed_passes(alloc, seats, count)?;
+        Ok((Index { table }, passes))
+    }
+}

@@ -1,0 +1,3 @@
+-- The lemmas of the crate.
+pub mod Content
+pub mod Boxes
