@@ -15,7 +15,7 @@ use Rattle.rowex_table.specs.Traces.{OthersStepOn}
 use Rattle.hot_index_calls.specs.Traces.{untold}
 use Rattle.linearizability.specs.Histories.{PendingEndOrChangeAsAsked}
 use Rattle.linearizability.specs.Moments.{Happening, Moment, Pending}
-use Rattle.index_laws.specs.Joined.{HasGoneThrough, LoadedHaveEnded, OneRunIsAnExecution, ShownHaveEnded, SilentStepsEnd, StepsNeedNoGate, TwoThatMeetHaveEnded, load_call, loader, new, of_two, HasGoneThrough}
+use Rattle.index_laws.specs.Joined.{HasGoneThrough, LoadedHaveEnded, OneRunIsAnExecution, ShownHaveEnded, SilentStepsEnd, StepsNeedNoGate, TwoThatMeetHaveEnded, load_call, loader, new, of_two}
 use Rattle.index_laws.specs.Traced.{moment_of}
 use Rattle.rowex_table.proofs.Onward.{others_none}
 use Rattle.index_laws.proofs.Interleaving.{named_by, one_execution}
