@@ -255,7 +255,7 @@ module _ (table : TableView) (whole : ℕ → List Happening) (end : ℕ → Sea
 
 -- Lives from what passes have done
 
-event_of : {table : TableView} {act : Act} {said : Known → List Note} {s m : SeatView} → StepsWith table untold act said (s, tt) (m, tt) → MakesEvent table act said s m
+abbrev event_of : {table : TableView} {act : Act} {said : Known → List Note} {s m : SeatView} → StepsWith table untold act said (s, tt) (m, tt) → MakesEvent table act said s m
 event_of x = record { seat = x.seat; event = x.event; next = x.next }
 
 silent_step : {table : TableView} {act : Act} {s m : SeatView} → StepsWith table untold act silent (s, tt) (m, tt) → MakesStep table act [] s m
