@@ -12,4 +12,4 @@ pub mod Staying
 pub mod Alone
 pub mod Held
 pub mod Spared
-pub mod Loading
+pub mod Loaded

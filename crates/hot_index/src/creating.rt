@@ -170,7 +170,8 @@ fn make_index(alloc: Global, layout: Layout) -> Result<(Index, Vec<ClosedPass>),
     ensures each { IfOk result (λ made. (q : ℕ) (p : PassView) → slice_get made.1.items q ≡ Some p → Owns made.0 p × IsNewPass q p) }
 {
     let (table, seats) = HotTable::new(alloc, layout)?;
-    let passes = make_closed_passes(alloc, seats, KeyCount::new())?;
+    let count = KeyCount::new();
+    let passes = make_closed_passes(alloc, seats, count)?;
     Ok((Index { table }, passes))
 }
 

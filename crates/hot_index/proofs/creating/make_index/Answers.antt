@@ -6,7 +6,7 @@ use Rattle.hot_index.proofs.Making.{new_pass, new_settled, passes_of}
 use Rattle.hot_index.proofs.creating.make_index.Goals as goal
 
 pub make_closed_passes-requires : goal.make_closed_passes-requires
-make_closed_passes-requires c = new_settled c.in_ok-table.table c.new.result c.new.ensures c.in_ok-table.seats.items c.in_ok-table.ensures.seats
+make_closed_passes-requires c = new_settled c.in_ok-table.table c.new-count.result c.new-count.ensures c.in_ok-table.seats.items c.in_ok-table.ensures.seats
 
 pub returns-clause-each : goal.returns-clause-each
 returns-clause-each c =

@@ -1,15 +1,26 @@
 -- The passes of the seats of a table that was loaded.
-use Rattle.std.proofs.Common.{◌≡◌, ℕ, List, Some, sym, subst}
+use Rattle.std.proofs.Common.{◌≡◌, ◌∙◌, ℕ, List, Some, sym, subst}
 use Rattle.std.specs.List.{slice_get}
 use Rattle.tries.specs.Content.{pairs}
+use Rattle.bulk_load.specs.Views.{LoadView}
 use Rattle.hot_index_calls.specs.Passes.{Owns, PassView}
 use Rattle.hot_index.specs.Loads.{IsPassOfLoad}
 use Rattle.hot_index.proofs.Making.{passes_of}
-use Rattle.hot_index.proofs.Loading.{loaded_settled, pass_of_load}
+use Rattle.hot_index.proofs.Loaded.{loaded_settled, pass_of_load, words_for_table}
 use Rattle.hot_index.proofs.loading.Load.finish.Goals as goal
 
 pub make_closed_passes-requires : goal.make_closed_passes-requires
-make_closed_passes-requires c = ?
+make_closed_passes-requires c =
+    let loader = c.self.inside.loader in let words = c.finish-words.ensures in let made = c.in_ok-table.ensures in
+    let of = words_for_table c.in_ok-table.table loader.layout loader.items c.finish-words.result.items (made.table ∙ c.self.invariant.0) words.load words.items words.spare in
+    loaded_settled c.in_ok-table.table c.finish-words.result.items c.in_ok-table.seats.items loader.items of made.first made.others c.self.inside.count c.self.invariant.1
 
 pub returns-clause-each : goal.returns-clause-each
-returns-clause-each c = ?
+returns-clause-each c =
+    let table = c.in_ok-table.table in
+    let loader = c.self.inside.loader in let words = c.finish-words.ensures in let made = c.in_ok-table.ensures in
+    let of = words_for_table table loader.layout loader.items c.finish-words.result.items (made.table ∙ c.self.invariant.0) words.load words.items words.spare in
+    subst (λ (v : LoadView). (q : ℕ) (p : PassView) → slice_get c.in_ok-passes.passes.items q ≡ Some p → Owns table p × IsPassOfLoad table (pairs v.items) q p) c.self.view_is
+    (subst (λ (ps : List PassView). (q : ℕ) (p : PassView) → slice_get ps q ≡ Some p → Owns table p × IsPassOfLoad table (pairs loader.items) q p) (sym c.in_ok-passes.ensures)
+    (passes_of (λ q p. Owns table p × IsPassOfLoad table (pairs loader.items) q p) c.in_ok-table.seats.items
+    (pass_of_load table c.finish-words.result.items c.in_ok-table.seats.items loader.items of made.first made.others)))

@@ -1,5 +1,5 @@
 -- Pass 0 of an index that was made of pairs.
-use Rattle.std.proofs.Common.{rules, ◌≡◌, ℕ, zero, suc, ◌<◌, ◌≤◌, List, [], ◌∷◌, ◌++◌, All, length, map, take, Option, Some, refl, sym, ap, ◌∙◌, subst, arith, le_refl, ⊎_elim}
+use Rattle.std.proofs.Common.{◌≡◌, ◌⊎◌, inl, inr, true, false, ℕ, zero, suc, ◌<◌, ◌≤◌, List, [], ◌∷◌, ◌++◌, All, length, map, take, Option, Some, refl, sym, ap, ◌∙◌, subst, arith, le_refl}
 use Rattle.std.proofs.lemmas.List.{take_all, length-map}
 use Rattle.std.proofs.lemmas.List.Elements.{All-cons, All-nil}
 use mathlib.Core.Option.{some}
@@ -111,8 +111,18 @@ module _ (table : TableView) (words : List ℕ) (load : IsLoad table.layout word
         spare = spare s is n low out;
       }
 
+-- the words show these leaves, and some node record is in no tree
+pub record AreWordsOf (layout : Layout) (items : List Item) (words : List ℕ) : Type 0 where
+  pub load : IsLoad layout words
+  pub are : items_of (loaded_tree layout words) ≡ items
+  pub spare : (n : ℕ) × (n < layout.nodes) × ¬ IsLinked (loaded_tree layout words) (a_node n)
+
+pub words_for_table : (table : TableView) (layout : Layout) (items : List Item) (words : List ℕ) → table.layout ≡ layout → IsLoad layout words → items_of (loaded_tree layout words) ≡ items →
+    (n : ℕ) × (n < layout.nodes) × ¬ IsLinked (loaded_tree layout words) (a_node n) → AreWordsOf table.layout items words
+words_for_table table layout items words same load are spare = subst (λ l. AreWordsOf l items words) (sym same) (record { load = load; are = are; spare = spare })
+
 -- the passes of a table that was loaded
-module _ (table : TableView) (words : List ℕ) (seats : List SeatView) (items : List Item) (load : IsLoad table.layout words) (are : items_of (loaded_tree table.layout words) ≡ items)
+module _ (table : TableView) (words : List ℕ) (seats : List SeatView) (items : List Item) (of : AreWordsOf table.layout items words)
     (first : (s : SeatView) → get_elem? seats 0 ≡ some s → IsLoaderSeat table words s)
     (others : (q : ℕ) (s : SeatView) → 1 ≤ q → get_elem? seats q ≡ some s → IsNewSeatOf table q s) where
   pub loaded_settled : (count : KeyCount) → CountsItems items count → AreSettled count seats
@@ -122,16 +132,14 @@ module _ (table : TableView) (words : List ℕ) (seats : List SeatView) (items :
           ((q : ℕ) (s : SeatView) → 1 ≤ q → get_elem? ss q ≡ some s → IsNewSeatOf table q s) → AreSettled count ss
       go [] f o = tt
       go (s ∷ ss) f o =
-          let is = f s refl in (
-            record {
-              settled = subst IsSettled (sym is.1) (loader_settled table words load);
-              counts = subst (λ (k : Known). IsCountOf k.pass k.notes count) (sym is.1) (subst (λ (xs : List Item). IsCountOf 0 (added_notes 0 xs) count) (sym are) (counts 0));
-            },
-            no_calls_from table 1 ss (λ q t e. subst (λ i. IsNewSeatOf table i t) (omega arith) (o (suc q) t (omega arith) e)),
-          )
+          let is = f s refl in
+          (record {
+            settled = subst IsSettled (sym is.1) (loader_settled table words of.load);
+            counts = subst (λ (k : Known). IsCountOf k.pass k.notes count) (sym is.1) (subst (λ (xs : List Item). IsCountOf 0 (added_notes 0 xs) count) (sym of.are) (counts 0));
+          }, no_calls_from table 1 ss (λ q t e. subst (λ i. IsNewSeatOf table i t) (omega arith) (o (suc q) t (omega arith) e)))
 
-  pub pass_of_load : (n : ℕ) → n < table.layout.nodes → ¬ IsLinked (loaded_tree table.layout words) (a_node n) →
-      (q : ℕ) (s : SeatView) → get_elem? seats q ≡ some s → Owns table (pass_of s) × IsPassOfLoad table (pairs items) q (pass_of s)
-  pass_of_load n low out zero s e =
-      let is = first s e in (is.0, subst (λ (xs : List Item). IsLoaderPass table (pairs xs) (pass_of s)) are (loader_pass table words load s is n low out))
-  pass_of_load n low out (suc q) s e = new_pass table (suc q) s (others (suc q) s (omega arith) e)
+  pub pass_of_load : (q : ℕ) (s : SeatView) → get_elem? seats q ≡ some s → Owns table (pass_of s) × IsPassOfLoad table (pairs items) q (pass_of s)
+  pass_of_load zero s e =
+      let is = first s e in
+      (is.0, subst (λ (xs : List Item). IsLoaderPass table (pairs xs) (pass_of s)) of.are (loader_pass table words of.load s is of.spare.0 of.spare.1 of.spare.2))
+  pass_of_load (suc q) s e = new_pass table (suc q) s (others (suc q) s (omega arith) e)
