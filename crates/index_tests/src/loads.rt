@@ -93,8 +93,8 @@ fn push_map(rt: &impl Abort, alloc: Global, load: &mut Load, map: &PlainIndex) -
     let Ok(scan) = map.scan(alloc, &from, &upto, usize::MAX) else {
         panic!(rt; "no memory")
     };
-    for (bytes, value) in scan.pairs.iter() {
-        assert!(rt; load.push(&key(rt, bytes), value) == Ok(()));
+    for (key, value) in &scan.pairs {
+        assert!(rt; load.push(key, *value) == Ok(()));
     }
     scan.pairs.len()
 }
