@@ -1,0 +1,8 @@
+-- Lemmas of the crate.
+mod Climbing
+mod Fields
+mod Stacking
+mod Putting
+mod Closing
+mod Pushing
+mod Joining
