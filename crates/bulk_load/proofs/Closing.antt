@@ -29,10 +29,11 @@ use Rattle.rowex_core.specs.Reading.{IsPacked, node_words_of}
 use Rattle.rowex_core.proofs.Reading.{node_is}
 use Rattle.bulk_load.specs.Slots.{slot, slots_of, IsSlot, AreSlotsOf}
 use Rattle.bulk_load.specs.declared.slots.Slot.{Slot}
-use Rattle.bulk_load.specs.Stacks.{Level, joined, position_of, front_slots, with_right}
-use Rattle.bulk_load.specs.declared.loader.Loader.{Loader}
+use Rattle.bulk_load.specs.Stacks.{LeftPiece, whole_of, position_of, front_slots, with_right}
+use Rattle.bulk_load.specs.declared.builder.Builder.{Builder}
 use Rattle.bulk_load.specs.Loading.{IsTreeOf, IsPiece, StandsFor, size_right}
-use Rattle.bulk_load.specs.Tables.{IsPut, HoldsTree, fields_in}
+use Rattle.bulk_load.specs.Tables.{IsPut, HoldsTree}
+use Rattle.rowex_core.specs.Cores.{fields_in}
 use Rattle.bulk_load.proofs.Climbing.{head_entry, tail_slots, slots_split as piece_split}
 use Rattle.bulk_load.proofs.Fields.{node_field, node_fields_long}
 use Rattle.bulk_load.proofs.Putting.{IsAddedTo, added, still_shown}
@@ -71,7 +72,7 @@ fork_small q a b i =
     let t = trie_if_local (fork q a b) i in let m : MAX_BYTES ≡ 240 = refl in
     let h : q < 9 * MAX_BYTES = bit_below (first b) q (has_key b t.1 (first b) (has_first b)) (t.4 (first b) (has_first b)) in omega (arith, h, m)
 
-position_small : (ls : List Level) (t : Tree) → IsLocal (joined ls t) → position_of ls < 65535
+position_small : (ls : List LeftPiece) (t : Tree) → IsLocal (whole_of ls t) → position_of ls < 65535
 position_small [] t i = omega arith
 position_small (l ∷ ls) t i = fork_small l.position l.tree t (local_inner ls (fork l.position l.tree t) i)
 
@@ -83,31 +84,31 @@ slots_lawful p (fork q a c) h i b =
     All-append IsSlot (slots_of p (subtrie a)) (slots_of q (subtrie c)) (slots_lawful p a h i.0 b.0) (slots_lawful q c (fork_small q a c i) i.1 b.1)
 
 -- ---- where the slots of a piece stand
-abbrev pub right_slots : Option Level → List Slot
+abbrev pub right_slots : Option LeftPiece → List Slot
 right_slots None = []
 right_slots (Some r) = slots_of r.position (subtrie r.tree)
 
-beside : (p : ℕ) (z : Tree) (right : Option Level) → slots_of p (subtrie (with_right z right)) ≡ slots_of p (subtrie z) ++ right_slots right
+beside : (p : ℕ) (z : Tree) (right : Option LeftPiece) → slots_of p (subtrie (with_right z right)) ≡ slots_of p (subtrie z) ++ right_slots right
 beside p z None = sym (append-nil (slots_of p (subtrie z)))
 beside p z (Some r) = refl
 
-slots_split : (ls : List Level) (z : Tree) (right : Option Level) →
-    slots_of 0 (subtrie (joined ls (with_right z right))) ≡ front_slots ls ++ (slots_of (position_of ls) (subtrie z) ++ right_slots right)
+slots_split : (ls : List LeftPiece) (z : Tree) (right : Option LeftPiece) →
+    slots_of 0 (subtrie (whole_of ls (with_right z right))) ≡ front_slots ls ++ (slots_of (position_of ls) (subtrie z) ++ right_slots right)
 slots_split ls z right = slots_joined ls (with_right z right) ∙ ap (λ ss. front_slots ls ++ ss) (beside (position_of ls) z right)
 
-length_right : (right : Option Level) → length (right_slots right) ≡ size_right right
+length_right : (right : Option LeftPiece) → length (right_slots right) ≡ size_right right
 length_right None = refl
 length_right (Some r) = length_slots r.position (subtrie r.tree)
 
-local_left : (z : Tree) (right : Option Level) → IsLocal (with_right z right) → IsLocal z
+local_left : (z : Tree) (right : Option LeftPiece) → IsLocal (with_right z right) → IsLocal z
 local_left z None i = i
 local_left z (Some r) i = i.0
 
-built_left : (z : Tree) (right : Option Level) → IsBuilt (with_right z right) → IsBuilt z
+built_left : (z : Tree) (right : Option LeftPiece) → IsBuilt (with_right z right) → IsBuilt z
 built_left z None b = b
 built_left z (Some r) b = b.0
 
-module _ (l : Loader) (ls : List Level) (z : Tree) (right : Option Level) (count behind : ℕ) (p : IsPiece l ls z right count behind) where
+module _ (l : Builder) (ls : List LeftPiece) (z : Tree) (right : Option LeftPiece) (count behind : ℕ) (p : IsPiece l ls z right count behind) where
   local_z : IsLocal z
   local_z = local_left z right (local_inner ls (with_right z right) p.tree.ordered)
 
@@ -186,7 +187,7 @@ module _ (l : Loader) (ls : List Level) (z : Tree) (right : Option Level) (count
     closed = node l.nodes (head_of v) z
 
     abbrev whole : Tree
-    whole = joined ls (with_right z right)
+    whole = whole_of ls (with_right z right)
 
     abbrev heap : Heap
     heap = heap_of (fields_in l.layout new)
@@ -212,62 +213,62 @@ module _ (l : Loader) (ls : List Level) (z : Tree) (right : Option Level) (count
     node_shown : heap.nodes l.nodes ≡ record { fixed = head_of v; subtrie = subtrie z }
     node_shown = node_is v (fields_in l.layout new (a_node l.nodes)) all_small has (sym fields) ∙ ap (λ x. record { fixed = head_of v; subtrie = x }) b.shows_it
 
-    beside_shown : (right : Option Level) → IsShown heap (with_right z right) → IsShown heap (with_right closed right)
+    beside_shown : (right : Option LeftPiece) → IsShown heap (with_right z right) → IsShown heap (with_right closed right)
     beside_shown None s = (node_shown, s)
     beside_shown (Some r) s = ((node_shown, s.0), s.1)
 
-    beside_built : (right : Option Level) → IsBuilt (with_right z right) → IsBuilt (with_right closed right)
+    beside_built : (right : Option LeftPiece) → IsBuilt (with_right z right) → IsBuilt (with_right closed right)
     beside_built None s = built_closed
     beside_built (Some r) s = (built_closed, s.1)
 
-    beside_local : (right : Option Level) → IsLocal (with_right z right) → IsLocal (with_right closed right)
+    beside_local : (right : Option LeftPiece) → IsLocal (with_right z right) → IsLocal (with_right closed right)
     beside_local None i = i
     beside_local (Some r) i = i
 
-    beside_first : (right : Option Level) → first (with_right closed right) ≡ first (with_right z right)
+    beside_first : (right : Option LeftPiece) → first (with_right closed right) ≡ first (with_right z right)
     beside_first None = refl
     beside_first (Some r) = refl
 
-    above_closed : (ls : List Level) (right : Option Level) → IsAboveHead ls (with_right z right) → IsAboveHead ls (with_right closed right)
+    above_closed : (ls : List LeftPiece) (right : Option LeftPiece) → IsAboveHead ls (with_right z right) → IsAboveHead ls (with_right closed right)
     above_closed [] right h = tt
     above_closed (m ∷ ms) None h = h
     above_closed (m ∷ ms) (Some r) h = h
 
-    links_to : (right : Option Level) (i : Rec) → Links (with_right closed right) i → Links (with_right z right) i ⊎ (i ≡ a_node l.nodes)
+    links_to : (right : Option LeftPiece) (i : Rec) → Links (with_right closed right) i → Links (with_right z right) i ⊎ (i ≡ a_node l.nodes)
     links_to None i (inl e) = inr e
     links_to None i (inr h) = inl h
     links_to (Some r) i (inl (inl e)) = inr e
     links_to (Some r) i (inl (inr h)) = inl (inl h)
     links_to (Some r) i (inr h) = inl (inr h)
 
-    links_from : (right : Option Level) (i : Rec) → Links (with_right z right) i → Links (with_right closed right) i
+    links_from : (right : Option LeftPiece) (i : Rec) → Links (with_right z right) i → Links (with_right closed right) i
     links_from None i h = inr h
     links_from (Some r) i (inl h) = inl (inr h)
     links_from (Some r) i (inr h) = inr h
 
-    links_here : (right : Option Level) → Links (with_right closed right) (a_node l.nodes)
+    links_here : (right : Option LeftPiece) → Links (with_right closed right) (a_node l.nodes)
     links_here None = inl refl
     links_here (Some r) = inl (inl refl)
 
-    to : (i : Rec) → Links (joined ls (with_right closed right)) i → Links whole i ⊎ (i ≡ a_node l.nodes)
+    to : (i : Rec) → Links (whole_of ls (with_right closed right)) i → Links whole i ⊎ (i ≡ a_node l.nodes)
     to i h = links_added (i ≡ a_node l.nodes) ls (with_right z right) (with_right closed right) i (links_to right i) h
 
-    pub holds_closed : HoldsTree l.layout new (Some (joined ls (with_right closed right)))
-    holds_closed = added addition (joined ls (with_right closed right)) to
+    pub holds_closed : HoldsTree l.layout new (Some (whole_of ls (with_right closed right)))
+    holds_closed = added addition (whole_of ls (with_right closed right)) to
         (λ i h. links_kept ls (with_right z right) (with_right closed right) i (links_from right i) h)
         (links_inner ls (with_right closed right) (a_node l.nodes) (links_here right))
         (shown_joined heap ls (with_right z right) (with_right closed right) (beside_shown right) (still_shown addition whole (λ i h. h) (p.tree.table.shows whole refl)))
 
-    pub local_closed : IsLocal (joined ls (with_right closed right))
+    pub local_closed : IsLocal (whole_of ls (with_right closed right))
     local_closed = local_joined ls (with_right z right) (with_right closed right) (beside_local right (local_inner ls (with_right z right) p.tree.ordered)) (beside_first right)
         (above_closed ls right (above_head ls (with_right z right) p.tree.ordered)) p.tree.ordered
 
-    pub all_built : IsBuilt (joined ls (with_right closed right))
+    pub all_built : IsBuilt (whole_of ls (with_right closed right))
     all_built = built_joined ls (with_right z right) (with_right closed right) (beside_built right) p.tree.built
 
-    pub taken_closed : (n : ℕ) → Links (joined ls (with_right closed right)) (a_node n) → n < l.nodes + 1
+    pub taken_closed : (n : ℕ) → Links (whole_of ls (with_right closed right)) (a_node n) → n < l.nodes + 1
     taken_closed n h = elim (to (a_node n) h) [ inl x ↦ (let low = p.tree.taken n x in omega (arith, low)) | inr e ↦ (let same = node_number e in omega (arith, same)) ]
 
     -- the slots are those of the tree
-    pub slots_closed : (ss : List Slot) → ss ≡ front ++ (slot (position_of ls) (Node l.nodes v.height) ∷ right_slots right) → ss ≡ slots_of 0 (subtrie (joined ls (with_right closed right)))
+    pub slots_closed : (ss : List Slot) → ss ≡ front ++ (slot (position_of ls) (Node l.nodes v.height) ∷ right_slots right) → ss ≡ slots_of 0 (subtrie (whole_of ls (with_right closed right)))
     slots_closed ss e = e ∙ sym (slots_split ls closed right)

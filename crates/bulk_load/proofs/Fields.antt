@@ -10,7 +10,7 @@ use Rattle.record_words.specs.Leaf.{HasLeafWords, leaf_words, up_to_key, words_f
 use Rattle.record_words.proofs.Leaves.{IsLeafOf, leaf_words_parts}
 use Rattle.record_words.proofs.UpToKey.{spells_up_to_key}
 use Rattle.versions.specs.declared.Rec.TheVariants.{Node as a_node, Leaf as a_leaf}
-use Rattle.bulk_load.specs.Tables.{fields_in}
+use Rattle.rowex_core.specs.Cores.{fields_in}
 
 pub node_field : (layout : Layout) (table : List ℕ) (n i : ℕ) → i < NODE_FIELDS → get_or (fields_in layout table (a_node n)) i 0 ≡ get_or table (node_start layout n + (1 + i)) 0
 unfolding fields_in

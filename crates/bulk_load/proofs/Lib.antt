@@ -6,3 +6,7 @@ mod Putting
 mod Closing
 mod Pushing
 mod Joining
+mod Listing
+mod Cursors
+mod Taking
+mod Finishing

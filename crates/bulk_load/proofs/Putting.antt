@@ -14,7 +14,8 @@ use Rattle.versions.specs.Heap.{Heap, IsShown}
 use Rattle.versions.specs.State.{Links, IsLinked}
 use Rattle.rowex_core.specs.Cores.{heap_of, size_of, HasRecord, FitsIn}
 use Rattle.rowex_core.specs.Reading.{IsPacked, node_words_of, leaf_of}
-use Rattle.bulk_load.specs.Tables.{start_of, fields_in, state_in, IsPut, IsBlank, HoldsTree}
+use Rattle.bulk_load.specs.Tables.{start_of, state_in, IsPut, IsRootless, HoldsTree}
+use Rattle.rowex_core.specs.Cores.{fields_in}
 use Rattle.bulk_load.proofs.Fields.{node_field, node_fields_long, node_fields_are, leaf_field, leaf_fields_long}
 
 -- the words of two records stand apart
@@ -37,12 +38,12 @@ word_stays : (layout : Layout) (old new : List ℕ) (r i : Rec) → IsPut layout
 word_stays layout old new r i p h g ne j l =
     p.others (start_of layout i + j) (elim (apart layout r i h g ne) [ inl a ↦ inl (omega (arith, a, l)) | inr a ↦ inr (omega (arith, a)) ])
 
-node_stays : (layout : Layout) (old new : List ℕ) (n : ℕ) → ((j : ℕ) → j < NODE_WORDS → get_or new (node_start layout n + j) 0 ≡ get_or old (node_start layout n + j) 0) →
+pub node_stays : (layout : Layout) (old new : List ℕ) (n : ℕ) → ((j : ℕ) → j < NODE_WORDS → get_or new (node_start layout n + j) 0 ≡ get_or old (node_start layout n + j) 0) →
     fields_in layout new (a_node n) ≡ fields_in layout old (a_node n)
 node_stays layout old new n each = node_fields_are layout new n (fields_in layout old (a_node n)) (node_fields_long layout old n)
     (λ i h. let l : i < NODE_FIELDS = omega (arith, h, node_fields_long layout old n) in each (1 + i) (omega (arith, l)) ∙ sym (node_field layout old n i l))
 
-leaf_stays : (layout : Layout) (old new : List ℕ) (n : ℕ) → ((j : ℕ) → j < leaf_size layout n → get_or new (leaf_start layout n + j) 0 ≡ get_or old (leaf_start layout n + j) 0) →
+pub leaf_stays : (layout : Layout) (old new : List ℕ) (n : ℕ) → ((j : ℕ) → j < leaf_size layout n → get_or new (leaf_start layout n + j) 0 ≡ get_or old (leaf_start layout n + j) 0) →
     fields_in layout new (a_leaf n) ≡ fields_in layout old (a_leaf n)
 leaf_stays layout old new n each =
     ext_get_or 0 (fields_in layout new (a_leaf n)) (fields_in layout old (a_leaf n)) (leaf_fields_long layout new n ∙ sym (leaf_fields_long layout old n))
@@ -73,7 +74,7 @@ behind_pins : (layout : Layout) (r : Rec) → FIRST_PIN + LINE_WORDS * layout.pa
 behind_pins layout (a_node n) = omega arith
 behind_pins layout (a_leaf n) = omega arith
 
-blank_stays : (layout : Layout) (old new : List ℕ) (r : Rec) → IsPut layout old new r → IsBlank layout old → IsBlank layout new
+blank_stays : (layout : Layout) (old new : List ℕ) (r : Rec) → IsPut layout old new r → IsRootless layout old → IsRootless layout new
 blank_stays layout old new r p b =
     let h = behind_pins layout r in
     record {
@@ -85,7 +86,7 @@ blank_stays layout old new r p b =
     }
 
 -- a tree is shown by words of which its own are the same
-shown_by : (m o : Heap) (t : Tree) → ((n : ℕ) → Links t (a_node n) → o.nodes n ≡ m.nodes n) → ((n : ℕ) → Links t (a_leaf n) → o.leaves n ≡ m.leaves n) → IsShown m t → IsShown o t
+pub shown_by : (m o : Heap) (t : Tree) → ((n : ℕ) → Links t (a_node n) → o.nodes n ≡ m.nodes n) → ((n : ℕ) → Links t (a_leaf n) → o.leaves n ≡ m.leaves n) → IsShown m t → IsShown o t
 shown_by m o (leaf n k v) f g s = g n refl ∙ s
 shown_by m o (node n x b) f g s = (f n (inl refl) ∙ s.0, shown_by m o b (λ i h. f i (inr h)) (λ i h. g i (inr h)) s.1)
 shown_by m o (fork p a b) f g s = (shown_by m o a (λ i h. f i (inl h)) (λ i h. g i (inl h)) s.0, shown_by m o b (λ i h. f i (inr h)) (λ i h. g i (inr h)) s.1)

@@ -6,10 +6,10 @@
 //! other, it is closed: a node is built of its entries, written into a record, and the node's entry takes their place.
 #![tactic(auto)]
 
+mod builder;
 mod loader;
 mod records;
 mod slots;
-#[cfg(test)]
-mod tests;
 
-pub use loader::{LoadFault, Loader};
+pub use builder::LoadFault;
+pub use loader::Loader;

@@ -1,7 +1,8 @@
 //! Records written into the words of a table that nobody shares yet.
 
 ghost use Rattle.std.specs.Prelude.{ℕ, ◌≡◌, ◌⊎◌, ◌+◌, ◌<◌, ◌≤◌, ◌^◌, get_or, length};
-ghost use Rattle.bulk_load.specs.Tables.{IsPut, fields_in};
+ghost use Rattle.bulk_load.specs.Tables.{IsPut};
+ghost use Rattle.rowex_core.specs.Cores.{fields_in};
 ghost use Rattle.record_words.specs.Layout.{leaf_size, word_count};
 ghost use Rattle.record_words.specs.Leaf.{HasLeafWords, leaf_words, up_to_key, words_for};
 ghost use Rattle.record_words.specs.Node.{HasNodeWords, node_words};

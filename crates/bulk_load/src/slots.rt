@@ -1,7 +1,7 @@
 //! Entries with the forks between them, and the node of such a list.
 
 ghost use Rattle.std.specs.Prelude.{ℕ, ◌≡◌, ◌≤◌, ◌<◌, ◌+◌, All, length, get_or};
-ghost use Rattle.std.specs.Vec.{vec_len};
+ghost use Rattle.std.specs.Vec.{vec_capacity, vec_len};
 ghost use Rattle.bulk_load.specs.Slots.{AreSlotsOf, IsSlot, slot};
 ghost use Rattle.compound_node.specs.Nodes.{IsBuiltFrom};
 ghost use Rattle.compound_node.specs.declared.entries.Entry.{Entry as EntryView};
@@ -37,6 +37,7 @@ pub(crate) fn build_node(slots: &[Slot]) -> Node
 pub(crate) fn merge_slots(slots: &mut Vec<Slot>, start: usize, count: usize, entry: Entry)
     requires { (1 ≤ count) × (start + count ≤ vec_len slots.old) }
     ensures len { vec_len slots.new + count ≡ vec_len slots.old + 1 }
+    ensures capacity { vec_capacity slots.new ≡ vec_capacity slots.old }
     ensures before { (i : ℕ) (d : SlotView) → i < start → get_or slots.new.items i d ≡ get_or slots.old.items i d }
     ensures here { (d : SlotView) → get_or slots.new.items start d ≡ slot (get_or slots.old.items start d).fork entry }
     ensures behind { (i : ℕ) (d : SlotView) → get_or slots.new.items (start + 1 + i) d ≡ get_or slots.old.items (start + count + i) d }

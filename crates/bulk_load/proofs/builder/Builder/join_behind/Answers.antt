@@ -1,10 +1,8 @@
 -- The fork before the piece at the top is behind the position.
 use Rattle.std.proofs.Common.{◌≡◌, ℕ, ◌+◌, ◌-◌, ◌<◌, inr, length, subst, ◌∙◌, arith}
-use Rattle.record_words.specs.declared.layout.Layout.{Layout}
-use Rattle.versions.specs.declared.Rec.TheVariants.{Leaf as a_leaf}
-use Rattle.bulk_load.specs.Tables.{state_in}
 use Rattle.bulk_load.proofs.Joining.{stack_of, top_within, parting_alone, parting_low, next_ready}
-use Rattle.bulk_load.proofs.loader.Loader.join_behind.Goals as goal
+use Rattle.bulk_load.proofs.Taking.{nodes_more, nodes_stay}
+use Rattle.bulk_load.proofs.builder.Builder.join_behind.Goals as goal
 
 pub overflow_sub-len-in-joins : goal.overflow_sub-len-in-joins
 overflow_sub-len-in-joins c =
@@ -42,14 +40,13 @@ joins-preserved c = record {
       let last : c.len-in-joins.result - 1 + 1 ≡ length l.parts.items = omega (arith, l.parts.ok.0, c.len.ensures, c.len-in-joins.ensures, c.joins-test.true) in
       let within = top_within l xs r.stack (c.len-in-joins.result - 1) c.index.result.now last c.index.ensures in
       inr (next_ready l c.join_last.new.self xs c.args.position (c.len-in-joins.result - 1) c.index.result.now (c.len-in-joins-2.result - c.index.result.now.count) c.index-in-joins.result.now
-      last c.index.ensures (omega (arith, within.1, l.slots.ok.0, c.len-in-joins-2.ensures)) c.index-in-joins.ensures c.if-index-position.false c.join_last.ensures.last r
-      (c.in_ok-join_last.ensures.joined xs r.stack));
-  same_layout = c.join_last.ensures.layout ∙ c.joins.invariant.same_layout;
-  same_last = c.join_last.ensures.last ∙ c.joins.invariant.same_last;
-  leaves = λ n h.
-      subst (λ (y : Layout). (n : ℕ) → n < y.leaves → state_in y c.join_last.new.self.words.items (a_leaf n) ≡ state_in y c.joins.self.words.items (a_leaf n))
-      c.joins.invariant.same_layout c.join_last.ensures.leaves n h ∙ c.joins.invariant.leaves n h;
+      last c.index.ensures (omega (arith, within.1, l.slots.ok.0, c.len-in-joins-2.ensures)) c.index-in-joins.ensures c.if-index-position.false c.join_last.ensures.kept.leaves.last r
+      (c.join_last.ensures.joined xs r.stack));
+  kept = nodes_more c.args.self.now c.joins.self c.join_last.new.self c.joins.invariant.kept c.join_last.ensures.kept;
 }
+
+pub joins-init : goal.joins-init
+joins-init c = record { can_join = λ xs can. can; kept = nodes_stay c.args.self.now }
 
 pub returns-clause-behind : goal.returns-clause-behind
 returns-clause-behind c = λ xs can.

@@ -8,19 +8,20 @@ use Rattle.tries.specs.Tree.{Tree, subtrie}
 use Rattle.versions.specs.declared.Rec.TheVariants.{Node as a_node}
 use Rattle.bulk_load.specs.Loading.{IsPiece}
 use Rattle.bulk_load.specs.Slots.{slot}
-use Rattle.bulk_load.specs.Stacks.{Level, joined, position_of, front_slots, with_right}
-use Rattle.bulk_load.specs.Tables.{IsPut, fields_in, state_in}
+use Rattle.bulk_load.specs.Stacks.{LeftPiece, whole_of, position_of, front_slots, with_right}
+use Rattle.bulk_load.specs.Tables.{IsPut, state_in}
+use Rattle.rowex_core.specs.Cores.{fields_in}
 use Rattle.compound_node.specs.declared.entries.Entry.TheVariants.{Leaf}
 use Rattle.bulk_load.specs.Tables.{HoldsTree}
 use Rattle.bulk_load.proofs.Closing.{fits, taken_part, slots_given, each_given, merged, closed, holds_closed, local_closed, all_built, taken_closed, slots_closed}
 use Rattle.bulk_load.proofs.Putting.{state_stays}
 use Rattle.versions.specs.declared.Rec.TheVariants.{Leaf as a_leaf}
 use Rattle.versions.proofs.Heaps.{node_leaf}
-use Rattle.bulk_load.proofs.loader.Loader.close_piece.Goals as goal
-use Rattle.bulk_load.proofs.loader.Loader.close_piece.Goals.{After-deref}
+use Rattle.bulk_load.proofs.builder.Builder.close_piece.Goals as goal
+use Rattle.bulk_load.proofs.builder.Builder.close_piece.Goals.{After-deref}
 
 -- where the piece begins
-starts : (c : After-deref) (ls : List Level) (z : Tree) (right : Option Level) → IsPiece c.args.self.now ls z right c.args.count c.args.behind →
+starts : (c : After-deref) (ls : List LeftPiece) (z : Tree) (right : Option LeftPiece) → IsPiece c.args.self.now ls z right c.args.count c.args.behind →
     c.len.result - c.args.behind - c.args.count ≡ length (front_slots ls)
 starts c ls z right p = omega (arith, fits c.args.self.now ls z right c.args.count c.args.behind p, c.len.ensures, c.args.self.now.slots.ok.0)
 
@@ -57,7 +58,7 @@ returns-clause-closed c = λ ls z right p.
       closed l ls z right c.args.count c.args.behind p v new built c.put_node.ensures.fits put c.put_node.ensures.fields c.put_node.ensures.small few.2,
       record { count_is = refl; same_items = refl; same_first = refl; same_last = refl; above = λ q h. h },
       record {
-        table = subst (λ ws. HoldsTree l.layout ws (Some (joined ls (with_right (closed l ls z right c.args.count c.args.behind p v new built c.put_node.ensures.fits put c.put_node.ensures.fields c.put_node.ensures.small few.2) right))))
+        table = subst (λ ws. HoldsTree l.layout ws (Some (whole_of ls (with_right (closed l ls z right c.args.count c.args.behind p v new built c.put_node.ensures.fits put c.put_node.ensures.fields c.put_node.ensures.small few.2) right))))
             (sym (with_items_is l.words new (search (rules, places)))) (holds_closed l ls z right c.args.count c.args.behind p v new built c.put_node.ensures.fits put c.put_node.ensures.fields c.put_node.ensures.small few.2);
         ordered = local_closed l ls z right c.args.count c.args.behind p v new built c.put_node.ensures.fits put c.put_node.ensures.fields c.put_node.ensures.small few.2;
         built = all_built l ls z right c.args.count c.args.behind p v new built c.put_node.ensures.fits put c.put_node.ensures.fields c.put_node.ensures.small few.2;
@@ -66,10 +67,16 @@ returns-clause-closed c = λ ls z right p.
       },
     )
 
-pub returns-clause-leaves : goal.returns-clause-leaves
-returns-clause-leaves c = λ n h.
+pub returns-clause-kept : goal.returns-clause-kept
+returns-clause-kept c =
     let l = c.args.self.now in let new = c.put_node.new.words in
     let put : IsPut l.layout l.words.items new (a_node l.nodes) = subst (λ old. IsPut l.layout old new (a_node l.nodes)) c.as_mut_slice.ensures.value c.put_node.ensures.put in
-    let few = c.requires.room (search rules) in
-    ap (λ ws. state_in l.layout ws (a_leaf n)) (with_items_is l.words new (search (rules, places))) ∙
-    state_stays l.layout l.words.items new (a_node l.nodes) (a_leaf n) put few.2 h (λ e. node_leaf (sym e))
+    let few = c.requires.room (search rules) in record {
+      layout = refl;
+      last = refl;
+      cursors = refl;
+      states = λ n h.
+          ap (λ ws. state_in l.layout ws (a_leaf n)) (with_items_is l.words new (search (rules, places))) ∙
+          state_stays l.layout l.words.items new (a_node l.nodes) (a_leaf n) put few.2 h (λ e. node_leaf (sym e));
+      space = λ s. let two = few.0 in let less = s.0 in (omega (arith, less, two, c.merge_slots.ensures.len, c.merge_slots.ensures.capacity), s.1);
+    }

@@ -3,26 +3,26 @@ use Rattle.std.proofs.Common.{◌≡◌, ◌⊎◌, inl, inr, ℕ, ◌+◌, ◌�
 use Rattle.std.proofs.lemmas.List.{with_items_is, places, map-append}
 use Rattle.std.proofs.lemmas.List.Elements.{All-push, All-from_recursion}
 use Rattle.compound_node.specs.declared.entries.Entry.TheVariants.{Leaf}
+use Rattle.tries.specs.Content.{item}
 use Rattle.tries.specs.Keys.{Key, IsParted}
 use Rattle.tries.specs.Tree.{leaf, fork}
 use Rattle.versions.specs.declared.Rec.TheVariants.{Leaf as a_leaf}
-use Rattle.bulk_load.specs.declared.loader.Part.{Part}
-use Rattle.bulk_load.specs.Loading.{IsEmpty, IsStack, IsStackBehind, last_key}
+use Rattle.bulk_load.specs.declared.builder.Part.{Part}
+use Rattle.bulk_load.specs.Loading.{IsEmpty, IsStackOf, IsStackBehind, greatest_key}
 use Rattle.bulk_load.specs.Slots.{slot}
-use Rattle.bulk_load.specs.Stacks.{level, joined}
+use Rattle.bulk_load.specs.Stacks.{left_piece, whole_of}
 use Rattle.bulk_load.specs.Tables.{IsPut, HoldsTree}
 use Rattle.bulk_load.proofs.Stacking.{last_joined}
 use Rattle.bulk_load.proofs.Pushing.{local_grown, built_grown, holds_grown, taken_grown, slots_grown, content_grown, holds_first, no_node}
-use Rattle.bulk_load.proofs.loader.Loader.add_leaf.Goals as goal
+use Rattle.bulk_load.proofs.builder.Builder.add_leaf.Goals as goal
 
-pub returns : goal.returns
-returns c = record {
-  taken = λ xs m.
+pub returns-clause-taken : goal.returns-clause-taken
+returns-clause-taken c = λ xs nodes m.
       let l = c.args.self.now in let n = c.args.leaf in let k = c.args.key.now in let v = c.args.value in let p = c.args.fork in let new = c.put_leaf.new.words in
       let put : IsPut l.layout l.words.items new (a_leaf n) = subst (λ old. IsPut l.layout old new (a_leaf n)) c.as_mut_slice.ensures.value c.put_leaf.ensures.put in
       let items = sym (with_items_is l.words new (search (rules, places))) in
       elim m [
-        | inl e ↦ record {
+        | inl e ↦ (let stack : IsStackOf _ (xs ++ item n k v ∷ []) = record {
           levels = [];
           top = leaf n k v;
           tree = record {
@@ -37,17 +37,18 @@ returns c = record {
             counts_are = ap (map (λ (part : Part). part.count)) (c.push_reserved-2.ensures.items ∙ ap (λ ps. ps ++ record { count = 1; height = 0 } ∷ []) e.0.no_parts);
             few = All-from_recursion (λ n. n ≤ 32) (1 ∷ []) (omega arith, tt);
           };
-          content = ap (λ ys. ys ++ (k, v) ∷ []) (sym e.0.none);
+          content = ap (λ ys. ys ++ item n k v ∷ []) (sym e.0.none);
           last = c.copy-self.ensures.same;
-          kept = inl e.0.no_nodes;
-        }
+          room = ?;
+          few = ?;
+        } in record { stack = stack; alone = λ q. tt })
         | inr s ↦ (let ls = s.0.stack.levels in let top = s.0.stack.top in let t = s.0.stack.tree in
-            let parted : IsParted p (last_key top) k = subst (λ key. IsParted p key k) (s.0.stack.last ∙ last_joined ls top) s.1 in
-            record {
-              levels = level top p ∷ ls;
+            let parted : IsParted p (greatest_key top) k = subst (λ key. IsParted p key k) (s.0.stack.last ∙ last_joined ls top) s.1 in
+            let stack : IsStackOf _ (xs ++ item n k v ∷ []) = record {
+              levels = left_piece top p ∷ ls;
               top = leaf n k v;
               tree = record {
-                table = subst (λ ws. HoldsTree l.layout ws (Some (joined ls (fork p top (leaf n k v))))) items
+                table = subst (λ ws. HoldsTree l.layout ws (Some (whole_of ls (fork p top (leaf n k v))))) items
                     (holds_grown l ls top p n v k new t s.0.above s.0.low parted c.put_leaf.ensures.fits c.requires.leaf c.requires.free c.requires.room put c.put_leaf.ensures.fields);
                 ordered = local_grown l ls top p n v k new t s.0.above s.0.low parted c.put_leaf.ensures.fits c.requires.leaf c.requires.free c.requires.room put c.put_leaf.ensures.fields;
                 built = built_grown l ls top p n v k new t s.0.above s.0.low parted c.put_leaf.ensures.fits c.requires.leaf c.requires.free c.requires.room put c.put_leaf.ensures.fields;
@@ -61,9 +62,12 @@ returns c = record {
                 few = All-push (λ n. n ≤ 32) _ 1 s.0.stack.parts.few (omega arith);
               };
               content = content_grown l ls top p n v k new t s.0.above s.0.low parted c.put_leaf.ensures.fits c.requires.leaf c.requires.free c.requires.room put c.put_leaf.ensures.fields ∙
-                  ap (λ ys. ys ++ (k, v) ∷ []) s.0.stack.content;
+                  ap (λ ys. ys ++ item n k v ∷ []) s.0.stack.content;
               last = c.copy-self.ensures.same ∙ sym (last_joined ls (fork p top (leaf n k v)));
-              kept = s.0.stack.kept;
-            })
-      ];
-}
+              room = ?;
+              few = ?;
+            } in record { stack = stack; alone = λ q. tt })
+      ]
+
+pub returns-clause-cursors : goal.returns-clause-cursors
+returns-clause-cursors c = ?
