@@ -2,14 +2,16 @@
 use Rattle.std.proofs.Common.{◌≡◌, ◌≢◌, ◌⊎◌, inl, inr, ℕ, zero, suc, ◌+◌, ◌*◌, ◌^◌, ◌<◌, ◌≤◌, Bool, true, false, nat_lt, if◌then◌else◌, List, [], ◌∷◌, ◌++◌, Option, Some, None, get_or, length, refl, ap, sym, subst, ◌∙◌, arith}
 use Rattle.std.specs.Prelude.{All}
 use Rattle.std.proofs.Math.ListN.{set}
-use Rattle.std.proofs.lemmas.Bool.{lt-ltb}
+use Rattle.std.proofs.lemmas.Bool.{cases_lt, le-ltb, lt-ltb}
 use Rattle.std.proofs.lemmas.List.{get_or-set_same, get_or-set_other, length-set}
 use Rattle.std.proofs.lemmas.Option.{none-some}
+use Rattle.std.proofs.lemmas.List.Elements.{All-from_get_or}
 use Rattle.tries.proofs.Contents.{trie_if_local}
 use Rattle.tries.proofs.Reading.{some_injective}
 use Rattle.bulk_load.specs.declared.builder.Builder.{Builder}
 use Rattle.bulk_load.specs.declared.slots.Slot.{Slot}
-use Rattle.bulk_load.specs.Loading.{IsEmpty, IsTreeOf}
+use Rattle.bulk_load.specs.Loading.{IsPiece, IsTreeOf}
+use Rattle.bulk_load.proofs.Stacking.{length_slots}
 use Rattle.bulk_load.specs.Slots.{slot, slots_of}
 use Rattle.compound_node.specs.declared.entries.Entry.{Entry}
 use Rattle.compound_node.specs.declared.entries.Entry.TheVariants.{Leaf, Node}
@@ -124,11 +126,14 @@ module _ (layout : Layout) (old new : List ℕ) (t : Option Tree) (e : Option En
   word_shown Root i = root ∙ sym (ap entry_word root_is)
   word_shown Anchor i = others ANCHOR_WORD (inr (omega arith)) ∙ h.blank.anchor
   word_shown (PinOf q) i = others (FIRST_PIN + LINE_WORDS * q) (inr (omega arith)) ∙ h.blank.pins q i
-  word_shown (NodeWord n zero) i = state_shown (a_node n) i.0
-  word_shown (NodeWord n (suc j)) i = sym (node_field layout new n j (omega (arith, i.1)))
-  word_shown (LeafWord n zero) i = state_shown (a_leaf n) i.0
+  word_shown (NodeWord n zero) i = ap (λ k. get_or new k 0) (let z : node_start layout n + 0 ≡ node_start layout n = omega arith in z) ∙ state_shown (a_node n) i.0
+  word_shown (NodeWord n (suc j)) i =
+      ap (λ k. get_or new k 0) (let z : node_start layout n + suc j ≡ node_start layout n + (1 + j) = omega arith in z) ∙ sym (node_field layout new n j (let low = i.1 in omega (arith, low)))
+  word_shown (LeafWord n zero) i = ap (λ k. get_or new k 0) (let z : leaf_start layout n + 0 ≡ leaf_start layout n = omega arith in z) ∙ state_shown (a_leaf n) i.0
   word_shown (LeafWord n (suc j)) i =
-      sym (leaf_field layout new n j (omega (arith, i.1, size_fits layout n)) ∙ ap (λ b. if b then get_or new (leaf_start layout n + (1 + j)) 0 else 0) (lt-ltb (1 + j) (leaf_size layout n) i.1))
+      ap (λ k. get_or new k 0) (let z : leaf_start layout n + suc j ≡ leaf_start layout n + (1 + j) = omega arith in z) ∙
+      sym (leaf_field layout new n j (let low = i.1 in let fits = size_fits layout n in omega (arith, low, fits.1)) ∙
+      ap (λ b. if b then get_or new (leaf_start layout n + (1 + j)) 0 else 0) (lt-ltb (1 + j) (leaf_size layout n) (let low = i.1 in omega (arith, low))))
 
   pub finished : (xs : List Item) → items_of t ≡ xs → IsFinished layout new xs
   finished xs content = record {
@@ -138,27 +143,43 @@ module _ (layout : Layout) (old new : List ℕ) (t : Option Tree) (e : Option En
   }
 
 -- ---- the root's entry
-root_slot : (l : Builder) (y : Tree) → IsTreeOf l y → size (subtrie y) ≡ 1 → (s : Slot) → s ≡ get_or l.slots.items 0 s → subtrie y ≡ Place s.entry
+pub root_slot : (l : Builder) (y : Tree) → IsTreeOf l y → size (subtrie y) ≡ 1 → (s : Slot) → s ≡ get_or l.slots.items 0 s → subtrie y ≡ Place s.entry
 root_slot l y t one s is =
     let (e, at) = one_entry y one in let same : s ≡ slot 0 e = is ∙ ap (λ ss. get_or ss 0 s) (t.slots_are ∙ ap (slots_of 0) at) in
     at ∙ ap (λ (z : Slot). Place z.entry) (sym same)
 
-module _ (l : Builder) (y : Tree) (t : IsTreeOf l y) (one : size (subtrie y) ≡ 1) (s : Slot) (is : s ≡ get_or l.slots.items 0 s) where
-  pub root_fits : HasEntryWord (Some s.entry)
-  root_fits = has_entry_word l.layout l.words.items y s.entry t.table t.built (root_slot l y t one s is)
+-- the words with the root's entry
+written : (layout : Layout) (old new : List ℕ) (t : Option Tree) (e : Option Entry) → HoldsTree layout old t → IsTop (heap_of (fields_in layout old)) e t →
+    ((u : Tree) → t ≡ Some u → IsTrie u × IsBuilt u) → HasEntryWord e → new ≡ set old ROOT_WORD (entry_word e) → ((i : ℕ) → get_or new i 0 < 2 ^ 64) →
+    (xs : List Item) → items_of t ≡ xs → IsFinished layout new xs
+written layout old new t e h top lawful entry is small xs content =
+    let inside : ROOT_WORD < length old = omega (arith, h.blank.size) in
+    finished layout old new t e h top lawful entry (All-from_get_or (λ w. w < 2 ^ 64) new 0 (λ i low. small i))
+    (ap length is ∙ length-set old ROOT_WORD (entry_word e))
+    (ap (λ ws. get_or ws ROOT_WORD 0) is ∙ get_or-set_same old ROOT_WORD (entry_word e) 0 inside)
+    (λ k o. ap (λ ws. get_or ws k 0) is ∙ get_or-set_other old ROOT_WORD k (entry_word e) 0 (λ same. elim o [ inl a ↦ omega (arith, a, same) | inr b ↦ omega (arith, b, same) ]))
+    xs content
 
-  pub root_written : (new xs : List ℕ) (us : List Item) → xs ≡ l.words.items → new ≡ set xs ROOT_WORD (entry_word (Some s.entry)) → All (λ w. w < 2 ^ 64) new → items y ≡ us →
-      IsFinished l.layout new us
-  root_written new xs us same put small content =
-      let written : new ≡ set l.words.items ROOT_WORD (entry_word (Some s.entry)) = put ∙ ap (λ ws. set ws ROOT_WORD (entry_word (Some s.entry))) same in
-      let inside : ROOT_WORD < length l.words.items = omega (arith, t.table.blank.size) in
-      finished l.layout l.words.items new (Some y) (Some s.entry) t.table (root_slot l y t one s is, t.table.shows y refl)
-      (λ u e. subst (λ v. IsTrie v × IsBuilt v) (some_injective e) (trie_if_local y t.ordered, t.built)) root_fits small
-      (ap length written ∙ length-set l.words.items ROOT_WORD (entry_word (Some s.entry)))
-      (ap (λ ws. get_or ws ROOT_WORD 0) written ∙ get_or-set_same l.words.items ROOT_WORD (entry_word (Some s.entry)) 0 inside)
-      (λ k o. ap (λ ws. get_or ws k 0) written ∙ get_or-set_other l.words.items ROOT_WORD k (entry_word (Some s.entry)) 0
-      (λ e. elim o [ inl a ↦ omega (arith, a, e) | inr b ↦ omega (arith, b, e) ])) us content
+pub tree_written : (layout : Layout) (old new : List ℕ) (y : Tree) (e : Entry) → HoldsTree layout old (Some y) → IsLocal y → IsBuilt y → subtrie y ≡ Place e → HasEntryWord (Some e) →
+    new ≡ set old ROOT_WORD (entry_word (Some e)) → ((i : ℕ) → get_or new i 0 < 2 ^ 64) → (xs : List Item) → items y ≡ xs → IsFinished layout new xs
+tree_written layout old new y e h ordered built at entry is small xs content = written layout old new (Some y) (Some e) h (at, h.shows y refl)
+    (λ u i. subst (λ v. IsTrie v × IsBuilt v) (some_injective i) (trie_if_local y ordered, built)) entry is small xs content
 
--- ---- no leaf
-pub nothing_written : (l : Builder) (xs : List Item) → IsEmpty l xs → All (λ w. w < 2 ^ 64) l.words.items → IsFinished l.layout l.words.items xs
-nothing_written l xs e small = finished l.layout l.words.items l.words.items None None e.table tt (λ u i. absurd (none-some u i)) tt small refl e.table.blank.root (λ k o. refl) xs (sym e.none)
+pub nothing_written : (layout : Layout) (old new : List ℕ) → HoldsTree layout old None → new ≡ set old ROOT_WORD (entry_word None) → ((i : ℕ) → get_or new i 0 < 2 ^ 64) →
+    (xs : List Item) → xs ≡ [] → IsFinished layout new xs
+nothing_written layout old new h is small xs none = written layout old new None None h tt (λ u i. absurd (none-some u i)) tt is small xs (sym none)
+
+-- ---- the one piece
+pub slots_count : (l : Builder) (t : Tree) → IsTreeOf l t → length l.slots.items ≡ size (subtrie t)
+slots_count l t h = ap length h.slots_are ∙ length_slots 0 (subtrie t)
+
+pub lone_piece : (l : Builder) (t : Tree) → IsTreeOf l t → (count : ℕ) → count ≡ length l.slots.items → IsPiece l [] t None count 0
+lone_piece l t h count e = record { tree = h; count_is = e ∙ slots_count l t h; behind_is = refl }
+
+-- how many slots it has, once it is closed
+pub closed_count : (n result : ℕ) → 1 ≤ n → result ≡ (if nat_lt 1 n then 1 else n) → result ≡ 1
+closed_count n result some e = go (cases_lt 1 n)
+  where
+    go : (1 < n) ⊎ (n ≤ 1) → result ≡ 1
+    go (inl h) = e ∙ ap (λ b. if b then 1 else n) (lt-ltb 1 n h)
+    go (inr h) = e ∙ (ap (λ b. if b then 1 else n) (le-ltb 1 n h) ∙ (let one : n ≡ 1 = omega (arith, h, some) in one))

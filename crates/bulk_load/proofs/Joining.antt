@@ -1,5 +1,5 @@
 -- The last two pieces become one.
-use Rattle.std.proofs.Common.{append_assoc, zero, suc, ◌≡◌, ◌⊎◌, inl, inr, ℕ, ◌+◌, ◌-◌, ◌<◌, ◌≤◌, List, [], ◌∷◌, ◌++◌, Bool, true, false, IsTrue, if◌then◌else◌, Option, Some, None, get_or, length, map, take, slice_set, refl, ap, sym, subst, ◌∙◌, arith}
+use Rattle.std.proofs.Common.{append_assoc, zero, suc, ◌≡◌, ◌⊎◌, inl, inr, ℕ, ◌+◌, ◌-◌, ◌*◌, ◌<◌, ◌≤◌, List, [], ◌∷◌, ◌++◌, Bool, true, false, IsTrue, if◌then◌else◌, Option, Some, None, get_or, length, map, take, slice_set, refl, ap, sym, subst, ◌∙◌, arith}
 use Rattle.std.specs.Prelude.{All}
 use Rattle.std.proofs.lemmas.List.{get_or-append_right, get_or-map, length-append, length-map, map-set, set-append_right, take_at}
 use Rattle.std.proofs.lemmas.List.Elements.{All-get_or, All-head, All-push, All-take}
@@ -124,7 +124,7 @@ pub record IsClosed (n slots m left count : ℕ) : Type 0 where
   pub grows : n ≤ m
 
 pub closed_one : (n slots m left count result : ℕ) (b : Bool) → (IsTrue b → 2 ≤ count) → m ≡ n + one_if b → result ≡ left_of b count → left + count ≡ slots + result → IsClosed n slots m left count
-closed_one n slots m left count result true two a e l = let h = two tt in record { few = omega (arith, a); spared = omega (arith, a, e, l, h); grows = omega (arith, a) }
+closed_one n slots m left count result true two a e l = let h = two refl in record { few = omega (arith, a); spared = omega (arith, a, e, l, h); grows = omega (arith, a) }
 closed_one n slots m left count result false two a e l = record { few = omega (arith, a); spared = omega (arith, a, e, l); grows = omega (arith, a) }
 
 -- a node is left for the first piece, and for the second one

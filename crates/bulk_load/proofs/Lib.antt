@@ -10,3 +10,4 @@ mod Listing
 mod Cursors
 mod Taking
 mod Finishing
+mod Opening

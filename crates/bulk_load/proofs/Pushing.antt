@@ -1,5 +1,5 @@
 -- A new leaf behind the last one.
-use Rattle.std.proofs.Common.{◌≡◌, ◌⊎◌, inl, inr, ℕ, ◌+◌, ◌^◌, ◌<◌, ◌≤◌, List, [], ◌∷◌, ◌++◌, Bool, true, false, Some, None, get_or, length, map, refl, ap, sym, subst, ◌∙◌, arith}
+use Rattle.std.proofs.Common.{◌≡◌, ◌⊎◌, inl, inr, ℕ, ◌+◌, ◌*◌, ◌^◌, ◌<◌, ◌≤◌, List, [], ◌∷◌, ◌++◌, Bool, true, false, Some, None, get_or, length, map, refl, ap, sym, subst, ◌∙◌, arith}
 use Rattle.std.specs.Prelude.{All}
 use Rattle.std.proofs.lemmas.List.{append_assoc}
 use Rattle.key_bits.specs.Bits.{bit_of, IsFirstDifference}
@@ -132,3 +132,9 @@ parted_by p a b d h = (d.agree, go (bit_of a p) refl, h)
     go : (v : Bool) → bit_of a p ≡ v → bit_of a p ≡ false
     go true e = absurd (d.differ (e ∙ sym h))
     go false e = e
+
+-- nodes are left for one leaf less, once that is taken
+pub nodes_grown : (n max parts slots parts_then slots_then : ℕ) → parts_then ≡ parts + 1 → slots_then ≡ slots + 1 → (n + 2 * (parts + 1) ≤ max) ⊎ (n + slots + 1 ≤ max) →
+    (n + 2 * (parts_then + 0) ≤ max) ⊎ (n + slots_then + 0 ≤ max)
+nodes_grown n max parts slots parts_then slots_then p s (inl h) = inl (omega (arith, p, h))
+nodes_grown n max parts slots parts_then slots_then p s (inr h) = inr (omega (arith, s, h))

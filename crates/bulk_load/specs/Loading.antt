@@ -4,6 +4,7 @@ use Rattle.node_tries.specs.Piece.{size}
 use Rattle.record_words.specs.declared.layout.Layout.{Layout}
 use Rattle.std.specs.Vec.{vec_len, vec_capacity}
 use Rattle.record_words.specs.declared.state.Tag.TheVariants.{Free}
+use Rattle.record_words.specs.declared.TheConstants.{LEAF_CLASSES}
 use Rattle.record_words.specs.Layout.{leaf_size}
 use Rattle.record_words.specs.Leaf.{words_for}
 use Rattle.record_words.specs.State.{state_word}
@@ -96,7 +97,7 @@ pub record EndsInLeaf (l : Builder) (xs : List Item) : Type 0 where
 
 -- each class of leaf records has its cursor
 abbrev pub HasCursors : Builder → Type 0
-HasCursors l = AreCursors l.layout l.words.items l.leaves
+HasCursors l = (length l.leaves ≡ LEAF_CLASSES) × AreCursors l.layout l.words.items l.leaves
 
 -- these leaves were taken
 abbrev pub IsLoading : Builder → List Item → Type 0

@@ -5,7 +5,7 @@ ghost use Rattle.finite_map.specs.Maps.{key_order};
 ghost use Rattle.record_words.specs.declared.state.Tag.TheVariants.{Free as FreeTag};
 ghost use Rattle.record_words.specs.declared.TheConstants.{LEAF_CLASSES};
 ghost use Rattle.record_words.specs.State.{state_word};
-ghost use Rattle.std.specs.Prelude.{ℕ, ◌≡◌, ◌≢◌, ◌↔◌, ◌+◌, ◌≤◌, ◌<◌, ◌++◌, ◌∷◌, [], if◌then◌else◌, get_or, Err, IfOk, IfSome, IsNone, IsTrue, List, OnOk, OnErr, Option as Maybe, length};
+ghost use Rattle.std.specs.Prelude.{ℕ, ◌≡◌, ◌≢◌, ◌↔◌, ◌+◌, ◌≤◌, ◌<◌, ◌++◌, ◌∷◌, [], if◌then◌else◌, get_or, Err, IfOk, IfSome, IsNone, IsTrue, List, OnOk, OnErr, Option as Maybe, Some, length};
 ghost use Rattle.std.specs.Vec.{vec_len, vec_capacity};
 ghost use Rattle.bulk_load.specs.Finished.{IsFinished};
 ghost use Rattle.bulk_load.specs.Loading.{CanJoin, CanPart, HasCursors, HasNodesFor, HasSameFields, HasSpace, EndsInLeaf, IsAlone, IsJoined, IsLoading, IsPiece, IsSeat, IsStackOf, IsTreeOf, KeepsLeaves, KeepsNodes, MayTakeNext, StandsFor};
@@ -14,18 +14,19 @@ ghost use Rattle.bulk_load.specs.Tables.{IsRootless, leaf_class, state_in};
 ghost use Rattle.bulk_load.specs.Views.{IsAboveLast, IsTakenLeaf};
 ghost use Rattle.record_words.specs.Layout.{leaf_size, word_count};
 ghost use Rattle.record_words.specs.Leaf.{words_for};
-ghost use Rattle.tries.specs.Content.{Item, item};
+ghost use Rattle.node_tries.specs.Piece.{Place};
+ghost use Rattle.record_words.specs.Entry.{HasEntryWord};
+ghost use Rattle.tries.specs.Content.{Item, item, items};
 ghost use Rattle.tries.specs.Keys.{IsParted};
-ghost use Rattle.tries.specs.Tree.{Tree};
+ghost use Rattle.tries.specs.Tree.{Tree, subtrie};
 ghost use Rattle.versions.specs.declared.Rec.TheVariants.{Leaf as a_leaf};
 
-use crate::records::{put_leaf, put_node};
+use crate::records::{put_leaf, put_node, put_root};
 use crate::slots::{Slot, build_node, merge_slots};
 use compound_node::Entry;
 use key_bits::{Key, mismatch};
 use record_words::{
-    ANCHOR_WORD, EPOCH_WORD, LEAF_CLASSES, Layout, MAX_ENTRIES, ROOT_WORD, Tag, count_leaf_words,
-    pack_entry, pack_state,
+    ANCHOR_WORD, EPOCH_WORD, LEAF_CLASSES, Layout, MAX_ENTRIES, Tag, count_leaf_words, pack_state,
 };
 use std::alloc::{AllocError, Global};
 
@@ -155,12 +156,24 @@ impl Builder {
         ensures finished { (xs : List Item) → IsLoading self.old xs → IsFinished self.old.layout self.new.words.items xs }
     {
         if self.parts.is_empty() {
+            put_root(self.words.as_mut_slice(), None);
             return;
         }
+        let entry = self.close_tree();
+        put_root(self.words.as_mut_slice(), Some(entry));
+    }
+
+    /// Makes one tree of all pieces. Returns the entry that leads to it.
+    fn close_tree(&mut self) -> Entry
+        requires { (xs : List Item) × IsStackOf self.old xs }
+        ensures tree { (xs : List Item) → IsStackOf self.old xs → (t : Tree) × IsTreeOf self.new t × (items t ≡ xs) × (subtrie t ≡ Place result) }
+        ensures entry { HasEntryWord (Some result) }
+        ensures layout { self.new.layout ≡ self.old.layout }
+    {
         self.join_all();
         let count = self.slots.len();
         self.close_piece(0, count, count > 1);
-        self.words[ROOT_WORD] = pack_entry(Some(self.slots[0].entry));
+        self.slots[0].entry
     }
 
     /// The position of the fork between the last key and `key`; 0 for the first key. An error exactly if `key` is not above the last one.
@@ -173,9 +186,13 @@ impl Builder {
         if self.parts.is_empty() {
             return Ok(0);
         }
-        match mismatch(&self.last, key) {
-            Some(position) if key.bit(position) => Ok(position),
-            _ => Err(LoadFault::NotRising),
+        let Some(position) = mismatch(&self.last, key) else {
+            return Err(LoadFault::NotRising);
+        };
+        if key.bit(position) {
+            Ok(position)
+        } else {
+            Err(LoadFault::NotRising)
         }
     }
 
@@ -211,9 +228,8 @@ impl Builder {
     fn has_nodes(&self) -> bool
         ensures { IsTrue result ↔ HasNodesFor self.now 1 }
     {
-        let taken = self.nodes as usize;
-        let all = self.layout.nodes as usize;
-        taken + 2 * (self.parts.len() + 1) <= all || taken + self.slots.len() + 1 <= all
+        let left = self.layout.nodes.saturating_sub(self.nodes) as usize;
+        left / 2 > self.parts.len() || left > self.slots.len()
     }
 
     /// Puts a leaf on top, as a piece of its own, behind a fork at `fork`. Its record is `leaf`.

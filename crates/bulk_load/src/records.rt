@@ -1,8 +1,10 @@
 //! Records written into the words of a table that nobody shares yet.
 
-ghost use Rattle.std.specs.Prelude.{ℕ, ◌≡◌, ◌⊎◌, ◌+◌, ◌<◌, ◌≤◌, ◌^◌, get_or, length};
+ghost use Rattle.std.specs.Prelude.{ℕ, ◌≡◌, ◌⊎◌, ◌+◌, ◌<◌, ◌≤◌, ◌^◌, get_or, length, set};
 ghost use Rattle.bulk_load.specs.Tables.{IsPut};
 ghost use Rattle.rowex_core.specs.Cores.{fields_in};
+ghost use Rattle.record_words.specs.declared.TheConstants.{ROOT_WORD};
+ghost use Rattle.record_words.specs.Entry.{HasEntryWord, entry_word};
 ghost use Rattle.record_words.specs.Layout.{leaf_size, word_count};
 ghost use Rattle.record_words.specs.Leaf.{HasLeafWords, leaf_words, up_to_key, words_for};
 ghost use Rattle.record_words.specs.Node.{HasNodeWords, node_words};
@@ -10,9 +12,11 @@ ghost use Rattle.record_words.specs.State.{state_word};
 ghost use Rattle.record_words.specs.declared.state.Tag.TheVariants.{Live as LiveTag};
 ghost use Rattle.versions.specs.declared.Rec.TheVariants.{Leaf as a_leaf, Node as a_node};
 
-use compound_node::Node;
+use compound_node::{Entry, Node};
 use key_bits::Key;
-use record_words::{Layout, NODE_FIELDS, Tag, count_leaf_words, pack_leaf, pack_node, pack_state};
+use record_words::{
+    Layout, NODE_FIELDS, ROOT_WORD, Tag, count_leaf_words, pack_entry, pack_leaf, pack_node, pack_state,
+};
 
 /// Writes the first `count` of `fields` to `words` from `start + 1` on, and the state of a live record to `start`.
 fn put_record(words: &mut [u64], start: usize, fields: &[u64], count: usize)
@@ -53,4 +57,14 @@ pub(crate) fn put_leaf(words: &mut [u64], layout: &Layout, number: u32, key: &Ke
         &pack_leaf(key, value),
         count_leaf_words(key) - 1,
     );
+}
+
+/// Writes `entry` as that of the root.
+pub(crate) fn put_root(words: &mut [u64], entry: Option<Entry>)
+    requires room { ROOT_WORD < length words.old }
+    requires entry { HasEntryWord entry }
+    ensures put { words.new ≡ set words.old ROOT_WORD (entry_word entry) }
+    ensures small { (i : ℕ) → get_or words.new i 0 < 2 ^ 64 }
+{
+    words[ROOT_WORD] = pack_entry(entry);
 }
