@@ -2,7 +2,7 @@
 use Rattle.std.proofs.Common.{Bool, true, false, List, [], ◌∷◌, ◌++◌, ap, arith, cond, nat_lt, refl, sym, subst, ℕ, drop, get_or, length, ◌+◌, ◌-◌, ◌<◌, ◌≤◌, ◌≡◌, ◌≢◌, ◌∙◌}
 use Rattle.std.specs.Bool.{MatchBool}
 use Rattle.std.proofs.lemmas.List.{drop_more, drop_all}
-use Rattle.std.proofs.lemmas.Bool.{cases_Bool, le-ltb, lt-ltb}
+use Rattle.std.proofs.lemmas.Bool.{le-ltb, lt-ltb}
 use Rattle.compound_node.specs.declared.entries.Entry.{Entry}
 use Rattle.node_tries.specs.Growth.{affected_first, affected_count, IsFresh, IsAffected, grown}
 use Rattle.compound_node.specs.Nodes.{NodeView, IsBuiltFrom, piece}

@@ -1,43 +1,42 @@
 -- A piece that is closed: a node stands for it.
-use Rattle.std.proofs.Common.{◌≡◌, ◌⊎◌, inl, inr, ℕ, suc, ◌+◌, ◌-◌, ◌*◌, ◌^◌, ◌<◌, ◌≤◌, List, [], ◌∷◌, ◌++◌, take, drop, Option, Some, None, get_or, length, refl, ap, sym, subst, ◌∙◌, arith, ⊎_elim}
+use Rattle.std.proofs.Common.{◌≡◌, ◌⊎◌, inl, inr, ℕ, suc, ◌+◌, ◌-◌, ◌*◌, ◌^◌, ◌<◌, ◌≤◌, List, [], ◌∷◌, ◌++◌, take, drop, Option, Some, None, get_or, length, refl, ap, sym, subst, ◌∙◌, arith}
 use Rattle.std.specs.Prelude.{All}
-use Rattle.std.proofs.lemmas.Bool.{cases_lt, cases_order}
+use Rattle.std.proofs.lemmas.Bool.{cases_order}
 use Rattle.std.proofs.lemmas.List.{append-nil, ext_get_or, get_or-append_right, length-append, drop_at, take_at}
-use Rattle.std.proofs.lemmas.List.Elements.{All-append, All-from_recursion, All-from_get_or, All-head, All-map}
+use Rattle.std.proofs.lemmas.List.Elements.{All-append, All-from_recursion, All-from_get_or, All-head}
 use Rattle.std.proofs.Math.ListN.{get_or-append}
 use Rattle.key_bits.specs.declared.TheConstants.{MAX_BYTES}
-use Rattle.compound_node.specs.Nodes.{NodeView, IsBuiltFrom, IsEntry, head_of, piece}
+use Rattle.compound_node.specs.Nodes.{NodeView, IsBuiltFrom, IsEntry, head_of}
 use Rattle.compound_node.specs.declared.entries.Entry.{Entry}
 use Rattle.compound_node.specs.declared.entries.Entry.TheVariants.{Leaf, Node}
-use Rattle.node_tries.specs.Piece.{Place, Fork, RisesFrom, places, size}
+use Rattle.node_tries.specs.Piece.{RisesFrom}
 use Rattle.record_words.specs.Node.{HasNodeWords, node_words}
-use Rattle.record_words.specs.declared.layout.Layout.{Layout}
-use Rattle.tries.specs.Content.{first, items, IsAbove, IsLocal}
-use Rattle.tries.specs.Tree.{Tree, leaf, node, fork, subtrie, IsTrie, IsBuilt}
+use Rattle.tries.specs.Content.{first, IsAbove, IsLocal}
+use Rattle.tries.specs.Tree.{Tree, leaf, node, fork, subtrie, IsBuilt}
 use Rattle.tries.proofs.Building.{bit_below, node_built_from}
 use Rattle.tries.proofs.Contents.{trie_if_local}
 use Rattle.tries.proofs.Fitting.{children_are}
 use Rattle.tries.proofs.Ranges.{has_key}
 use Rattle.tries.proofs.Tries.{has_first}
 use Rattle.versions.specs.declared.Rec.{Rec}
-use Rattle.versions.specs.declared.Rec.TheVariants.{Node as a_node, Leaf as a_leaf}
+use Rattle.versions.specs.declared.Rec.TheVariants.{Node as a_node}
 use Rattle.versions.specs.Heap.{Heap, IsShown}
 use Rattle.versions.proofs.Heaps.{node_number}
 use Rattle.versions.specs.State.{Links}
 use Rattle.rowex_core.specs.Cores.{heap_of}
-use Rattle.rowex_core.specs.Reading.{IsPacked, node_words_of}
+use Rattle.rowex_core.specs.Reading.{IsPacked}
 use Rattle.rowex_core.proofs.Reading.{node_is}
 use Rattle.bulk_load.specs.Slots.{slot, slots_of, IsSlot, AreSlotsOf}
 use Rattle.bulk_load.specs.declared.slots.Slot.{Slot}
 use Rattle.bulk_load.specs.Stacks.{LeftPiece, whole_of, position_of, front_slots, with_right}
 use Rattle.bulk_load.specs.declared.builder.Builder.{Builder}
-use Rattle.bulk_load.specs.Loading.{IsTreeOf, IsPiece, StandsFor, size_right}
+use Rattle.bulk_load.specs.Loading.{IsPiece, size_right}
 use Rattle.bulk_load.specs.Tables.{IsPut, HoldsTree}
 use Rattle.rowex_core.specs.Cores.{fields_in}
-use Rattle.bulk_load.proofs.Climbing.{head_entry, tail_slots, slots_split as piece_split}
+use Rattle.bulk_load.proofs.Climbing.{slots_split as piece_split}
 use Rattle.bulk_load.proofs.Fields.{node_field, node_fields_long}
 use Rattle.bulk_load.proofs.Putting.{IsAddedTo, added, still_shown}
-use Rattle.bulk_load.proofs.Stacking.{slots_joined, length_slots, built_inner, built_joined, shown_inner, shown_joined, links_inner, links_kept, links_added, local_inner, IsAboveHead, above_head, local_joined}
+use Rattle.bulk_load.proofs.Stacking.{slots_joined, length_slots, built_inner, built_joined, shown_joined, links_inner, links_kept, links_added, local_inner, IsAboveHead, above_head, local_joined}
 
 -- ---- slots of a lawful tree
 IsFrom : ℕ → Tree → Type 0

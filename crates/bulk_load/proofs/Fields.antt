@@ -1,12 +1,12 @@
 -- The fields of a record that was written.
-use Rattle.std.proofs.Common.{◌≡◌, ℕ, ◌+◌, ◌-◌, ◌<◌, ◌≤◌, List, get_or, length, take, nat_lt, true, if◌then◌else◌, sym, ap, ◌∙◌, arith, refl}
+use Rattle.std.proofs.Common.{◌≡◌, ℕ, ◌+◌, ◌<◌, ◌≤◌, List, get_or, length, nat_lt, if◌then◌else◌, sym, ap, ◌∙◌, arith}
 use Rattle.std.proofs.lemmas.Bool.{lt-ltb}
-use Rattle.std.proofs.lemmas.List.{ext_get_or, get_or-take}
+use Rattle.std.proofs.lemmas.List.{ext_get_or}
 use Rattle.std.proofs.lemmas.List.FromFn.{get_or-map-range_with_len, length-map-range_with_len}
 use Rattle.record_words.specs.declared.TheConstants.{NODE_FIELDS, LEAF_FIELDS}
 use Rattle.record_words.specs.declared.layout.Layout.{Layout}
 use Rattle.record_words.specs.Layout.{node_start, leaf_start, leaf_size}
-use Rattle.record_words.specs.Leaf.{HasLeafWords, leaf_words, up_to_key, words_for, words_of_key}
+use Rattle.record_words.specs.Leaf.{HasLeafWords, leaf_words, up_to_key, words_for}
 use Rattle.record_words.proofs.Leaves.{IsLeafOf, leaf_words_parts}
 use Rattle.record_words.proofs.UpToKey.{spells_up_to_key}
 use Rattle.versions.specs.declared.Rec.TheVariants.{Node as a_node, Leaf as a_leaf}

@@ -1,5 +1,5 @@
 -- The words of a finished load show its tree from the root.
-use Rattle.std.proofs.Common.{◌≡◌, ◌≢◌, ◌⊎◌, inl, inr, ℕ, zero, suc, ◌+◌, ◌*◌, ◌^◌, ◌<◌, ◌≤◌, Bool, true, false, nat_lt, if◌then◌else◌, List, [], ◌∷◌, ◌++◌, Option, Some, None, get_or, length, refl, ap, sym, subst, ◌∙◌, arith}
+use Rattle.std.proofs.Common.{◌≡◌, ◌⊎◌, inl, inr, ℕ, zero, suc, ◌+◌, ◌*◌, ◌^◌, ◌<◌, ◌≤◌, Bool, nat_lt, if◌then◌else◌, List, [], Option, Some, None, get_or, length, refl, ap, sym, subst, ◌∙◌, arith}
 use Rattle.std.specs.Prelude.{All}
 use Rattle.std.proofs.Math.ListN.{set}
 use Rattle.std.proofs.lemmas.Bool.{cases_lt, le-ltb, lt-ltb}
@@ -10,21 +10,21 @@ use Rattle.tries.proofs.Contents.{trie_if_local}
 use Rattle.tries.proofs.Reading.{some_injective}
 use Rattle.bulk_load.specs.declared.builder.Builder.{Builder}
 use Rattle.bulk_load.specs.declared.slots.Slot.{Slot}
-use Rattle.bulk_load.specs.Loading.{IsPiece, IsTreeOf}
+use Rattle.bulk_load.specs.Loading.{IsAlone, IsPiece, IsTreeOf, StandsFor}
+use Rattle.bulk_load.specs.Stacks.{LeftPiece, whole_of, with_right}
 use Rattle.bulk_load.proofs.Stacking.{length_slots}
 use Rattle.bulk_load.specs.Slots.{slot, slots_of}
 use Rattle.compound_node.specs.declared.entries.Entry.{Entry}
 use Rattle.compound_node.specs.declared.entries.Entry.TheVariants.{Leaf, Node}
 use Rattle.key_bits.specs.declared.TheConstants.{MAX_BYTES}
-use Rattle.node_tries.specs.Piece.{Place, Fork, size}
+use Rattle.node_tries.specs.Piece.{Place, size}
 use Rattle.node_tries.proofs.Paths.{size_pos}
-use Rattle.record_words.specs.declared.TheConstants.{EPOCH_WORD, ROOT_WORD, ANCHOR_WORD, FIRST_PIN, LINE_WORDS, NODE_FIELDS, LEAF_FIELDS, NODE_WORDS}
+use Rattle.record_words.specs.declared.TheConstants.{EPOCH_WORD, ROOT_WORD, ANCHOR_WORD, FIRST_PIN, LINE_WORDS}
 use Rattle.record_words.specs.declared.layout.Layout.{Layout}
 use Rattle.record_words.specs.declared.layout.Location.{Location}
 use Rattle.record_words.specs.declared.layout.Location.TheVariants.{Epoch, Root, Anchor, Pin as PinOf, NodeWord, LeafWord}
-use Rattle.record_words.specs.declared.state.Tag.TheVariants.{Free as FreeTag, Live}
 use Rattle.record_words.specs.Entry.{HasEntryWord, entry_word}
-use Rattle.record_words.specs.Layout.{node_start, leaf_start, leaf_size, word_count, address, IsInTable}
+use Rattle.record_words.specs.Layout.{node_start, leaf_start, leaf_size, address, IsInTable}
 use Rattle.record_words.specs.State.{state_word}
 use Rattle.record_words.proofs.Locations.{size_fits}
 use Rattle.tries.specs.Content.{Item, items, IsLocal}
@@ -32,7 +32,7 @@ use Rattle.tries.specs.Tree.{Tree, leaf, node, fork, subtrie, IsTrie, IsBuilt}
 use Rattle.tries.proofs.Fitting.{lower_positive}
 use Rattle.versions.specs.declared.Rec.{Rec}
 use Rattle.versions.specs.declared.Rec.TheVariants.{Node as a_node, Leaf as a_leaf}
-use Rattle.versions.specs.Core.{Fate, Free, InTree}
+use Rattle.versions.specs.Core.{Free, InTree}
 use Rattle.versions.specs.Heap.{Heap, IsShown}
 use Rattle.versions.specs.State.{IsLinked, IsTop}
 use Rattle.versions.specs.Steps.{is_linked}
@@ -42,11 +42,11 @@ use Rattle.rowex_core.specs.Cores.{Core, heap_of, fields_in, HasRecord, FitsIn}
 use Rattle.rowex_core.specs.Events.{IsLoad, after, loaded_root, loaded_tree, tree_of}
 use Rattle.rowex_core.specs.Opening.{opening}
 use Rattle.rowex_core.specs.Reading.{IsPacked, entry_of, node_words_of, leaf_of}
-use Rattle.rowex_core.specs.Words.{Shows, state_at, word_at, tag_of}
+use Rattle.rowex_core.specs.Words.{word_at, tag_of}
 use Rattle.rowex_core.proofs.Reading.{entry_of_word}
 use Rattle.rowex_core.proofs.Valuing.{tree_read}
 use Rattle.bulk_load.specs.Finished.{IsFinished}
-use Rattle.bulk_load.specs.Tables.{HoldsTree, start_of, state_in}
+use Rattle.bulk_load.specs.Tables.{HoldsTree, state_in}
 use Rattle.bulk_load.specs.Views.{load_act}
 use Rattle.bulk_load.proofs.Fields.{node_field, leaf_field}
 use Rattle.bulk_load.proofs.Putting.{node_stays, leaf_stays, shown_by}
@@ -183,3 +183,11 @@ closed_count n result some e = go (cases_lt 1 n)
     go : (1 < n) ⊎ (n ≤ 1) → result ≡ 1
     go (inl h) = e ∙ ap (λ b. if b then 1 else n) (lt-ltb 1 n h)
     go (inr h) = e ∙ (ap (λ b. if b then 1 else n) (le-ltb 1 n h) ∙ (let one : n ≡ 1 = omega (arith, h, some) in one))
+
+-- the tree that stands for it then, of one entry
+pub closed_tree : (l m : Builder) (t : Tree) (xs : List Item) → IsAlone l t xs → (count result : ℕ) → count ≡ length l.slots.items → result ≡ (if nat_lt 1 count then 1 else count) →
+    ((ls : List LeftPiece) (z : Tree) (right : Option LeftPiece) → IsPiece l ls z right count 0 → (y : Tree) × StandsFor y z result × IsTreeOf m (whole_of ls (with_right y right))) →
+    (y : Tree) × IsTreeOf m y × (items y ≡ xs) × (size (subtrie y) ≡ 1)
+closed_tree l m t xs a count result long is closes =
+    let (y, st, ty) = closes [] t None (lone_piece l t a.tree count long) in
+    (y, ty, st.same_items ∙ a.content, st.count_is ∙ closed_count count result (omega (arith, long, slots_count l t a.tree, size_pos (subtrie t))) is)

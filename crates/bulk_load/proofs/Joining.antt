@@ -5,9 +5,9 @@ use Rattle.std.proofs.lemmas.List.{get_or-append_right, get_or-map, length-appen
 use Rattle.std.proofs.lemmas.List.Elements.{All-get_or, All-head, All-push, All-take}
 use Rattle.std.proofs.Math.ListN.{get_or-append}
 use Rattle.node_tries.specs.Piece.{size}
-use Rattle.tries.specs.Content.{Item, items, IsAbove}
-use Rattle.tries.specs.Keys.{Key, bit}
-use Rattle.tries.specs.Tree.{Tree, leaf, node, fork, subtrie}
+use Rattle.tries.specs.Content.{Item, items}
+use Rattle.tries.specs.Keys.{bit}
+use Rattle.tries.specs.Tree.{Tree, fork, subtrie}
 use Rattle.bulk_load.specs.declared.builder.Builder.{Builder}
 use Rattle.bulk_load.specs.declared.builder.Part.{Part}
 use Rattle.std.proofs.lemmas.Bool.{cases_order}
@@ -19,7 +19,6 @@ use Rattle.bulk_load.proofs.Closing.{fits}
 use Rattle.bulk_load.proofs.Pushing.{has_last}
 use Rattle.tries.proofs.Contents.{trie_if_local}
 use Rattle.node_tries.proofs.Paths.{size_pos}
-use Rattle.compound_node.specs.declared.entries.Entry.TheVariants.{Leaf, Node}
 use Rattle.bulk_load.specs.declared.slots.Slot.{Slot}
 use Rattle.bulk_load.specs.Slots.{slot, slots_of}
 

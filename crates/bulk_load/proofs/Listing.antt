@@ -1,5 +1,5 @@
 -- The leaves that the slots show are those of the tree.
-use Rattle.std.proofs.Common.{◌≡◌, ◌≢◌, ◌⊎◌, inl, inr, ℕ, ◌+◌, ◌<◌, List, [], ◌∷◌, ◌++◌, Option, Some, None, length, refl, ap, sym, subst, ◌∙◌, arith}
+use Rattle.std.proofs.Common.{◌≡◌, ◌≢◌, ◌⊎◌, inl, inr, ℕ, ◌<◌, List, [], ◌∷◌, ◌++◌, Some, length, refl, ap, sym, subst, ◌∙◌, arith}
 use Rattle.std.proofs.lemmas.List.{append-nil, append_assoc, length-append}
 use Rattle.std.specs.declared.cmp.Ordering.TheVariants.{Less}
 use Rattle.compound_node.specs.declared.entries.Entry.{Entry}
@@ -11,9 +11,9 @@ use Rattle.record_words.specs.State.{state_word}
 use Rattle.tries.specs.Content.{Item, items}
 use Rattle.tries.specs.Keys.{Key}
 use Rattle.tries.specs.Tree.{Tree, leaf, node, fork, subtrie, IsBuilt}
-use Rattle.versions.specs.declared.Rec.TheVariants.{Node as a_node, Leaf as a_leaf}
+use Rattle.versions.specs.declared.Rec.TheVariants.{Leaf as a_leaf}
 use Rattle.versions.specs.Heap.{Heap, IsShown}
-use Rattle.versions.specs.State.{Links, IsLinked}
+use Rattle.versions.specs.State.{Links}
 use Rattle.versions.specs.Told.{items_of}
 use Rattle.versions.proofs.Heaps.{leaf_number, leaf_node}
 use Rattle.versions.proofs.Legal.{linked_cases}
@@ -25,7 +25,7 @@ use Rattle.bulk_load.specs.declared.slots.Slot.{Slot}
 use Rattle.bulk_load.specs.Loading.{EndsInLeaf, IsEmpty, IsLoading, greatest_key, items_in, items_under}
 use Rattle.bulk_load.specs.Slots.{slot, slots_of}
 use Rattle.bulk_load.specs.Stacks.{whole_of}
-use Rattle.bulk_load.specs.Tables.{HoldsTree, state_in}
+use Rattle.bulk_load.specs.Tables.{state_in}
 use Rattle.bulk_load.specs.Views.{IsAboveLast, IsTakenLeaf}
 
 under_append : (heap : Heap) (ss ts : List Slot) → items_under heap (ss ++ ts) ≡ items_under heap ss ++ items_under heap ts

@@ -1,30 +1,27 @@
 -- A new leaf behind the last one.
-use Rattle.std.proofs.Common.{◌≡◌, ◌⊎◌, inl, inr, ℕ, ◌+◌, ◌*◌, ◌^◌, ◌<◌, ◌≤◌, List, [], ◌∷◌, ◌++◌, Bool, true, false, Some, None, get_or, length, map, refl, ap, sym, subst, ◌∙◌, arith}
-use Rattle.std.specs.Prelude.{All}
+use Rattle.std.proofs.Common.{◌≡◌, ◌⊎◌, inl, inr, ℕ, ◌+◌, ◌*◌, ◌<◌, ◌≤◌, List, [], ◌∷◌, ◌++◌, Bool, true, false, Some, None, length, refl, ap, sym, subst, ◌∙◌, arith}
 use Rattle.std.proofs.lemmas.List.{append_assoc}
 use Rattle.key_bits.specs.Bits.{bit_of, IsFirstDifference}
-use Rattle.key_bits.specs.Key.{IsKey}
 use Rattle.compound_node.specs.declared.entries.Entry.TheVariants.{Leaf}
 use Rattle.record_words.specs.Layout.{leaf_size}
 use Rattle.record_words.specs.Leaf.{HasLeafWords, leaf_words, up_to_key, words_for}
-use Rattle.tries.specs.Keys.{Key, bit, AgreeBelow, IsParted}
-use Rattle.tries.specs.Content.{Item, item, items, first, IsAbove, IsLocal}
+use Rattle.tries.specs.Keys.{Key, bit, IsParted}
+use Rattle.tries.specs.Content.{item, items, first, IsAbove, IsLocal}
 use Rattle.tries.specs.Tree.{Tree, leaf, node, fork, subtrie, Has, IsTrie, IsBuilt}
 use Rattle.tries.proofs.Contents.{trie_if_local}
 use Rattle.tries.proofs.Tries.{has_first}
 use Rattle.versions.specs.declared.Rec.{Rec}
 use Rattle.versions.specs.declared.Rec.TheVariants.{Node as a_node, Leaf as a_leaf}
-use Rattle.versions.specs.Heap.{Heap, IsShown}
+use Rattle.versions.specs.Heap.{Heap}
 use Rattle.versions.specs.State.{Links}
 use Rattle.versions.proofs.Heaps.{node_leaf}
 use Rattle.rowex_core.specs.Cores.{heap_of}
 use Rattle.rowex_core.specs.Reading.{IsPacked}
 use Rattle.rowex_core.proofs.Leafing.{leaf_is, leaf_size_is}
 use Rattle.bulk_load.specs.declared.builder.Builder.{Builder}
-use Rattle.bulk_load.specs.declared.slots.Slot.{Slot}
 use Rattle.bulk_load.specs.Loading.{greatest_key, IsTreeOf}
 use Rattle.bulk_load.specs.Slots.{slot, slots_of}
-use Rattle.bulk_load.specs.Stacks.{LeftPiece, left_piece, whole_of, position_of, front_slots}
+use Rattle.bulk_load.specs.Stacks.{LeftPiece, whole_of, position_of, front_slots}
 use Rattle.bulk_load.specs.Tables.{IsPut, HoldsTree, state_in}
 use Rattle.rowex_core.specs.Cores.{fields_in}
 use Rattle.bulk_load.proofs.Putting.{IsAddedTo, added, still_shown}

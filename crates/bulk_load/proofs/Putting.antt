@@ -1,12 +1,12 @@
 -- A table with one record more.
-use Rattle.std.proofs.Common.{◌≡◌, ◌≢◌, ◌⊎◌, inl, inr, ℕ, ◌+◌, ◌*◌, ◌<◌, ◌≤◌, List, get_or, length, true, false, nat_lt, if◌then◌else◌, Option, Some, None, refl, ap, sym, subst, ◌∙◌, arith, ⊎_elim}
-use Rattle.std.proofs.lemmas.Bool.{cases_Bool, cases_lt, cases_order, ltb-true}
+use Rattle.std.proofs.Common.{◌≡◌, ◌≢◌, ◌⊎◌, inl, inr, ℕ, ◌+◌, ◌*◌, ◌<◌, ◌≤◌, List, get_or, true, false, nat_lt, if◌then◌else◌, Option, Some, refl, ap, sym, subst, ◌∙◌, arith}
+use Rattle.std.proofs.lemmas.Bool.{cases_Bool, cases_order, ltb-true}
 use Rattle.std.proofs.lemmas.List.{ext_get_or}
 use Rattle.record_words.specs.declared.TheConstants.{NODE_FIELDS, LEAF_FIELDS, NODE_WORDS, EPOCH_WORD, ROOT_WORD, ANCHOR_WORD, FIRST_PIN, LINE_WORDS}
 use Rattle.record_words.specs.declared.layout.Layout.{Layout}
-use Rattle.record_words.specs.Layout.{node_start, leaf_start, leaf_size, words_below}
+use Rattle.record_words.specs.Layout.{node_start, leaf_start, leaf_size}
 use Rattle.record_words.proofs.Locations.{leaf_before, size_fits}
-use Rattle.tries.specs.Tree.{Tree, leaf, node, fork, subtrie}
+use Rattle.tries.specs.Tree.{Tree, leaf, node, fork}
 use Rattle.tries.proofs.Reading.{some_injective}
 use Rattle.versions.specs.declared.Rec.{Rec}
 use Rattle.versions.specs.declared.Rec.TheVariants.{Node as a_node, Leaf as a_leaf}

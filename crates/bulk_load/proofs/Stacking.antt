@@ -1,16 +1,15 @@
 -- The whole tree of a stack: what stays where its last piece becomes another tree.
-use Rattle.std.proofs.Common.{◌≡◌, ◌⊎◌, inl, inr, ℕ, ◌+◌, ◌<◌, List, [], ◌∷◌, ◌++◌, Option, Some, None, length, refl, ap, sym, subst, ◌∙◌}
+use Rattle.std.proofs.Common.{◌≡◌, ◌⊎◌, inl, inr, ℕ, List, [], ◌∷◌, ◌++◌, length, refl, sym, subst, ◌∙◌}
 use Rattle.std.proofs.lemmas.List.{append_assoc, length-append}
 use Rattle.node_tries.specs.Piece.{Piece, Place, Fork, size}
 use Rattle.compound_node.specs.declared.entries.Entry.{Entry}
 use Rattle.tries.specs.Keys.{IsParted}
 use Rattle.tries.specs.Content.{Item, items, first, IsAbove, IsLocal}
-use Rattle.tries.specs.Tree.{Tree, leaf, node, fork, subtrie, IsBuilt}
+use Rattle.tries.specs.Tree.{Tree, fork, subtrie, IsBuilt}
 use Rattle.versions.specs.Heap.{Heap, IsShown}
 use Rattle.versions.specs.State.{Links}
 use Rattle.versions.specs.declared.Rec.{Rec}
 use Rattle.bulk_load.specs.Slots.{slots_of}
-use Rattle.bulk_load.specs.declared.slots.Slot.{Slot}
 use Rattle.bulk_load.specs.Stacks.{LeftPiece, whole_of, position_of, front_slots}
 use Rattle.bulk_load.specs.Loading.{greatest_key}
 

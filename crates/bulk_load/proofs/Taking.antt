@@ -1,14 +1,14 @@
 -- The next leaf: that it may be taken, and what stays.
-use Rattle.std.proofs.Common.{◌≡◌, ◌≢◌, ◌⊎◌, inl, inr, ℕ, ◌+◌, ◌*◌, ◌<◌, ◌≤◌, List, [], get_or, length, refl, ap, ap₂, sym, subst, ◌∙◌, arith}
+use Rattle.std.proofs.Common.{◌≡◌, ◌≢◌, ◌⊎◌, inl, inr, ℕ, ◌+◌, ◌<◌, ◌≤◌, List, get_or, length, refl, ap, ap₂, sym, subst, ◌∙◌, arith}
 use Rattle.std.specs.Vec.{vec_len}
 use Rattle.record_words.specs.declared.layout.Layout.{Layout}
 use Rattle.record_words.specs.Layout.{word_count}
-use Rattle.tries.specs.Content.{Item, items}
+use Rattle.tries.specs.Content.{Item}
 use Rattle.tries.specs.Keys.{Key, IsParted}
 use Rattle.tries.specs.Tree.{Tree}
 use Rattle.versions.specs.declared.Rec.TheVariants.{Leaf as a_leaf}
 use Rattle.bulk_load.specs.declared.builder.Builder.{Builder}
-use Rattle.bulk_load.specs.Loading.{CanJoin, CanPart, EndsInLeaf, HasCursors, HasNodesFor, HasSameFields, IsEmpty, IsLoading, IsSeat, IsStackOf, IsTreeOf, HasParts, KeepsLeaves, KeepsNodes, MayTakeNext, items_in}
+use Rattle.bulk_load.specs.Loading.{CanJoin, CanPart, EndsInLeaf, HasCursors, HasNodesFor, HasSameFields, IsEmpty, IsLoading, IsSeat, IsStackOf, IsTreeOf, KeepsLeaves, KeepsNodes, MayTakeNext, items_in}
 use Rattle.bulk_load.specs.Stacks.{whole_of}
 use Rattle.bulk_load.specs.Tables.{AreCursors, IsCursorOf, IsRootless, leaf_class, state_in}
 use Rattle.std.proofs.lemmas.Bool.{cases_lt}
@@ -114,13 +114,16 @@ module _ (l m : Builder) (s : HasSameFields l m) where
 
   pub same_loading : (xs : List Item) → IsLoading l xs → IsLoading m xs
   unfolding same_stack
-  same_loading xs (c, inl e) = (rw (s.layout, s.words, s.leaves) c, inl (record {
-    none = e.none;
-    table = rw (s.layout, s.words) e.table;
-    no_parts = s.parts ∙ e.no_parts;
-    no_slots = s.slots ∙ e.no_slots;
-    no_nodes = s.nodes ∙ e.no_nodes;
-  }))
+  same_loading xs (c, inl e) = (
+    rw (s.layout, s.words, s.leaves) c,
+    inl (record {
+      none = e.none;
+      table = rw (s.layout, s.words) e.table;
+      no_parts = s.parts ∙ e.no_parts;
+      no_slots = s.slots ∙ e.no_slots;
+      no_nodes = s.nodes ∙ e.no_nodes;
+    }),
+  )
   same_loading xs (c, inr r) = (rw (s.layout, s.words, s.leaves) c, inr (record { stack = same_stack xs r.stack; alone = r.alone }))
 
   pub same_seat : (k : Key) (p n : ℕ) → IsSeat l k p n → IsSeat m k p n

@@ -1,7 +1,6 @@
 -- What a builder has built so far: its words and pieces show a lawful tree of the pairs that it has taken.
 use Rattle.std.specs.Prelude.{◌≡◌, ◌⊎◌, ℕ, ◌+◌, ◌*◌, ◌<◌, ◌≤◌, List, [], ◌∷◌, ◌++◌, All, map, length, get_or, Option, Some, None, false}
 use Rattle.node_tries.specs.Piece.{size}
-use Rattle.record_words.specs.declared.layout.Layout.{Layout}
 use Rattle.std.specs.Vec.{vec_len, vec_capacity}
 use Rattle.record_words.specs.declared.state.Tag.TheVariants.{Free}
 use Rattle.record_words.specs.declared.TheConstants.{LEAF_CLASSES}
@@ -11,7 +10,6 @@ use Rattle.record_words.specs.State.{state_word}
 use Rattle.tries.specs.Keys.{Key, IsParted, bit}
 use Rattle.tries.specs.Content.{Item, first, items, IsAbove, IsLocal}
 use Rattle.tries.specs.Tree.{Tree, leaf, node, fork, subtrie, IsBuilt}
-use Rattle.versions.specs.declared.Rec.{Rec}
 use Rattle.versions.specs.declared.Rec.TheVariants.{Node as a_node, Leaf as a_leaf}
 use Rattle.versions.specs.Heap.{Heap}
 use Rattle.versions.specs.State.{Links}

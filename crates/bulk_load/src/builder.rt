@@ -239,7 +239,8 @@ impl Builder {
         requires room { words_for (length key.now) ≤ leaf_size self.old.layout leaf }
         requires free { state_in self.old.layout self.old.words.items (a_leaf leaf) ≡ state_word FreeTag }
         requires table { IsRootless self.old.layout self.old.words.items }
-        ensures taken { (xs : List Item) → HasNodesFor self.old 1 → MayTakeNext self.old xs fork key.now → EndsInLeaf self.new (xs ++ item leaf key.now value ∷ []) }
+        ensures taken { (xs : List Item) → HasNodesFor self.old 1 → MayTakeNext self.old xs fork key.now →
+            EndsInLeaf self.new (xs ++ item leaf key.now value ∷ []) }
         ensures cursors { HasCursors self.old → get_or self.old.leaves (leaf_class self.old.layout leaf) 0 ≡ leaf → HasCursors self.new }
         ensures layout { self.new.layout ≡ self.old.layout }
     {

@@ -43,6 +43,13 @@ impl Loader {
         })
     }
 
+    /// How many passes and records the table has.
+    pub fn layout(&self) -> Layout
+        ensures { result ≡ self.now.layout }
+    {
+        self.builder.layout
+    }
+
     /// Takes `key` with `value`, as the last pair. The key must be above the last one: `NotRising` says that it isn't. `LeavesFull` comes
     /// only if no leaf record with room for the key is left, and `NodesFull` only if the table has no more node records than pairs were
     /// taken. After a fault the pairs are as before.

@@ -15,7 +15,8 @@ ghost use Rattle.versions.specs.declared.Rec.TheVariants.{Leaf as a_leaf, Node a
 use compound_node::{Entry, Node};
 use key_bits::Key;
 use record_words::{
-    Layout, NODE_FIELDS, ROOT_WORD, Tag, count_leaf_words, pack_entry, pack_leaf, pack_node, pack_state,
+    Layout, NODE_FIELDS, ROOT_WORD, Tag, count_leaf_words, pack_entry, pack_leaf, pack_node,
+    pack_state,
 };
 
 /// Writes the first `count` of `fields` to `words` from `start + 1` on, and the state of a live record to `start`.

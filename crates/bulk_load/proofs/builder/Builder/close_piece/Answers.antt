@@ -1,16 +1,14 @@
 -- The node stands for the piece.
-use Rattle.std.proofs.Common.{◌≡◌, ℕ, ◌+◌, ◌-◌, ◌<◌, List, Option, Some, get_or, length, refl, ap, sym, subst, ◌∙◌, arith, rules}
+use Rattle.std.proofs.Common.{◌≡◌, ◌+◌, ◌-◌, ◌<◌, List, Option, Some, get_or, length, refl, ap, sym, subst, ◌∙◌, arith, rules}
 use Rattle.std.proofs.lemmas.List.{with_items_is, places}
 use Rattle.compound_node.specs.declared.entries.Entry.TheVariants.{Node}
 use Rattle.compound_node.specs.Nodes.{IsBuiltFrom}
-use Rattle.record_words.specs.Node.{node_words}
 use Rattle.tries.specs.Tree.{Tree, subtrie}
 use Rattle.versions.specs.declared.Rec.TheVariants.{Node as a_node}
 use Rattle.bulk_load.specs.Loading.{IsPiece}
 use Rattle.bulk_load.specs.Slots.{slot}
 use Rattle.bulk_load.specs.Stacks.{LeftPiece, whole_of, position_of, front_slots, with_right}
 use Rattle.bulk_load.specs.Tables.{IsPut, state_in}
-use Rattle.rowex_core.specs.Cores.{fields_in}
 use Rattle.compound_node.specs.declared.entries.Entry.TheVariants.{Leaf}
 use Rattle.bulk_load.specs.Tables.{HoldsTree}
 use Rattle.bulk_load.proofs.Closing.{fits, taken_part, slots_given, each_given, merged, closed, holds_closed, local_closed, all_built, taken_closed, slots_closed}

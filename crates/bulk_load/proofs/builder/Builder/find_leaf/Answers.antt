@@ -1,5 +1,5 @@
 -- Each class has been tried.
-use Rattle.std.proofs.Common.{◌≡◌, ◌<◌, arith}
+use Rattle.std.proofs.Common.{arith}
 use Rattle.bulk_load.proofs.Cursors.{none_left}
 use Rattle.bulk_load.proofs.builder.Builder.find_leaf.Goals as goal
 

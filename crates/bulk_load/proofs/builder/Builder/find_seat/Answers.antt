@@ -1,5 +1,5 @@
 -- Each fault comes where its clause says.
-use Rattle.std.proofs.Common.{◌≡◌, Err, Ok, ap, ◌∙◌, arith, rules}
+use Rattle.std.proofs.Common.{arith, rules}
 use Rattle.std.proofs.lemmas.Result.{err_from_is_err_and}
 use Rattle.bulk_load.proofs.Listing.{taken_if_used}
 use Rattle.bulk_load.proofs.Taking.{falls, rises}

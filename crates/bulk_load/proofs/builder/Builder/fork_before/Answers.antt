@@ -1,6 +1,5 @@
 -- The keys part where they first differ.
 use Rattle.std.proofs.Common.{◌≡◌, ◌≢◌, ◌<◌, refl, sym, subst, ◌∙◌, rules}
-use Rattle.std.specs.declared.cmp.Ordering.{Ordering}
 use Rattle.std.specs.declared.cmp.Ordering.TheVariants.{Less, Equal}
 use Rattle.std.specs.Vec.{vec_len}
 use Rattle.finite_map.specs.Maps.{key_order}

@@ -1,5 +1,5 @@
 -- At last one piece is left.
-use Rattle.std.proofs.Common.{◌≡◌, ℕ, ◌+◌, ◌≤◌, length, refl, ◌∙◌, arith}
+use Rattle.std.proofs.Common.{refl, ◌∙◌, arith}
 use Rattle.bulk_load.proofs.Joining.{alone}
 use Rattle.bulk_load.proofs.builder.Builder.join_all.Goals as goal
 

@@ -1,5 +1,5 @@
 -- The fork before the piece at the top is behind the position.
-use Rattle.std.proofs.Common.{◌≡◌, ℕ, ◌+◌, ◌-◌, ◌<◌, inr, length, subst, ◌∙◌, arith}
+use Rattle.std.proofs.Common.{◌≡◌, ◌+◌, ◌-◌, inr, length, arith}
 use Rattle.bulk_load.proofs.Joining.{stack_of, top_within, parting_alone, parting_low, next_ready}
 use Rattle.bulk_load.proofs.Taking.{nodes_more, nodes_stay}
 use Rattle.bulk_load.proofs.builder.Builder.join_behind.Goals as goal

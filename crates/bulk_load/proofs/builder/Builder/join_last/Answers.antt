@@ -1,16 +1,12 @@
 -- Both pieces are closed as planned, and stand beside each other then.
-use Rattle.std.proofs.Common.{◌≡◌, ◌⊎◌, ℕ, ◌+◌, ◌-◌, ◌*◌, ◌≤◌, ◌<◌, ◌++◌, ◌∷◌, [], List, take, slice_set, if◌then◌else◌, Some, None, Option, IsTrue, Fits, w64, get_or, length, map, refl, ap, sym, subst, ◌∙◌, arith, rules}
+use Rattle.std.proofs.Common.{◌≡◌, ◌⊎◌, ℕ, ◌+◌, ◌-◌, ◌*◌, ◌≤◌, ◌<◌, take, slice_set, None, length, refl, ap, sym, subst, ◌∙◌, arith}
 use Rattle.std.specs.Vec.{vec_len}
 use Rattle.std.proofs.lemmas.List.{length-set, length-take}
 use Rattle.record_words.specs.declared.layout.Layout.{Layout}
-use Rattle.tries.specs.Keys.{Key}
-use Rattle.tries.specs.Content.{items}
-use Rattle.tries.specs.Tree.{Tree, fork}
 use Rattle.bulk_load.specs.declared.builder.Part.{Part}
-use Rattle.bulk_load.specs.Loading.{HasNodesFor, HasParts, IsJoined, IsPiece, IsStackOf, IsTreeOf, StandsFor, greatest_key}
-use Rattle.bulk_load.specs.Stacks.{LeftPiece, left_piece, whole_of, counts, with_right}
+use Rattle.bulk_load.specs.Loading.{HasNodesFor}
 use Rattle.bulk_load.proofs.Closing.{fits}
-use Rattle.bulk_load.proofs.Joining.{first_piece, second_piece, joined_stack, parts_long, top_count, next_count, each_few, counts_joined, few_joined, items_same, IsClosed, closed_one, first_node, second_node, nodes_joined}
+use Rattle.bulk_load.proofs.Joining.{first_piece, second_piece, joined_stack, each_few, IsClosed, closed_one, first_node, second_node, nodes_joined}
 use Rattle.bulk_load.proofs.Taking.{leaves_more}
 use Rattle.bulk_load.proofs.builder.Builder.join_last.Goals as goal
 use Rattle.bulk_load.proofs.builder.Builder.join_last.Goals.{After-close_piece-behind, After-self-1}
@@ -147,9 +143,19 @@ returns-clause-kept c =
         last = kept.last;
         cursors = kept.cursors;
         states = kept.states;
-        space = λ h. let s = kept.space h in let less = s.1 in
-            (s.0, omega (arith, less, parts_popped c, c.pop.new.self.ok.0, c.close_piece.new.self.parts.ok.0, c.args.self.now.parts.ok.0, c.pop.ensures.capacity,
-            ap vec_len (c.close_piece.ensures.parts ∙ c.close_piece-behind.ensures.parts)));
+        space = λ h. let s = kept.space h in let less = s.1 in (
+          s.0,
+          omega (
+            arith,
+            less,
+            parts_popped c,
+            c.pop.new.self.ok.0,
+            c.close_piece.new.self.parts.ok.0,
+            c.args.self.now.parts.ok.0,
+            c.pop.ensures.capacity,
+            ap vec_len (c.close_piece.ensures.parts ∙ c.close_piece-behind.ensures.parts),
+          ),
+        );
       };
       nodes = λ more h. nodes_then c _ more (parts_less c _) h;
       few = few_then c;

@@ -1,7 +1,7 @@
 -- What contracts see is what the builder has loaded.
-use Rattle.std.proofs.Common.{◌≡◌, ◌++◌, ◌∷◌, [], ap, ◌∙◌}
+use Rattle.std.proofs.Common.{◌++◌, ◌∷◌, [], ap, ◌∙◌}
 use Rattle.tries.specs.Content.{item}
-use Rattle.bulk_load.specs.Loading.{IsLoading, items_in}
+use Rattle.bulk_load.specs.Loading.{items_in}
 use Rattle.bulk_load.specs.Views.{LoadView, with_item}
 use Rattle.bulk_load.proofs.Taking.{loading_shown, same_loading, same_view}
 use Rattle.bulk_load.proofs.loader.Loader.push.Goals as goal
