@@ -16,11 +16,20 @@ module _ (g : given.Over) (c : After-read_numbers g) where
       (none_read c.args.table.now g.G.Gate.becomes (c.args.seat.now, c.args.gate.now) c.args.node.number c.requires.own))
       (omega arith) e.reads e.word e.spelled e.few
 
+pub load_rest_of_head-requires-clause-own : goal.load_rest_of_head-requires-clause-own
+load_rest_of_head-requires-clause-own g c = seat_of c.args.table.now g.G.Gate.becomes (c.args.seat.now, c.args.gate.now) (c.load_locked_word.new.seat, c.load_locked_word.new.gate) c.load_locked_word.ensures.reads.goes c.requires.own
+
 pub returns-in-Narrow : goal.returns-in-Narrow
 returns-in-Narrow g c = c.load_rest_of_head.ensures _ (first g (goal.at.returns-in-Narrow g c).After-read_numbers) (ap head_size (sym c.read_numbers.ensures.parts.3 ∙ c.in-Narrow.is))
 
+pub load_rest_of_head-requires-in-Middle-clause-own : goal.load_rest_of_head-requires-in-Middle-clause-own
+load_rest_of_head-requires-in-Middle-clause-own g c = seat_of c.args.table.now g.G.Gate.becomes (c.args.seat.now, c.args.gate.now) (c.load_locked_word.new.seat, c.load_locked_word.new.gate) c.load_locked_word.ensures.reads.goes c.requires.own
+
 pub returns-in-Middle : goal.returns-in-Middle
 returns-in-Middle g c = c.load_rest_of_head-in-Middle.ensures _ (first g (goal.at.returns-in-Middle g c).After-read_numbers) (ap head_size (sym c.read_numbers.ensures.parts.3 ∙ c.in-Middle.is))
+
+pub load_rest_of_head-requires-in-Wide-clause-own : goal.load_rest_of_head-requires-in-Wide-clause-own
+load_rest_of_head-requires-in-Wide-clause-own g c = seat_of c.args.table.now g.G.Gate.becomes (c.args.seat.now, c.args.gate.now) (c.load_locked_word.new.seat, c.load_locked_word.new.gate) c.load_locked_word.ensures.reads.goes c.requires.own
 
 pub returns-in-Wide : goal.returns-in-Wide
 returns-in-Wide g c = c.load_rest_of_head-in-Wide.ensures _ (first g (goal.at.returns-in-Wide g c).After-read_numbers) (ap head_size (sym c.read_numbers.ensures.parts.3 ∙ c.in-Wide.is))

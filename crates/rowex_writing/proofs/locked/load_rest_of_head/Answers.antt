@@ -25,7 +25,7 @@ loop-index-2-init g c = λ a read sized.
 pub loop-index-2-preserved : goal.loop-index-2-preserved
 loop-index-2-preserved g c = λ a read sized.
     unused_read c.args.table.now g.G.Gate.becomes a (c.args.seat.now, c.args.gate.now) (c.loop-index.seat, c.loop-index.gate) c.args.node.number c.args.words.now c.loop-index-2.words c.loop-index-2.index read
-    (c.loop-index-2.invariant a read sized) (omega (arith, c.requires.size.0, c.loop-index-2.auto.index-start)) (omega (arith, c.loop-index-2-test.true)) (omega (arith, sized, c.loop-index-2.auto.index-start))
+    (c.loop-index-2.invariant a read sized) (omega (arith, c.requires.size.0, c.loop-index-2.auto.index)) (omega (arith, c.loop-index-2-test.true)) (omega (arith, sized, c.loop-index-2.auto.index))
 
 pub returns : goal.returns
 returns g c = λ a read sized.
