@@ -135,11 +135,12 @@ module _ (layout : Layout) (old new : List ℕ) (t : Option Tree) (e : Option En
       sym (leaf_field layout new n j (let low = i.1 in let fits = size_fits layout n in omega (arith, low, fits.1)) ∙
       ap (λ b. if b then get_or new (leaf_start layout n + (1 + j)) 0 else 0) (lt-ltb (1 + j) (leaf_size layout n) (let low = i.1 in omega (arith, low))))
 
-  pub finished : (xs : List Item) → items_of t ≡ xs → IsFinished layout new xs
-  finished xs content = record {
+  pub finished : (xs : List Item) → items_of t ≡ xs → (n : ℕ) × (n < layout.nodes) × ¬ IsLinked t (a_node n) → IsFinished layout new xs
+  finished xs content (n, low, out) = record {
     load = is_load;
     shows = record { size = long ∙ h.blank.size; each = word_shown };
     items = ap items_of tree_is ∙ content;
+    spare = (n, low, λ i. out (subst (λ s. IsLinked s (a_node n)) tree_is i));
   }
 
 -- ---- the root's entry
@@ -151,23 +152,25 @@ root_slot l y t one s is =
 -- the words with the root's entry
 written : (layout : Layout) (old new : List ℕ) (t : Option Tree) (e : Option Entry) → HoldsTree layout old t → IsTop (heap_of (fields_in layout old)) e t →
     ((u : Tree) → t ≡ Some u → IsTrie u × IsBuilt u) → HasEntryWord e → new ≡ set old ROOT_WORD (entry_word e) → ((i : ℕ) → get_or new i 0 < 2 ^ 64) →
-    (xs : List Item) → items_of t ≡ xs → IsFinished layout new xs
-written layout old new t e h top lawful entry is small xs content =
+    (xs : List Item) → items_of t ≡ xs → (n : ℕ) × (n < layout.nodes) × ¬ IsLinked t (a_node n) → IsFinished layout new xs
+written layout old new t e h top lawful entry is small xs content spare =
     let inside : ROOT_WORD < length old = omega (arith, h.blank.size) in
     finished layout old new t e h top lawful entry (All-from_get_or (λ w. w < 2 ^ 64) new 0 (λ i low. small i))
     (ap length is ∙ length-set old ROOT_WORD (entry_word e))
     (ap (λ ws. get_or ws ROOT_WORD 0) is ∙ get_or-set_same old ROOT_WORD (entry_word e) 0 inside)
     (λ k o. ap (λ ws. get_or ws k 0) is ∙ get_or-set_other old ROOT_WORD k (entry_word e) 0 (λ same. elim o [ inl a ↦ omega (arith, a, same) | inr b ↦ omega (arith, b, same) ]))
-    xs content
+    xs content spare
 
 pub tree_written : (layout : Layout) (old new : List ℕ) (y : Tree) (e : Entry) → HoldsTree layout old (Some y) → IsLocal y → IsBuilt y → subtrie y ≡ Place e → HasEntryWord (Some e) →
-    new ≡ set old ROOT_WORD (entry_word (Some e)) → ((i : ℕ) → get_or new i 0 < 2 ^ 64) → (xs : List Item) → items y ≡ xs → IsFinished layout new xs
-tree_written layout old new y e h ordered built at entry is small xs content = written layout old new (Some y) (Some e) h (at, h.shows y refl)
-    (λ u i. subst (λ v. IsTrie v × IsBuilt v) (some_injective i) (trie_if_local y ordered, built)) entry is small xs content
+    new ≡ set old ROOT_WORD (entry_word (Some e)) → ((i : ℕ) → get_or new i 0 < 2 ^ 64) → (xs : List Item) → items y ≡ xs →
+    (n : ℕ) × (n < layout.nodes) × ¬ IsLinked (Some y) (a_node n) → IsFinished layout new xs
+tree_written layout old new y e h ordered built at entry is small xs content spare = written layout old new (Some y) (Some e) h (at, h.shows y refl)
+    (λ u i. subst (λ v. IsTrie v × IsBuilt v) (some_injective i) (trie_if_local y ordered, built)) entry is small xs content spare
 
 pub nothing_written : (layout : Layout) (old new : List ℕ) → HoldsTree layout old None → new ≡ set old ROOT_WORD (entry_word None) → ((i : ℕ) → get_or new i 0 < 2 ^ 64) →
     (xs : List Item) → xs ≡ [] → IsFinished layout new xs
 nothing_written layout old new h is small xs none = written layout old new None None h tt (λ u i. absurd (none-some u i)) tt is small xs (sym none)
+    (0, layout.nodes_in_range.0, λ i. i)
 
 -- ---- the one piece
 pub slots_count : (l : Builder) (t : Tree) → IsTreeOf l t → length l.slots.items ≡ size (subtrie t)
@@ -175,6 +178,14 @@ slots_count l t h = ap length h.slots_are ∙ length_slots 0 (subtrie t)
 
 pub lone_piece : (l : Builder) (t : Tree) → IsTreeOf l t → (count : ℕ) → count ≡ length l.slots.items → IsPiece l [] t None count 0
 lone_piece l t h count e = record { tree = h; count_is = e ∙ slots_count l t h; behind_is = refl }
+
+-- a node record is left then
+pub room_left : (n m most count : ℕ) → m ≡ n + (if nat_lt 1 count then 1 else 0) → (2 ≤ count → n + 1 < most) → n < most → m < most
+room_left n m most count e two one = go (cases_lt 1 count)
+  where
+    go : (1 < count) ⊎ (count ≤ 1) → m < most
+    go (inl h) = let more : m ≡ n + 1 = e ∙ ap (λ b. n + (if b then 1 else 0)) (lt-ltb 1 count h) in omega (arith, more, two (omega (arith, h)))
+    go (inr h) = let same : m ≡ n + 0 = e ∙ ap (λ b. n + (if b then 1 else 0)) (le-ltb 1 count h) in omega (arith, same, one)
 
 -- how many slots it has, once it is closed
 pub closed_count : (n result : ℕ) → 1 ≤ n → result ≡ (if nat_lt 1 n then 1 else n) → result ≡ 1

@@ -1,7 +1,9 @@
 -- What the words of a finished load are.
-use Rattle.std.specs.Prelude.{◌≡◌, ℕ, List}
+use Rattle.std.specs.Prelude.{◌≡◌, ◌<◌, ℕ, List}
 use Rattle.record_words.specs.declared.layout.Layout.{Layout}
 use Rattle.tries.specs.Content.{Item}
+use Rattle.versions.specs.declared.Rec.TheVariants.{Node as a_node}
+use Rattle.versions.specs.State.{IsLinked}
 use Rattle.versions.specs.Told.{items_of}
 use Rattle.rowex_core.specs.Events.{IsLoad, after, loaded_tree}
 use Rattle.rowex_core.specs.Opening.{opening}
@@ -13,3 +15,5 @@ pub record IsFinished (layout : Layout) (words : List ℕ) (xs : List Item) : Ty
   pub load : IsLoad layout words
   pub shows : Shows (after (opening layout) 0 (load_act words)) words
   pub items : items_of (loaded_tree layout words) ≡ xs
+  -- and some node record is free
+  pub spare : (n : ℕ) × (n < layout.nodes) × ¬ IsLinked (loaded_tree layout words) (a_node n)

@@ -86,7 +86,9 @@ pub record IsAlone (l : Builder) (t : Tree) (xs : List Item) : Type 0 where
   pub tree : IsTreeOf l t
   pub content : items t ≡ xs
   pub few : size (subtrie t) ≤ 32
-  pub room : (2 ≤ length l.slots.items) → l.nodes < l.layout.nodes
+  -- if it has to be closed, one node record is left besides
+  pub room : (2 ≤ length l.slots.items) → l.nodes + 1 < l.layout.nodes
+  pub kept : l.nodes < l.layout.nodes
 
 -- the piece at the top is the last leaf
 pub record EndsInLeaf (l : Builder) (xs : List Item) : Type 0 where

@@ -169,6 +169,7 @@ impl Builder {
         ensures tree { (xs : List Item) → IsStackOf self.old xs → (t : Tree) × IsTreeOf self.new t × (items t ≡ xs) × (subtrie t ≡ Place result) }
         ensures entry { HasEntryWord (Some result) }
         ensures layout { self.new.layout ≡ self.old.layout }
+        ensures kept { self.new.nodes < self.new.layout.nodes }
     {
         self.join_all();
         let count = self.slots.len();

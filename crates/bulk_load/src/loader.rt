@@ -26,8 +26,10 @@ impl Model for Loader {
 }
 
 impl Loader {
-    ghost use Rattle.std.specs.Prelude.{◌≡◌, ◌↔◌, ◌≤◌, ℕ, Err, IfOk, OnErr, OnOk, length};
+    ghost use Rattle.std.specs.Prelude.{◌≡◌, ◌↔◌, ◌<◌, ◌≤◌, ℕ, Err, IfOk, OnErr, OnOk, length};
     ghost use Rattle.tries.specs.Content.{item};
+    ghost use Rattle.versions.specs.declared.Rec.TheVariants.{Node as a_node};
+    ghost use Rattle.versions.specs.State.{IsLinked};
     ghost use Rattle.versions.specs.Told.{items_of};
     ghost use Rattle.rowex_core.specs.Events.{IsLoad, after, loaded_tree};
     ghost use Rattle.rowex_core.specs.Opening.{opening};
@@ -66,11 +68,12 @@ impl Loader {
         Ok(())
     }
 
-    /// The words of the table: they show one tree, whose leaves are those that were taken.
+    /// The words of the table: they show one tree, whose leaves are those that were taken. One node record at least is free.
     pub fn finish(self) -> Vec<u64>
         ensures load { IsLoad self.layout result.items }
         ensures shows { Shows (after (opening self.layout) 0 (load_act result.items)) result.items }
         ensures items { items_of (loaded_tree self.layout result.items) ≡ self.items }
+        ensures spare { (n : ℕ) × (n < self.layout.nodes) × ¬ IsLinked (loaded_tree self.layout result.items) (a_node n) }
     {
         let mut builder = self.builder;
         builder.close_all();

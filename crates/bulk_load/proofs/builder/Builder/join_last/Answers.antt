@@ -1,10 +1,9 @@
 -- Both pieces are closed as planned, and stand beside each other then.
-use Rattle.std.proofs.Common.{◌≡◌, ◌⊎◌, ℕ, ◌+◌, ◌-◌, ◌*◌, ◌≤◌, ◌<◌, take, slice_set, None, length, refl, ap, sym, subst, ◌∙◌, arith}
+use Rattle.std.proofs.Common.{◌≡◌, ◌+◌, ◌-◌, ◌<◌, take, slice_set, None, length, refl, ap, sym, subst, ◌∙◌, arith}
 use Rattle.std.specs.Vec.{vec_len}
 use Rattle.std.proofs.lemmas.List.{length-set, length-take}
 use Rattle.record_words.specs.declared.layout.Layout.{Layout}
 use Rattle.bulk_load.specs.declared.builder.Part.{Part}
-use Rattle.bulk_load.specs.Loading.{HasNodesFor}
 use Rattle.bulk_load.proofs.Closing.{fits}
 use Rattle.bulk_load.proofs.Joining.{first_piece, second_piece, joined_stack, each_few, first_node, nodes_then, piece_closed, second_node}
 use Rattle.bulk_load.proofs.Taking.{leaves_more}

@@ -1,5 +1,7 @@
 -- The words are those of a load of the leaves that the builder had.
-use Rattle.std.proofs.Common.{◌≡◌, subst}
+use Rattle.std.proofs.Common.{◌≡◌, ◌<◌, ℕ, subst}
+use Rattle.versions.specs.declared.Rec.TheVariants.{Node as a_node}
+use Rattle.versions.specs.State.{IsLinked}
 use Rattle.versions.specs.Told.{items_of}
 use Rattle.rowex_core.specs.Events.{IsLoad, after, loaded_tree}
 use Rattle.rowex_core.specs.Opening.{opening}
@@ -21,3 +23,9 @@ pub returns-clause-items : goal.returns-clause-items
 returns-clause-items c =
     let words = c.close_all.new.self.words.items in
     subst (λ (v : LoadView). items_of (loaded_tree v.layout words) ≡ v.items) c.self.view_is (c.close_all.ensures.finished (items_in c.self.inside.builder) c.self.invariant).items
+
+pub returns-clause-spare : goal.returns-clause-spare
+returns-clause-spare c =
+    let words = c.close_all.new.self.words.items in
+    subst (λ (v : LoadView). (n : ℕ) × (n < v.layout.nodes) × ¬ IsLinked (loaded_tree v.layout words) (a_node n)) c.self.view_is
+    (c.close_all.ensures.finished (items_in c.self.inside.builder) c.self.invariant).spare
