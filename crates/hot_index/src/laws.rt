@@ -49,8 +49,8 @@ pub fn counts_add_up()
     ensures { CountsAddUp }
 {}
 
-/// In an index of one pass one node record stands in no tree: when the index is new, and after each call of its pass. So by clause `room` no
-/// removal that waits is refused for want of a node record, while fewer than 2^60 steps have been made.
+/// In an index of one pass one node record stands in no tree: when the index is new, and after each call of its pass. `Load::finish` says so of
+/// one that was loaded. So by clause `room` no removal that waits is refused for want of a node record, while fewer than 2^60 steps have been made.
 pub fn one_pass_keeps_spare<G: Gate>()
     ensures { OnePassKeepsSpare G.becomes }
 {}
