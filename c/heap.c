@@ -6,6 +6,9 @@
  * which holds nothing but 0. Then it gets pages to which nothing was written, which are 0 as well: the zeros when they are copied, and the
  * table, which takes over theirs, when they are freed. So the making of a table takes a chunk, and an index what it holds.
  *
+ * A load fills the first of the two blocks: behind the zeros it gets its pages at once, and the table takes them over as they are, all but
+ * the first, which was copied. So a load takes no more memory than the index that it makes.
+ *
  * The lists of a handle begin as 0, too: once they are made, each page of them in which there is nothing but 0 is given back, and reads
  * as 0 again.
  *
@@ -41,9 +44,10 @@ typedef struct pages {
 static __thread struct {
     int is_on;
     size_t table;  /* the size of the table that is still to be made, or 0 */
-    pages *zeros;  /* of which the table is made */
+    pages *zeros;  /* of which the table is made; what a load has filled, if that goes on */
     pages *copied; /* the table, while the zeros are there */
     pages *last;   /* the last other block, in which pages of 0 are to be given back */
+    int is_filled; /* the zeros have their pages, and are no zeros any more */
     int is_broken; /* the table has no pages of its own, since memory was refused */
 } making;
 
@@ -126,7 +130,8 @@ static int renew(pages *block) {
 
 /* The first of the two blocks that a table is made of, or the second. Or NULL: then this one comes from malloc, and so does the second. */
 static pages *map_table(size_t bytes) {
-    pages *made = making.zeros == NULL || renew(making.zeros) ? map_pages(bytes, HUGE_PAGE) : NULL;
+    int is_ready = making.zeros == NULL || making.is_filled || renew(making.zeros);
+    pages *made = is_ready ? map_pages(bytes, HUGE_PAGE) : NULL;
     if (made != NULL && !stand_in(made)) {
         unmap(made);
         made = NULL;
@@ -140,19 +145,26 @@ static pages *map_table(size_t bytes) {
     return made;
 }
 
-/* Frees the zeros. If they were copied to a table, it takes over their pages but the first, and still holds what it held. Where the
- * system refuses that, which may have taken the table's own pages away, it gets fresh ones. */
+/* Lets a table take over these pages, of which it is a copy. Returns whether it did. Where the system refuses that, which may have taken the
+ * table's own pages away, the table gets fresh ones, and what was filled is copied. */
+static int move_pages(pages *table, char *from, size_t rest) {
+    char *to = (char *)table + PAGE;
+    if (!making.is_filled)
+        madvise(from, rest, MADV_DONTNEED);
+    if (mremap(from, rest, rest, MREMAP_MAYMOVE | MREMAP_FIXED, to) != MAP_FAILED)
+        return 1;
+    making.is_broken = !renew(table);
+    if (making.is_filled && !making.is_broken)
+        memcpy(to, from, rest);
+    return 0;
+}
+
+/* Frees the zeros. If they were copied to a table, it takes over their pages but the first, and still holds what it held. */
 static void free_zeros(void) {
     pages *table = making.copied, left = *making.zeros;
     char *from = (char *)making.zeros + PAGE, *end = (char *)making.zeros + left.size;
-    size_t rest = left.size - PAGE;
-    int is_moved = 0;
+    int is_moved = table != NULL && move_pages(table, from, left.size - PAGE);
     making.zeros = making.copied = NULL;
-    if (table != NULL) {
-        madvise(from, rest, MADV_DONTNEED);
-        is_moved = mremap(from, rest, rest, MREMAP_MAYMOVE | MREMAP_FIXED, (char *)table + PAGE) != MAP_FAILED;
-        making.is_broken = !is_moved && !renew(table);
-    }
     if (!is_moved) {
         munmap(left.begin, left.length);
         return;
@@ -254,7 +266,7 @@ tried rattle_realloc(void *at, size_t kept, size_t size, size_t align) {
 void heap_begin(size_t table) {
     making.is_on = 1;
     making.table = table < LEAST_TABLE ? 0 : table;
-    making.is_broken = 0;
+    making.is_filled = making.is_broken = 0;
 }
 
 int heap_end(void) {
@@ -262,4 +274,18 @@ int heap_end(void) {
     making.is_on = 0;
     making.table = 0;
     return !making.is_broken;
+}
+
+int heap_pause(void **words) {
+    pages *filled = making.zeros;
+    *words = filled;
+    making.zeros = NULL;
+    making.is_broken = filled != NULL && !renew(filled);
+    return heap_end();
+}
+
+void heap_go_on(size_t table, void *words) {
+    heap_begin(words == NULL ? 0 : table);
+    making.zeros = words;
+    making.is_filled = 1;
 }
