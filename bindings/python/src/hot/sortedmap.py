@@ -56,7 +56,11 @@ class SortedMap(Map[K], MutableMapping[K, int], Generic[K]):
     Threads may use a map at the same time, at most `threads` of them in calls that wait
     or look up many keys. A map has room for `capacity` keys of at most `longest` bytes.
     When it is full it grows, by a copy for which other threads wait; with grow=False it
-    raises FullError. An iterator lists what is there all along, and may list or miss
+    raises FullError. Where the data is a SortedMap with the same keys, or sorted=True
+    says that its keys rise, all goes in at once, in a fraction of the time; a key that
+    isn't above the one before raises ValueError then.
+
+    An iterator lists what is there all along, and may list or miss
     what is set or deleted meanwhile. In the child of a process that forks while it has
     threads the maps of the parent raise HotError.
     """
@@ -71,11 +75,17 @@ class SortedMap(Map[K], MutableMapping[K, int], Generic[K]):
         longest: int = 24,
         threads: int = 8,
         grow: bool = True,
+        sorted: bool = False,
     ) -> None:
         kind: Union[type, Codec] = keys if isinstance(keys, type) else Codec(*keys)
         super().__init__(kind, capacity, longest, threads, grow)
         self._options: dict[str, Any] = {"keys": keys, "threads": threads, "grow": grow}
-        self.update(data)
+        if isinstance(data, SortedMap) and data._options["keys"] == keys:
+            self._load_map(data)
+        elif sorted:
+            self._load(data.items() if isinstance(data, Mapping) else data)
+        else:
+            self.update(data)
 
     def _list(
         self, what: int, bounds: Optional[tuple[bytes, bytes]], reverse: bool = False
