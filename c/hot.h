@@ -197,8 +197,8 @@ typedef int hot_source(void *context, const uint8_t **key, size_t *length, uint6
  * any other call; but that takes several times as long. Where a pair is refused, the load ends: the index has those before it, and `count` is
  * the number of the refused one, from 0 on. A load takes no more memory than hot_open_index and the pairs do. `next` may make calls with
  * other indexes. hot_load_packed takes pairs that lie in memory.
- * HOT_DONE; or HOT_NOT_RISING, HOT_KEY_TOO_LONG, HOT_FULL_NODES, HOT_FULL_LEAVES, if a pair was refused: that none of its leaf records had room
- * for the key, or that too few records were left. Or HOT_OUT_OF_RANGE, HOT_NO_MEMORY, HOT_OLD_PROCESSOR, and then nothing is written. */
+ * HOT_DONE; or HOT_NOT_RISING, HOT_KEY_TOO_LONG, HOT_FULL_NODES, HOT_FULL_LEAVES, if a pair was refused; or HOT_OUT_OF_RANGE, HOT_NO_MEMORY,
+ * HOT_OLD_PROCESSOR, and then nothing is written. */
 hot_status hot_load(const hot_stock *stock, size_t handles, hot_source *next, void *context, hot_index **index, size_t *count);
 
 /* Opens a handle of the index, at any time and from any thread. It looks at no more than one word for each handle of the index. If it
