@@ -231,7 +231,6 @@ int main(void) {
     test_few_nodes();
     test_packed();
     test_nested();
-    if (!failures)
-        puts("passed: loads");
+    puts(failures ? "c/loads.c failed" : "passed: c/loads.c");
     return failures;
 }
