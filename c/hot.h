@@ -195,8 +195,9 @@ typedef int hot_source(void *context, const uint8_t **key, size_t *length, uint6
 /* Makes an index as hot_open_index does, of the pairs that `next` gives it, with the `context`, until it answers 0; and writes how many there
  * are to `count`. Each key is above the one before it. The index is as if a handle had put them in one after another by hot_insert, before
  * any other call; but that takes several times as long. Where a pair is refused, the load ends: the index has those before it, and `count` is
- * the number of the refused one, from 0 on. A load takes no more memory than hot_open_index and the pairs do. `next` may make calls with
- * other indexes. hot_load_packed takes pairs that lie in memory.
+ * the number of the refused one, from 0 on. A load takes no more memory than hot_open_index and the pairs do. It leaves node records for what
+ * it has to end: so it may be HOT_FULL_NODES where insertions go on, but never while the stock has a node for each pair. `next` may make
+ * calls with other indexes. hot_load_packed takes pairs that lie in memory.
  * HOT_DONE; or HOT_NOT_RISING, HOT_KEY_TOO_LONG, HOT_FULL_NODES, HOT_FULL_LEAVES, if a pair was refused; or HOT_OUT_OF_RANGE, HOT_NO_MEMORY,
  * HOT_OLD_PROCESSOR, and then nothing is written. */
 hot_status hot_load(const hot_stock *stock, size_t handles, hot_source *next, void *context, hot_index **index, size_t *count);

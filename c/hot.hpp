@@ -993,8 +993,9 @@ class growing {
         for (std::uint32_t *count : {&larger.nodes, &larger.short_leaves, &larger.medium_leaves, &larger.large_leaves, &larger.wide_leaves,
                                      &larger.long_leaves})
             *count = *count > UINT32_MAX / 2 ? UINT32_MAX : *count * 2;
-        index next = index::load(larger, copier_.scan(), users_ + 1);
+        index next(larger, users_ + 1);
         handle copier = next.open();
+        copier_.copy_to(copier);
         const std::lock_guard<std::mutex> opening(opening_);
         now_ = std::move(next);
         copier_ = std::move(copier);

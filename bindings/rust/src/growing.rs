@@ -118,9 +118,9 @@ impl All {
             wide_leaves: copier.0.wide_leaves.saturating_mul(2),
             long_leaves: copier.0.long_leaves.saturating_mul(2),
         };
-        let handles = copier.1.index().handles();
-        let next = Hot::from_sorted_iter(&stock, handles, copier.1.iter()).map_err(|why| why.error)?;
+        let next = Hot::with_stock(&stock, copier.1.index().handles())?;
         let handle = next.handle()?;
+        copier.1.copy_to(&handle)?;
         *copier = (stock, handle);
         let mut now = locked(&self.now);
         *now = next;

@@ -7,6 +7,7 @@ from collections.abc import MutableMapping, ValuesView
 from itertools import chain, islice
 from typing import Any, Generic, NamedTuple, Optional, TypeVar, Union
 
+from ._errors import FullError
 from ._hot import ITEMS, KEYS, MAX_KEY, VALUES, Map
 from .codec import Codec
 
@@ -57,8 +58,8 @@ class SortedMap(Map[K], MutableMapping[K, int], Generic[K]):
     or look up many keys. A map has room for `capacity` keys of at most `longest` bytes.
     When it is full it grows, by a copy for which other threads wait; with grow=False it
     raises FullError. Where the data is a SortedMap with the same keys, or sorted=True
-    says that its keys rise, all goes in at once, in a fraction of the time; a key that
-    isn't above the one before raises ValueError then.
+    says that its keys rise, all goes in at once; a key that isn't above the one before
+    raises ValueError then.
 
     An iterator lists what is there all along, and may list or miss
     what is set or deleted meanwhile. In the child of a process that forks while it has
@@ -81,11 +82,19 @@ class SortedMap(Map[K], MutableMapping[K, int], Generic[K]):
         super().__init__(kind, capacity, longest, threads, grow)
         self._options: dict[str, Any] = {"keys": keys, "threads": threads, "grow": grow}
         if isinstance(data, SortedMap) and data._options["keys"] == keys:
-            self._load_map(data)
+            self._copy_of(data)
         elif sorted:
             self._load(data.items() if isinstance(data, Mapping) else data)
         else:
             self.update(data)
+
+    def _copy_of(self, other: SortedMap[K]) -> None:
+        """Takes the pairs of a map with the same keys."""
+        try:
+            self._load_map(other)
+        except FullError:
+            # Pairs that are put in one by one may take fewer records.
+            self.update(other)
 
     def _list(
         self, what: int, bounds: Optional[tuple[bytes, bytes]], reverse: bool = False
