@@ -392,16 +392,26 @@ static int next_packed(void *context, const uint8_t **key, size_t *length, uint6
     return 1;
 }
 
+/* Makes an index of these pairs, with a stock that is enlarged until it is enough, if the index may grow. Writes how many went in. */
+static hot_status room_load(const store *to, hot_stock stock, const sorted_pairs *pairs, size_t *number, room **made) {
+    for (;;) {
+        sorted_pairs left = *pairs;
+        supply all = {next_packed, &left, 0};
+        hot_status status = room_open(&stock, to->threads, &all, made);
+        *number = all.count;
+        if (!to->grows || !is_full(status, 0))
+            return status;
+        enlarge(&stock, status, NULL);
+    }
+}
+
 hot_status store_load(store *it, const sorted_pairs *pairs, size_t *number) {
     room *new = NULL;
-    sorted_pairs left = *pairs;
-    supply all = {next_packed, &left, 0};
     void *ended = hold_alone(it);
     hot_stock stock = it->room->stock;
     if (it->grows)
         make_room_for(pairs, &stock);
-    hot_status status = room_open(&stock, it->threads, &all, &new);
-    *number = all.count;
+    hot_status status = room_load(it, stock, pairs, number, &new);
     return take_room(it, status, new, ended);
 }
 
