@@ -850,8 +850,8 @@ class index {
     /// record has room for throws std::length_error.
     index(std::uint32_t keys, std::size_t longest, std::size_t handles = 64) : index(stock_for_keys(keys, longest), handles) {}
     /// Makes an index of pairs, whose keys rise: hot_load. They are a key and a value each, in anything that can be iterated over, such as a
-    /// std::map, a vector of entries, or the range of a scan in another index. Throws load_error where a pair is refused, as the constructor
-    /// does, and what the iterators throw. Nothing is left then.
+    /// std::map, a vector of entries, or the range of a scan in another index. Throws as the constructor does,
+    /// load_error where a pair is refused, and what the iterators throw. Nothing is left then.
     template <class Pairs> [[nodiscard]] static index load(const hot_stock &stock, Pairs &&pairs, std::size_t handles = 64) {
         using std::begin, std::end;
         detail::source<decltype(begin(pairs)), decltype(end(pairs))> from{begin(pairs), end(pairs)};
