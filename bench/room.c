@@ -1,4 +1,4 @@
-/* Tells what memory an index takes: how many bytes are resident for each key, fresh and where keys come and go, what an open handle takes,
+/* Tells what memory an index takes: how many bytes are resident for each key, fresh, loaded and where keys come and go, what an open handle takes,
  * and what it takes to make a table. Each figure is of a process of its own, with stocks by hot_stock_for_keys, or by hot_stock_for_lengths for URLs. A line has four cells:
  * what it is, which keys, how many, and the figure. `bench/run room` builds and runs it; how busy the machine is changes nothing but the
  * milliseconds. */
@@ -98,6 +98,54 @@ static void fresh(int kind, uint32_t keys)
     make(kind, keys, &handle);
     insert(&handle, kind, 0, keys);
     tell("fresh", kind_names[kind], keys, (now_resident() - before) / keys);
+}
+
+/* Numbers of a kind that are loaded, in the order of their keys. */
+struct sorted {
+    uint32_t *numbers, next, count;
+    uint8_t key[LONGEST];
+    int kind;
+};
+
+static int sorted_kind;
+
+static int compare(const void *one, const void *other)
+{
+    uint8_t left[LONGEST], right[LONGEST];
+    size_t its = key_of(sorted_kind, *(const uint32_t *)one, left), others = key_of(sorted_kind, *(const uint32_t *)other, right);
+    int order = memcmp(left, right, its < others ? its : others);
+    return order ? order : (its > others) - (its < others);
+}
+
+static int next_sorted(void *context, const uint8_t **key, size_t *length, uint64_t *value)
+{
+    struct sorted *all = context;
+    if (all->next == all->count) {
+        return 0;
+    }
+    *value = all->numbers[all->next++];
+    *length = key_of(all->kind, *value, all->key);
+    *key = all->key;
+    return 1;
+}
+
+/* Bytes a key, once so many were loaded. */
+static void loaded(int kind, uint32_t keys)
+{
+    struct sorted all = { malloc(keys * sizeof *all.numbers), 0, keys, { 0 }, kind };
+    hot_stock stock = stock_for(kind, keys);
+    hot_index *index;
+    double before;
+    size_t count;
+    uint32_t number;
+    for (number = 0; all.numbers && number < keys; number++) {
+        all.numbers[number] = number;
+    }
+    sorted_kind = kind;
+    qsort(all.numbers, keys, sizeof *all.numbers, compare);
+    before = now_resident();
+    must(hot_load(&stock, HANDLES, next_sorted, &all, &index, &count), HOT_DONE);
+    tell("loaded", kind_names[kind], keys, (now_resident() - before) / keys);
 }
 
 /* Bytes a key in a table for fifteen times as many, once half of them have been replaced, some times over and batch by batch. */
@@ -226,6 +274,7 @@ int main(int words, char **word)
         failed |= apart(fresh, RANDOM, (uint32_t)keys);
     }
     failed |= apart(fresh, PAGES, 200000) | apart(fresh, DENSE, 200000) | apart(replaced, RANDOM, 200000);
+    failed |= apart(loaded, RANDOM, 1000000) | apart(loaded, PAGES, 200000);
     failed |= apart(by_threads, RANDOM, 300000) | apart(handles, RANDOM, 10000);
     for (keys = 1000000; keys <= most; keys *= 10) {
         failed |= apart(making, RANDOM, (uint32_t)keys);

@@ -3,8 +3,11 @@
  *
  * A table is made of two blocks of its size: first the zeros, of which a word or two of the first page are then set, and then the table,
  * to which they are copied word by word. While either is written, all pages of it but the first are one chunk of memory, again and again,
- * which holds nothing but 0. Then it gets pages to which nothing was written, which are 0 as well: the zeros when they are copied, and the
- * table, which takes over theirs, when they are freed. So the making of a table takes a chunk, and an index what it holds.
+ * which holds nothing but 0. When the zeros are freed the table gets pages to which nothing was written, which are 0 as well. So the making
+ * of a table takes two chunks, and an index what it holds.
+ *
+ * A load fills the first of the two blocks, which gets such pages before that. They are copied to the table, too, but it then takes them over
+ * as they are, all but the first. So a load takes no more memory than the index that it makes.
  *
  * The lists of a handle begin as 0, too: once they are made, each page of them in which there is nothing but 0 is given back, and reads
  * as 0 again.
@@ -24,7 +27,12 @@
 enum { PAGE = 4096, HUGE_PAGE = 2 << 20, LEAST_BLOCK = 64 << 10, LEAST_TABLE = 1 << 20, LEAST_HUGE_TABLE = 64 << 20 };
 
 /* A chunk has at least so many bytes, and a table so many chunks at most. */
-enum { LEAST_CHUNK = 1 << 20, MOST_CHUNKS = 1024 };
+enum { LEAST_CHUNK = 1 << 20, MOST_CHUNKS = 2048 };
+
+/* Advice of Linux 5.14 and later: pages are there before they are read one by one. Else each is found when it is touched. */
+#ifndef MADV_POPULATE_READ
+#define MADV_POPULATE_READ 22
+#endif
 
 /* Where a block begins in its pages: 8 bytes behind a multiple of 16. All that malloc gives begins at one, if it is asked for so many
  * bytes. */
@@ -41,9 +49,10 @@ typedef struct pages {
 static __thread struct {
     int is_on;
     size_t table;  /* the size of the table that is still to be made, or 0 */
-    pages *zeros;  /* of which the table is made */
+    pages *zeros;  /* of which the table is made; what a load has filled, if that goes on */
     pages *copied; /* the table, while the zeros are there */
     pages *last;   /* the last other block, in which pages of 0 are to be given back */
+    int is_filled; /* the zeros have their pages, and are no zeros any more */
     int is_broken; /* the table has no pages of its own, since memory was refused */
 } making;
 
@@ -110,10 +119,13 @@ static int stand_in(pages *for_these) {
         put = mremap(chunk, 0, part, MREMAP_MAYMOVE | MREMAP_FIXED, (char *)for_these + PAGE + at);
     }
     munmap(chunk, size);
-    return put != MAP_FAILED;
+    if (put == MAP_FAILED)
+        return 0;
+    madvise((char *)for_these + PAGE, rest, MADV_POPULATE_READ);
+    return 1;
 }
 
-/* Puts fresh pages in the place of all of a block but the first, in which there is nothing but 0. Returns whether it could. */
+/* Puts fresh pages in the place of all of a block but the first. Returns whether it could. */
 static int renew(pages *block) {
     size_t rest = block->size - PAGE;
     char *at = (char *)block + PAGE;
@@ -126,7 +138,7 @@ static int renew(pages *block) {
 
 /* The first of the two blocks that a table is made of, or the second. Or NULL: then this one comes from malloc, and so does the second. */
 static pages *map_table(size_t bytes) {
-    pages *made = making.zeros == NULL || renew(making.zeros) ? map_pages(bytes, HUGE_PAGE) : NULL;
+    pages *made = map_pages(bytes, HUGE_PAGE);
     if (made != NULL && !stand_in(made)) {
         unmap(made);
         made = NULL;
@@ -140,19 +152,24 @@ static pages *map_table(size_t bytes) {
     return made;
 }
 
-/* Frees the zeros. If they were copied to a table, it takes over their pages but the first, and still holds what it held. Where the
- * system refuses that, which may have taken the table's own pages away, it gets fresh ones. */
+/* Gives a table its pages, which then hold what it holds: those of what was filled, or fresh ones. Returns whether they were moved. Where the
+ * system refuses that, which may have taken the table's own pages away, what was filled is copied. */
+static int move_pages(pages *table, char *from, size_t rest) {
+    char *to = (char *)table + PAGE;
+    if (making.is_filled && mremap(from, rest, rest, MREMAP_MAYMOVE | MREMAP_FIXED, to) != MAP_FAILED)
+        return 1;
+    making.is_broken = !renew(table);
+    if (making.is_filled && !making.is_broken)
+        memcpy(to, from, rest);
+    return 0;
+}
+
+/* Frees the zeros, or what was filled. If they were copied to a table, that gets pages of its own. */
 static void free_zeros(void) {
     pages *table = making.copied, left = *making.zeros;
     char *from = (char *)making.zeros + PAGE, *end = (char *)making.zeros + left.size;
-    size_t rest = left.size - PAGE;
-    int is_moved = 0;
+    int is_moved = table != NULL && move_pages(table, from, left.size - PAGE);
     making.zeros = making.copied = NULL;
-    if (table != NULL) {
-        madvise(from, rest, MADV_DONTNEED);
-        is_moved = mremap(from, rest, rest, MREMAP_MAYMOVE | MREMAP_FIXED, (char *)table + PAGE) != MAP_FAILED;
-        making.is_broken = !is_moved && !renew(table);
-    }
     if (!is_moved) {
         munmap(left.begin, left.length);
         return;
@@ -254,7 +271,7 @@ tried rattle_realloc(void *at, size_t kept, size_t size, size_t align) {
 void heap_begin(size_t table) {
     making.is_on = 1;
     making.table = table < LEAST_TABLE ? 0 : table;
-    making.is_broken = 0;
+    making.is_filled = making.is_broken = 0;
 }
 
 int heap_end(void) {
@@ -262,4 +279,20 @@ int heap_end(void) {
     making.is_on = 0;
     making.table = 0;
     return !making.is_broken;
+}
+
+int heap_pause(void **words) {
+    pages *filled = making.zeros;
+    *words = filled;
+    making.zeros = NULL;
+    making.is_broken = filled != NULL && !renew(filled);
+    return heap_end();
+}
+
+void heap_go_on(size_t table, void *words) {
+    heap_begin(words == NULL ? 0 : table);
+    making.zeros = words;
+    making.is_filled = 1;
+    if (words != NULL)
+        madvise((char *)words + PAGE, making.zeros->size - PAGE, MADV_POPULATE_READ);
 }

@@ -1,5 +1,5 @@
 /* What of the library for C is written in C, and tested: the texts of statuses, scans of a prefix, pairs that are handed over one by
- * one, calls for many keys, an index that opens its handles one by one, and the calls that wait: the proved library may neither wait
+ * one, and taken one by one by a load, calls for many keys, an index that opens its handles one by one, and the calls that wait: the proved library may neither wait
  * nor yield, so it says when to try again, and the wait is here. */
 #define _POSIX_C_SOURCE 199309L
 #include "hot.h"
@@ -50,6 +50,21 @@ hot_status proved_leave_section(section_handle *section);
 hot_status proved_take_moment(section_handle *section, uint64_t *moment);
 hot_status proved_is_moment_past(section_handle *section, uint64_t moment);
 
+/* A load of the proved calls. Zeroed bytes are a closed one. */
+typedef struct loading {
+    uint32_t tag;
+    struct {
+        void *at;
+    } slot;
+} loading;
+
+/* The proved calls of loads. The first begins one, the second takes a pair, the third makes an index of what was taken, and opens its keeper as
+ * proved_create_keeping does. It closes the load, which is given up where memory is refused, as by the last one. */
+hot_status proved_begin_load(const hot_stock *stock, size_t passes, loading *load);
+hot_status proved_load_pair(loading *load, const uint8_t *key, size_t length, uint64_t value);
+hot_status proved_end_load(loading *load, hot_handle *keeper);
+hot_status proved_give_up_load(loading *load);
+
 uint32_t hot_version(void) {
     return HOT_VERSION_MAJOR << 16 | HOT_VERSION_MINOR << 8 | HOT_VERSION_PATCH;
 }
@@ -85,6 +100,7 @@ const char *hot_status_text(hot_status status) {
     case HOT_INSIDE: return "the handle's section is open";
     case HOT_OUTSIDE: return "the handle's section is not open";
     case HOT_NOT_PAST: return "a section that was open then may still be open";
+    case HOT_NOT_RISING: return "the key is not above the one before";
     default: return "not a status";
     }
 }
@@ -681,6 +697,104 @@ hot_status hot_open_index(const hot_stock *stock, size_t handles, hot_index **in
     else
         free_index(made);
     return status;
+}
+
+/* Takes pairs into a load, until there is none or one is refused. Writes how many it took, and returns why the next one was refused, or
+ * HOT_DONE. */
+static hot_status take_pairs(loading *load, hot_source *next, void *context, size_t *count) {
+    const uint8_t *key;
+    size_t length;
+    uint64_t value;
+    hot_status status = HOT_DONE;
+    for (*count = 0; next(context, &key, &length, &value); ++*count) {
+        status = proved_load_pair(load, key, length, value);
+        if (status != HOT_DONE)
+            break;
+    }
+    return status;
+}
+
+/* Begins a load, and writes the words that it fills. */
+static hot_status begin_load(const hot_stock *stock, size_t handles, loading *load, void **words) {
+    hot_status status;
+    begin_making(stock, handles);
+    status = proved_begin_load(stock, handles, load);
+    if (heap_pause(words) || status != HOT_DONE)
+        return status;
+    proved_give_up_load(load);
+    return HOT_NO_MEMORY;
+}
+
+/* Makes an index of what a load has taken, and opens its keeper. */
+static hot_status end_load(const hot_stock *stock, loading *load, void *words, hot_index *index) {
+    size_t bytes = 0;
+    proved_stock_bytes(stock, index->count, &bytes);
+    heap_go_on(bytes, words);
+    return end_making(proved_end_load(load, &index->keeper), &index->keeper, 1);
+}
+
+/* Gives an index its keeper, and the pairs, which its first handle counts; and writes why the next one was refused, or HOT_DONE. HOT_DONE, or
+ * HOT_NO_MEMORY. */
+static hot_status fill_index(const hot_stock *stock, hot_source *next, void *context, hot_index *index, hot_status *refused) {
+    loading load = {0, {NULL}};
+    void *words;
+    size_t count;
+    hot_status status = begin_load(stock, index->count, &load, &words);
+    if (status != HOT_DONE)
+        return status;
+    *refused = take_pairs(&load, next, context, &count);
+    if (*refused == HOT_NO_MEMORY) {
+        proved_give_up_load(&load);
+        return HOT_NO_MEMORY;
+    }
+    index->places[0].keys = count;
+    return end_load(stock, &load, words, index);
+}
+
+hot_status hot_load(const hot_stock *stock, size_t handles, hot_source *next, void *context, hot_index **index, size_t *count) {
+    size_t bytes;
+    hot_index *made;
+    hot_status refused, status = hot_stock_bytes(stock, handles, &bytes);
+    if (status != HOT_DONE)
+        return status;
+    made = new_index(handles);
+    if (made == NULL)
+        return HOT_NO_MEMORY;
+    status = fill_index(stock, next, context, made, &refused);
+    if (status != HOT_DONE) {
+        free_index(made);
+        return status;
+    }
+    *index = made;
+    *count = made->places[0].keys;
+    return refused;
+}
+
+/* Pairs that lie packed. */
+typedef struct packed {
+    const uint8_t *bytes;
+    const hot_head *heads, *end;
+} packed;
+
+static int next_packed(void *context, const uint8_t **key, size_t *length, uint64_t *value) {
+    packed *left = context;
+    if (left->heads == left->end)
+        return 0;
+    *key = left->bytes;
+    *length = left->heads->length;
+    *value = left->heads->value;
+    left->bytes += left->heads->length;
+    ++left->heads;
+    return 1;
+}
+
+hot_status hot_load_packed(const hot_stock *stock, size_t handles, const uint8_t *bytes, const hot_head *heads, size_t count, hot_index **index,
+                           size_t *loaded) {
+    packed all;
+    all.bytes = bytes;
+    all.heads = heads;
+    all.end = heads + count;
+    return hot_load(stock, handles, next_packed, &all, index, loaded);
 }
 
 /* Takes a handle that was given back, at this place. */

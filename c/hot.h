@@ -50,8 +50,8 @@
  *
  * The library starts no threads and keeps no data outside its indexes. It needs Linux, and an x86-64 processor of the level for which it
  * was compiled: x86-64-v3, which has AVX2, unless the machine that compiled it had not, or x86-64-v2 was asked for. On an older one
- * hot_create, hot_create_with, hot_open_index and hot_stock_bytes return HOT_OLD_PROCESSOR and write nothing, and stocks have no records;
- * any other call may end the program there.
+ * hot_create, hot_create_with, hot_open_index, hot_load, hot_load_packed and hot_stock_bytes return HOT_OLD_PROCESSOR and write nothing, and
+ * stocks have no records; any other call may end the program there.
  * `pkg-config --cflags --libs hot` tells how to link it. */
 #ifndef HOT_H
 #define HOT_H
@@ -81,7 +81,8 @@ extern const uint8_t hot_last_key[HOT_MAX_KEY];
 
 /* How a call came out. Each call says which of these it returns. From HOT_BUSY to HOT_NO_MEMORY, and from HOT_HELD_BACK on, the call
  * was refused and changed nothing; with any other status it was made. hot_copy, hot_clear, hot_clear_range, hot_each and hot_get_packed
- * return the status of the first of their calls that was refused: what those before it did stays. */
+ * return the status of the first of their calls that was refused: what those before it did stays. So a load keeps the pairs before one
+ * that was refused. */
 typedef uint32_t hot_status;
 enum {
     HOT_DONE = 0,          /* it was made; there is nothing else to tell */
@@ -108,7 +109,8 @@ enum {
     HOT_OLD_PROCESSOR = 21, /* the library was compiled for newer processors */
     HOT_INSIDE = 22,       /* the handle's section is open */
     HOT_OUTSIDE = 23,      /* the handle's section is not open */
-    HOT_NOT_PAST = 24      /* a section that was open at the moment may still be open: ask again */
+    HOT_NOT_PAST = 24,     /* a section that was open at the moment may still be open: ask again */
+    HOT_NOT_RISING = 25    /* the key of a pair that is loaded is not above the one before */
 };
 
 /* A few words of English for a status. The text is static; a number that is no status has a text too. */
@@ -185,6 +187,20 @@ hot_status hot_stock_bytes(const hot_stock *stock, size_t handles, size_t *bytes
  * bytes; the handle's lists and its section are made when hot_open first opens it, and the lists of the last one at once.
  * HOT_DONE; or HOT_OUT_OF_RANGE, HOT_NO_MEMORY or HOT_OLD_PROCESSOR, and then nothing is written. */
 hot_status hot_open_index(const hot_stock *stock, size_t handles, hot_index **index);
+
+/* What a load takes its pairs from: a call writes the next one, whose key is there until the function is called again or the load returns.
+ * It answers 0 if there is none. */
+typedef int hot_source(void *context, const uint8_t **key, size_t *length, uint64_t *value);
+
+/* Makes an index as hot_open_index does, of the pairs that `next` gives it, with the `context`, until it answers 0; and writes how many there
+ * are to `count`. Each key is above the one before it. The index is as if a handle had put them in one after another by hot_insert, before
+ * any other call; but that takes several times as long. Where a pair is refused, the load ends: the index has those before it, and `count` is
+ * the number of the refused one, from 0 on. A load takes no more memory than hot_open_index and the pairs do. It leaves node records for what
+ * it has to end: so it may be HOT_FULL_NODES where insertions go on, but never while the stock has a node for each pair. `next` may make
+ * calls with other indexes. hot_load_packed takes pairs that lie in memory.
+ * HOT_DONE; or HOT_NOT_RISING, HOT_KEY_TOO_LONG, HOT_FULL_NODES, HOT_FULL_LEAVES, if a pair was refused; or HOT_OUT_OF_RANGE, HOT_NO_MEMORY,
+ * HOT_OLD_PROCESSOR, and then nothing is written. */
+hot_status hot_load(const hot_stock *stock, size_t handles, hot_source *next, void *context, hot_index **index, size_t *count);
 
 /* Opens a handle of the index, at any time and from any thread. It looks at no more than one word for each handle of the index. If it
  * finds none that was given back, it opens one for the first time, which needs memory and waits for other calls that do so.
@@ -400,6 +416,11 @@ hot_status hot_scan_packed(hot_handle *handle, const uint8_t *from, size_t from_
  * does, and makes no more steps than hot_scan may. */
 hot_status hot_scan_packed_reverse(hot_handle *handle, const uint8_t *from, size_t from_length, const uint8_t *upto, size_t upto_length,
                                    uint8_t *bytes, size_t room, hot_head *heads, size_t limit, size_t *count, uint32_t *more);
+
+/* hot_load of `count` pairs that lie packed, as hot_scan_packed writes them: the keys one after another in `bytes`, and their heads. Writes
+ * how many went in to `loaded`. It answers what hot_load does. */
+hot_status hot_load_packed(const hot_stock *stock, size_t handles, const uint8_t *bytes, const hot_head *heads, size_t count, hot_index **index,
+                           size_t *loaded);
 
 /* What a call hands pairs to: `pair` is there until the function returns. It answers 0 to end the call. */
 typedef int hot_visitor(void *context, const hot_pair *pair);

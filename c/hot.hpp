@@ -8,6 +8,7 @@
 #include <cstddef>
 #include <cstdint>
 #include <cstring>
+#include <exception>
 #include <initializer_list>
 #include <iterator>
 #include <limits>
@@ -793,6 +794,47 @@ class section {
     return stock;
 }
 
+/// Why a load ended at a pair: a status of hot_load, and the pair's number, from 0 on.
+class load_error : public std::runtime_error {
+  public:
+    load_error(hot_status why, std::size_t number) : std::runtime_error(hot_status_text(why)), why(why), number(number) {}
+    hot_status why;
+    std::size_t number;
+};
+
+namespace detail {
+// What a load takes from a sequence of pairs. A pair may be gone once its iterator goes on, so the key is kept here. What is thrown goes on when
+// the call of C has returned.
+template <class At, class End> struct source {
+    At at;
+    End end;
+    std::exception_ptr thrown{};
+    std::uint8_t kept[HOT_MAX_KEY + 1]{};
+
+    void take(std::size_t &length, std::uint64_t &value) {
+        auto &&[its_key, its_value] = *at;
+        const key_view key = its_key;
+        length = std::min(key.size(), sizeof kept);
+        std::copy_n(bytes(key), length, kept);
+        value = its_value;
+        ++at;
+    }
+    static int next(void *context, const std::uint8_t **key, std::size_t *length, std::uint64_t *value) noexcept {
+        source &it = *static_cast<source *>(context);
+        try {
+            if (it.at == it.end)
+                return 0;
+            it.take(*length, *value);
+            *key = it.kept;
+            return 1;
+        } catch (...) {
+            it.thrown = std::current_exception();
+            return 0;
+        }
+    }
+};
+} // namespace detail
+
 /// An index, which gives handles to threads. It may be moved, and gone before its handles: the last one frees what there is.
 class index {
   public:
@@ -807,6 +849,26 @@ class index {
     /// The same with `stock_for_keys(keys, longest)`: room for `keys` keys of at most `longest` bytes each. A call with a key that no leaf
     /// record has room for throws std::length_error.
     index(std::uint32_t keys, std::size_t longest, std::size_t handles = 64) : index(stock_for_keys(keys, longest), handles) {}
+    /// Makes an index of pairs, whose keys rise: hot_load. They are a key and a value each, in anything that can be iterated over, such as a
+    /// std::map, a vector of entries, or the range of a scan in another index. Throws as the constructor does,
+    /// load_error where a pair is refused, and what the iterators throw. Nothing is left then.
+    template <class Pairs> [[nodiscard]] static index load(const hot_stock &stock, Pairs &&pairs, std::size_t handles = 64) {
+        using std::begin, std::end;
+        detail::source<decltype(begin(pairs)), decltype(end(pairs))> from{begin(pairs), end(pairs)};
+        hot_index *made = nullptr;
+        std::size_t count = 0;
+        detail::call_begins();
+        const hot_status status = hot_load(&stock, handles, from.next, &from, &made, &count);
+        if (!made)
+            check(status);
+        index loaded(std::shared_ptr<hot_index>(made, hot_close_index));
+        detail::call_ends();
+        if (from.thrown)
+            std::rethrow_exception(from.thrown);
+        if (status != HOT_DONE)
+            throw load_error(status, count);
+        return loaded;
+    }
     /// A move leaves the other index with nothing: its `open` throws std::logic_error, which says so. Handles stay open.
     index(index &&) = default;
     index &operator=(index &&) = default;
@@ -841,6 +903,7 @@ class index {
     }
 
   private:
+    explicit index(std::shared_ptr<hot_index> at) : at_(std::move(at)) {}
     std::shared_ptr<hot_index> at_;
 };
 

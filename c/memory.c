@@ -76,6 +76,11 @@ int __wrap_munmap(void *at, size_t size) {
     return __real_munmap(at, size);
 }
 
+static long resident(void);
+
+/* What was resident when pages were last moved. */
+static long when_moved;
+
 /* Pages go where others were: the same ones again, if their size is 0, and else they are moved. */
 void *__wrap_mremap(void *at, size_t size, size_t new_size, int flags, ...) {
     va_list rest;
@@ -85,6 +90,8 @@ void *__wrap_mremap(void *at, size_t size, size_t new_size, int flags, ...) {
     va_end(rest);
     if (is_refused(1))
         return MAP_FAILED;
+    if (size > 0)
+        when_moved = resident();
     in_use -= size;
     return __real_mremap(at, size, new_size, flags, to);
 }
@@ -221,29 +228,104 @@ static void test_resident(void) {
            (opened - made) / 2, (filled - opened) / FEW, FEW);
 }
 
+/* Numbers to load, as keys of eight bytes, the highest first. */
+typedef struct numbers {
+    uint8_t key[8];
+    uint32_t next, end;
+} numbers;
+
+static void spell(uint32_t number, uint8_t *key) {
+    int place;
+    for (place = 0; place < 4; place++)
+        key[place] = (uint8_t)(number >> (8 * (3 - place))), key[place + 4] = 0;
+}
+
+static int next_number(void *context, const uint8_t **key, size_t *length, uint64_t *value) {
+    numbers *all = context;
+    if (all->next == all->end)
+        return 0;
+    spell(all->next, all->key);
+    *key = all->key;
+    *length = 8;
+    *value = all->next++;
+    return 1;
+}
+
+/* Whether the index of a handle has the numbers below this one as they were loaded, and no other key. */
+static int has_numbers(hot_handle *handle, uint32_t end) {
+    uint8_t key[8];
+    uint64_t value = 0;
+    size_t count = 0;
+    uint32_t number;
+    for (number = 0; number < end; number++) {
+        spell(number, key);
+        if (hot_get(handle, key, 8, &value) != HOT_FOUND || value != number)
+            return 0;
+    }
+    return hot_len(handle, &count) == HOT_DONE && count == end;
+}
+
+/* A loaded index takes what its keys need, and no more while it is loaded: tables of malloc's, of pages of their own, of two blocks, and one that
+ * asks for huge pages. */
+static void test_load_resident(void) {
+    enum { MOST = 70, FOR_HANDLE = 300000, CHUNK = 1100000 };
+    static const uint32_t counts[4] = {100, 5000, 300000, 600000};
+    size_t place;
+    CHECK(prctl(PR_SET_THP_DISABLE, 1, 0, 0, 0) == 0);
+    for (place = 0; place < 4; place++) {
+        numbers all = {{0}, 0, counts[place]};
+        hot_handle handle = HOT_HANDLE;
+        hot_index *index = NULL;
+        hot_stock roomy = {20, 200, 0, 0, 0, 0};
+        long first = resident(), loaded;
+        size_t count = 0;
+        if (place > 0)
+            hot_stock_for_keys(counts[place], 8, &roomy);
+        when_moved = 0;
+        CHECK(hot_load(&roomy, 4, next_number, &all, &index, &count) == HOT_DONE && count == counts[place]);
+        loaded = resident() - first;
+        CHECK(loaded < MOST * (long)count + FOR_HANDLE && (place < 2 || when_moved > first));
+        CHECK(when_moved - first < loaded + CHUNK);
+        CHECK(hot_open(index, &handle) == HOT_DONE && has_numbers(&handle, counts[place]));
+        CHECK(hot_close(&handle) == HOT_DONE && hot_close_index(index) == HOT_DONE && in_use == 0);
+        if (place == 3)
+            printf("resident: %ld bytes for each of %zu keys that were loaded\n", loaded / (long)count, count);
+    }
+    CHECK(prctl(PR_SET_THP_DISABLE, 0, 0, 0, 0) == 0);
+}
+
 /* Huge pages are asked for. */
 static void test_huge(void) {
+    numbers all = {{0}, 0, 100000};
     hot_handle handle = HOT_HANDLE;
+    hot_index *index = NULL;
     hot_stock huge;
+    size_t count = 0;
     memset(&huge, 0, sizeof huge);
     huge.nodes = 200000;
     huge.short_leaves = 100000;
     CHECK(hot_create_with(&huge, &handle, 1) == HOT_DONE);
     CHECK(hot_upsert(&handle, (const uint8_t *)"key", 3, 1, NULL) == HOT_NEW);
     CHECK(hot_destroy(&handle) == HOT_DONE && in_use == 0);
+    CHECK(hot_load(&huge, 1, next_number, &all, &index, &count) == HOT_DONE && count == 100000);
+    CHECK(hot_open(index, &handle) == HOT_DONE && has_numbers(&handle, 100000));
+    CHECK(hot_close(&handle) == HOT_DONE && hot_close_index(index) == HOT_DONE && in_use == 0);
 }
 
 /* Where there are too few addresses, memory is refused, and nothing is left behind. */
 static void test_addresses(void) {
     hot_handle handle = HOT_HANDLE;
     hot_index *index = NULL;
+    numbers all = {{0}, 0, 10};
     hot_stock most;
     struct rlimit before;
+    size_t count;
     memset(&most, 0xff, sizeof most);
     most.medium_leaves = most.large_leaves = most.wide_leaves = most.long_leaves = 0;
     limit_addresses((rlim_t)1 << 40, &before);
     CHECK(hot_open_index(&most, 1, &index) == HOT_NO_MEMORY && index == NULL);
     CHECK(hot_create_with(&most, &handle, 1) == HOT_NO_MEMORY);
+    CHECK(hot_load(&most, 1, next_number, &all, &index, &count) == HOT_NO_MEMORY && index == NULL && all.next == 0);
     CHECK(setrlimit(RLIMIT_AS, &before) == 0 && in_use == 0);
 }
 
@@ -266,6 +348,17 @@ static void test_fork(void) {
     CHECK(hot_get(&handle, (const uint8_t *)"both", 4, &value) == HOT_FOUND && value == 1);
     CHECK(hot_get(&handle, (const uint8_t *)"child", 5, &value) == HOT_ABSENT);
     CHECK(hot_destroy(&handle) == HOT_DONE && in_use == 0);
+}
+
+/* Loads as many keys as there are records for. */
+enum { LOADED = 40 };
+
+static hot_status load_some(const hot_stock *asks, hot_index **index) {
+    numbers all = {{0}, 0, LOADED};
+    size_t count = 0;
+    hot_status status = hot_load(asks, 3, next_number, &all, index, &count);
+    CHECK(status == HOT_NO_MEMORY || count == LOADED);
+    return status;
 }
 
 /* What calls return where the allocation of this number is refused: that there is no memory, or what they return with it, and then all
@@ -299,6 +392,12 @@ static int test_refused(const hot_stock *asks, long number) {
     for (place = 0; place < 3; place++)
         CHECK(hot_close(&handles[place]) == HOT_DONE);
     CHECK(hot_close_index(index) == HOT_DONE && in_use == 0);
+    for (index = NULL; (status = load_some(asks, &index)) == HOT_NO_MEMORY; tries++)
+        CHECK(index == NULL && in_use == 0);
+    for (; (status = hot_open(index, &handles[0])) == HOT_NO_MEMORY; tries++)
+        ;
+    CHECK(status == HOT_DONE && has_numbers(&handles[0], LOADED));
+    CHECK(hot_close(&handles[0]) == HOT_DONE && hot_close_index(index) == HOT_DONE && in_use == 0);
     for (; (status = hot_create_with(asks, handles, 3)) == HOT_NO_MEMORY; tries++)
         CHECK(in_use == 0 && hot_len(&handles[0], &count) == HOT_CLOSED);
     CHECK(status == HOT_DONE);
@@ -319,6 +418,7 @@ static long test_each_refused(const hot_stock *asks) {
 int main(void) {
     long few, more;
     test_resident();
+    test_load_resident();
     test_light();
     test_kept();
     test_looked_up();

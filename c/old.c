@@ -14,6 +14,7 @@ int main(void) {
     int is_right = hot_open_index(&stock, 1, &index) == HOT_OLD_PROCESSOR && index == NULL;
     is_right &= hot_create(10, 10, &handle, 1) == HOT_OLD_PROCESSOR && hot_create_with(&stock, &handle, 1) == HOT_OLD_PROCESSOR;
     is_right &= handle.tag == 0 && hot_stock_bytes(&stock, 1, &bytes) == HOT_OLD_PROCESSOR && bytes == 7;
+    is_right &= hot_load_packed(&stock, 1, NULL, NULL, 0, &index, &bytes) == HOT_OLD_PROCESSOR && index == NULL && bytes == 7;
     hot_stock_for_lengths(keys, &stock);
     is_right &= memcmp(&stock, &none, sizeof none) == 0;
     stock.nodes = 1;

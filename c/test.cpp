@@ -434,6 +434,53 @@ static void test_handles_inside() {
     CHECK(other.empty());
 }
 
+// Pairs of which the second one throws.
+struct throwing {
+    struct iterator {
+        int at;
+        hot::entry operator*() const { return at == 0 ? hot::entry{"a", 1} : throw std::domain_error("thrown"); }
+        iterator &operator++() {
+            ++at;
+            return *this;
+        }
+        bool operator==(const iterator &other) const { return at == other.at; }
+    };
+    iterator begin() const { return {0}; }
+    iterator end() const { return {3}; }
+};
+
+// Sequences of which an index can be made, and what it is told where one doesn't rise, or throws.
+static void test_loads() {
+    const std::map<std::string, std::uint64_t> few{{"", 0}, {"a", 1}, {std::string("a\0", 2), 2}, {"b", 3}};
+    hot::index index = hot::index::load(hot::stock_for_keys(10, 8), few, 2);
+    hot::handle handle = index.open();
+    CHECK(handle.size() == 4 && handle.get(std::string("a\0", 2)) == 2 && handle.scan().entries().back() == (hot::entry{"b", 3}));
+    CHECK(handle.insert("a", 5).had == 1 && handle.insert("c", 4).what == hot::status::inserted);
+    auto all = handle.scan({}, hot::greatest(), 2);
+    hot::packed page(10, 100);
+    handle.scan_packed({}, hot::greatest(), page);
+    hot::handle one = hot::index::load(hot::stock_for_keys(10, 8), all).open(), other = hot::index::load(hot::stock_for_keys(10, 8), page).open();
+    CHECK(one.scan().entries() == handle.scan().entries() && other.scan().entries() == handle.scan().entries());
+    CHECK(hot::index::load(hot::stock_for_keys(1, 1), std::vector<hot::entry>()).open().empty());
+    const std::array<std::pair<const char *, int>, 3> falls{{{"a", 1}, {"c", 2}, {"b", 3}}};
+    try {
+        (void)hot::index::load(hot::stock_for_keys(10, 8), falls);
+        CHECK(false);
+    } catch (const hot::load_error &error) {
+        CHECK(error.why == HOT_NOT_RISING && error.number == 2 && std::string(error.what()) == hot_status_text(HOT_NOT_RISING));
+    }
+    const std::vector<hot::entry> long_ones{{std::string(HOT_MAX_KEY, 'a'), 1}, {std::string(1000, 'b'), 2}};
+    try {
+        (void)hot::index::load(hot::stock_for_keys(10, HOT_MAX_KEY), long_ones);
+        CHECK(false);
+    } catch (const hot::load_error &error) {
+        CHECK(error.why == HOT_KEY_TOO_LONG && error.number == 1);
+    }
+    CHECK(throws<std::invalid_argument>([&] { return hot::index::load(hot::stock_for_keys(10, 8), few, 0); }));
+    const throwing some;
+    CHECK(throws<std::domain_error>([&] { return hot::index::load(hot::stock_for_keys(10, 8), some); }));
+}
+
 int main() {
     alarm(900); // a call that never returns ends the test
     test_calls();
@@ -452,6 +499,7 @@ int main() {
     test_threads();
     test_counting();
     test_growing();
+    test_loads();
     std::puts(failures ? "the C++ test failed" : "the C++ test passed");
     return failures;
 }

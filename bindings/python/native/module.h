@@ -73,7 +73,7 @@ store *usable(map *it);
 /* After a fork, in the child of a process with threads: the maps that there are can't be used. */
 void map_forked(void);
 
-/* Its methods: one_key.c, many_keys.c. */
+/* Its methods: one_key.c, many_keys.c, loads.c. */
 PyObject *map_subscript(PyObject *self, PyObject *key);
 int map_contains(PyObject *self, PyObject *key);
 int map_ass_subscript(PyObject *self, PyObject *key, PyObject *value);
@@ -85,6 +85,8 @@ PyObject *map_remove_if(PyObject *self, PyObject *words, PyObject *named);
 PyObject *map_add(PyObject *self, PyObject *words, PyObject *named);
 PyObject *map_fetch_add(PyObject *self, PyObject *words, PyObject *named);
 PyObject *map_get_many(PyObject *self, PyObject *keys);
+PyObject *map_load(PyObject *self, PyObject *pairs);
+PyObject *map_load_map(PyObject *self, PyObject *other);
 
 /* ---- Iterators: pairs.c ---- */
 

@@ -7,7 +7,8 @@ enum {
     LONG_TRIES = 100, /* of a change that others are in the way of */
     HELD_TRIES = 3,   /* of a change in a store that is held: the first one may have to collect what was retired */
     CLASSES = 5,
-    LEAST_LEAVES = 256
+    LEAST_LEAVES = 256,
+    LISTED = 64 /* pairs that are listed at a time */
 };
 
 /* ---- An index with its handles ---- */
@@ -23,12 +24,21 @@ static void room_close(room *it) {
     free(it);
 }
 
-static hot_status room_open(const hot_stock *stock, size_t threads, room **made) {
+/* What an index is made of: sorted pairs, and how many of them went in. */
+typedef struct supply {
+    hot_source *next;
+    void *context;
+    size_t count;
+} supply;
+
+/* Makes an index, which is empty if no pairs are named. */
+static hot_status room_open(const hot_stock *stock, size_t threads, supply *pairs, room **made) {
     room *it = calloc(1, sizeof *it + threads * sizeof *it->leases);
     if (!it)
         return HOT_NO_MEMORY;
     it->stock = *stock;
-    hot_status status = hot_open_index(stock, threads + 1, &it->index);
+    hot_status status = pairs ? hot_load(stock, threads + 1, pairs->next, pairs->context, &it->index, &pairs->count)
+                              : hot_open_index(stock, threads + 1, &it->index);
     if (status == HOT_DONE)
         status = hot_open(it->index, &it->quick);
     if (status == HOT_DONE)
@@ -94,29 +104,68 @@ static void replace_room(store *it, room *new) {
     it->room = new;
 }
 
-/* Moves all pairs to an index with this stock. */
-static hot_status move_to(store *it, const hot_stock *stock) {
-    room *new = NULL;
-    hot_status status = room_open(stock, it->threads, &new);
-    if (status != HOT_DONE)
-        return status;
-    status = hot_copy(&it->room->quick, &new->quick);
-    if (status == HOT_DONE)
-        replace_room(it, new);
-    else
-        room_close(new);
+/* The pairs of an index, page by page. */
+typedef struct listing {
+    hot_handle *of;
+    uint8_t bytes[LISTED * HOT_MAX_KEY];
+    hot_head heads[LISTED];
+    const uint8_t *key;
+    size_t at, count;
+    uint32_t more;
+    hot_status status; /* of the scans */
+} listing;
+
+/* Lists the first page, or the one behind the key that was listed last. There may be none. */
+static int list_page(listing *it) {
+    uint8_t from[HOT_MAX_KEY];
+    size_t length = 0;
+    if (it->count > 0 && hot_after(it->key - it->heads[it->count - 1].length, it->heads[it->count - 1].length, from, &length) != HOT_DONE)
+        return 0;
+    it->key = it->bytes;
+    it->at = it->count = 0;
+    it->status = hot_scan_packed(it->of, from, length, HOT_TO_END, it->bytes, sizeof it->bytes, it->heads, LISTED, &it->count, &it->more);
+    return it->status == HOT_DONE && it->count > 0;
+}
+
+static int next_listed(void *context, const uint8_t **key, size_t *length, uint64_t *value) {
+    listing *it = context;
+    if (it->at == it->count && !(it->more && list_page(it)))
+        return 0;
+    *key = it->key;
+    *length = it->heads[it->at].length;
+    *value = it->heads[it->at++].value;
+    it->key += *length;
+    return 1;
+}
+
+/* Makes an index with this stock that has the pairs of another. */
+static hot_status room_copy(const hot_stock *stock, size_t threads, hot_handle *from, room **made) {
+    listing pairs = {.of = from, .more = 1, .status = HOT_DONE};
+    supply all = {next_listed, &pairs, 0};
+    hot_status status = room_open(stock, threads, &all, made);
+    if (status == HOT_DONE && pairs.status != HOT_DONE) {
+        room_close(*made);
+        status = pairs.status;
+    }
+    return status;
+}
+
+/* The same with a stock that is enlarged until it is enough, if the index may grow. */
+static hot_status room_copy_all(const store *to, hot_stock stock, hot_handle *from, room **made) {
+    hot_status status;
+    while (is_full(status = room_copy(&stock, to->threads, from, made), 0) && to->grows)
+        enlarge(&stock, status, NULL);
     return status;
 }
 
 static hot_status grow(store *it, hot_status why, size_t length) {
     hot_stock stock = it->room->stock;
+    room *new;
     enlarge(&stock, why, &length);
-    for (;;) {
-        why = move_to(it, &stock);
-        if (!is_full(why, 0))
-            return why;
-        enlarge(&stock, why, NULL);
-    }
+    hot_status status = room_copy_all(it, stock, &it->room->quick, &new);
+    if (status == HOT_DONE)
+        replace_room(it, new);
+    return status;
 }
 
 /* ---- Leases ---- */
@@ -272,8 +321,8 @@ hot_status store_change(store *it, store_call *call, void *what, size_t length) 
     return status;
 }
 
-hot_status store_clear(store *it) {
-    room *new = NULL;
+/* Within a turn, which it ends: holds the store once nobody else does and all other calls have returned. Returns what begins the next turn. */
+static void *hold_alone(store *it) {
     int is_mine = hold(it);
     void *ended = it->turns.end();
     while (!is_mine) {
@@ -283,12 +332,114 @@ hot_status store_clear(store *it) {
         ended = it->turns.end();
     }
     wait_for_leases(it);
-    hot_status status = room_open(&it->room->stock, it->threads, &new);
+    return ended;
+}
+
+/* Takes an index that was made, if it was, and lets go of the store, which it has alone. */
+static hot_status take_room(store *it, hot_status status, room *made, void *ended) {
     if (status == HOT_DONE)
-        replace_room(it, new);
+        replace_room(it, made);
     let_go(it);
     it->turns.begin(ended);
     return status;
+}
+
+hot_status store_clear(store *it) {
+    room *new = NULL;
+    void *ended = hold_alone(it);
+    hot_status status = room_open(&it->room->stock, it->threads, NULL, &new);
+    return take_room(it, status, new, ended);
+}
+
+/* ---- Loads ---- */
+
+static uint32_t larger(uint32_t one, uint32_t other) {
+    return one > other ? one : other;
+}
+
+/* Has a stock at least so many records of each kind as another. */
+static void take_larger(hot_stock *it, const hot_stock *than) {
+    it->nodes = larger(it->nodes, than->nodes);
+    it->short_leaves = larger(it->short_leaves, than->short_leaves);
+    it->medium_leaves = larger(it->medium_leaves, than->medium_leaves);
+    it->large_leaves = larger(it->large_leaves, than->large_leaves);
+    it->wide_leaves = larger(it->wide_leaves, than->wide_leaves);
+    it->long_leaves = larger(it->long_leaves, than->long_leaves);
+}
+
+/* Enlarges a stock for pairs, if it is too small for them. */
+static void make_room_for(const sorted_pairs *pairs, hot_stock *stock) {
+    uint32_t lengths[CLASSES] = {0};
+    hot_stock needed;
+    for (size_t at = 0; at < pairs->count; at++) {
+        size_t length = pairs->heads[at].length;
+        lengths[(length > 8) + (length > 24) + (length > 56) + (length > 88)]++;
+    }
+    hot_stock_for_lengths(lengths, &needed);
+    take_larger(stock, &needed);
+}
+
+static int next_packed(void *context, const uint8_t **key, size_t *length, uint64_t *value) {
+    sorted_pairs *left = context;
+    if (left->count == 0)
+        return 0;
+    *key = left->bytes;
+    *length = left->heads->length;
+    *value = left->heads->value;
+    left->bytes += *length;
+    left->heads++;
+    left->count--;
+    return 1;
+}
+
+/* Makes an index of these pairs, with a stock that is enlarged until it is enough, if the index may grow. Writes how many went in. */
+static hot_status room_load(const store *to, hot_stock stock, const sorted_pairs *pairs, size_t *number, room **made) {
+    for (;;) {
+        sorted_pairs left = *pairs;
+        supply all = {next_packed, &left, 0};
+        hot_status status = room_open(&stock, to->threads, &all, made);
+        *number = all.count;
+        if (!to->grows || !is_full(status, 0))
+            return status;
+        enlarge(&stock, status, NULL);
+    }
+}
+
+hot_status store_load(store *it, const sorted_pairs *pairs, size_t *number) {
+    room *new = NULL;
+    void *ended = hold_alone(it);
+    hot_stock stock = it->room->stock;
+    if (it->grows)
+        make_room_for(pairs, &stock);
+    hot_status status = room_load(it, stock, pairs, number, &new);
+    return take_room(it, status, new, ended);
+}
+
+/* Two stores, and the index that is made for one with the pairs of the other. */
+typedef struct copying {
+    const store *from, *to;
+    hot_stock stock;
+    room *made;
+} copying;
+
+static hot_status copy_to_room(hot_handle *handle, void *what) {
+    copying *it = what;
+    if (it->to->grows)
+        take_larger(&it->stock, &it->from->room->stock);
+    return room_copy_all(it->to, it->stock, handle, &it->made);
+}
+
+hot_status store_copy(store *it, store *from) {
+    copying what = {.from = from, .to = it};
+    void *ended = it->turns.end();
+    lock_free(it);
+    what.stock = it->room->stock;
+    pthread_mutex_unlock(&it->mutex);
+    hot_status status = store_long(from, copy_to_room, &what);
+    it->turns.begin(ended);
+    if (status != HOT_DONE)
+        return status;
+    return take_room(it, status, what.made, hold_alone(it));
 }
 
 void store_stats(store *it, hot_refusals *stats) {
@@ -308,7 +459,7 @@ hot_status store_open(const wanted_store *wanted, const turns *turns, store **ma
     it->turns = *turns;
     it->threads = wanted->threads;
     it->grows = wanted->grows;
-    hot_status status = room_open(&stock, it->threads, &it->room);
+    hot_status status = room_open(&stock, it->threads, NULL, &it->room);
     if (status == HOT_DONE) {
         pthread_mutex_init(&it->mutex, NULL);
         pthread_cond_init(&it->changed, NULL);

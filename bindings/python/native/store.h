@@ -55,6 +55,13 @@ typedef struct wanted_store {
     int grows;
 } wanted_store;
 
+/* Pairs whose keys rise and lie one after another. */
+typedef struct sorted_pairs {
+    const uint8_t *bytes;
+    const hot_head *heads;
+    size_t count;
+} sorted_pairs;
+
 /* HOT_DONE; or HOT_OUT_OF_RANGE, HOT_NO_MEMORY, HOT_OLD_PROCESSOR. */
 hot_status store_open(const wanted_store *wanted, const turns *turns, store **made);
 void store_close(store *it);
@@ -70,6 +77,13 @@ hot_status store_change(store *it, store_call *call, void *what, size_t length);
 
 /* Removes all keys at once. HOT_DONE or HOT_NO_MEMORY. */
 hot_status store_clear(store *it);
+
+/* Has the store hold these pairs, and no others. HOT_DONE, HOT_NO_MEMORY; or HOT_NOT_RISING, and if it doesn't grow HOT_FULL_NODES,
+ * HOT_FULL_LEAVES or HOT_KEY_TOO_LONG, for a pair whose number it writes, and then it holds what it held. */
+hot_status store_load(store *it, const sorted_pairs *pairs, size_t *number);
+
+/* Has the store hold the pairs of another, and no others. It answers what store_load does, but is never HOT_NOT_RISING. */
+hot_status store_copy(store *it, store *from);
 
 /* Without a turn: makes a call with a handle that no other thread has, and waits for one if it must. */
 hot_status store_long(store *it, store_call *call, void *what);

@@ -98,6 +98,40 @@ static void fill(uint32_t nodes, int kind, int grows) {
     store_close(in);
 }
 
+/* What is loaded is there, also in a copy, and what is refused changes nothing. */
+static void load(void) {
+    enum { KEYS = 500 };
+    static uint8_t bytes[KEYS * HOT_MAX_KEY];
+    static hot_head heads[KEYS];
+    sorted_pairs pairs = {bytes, heads, KEYS};
+    wanted_store grows = {.threads = 2, .grows = 1}, stays = {.threads = 1};
+    store *in, *copy, *small;
+    change it;
+    size_t at = 0, number;
+    for (size_t place = 0; place < KEYS; at += heads[place++].length) {
+        heads[place] = (hot_head){(uint8_t)(2 + place % (HOT_MAX_KEY - 1)), place};
+        bytes[at] = (uint8_t)(place >> 8);
+        bytes[at + 1] = (uint8_t)place;
+    }
+    stays.stock.nodes = stays.stock.long_leaves = 200;
+    assert(store_open(&grows, &of_lock, &in) == HOT_DONE && store_open(&grows, &of_lock, &copy) == HOT_DONE);
+    assert(store_open(&stays, &of_lock, &small) == HOT_DONE);
+    shape(&it, 0, 1);
+    assert(store_change(small, make, &it, it.length) == HOT_NEW);
+    assert(store_load(in, &pairs, &number) == HOT_DONE && number == KEYS && count_of(in) == KEYS);
+    assert(store_copy(copy, in) == HOT_DONE && count_of(copy) == KEYS && count_of(in) == KEYS);
+    for (size_t place = at = 0; place < KEYS; at += heads[place++].length) {
+        it.length = heads[place].length;
+        memcpy(it.key, bytes + at, it.length);
+        assert(store_read(copy, look_up, &it) == HOT_FOUND && it.had == place);
+    }
+    assert(store_load(small, &pairs, &number) == HOT_FULL_LEAVES && number == 200 && count_of(small) == 1);
+    assert(store_copy(small, in) == HOT_FULL_LEAVES && count_of(small) == 1);
+    bytes[0] = 9;
+    assert(store_load(copy, &pairs, &number) == HOT_NOT_RISING && number == 1 && count_of(copy) == KEYS);
+    store_close(in), store_close(copy), store_close(small);
+}
+
 enum { THREADS = 6, TURNS = 3000 };
 static store *shared;
 
@@ -146,6 +180,7 @@ int main(int count, char **words) {
         for (int kind = 0; kind < 3; kind++)
             for (int grows = 0; grows <= (nodes % 10 == 1); grows++)
                 fill(nodes, kind, grows);
+    load();
     end_turn();
     together();
     puts("the store passed");

@@ -277,6 +277,48 @@ class Whole(unittest.TestCase):
         mine |= {b"a": 7}
         self.assertEqual(mine[b"a"], 7)
 
+    def test_loads(self) -> None:
+        pairs = [(f"{at:05}", at) for at in range(3000)]
+        for data in pairs, dict(pairs), iter(pairs):
+            m = SortedMap(data, sorted=True)
+            self.assertEqual([*m.items()], pairs)
+        self.assertEqual((m["00007"], m.setdefault("1", 2), len(m)), (7, 2, 3001))
+        self.assertEqual(m.pop("00000"), 0)
+        self.assertEqual(SortedMap(sorted=True), {})
+        lengths = SortedMap({"": 0, "a" * 9: 1, "b" * 240: 2}, sorted=True, longest=1)
+        self.assertEqual([*lengths.values()], [0, 1, 2])
+        for wrong in [("a", 1), ("a", 2)], [("b", 1), ("a", 2)]:
+            with self.assertRaisesRegex(ValueError, "^pair 1: the key is not above"):
+                SortedMap(wrong, sorted=True)
+        for wrong, error in [
+            ([("a" * 241, 1)], ValueError),
+            ([("a",)], ValueError),
+            ([("a", -1)], OverflowError),
+            ([(1, 1)], TypeError),
+            ([1], TypeError),
+        ]:
+            with self.assertRaises(error):
+                SortedMap(wrong, sorted=True)  # type: ignore[arg-type]
+        with self.assertRaises(FullError):
+            SortedMap(pairs, sorted=True, capacity=1, grow=False)
+        with self.assertRaises(TypeError):
+            m._load_map({})  # type: ignore[arg-type]
+
+    def test_loads_map(self) -> None:
+        m = SortedMap(((f"{at:05}" * (1 + at % 40), at) for at in range(3000)))
+        copy = SortedMap(m, threads=2)
+        self.assertEqual([*copy.items()], [*m.items()])
+        copy["a"] = 1
+        self.assertEqual((len(copy), len(m), "a" in m), (3001, 3000, False))
+        numbers = SortedMap({-1: 1, 1: 2}, keys=int)
+        self.assertEqual([*SortedMap(numbers, keys=int).items()], [(-1, 1), (1, 2)])
+        names = SortedMap({b"b": 1, b"a": 2}, keys=bytes)
+        with self.assertRaises(TypeError):
+            SortedMap(names)
+        many = SortedMap(((at, at) for at in range(3000)), keys=int)
+        with self.assertRaises(FullError):
+            SortedMap(many, keys=int, grow=False)
+
     def test_repr(self):
         self.assertEqual(
             repr(SortedMap({"b": 2, "a": 1})), "SortedMap({'a': 1, 'b': 2})"

@@ -12,6 +12,8 @@ pub enum Error {
     FullLeaves,
     /// The key has more than [`MAX_KEY`](crate::MAX_KEY) bytes, or more than any leaf record of the index has room for.
     KeyTooLong,
+    /// The key of a pair that is loaded is not above the one before it.
+    NotRising,
     /// All handles of the index are open.
     NoHandle,
     /// The handle or the moment is of another index.
@@ -37,6 +39,7 @@ impl Error {
             ffi::KEY_TOO_LONG => Error::KeyTooLong,
             ffi::OUT_OF_RANGE => Error::OutOfRange,
             ffi::NO_MEMORY => Error::NoMemory,
+            ffi::NOT_RISING => Error::NotRising,
             ffi::NO_HANDLE => Error::NoHandle,
             ffi::OTHER_INDEX => Error::OtherIndex,
             ffi::OLD_PROCESSOR => Error::OldProcessor,
@@ -58,6 +61,7 @@ impl fmt::Display for Error {
             Error::FullNodes => ffi::text(ffi::FULL_NODES),
             Error::FullLeaves => ffi::text(ffi::FULL_LEAVES),
             Error::KeyTooLong => ffi::text(ffi::KEY_TOO_LONG),
+            Error::NotRising => ffi::text(ffi::NOT_RISING),
             Error::NoHandle => ffi::text(ffi::NO_HANDLE),
             Error::OtherIndex => ffi::text(ffi::OTHER_INDEX),
             Error::OldProcessor => ffi::text(ffi::OLD_PROCESSOR),
@@ -70,6 +74,29 @@ impl fmt::Display for Error {
 }
 
 impl error::Error for Error {}
+
+/// Why an index was not made of sorted pairs.
+#[derive(Clone, Copy, Debug, PartialEq, Eq, Hash)]
+pub struct LoadError {
+    /// Why a pair was refused, or the whole load.
+    pub error: Error,
+    /// How many pairs came before the one that was refused.
+    pub count: usize,
+}
+
+impl From<Error> for LoadError {
+    fn from(error: Error) -> Self {
+        LoadError { error, count: 0 }
+    }
+}
+
+impl fmt::Display for LoadError {
+    fn fmt(&self, to: &mut fmt::Formatter<'_>) -> fmt::Result {
+        write!(to, "{}, after {} pairs", self.error, self.count)
+    }
+}
+
+impl error::Error for LoadError {}
 
 /// Why a value was not exchanged, or a key not removed.
 #[derive(Clone, Copy, Debug, PartialEq, Eq, Hash)]

@@ -1,10 +1,12 @@
 //! `hot.h`, and over it calls that are safe: no other module has unsafe code.
 #![allow(unsafe_code)]
 use crate::{Census, Error, Stats, Stock, MAX_KEY};
+use std::any::Any;
 use std::cell::UnsafeCell;
 use std::collections::VecDeque;
 use std::ffi::CStr;
-use std::os::raw::{c_char, c_void};
+use std::os::raw::{c_char, c_int, c_void};
+use std::panic::{catch_unwind, resume_unwind, AssertUnwindSafe};
 use std::ptr;
 use std::sync::Arc;
 
@@ -27,6 +29,7 @@ pub(crate) const OTHER_INDEX: Status = 20;
 pub(crate) const OLD_PROCESSOR: Status = 21;
 pub(crate) const INSIDE: Status = 22;
 pub(crate) const NOT_PAST: Status = 24;
+pub(crate) const NOT_RISING: Status = 25;
 
 /// What only the library sees.
 #[repr(C)]
@@ -104,9 +107,19 @@ type PackedScan = unsafe extern "C" fn(
 
 type Pop = unsafe extern "C" fn(*mut RawHandle, *const u8, usize, *const u8, usize, *mut RawPair) -> Status;
 
+type Source = unsafe extern "C" fn(*mut c_void, *mut *const u8, *mut usize, *mut u64) -> c_int;
+
 extern "C" {
     fn hot_status_text(status: Status) -> *const c_char;
     fn hot_open_index(stock: *const Stock, handles: usize, index: *mut *mut RawIndex) -> Status;
+    fn hot_load(
+        stock: *const Stock,
+        handles: usize,
+        next: Source,
+        context: *mut c_void,
+        index: *mut *mut RawIndex,
+        count: *mut usize,
+    ) -> Status;
     fn hot_close_index(index: *mut RawIndex) -> Status;
     fn hot_open(index: *mut RawIndex, handle: *mut RawHandle) -> Status;
     fn hot_close(handle: *mut RawHandle) -> Status;
@@ -240,6 +253,48 @@ pub(crate) fn stock_bytes(stock: &Stock, handles: usize) -> (Status, usize) {
     (status, bytes)
 }
 
+/// The pairs that a load takes, the key of the last one, and the panic that ended them.
+struct Sorted<I, K> {
+    left: I,
+    key: Option<K>,
+    panic: Option<Box<dyn Any + Send>>,
+}
+
+impl<K: AsRef<[u8]>, I: Iterator<Item = (K, u64)>> Sorted<I, K> {
+    /// The next pair. Its key is there until the next call.
+    fn take(&mut self) -> Option<(&[u8], u64)> {
+        let (key, value) = self.left.next()?;
+        let kept: &K = self.key.insert(key);
+        Some((kept.as_ref(), value))
+    }
+
+    /// What the library calls. A panic doesn't cross it.
+    unsafe extern "C" fn next(context: *mut c_void, key: *mut *const u8, length: *mut usize, value: *mut u64) -> c_int {
+        // SAFETY: these are the pairs of `Index::load`, which waits.
+        let pairs = unsafe { &mut *context.cast::<Self>() };
+        let taken = catch_unwind(AssertUnwindSafe(|| {
+            pairs.take().map(|(its, number)| (its.as_ptr(), its.len(), number))
+        }));
+        match taken {
+            Ok(Some(pair)) => {
+                // SAFETY: there is room for each.
+                unsafe { (*key, *length, *value) = pair };
+                1
+            }
+            Ok(None) => 0,
+            Err(panic) => {
+                pairs.panic = Some(panic);
+                0
+            }
+        }
+    }
+}
+
+/// What takes the next one of such pairs.
+fn next_of<K: AsRef<[u8]>, I: Iterator<Item = (K, u64)>>(_: &Sorted<I, K>) -> Source {
+    Sorted::<I, K>::next
+}
+
 /// An index, which is there as long as each of its handles.
 pub(crate) struct Index {
     at: *mut RawIndex,
@@ -257,6 +312,38 @@ impl Index {
         // SAFETY: it reads a stock, and writes a pointer.
         Error::check(unsafe { hot_open_index(stock, handles, &mut at) })?;
         Ok(Index { at, handles })
+    }
+
+    /// Makes an index of these pairs, whose keys rise, with room for so many handles; or returns why one was refused, and how many came before.
+    pub(crate) fn load<K: AsRef<[u8]>>(
+        stock: &Stock,
+        handles: usize,
+        pairs: impl Iterator<Item = (K, u64)>,
+    ) -> Result<Index, (Error, usize)> {
+        let mut pairs = Sorted {
+            left: pairs,
+            key: None,
+            panic: None,
+        };
+        let (next, mut at, mut count) = (next_of(&pairs), ptr::null_mut(), 0);
+        // SAFETY: it reads a stock, hands `next` the pairs, which nothing else uses meanwhile, and writes a pointer and a number.
+        let status = unsafe {
+            hot_load(
+                stock,
+                handles,
+                next,
+                ptr::addr_of_mut!(pairs).cast(),
+                &mut at,
+                &mut count,
+            )
+        };
+        let index = (!at.is_null()).then(|| Index { at, handles });
+        if let Some(panic) = pairs.panic {
+            drop(index);
+            resume_unwind(panic);
+        }
+        let checked = Error::check(status).map_err(|why| (why, count));
+        checked.and_then(|_| index.ok_or((Error::Unexpected(status), count)))
     }
 
     /// How many handles may be open at a time.

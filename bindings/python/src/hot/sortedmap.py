@@ -7,6 +7,7 @@ from collections.abc import MutableMapping, ValuesView
 from itertools import chain, islice
 from typing import Any, Generic, NamedTuple, Optional, TypeVar, Union
 
+from ._errors import FullError
 from ._hot import ITEMS, KEYS, MAX_KEY, VALUES, Map
 from .codec import Codec
 
@@ -56,7 +57,11 @@ class SortedMap(Map[K], MutableMapping[K, int], Generic[K]):
     Threads may use a map at the same time, at most `threads` of them in calls that wait
     or look up many keys. A map has room for `capacity` keys of at most `longest` bytes.
     When it is full it grows, by a copy for which other threads wait; with grow=False it
-    raises FullError. An iterator lists what is there all along, and may list or miss
+    raises FullError. Where the data is a SortedMap with the same keys, or sorted=True
+    says that its keys rise, all goes in at once; a key that isn't above the one before
+    raises ValueError then.
+
+    An iterator lists what is there all along, and may list or miss
     what is set or deleted meanwhile. In the child of a process that forks while it has
     threads the maps of the parent raise HotError.
     """
@@ -71,11 +76,25 @@ class SortedMap(Map[K], MutableMapping[K, int], Generic[K]):
         longest: int = 24,
         threads: int = 8,
         grow: bool = True,
+        sorted: bool = False,
     ) -> None:
         kind: Union[type, Codec] = keys if isinstance(keys, type) else Codec(*keys)
         super().__init__(kind, capacity, longest, threads, grow)
         self._options: dict[str, Any] = {"keys": keys, "threads": threads, "grow": grow}
-        self.update(data)
+        if isinstance(data, SortedMap) and data._options["keys"] == keys:
+            self._copy_of(data)
+        elif sorted:
+            self._load(data.items() if isinstance(data, Mapping) else data)
+        else:
+            self.update(data)
+
+    def _copy_of(self, other: SortedMap[K]) -> None:
+        """Takes the pairs of a map with the same keys."""
+        try:
+            self._load_map(other)
+        except FullError:
+            # Pairs that are put in one by one may take fewer records.
+            self.update(other)
 
     def _list(
         self, what: int, bounds: Optional[tuple[bytes, bytes]], reverse: bool = False
