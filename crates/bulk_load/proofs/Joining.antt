@@ -8,6 +8,8 @@ use Rattle.node_tries.specs.Piece.{size}
 use Rattle.tries.specs.Content.{Item, items}
 use Rattle.tries.specs.Keys.{bit}
 use Rattle.tries.specs.Tree.{Tree, fork, subtrie}
+use Rattle.std.specs.Vec.{vec_len}
+use Rattle.record_words.specs.declared.layout.Layout.{Layout}
 use Rattle.bulk_load.specs.declared.builder.Builder.{Builder}
 use Rattle.bulk_load.specs.declared.builder.Part.{Part}
 use Rattle.std.proofs.lemmas.Bool.{cases_order}
@@ -126,6 +128,10 @@ pub closed_one : (n slots m left count result : ℕ) (b : Bool) → (IsTrue b �
 closed_one n slots m left count result true two a e l = let h = two refl in record { few = omega (arith, a); spared = omega (arith, a, e, l, h); grows = omega (arith, a) }
 closed_one n slots m left count result false two a e l = record { few = omega (arith, a); spared = omega (arith, a, e, l); grows = omega (arith, a) }
 
+pub piece_closed : (l m : Builder) (count result : ℕ) (b : Bool) → (IsTrue b → 2 ≤ count) → m.nodes ≡ l.nodes + one_if b → result ≡ left_of b count → vec_len m.slots + count ≡ vec_len l.slots + result →
+    IsClosed l.nodes (length l.slots.items) m.nodes (length m.slots.items) count
+piece_closed l m count result b two a e h = closed_one l.nodes (length l.slots.items) m.nodes (length m.slots.items) count result b two a e (omega (arith, h, l.slots.ok.0, m.slots.ok.0))
+
 -- a node is left for the first piece, and for the second one
 pub first_node : (n max parts slots count : ℕ) → (n + 2 * (parts + 0) ≤ max) ⊎ (n + slots + 0 ≤ max) → 2 ≤ parts → 2 ≤ count → count ≤ slots → n < max
 first_node n max parts slots count (inl h) p c s = omega (arith, h, p)
@@ -140,6 +146,13 @@ pub nodes_joined : (n max parts slots m left o last parts_then other count more 
     (n + 2 * (parts + more) ≤ max) ⊎ (n + slots + more ≤ max) → (o + 2 * (parts_then + more) ≤ max) ⊎ (o + last + more ≤ max)
 nodes_joined n max parts slots m left o last parts_then other count more i j e (inl h) = inl (omega (arith, h, e, i.few, j.few))
 nodes_joined n max parts slots m left o last parts_then other count more i j e (inr h) = inr (omega (arith, h, i.spared, j.spared))
+
+pub nodes_then : (l m o : Builder) (left right parts more : ℕ) → IsClosed l.nodes (length l.slots.items) m.nodes (length m.slots.items) right →
+    IsClosed m.nodes (length m.slots.items) o.nodes (length o.slots.items) left → o.layout ≡ l.layout → parts + 1 ≡ length l.parts.items → HasNodesFor l more →
+    (o.nodes + 2 * (parts + more) ≤ o.layout.nodes) ⊎ (o.nodes + length o.slots.items + more ≤ o.layout.nodes)
+nodes_then l m o left right parts more i j same e h =
+    subst (λ (y : Layout). (o.nodes + 2 * (parts + more) ≤ y.nodes) ⊎ (o.nodes + length o.slots.items + more ≤ y.nodes)) (sym same)
+    (nodes_joined l.nodes l.layout.nodes (length l.parts.items) (length l.slots.items) m.nodes (length m.slots.items) o.nodes (length o.slots.items) parts right left more i j e h)
 
 -- ---- the two pieces
 pub first_piece : (l : Builder) (xs : List Item) (s : IsStackOf l xs) (i : ℕ) (x : Part) → i + 1 ≡ length l.parts.items → x ≡ get_or l.parts.items i x →

@@ -17,16 +17,11 @@ use Rattle.bulk_load.proofs.Cursors.{cursors_moved}
 use Rattle.bulk_load.proofs.Stacking.{last_joined}
 use Rattle.bulk_load.proofs.Pushing.{local_grown, built_grown, holds_grown, taken_grown, slots_grown, content_grown, holds_first, no_node, nodes_grown}
 use Rattle.bulk_load.proofs.builder.Builder.add_leaf.Goals as goal
-use Rattle.bulk_load.proofs.builder.Builder.add_leaf.Goals.{After-way_told-1}
-
-more_parts : (c : After-way_told-1) → length c.push_reserved-2.new.self.items ≡ length c.args.self.now.parts.items + 1
-more_parts c = omega (arith, c.push_reserved-2.ensures.len, c.push_reserved-2.new.self.ok.0, c.args.self.now.parts.ok.0)
-
-more_slots : (c : After-way_told-1) → length c.push_reserved.new.self.items ≡ length c.args.self.now.slots.items + 1
-more_slots c = omega (arith, c.push_reserved.ensures.len, c.push_reserved.new.self.ok.0, c.args.self.now.slots.ok.0)
 
 pub returns-clause-taken : goal.returns-clause-taken
 returns-clause-taken c = λ xs nodes m.
+    let parts : length c.push_reserved-2.new.self.items ≡ length c.args.self.now.parts.items + 1 = omega (arith, c.push_reserved-2.ensures.len, c.push_reserved-2.new.self.ok.0, c.args.self.now.parts.ok.0) in
+    let slots : length c.push_reserved.new.self.items ≡ length c.args.self.now.slots.items + 1 = omega (arith, c.push_reserved.ensures.len, c.push_reserved.new.self.ok.0, c.args.self.now.slots.ok.0) in
     let l = c.args.self.now in let n = c.args.leaf in let k = c.args.key.now in let v = c.args.value in let p = c.args.fork in let new = c.put_leaf.new.words in
     let put : IsPut l.layout l.words.items new (a_leaf n) = subst (λ old. IsPut l.layout old new (a_leaf n)) c.as_mut_slice.ensures.value c.put_leaf.ensures.put in
     let items = sym (with_items_is l.words new (search (rules, places))) in
@@ -49,8 +44,8 @@ returns-clause-taken c = λ xs nodes m.
         content = ap (λ ys. ys ++ item n k v ∷ []) (sym e.0.none);
         last = c.copy-self.ensures.same;
         room = nodes_grown l.nodes l.layout.nodes (length l.parts.items) (length l.slots.items) (length c.push_reserved-2.new.self.items) (length c.push_reserved.new.self.items)
-            (more_parts c) (more_slots c) nodes;
-        few = omega (arith, e.0.no_nodes, ap length e.0.no_slots, more_slots c, length-append xs (item n k v ∷ []));
+            parts slots nodes;
+        few = omega (arith, e.0.no_nodes, ap length e.0.no_slots, slots, length-append xs (item n k v ∷ []));
       } in record { stack = stack; alone = λ q. tt })
       | inr s ↦ (let ls = s.0.stack.levels in let top = s.0.stack.top in let t = s.0.stack.tree in
           let parted : IsParted p (greatest_key top) k = subst (λ key. IsParted p key k) (s.0.stack.last ∙ last_joined ls top) s.1 in
@@ -75,8 +70,8 @@ returns-clause-taken c = λ xs nodes m.
                 ap (λ ys. ys ++ item n k v ∷ []) s.0.stack.content;
             last = c.copy-self.ensures.same ∙ sym (last_joined ls (fork p top (leaf n k v)));
             room = nodes_grown l.nodes l.layout.nodes (length l.parts.items) (length l.slots.items) (length c.push_reserved-2.new.self.items) (length c.push_reserved.new.self.items)
-                (more_parts c) (more_slots c) nodes;
-            few = omega (arith, s.0.stack.few, more_slots c, length-append xs (item n k v ∷ []));
+                parts slots nodes;
+            few = omega (arith, s.0.stack.few, slots, length-append xs (item n k v ∷ []));
           } in record { stack = stack; alone = λ q. tt })
     ]
 
