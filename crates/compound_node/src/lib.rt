@@ -17,4 +17,4 @@ pub use entries::Entry;
 pub use halves::{Cut, Half};
 pub use heads::Head;
 pub use nodes::Node;
-pub use rows::{find_sibling, fork_rows, or_first_rows, remove_row, squeeze_lanes};
+pub use rows::{find_sibling, fork_rows, or_first_rows, remove_row, spread_lanes, squeeze_lanes};

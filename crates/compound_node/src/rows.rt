@@ -90,7 +90,7 @@ pub(crate) fn spread_rows(rows: &mut [u32; 32], count: usize, j: u8)
 
 /// `rows` with 0 in a new column `j` of each. The columns from there on move on by one, and the last one is lost.
 #[inline(always)]
-pub(crate) fn spread_lanes(rows: u32x32, j: u8) -> u32x32
+pub fn spread_lanes(rows: u32x32, j: u8) -> u32x32
     requires { j ≤ 31 }
     ensures { result ≡ map (spread_row j) rows }
 {

@@ -1,7 +1,11 @@
--- The words of a head with a new fork at a column that it has.
-use Rattle.std.proofs.Common.{ℕ, ◌≡◌, ◌+◌, ◌-◌, ◌*◌, ◌%◌, ◌^◌, ◌<◌, ◌≤◌, ◌++◌, ◌⊎◌, arith, Bool, true, cond, List, drop, get_or, get_or-take, length, replicate, take, map, ap, refl, sym, lit<, ◌∙◌}
+-- The words of a head with a new fork, at a column that it has or at a new one.
+use Rattle.std.proofs.Common.{ℕ, ◌≡◌, ◌+◌, ◌-◌, ◌*◌, ◌%◌, ◌^◌, ◌<◌, ◌≤◌, ◌++◌, ◌⊎◌, arith, Bool, true, false, cond, List, drop, get_or, get_or-take, length, replicate, take, map, ap, ap₂, refl, subst, sym, lit<, ◌∙◌}
 use Rattle.std.specs.List.{insert}
-use Rattle.compound_node.proofs.Forked.{new_fits, words_forked}
+use Rattle.compound_node.proofs.Forked.{new_fits, room_for_column, words_forked}
+use Rattle.partial_keys.specs.Columns.{IsColumns}
+use Rattle.std.proofs.lemmas.List.{drop_at, length-map, take-map, take_at}
+use Rattle.record_words.proofs.Written.{head_put}
+use Rattle.record_words.specs.Packed.{fixed_words}
 use Rattle.compound_node.proofs.Forks.{NewLeaf, new_leaf}
 use Rattle.compound_node.proofs.Lawful.{same_count, with_leaves}
 use Rattle.compound_node.specs.Forking.{forked_head}
@@ -17,6 +21,8 @@ use Rattle.record_words.specs.Node.{CanGrowAt, HasHead, head_words}
 use Rattle.record_words.specs.Packed.{meta_word, row_words}
 use Rattle.record_words.specs.declared.kind.Kind.{Kind}
 use Rattle.record_words.specs.declared.kind.Kind.TheVariants.{Middle, Narrow, Wide}
+use Rattle.record_words.proofs.DroppedRows.{first_lanes}
+use Rattle.record_words.proofs.Lawful.{length-with_unused}
 use Rattle.record_words.proofs.HeadsByKind.{HasParts, Tells, first_tells, head_parts}
 use Rattle.record_words.proofs.Lanes.{column_lanes, has-unused}
 use Rattle.record_words.proofs.Nodes.{head_part, length-node_words}
@@ -82,6 +88,9 @@ module _ {words : List ℕ} {node : NodeView} {position first last : ℕ} (growi
         front_below-columns position (length node.columns) lanes are.1 (omega (arith, low)) ∙ ap (front_below position) are.0
 
     -- the position stands in a lane where it is a column
+    pub column_lacks : has lanes position ≡ false → has node.columns position ≡ false
+    column_lacks lacks = sym (has-unused position (32 - length node.columns) node.columns low) ∙ (ap (λ xs. has xs position) (sym lanes_are) ∙ lacks)
+
     pub column_found : has lanes position ≡ true → has node.columns position ≡ true
     column_found found = sym (has-unused position (32 - length node.columns) node.columns low) ∙ (ap (λ xs. has xs position) (sym lanes_are) ∙ found)
 
@@ -102,6 +111,63 @@ module _ {words : List ℕ} {node : NodeView} {position first last : ℕ} (growi
 
     pub in_range : last < length node.rows
     in_range = leaf.in_range
+
+    -- where the position is no column
+    module _ (off : has node.columns position ≡ false) where
+      pub room_for_one : length node.columns < 31
+      room_for_one = room_for_column position node.columns leaf.leaves_fit.positions off
+
+      pub more_columns : next.columns ≡ with_position position node.columns
+      more_columns = ap (λ b. cond b node.columns (with_position position node.columns)) off
+
+      pub more_are_columns : IsColumns (with_position position node.columns)
+      more_are_columns = subst IsColumns more_columns leaf.leaves_fit.positions
+
+      module _ (below : ℕ) (old base rows : List ℕ) (few : below ≤ 31) (place : below ≡ front_below position node.columns) (old_are : old ≡ with_unused node.rows)
+          (lanes : List ℕ) (count : ℕ) (lanes_are : lanes ≡ map (spread_row below) old) (counted : count ≡ length node.rows) (whole : length base ≡ 32)
+          (front : (i : ℕ) → i < count → get_or base i 0 ≡ get_or lanes i 0) (behind : (i : ℕ) → i < 32 → count ≤ i → get_or base i 0 ≡ 4294967295)
+          (rows_are : rows ≡ take 32 (edited first (last + 1 - first) (forked_rows (1 * 2 ^ (31 - below) % 2 ^ 32) bit) base)) where
+        abbrev n : ℕ
+        n = length node.rows
+
+        old_fits : FitsHead n old (head_of node)
+        old_fits = record {
+          padded = old_are;
+          counted = refl;
+          lawful = with_leaves node growing.has.lawful n (same_count node growing.has.lawful);
+        }
+
+        behind_are : drop n old ≡ replicate (32 - n) 4294967295
+        behind_are = ap (drop n) old_are ∙ drop_at node.rows (replicate (32 - n) 4294967295) n refl
+
+        few_rows : n ≤ 32
+        few_rows = omega (arith, room)
+
+        base_are : base ≡ with_unused (take n (map (spread_row below) old))
+        base_are =
+            first_lanes lanes base count (ap length lanes_are ∙ (length-map old (spread_row below) ∙ (ap length old_are ∙ length-with_unused node.rows few_rows))) (omega (arith, counted, few_rows)) whole front behind
+            ∙ ap₂ (λ k (ls : List ℕ). with_unused (take k ls)) counted lanes_are
+
+        front_long : length (take n (map (spread_row below) old)) ≡ n
+        front_long = ap length (take-map (spread_row below) n old) ∙ (length-map (take n old) (spread_row below)
+            ∙ (ap (λ (rs : List ℕ). length (take n rs)) old_are ∙ ap length (take_at node.rows (replicate (32 - n) 4294967295) n refl)))
+
+        base_is : base ≡ map (spread_row below) (take n old) ++ drop n old
+        base_is =
+            base_are ∙ (ap (λ k. take n (map (spread_row below) old) ++ replicate (32 - k) 4294967295) front_long
+            ∙ (ap (λ (front : List ℕ). front ++ replicate (32 - n) 4294967295) (take-map (spread_row below) n old) ∙ ap (λ (rest : List ℕ). map (spread_row below) (take n old) ++ rest) (sym behind_are)))
+
+        kept_more : rows ≡ next.rows ++ drop (n + 1) old
+        kept_more = words_forked n (head_of node) old old_fits 1 position first last below bit rows ordered in_range room few place
+            (rows_are ∙ (ap (λ (rs : List ℕ). take 32 (edited first (last + 1 - first) (forked_rows (1 * 2 ^ (31 - below) % 2 ^ 32) bit) rs)) base_is
+            ∙ ap (λ b. take 32 (edited first (last + 1 - first) (forked_rows (1 * 2 ^ (31 - below) % 2 ^ 32) bit) (cond b old (map (spread_row below) (take n old) ++ drop n old)))) (sym off)))
+
+        fits_more : FitsHead (n + 1) rows next
+        fits_more = new_fits n (head_of node) old old_fits next rows leaf.leaves_fit kept_more
+
+        pub has_column_fork : (columns out : List ℕ) (more : ℕ) → columns ≡ with_position position node.columns → more ≡ n + 1 → out ≡ fixed_words more 1 columns rows ++ drop 25 words → HasHead words out (forked_head 1 position first last bit (head_of node))
+        has_column_fork columns out more columns_are longer is =
+            is ∙ ap (λ front. front ++ drop 25 words) (head_put next more 1 columns rows (longer ∙ sym fits_more.counted) refl (columns_are ∙ sym more_columns) fits_more.padded)
 
     module _ (column : has node.columns position ≡ true) (below : ℕ) (old rows : List ℕ) (few : below ≤ 31) (place : below ≡ front_below position node.columns)
         (old_are : old ≡ with_unused node.rows)

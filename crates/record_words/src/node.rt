@@ -1,6 +1,6 @@
 //! The words of a node record.
 
-ghost use Rattle.std.specs.Prelude.{ℕ, ◌≡◌, ◌↔◌, ◌+◌, ◌<◌, ◌≤◌, ◌/◌, ◌%◌, ◌++◌, ◌-◌, ◌⊎◌, ◌≢◌, IsTrue, List, drop, length, map, slice_get, slice_index, take};
+ghost use Rattle.std.specs.Prelude.{ℕ, ◌≡◌, ◌↔◌, ◌+◌, ◌<◌, ◌≤◌, ◌/◌, ◌%◌, ◌++◌, ◌-◌, ◌⊎◌, ◌≢◌, IsTrue, List, drop, false, length, map, slice_get, slice_index, take};
 ghost use Rattle.compound_node.specs.Forking.{forked_head};
 ghost use Rattle.compound_node.specs.Nodes.{NodeView, greatest_height, head_of, piece};
 ghost use Rattle.compound_node.specs.declared.entries.Entry.TheVariants.{Leaf as LeafEntry};
@@ -10,6 +10,7 @@ ghost use Rattle.partial_keys.specs.Squeezed.{squeezed, used_bits};
 ghost use Rattle.node_tries.specs.Changes.{collapsed, without};
 ghost use Rattle.node_tries.specs.Growth.{grown};
 ghost use Rattle.node_tries.specs.Kept.{kept};
+ghost use Rattle.node_tries.specs.Positions.{has};
 ghost use Rattle.record_words.specs.Entry.{HasEntryWord, entry_word};
 ghost use Rattle.record_words.specs.Dropping.{CanDropAt, CanDropColumns, HasHeadWithout};
 ghost use Rattle.record_words.specs.Node.{CanCloseAt, CanTakeLeaf, HasHeadWords, HasNodeWords, CanGrowAt, HasHead, SpellBuilt, SpellEntries, SpellLeft, head_words, node_words};
@@ -32,7 +33,9 @@ use crate::{
     MAX_ENTRIES, NODE_FIELDS,
 };
 use arrayvec::ArrayVec;
-use compound_node::{Entry, Head, Node, fork_rows, or_first_rows, remove_row, squeeze_lanes};
+use compound_node::{
+    Entry, Head, Node, fork_rows, or_first_rows, remove_row, spread_lanes, squeeze_lanes,
+};
 use partial_keys::{Columns, count_below, insert_element, remove_element};
 use std::simd::prelude::*;
 
@@ -189,7 +192,7 @@ fn add_fork(words: &mut [u64; NODE_FIELDS], first: u8, last: u8, position: u16, 
 {
     let positions = positions_in(&words[..HEAD_WORDS]);
     if !has_lane(positions, position) {
-        return add_fork_by_head(words, first, last, position, bit);
+        return add_column_fork(words, first, last, position, bit);
     }
     let weight = 1 << (31 - count_below(positions, position));
     let rows = rows_in(&words[..HEAD_WORDS]);
@@ -199,15 +202,21 @@ fn add_fork(words: &mut [u64; NODE_FIELDS], first: u8, last: u8, position: u16, 
     put_rows(words, kind, rows);
 }
 
-/// Does what `add_fork` does, by the head, so that `position` need not be a column.
-fn add_fork_by_head(words: &mut [u64; NODE_FIELDS], first: u8, last: u8, position: u16, bit: bool)
+/// Does what `add_fork` does, where `position` is no column yet: the rows get 0 there, and the head is put together from its parts.
+fn add_column_fork(words: &mut [u64; NODE_FIELDS], first: u8, last: u8, position: u16, bit: bool)
     requires growing { (node : NodeView) × CanGrowAt words.old node position first last }
     requires below { position < 65535 }
+    requires new { (node : NodeView) → CanGrowAt words.old node position first last → has node.columns position ≡ false }
     ensures { (node : NodeView) → CanGrowAt words.old node position first last → HasHead words.old words.new (forked_head 1 position first last bit (head_of node)) }
 {
-    let mut head = read_head(&words[..HEAD_WORDS]);
-    head.add_leaf(first, last, position, bit);
-    put_head(words, &head);
+    let numbers = read_numbers(words[0]);
+    let positions = read_positions(&words[..HEAD_WORDS]);
+    let mut columns = Columns::from_padded(positions, numbers.columns);
+    let below = columns.add_position(position);
+    let spread = spread_lanes(rows_in(&words[..HEAD_WORDS]), below);
+    let rows = with_unused_from(spread, numbers.count);
+    let rows = fork_rows(rows, first as usize, last as usize, 1 << (31 - below), bit);
+    put_parts(words, numbers.count + 1, 1, &columns, rows);
 }
 
 /// Takes the entry in slot `at`, and the last fork on the path to it, out of the node of `words`, and returns `None`. The height is made

@@ -5,7 +5,7 @@ use Rattle.partial_keys.proofs.Reaching.{front_below-le}
 use Rattle.node_tries.specs.Positions.{front_below, has}
 use Rattle.record_words.specs.Kinds.{kind_in}
 use Rattle.record_words.specs.Node.{CanGrowAt}
-use Rattle.record_words.proofs.Forking.{column_found, few_numbers, front_is, has_fork, in_range, kind_stays, ordered, room, some_before_rows}
+use Rattle.record_words.proofs.Forking.{column_found, column_lacks, few_numbers, front_is, has_fork, in_range, kind_stays, ordered, room, some_before_rows}
 use Rattle.record_words.proofs.Nodes.{head_part}
 use Rattle.record_words.proofs.node.add_fork.Goals as goal
 use Rattle.record_words.proofs.node.add_fork.Goals.{After-count_below}
@@ -15,6 +15,10 @@ place c node g = c.count_below.ensures ∙ front_is g c.requires.below c.positio
 
 few : (c : After-count_below) → c.count_below.result ≤ 31
 few c = let (node, g) = c.requires.growing in omega (arith, place c node g, front_below-le c.args.position node.columns, g.has.lawful.positions.few)
+
+pub add_column_fork-requires-clause-new : goal.add_column_fork-requires-clause-new
+add_column_fork-requires-clause-new c = λ node g.
+    column_lacks g c.requires.below c.positions_in-positions.result (c.positions_in-positions.ensures node g.has.lawful (head_part node c.args.words.now g.spells)) (sym c.has_lane.ensures ∙ c.if-not-has_lane.true)
 
 pub overflow_sub-weight : goal.overflow_sub-weight
 overflow_sub-weight c = few (goal.at.overflow_sub-weight c).After-count_below
