@@ -108,7 +108,8 @@ pub record IsLoad (layout : Layout) (words : List ℕ) : Type 0 where
   pub root : HasEntryWord (loaded_root words) × (entry_word (loaded_root words) ≡ get_or words ROOT_WORD 0)
   pub top : IsTop (heap_of (fields_in layout words)) (loaded_root words) (loaded_tree layout words)
   pub tree : (u : Tree) → loaded_tree layout words ≡ Some u → IsTrie u × IsBuilt u
-  pub records : (r : Rec) → IsLinked (loaded_tree layout words) r → HasRecord layout r × IsPacked r (fields_in layout words r) × FitsIn layout r (fields_in layout words r)
+  pub records : (r : Rec) → IsLinked (loaded_tree layout words) r →
+      HasRecord layout r × IsPacked r (fields_in layout words r) × FitsIn layout r (fields_in layout words r)
 
 -- Legality
 

@@ -37,7 +37,8 @@ column_byte j word = word / 2 ^ (8 * (7 - j % 8)) % 2 ^ 8
 -- a near column: how many bytes behind the first one its byte is, and the mask of its bit
 abbrev pub near_column_in : Kind → List ℕ → ℕ → ℕ
 near_column_in kind head j =
-    9 * (get_or head 0 0 / 2 ^ 32 % 2 ^ 8 + column_byte j (get_or head (position_index kind j) 0)) + 1 + count_leading_zeros 8 (column_byte j (get_or head (mask_index kind j) 0))
+    9 * (get_or head 0 0 / 2 ^ 32 % 2 ^ 8 + column_byte j (get_or head (position_index kind j) 0)) +
+    1 + count_leading_zeros 8 (column_byte j (get_or head (mask_index kind j) 0))
 
 -- the position of column j in the words of a head of this kind; a wide one has it in 16 bits
 abbrev pub column_in : Kind → List ℕ → ℕ → ℕ

@@ -23,8 +23,10 @@ pub enum Spot {
     Value { leaf: u32 },
 }
 
-/// One load, store or compare-exchange on one word; or the bulk load with which a table was made, which is no atomic step. `word` is what a load found, or what a store puts there. `found` is the word that
-/// a compare-exchange found: if that isn't the expected one, it stays. `offset` counts the words of a record, from its state at 0 on.
+/// One load, store or compare-exchange on one word; or the bulk load with which a table was made, which is no atomic step.
+///
+/// `word` is what a load found, or what a store puts there. `found` is the word that a compare-exchange found: if that isn't the expected
+/// one, it stays. `offset` counts the words of a record, from its state at 0 on.
 #[derive(Clone, Copy)]
 pub enum Act {
     /// Exchanges the state of a record from free to held.
