@@ -194,10 +194,3 @@ new_leaf node lawful position first last bit leaf at room below low =
           (put_beside first last bit (Leaf leaf) node.entries fork.ordered)
           (subst (λ h. IsBuiltFrom (node_of (forked_head h position first last bit (head_of node)) (edited first (last + 1 - first) (forked_places bit (Leaf leaf)) node.entries)) (grown position bit (Leaf leaf) first (piece node))) height fork.built);
     }
-
--- and so for the head
-pub head_leaf : (head : HeadView) (position first last : ℕ) (bit : Bool) (leaf : ℕ) → length head.rows < 32 → head.height ≡ 1 → position < 65535 →
-    (node : NodeView) → IsLawfulNode node → head_of node ≡ head → IsAffected (piece node) position first last → NewLeaf node position first last bit leaf
-head_leaf head position first last bit leaf room low below node lawful same at =
-    let few : length node.rows < 32 = subst (λ (h : HeadView). length h.rows < 32) (sym same) room in
-    new_leaf node lawful position first last bit leaf at (omega (arith, few, same_count node lawful)) below (ap (λ (h : HeadView). h.height) same ∙ low)

@@ -1,18 +1,12 @@
 //! Nodes without their entries.
 
-ghost use Rattle.std.specs.List.{All};
 ghost use Rattle.std.specs.Prelude.{◌≡◌, ◌↔◌, ◌<◌, ◌≤◌, ◌++◌, IsTrue, drop, false, if◌then◌else◌, length, map, take};
 ghost use Rattle.compound_node.specs.Nodes.{FitsWords};
 ghost use Rattle.partial_keys.specs.Columns.{IsColumns};
 ghost use Rattle.partial_keys.specs.Spread.{spread_row};
-ghost use Rattle.partial_keys.specs.Squeezed.{IsRowOver, or_all, squeezed, used_bits};
-ghost use Rattle.node_tries.specs.Kept.{kept};
 ghost use Rattle.node_tries.specs.Positions.{front_below, has, with_position};
 
-use super::rows::{
-    are_sparse_keys, first_of_run, fork_rows, is_padded, last_of_run, or_rows, remove_row,
-    spread_rows, squeeze_rows,
-};
+use super::rows::{are_sparse_keys, first_of_run, fork_rows, is_padded, last_of_run, spread_rows};
 use key_bits::Key;
 use partial_keys::{Columns, pad, search_lanes};
 use std::marker::Model;
@@ -39,14 +33,13 @@ impl Model for Head {
 }
 
 impl Head {
-    ghost use Rattle.std.specs.Prelude.{◌≡◌, ℕ, ◌↔◌, ◌+◌, ◌<◌, ◌≤◌, IsSome, IfSome, if◌then◌else◌, insert, length, remove, slice_index, take};
+    ghost use Rattle.std.specs.Prelude.{◌≡◌, ℕ, ◌↔◌, ◌+◌, ◌<◌, ◌≤◌, IsSome, IfSome, length, slice_index, take};
     ghost use Rattle.compound_node.specs.Forking.{forked_head};
-    ghost use Rattle.compound_node.specs.Nodes.{AgreeBefore, InEachNode, IsBuiltFrom, IsHead, IsLawfulNode, NodeView, greatest_height, head_of, leaves, node_of, piece};
-    ghost use Rattle.compound_node.specs.declared.entries.Entry.TheVariants.{Leaf as LeafEntry};
+    ghost use Rattle.compound_node.specs.Nodes.{AgreeBefore, InEachNode, IsHead, IsLawfulNode, leaves, node_of, piece};
     ghost use Rattle.key_bits.specs.Bits.{bit_of};
     ghost use Rattle.partial_keys.specs.Rows.{with_unused};
-    ghost use Rattle.node_tries.specs.Changes.{AtRootFork, without};
-    ghost use Rattle.node_tries.specs.Growth.{IsAffected, affected_count, affected_first, grown};
+    ghost use Rattle.node_tries.specs.Changes.{AtRootFork};
+    ghost use Rattle.node_tries.specs.Growth.{affected_count, affected_first};
     ghost use Rattle.node_tries.specs.Piece.{leads_to};
 
     /// The head of a node of `count` entries with these fields; `None` exactly if no node has them. `sparse` has the rows, and
@@ -169,38 +162,6 @@ impl Head {
         self.height = height;
     }
 
-    /// Adds a new fork at `position` over the affected slots `first` to `last`, and a row for a new leaf. That stands straight after them
-    /// if `bit` is true, else straight before. The node has leaves alone, fewer than 32, and its height stays 1.
-    pub fn add_leaf(&mut self, first: u8, last: u8, position: u16, bit: bool)
-        requires room { length self.old.rows < 32 }
-        requires low { self.old.height ≡ 1 }
-        requires range { (node : NodeView) × IsLawfulNode node × (head_of node ≡ self.old) × IsAffected (piece node) position first last }
-        requires below { position < 65535 }
-        ensures forked { self.new ≡ forked_head 1 position first last bit self.old }
-        ensures built { InEachNode self.old (λ node. IsAffected (piece node) position first last → (leaf : ℕ) →
-            IsBuiltFrom (node_of self.new (insert node.entries (if bit then last + 1 else first) (LeafEntry leaf)))
-            (grown position bit (LeafEntry leaf) first (piece node))) }
-    {
-        self.add_fork(1, position, first as usize, last as usize, bit);
-    }
-
-    /// Takes out the row of slot `at`, one of more than two, and the last fork on the path to it. The stored height becomes `height`, which
-    /// is one above the greatest of the entries that are left: a head doesn't know them.
-    pub fn remove_entry(&mut self, at: u8, height: u16)
-        requires several { 2 < length self.old.rows }
-        requires in_range { at < length self.old.rows }
-        requires height { 0 < height }
-        ensures { InEachNode self.old (λ node. height ≡ 1 + greatest_height (remove node.entries at) →
-            IsBuiltFrom (node_of self.new (remove node.entries at)) (without at (piece node))) }
-    {
-        let count = self.count as usize;
-        let rows = remove_row(u32x32::from_array(self.sparse), count, at as usize);
-        self.sparse = rows.to_array();
-        drop_unused(&mut self.columns, &mut self.sparse, count - 1);
-        self.count -= 1;
-        self.height = height;
-    }
-
     /// A copy of the head.
     pub(crate) fn copy(&self) -> Head
         ensures { result ≡ self.now }
@@ -266,24 +227,6 @@ pub(crate) fn ensure_column(
         spread_rows(rows, count, below);
     }
     below
-}
-
-/// Drops the columns in which each of the first `count` rows has 0, and their bits of these rows. At least one column stays.
-fn drop_unused(columns: &mut Columns, rows: &mut [u32; 32], count: usize)
-    requires columns { length columns.old ≤ 31 }
-    requires few { count ≤ 32 }
-    requires some { 0 < length (kept (used_bits (or_all (take count rows.old))) columns.old) }
-    requires used { IsRowOver (length columns.old) (or_all (take count rows.old)) }
-    requires rows { All (IsRowOver (length columns.old)) (take count rows.old) }
-    ensures columns { columns.new ≡ kept (used_bits (or_all (take count rows.old))) columns.old }
-    ensures rows { rows.new ≡ map (squeezed (or_all (take count rows.old))) (take count rows.old) ++ drop count rows.old }
-{
-    let used = or_rows(&rows[..count]);
-    let before = columns.count();
-    if used != !(u32::MAX >> before) {
-        columns.drop_unused(used);
-        squeeze_rows(&mut rows[..count], used, before);
-    }
 }
 
 /// Whether some node of `count` entries has `columns`, and `sparse` has its rows, with 4,294,967,295 at each unused slot.

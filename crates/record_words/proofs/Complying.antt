@@ -1,96 +1,65 @@
 -- Lanes of fewer bits that comply with a dense key, and the highest of the first of them.
-use Rattle.std.proofs.Common.{Bool, true, false, cond, eqb, map, ℕ, zero, suc, ◌≡◌, ⊎_elim, ◌+◌, ◌-◌, ◌*◌, ◌/◌, ◌%◌, ◌^◌, ◌<◌, ◌≤◌, List, [], ◌∷◌, arith, bit_and, get_or, length, replicate, take, refl, sym, ap, ap₂, ◌∙◌, w8, w16}
-use Rattle.std.proofs.Math.Nat.{pow-suc}
+use Rattle.std.proofs.Common.{Bool, true, false, cond, eqb, map, ℕ, zero, suc, ◌≡◌, ⊎_elim, ◌+◌, ◌-◌, ◌*◌, ◌/◌, ◌%◌, ◌^◌, ◌<◌, ◌≤◌, List, [], ◌∷◌, arith, bit_and, get_or, length, replicate, take, refl, sym, ap, ap₂, ◌∙◌}
+use Rattle.std.proofs.Math.Nat.{mul-div-le, mul-div_cancel_left, pow-suc}
 use Rattle.std.proofs.Math.Pow.{pow_mono}
 use Rattle.std.proofs.lemmas.Bool.{cases_lt, eq-eqb, eqb-false, eqb-true, ne_eqb}
 use Rattle.std.proofs.lemmas.List.{get_or-map, get_or-take, length-map, length-take-le}
-use Rattle.std.proofs.lemmas.Nat.{and-not, and_le_r, and_shr, leading_top, mod-pow-add, shr_high}
+use Rattle.std.proofs.lemmas.Nat.{and-not, and_le_r, and_shr, leading_top, mod-pow-add, pow_pos, shr_high}
 use Rattle.std.proofs.lemmas.Simd.{bit_mask_l, bitmask_splat, map-map, mask_l-lt, zip2_splat_left}
 use Rattle.std.proofs.Common.{subst}
 use Rattle.partial_keys.specs.Rows.{complies}
+use mir.Syntax.{Width}
+use mir.Val.{bits, hbits}
 use lib.Count.{count_leading_zeros}
 use lib.Lanes.{mask_l, top, zip2}
 
--- the byte, and the half of 32 bits, has no bit that the dense one lacks
-abbrev pub lacks_none : ℕ → ℕ → Bool
-lacks_none dense byte = eqb (bit_and (255 - dense) byte) 0
+-- the lane of w bits has no bit that the dense one lacks
+abbrev pub lacks_none : ℕ → ℕ → ℕ → Bool
+lacks_none w dense lane = eqb (bit_and (2 ^ w - 1 - dense) lane) 0
 
-abbrev pub half_lacks_none : ℕ → ℕ → Bool
-half_lacks_none dense half = eqb (bit_and (65535 - dense) half) 0
-
--- ---- bytes
-pub bytes_comply : (xs : List ℕ) (d : ℕ) → length xs ≡ 32 →
-    mask_l (map (top 7) (zip2 (λ a b. cond (eqb a b) (2 ^ 8 - 1) 0) (zip2 bit_and (replicate 32 (255 - d)) xs) (replicate 32 0))) % 2 ^ 64 ≡ mask_l (map (lacks_none d) xs)
-bytes_comply xs d long =
-    let n : ℕ = 255 - d in
+pub lanes_comply : (w : Width) (xs : List ℕ) (d : ℕ) → length xs ≡ 32 →
+    mask_l (map (top (hbits w)) (zip2 (λ a b. cond (eqb a b) (2 ^ bits w - 1) 0) (zip2 bit_and (replicate 32 (2 ^ bits w - 1 - d)) xs) (replicate 32 0))) % 2 ^ 64 ≡ mask_l (map (lacks_none (bits w) d) xs)
+lanes_comply w xs d long =
+    let n : ℕ = 2 ^ bits w - 1 - d in
     let is : zip2 bit_and (replicate 32 n) xs ≡ map (bit_and n) xs = zip2_splat_left bit_and n 32 xs long in
-    bitmask_splat w8 eqb (zip2 bit_and (replicate 32 n) xs) 32 0 (ap length is ∙ (length-map xs (bit_and n) ∙ long)) (omega arith)
+    bitmask_splat w eqb (zip2 bit_and (replicate 32 n) xs) 32 0 (ap length is ∙ (length-map xs (bit_and n) ∙ long)) (omega arith)
     ∙ ap mask_l (ap (map (λ x. eqb x 0)) is ∙ map-map (λ x. eqb x 0) (bit_and n) xs)
 
--- a byte that lacks none complies, in eight bits
-byte_complies : (d x : ℕ) → d < 2 ^ 8 → x < 2 ^ 8 → lacks_none d x ≡ complies d x
-byte_complies d x dense byte = go (eqb (bit_and (255 - d) x) 0) refl
+-- a lane that lacks none complies
+lane_complies : (w d x : ℕ) → d < 2 ^ w → x < 2 ^ w → lacks_none w d x ≡ complies d x
+lane_complies w d x dense lane = go (eqb (bit_and (2 ^ w - 1 - d) x) 0) refl
   where
-    both : bit_and (2 ^ 8 - 1 - d) x + bit_and d x ≡ x
-    both = and-not 8 d x dense byte
+    both : bit_and (2 ^ w - 1 - d) x + bit_and d x ≡ x
+    both = and-not w d x dense lane
 
-    go : (t : Bool) → eqb (bit_and (255 - d) x) 0 ≡ t → eqb (bit_and (255 - d) x) 0 ≡ complies d x
+    go : (t : Bool) → eqb (bit_and (2 ^ w - 1 - d) x) 0 ≡ t → eqb (bit_and (2 ^ w - 1 - d) x) 0 ≡ complies d x
     go true e = e ∙ sym (eq-eqb (bit_and d x) x (omega (arith, both, eqb-true _ _ e)))
     go false e = e ∙ sym (ne_eqb (bit_and d x) x (λ same. eqb-false _ _ e (omega (arith, both, same))))
 
--- and so does the row that it is the highest byte of
-high_complies : (d x : ℕ) → complies (d / 2 ^ 24) x ≡ complies d (2 ^ 24 * x)
-high_complies d x = go (eqb (bit_and (d / 2 ^ 24) x) x) refl
+-- and so does the row whose highest bits it has
+high_complies : (low d x : ℕ) → complies (d / 2 ^ low) x ≡ complies d (2 ^ low * x)
+high_complies low d x = go (eqb (bit_and (d / 2 ^ low) x) x) refl
   where
-    shifted : bit_and d (2 ^ 24 * x) / 2 ^ 24 ≡ bit_and (d / 2 ^ 24) x
-    shifted = and_shr d (2 ^ 24 * x) 24 ∙ ap (bit_and (d / 2 ^ 24)) (let e : 2 ^ 24 * x / 2 ^ 24 ≡ x = omega arith in e)
+    row : ℕ
+    row = 2 ^ low * x
 
-    most : bit_and d (2 ^ 24 * x) ≤ 2 ^ 24 * x
-    most = and_le_r d (2 ^ 24 * x)
+    high : row / 2 ^ low ≡ x
+    high = mul-div_cancel_left x (pow_pos low)
 
-    go : (t : Bool) → eqb (bit_and (d / 2 ^ 24) x) x ≡ t → eqb (bit_and (d / 2 ^ 24) x) x ≡ complies d (2 ^ 24 * x)
-    go true e = e ∙ sym (eq-eqb (bit_and d (2 ^ 24 * x)) (2 ^ 24 * x) (let same = eqb-true _ _ e in omega (arith, shifted, most, same)))
-    go false e = e ∙ sym (ne_eqb (bit_and d (2 ^ 24 * x)) (2 ^ 24 * x) (λ same. eqb-false _ _ e (omega (arith, shifted, same))))
+    shifted : bit_and d row / 2 ^ low ≡ bit_and (d / 2 ^ low) x
+    shifted = and_shr d row low ∙ ap (bit_and (d / 2 ^ low)) high
 
-pub lacks_none-complies : (d x : ℕ) → d < 2 ^ 32 → x < 2 ^ 8 → lacks_none (d / 2 ^ 24) x ≡ complies d (2 ^ 24 * x)
-lacks_none-complies d x dense byte = byte_complies (d / 2 ^ 24) x (omega (arith, dense)) byte ∙ high_complies d x
+    most : bit_and d row ≤ row
+    most = and_le_r d row
 
--- ---- halves
-pub halves_comply : (xs : List ℕ) (d : ℕ) → length xs ≡ 32 →
-    mask_l (map (top 15) (zip2 (λ a b. cond (eqb a b) (2 ^ 16 - 1) 0) (zip2 bit_and (replicate 32 (65535 - d)) xs) (replicate 32 0))) % 2 ^ 64 ≡ mask_l (map (half_lacks_none d) xs)
-halves_comply xs d long =
-    let n : ℕ = 65535 - d in
-    let is : zip2 bit_and (replicate 32 n) xs ≡ map (bit_and n) xs = zip2_splat_left bit_and n 32 xs long in
-    bitmask_splat w16 eqb (zip2 bit_and (replicate 32 n) xs) 32 0 (ap length is ∙ (length-map xs (bit_and n) ∙ long)) (omega arith)
-    ∙ ap mask_l (ap (map (λ x. eqb x 0)) is ∙ map-map (λ x. eqb x 0) (bit_and n) xs)
+    go : (t : Bool) → eqb (bit_and (d / 2 ^ low) x) x ≡ t → eqb (bit_and (d / 2 ^ low) x) x ≡ complies d (2 ^ low * x)
+    go true e =
+        let least : row ≤ bit_and d row = subst (λ y. 2 ^ low * y ≤ bit_and d row) (shifted ∙ eqb-true _ _ e) (mul-div-le (bit_and d row) (2 ^ low)) in
+        e ∙ sym (eq-eqb (bit_and d row) row (omega (arith, least, most)))
+    go false e = e ∙ sym (ne_eqb (bit_and d row) row (λ same. eqb-false _ _ e (sym shifted ∙ (ap (λ y. y / 2 ^ low) same ∙ high))))
 
--- a half that lacks none complies, in sixteen bits
-half_complies : (d x : ℕ) → d < 2 ^ 16 → x < 2 ^ 16 → half_lacks_none d x ≡ complies d x
-half_complies d x dense half = go (eqb (bit_and (65535 - d) x) 0) refl
-  where
-    both : bit_and (2 ^ 16 - 1 - d) x + bit_and d x ≡ x
-    both = and-not 16 d x dense half
-
-    go : (t : Bool) → eqb (bit_and (65535 - d) x) 0 ≡ t → eqb (bit_and (65535 - d) x) 0 ≡ complies d x
-    go true e = e ∙ sym (eq-eqb (bit_and d x) x (omega (arith, both, eqb-true _ _ e)))
-    go false e = e ∙ sym (ne_eqb (bit_and d x) x (λ same. eqb-false _ _ e (omega (arith, both, same))))
-
--- and so does the row that it is the higher half of
-high_half_complies : (d x : ℕ) → complies (d / 2 ^ 16) x ≡ complies d (2 ^ 16 * x)
-high_half_complies d x = go (eqb (bit_and (d / 2 ^ 16) x) x) refl
-  where
-    shifted : bit_and d (2 ^ 16 * x) / 2 ^ 16 ≡ bit_and (d / 2 ^ 16) x
-    shifted = and_shr d (2 ^ 16 * x) 16 ∙ ap (bit_and (d / 2 ^ 16)) (let e : 2 ^ 16 * x / 2 ^ 16 ≡ x = omega arith in e)
-
-    most : bit_and d (2 ^ 16 * x) ≤ 2 ^ 16 * x
-    most = and_le_r d (2 ^ 16 * x)
-
-    go : (t : Bool) → eqb (bit_and (d / 2 ^ 16) x) x ≡ t → eqb (bit_and (d / 2 ^ 16) x) x ≡ complies d (2 ^ 16 * x)
-    go true e = e ∙ sym (eq-eqb (bit_and d (2 ^ 16 * x)) (2 ^ 16 * x) (let same = eqb-true _ _ e in omega (arith, shifted, most, same)))
-    go false e = e ∙ sym (ne_eqb (bit_and d (2 ^ 16 * x)) (2 ^ 16 * x) (λ same. eqb-false _ _ e (omega (arith, shifted, same))))
-
-pub half_lacks_none-complies : (d x : ℕ) → d < 2 ^ 32 → x < 2 ^ 16 → half_lacks_none (d / 2 ^ 16) x ≡ complies d (2 ^ 16 * x)
-half_lacks_none-complies d x dense half = half_complies (d / 2 ^ 16) x (omega (arith, dense)) half ∙ high_half_complies d x
+pub lacks_none-complies : (w low d x : ℕ) → d / 2 ^ low < 2 ^ w → x < 2 ^ w → lacks_none w (d / 2 ^ low) x ≡ complies d (2 ^ low * x)
+lacks_none-complies w low d x dense lane = lane_complies w (d / 2 ^ low) x dense lane ∙ high_complies low d x
 
 -- ---- the highest set bit below a place
 top_digit : (m j : ℕ) → 2 ^ j ≤ m → m < 2 ^ suc j → m / 2 ^ j ≡ 1

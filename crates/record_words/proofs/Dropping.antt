@@ -152,22 +152,6 @@ module _ (node after : NodeView) (at : ℕ) (here : at < length node.entries) (a
         out ≡ head_words (head_of after) ++ drop 25 shorter_words → node_words after ≡ out
     words_left words shorter_words out count place_of spells counted placed shorter_is is = sym (is ∙ (rw (shorter_is, ← spells, counted, placed) words_taken))
 
--- ---- what is read of words that lose an entry
-module _ (words : List ℕ) (head : HeadView) (spelled : IsSpelledBy HasHeadWords head_words (take 25 words) head) (node : NodeView) (has : HasNodeWords node) (same : node_words node ≡ words) where
-  pub head_is : head_of node ≡ head
-  head_is = sym (head_read node words head has same spelled)
-
-  pub rows_counted : length head.rows ≡ length node.entries
-  rows_counted = ap (λ (h : HeadView). length h.rows) (sym head_is) ∙ same_count node has.lawful
-
--- a place of one node with the words is one of the head's, and of each such node
-module _ (words : List ℕ) (head : HeadView) (at : ℕ) (spelled : IsSpelledBy HasHeadWords head_words (take 25 words) head) (given : (node : NodeView) × HasNodeWords node × (node_words node ≡ words) × (at < length node.entries)) where
-  pub at_head : at < length head.rows
-  at_head = let (node, has, same, here) = given in omega (arith, here, rows_counted words head spelled node has same)
-
-  pub at_inside : (node : NodeView) → HasNodeWords node → node_words node ≡ words → at < length node.entries
-  at_inside node has same = omega (arith, at_head, rows_counted words head spelled node has same)
-
 -- ---- what is left
 All_left : {A : Type 0} (F : A → Type 0) (xs : List A) (at : ℕ) → All F xs → All F (remove xs at)
 All_left F xs at all = All-append F (take at xs) (drop (suc at) xs) (All-take F at xs all) (All-drop F (suc at) xs all)

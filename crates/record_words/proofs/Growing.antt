@@ -156,18 +156,8 @@ module _ (node after : NodeView) (at leaf : ℕ) (few : at ≤ length node.entri
         out ≡ put before (25 + count) (25 + place) word → node_words after ≡ out
     words_grown words before out count place word spells before_is counted placed word_is is = sym (is ∙ (rw (before_is, ← spells, counted, placed, word_is) words_put))
 
--- ---- what is read of words that get a leaf
+-- ---- words that get a leaf
 module _ {words : List ℕ} {node : NodeView} {position first last : ℕ} (growing : CanGrowAt words node position first last) (below : position < 65535) where
-  module _ (head : HeadView) (spelled : IsSpelledBy HasHeadWords head_words (take 25 words) head) where
-    pub head_is : head_of node ≡ head
-    head_is = sym (head_read node words head growing.has growing.spells spelled)
-
-    pub head_counted : length head.rows ≡ length node.entries
-    head_counted = ap (λ (h : HeadView). length h.rows) (sym head_is) ∙ same_count node growing.has.lawful
-
-    pub head_low : head.height ≡ 1
-    head_low = ap (λ (h : HeadView). h.height) (sym head_is) ∙ growing.takes.0
-
   -- the leaf's place is among those of the entries
   pub place_within : (bit : Bool) → cond bit (last + 1) first ≤ length node.entries
   place_within bit =

@@ -1,6 +1,8 @@
 -- The rows of near heads as lanes of fewer bits: where a dense key leads by them, and the rows of 32 bits that they stand for.
-use Rattle.std.proofs.Common.{ℕ, ◌≡◌, ◌-◌, ◌*◌, ◌/◌, ◌%◌, ◌^◌, ◌<◌, ◌≤◌, ⊎_elim, arith, Bool, true, false, bit_and, cond, List, get_or, length, map, nat_lt, refl, replicate, sym, ap, ap₂, ◌∙◌, w32}
+use Rattle.std.proofs.Common.{ℕ, ◌≡◌, ◌+◌, ◌-◌, ◌*◌, ◌/◌, ◌%◌, ◌^◌, ◌<◌, ◌≤◌, ⊎_elim, arith, Bool, true, false, bit_and, cond, List, get_or, length, map, nat_lt, refl, replicate, subst, sym, ap, ap₂, ◌∙◌, w32}
 use Rattle.std.specs.Int.Bits.{and_zero_r}
+use Rattle.std.proofs.Math.Nat.{div-lt_iff_lt-mul, mul_comm, zero-div}
+use Rattle.std.proofs.lemmas.Nat.{pow-add, pow_pos}
 use Rattle.std.specs.List.{range_with_len}
 use Rattle.std.proofs.lemmas.Bool.{cases_lt, eq-eqb, le-ltb, lt-ltb}
 use Rattle.std.proofs.lemmas.List.{get_or-map, get_or-replicate, get_or_default, get_or_past, length-map, length-replicate}
@@ -12,13 +14,10 @@ use Rattle.compound_node.proofs.Lawful.{same_count}
 use Rattle.compound_node.specs.Nodes.{IsLawfulNode, NodeView, piece}
 use Rattle.partial_keys.specs.Rows.{complies, dense_of, with_unused}
 use Rattle.node_tries.specs.Piece.{leads_to}
-use Rattle.record_words.specs.Kinds.{kind_of}
 use Rattle.record_words.specs.Packed.{row_lanes}
-use Rattle.record_words.specs.declared.kind.Kind.TheVariants.{Middle, Narrow}
-use Rattle.record_words.proofs.Complying.{half_lacks_none, half_lacks_none-complies, lacks_none, lacks_none-complies}
+use Rattle.record_words.proofs.Complying.{lacks_none, lacks_none-complies}
 use Rattle.record_words.proofs.Lanes.{row_lanes_read}
 use Rattle.record_words.proofs.Lawful.{row-lt}
-use Rattle.record_words.proofs.OfKinds.{are_near_unless_wide, middle-not-wide, narrow_few}
 use Rattle.record_words.proofs.Searched.{dense-lt, first_row, leads, row_at_place, row_by_high}
 use Rattle.record_words.proofs.TellingHead.{row_lane_is, rows_long}
 
@@ -43,63 +42,39 @@ module _ (node : NodeView) (lawful : IsLawfulNode node) where
   first_is_none : get_or node.rows 0 0 ≡ 0
   first_is_none = sym (row_at_place node lawful 0 several) ∙ first_row node lawful
 
-  -- ---- a narrow head
-  module _ (kinded : kind_of node.columns ≡ Narrow) (lanes : List ℕ) (are : lanes ≡ row_lanes 24 node.rows) where
-    byte_is : (k : ℕ) → k < length node.rows → get_or lanes k 0 ≡ get_or node.rows k 0 / 2 ^ 24
-    byte_is k inside = ap (λ (xs : List ℕ). get_or xs k 0) are ∙ high_is 24 k inside
+  -- ---- the lanes of so many bits of a head that has no more columns
+  module _ (w : ℕ) (few : length node.columns ≤ w) (inside32 : w ≤ 32) (lanes : List ℕ) (are : lanes ≡ row_lanes (32 - w) node.rows) where
+    lane_is : (k : ℕ) → k < length node.rows → get_or lanes k 0 ≡ get_or node.rows k 0 / 2 ^ (32 - w)
+    lane_is k inside = ap (λ (xs : List ℕ). get_or xs k 0) are ∙ high_is (32 - w) k inside
 
-    pub bytes_long : length lanes ≡ 32
-    bytes_long = ap (λ (xs : List ℕ). length xs) are ∙ rows_long 24 node.rows
+    pub lanes_long : length lanes ≡ 32
+    lanes_long = ap (λ (xs : List ℕ). length xs) are ∙ rows_long (32 - w) node.rows
 
-    first_byte_lacks_none : (d : ℕ) → lacks_none d (get_or lanes 0 0) ≡ true
-    first_byte_lacks_none d =
-        let zero : get_or lanes 0 0 ≡ 0 = byte_is 0 several ∙ (ap (λ r. r / 2 ^ 24) first_is_none ∙ omega arith) in
-        ap (lacks_none d) zero ∙ eq-eqb (bit_and (255 - d) 0) 0 (and_zero_r (255 - d))
+    first_lacks_none : (d : ℕ) → lacks_none w d (get_or lanes 0 0) ≡ true
+    first_lacks_none d =
+        let zero : get_or lanes 0 0 ≡ 0 = lane_is 0 several ∙ (ap (λ r. r / 2 ^ (32 - w)) first_is_none ∙ zero-div (2 ^ (32 - w))) in
+        ap (lacks_none w d) zero ∙ eq-eqb (bit_and (2 ^ w - 1 - d) 0) 0 (and_zero_r (2 ^ w - 1 - d))
 
-    pub narrow_odd : (d : ℕ) → mask_l (map (lacks_none d) lanes) % 2 ≡ 1
-    narrow_odd d = first_sets (lacks_none d) lanes (omega (arith, bytes_long)) (first_byte_lacks_none d)
+    pub lanes_odd : (d : ℕ) → mask_l (map (lacks_none w d) lanes) % 2 ≡ 1
+    lanes_odd d = first_sets (lacks_none w d) lanes (omega (arith, lanes_long)) (first_lacks_none d)
 
-    pub row_by_byte : (k : ℕ) → k < length node.rows → get_or lanes k 0 * 2 ^ 24 ≡ get_or node.rows k 0
-    row_by_byte k inside = ap (λ r. r * 2 ^ 24) (byte_is k inside) ∙ row_by_high node lawful 8 (narrow_few node.columns kinded) (omega arith) k inside
+    pub row_by_lane : (k : ℕ) → k < length node.rows → get_or lanes k 0 * 2 ^ (32 - w) ≡ get_or node.rows k 0
+    row_by_lane k inside = ap (λ r. r * 2 ^ (32 - w)) (lane_is k inside) ∙ row_by_high node lawful w few inside32 k inside
 
-    pub narrow_leads : (dense : ℕ) (bit : ℕ → Bool) → dense ≡ dense_of node.columns bit → (count : ℕ) → count ≡ length node.entries →
-        63 - count_leading_zeros 64 (mask_l (map (lacks_none (dense / 2 ^ 24)) lanes) % 2 ^ count) ≡ leads_to bit (piece node)
-    narrow_leads dense bit gathered count counted =
-        leads node lawful lanes count (counted ∙ sym (same_count node lawful)) (omega (arith, counted, lawful.room, bytes_long)) (lacks_none (dense / 2 ^ 24)) (first_byte_lacks_none (dense / 2 ^ 24)) dense bit gathered
+    -- the highest bits of 32 bits
+    high_small : (x : ℕ) → x < 2 ^ 32 → x / 2 ^ (32 - w) < 2 ^ w
+    high_small x small =
+        let whole : 2 ^ w * 2 ^ (32 - w) ≡ 2 ^ 32 = sym (pow-add 2 w (32 - w)) ∙ ap (λ n. 2 ^ n) (let e : w + (32 - w) ≡ 32 = omega (arith, inside32) in e) in
+        (div-lt_iff_lt-mul {k = 2 ^ (32 - w)} {x = x} {y = 2 ^ w} (pow_pos (32 - w))).1 (subst (λ n. x < n) (sym whole) small)
+
+    pub lanes_lead : (dense : ℕ) (bit : ℕ → Bool) → dense ≡ dense_of node.columns bit → (count : ℕ) → count ≡ length node.entries →
+        63 - count_leading_zeros 64 (mask_l (map (lacks_none w (dense / 2 ^ (32 - w))) lanes) % 2 ^ count) ≡ leads_to bit (piece node)
+    lanes_lead dense bit gathered count counted =
+        leads node lawful lanes count (counted ∙ sym (same_count node lawful)) (omega (arith, counted, lawful.room, lanes_long)) (lacks_none w (dense / 2 ^ (32 - w))) (first_lacks_none (dense / 2 ^ (32 - w))) dense bit gathered
         (λ k low. let inside : k < length node.rows = omega (arith, low, counted, same_count node lawful) in
-        let small : get_or lanes k 0 < 2 ^ 8 = omega (arith, byte_is k inside, row-lt node lawful k) in
-        lacks_none-complies dense (get_or lanes k 0) (dense-lt node lawful dense bit gathered) small
-        ∙ ap (complies dense) (omega (arith, row_by_byte k inside) ∙ sym (row_at_place node lawful k inside)))
-
-  -- ---- a middle head
-  module _ (kinded : kind_of node.columns ≡ Middle) (lanes : List ℕ) (are : lanes ≡ row_lanes 16 node.rows) where
-    half_is : (k : ℕ) → k < length node.rows → get_or lanes k 0 ≡ get_or node.rows k 0 / 2 ^ 16
-    half_is k inside = ap (λ (xs : List ℕ). get_or xs k 0) are ∙ high_is 16 k inside
-
-    pub halves_long : length lanes ≡ 32
-    halves_long = ap (λ (xs : List ℕ). length xs) are ∙ rows_long 16 node.rows
-
-    first_half_lacks_none : (d : ℕ) → half_lacks_none d (get_or lanes 0 0) ≡ true
-    first_half_lacks_none d =
-        let zero : get_or lanes 0 0 ≡ 0 = half_is 0 several ∙ (ap (λ r. r / 2 ^ 16) first_is_none ∙ omega arith) in
-        ap (half_lacks_none d) zero ∙ eq-eqb (bit_and (65535 - d) 0) 0 (and_zero_r (65535 - d))
-
-    pub middle_odd : (d : ℕ) → mask_l (map (half_lacks_none d) lanes) % 2 ≡ 1
-    middle_odd d = first_sets (half_lacks_none d) lanes (omega (arith, halves_long)) (first_half_lacks_none d)
-
-    pub row_by_half : (k : ℕ) → k < length node.rows → get_or lanes k 0 * 2 ^ 16 ≡ get_or node.rows k 0
-    row_by_half k inside =
-        ap (λ r. r * 2 ^ 16) (half_is k inside)
-        ∙ row_by_high node lawful 16 (are_near_unless_wide node.columns (middle-not-wide (kind_of node.columns) kinded)).few (omega arith) k inside
-
-    pub middle_leads : (dense : ℕ) (bit : ℕ → Bool) → dense ≡ dense_of node.columns bit → (count : ℕ) → count ≡ length node.entries →
-        63 - count_leading_zeros 64 (mask_l (map (half_lacks_none (dense / 2 ^ 16)) lanes) % 2 ^ count) ≡ leads_to bit (piece node)
-    middle_leads dense bit gathered count counted =
-        leads node lawful lanes count (counted ∙ sym (same_count node lawful)) (omega (arith, counted, lawful.room, halves_long)) (half_lacks_none (dense / 2 ^ 16)) (first_half_lacks_none (dense / 2 ^ 16)) dense bit gathered
-        (λ k low. let inside : k < length node.rows = omega (arith, low, counted, same_count node lawful) in
-        let small : get_or lanes k 0 < 2 ^ 16 = omega (arith, half_is k inside, row-lt node lawful k) in
-        half_lacks_none-complies dense (get_or lanes k 0) (dense-lt node lawful dense bit gathered) small
-        ∙ ap (complies dense) (omega (arith, row_by_half k inside) ∙ sym (row_at_place node lawful k inside)))
+        let small : get_or lanes k 0 < 2 ^ w = subst (λ x. x < 2 ^ w) (sym (lane_is k inside)) (high_small (get_or node.rows k 0) (row-lt node lawful k)) in
+        lacks_none-complies w (32 - w) dense (get_or lanes k 0) (high_small dense (dense-lt node lawful dense bit gathered)) small
+        ∙ ap (complies dense) (mul_comm (2 ^ (32 - w)) (get_or lanes k 0) ∙ (row_by_lane k inside ∙ sym (row_at_place node lawful k inside))))
 
   -- ---- rows of 32 bits
   -- as many lanes as there are entries are the rows, and the others are unused

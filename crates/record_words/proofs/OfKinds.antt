@@ -109,3 +109,6 @@ narrow_few columns e = go (of_kind columns)
     go (is_wide f) = cc
     go (is_narrow f near) = near.few
     go (is_middle f near) = cc
+
+pub middle_few : (columns : List ℕ) → kind_of columns ≡ Middle → length columns ≤ 16
+middle_few columns e = (are_near_unless_wide columns (middle-not-wide (kind_of columns) e)).few

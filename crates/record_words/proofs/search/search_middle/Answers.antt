@@ -1,5 +1,5 @@
 -- The last lane of the entries that complies with the key's highest bits is where the forks lead.
-use Rattle.std.proofs.Common.{ℕ, ◌≡◌, ◌+◌, ◌-◌, ◌*◌, ◌/◌, ◌%◌, ◌^◌, ◌<◌, ◌∙◌, List, ap, arith, drop, get_or, get_or-take, sym, take}
+use Rattle.std.proofs.Common.{ℕ, ◌≡◌, ◌+◌, ◌-◌, ◌*◌, ◌/◌, ◌%◌, ◌^◌, ◌<◌, ◌∙◌, List, ap, arith, drop, get_or, get_or-take, sym, take, w16}
 use lib.Count.{count_leading_zeros}
 use lib.Lanes.{chunk}
 use Rattle.std.proofs.lemmas.List.{get_or-drop}
@@ -10,10 +10,10 @@ use Rattle.record_words.specs.Kinds.{AreNearLanes, kind_of}
 use Rattle.record_words.specs.Node.{head_words}
 use Rattle.record_words.specs.Packed.{row_lanes}
 use Rattle.record_words.specs.declared.kind.Kind.TheVariants.{Middle}
-use Rattle.record_words.proofs.Complying.{halves_comply}
+use Rattle.record_words.proofs.Complying.{lanes_comply}
 use Rattle.record_words.proofs.NearHeads.{middle_lanes, middle_rows}
-use Rattle.record_words.proofs.NearRows.{halves_long, middle_leads, middle_odd}
-use Rattle.record_words.proofs.OfKinds.{middle-not-wide}
+use Rattle.record_words.proofs.NearRows.{lanes_lead, lanes_long, lanes_odd}
+use Rattle.record_words.proofs.OfKinds.{middle-not-wide, middle_few}
 use Rattle.record_words.proofs.Spelled.{kind_of_one, lawful_one, one_of_kind, part_of_one}
 use Rattle.record_words.proofs.search.search_middle.Goals as goal
 use Rattle.record_words.proofs.search.search_middle.Goals.{After-split_into_quarters-rows, After-bytes_of_words-masks}
@@ -54,8 +54,8 @@ last_of-requires-clause-some c =
     let lawful = lawful_one Middle middle_words c.args.words.now c.requires in
     let kinded = kind_of_one Middle middle_words c.args.words.now c.requires in
     let are = rows_are d node lawful kinded (part_of_one Middle middle_words c.args.words.now c.requires) in
-    ap (λ m. m % 2) (halves_comply c.split_into_quarters-rows.result (c.extract_near-dense.result / 2 ^ 16) (halves_long node lawful kinded c.split_into_quarters-rows.result are))
-    ∙ middle_odd node lawful kinded c.split_into_quarters-rows.result are (c.extract_near-dense.result / 2 ^ 16)
+    ap (λ m. m % 2) (lanes_comply w16 c.split_into_quarters-rows.result (c.extract_near-dense.result / 2 ^ 16) (lanes_long node lawful 16 (middle_few node.columns kinded) (omega arith) c.split_into_quarters-rows.result are))
+    ∙ lanes_odd node lawful 16 (middle_few node.columns kinded) (omega arith) c.split_into_quarters-rows.result are (c.extract_near-dense.result / 2 ^ 16)
 
 pub last_of-requires-clause-few : goal.last_of-requires-clause-few
 last_of-requires-clause-few c =
@@ -72,5 +72,5 @@ returns c = λ node lawful kinded same.
     let are = rows_are (goal.at.returns c).After-split_into_quarters-rows node lawful kinded same in
     let numbers = told d node lawful kinded same in
     c.last_of.ensures
-    ∙ (ap (λ m. 63 - count_leading_zeros 64 (m % 2 ^ c.read_numbers-numbers.result.count)) (halves_comply c.split_into_quarters-rows.result (c.extract_near-dense.result / 2 ^ 16) (halves_long node lawful kinded c.split_into_quarters-rows.result are))
-    ∙ middle_leads node lawful kinded c.split_into_quarters-rows.result are c.extract_near-dense.result _ (c.extract_near-dense.ensures node.columns (lanes d node lawful kinded same)) c.read_numbers-numbers.result.count numbers.count_is)
+    ∙ (ap (λ m. 63 - count_leading_zeros 64 (m % 2 ^ c.read_numbers-numbers.result.count)) (lanes_comply w16 c.split_into_quarters-rows.result (c.extract_near-dense.result / 2 ^ 16) (lanes_long node lawful 16 (middle_few node.columns kinded) (omega arith) c.split_into_quarters-rows.result are))
+    ∙ lanes_lead node lawful 16 (middle_few node.columns kinded) (omega arith) c.split_into_quarters-rows.result are c.extract_near-dense.result _ (c.extract_near-dense.ensures node.columns (lanes d node lawful kinded same)) c.read_numbers-numbers.result.count numbers.count_is)

@@ -1,5 +1,5 @@
 -- The last lane of the entries that complies with the key's highest bits is where the forks lead.
-use Rattle.std.proofs.Common.{rules, ℕ, ◌≡◌, ◌+◌, ◌-◌, ◌/◌, ◌%◌, ◌^◌, ◌<◌, ◌∙◌, List, ap, arith, drop, get_or, get_or-take, length, sym, take}
+use Rattle.std.proofs.Common.{rules, ℕ, ◌≡◌, ◌+◌, ◌-◌, ◌/◌, ◌%◌, ◌^◌, ◌<◌, ◌∙◌, List, ap, arith, drop, get_or, get_or-take, length, sym, take, w8}
 use lib.Count.{count_leading_zeros}
 use lib.Lanes.{chunk}
 use Rattle.std.proofs.lemmas.List.{get_or-drop}
@@ -11,10 +11,10 @@ use Rattle.record_words.specs.Kinds.{AreNearLanes, kind_of}
 use Rattle.record_words.specs.Node.{head_words}
 use Rattle.record_words.specs.Packed.{row_lanes}
 use Rattle.record_words.specs.declared.kind.Kind.TheVariants.{Narrow}
-use Rattle.record_words.proofs.Complying.{bytes_comply}
+use Rattle.record_words.proofs.Complying.{lanes_comply}
 use Rattle.record_words.proofs.NearHeads.{narrow_lanes, narrow_rows}
-use Rattle.record_words.proofs.NearRows.{bytes_long, narrow_leads, narrow_odd}
-use Rattle.record_words.proofs.OfKinds.{narrow-not-wide}
+use Rattle.record_words.proofs.NearRows.{lanes_lead, lanes_long, lanes_odd}
+use Rattle.record_words.proofs.OfKinds.{narrow-not-wide, narrow_few}
 use Rattle.record_words.proofs.Spelled.{kind_of_one, lawful_one, one_of_kind, part_of_one}
 use Rattle.record_words.proofs.search.search_narrow.Goals as goal
 use Rattle.record_words.proofs.search.search_narrow.Goals.{After-bytes_in-rows, After-bytes_of_words-masks}
@@ -58,8 +58,8 @@ last_of-requires-clause-some c =
     let lawful = lawful_one Narrow narrow_words c.args.words.now c.requires in
     let kinded = kind_of_one Narrow narrow_words c.args.words.now c.requires in
     let are = rows_are d node lawful kinded (part_of_one Narrow narrow_words c.args.words.now c.requires) in
-    ap (λ m. m % 2) (bytes_comply c.bytes_in-rows.result (c.extract_near-dense.result / 2 ^ 24) (bytes_long node lawful kinded c.bytes_in-rows.result are))
-    ∙ narrow_odd node lawful kinded c.bytes_in-rows.result are (c.extract_near-dense.result / 2 ^ 24)
+    ap (λ m. m % 2) (lanes_comply w8 c.bytes_in-rows.result (c.extract_near-dense.result / 2 ^ 24) (lanes_long node lawful 8 (narrow_few node.columns kinded) (omega arith) c.bytes_in-rows.result are))
+    ∙ lanes_odd node lawful 8 (narrow_few node.columns kinded) (omega arith) c.bytes_in-rows.result are (c.extract_near-dense.result / 2 ^ 24)
 
 pub last_of-requires-clause-few : goal.last_of-requires-clause-few
 last_of-requires-clause-few c =
@@ -76,5 +76,5 @@ returns c = λ node lawful kinded same.
     let are = rows_are (goal.at.returns c).After-bytes_in-rows node lawful kinded same in
     let numbers = told d node lawful kinded same in
     c.last_of.ensures
-    ∙ (ap (λ m. 63 - count_leading_zeros 64 (m % 2 ^ c.read_numbers-numbers.result.count)) (bytes_comply c.bytes_in-rows.result (c.extract_near-dense.result / 2 ^ 24) (bytes_long node lawful kinded c.bytes_in-rows.result are))
-    ∙ narrow_leads node lawful kinded c.bytes_in-rows.result are c.extract_near-dense.result _ (c.extract_near-dense.ensures node.columns (lanes d node lawful kinded same)) c.read_numbers-numbers.result.count numbers.count_is)
+    ∙ (ap (λ m. 63 - count_leading_zeros 64 (m % 2 ^ c.read_numbers-numbers.result.count)) (lanes_comply w8 c.bytes_in-rows.result (c.extract_near-dense.result / 2 ^ 24) (lanes_long node lawful 8 (narrow_few node.columns kinded) (omega arith) c.bytes_in-rows.result are))
+    ∙ lanes_lead node lawful 8 (narrow_few node.columns kinded) (omega arith) c.bytes_in-rows.result are c.extract_near-dense.result _ (c.extract_near-dense.ensures node.columns (lanes d node lawful kinded same)) c.read_numbers-numbers.result.count numbers.count_is)
