@@ -63,6 +63,10 @@ has_entry_word layout table (leaf n k v) (Node m g) h b e = absurd cc
 has_entry_word layout table (node n x c) (Leaf m) h b e = absurd cc
 has_entry_word layout table (fork p a c) f h b e = absurd cc
 
+-- a node record stands in no tree
+abbrev HasSpare : Layout → Option Tree → Type 0
+HasSpare layout t = (n : ℕ) × (n < layout.nodes) × ¬ IsLinked t (a_node n)
+
 -- a tree of one entry
 pub one_entry : (t : Tree) → size (subtrie t) ≡ 1 → (e : Entry) × (subtrie t ≡ Place e)
 one_entry (leaf n k v) one = (Leaf n, refl)
@@ -135,12 +139,12 @@ module _ (layout : Layout) (old new : List ℕ) (t : Option Tree) (e : Option En
       sym (leaf_field layout new n j (let low = i.1 in let fits = size_fits layout n in omega (arith, low, fits.1)) ∙
       ap (λ b. if b then get_or new (leaf_start layout n + (1 + j)) 0 else 0) (lt-ltb (1 + j) (leaf_size layout n) (let low = i.1 in omega (arith, low))))
 
-  pub finished : (xs : List Item) → items_of t ≡ xs → (n : ℕ) × (n < layout.nodes) × ¬ IsLinked t (a_node n) → IsFinished layout new xs
-  finished xs content (n, low, out) = record {
+  pub finished : (xs : List Item) → items_of t ≡ xs → HasSpare layout t → IsFinished layout new xs
+  finished xs content spare = record {
     load = is_load;
     shows = record { size = long ∙ h.blank.size; each = word_shown };
     items = ap items_of tree_is ∙ content;
-    spare = (n, low, λ i. out (subst (λ s. IsLinked s (a_node n)) tree_is i));
+    spare = subst (HasSpare layout) (sym tree_is) spare;
   }
 
 -- ---- the root's entry
@@ -152,7 +156,7 @@ root_slot l y t one s is =
 -- the words with the root's entry
 written : (layout : Layout) (old new : List ℕ) (t : Option Tree) (e : Option Entry) → HoldsTree layout old t → IsTop (heap_of (fields_in layout old)) e t →
     ((u : Tree) → t ≡ Some u → IsTrie u × IsBuilt u) → HasEntryWord e → new ≡ set old ROOT_WORD (entry_word e) → ((i : ℕ) → get_or new i 0 < 2 ^ 64) →
-    (xs : List Item) → items_of t ≡ xs → (n : ℕ) × (n < layout.nodes) × ¬ IsLinked t (a_node n) → IsFinished layout new xs
+    (xs : List Item) → items_of t ≡ xs → HasSpare layout t → IsFinished layout new xs
 written layout old new t e h top lawful entry is small xs content spare =
     let inside : ROOT_WORD < length old = omega (arith, h.blank.size) in
     finished layout old new t e h top lawful entry (All-from_get_or (λ w. w < 2 ^ 64) new 0 (λ i low. small i))
@@ -163,7 +167,7 @@ written layout old new t e h top lawful entry is small xs content spare =
 
 pub tree_written : (layout : Layout) (old new : List ℕ) (y : Tree) (e : Entry) → HoldsTree layout old (Some y) → IsLocal y → IsBuilt y → subtrie y ≡ Place e → HasEntryWord (Some e) →
     new ≡ set old ROOT_WORD (entry_word (Some e)) → ((i : ℕ) → get_or new i 0 < 2 ^ 64) → (xs : List Item) → items y ≡ xs →
-    (n : ℕ) × (n < layout.nodes) × ¬ IsLinked (Some y) (a_node n) → IsFinished layout new xs
+    HasSpare layout (Some y) → IsFinished layout new xs
 tree_written layout old new y e h ordered built at entry is small xs content spare = written layout old new (Some y) (Some e) h (at, h.shows y refl)
     (λ u i. subst (λ v. IsTrie v × IsBuilt v) (some_injective i) (trie_if_local y ordered, built)) entry is small xs content spare
 
@@ -179,14 +183,6 @@ slots_count l t h = ap length h.slots_are ∙ length_slots 0 (subtrie t)
 pub lone_piece : (l : Builder) (t : Tree) → IsTreeOf l t → (count : ℕ) → count ≡ length l.slots.items → IsPiece l [] t None count 0
 lone_piece l t h count e = record { tree = h; count_is = e ∙ slots_count l t h; behind_is = refl }
 
--- a node record is left then
-pub room_left : (n m most count : ℕ) → m ≡ n + (if nat_lt 1 count then 1 else 0) → (2 ≤ count → n + 1 < most) → n < most → m < most
-room_left n m most count e two one = go (cases_lt 1 count)
-  where
-    go : (1 < count) ⊎ (count ≤ 1) → m < most
-    go (inl h) = let more : m ≡ n + 1 = e ∙ ap (λ b. n + (if b then 1 else 0)) (lt-ltb 1 count h) in omega (arith, more, two (omega (arith, h)))
-    go (inr h) = let same : m ≡ n + 0 = e ∙ ap (λ b. n + (if b then 1 else 0)) (le-ltb 1 count h) in omega (arith, same, one)
-
 -- how many slots it has, once it is closed
 pub closed_count : (n result : ℕ) → 1 ≤ n → result ≡ (if nat_lt 1 n then 1 else n) → result ≡ 1
 closed_count n result some e = go (cases_lt 1 n)
@@ -194,6 +190,20 @@ closed_count n result some e = go (cases_lt 1 n)
     go : (1 < n) ⊎ (n ≤ 1) → result ≡ 1
     go (inl h) = e ∙ ap (λ b. if b then 1 else n) (lt-ltb 1 n h)
     go (inr h) = e ∙ (ap (λ b. if b then 1 else n) (le-ltb 1 n h) ∙ (let one : n ≡ 1 = omega (arith, h, some) in one))
+
+-- a node record is left then
+pub node_left : (l : Builder) (t : Tree) (xs : List Item) → IsAlone l t xs → (count : ℕ) → count ≡ length l.slots.items → l.nodes + (if nat_lt 1 count then 1 else 0) < l.layout.nodes
+node_left l t xs a count long = go (cases_lt 1 count)
+  where
+    some : 1 ≤ count
+    some = omega (arith, long, slots_count l t a.tree, size_pos (subtrie t))
+
+    taken : Bool → ℕ
+    taken closes = if closes then 1 else 0
+
+    go : (1 < count) ⊎ (count ≤ 1) → l.nodes + (if nat_lt 1 count then 1 else 0) < l.layout.nodes
+    go (inl h) = let one = ap taken (lt-ltb 1 count h) in elim a.room [ inl r ↦ omega (arith, r, one) | inr r ↦ omega (arith, r, one, long, h) ]
+    go (inr h) = let none = ap taken (le-ltb 1 count h) in elim a.room [ inl r ↦ omega (arith, r, none) | inr r ↦ omega (arith, r, none, long, some) ]
 
 -- the tree that stands for it then, of one entry
 pub closed_tree : (l m : Builder) (t : Tree) (xs : List Item) → IsAlone l t xs → (count result : ℕ) → count ≡ length l.slots.items → result ≡ (if nat_lt 1 count then 1 else count) →

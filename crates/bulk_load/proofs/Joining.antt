@@ -15,7 +15,7 @@ use Rattle.bulk_load.specs.declared.builder.Part.{Part}
 use Rattle.std.proofs.lemmas.Bool.{cases_order}
 use Rattle.bulk_load.specs.Loading.{CanJoin, HasParts, IsAlone, IsEmpty, IsJoined, IsLoading, CanPart, HasNodesFor, IsReady, IsPiece, IsStackOf, IsTreeOf, StandsFor, greatest_key}
 use Rattle.bulk_load.specs.Stacks.{LeftPiece, left_piece, whole_of, counts, position_of, front_slots, with_right}
-use Rattle.bulk_load.proofs.Stacking.{fronts, items_joined, last_joined, length_slots, local_inner, slots_joined}
+use Rattle.bulk_load.proofs.Stacking.{fronts, items_joined, last_joined, local_inner, slots_joined}
 use Rattle.bulk_load.proofs.Climbing.{head_entry, slots_split as piece_split}
 use Rattle.bulk_load.proofs.Closing.{fits}
 use Rattle.bulk_load.proofs.Pushing.{has_last}
@@ -280,15 +280,13 @@ next_ready l new xs p i x j y e is at here less last r joint =
 -- the one piece that is left is the tree
 pub alone : (l : Builder) (xs : List Item) → IsStackOf l xs → length l.parts.items ≤ 1 → (t : Tree) × IsAlone l t xs
 alone l xs s h =
-    let long = parts_long l s.levels s.top s.parts in let e : s.levels ≡ [] = no_levels s.levels (omega (arith, h, long)) in
-    let some = ap length s.tree.slots_are in let sizes = length_slots 0 (subtrie (whole_of s.levels s.top)) in (
+    let long = parts_long l s.levels s.top s.parts in let e : s.levels ≡ [] = no_levels s.levels (omega (arith, h, long)) in (
       s.top,
       record {
         tree = subst (λ ls. IsTreeOf l (whole_of ls s.top)) e s.tree;
         content = subst (λ ls. items (whole_of ls s.top) ≡ xs) e s.content;
         few = All-head (λ n. n ≤ 32) (size (subtrie s.top)) [] (subst (λ ls. All (λ n. n ≤ 32) (counts ls s.top)) e s.parts.few);
-        room = λ two. elim s.room [ inl a ↦ omega (arith, a, long) | inr b ↦ omega (arith, b, two) ];
-        kept = elim s.room [ inl a ↦ omega (arith, a, long) | inr b ↦ omega (arith, b, some, sizes, size_pos (subtrie (whole_of s.levels s.top))) ];
+        room = elim s.room [ inl a ↦ inl (omega (arith, a, long)) | inr b ↦ inr (omega (arith, b)) ];
       },
     )
 

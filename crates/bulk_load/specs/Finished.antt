@@ -10,10 +10,9 @@ use Rattle.rowex_core.specs.Opening.{opening}
 use Rattle.rowex_core.specs.Words.{Shows}
 use Rattle.bulk_load.specs.Views.{load_act}
 
--- they show a load of these leaves
+-- they show a load of these leaves, which leaves a node record spare
 pub record IsFinished (layout : Layout) (words : List ℕ) (xs : List Item) : Type 0 where
   pub load : IsLoad layout words
   pub shows : Shows (after (opening layout) 0 (load_act words)) words
   pub items : items_of (loaded_tree layout words) ≡ xs
-  -- and some node record is free
   pub spare : (n : ℕ) × (n < layout.nodes) × ¬ IsLinked (loaded_tree layout words) (a_node n)

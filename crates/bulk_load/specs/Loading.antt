@@ -81,14 +81,12 @@ pub record IsEmpty (l : Builder) (xs : List Item) : Type 0 where
   pub no_slots : l.slots.items ≡ []
   pub no_nodes : l.nodes ≡ 0
 
--- all pieces have become one, the tree of these leaves
+-- All pieces have become one, the tree of these leaves. Two node records are left, or one for each slot.
 pub record IsAlone (l : Builder) (t : Tree) (xs : List Item) : Type 0 where
   pub tree : IsTreeOf l t
   pub content : items t ≡ xs
   pub few : size (subtrie t) ≤ 32
-  -- if it has to be closed, one node record is left besides
-  pub room : (2 ≤ length l.slots.items) → l.nodes + 1 < l.layout.nodes
-  pub kept : l.nodes < l.layout.nodes
+  pub room : (l.nodes + 2 ≤ l.layout.nodes) ⊎ (l.nodes + length l.slots.items ≤ l.layout.nodes)
 
 -- the piece at the top is the last leaf
 pub record EndsInLeaf (l : Builder) (xs : List Item) : Type 0 where

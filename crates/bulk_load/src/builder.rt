@@ -163,13 +163,13 @@ impl Builder {
         put_root(self.words.as_mut_slice(), Some(entry));
     }
 
-    /// Makes one tree of all pieces. Returns the entry that leads to it.
+    /// Makes one tree of all pieces. Returns the entry that leads to it. A node record is left.
     fn close_tree(&mut self) -> Entry
         requires { (xs : List Item) × IsStackOf self.old xs }
         ensures tree { (xs : List Item) → IsStackOf self.old xs → (t : Tree) × IsTreeOf self.new t × (items t ≡ xs) × (subtrie t ≡ Place result) }
         ensures entry { HasEntryWord (Some result) }
+        ensures spare { self.new.nodes < self.new.layout.nodes }
         ensures layout { self.new.layout ≡ self.old.layout }
-        ensures kept { self.new.nodes < self.new.layout.nodes }
     {
         self.join_all();
         let count = self.slots.len();

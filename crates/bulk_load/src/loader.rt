@@ -26,7 +26,7 @@ impl Model for Loader {
 }
 
 impl Loader {
-    ghost use Rattle.std.specs.Prelude.{◌≡◌, ◌↔◌, ◌<◌, ◌≤◌, ℕ, Err, IfOk, OnErr, OnOk, length};
+    ghost use Rattle.std.specs.Prelude.{◌≡◌, ◌↔◌, ◌≤◌, ◌<◌, ℕ, Err, IfOk, OnErr, OnOk, length};
     ghost use Rattle.tries.specs.Content.{item};
     ghost use Rattle.versions.specs.declared.Rec.TheVariants.{Node as a_node};
     ghost use Rattle.versions.specs.State.{IsLinked};
@@ -68,7 +68,7 @@ impl Loader {
         Ok(())
     }
 
-    /// The words of the table: they show one tree, whose leaves are those that were taken. One node record at least is free.
+    /// The words of the table: they show one tree, whose leaves are those that were taken. At least one node record stands in no tree.
     pub fn finish(self) -> Vec<u64>
         ensures load { IsLoad self.layout result.items }
         ensures shows { Shows (after (opening self.layout) 0 (load_act result.items)) result.items }

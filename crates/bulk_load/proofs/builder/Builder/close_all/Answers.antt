@@ -36,5 +36,5 @@ returns c = record {
       (subst (λ (y : Layout). IsFinished y new xs) c.close_tree-entry.ensures.layout
       (tree_written m.layout m.words.items new t c.close_tree-entry.result h.table h.ordered h.built at c.close_tree-entry.ensures.entry
       (subst (λ old. new ≡ set old ROOT_WORD (entry_word (Some c.close_tree-entry.result))) c.as_mut_slice-2.ensures.value c.put_root-2.ensures.put)
-      c.put_root-2.ensures.small xs content (m.nodes, c.close_tree-entry.ensures.kept, λ i. (let low = h.taken m.nodes i in omega (arith, low)))));
+      c.put_root-2.ensures.small xs content (m.nodes, c.close_tree-entry.ensures.spare, λ i. let low = h.taken m.nodes i in omega (arith, low))));
 }

@@ -1,14 +1,15 @@
 -- The one piece that is left has one entry, once it is closed.
-use Rattle.std.proofs.Common.{◌<◌, ℕ, ◌≤◌, [], None, IsTrue, nat_lt, sym, subst, arith, rules}
+use Rattle.std.proofs.Common.{ℕ, ◌≤◌, [], None, IsTrue, nat_lt, ap, arith, rules}
 use Rattle.record_words.specs.declared.layout.Layout.{Layout}
-use Rattle.bulk_load.proofs.Finishing.{closed_tree, has_entry_word, lone_piece, room_left, root_slot, slots_count}
+use Rattle.bulk_load.proofs.Finishing.{closed_tree, has_entry_word, lone_piece, node_left, root_slot, slots_count}
 use Rattle.bulk_load.proofs.builder.Builder.close_tree.Goals as goal
 
 pub close_piece-requires-clause-room : goal.close_piece-requires-clause-room
 close_piece-requires-clause-room c = λ closes.
     let (xs, s) = c.requires in let (t, a) = c.join_all.ensures.alone xs s in let l = c.join_all.new.self in let long = slots_count l t a.tree in
     let two : 2 ≤ c.len-count.result = ltb_two c.len-count.result closes in
-    (two, omega (arith, a.few, long, c.len-count.ensures, l.slots.ok.0), a.kept)
+    let left = node_left l t xs a c.len-count.result (omega (arith, c.len-count.ensures, l.slots.ok.0)) in
+    (two, omega (arith, a.few, long, c.len-count.ensures, l.slots.ok.0), omega (arith, left))
   where
     ltb_two : (n : ℕ) → IsTrue (nat_lt 1 n) → 2 ≤ n
     ltb_two n h = search rules
@@ -36,8 +37,9 @@ returns-clause-entry c =
     let (y, ty, content, one) = closed_tree l m t xs a c.len-count.result c.close_piece.result (omega (arith, c.len-count.ensures, l.slots.ok.0)) c.close_piece.ensures.count c.close_piece.ensures.closed in
     has_entry_word m.layout m.words.items y c.index.result.now.entry ty.table ty.built (root_slot m y ty one c.index.result.now c.index.ensures)
 
-pub returns-clause-kept : goal.returns-clause-kept
-returns-clause-kept c =
-    let (xs, s) = c.requires in let l = c.join_all.new.self in let m = c.close_piece.new.self in let (t, a) = c.join_all.ensures.alone xs s in
-    subst (λ (y : Layout). m.nodes < y.nodes) (sym c.close_piece.ensures.kept.layout)
-    (room_left l.nodes m.nodes l.layout.nodes c.len-count.result c.close_piece.ensures.nodes (λ two. a.room (omega (arith, two, c.len-count.ensures, l.slots.ok.0))) a.kept)
+pub returns-clause-spare : goal.returns-clause-spare
+returns-clause-spare c =
+    let (xs, s) = c.requires in let l = c.join_all.new.self in let (t, a) = c.join_all.ensures.alone xs s in
+    let left = node_left l t xs a c.len-count.result (omega (arith, c.len-count.ensures, l.slots.ok.0)) in
+    let same = ap (λ (y : Layout). y.nodes) c.close_piece.ensures.kept.layout in
+    omega (arith, left, same, c.close_piece.ensures.nodes)

@@ -27,5 +27,4 @@ returns-clause-items c =
 pub returns-clause-spare : goal.returns-clause-spare
 returns-clause-spare c =
     let words = c.close_all.new.self.words.items in
-    subst (λ (v : LoadView). (n : ℕ) × (n < v.layout.nodes) × ¬ IsLinked (loaded_tree v.layout words) (a_node n)) c.self.view_is
-    (c.close_all.ensures.finished (items_in c.self.inside.builder) c.self.invariant).spare
+    subst (λ (v : LoadView). (n : ℕ) × (n < v.layout.nodes) × ¬ IsLinked (loaded_tree v.layout words) (a_node n)) c.self.view_is (c.close_all.ensures.finished (items_in c.self.inside.builder) c.self.invariant).spare
