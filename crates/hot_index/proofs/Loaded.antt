@@ -132,11 +132,13 @@ module _ (table : TableView) (words : List ℕ) (seats : List SeatView) (items :
           ((q : ℕ) (s : SeatView) → 1 ≤ q → get_elem? ss q ≡ some s → IsNewSeatOf table q s) → AreSettled count ss
       go [] f o = tt
       go (s ∷ ss) f o =
-          let is = f s refl in
-          (record {
-            settled = subst IsSettled (sym is.1) (loader_settled table words of.load);
-            counts = subst (λ (k : Known). IsCountOf k.pass k.notes count) (sym is.1) (subst (λ (xs : List Item). IsCountOf 0 (added_notes 0 xs) count) (sym of.are) (counts 0));
-          }, no_calls_from table 1 ss (λ q t e. subst (λ i. IsNewSeatOf table i t) (omega arith) (o (suc q) t (omega arith) e)))
+          let is = f s refl in (
+            record {
+              settled = subst IsSettled (sym is.1) (loader_settled table words of.load);
+              counts = subst (λ (k : Known). IsCountOf k.pass k.notes count) (sym is.1) (subst (λ (xs : List Item). IsCountOf 0 (added_notes 0 xs) count) (sym of.are) (counts 0));
+            },
+            no_calls_from table 1 ss (λ q t e. subst (λ i. IsNewSeatOf table i t) (omega arith) (o (suc q) t (omega arith) e)),
+          )
 
   pub pass_of_load : (q : ℕ) (s : SeatView) → get_elem? seats q ≡ some s → Owns table (pass_of s) × IsPassOfLoad table (pairs items) q (pass_of s)
   pass_of_load zero s e =
