@@ -1,5 +1,5 @@
 -- A load that was given a pair, and one that was ended.
-use Rattle.std.proofs.Common.{◌≡◌, ℕ, List, Option, Some, None, refl, sym, ◌∙◌, subst}
+use Rattle.std.proofs.Common.{◌≡◌, ℕ, List, Option, Some, None, sym, ◌∙◌, subst}
 use Rattle.load_handles.specs.declared.open_load.OpenLoad.{OpenLoad}
 use Rattle.hot_c.specs.Calls.{FitsInKey}
 use Rattle.hot_c.specs.Loads.{HasOpenedLoaded, KeepsLoadedPasses, LoadsPair, TellsPush}

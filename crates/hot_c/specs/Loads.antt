@@ -1,5 +1,5 @@
 -- What the calls of a load say, for programs in C.
-use Rattle.std.specs.Prelude.{◌≡◌, ◌≢◌, ◌⊎◌, ◌↔◌, ◌≤◌, ℕ, List, [], length, Option, Some, None, IsSome}
+use Rattle.std.specs.Prelude.{◌≡◌, ◌⊎◌, ◌↔◌, ◌≤◌, ℕ, List, [], length, Option, Some, None, IsSome}
 use Rattle.bulk_load.specs.Views.{HasNoRoomFor, IsAboveLast, LoadView}
 use Rattle.record_words.specs.Layout.{HasStock}
 use Rattle.record_words.specs.declared.layout.Stock.{Stock}

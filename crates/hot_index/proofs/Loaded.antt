@@ -1,23 +1,19 @@
 -- Pass 0 of an index that was made of pairs.
-use Rattle.std.proofs.Common.{◌≡◌, ◌⊎◌, inl, inr, true, false, ℕ, zero, suc, ◌<◌, ◌≤◌, List, [], ◌∷◌, ◌++◌, All, length, map, take, Option, Some, refl, sym, ap, ◌∙◌, subst, arith, le_refl}
+use Rattle.std.proofs.Common.{◌≡◌, ◌⊎◌, inl, inr, true, false, ℕ, zero, suc, ◌<◌, ◌≤◌, List, [], ◌∷◌, ◌++◌, length, map, take, Option, refl, sym, ap, ◌∙◌, subst, arith, le_refl}
 use Rattle.std.proofs.lemmas.List.{take_all, length-map}
-use Rattle.std.proofs.lemmas.List.Elements.{All-cons, All-nil}
 use mathlib.Core.Option.{some}
 use lib.ListN.{get_elem?}
-use Rattle.finite_map.specs.declared.Call.{Call}
 use Rattle.finite_map.specs.declared.Call.TheVariants.{Insert}
 use Rattle.finite_map.specs.declared.Change.{Change}
 use Rattle.finite_map.specs.declared.Note.{Note}
 use Rattle.finite_map.specs.declared.Reply.TheVariants.{Inserted}
-use Rattle.finite_map.specs.Calls.{LegalCalls}
 use Rattle.finite_map.specs.Fronts.{map_of}
 use Rattle.key_counts.specs.Counts.{CountsReply, IsCountOf}
 use Rattle.key_counts.specs.declared.KeyCount.{KeyCount}
 use Rattle.record_words.specs.declared.layout.Layout.{Layout}
 use Rattle.tries.specs.Content.{Item, pairs}
 use Rattle.tries.specs.Tree.{Tree}
-use Rattle.versions.specs.Core.{Fate}
-use Rattle.versions.specs.State.{IsLinked, Past}
+use Rattle.versions.specs.State.{IsLinked}
 use Rattle.versions.specs.declared.Rec.TheVariants.{Node as a_node}
 use Rattle.versions.specs.Loads.{first_leaves_of, loaded_past}
 use Rattle.versions.specs.Steps.{is_linked}
@@ -33,10 +29,10 @@ use Rattle.rowex_core.specs.declared.known.Known.{Known}
 use Rattle.rowex_table.specs.Rule.{load_of, load_trace, loader_of}
 use Rattle.rowex_table.specs.Seats.{IsLoaderSeat, IsNewSeatOf, SeatView, TableView}
 use Rattle.lone_runs.specs.Lone.{HasSpare, IsOut}
-use Rattle.hot_index_calls.specs.Passes.{IsSettled, Owns, PassView, pass_of}
+use Rattle.hot_index_calls.specs.Passes.{IsSettled, Owns, pass_of}
 use Rattle.hot_index.specs.Loads.{CountsItems, IsLoaderPass, IsPassOfLoad, inserted_pair, pairs_noted}
-use Rattle.hot_index.specs.Passes.{AreSettled, HasNoCall}
-use Rattle.hot_index.proofs.Making.{AreFrom, new_pass, no_calls_from}
+use Rattle.hot_index.specs.Passes.{AreSettled}
+use Rattle.hot_index.proofs.Making.{new_pass, no_calls_from}
 
 -- leaves as their pairs
 changes_of_pairs : (xs : List Item) → map (added_change 0) xs ≡ map inserted_pair (pairs xs)
@@ -132,11 +128,13 @@ module _ (table : TableView) (words : List ℕ) (seats : List SeatView) (items :
           ((q : ℕ) (s : SeatView) → 1 ≤ q → get_elem? ss q ≡ some s → IsNewSeatOf table q s) → AreSettled count ss
       go [] f o = tt
       go (s ∷ ss) f o =
-          let is = f s refl in
-          (record {
-            settled = subst IsSettled (sym is.1) (loader_settled table words of.load);
-            counts = subst (λ (k : Known). IsCountOf k.pass k.notes count) (sym is.1) (subst (λ (xs : List Item). IsCountOf 0 (added_notes 0 xs) count) (sym of.are) (counts 0));
-          }, no_calls_from table 1 ss (λ q t e. subst (λ i. IsNewSeatOf table i t) (omega arith) (o (suc q) t (omega arith) e)))
+          let is = f s refl in (
+            record {
+              settled = subst IsSettled (sym is.1) (loader_settled table words of.load);
+              counts = subst (λ (k : Known). IsCountOf k.pass k.notes count) (sym is.1) (subst (λ (xs : List Item). IsCountOf 0 (added_notes 0 xs) count) (sym of.are) (counts 0));
+            },
+            no_calls_from table 1 ss (λ q t e. subst (λ i. IsNewSeatOf table i t) (omega arith) (o (suc q) t (omega arith) e)),
+          )
 
   pub pass_of_load : (q : ℕ) (s : SeatView) → get_elem? seats q ≡ some s → Owns table (pass_of s) × IsPassOfLoad table (pairs items) q (pass_of s)
   pass_of_load zero s e =

@@ -1,5 +1,6 @@
 -- The passes are those of the new index.
 use Rattle.record_words.specs.Layout.{HasStock}
+use Rattle.record_words.specs.declared.layout.Layout.{Layout}
 use Rattle.hot_index.specs.Kept.{kept_stock}
 use Rattle.hot_index_calls.specs.Passes.{IsNewPass, Owns}
 use Rattle.hot_c.specs.Calls.{IsKeeper}
@@ -11,6 +12,6 @@ keep_passes-requires c = all_of (Owns c.in_ok-index.index) c.in_ok-index.passes.
 
 pub returns-clause-made : goal.returns-clause-made
 returns-clause-made c =
-    let stocked = λ layout. HasStock layout (kept_stock c.args.stock) in let made = c.in_ok-index.ensures in
+    let stocked : Layout → Type 0 = λ layout. HasStock layout (kept_stock c.args.stock) in let made = c.in_ok-index.ensures in
     told_as _ (λ b. IsKeeper c.args.passes stocked b.value) c.keep_passes.result c.map_err.result c.map_err.ensures.cases
     (passes_kept (λ index. IsNewPass) c.in_ok-index.index c.args.passes stocked c.in_ok-index.passes.items c.keep_passes.result made.layout made.count made.each c.keep_passes.ensures.all)

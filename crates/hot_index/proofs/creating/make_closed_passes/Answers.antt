@@ -1,7 +1,6 @@
 -- One pass more.
-use Rattle.std.proofs.Common.{◌≡◌, ◌∷◌, [], ◌++◌, List, append_assoc, subst}
+use Rattle.std.proofs.Common.{◌≡◌, ◌∷◌, [], ◌++◌, append_assoc, subst}
 use Rattle.std.specs.Vec.Iter.{into_iter_items}
-use Rattle.rowex_table.specs.Seats.{SeatView}
 use Rattle.hot_index_calls.specs.Passes.{pass_of}
 use Rattle.hot_index.specs.Passes.{AreSettled}
 use Rattle.hot_index.proofs.Making.{none_settled}

@@ -1,0 +1,13 @@
+-- The handle is open, and keeps the passes of the load that was closed.
+use Rattle.std.proofs.Common.{inl, refl}
+use Rattle.hot_c.proofs.Pushed.{ended_load}
+use Rattle.hot_c.proofs.loading.hot_end_load.Goals as goal
+
+pub returns-in-Ok-clause-ended : goal.returns-in-Ok-clause-ended
+returns-in-Ok-clause-ended c = λ was has closed. (
+  c.close.ensures.gone,
+  inl (
+    refl,
+    ended_load c.args.load.now.slot.opened was c.close.result.value c.in-Ok.keeper.value c.open.new.self.slot.opened has c.close.ensures.value c.open.ensures.opened c.in-Ok.ensures,
+  ),
+)
