@@ -242,7 +242,7 @@ no_levels : (ls : List LeftPiece) → length ls ≡ 0 → ls ≡ []
 no_levels [] e = refl
 no_levels (m ∷ ms) e = absurd (omega (arith, e))
 
--- no piece is left that may be whole_of
+-- no piece is left that may be joined
 pub parting_alone : (l : Builder) (xs : List Item) (p : ℕ) → length l.parts.items ≤ 1 → CanJoin l xs p → CanPart l xs p
 parting_alone l xs p h (inl e) = inl e
 parting_alone l xs p h (inr r) = inr (record {
@@ -258,7 +258,7 @@ parting_low l xs p i x j y e is at here less can =
     let fork = fork_at_top l s.levels s.top s.tree j y (omega (arith, at, count)) here in
     inr (record { stack = s; above = r.above; low = inr (omega (arith, less, fork)) })
 
--- the whole_of piece may stand beside the leaf, too
+-- the joined piece may stand beside the leaf, too
 pub next_ready : (l new : Builder) (xs : List Item) (p i : ℕ) (x : Part) (j : ℕ) (y : Slot) → i + 1 ≡ length l.parts.items → x ≡ get_or l.parts.items i x →
     j + x.count ≡ length l.slots.items → y ≡ get_or l.slots.items j y → p ≤ y.fork → new.last ≡ l.last → (r : IsReady l xs p) → IsJoined new xs r.stack.levels → IsReady new xs p
 next_ready l new xs p i x j y e is at here less last r joint =

@@ -8,7 +8,7 @@ use Rattle.tries.specs.Keys.{Key, IsParted}
 use Rattle.tries.specs.Tree.{Tree}
 use Rattle.versions.specs.declared.Rec.TheVariants.{Leaf as a_leaf}
 use Rattle.bulk_load.specs.declared.builder.Builder.{Builder}
-use Rattle.bulk_load.specs.Loading.{CanJoin, CanPart, EndsInLeaf, HasCursors, HasNodesFor, HasSameFields, IsEmpty, IsLoading, IsSeat, IsStackOf, IsTreeOf, KeepsLeaves, KeepsNodes, MayTakeNext, items_in}
+use Rattle.bulk_load.specs.Loading.{CanJoin, CanPart, EndsInLeaf, HasCursors, HasNodesFor, HasSameFields, IsEmpty, IsLoading, IsNextLeaf, IsStackOf, IsTreeOf, KeepsLeaves, KeepsNodes, MayTakeNext, items_in}
 use Rattle.bulk_load.specs.Stacks.{whole_of}
 use Rattle.bulk_load.specs.Tables.{AreCursors, IsCursorOf, IsRootless, leaf_class, state_in}
 use Rattle.std.proofs.lemmas.Bool.{cases_lt}
@@ -61,7 +61,7 @@ rootless_then l xs p (inl e) = e.table.blank
 rootless_then l xs p (inr s) = s.stack.tree.table.blank
 
 -- ---- where the leaf belongs
-pub can_join : (l : Builder) (xs : List Item) (k : Key) (p n : ℕ) → IsLoading l xs → IsSeat l k p n → CanJoin l xs p
+pub can_join : (l : Builder) (xs : List Item) (k : Key) (p n : ℕ) → IsLoading l xs → IsNextLeaf l k p n → CanJoin l xs p
 can_join l xs k p n (c, inl e) s = inl e
 can_join l xs k p n (c, inr r) s = inr (record { stack = r.stack; above = r.alone p; zero = (s.parted (some_parts r)).1 })
   where
@@ -71,7 +71,7 @@ can_join l xs k p n (c, inr r) s = inr (record { stack = r.stack; above = r.alon
 not_both : (l m : Builder) (xs : List Item) → IsEmpty l xs → IsStackOf m xs → ⊥
 not_both l m xs e s = let some = some_items (whole_of s.levels s.top) in let same = ap length (s.content ∙ e.none) in omega (arith, some, same)
 
-pub may_take : (l new : Builder) (xs : List Item) (k : Key) (p n : ℕ) → IsLoading l xs → IsSeat l k p n → new.last ≡ l.last → CanPart new xs p → MayTakeNext new xs p k
+pub may_take : (l new : Builder) (xs : List Item) (k : Key) (p n : ℕ) → IsLoading l xs → IsNextLeaf l k p n → new.last ≡ l.last → CanPart new xs p → MayTakeNext new xs p k
 may_take l new xs k p n (c, inl e) s last (inl f) = inl (f, s.first (let none = ap length e.no_parts in omega (arith, none, l.parts.ok.0)))
 may_take l new xs k p n (c, inl e) s last (inr t) = absurd (not_both l new xs e t.stack)
 may_take l new xs k p n (c, inr r) s last (inl f) = absurd (not_both new l xs f r.stack)
@@ -126,8 +126,8 @@ module _ (l m : Builder) (s : HasSameFields l m) where
   )
   same_loading xs (c, inr r) = (rw (s.layout, s.words, s.leaves) c, inr (record { stack = same_stack xs r.stack; alone = r.alone }))
 
-  pub same_seat : (k : Key) (p n : ℕ) → IsSeat l k p n → IsSeat m k p n
-  same_seat k p n h = record {
+  pub same_next_leaf : (k : Key) (p n : ℕ) → IsNextLeaf l k p n → IsNextLeaf m k p n
+  same_next_leaf k p n h = record {
     inside = rw s.layout h.inside;
     room = rw s.layout h.room;
     free = rw (s.layout, s.words) h.free;

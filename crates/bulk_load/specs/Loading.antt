@@ -106,7 +106,7 @@ abbrev pub HasSpace : Builder → Type 0
 HasSpace l = (vec_len l.slots < vec_capacity l.slots) × (vec_len l.parts < vec_capacity l.parts)
 
 -- a leaf of the key belongs behind a fork at this position, in this record, which is the next of its class
-pub record IsSeat (l : Builder) (k : Key) (p n : ℕ) : Type 0 where
+pub record IsNextLeaf (l : Builder) (k : Key) (p n : ℕ) : Type 0 where
   pub inside : n < l.layout.leaves
   pub room : words_for (length k) ≤ leaf_size l.layout n
   pub free : state_in l.layout l.words.items (a_leaf n) ≡ state_word Free
@@ -178,7 +178,7 @@ pub record IsReady (l : Builder) (xs : List Item) (p : ℕ) : Type 0 where
   pub above : IsAbove p stack.top
   pub zero : bit l.last p ≡ false
 
--- pieces may be whole_of at forks behind this position
+-- pieces may be joined at forks behind this position
 abbrev pub CanJoin : Builder → List Item → ℕ → Type 0
 CanJoin l xs p = IsEmpty l xs ⊎ IsReady l xs p
 

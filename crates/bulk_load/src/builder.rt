@@ -8,7 +8,7 @@ ghost use Rattle.record_words.specs.State.{state_word};
 ghost use Rattle.std.specs.Prelude.{ℕ, ◌≡◌, ◌≢◌, ◌↔◌, ◌+◌, ◌≤◌, ◌<◌, ◌++◌, ◌∷◌, [], if◌then◌else◌, get_or, Err, IfOk, IfSome, IsNone, IsTrue, List, OnOk, OnErr, Option as Maybe, Some, length};
 ghost use Rattle.std.specs.Vec.{vec_len, vec_capacity};
 ghost use Rattle.bulk_load.specs.Finished.{IsFinished};
-ghost use Rattle.bulk_load.specs.Loading.{CanJoin, CanPart, HasCursors, HasNodesFor, HasSameFields, HasSpace, EndsInLeaf, IsAlone, IsJoined, IsLoading, IsPiece, IsSeat, IsStackOf, IsTreeOf, KeepsLeaves, KeepsNodes, MayTakeNext, StandsFor};
+ghost use Rattle.bulk_load.specs.Loading.{CanJoin, CanPart, HasCursors, HasNodesFor, HasSameFields, HasSpace, EndsInLeaf, IsAlone, IsJoined, IsLoading, IsPiece, IsNextLeaf, IsStackOf, IsTreeOf, KeepsLeaves, KeepsNodes, MayTakeNext, StandsFor};
 ghost use Rattle.bulk_load.specs.Stacks.{LeftPiece, whole_of, with_right};
 ghost use Rattle.bulk_load.specs.Tables.{IsRootless, leaf_class, state_in};
 ghost use Rattle.bulk_load.specs.Views.{IsAboveLast, IsTakenLeaf};
@@ -50,11 +50,13 @@ pub(crate) struct Part {
     pub(crate) height: u16,
 }
 
-/// Where the next leaf belongs: the position of the fork before it, and its record.
+/// Where the next leaf belongs.
 #[derive(Clone, Copy)]
-pub(crate) struct Seat {
-    fork: u16,
-    leaf: u32,
+pub(crate) struct NextLeaf {
+    /// Of the fork before the leaf; 0 for the first leaf.
+    fork_position: u16,
+    /// Of the leaf's record.
+    record_number: u32,
 }
 
 /// How two pieces become one: which of them is closed before, and the height of a node of all.
@@ -105,22 +107,25 @@ impl Builder {
     }
 
     /// Where the leaf of `key` belongs, if the key is above the last one, and there are records for it.
-    pub(crate) fn find_seat(&self, key: &Key) -> Result<Seat, LoadFault>
+    pub(crate) fn find_next_leaf(&self, key: &Key) -> Result<NextLeaf, LoadFault>
         requires { (xs : List Item) × IsLoading self.now xs }
-        ensures seat { IfOk result (λ seat. IsSeat self.now key.now seat.fork seat.leaf) }
+        ensures next_leaf { IfOk result (λ next_leaf. IsNextLeaf self.now key.now next_leaf.fork_position next_leaf.record_number) }
         ensures rising { (xs : List Item) → IsLoading self.now xs → (result ≡ Err LoadFault.NotRising) ↔ ¬ IsAboveLast xs key.now }
         ensures leaves { (xs : List Item) → IsLoading self.now xs → result ≡ Err LoadFault.LeavesFull →
             (n : ℕ) → n < self.now.layout.leaves → words_for (length key.now) ≤ leaf_size self.now.layout n → IsTakenLeaf xs n }
         ensures nodes { (xs : List Item) → IsLoading self.now xs → result ≡ Err LoadFault.NodesFull → self.now.layout.nodes ≤ length xs }
     {
-        let fork = self.fork_before(key)?;
-        let Some(leaf) = self.find_leaf(count_leaf_words(key)) else {
+        let fork_position = self.fork_before(key)?;
+        let Some(record_number) = self.find_leaf(count_leaf_words(key)) else {
             return Err(LoadFault::LeavesFull);
         };
         if !self.has_nodes() {
             return Err(LoadFault::NodesFull);
         }
-        Ok(Seat { fork, leaf })
+        Ok(NextLeaf {
+            fork_position,
+            record_number,
+        })
     }
 
     /// Has room for one slot more, and one piece more. An error if memory is refused.
@@ -139,15 +144,15 @@ impl Builder {
     }
 
     /// Takes `key` with `value` where it belongs.
-    pub(crate) fn take(&mut self, seat: Seat, key: &Key, value: u64)
-        requires seat { IsSeat self.old key.now seat.fork seat.leaf }
+    pub(crate) fn take(&mut self, next_leaf: NextLeaf, key: &Key, value: u64)
+        requires next_leaf { IsNextLeaf self.old key.now next_leaf.fork_position next_leaf.record_number }
         requires space { HasSpace self.old }
         requires loading { (xs : List Item) × IsLoading self.old xs }
-        ensures taken { (xs : List Item) → IsLoading self.old xs → IsLoading self.new (xs ++ item seat.leaf key.now value ∷ []) }
+        ensures taken { (xs : List Item) → IsLoading self.old xs → IsLoading self.new (xs ++ item next_leaf.record_number key.now value ∷ []) }
         ensures layout { self.new.layout ≡ self.old.layout }
     {
-        self.join_behind(seat.fork);
-        self.add_leaf(seat.fork, seat.leaf, key, value);
+        self.join_behind(next_leaf.fork_position);
+        self.add_leaf(next_leaf.fork_position, next_leaf.record_number, key, value);
     }
 
     /// Makes one tree of all pieces, and the root's entry leads to it.

@@ -62,9 +62,9 @@ impl Loader {
         ensures leaves { result ≡ Err LoadFault.LeavesFull → HasNoRoomFor self.old key.now }
         ensures nodes { result ≡ Err LoadFault.NodesFull → self.old.layout.nodes ≤ length self.old.items }
     {
-        let seat = self.builder.find_seat(key)?;
+        let next_leaf = self.builder.find_next_leaf(key)?;
         self.builder.reserve()?;
-        self.builder.take(seat, key, value);
+        self.builder.take(next_leaf, key, value);
         Ok(())
     }
 
