@@ -1,14 +1,32 @@
 //! What a seat of the table knows, and of which steps. No value of these types is made: contracts alone speak of them, and their
 //! numbers are whole numbers without bound.
 
+ghost use Rattle.std.specs.Borrow.{ftrue};
+ghost use Rattle.std.specs.Prelude.{List};
+ghost use Rattle.rowex_core.specs.declared.event.Event.{Event};
+
 use finite_map::Change;
-use rowex_core::{Event, Known};
+use rowex_core::Known;
+use std::marker::Model;
 use versions::Listed;
+
+/// A list of steps. Its type names no lifetime, and so neither does that of a pass.
+pub struct ListedSteps {
+    ghost events: { List Event },
+}
+
+impl Model for ListedSteps {
+    ghost Value = { List Event };
+
+    ghost view = { λ steps. steps.events };
+
+    ghost also_owns = { λ _. ftrue };
+}
 
 /// The steps of which a pass knows.
 pub struct Trace {
     /// Atomic steps of all passes, from the first on a new table up to the last of which this pass knows.
-    pub events: Listed<Event>,
+    pub events: ListedSteps,
     /// How often the pass has made a stamp, has followed one, or has met another pass. None of these is a step.
     pub asides: u64,
 }
@@ -25,7 +43,7 @@ pub enum TracedView {
     /// What two passes know that have been joined.
     Pair(Known, Trace, Known, Trace),
     /// That these changes and these steps have been made. Its seat is no pass's, and has nothing.
-    Witness(Listed<Change>, Listed<Event>),
+    Witness(Listed<Change>, ListedSteps),
     /// What a pass knows that a witness has been joined to, and what the witness knows.
-    Follower(Known, Trace, Listed<Change>, Listed<Event>),
+    Follower(Known, Trace, Listed<Change>, ListedSteps),
 }

@@ -1,0 +1,20 @@
+-- The keys part where they first differ.
+use Rattle.std.proofs.Common.{◌≡◌, ◌≢◌, ◌<◌, refl, sym, subst, ◌∙◌, rules}
+use Rattle.std.specs.declared.cmp.Ordering.TheVariants.{Less, Equal}
+use Rattle.std.specs.Vec.{vec_len}
+use Rattle.finite_map.specs.Maps.{key_order}
+use Rattle.tries.specs.Keys.{Key}
+use Rattle.tries.proofs.Maps.{same_order}
+use Rattle.bulk_load.proofs.Pushing.{parted_by}
+use Rattle.bulk_load.proofs.builder.Builder.fork_before.Goals as goal
+
+not_above : (k l : Key) → k ≡ l → key_order k l ≢ Less
+not_above k l same less = absurd (let e : Equal ≡ Less = sym (same_order l) ∙ subst (λ m. key_order m l ≡ Less) same less in cc)
+
+pub returns-in_default-clause-fault : goal.returns-in_default-clause-fault
+returns-in_default-clause-fault c =
+    let some : 0 < vec_len c.args.self.now.parts = search rules in
+    (refl, some, not_above c.args.self.now.last c.args.key.now (c.in_default.ensures.none.0 (search rules)))
+
+pub returns-then-bit-clause-parted : goal.returns-then-bit-clause-parted
+returns-then-bit-clause-parted c = λ some. parted_by c.in-Some.position c.args.self.now.last c.args.key.now c.in-Some.ensures.first (sym c.bit.ensures ∙ c.if-bit.true)

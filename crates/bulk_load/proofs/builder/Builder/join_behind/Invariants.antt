@@ -1,0 +1,15 @@
+-- Pieces that may be joined at first still may be.
+use Rattle.std.proofs.Common.{List}
+use Rattle.std.specs.Vec.{vec_len}
+use Rattle.tries.specs.Content.{Item}
+use Rattle.bulk_load.specs.Loading.{CanJoin, KeepsNodes}
+use Rattle.bulk_load.proofs.builder.Builder.join_behind.Given as goal
+
+abbrev pub invariant-joins : goal.invariant-joins
+invariant-joins l = record {
+  can_join : (xs : List Item) → CanJoin l.initial.self xs l.position → CanJoin l.self xs l.position;
+  kept : KeepsNodes l.initial.self l.self;
+}
+
+abbrev pub decreases-joins : goal.decreases-joins
+decreases-joins l = vec_len l.self.parts

@@ -1,0 +1,15 @@
+-- Nothing is loaded.
+use Rattle.std.proofs.Common.{inl, refl, rules}
+use Rattle.bulk_load.proofs.Cursors.{first_cursors}
+use Rattle.bulk_load.proofs.Opening.{first_free, holds_none}
+use Rattle.versions.specs.declared.Rec.TheVariants.{Leaf as a_leaf}
+use Rattle.bulk_load.proofs.builder.Builder.new.Goals as goal
+
+pub returns : goal.returns
+returns c = (
+  refl,
+  (
+    (refl, first_cursors c.args.layout _ (λ n low. first_free c.args.layout _ (search rules) (a_leaf n) low)),
+    inl (record { none = refl; table = holds_none c.args.layout _ (search rules); no_parts = c.new-2.ensures.items; no_slots = c.new.ensures.items; no_nodes = refl }),
+  ),
+)

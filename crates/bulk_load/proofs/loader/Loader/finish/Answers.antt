@@ -1,0 +1,23 @@
+-- The words are those of a load of the leaves that the builder had.
+use Rattle.std.proofs.Common.{◌≡◌, subst}
+use Rattle.versions.specs.Told.{items_of}
+use Rattle.rowex_core.specs.Events.{IsLoad, after, loaded_tree}
+use Rattle.rowex_core.specs.Opening.{opening}
+use Rattle.rowex_core.specs.Words.{Shows}
+use Rattle.bulk_load.specs.Loading.{items_in}
+use Rattle.bulk_load.specs.Views.{LoadView, load_act}
+use Rattle.bulk_load.proofs.loader.Loader.finish.Goals as goal
+
+pub returns-clause-load : goal.returns-clause-load
+returns-clause-load c =
+    subst (λ (v : LoadView). IsLoad v.layout c.close_all.new.self.words.items) c.self.view_is (c.close_all.ensures.finished (items_in c.self.inside.builder) c.self.invariant).load
+
+pub returns-clause-shows : goal.returns-clause-shows
+returns-clause-shows c =
+    let words = c.close_all.new.self.words.items in
+    subst (λ (v : LoadView). Shows (after (opening v.layout) 0 (load_act words)) words) c.self.view_is (c.close_all.ensures.finished (items_in c.self.inside.builder) c.self.invariant).shows
+
+pub returns-clause-items : goal.returns-clause-items
+returns-clause-items c =
+    let words = c.close_all.new.self.words.items in
+    subst (λ (v : LoadView). items_of (loaded_tree v.layout words) ≡ v.items) c.self.view_is (c.close_all.ensures.finished (items_in c.self.inside.builder) c.self.invariant).items

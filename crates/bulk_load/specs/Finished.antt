@@ -1,0 +1,15 @@
+-- What the words of a finished load are.
+use Rattle.std.specs.Prelude.{◌≡◌, ℕ, List}
+use Rattle.record_words.specs.declared.layout.Layout.{Layout}
+use Rattle.tries.specs.Content.{Item}
+use Rattle.versions.specs.Told.{items_of}
+use Rattle.rowex_core.specs.Events.{IsLoad, after, loaded_tree}
+use Rattle.rowex_core.specs.Opening.{opening}
+use Rattle.rowex_core.specs.Words.{Shows}
+use Rattle.bulk_load.specs.Views.{load_act}
+
+-- they show a load of these leaves
+pub record IsFinished (layout : Layout) (words : List ℕ) (xs : List Item) : Type 0 where
+  pub load : IsLoad layout words
+  pub shows : Shows (after (opening layout) 0 (load_act words)) words
+  pub items : items_of (loaded_tree layout words) ≡ xs

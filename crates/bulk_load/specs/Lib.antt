@@ -1,0 +1,7 @@
+-- The definitions of the crate.
+pub mod Views
+pub mod Slots
+pub mod Tables
+pub mod Stacks
+pub mod Loading
+pub mod Finished

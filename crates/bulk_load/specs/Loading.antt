@@ -1,0 +1,187 @@
+-- What a builder has built so far: its words and pieces show a lawful tree of the pairs that it has taken.
+use Rattle.std.specs.Prelude.{◌≡◌, ◌⊎◌, ℕ, ◌+◌, ◌*◌, ◌<◌, ◌≤◌, List, [], ◌∷◌, ◌++◌, All, map, length, get_or, Option, Some, None, false}
+use Rattle.node_tries.specs.Piece.{size}
+use Rattle.std.specs.Vec.{vec_len, vec_capacity}
+use Rattle.record_words.specs.declared.state.Tag.TheVariants.{Free}
+use Rattle.record_words.specs.declared.TheConstants.{LEAF_CLASSES}
+use Rattle.record_words.specs.Layout.{leaf_size}
+use Rattle.record_words.specs.Leaf.{words_for}
+use Rattle.record_words.specs.State.{state_word}
+use Rattle.tries.specs.Keys.{Key, IsParted, bit}
+use Rattle.tries.specs.Content.{Item, first, items, IsAbove, IsLocal}
+use Rattle.tries.specs.Tree.{Tree, leaf, node, fork, subtrie, IsBuilt}
+use Rattle.versions.specs.declared.Rec.TheVariants.{Node as a_node, Leaf as a_leaf}
+use Rattle.versions.specs.Heap.{Heap}
+use Rattle.versions.specs.State.{Links}
+use Rattle.versions.specs.Told.{items_of}
+use Rattle.rowex_core.specs.Cores.{heap_of, fields_in}
+use Rattle.rowex_core.specs.Events.{tree_of}
+use Rattle.bulk_load.specs.declared.builder.Builder.{Builder}
+use Rattle.bulk_load.specs.declared.builder.Part.{Part}
+use Rattle.bulk_load.specs.declared.slots.Slot.{Slot}
+use Rattle.bulk_load.specs.Slots.{slots_of}
+use Rattle.bulk_load.specs.Stacks.{LeftPiece, whole_of, counts, position_of, with_right}
+use Rattle.bulk_load.specs.Tables.{AreCursors, HoldsTree, leaf_class, state_in}
+
+-- the leaves of the trees that the words show from these entries
+abbrev pub items_under : Heap → List Slot → List Item
+items_under heap [] = []
+items_under heap (s ∷ ss) = items_of (tree_of heap (Some s.entry)) ++ items_under heap ss
+
+-- the leaves that were taken
+abbrev pub items_in : Builder → List Item
+items_in l = items_under (heap_of (fields_in l.layout l.words.items)) l.slots.items
+
+-- the key of a tree's last leaf
+abbrev pub greatest_key : Tree → Key
+greatest_key (leaf n k v) = k
+greatest_key (node n x b) = greatest_key b
+greatest_key (fork p a b) = greatest_key b
+
+-- The words and slots show the tree, which is a lawful one. Its nodes are those that were taken.
+pub record IsTreeOf (l : Builder) (t : Tree) : Type 0 where
+  pub table : HoldsTree l.layout l.words.items (Some t)
+  pub ordered : IsLocal t
+  pub built : IsBuilt t
+  pub slots_are : l.slots.items ≡ slots_of 0 (subtrie t)
+  pub taken : (n : ℕ) → Links t (a_node n) → n < l.nodes
+
+-- the parts are these pieces
+pub record HasParts (l : Builder) (ls : List LeftPiece) (top : Tree) : Type 0 where
+  pub counts_are : map (λ (p : Part). p.count) l.parts.items ≡ counts ls top
+  pub few : All (λ n. n ≤ 32) (counts ls top)
+
+-- Node records are left for closing all pieces, once there are so many leaves more: two for each piece, or one for each slot.
+abbrev pub HasNodesFor : Builder → ℕ → Type 0
+HasNodesFor l more = (l.nodes + 2 * (length l.parts.items + more) ≤ l.layout.nodes) ⊎ (l.nodes + length l.slots.items + more ≤ l.layout.nodes)
+
+-- the pieces are those of a tree with these leaves, and the last key is the tree's
+pub record IsStackOf (l : Builder) (xs : List Item) : Type 0 where
+  pub levels : List LeftPiece
+  pub top : Tree
+  pub tree : IsTreeOf l (whole_of levels top)
+  pub parts : HasParts l levels top
+  pub content : items (whole_of levels top) ≡ xs
+  pub last : l.last ≡ greatest_key (whole_of levels top)
+  pub room : HasNodesFor l 0
+  -- each node has taken the place of one slot at least
+  pub few : l.nodes + length l.slots.items ≤ length xs
+
+-- so, and a new leaf that parts from the last one at this position belongs beside the piece at the top
+pub record IsStackBehind (l : Builder) (xs : List Item) (p : ℕ) : Type 0 where
+  pub stack : IsStackOf l xs
+  pub above : IsAbove p stack.top
+  pub low : (stack.levels ≡ []) ⊎ (position_of stack.levels < p)
+
+-- no leaf was taken
+pub record IsEmpty (l : Builder) (xs : List Item) : Type 0 where
+  pub none : xs ≡ []
+  pub table : HoldsTree l.layout l.words.items None
+  pub no_parts : l.parts.items ≡ []
+  pub no_slots : l.slots.items ≡ []
+  pub no_nodes : l.nodes ≡ 0
+
+-- all pieces have become one, the tree of these leaves
+pub record IsAlone (l : Builder) (t : Tree) (xs : List Item) : Type 0 where
+  pub tree : IsTreeOf l t
+  pub content : items t ≡ xs
+  pub few : size (subtrie t) ≤ 32
+  pub room : (2 ≤ length l.slots.items) → l.nodes < l.layout.nodes
+
+-- the piece at the top is the last leaf
+pub record EndsInLeaf (l : Builder) (xs : List Item) : Type 0 where
+  pub stack : IsStackOf l xs
+  pub alone : (p : ℕ) → IsAbove p stack.top
+
+-- each class of leaf records has its cursor
+abbrev pub HasCursors : Builder → Type 0
+HasCursors l = (length l.leaves ≡ LEAF_CLASSES) × AreCursors l.layout l.words.items l.leaves
+
+-- these leaves were taken
+abbrev pub IsLoading : Builder → List Item → Type 0
+IsLoading l xs = HasCursors l × (IsEmpty l xs ⊎ EndsInLeaf l xs)
+
+-- there is memory for one slot more, and for one piece more
+abbrev pub HasSpace : Builder → Type 0
+HasSpace l = (vec_len l.slots < vec_capacity l.slots) × (vec_len l.parts < vec_capacity l.parts)
+
+-- a leaf of the key belongs behind a fork at this position, in this record, which is the next of its class
+pub record IsSeat (l : Builder) (k : Key) (p n : ℕ) : Type 0 where
+  pub inside : n < l.layout.leaves
+  pub room : words_for (length k) ≤ leaf_size l.layout n
+  pub free : state_in l.layout l.words.items (a_leaf n) ≡ state_word Free
+  pub next : get_or l.leaves (leaf_class l.layout n) 0 ≡ n
+  pub first : vec_len l.parts ≡ 0 → p ≡ 0
+  pub parted : 0 < vec_len l.parts → IsParted p l.last k
+  pub nodes : HasNodesFor l 1
+
+-- the two have the same in their fields, but vectors with room for more or less
+pub record HasSameFields (l m : Builder) : Type 0 where
+  pub layout : m.layout ≡ l.layout
+  pub words : m.words.items ≡ l.words.items
+  pub last : m.last ≡ l.last
+  pub slots : m.slots.items ≡ l.slots.items
+  pub parts : m.parts.items ≡ l.parts.items
+  pub nodes : m.nodes ≡ l.nodes
+  pub leaves : m.leaves ≡ l.leaves
+
+-- the leaves, the last key and the memory for more stay
+pub record KeepsLeaves (l m : Builder) : Type 0 where
+  pub layout : m.layout ≡ l.layout
+  pub last : m.last ≡ l.last
+  pub cursors : m.leaves ≡ l.leaves
+  pub states : (n : ℕ) → n < l.layout.leaves → state_in l.layout m.words.items (a_leaf n) ≡ state_in l.layout l.words.items (a_leaf n)
+  pub space : HasSpace l → HasSpace m
+
+-- so, and no more leaves lack nodes than before
+pub record KeepsNodes (l m : Builder) : Type 0 where
+  pub leaves : KeepsLeaves l m
+  pub nodes : (more : ℕ) → HasNodesFor l more → HasNodesFor m more
+  pub few : (n : ℕ) → l.nodes + length l.slots.items ≤ n → m.nodes + length m.slots.items ≤ n
+
+-- ---- closing a piece
+-- the number of entries of what stands to the right
+abbrev pub size_right : Option LeftPiece → ℕ
+size_right None = 0
+size_right (Some right) = size (subtrie right.tree)
+
+-- the one tree stands for the other in a piece, with so many entries
+pub record StandsFor (new old : Tree) (count : ℕ) : Type 0 where
+  pub count_is : size (subtrie new) ≡ count
+  pub same_items : items new ≡ items old
+  pub same_first : first new ≡ first old
+  pub same_last : greatest_key new ≡ greatest_key old
+  pub above : (p : ℕ) → IsAbove p old → IsAbove p new
+
+-- the tree has this piece: of so many slots, before the last so many
+pub record IsPiece (l : Builder) (ls : List LeftPiece) (z : Tree) (right : Option LeftPiece) (count behind : ℕ) : Type 0 where
+  pub tree : IsTreeOf l (whole_of ls (with_right z right))
+  pub count_is : count ≡ size (subtrie z)
+  pub behind_is : behind ≡ size_right right
+
+-- ---- a new leaf
+-- A key that parts from the last one at this position may be taken next: after no leaf, or beside the piece at the top.
+abbrev pub MayTakeNext : Builder → List Item → ℕ → Key → Type 0
+MayTakeNext l xs p k = (IsEmpty l xs × (p ≡ 0)) ⊎ (IsStackBehind l xs p × IsParted p l.last k)
+
+-- ---- joining pieces
+-- the last two pieces have become one, at the fork between them
+pub record IsJoined (l : Builder) (xs : List Item) (before : List LeftPiece) : Type 0 where
+  pub joint : LeftPiece
+  pub stack : IsStackOf l xs
+  pub were : before ≡ joint ∷ stack.levels
+  pub above : (p : ℕ) → p < joint.position → IsAbove p stack.top
+
+-- the piece at the top may stand beside a leaf that parts from the last one at this position
+pub record IsReady (l : Builder) (xs : List Item) (p : ℕ) : Type 0 where
+  pub stack : IsStackOf l xs
+  pub above : IsAbove p stack.top
+  pub zero : bit l.last p ≡ false
+
+-- pieces may be whole_of at forks behind this position
+abbrev pub CanJoin : Builder → List Item → ℕ → Type 0
+CanJoin l xs p = IsEmpty l xs ⊎ IsReady l xs p
+
+-- so, and this has been done
+abbrev pub CanPart : Builder → List Item → ℕ → Type 0
+CanPart l xs p = IsEmpty l xs ⊎ IsStackBehind l xs p

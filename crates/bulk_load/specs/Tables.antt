@@ -1,0 +1,62 @@
+-- Records in the words of a table, and the tree that they show.
+use Rattle.std.specs.Prelude.{◌≡◌, ◌⊎◌, ℕ, ◌+◌, ◌*◌, ◌<◌, ◌≤◌, List, length, get_or, if◌then◌else◌, nat_lt, Option, Some}
+use Rattle.record_words.specs.declared.TheConstants.{EPOCH_WORD, ROOT_WORD, ANCHOR_WORD, FIRST_PIN, LINE_WORDS}
+use Rattle.record_words.specs.declared.layout.Layout.{Layout}
+use Rattle.record_words.specs.declared.state.Tag.TheVariants.{Free, Live}
+use Rattle.record_words.specs.Layout.{node_start, leaf_start, word_count}
+use Rattle.record_words.specs.State.{state_word}
+use Rattle.tries.specs.Tree.{Tree}
+use Rattle.versions.specs.declared.Rec.{Rec}
+use Rattle.versions.specs.declared.Rec.TheVariants.{Node as a_node, Leaf as a_leaf}
+use Rattle.versions.specs.State.{IsLinked}
+use Rattle.versions.specs.Heap.{IsShown}
+use Rattle.rowex_core.specs.Cores.{heap_of, fields_in, size_of, HasRecord, FitsIn}
+use Rattle.rowex_core.specs.Reading.{IsPacked}
+
+-- the first word of a record, that of its state
+abbrev pub start_of : Layout → Rec → ℕ
+start_of layout (a_node n) = node_start layout n
+start_of layout (a_leaf n) = leaf_start layout n
+
+-- the class of a leaf record, from 0 for the shortest to 4 for the longest
+abbrev pub leaf_class : Layout → ℕ → ℕ
+leaf_class layout n =
+    if nat_lt n layout.medium_from then 0 else (if nat_lt n layout.large_from then 1 else
+    (if nat_lt n layout.wide_from then 2 else (if nat_lt n layout.long_from then 3 else 4)))
+
+abbrev pub state_in : Layout → List ℕ → Rec → ℕ
+state_in layout table r = get_or table (start_of layout r) 0
+
+-- one record is written, and lives: all words of others are as before
+pub record IsPut (layout : Layout) (old new : List ℕ) (r : Rec) : Type 0 where
+  pub size : length new ≡ length old
+  pub state : state_in layout new r ≡ state_word Live
+  pub others : (k : ℕ) → (k < start_of layout r) ⊎ (start_of layout r + size_of layout r ≤ k) → get_or new k 0 ≡ get_or old k 0
+
+-- the words that belong to no record are those of a table without keys, and the root has no entry yet
+pub record IsRootless (layout : Layout) (table : List ℕ) : Type 0 where
+  pub size : length table ≡ word_count layout
+  pub epoch : get_or table EPOCH_WORD 0 ≡ 1
+  pub root : get_or table ROOT_WORD 0 ≡ 0
+  pub anchor : get_or table ANCHOR_WORD 0 ≡ state_word Live
+  pub pins : (q : ℕ) → q < layout.passes → get_or table (FIRST_PIN + LINE_WORDS * q) 0 ≡ 0
+
+-- the words show the tree
+abbrev pub WordsShow : Layout → List ℕ → Option Tree → Type 0
+WordsShow layout table t = (u : Tree) → t ≡ Some u → IsShown (heap_of (fields_in layout table)) u
+
+-- The table holds just the records of the tree. They are of the table, and their words spell values for which it has room.
+pub record HoldsTree (layout : Layout) (table : List ℕ) (t : Option Tree) : Type 0 where
+  pub blank : IsRootless layout table
+  pub live : (r : Rec) → IsLinked t r → state_in layout table r ≡ state_word Live
+  pub free : (r : Rec) → HasRecord layout r → ¬ (IsLinked t r) → state_in layout table r ≡ state_word Free
+  pub records : (r : Rec) → IsLinked t r → HasRecord layout r × IsPacked r (fields_in layout table r) × FitsIn layout r (fields_in layout table r)
+  pub shows : WordsShow layout table t
+
+-- The records of a class that were taken are those below its cursor, which stands in the class as long as one is left.
+pub record IsCursorOf (layout : Layout) (table : List ℕ) (next n : ℕ) : Type 0 where
+  pub taken : state_in layout table (a_leaf n) ≡ state_word Free → next ≤ n
+  pub free : next ≤ n → (state_in layout table (a_leaf n) ≡ state_word Free) × (leaf_class layout next ≡ leaf_class layout n)
+
+abbrev pub AreCursors : Layout → List ℕ → List ℕ → Type 0
+AreCursors layout table cursors = (n : ℕ) → n < layout.leaves → IsCursorOf layout table (get_or cursors (leaf_class layout n) 0) n

@@ -1,0 +1,41 @@
+-- What contracts see of a loader, and what they say of its pairs.
+use Rattle.std.specs.declared.cmp.Ordering.TheVariants.{Less}
+use Rattle.finite_map.specs.Maps.{key_order}
+use Rattle.std.specs.Prelude.{◌≡◌, ◌⊎◌, ℕ, ◌<◌, ◌≤◌, List, [], ◌∷◌, ◌++◌, length}
+use Rattle.record_words.specs.declared.layout.Layout.{Layout}
+use Rattle.record_words.specs.Layout.{leaf_size}
+use Rattle.record_words.specs.Leaf.{words_for}
+use Rattle.tries.specs.Keys.{Key}
+use Rattle.tries.specs.Content.{Item}
+use Rattle.rowex_core.specs.declared.event.Act.{Act}
+use Rattle.rowex_core.specs.declared.event.Act.TheVariants.{Load}
+
+-- the layout of the table, and the leaf records that were taken, each with its key and value, in the order of the keys
+pub record LoadView : Type 0 where
+  pub layout : Layout
+  pub items : List Item
+
+abbrev pub no_items : Layout → LoadView
+no_items layout = record { layout = layout; items = [] }
+
+abbrev pub with_item : LoadView → Item → LoadView
+with_item v x = record { layout = v.layout; items = v.items ++ x ∷ [] }
+
+-- the key is above the last one, where there is one
+abbrev pub IsAboveLast : List Item → Key → Type 0
+IsAboveLast [] k = Unit {0}
+IsAboveLast (x ∷ []) k = key_order x.key k ≡ Less
+IsAboveLast (x ∷ (y ∷ ys)) k = IsAboveLast (y ∷ ys) k
+
+-- the leaf record of this number was taken
+abbrev pub IsTakenLeaf : List Item → ℕ → Type 0
+IsTakenLeaf [] n = ⊥
+IsTakenLeaf (x ∷ xs) n = (n ≡ x.number) ⊎ IsTakenLeaf xs n
+
+-- each leaf record with room for the key was taken
+abbrev pub HasNoRoomFor : LoadView → Key → Type 0
+HasNoRoomFor v k = (n : ℕ) → n < v.layout.leaves → words_for (length k) ≤ leaf_size v.layout n → IsTakenLeaf v.items n
+
+-- the load of these words of a table
+abbrev pub load_act : List ℕ → Act
+load_act words = Load (record { ref_ptr = (0, 0); now = words })

@@ -1,0 +1,382 @@
+//! A builder: the words of a table that is being made, and the pieces of its tree so far.
+
+ghost use Rattle.std.specs.declared.cmp.Ordering.TheVariants.{Less};
+ghost use Rattle.finite_map.specs.Maps.{key_order};
+ghost use Rattle.record_words.specs.declared.state.Tag.TheVariants.{Free as FreeTag};
+ghost use Rattle.record_words.specs.declared.TheConstants.{LEAF_CLASSES};
+ghost use Rattle.record_words.specs.State.{state_word};
+ghost use Rattle.std.specs.Prelude.{ℕ, ◌≡◌, ◌≢◌, ◌↔◌, ◌+◌, ◌≤◌, ◌<◌, ◌++◌, ◌∷◌, [], if◌then◌else◌, get_or, Err, IfOk, IfSome, IsNone, IsTrue, List, OnOk, OnErr, Option as Maybe, Some, length};
+ghost use Rattle.std.specs.Vec.{vec_len, vec_capacity};
+ghost use Rattle.bulk_load.specs.Finished.{IsFinished};
+ghost use Rattle.bulk_load.specs.Loading.{CanJoin, CanPart, HasCursors, HasNodesFor, HasSameFields, HasSpace, EndsInLeaf, IsAlone, IsJoined, IsLoading, IsPiece, IsSeat, IsStackOf, IsTreeOf, KeepsLeaves, KeepsNodes, MayTakeNext, StandsFor};
+ghost use Rattle.bulk_load.specs.Stacks.{LeftPiece, whole_of, with_right};
+ghost use Rattle.bulk_load.specs.Tables.{IsRootless, leaf_class, state_in};
+ghost use Rattle.bulk_load.specs.Views.{IsAboveLast, IsTakenLeaf};
+ghost use Rattle.record_words.specs.Layout.{leaf_size, word_count};
+ghost use Rattle.record_words.specs.Leaf.{words_for};
+ghost use Rattle.node_tries.specs.Piece.{Place};
+ghost use Rattle.record_words.specs.Entry.{HasEntryWord};
+ghost use Rattle.tries.specs.Content.{Item, item, items};
+ghost use Rattle.tries.specs.Keys.{IsParted};
+ghost use Rattle.tries.specs.Tree.{Tree, subtrie};
+ghost use Rattle.versions.specs.declared.Rec.TheVariants.{Leaf as a_leaf};
+
+use crate::records::{put_leaf, put_node, put_root};
+use crate::slots::{Slot, build_node, merge_slots};
+use compound_node::Entry;
+use key_bits::{Key, mismatch};
+use record_words::{
+    ANCHOR_WORD, EPOCH_WORD, LEAF_CLASSES, Layout, MAX_ENTRIES, Tag, count_leaf_words, pack_state,
+};
+use std::alloc::{AllocError, Global};
+
+/// Why a pair was not taken. Those before stay.
+#[derive(Clone, Copy, PartialEq, Eq)]
+pub enum LoadFault {
+    /// The key is not above the last one.
+    NotRising,
+    /// No leaf record with room for the key is left.
+    LeavesFull,
+    /// Too few node records are left.
+    NodesFull,
+    /// Memory is refused.
+    Memory,
+}
+
+/// A piece of the tree, whose slots stand together: how many they are, and the height that a node of them has.
+#[derive(Clone, Copy)]
+pub(crate) struct Part {
+    pub(crate) count: usize,
+    pub(crate) height: u16,
+}
+
+/// Where the next leaf belongs: the position of the fork before it, and its record.
+#[derive(Clone, Copy)]
+pub(crate) struct Seat {
+    fork: u16,
+    leaf: u32,
+}
+
+/// How two pieces become one: which of them is closed before, and the height of a node of all.
+#[derive(Clone, Copy)]
+struct Plan {
+    closes_left: bool,
+    closes_right: bool,
+    height: u16,
+}
+
+/// The words of a table, the last key, and the pieces of the tree so far.
+#[derive(Drop)]
+pub(crate) struct Builder {
+    pub(crate) layout: Layout,
+    pub(crate) words: Vec<u64>,
+    last: Key,
+    slots: Vec<Slot>,
+    parts: Vec<Part>,
+    /// How many node records are taken: those with the lowest numbers.
+    nodes: u32,
+    /// The number of the first leaf record of each class that is not taken, or of where that would be.
+    leaves: [u32; LEAF_CLASSES],
+}
+
+impl Builder {
+    /// A builder that has taken no pair, for a table of `layout`. An error if memory is refused.
+    pub(crate) fn new(alloc: Global, layout: Layout) -> Result<Builder, AllocError>
+        ensures { IfOk result (λ builder. (builder.layout ≡ layout) × IsLoading builder []) }
+    {
+        let mut words = Vec::from_elem(alloc, 0u64, layout.words())?;
+        words[EPOCH_WORD] = 1;
+        words[ANCHOR_WORD] = pack_state(Tag::Live);
+        Ok(Builder {
+            layout,
+            words,
+            last: Key::empty(),
+            slots: Vec::new(alloc),
+            parts: Vec::new(alloc),
+            nodes: 0,
+            leaves: [
+                0,
+                layout.medium_from,
+                layout.large_from,
+                layout.wide_from,
+                layout.long_from,
+            ],
+        })
+    }
+
+    /// Where the leaf of `key` belongs, if the key is above the last one, and there are records for it.
+    pub(crate) fn find_seat(&self, key: &Key) -> Result<Seat, LoadFault>
+        requires { (xs : List Item) × IsLoading self.now xs }
+        ensures seat { IfOk result (λ seat. IsSeat self.now key.now seat.fork seat.leaf) }
+        ensures rising { (xs : List Item) → IsLoading self.now xs → (result ≡ Err LoadFault.NotRising) ↔ ¬ IsAboveLast xs key.now }
+        ensures leaves { (xs : List Item) → IsLoading self.now xs → result ≡ Err LoadFault.LeavesFull →
+            (n : ℕ) → n < self.now.layout.leaves → words_for (length key.now) ≤ leaf_size self.now.layout n → IsTakenLeaf xs n }
+        ensures nodes { (xs : List Item) → IsLoading self.now xs → result ≡ Err LoadFault.NodesFull → self.now.layout.nodes ≤ length xs }
+    {
+        let fork = self.fork_before(key)?;
+        let Some(leaf) = self.find_leaf(count_leaf_words(key)) else {
+            return Err(LoadFault::LeavesFull);
+        };
+        if !self.has_nodes() {
+            return Err(LoadFault::NodesFull);
+        }
+        Ok(Seat { fork, leaf })
+    }
+
+    /// Has room for one slot more, and one piece more. An error if memory is refused.
+    pub(crate) fn reserve(&mut self) -> Result<(), LoadFault>
+        ensures same { HasSameFields self.old self.new }
+        ensures ok { OnOk result (HasSpace self.new) }
+        ensures err { OnErr result (result ≡ Err LoadFault.Memory) }
+    {
+        if self.slots.reserve(1).is_err() {
+            return Err(LoadFault::Memory);
+        }
+        if self.parts.reserve(1).is_err() {
+            return Err(LoadFault::Memory);
+        }
+        Ok(())
+    }
+
+    /// Takes `key` with `value` where it belongs.
+    pub(crate) fn take(&mut self, seat: Seat, key: &Key, value: u64)
+        requires seat { IsSeat self.old key.now seat.fork seat.leaf }
+        requires space { HasSpace self.old }
+        requires loading { (xs : List Item) × IsLoading self.old xs }
+        ensures taken { (xs : List Item) → IsLoading self.old xs → IsLoading self.new (xs ++ item seat.leaf key.now value ∷ []) }
+        ensures layout { self.new.layout ≡ self.old.layout }
+    {
+        self.join_behind(seat.fork);
+        self.add_leaf(seat.fork, seat.leaf, key, value);
+    }
+
+    /// Makes one tree of all pieces, and the root's entry leads to it.
+    pub(crate) fn close_all(&mut self)
+        requires { (xs : List Item) × IsLoading self.old xs }
+        ensures finished { (xs : List Item) → IsLoading self.old xs → IsFinished self.old.layout self.new.words.items xs }
+    {
+        if self.parts.is_empty() {
+            put_root(self.words.as_mut_slice(), None);
+            return;
+        }
+        let entry = self.close_tree();
+        put_root(self.words.as_mut_slice(), Some(entry));
+    }
+
+    /// Makes one tree of all pieces. Returns the entry that leads to it.
+    fn close_tree(&mut self) -> Entry
+        requires { (xs : List Item) × IsStackOf self.old xs }
+        ensures tree { (xs : List Item) → IsStackOf self.old xs → (t : Tree) × IsTreeOf self.new t × (items t ≡ xs) × (subtrie t ≡ Place result) }
+        ensures entry { HasEntryWord (Some result) }
+        ensures layout { self.new.layout ≡ self.old.layout }
+    {
+        self.join_all();
+        let count = self.slots.len();
+        self.close_piece(0, count, count > 1);
+        self.slots[0].entry
+    }
+
+    /// The position of the fork between the last key and `key`; 0 for the first key. An error exactly if `key` is not above the last one.
+    fn fork_before(&self, key: &Key) -> Result<u16, LoadFault>
+        ensures first { IfOk result (λ p. vec_len self.now.parts ≡ 0 → p ≡ 0) }
+        ensures parted { IfOk result (λ p. 0 < vec_len self.now.parts → IsParted p self.now.last key.now) }
+        ensures above { OnOk result (0 < vec_len self.now.parts → key_order self.now.last key.now ≡ Less) }
+        ensures fault { OnErr result ((result ≡ Err LoadFault.NotRising) × (0 < vec_len self.now.parts) × (key_order self.now.last key.now ≢ Less)) }
+    {
+        if self.parts.is_empty() {
+            return Ok(0);
+        }
+        let Some(position) = mismatch(&self.last, key) else {
+            return Err(LoadFault::NotRising);
+        };
+        if key.bit(position) {
+            Ok(position)
+        } else {
+            Err(LoadFault::NotRising)
+        }
+    }
+
+    /// The first free leaf record of the smallest class that has one and `words` words at least.
+    fn find_leaf(&self, words: usize) -> Option<u32>
+        requires { length self.now.words.items ≡ word_count self.now.layout }
+        ensures found { IfSome result (λ n. (n < self.now.layout.leaves) × (words ≤ leaf_size self.now.layout n) ×
+            (state_in self.now.layout self.now.words.items (a_leaf n) ≡ state_word FreeTag) × (get_or self.now.leaves (leaf_class self.now.layout n) 0 ≡ n)) }
+        ensures none { HasCursors self.now → IsNone result → (n : ℕ) → n < self.now.layout.leaves → words ≤ leaf_size self.now.layout n →
+            state_in self.now.layout self.now.words.items (a_leaf n) ≢ state_word FreeTag }
+    {
+        for class in 0..LEAF_CLASSES {
+            let number = self.leaves[class];
+            if self.is_free(class, number) && self.layout.leaf_size(number) >= words {
+                return Some(number);
+            }
+        }
+        None
+    }
+
+    /// Whether leaf record `number` is a free one of this class.
+    fn is_free(&self, class: usize, number: u32) -> bool
+        requires { length self.now.words.items ≡ word_count self.now.layout }
+        ensures { IsTrue result ↔ ((number < self.now.layout.leaves) × (leaf_class self.now.layout number ≡ class) ×
+            (state_in self.now.layout self.now.words.items (a_leaf number) ≡ state_word FreeTag)) }
+    {
+        number < self.layout.leaves
+            && class_number(&self.layout, number) == class
+            && self.words[self.layout.leaf(number)] == pack_state(Tag::Free)
+    }
+
+    /// Whether node records are left for one leaf more: for closing all pieces then, two for each, or one for each slot.
+    fn has_nodes(&self) -> bool
+        ensures { IsTrue result ↔ HasNodesFor self.now 1 }
+    {
+        let left = self.layout.nodes.saturating_sub(self.nodes) as usize;
+        left / 2 > self.parts.len() || left > self.slots.len()
+    }
+
+    /// Puts a leaf on top, as a piece of its own, behind a fork at `fork`. Its record is `leaf`.
+    fn add_leaf(&mut self, fork: u16, leaf: u32, key: &Key, value: u64)
+        requires space { HasSpace self.old }
+        requires leaf { leaf < self.old.layout.leaves }
+        requires room { words_for (length key.now) ≤ leaf_size self.old.layout leaf }
+        requires free { state_in self.old.layout self.old.words.items (a_leaf leaf) ≡ state_word FreeTag }
+        requires table { IsRootless self.old.layout self.old.words.items }
+        ensures taken { (xs : List Item) → HasNodesFor self.old 1 → MayTakeNext self.old xs fork key.now →
+            EndsInLeaf self.new (xs ++ item leaf key.now value ∷ []) }
+        ensures cursors { HasCursors self.old → get_or self.old.leaves (leaf_class self.old.layout leaf) 0 ≡ leaf → HasCursors self.new }
+        ensures layout { self.new.layout ≡ self.old.layout }
+    {
+        put_leaf(self.words.as_mut_slice(), &self.layout, leaf, key, value);
+        self.slots.push_reserved(Slot {
+            fork,
+            entry: Entry::Leaf(leaf),
+        });
+        self.parts.push_reserved(Part {
+            count: 1,
+            height: 0,
+        });
+        self.last = key.copy();
+        self.leaves[class_number(&self.layout, leaf)] = leaf + 1;
+    }
+
+    /// Joins the pieces at forks behind `position`.
+    fn join_behind(&mut self, position: u16)
+        requires { (xs : List Item) × CanJoin self.old xs position }
+        ensures behind { (xs : List Item) → CanJoin self.old xs position → CanPart self.new xs position }
+        ensures kept { KeepsNodes self.old self.new }
+    {
+        'joins: while self.parts.len() > 1 {
+            let count = self.parts[self.parts.len() - 1].count;
+            if self.slots[self.slots.len() - count].fork < position {
+                return;
+            }
+            self.join_last();
+        }
+    }
+
+    /// Joins all pieces.
+    fn join_all(&mut self)
+        requires { (xs : List Item) × IsStackOf self.old xs }
+        ensures alone { (xs : List Item) → IsStackOf self.old xs → (t : Tree) × IsAlone self.new t xs }
+        ensures layout { self.new.layout ≡ self.old.layout }
+    {
+        'joins: while self.parts.len() > 1 {
+            self.join_last();
+        }
+    }
+
+    /// Makes one piece of the last two, at the fork between them.
+    fn join_last(&mut self)
+        requires several { 2 ≤ vec_len self.old.parts }
+        requires stack { (xs : List Item) × IsStackOf self.old xs }
+        ensures joined { (xs : List Item) (s : IsStackOf self.old xs) → IsJoined self.new xs s.levels }
+        ensures parts { vec_len self.new.parts + 1 ≡ vec_len self.old.parts }
+        ensures kept { KeepsNodes self.old self.new }
+    {
+        let top = self.parts.len() - 1;
+        let (left, right) = (self.parts[top - 1], self.parts[top]);
+        let plan = plan_join(left, right);
+        let behind = self.close_piece(0, right.count, plan.closes_right);
+        let count = self.close_piece(behind, left.count, plan.closes_left) + behind;
+        let _ = self.parts.pop();
+        self.parts[top - 1] = Part {
+            count,
+            height: plan.height,
+        };
+    }
+
+    /// Closes the piece of `count` slots before the last `behind` ones, if `closes` is true: a node of them is written, and its entry takes
+    /// their place. Returns how many slots the piece has then.
+    fn close_piece(&mut self, behind: usize, count: usize, closes: bool) -> usize
+        requires fits { behind + count ≤ vec_len self.old.slots }
+        requires room { IsTrue closes → (2 ≤ count) × (count ≤ 32) × (self.old.nodes < self.old.layout.nodes) }
+        requires piece { (ls : List LeftPiece) × (z : Tree) × (right : Maybe LeftPiece) × IsPiece self.old ls z right count behind }
+        ensures closed { (ls : List LeftPiece) (z : Tree) (right : Maybe LeftPiece) → IsPiece self.old ls z right count behind →
+            (y : Tree) × StandsFor y z result × IsTreeOf self.new (whole_of ls (with_right y right)) }
+        ensures parts { self.new.parts ≡ self.old.parts }
+        ensures nodes { self.new.nodes ≡ self.old.nodes + (if closes then 1 else 0) }
+        ensures count { result ≡ (if closes then 1 else count) }
+        ensures slots { vec_len self.new.slots + count ≡ vec_len self.old.slots + result }
+        ensures kept { KeepsLeaves self.old self.new }
+    {
+        if !closes {
+            return count;
+        }
+        let start = self.slots.len() - behind - count;
+        let node = build_node(&self.slots[start..start + count]);
+        let number = self.nodes;
+        put_node(self.words.as_mut_slice(), &self.layout, number, &node);
+        self.nodes = number + 1;
+        let height = node.height();
+        merge_slots(
+            &mut self.slots,
+            start,
+            count,
+            Entry::Node { number, height },
+        );
+        1
+    }
+}
+
+/// The number of the class that leaf record `number` has, from 0 for the shortest on.
+fn class_number(layout: &Layout, number: u32) -> usize
+    ensures class { result ≡ leaf_class layout.now number }
+    ensures few { result < LEAF_CLASSES }
+{
+    if number < layout.medium_from {
+        0
+    } else if number < layout.large_from {
+        1
+    } else if number < layout.wide_from {
+        2
+    } else if number < layout.long_from {
+        3
+    } else {
+        4
+    }
+}
+
+/// How `left` and `right` become one piece. The lower one is closed, so that it stands in a node as high as the other. Both are closed if
+/// they have too many slots for one node.
+fn plan_join(left: Part, right: Part) -> Plan
+    requires { (left.count ≤ 32) × (right.count ≤ 32) }
+    ensures few { (if result.closes_left then 1 else left.count) + (if result.closes_right then 1 else right.count) ≤ 32 }
+    ensures left { IsTrue result.closes_left → 2 ≤ left.count }
+    ensures right { IsTrue result.closes_right → 2 ≤ right.count }
+{
+    let height = left.height.max(right.height).max(1);
+    let closes_left = left.height < height && left.count > 1;
+    let closes_right = right.height < height && right.count > 1;
+    let left_count = if closes_left { 1 } else { left.count };
+    let right_count = if closes_right { 1 } else { right.count };
+    if left_count + right_count <= MAX_ENTRIES {
+        return Plan {
+            closes_left,
+            closes_right,
+            height,
+        };
+    }
+    Plan {
+        closes_left: left.count > 1,
+        closes_right: right.count > 1,
+        height: height.saturating_add(1),
+    }
+}

@@ -1,0 +1,79 @@
+//! A loader: the words of a table, made from pairs whose keys rise.
+
+use crate::builder::{Builder, LoadFault};
+use key_bits::Key;
+use record_words::Layout;
+use std::alloc::{AllocError, Global};
+use std::marker::Model;
+
+/// The words of a table into which pairs are loaded. Contracts see the layout of the table, and the leaf records that were taken, each with
+/// its key and value, in the order of the keys.
+#[derive(Drop)]
+pub struct Loader {
+    builder: Builder,
+}
+
+impl Model for Loader {
+    ghost use Rattle.bulk_load.specs.Views.{LoadView};
+
+    ghost Value = { LoadView };
+
+    ghost use Rattle.bulk_load.specs.Loading.{IsLoading, items_in};
+
+    ghost view = { λ l. record { layout = l.builder.layout; items = items_in l.builder } };
+
+    ghost invariant = { λ l. IsLoading l.builder (items_in l.builder) };
+}
+
+impl Loader {
+    ghost use Rattle.std.specs.Prelude.{◌≡◌, ◌↔◌, ◌≤◌, ℕ, Err, IfOk, OnErr, OnOk, length};
+    ghost use Rattle.tries.specs.Content.{item};
+    ghost use Rattle.versions.specs.Told.{items_of};
+    ghost use Rattle.rowex_core.specs.Events.{IsLoad, after, loaded_tree};
+    ghost use Rattle.rowex_core.specs.Opening.{opening};
+    ghost use Rattle.rowex_core.specs.Words.{Shows};
+    ghost use Rattle.bulk_load.specs.Views.{HasNoRoomFor, IsAboveLast, load_act, no_items, with_item};
+
+    /// A loader that has taken no pair, for a table of `layout`. An error if memory is refused.
+    pub fn new(alloc: Global, layout: Layout) -> Result<Loader, AllocError>
+        ensures { IfOk result (λ loader. loader ≡ no_items layout) }
+    {
+        Ok(Loader {
+            builder: Builder::new(alloc, layout)?,
+        })
+    }
+
+    /// How many passes and records the table has.
+    pub fn layout(&self) -> Layout
+        ensures { result ≡ self.now.layout }
+    {
+        self.builder.layout
+    }
+
+    /// Takes `key` with `value`, as the last pair. The key must be above the last one: `NotRising` says that it isn't. `LeavesFull` comes
+    /// only if no leaf record with room for the key is left, and `NodesFull` only if the table has no more node records than pairs were
+    /// taken. After a fault the pairs are as before.
+    pub fn push(&mut self, key: &Key, value: u64) -> Result<(), LoadFault>
+        ensures taken { OnOk result ((n : ℕ) × (self.new ≡ with_item self.old (item n key.now value))) }
+        ensures refused { OnErr result (self.new ≡ self.old) }
+        ensures rising { (result ≡ Err LoadFault.NotRising) ↔ ¬ IsAboveLast self.old.items key.now }
+        ensures leaves { result ≡ Err LoadFault.LeavesFull → HasNoRoomFor self.old key.now }
+        ensures nodes { result ≡ Err LoadFault.NodesFull → self.old.layout.nodes ≤ length self.old.items }
+    {
+        let seat = self.builder.find_seat(key)?;
+        self.builder.reserve()?;
+        self.builder.take(seat, key, value);
+        Ok(())
+    }
+
+    /// The words of the table: they show one tree, whose leaves are those that were taken.
+    pub fn finish(self) -> Vec<u64>
+        ensures load { IsLoad self.layout result.items }
+        ensures shows { Shows (after (opening self.layout) 0 (load_act result.items)) result.items }
+        ensures items { items_of (loaded_tree self.layout result.items) ≡ self.items }
+    {
+        let mut builder = self.builder;
+        builder.close_all();
+        builder.words
+    }
+}

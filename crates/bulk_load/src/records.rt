@@ -1,0 +1,71 @@
+//! Records written into the words of a table that nobody shares yet.
+
+ghost use Rattle.std.specs.Prelude.{ℕ, ◌≡◌, ◌⊎◌, ◌+◌, ◌<◌, ◌≤◌, ◌^◌, get_or, length, set};
+ghost use Rattle.bulk_load.specs.Tables.{IsPut};
+ghost use Rattle.rowex_core.specs.Cores.{fields_in};
+ghost use Rattle.record_words.specs.declared.TheConstants.{ROOT_WORD};
+ghost use Rattle.record_words.specs.Entry.{HasEntryWord, entry_word};
+ghost use Rattle.record_words.specs.Layout.{leaf_size, word_count};
+ghost use Rattle.record_words.specs.Leaf.{HasLeafWords, leaf_words, up_to_key, words_for};
+ghost use Rattle.record_words.specs.Node.{HasNodeWords, node_words};
+ghost use Rattle.record_words.specs.State.{state_word};
+ghost use Rattle.record_words.specs.declared.state.Tag.TheVariants.{Live as LiveTag};
+ghost use Rattle.versions.specs.declared.Rec.TheVariants.{Leaf as a_leaf, Node as a_node};
+
+use compound_node::{Entry, Node};
+use key_bits::Key;
+use record_words::{
+    Layout, NODE_FIELDS, ROOT_WORD, Tag, count_leaf_words, pack_entry, pack_leaf, pack_node,
+    pack_state,
+};
+
+/// Writes the first `count` of `fields` to `words` from `start + 1` on, and the state of a live record to `start`.
+fn put_record(words: &mut [u64], start: usize, fields: &[u64], count: usize)
+    requires room { start + 1 + count ≤ length words.old }
+    requires few { count ≤ length fields.now }
+    ensures state { get_or words.new start 0 ≡ state_word LiveTag }
+    ensures fields { (i : ℕ) → i < count → get_or words.new (start + (1 + i)) 0 ≡ get_or fields.now i 0 }
+    ensures others { (k : ℕ) → (k < start) ⊎ (start + 1 + count ≤ k) → get_or words.new k 0 ≡ get_or words.old k 0 }
+{
+    words[start] = pack_state(Tag::Live);
+    words[start + 1..start + 1 + count].copy_from_slice(&fields[..count]);
+}
+
+/// Writes `node` into node record `number`.
+pub(crate) fn put_node(words: &mut [u64], layout: &Layout, number: u32, node: &Node)
+    requires size { length words.old ≡ word_count layout.now }
+    requires number { number < layout.now.nodes }
+    ensures put { IsPut layout.now words.old words.new (a_node number) }
+    ensures fields { fields_in layout.now words.new (a_node number) ≡ node_words node.now }
+    ensures small { (i : ℕ) → get_or words.new i 0 < 2 ^ 64 }
+    ensures fits { HasNodeWords node.now }
+{
+    put_record(words, layout.node(number), &pack_node(node), NODE_FIELDS);
+}
+
+/// Writes `key` with `value` into leaf record `number`, which has room for them.
+pub(crate) fn put_leaf(words: &mut [u64], layout: &Layout, number: u32, key: &Key, value: u64)
+    requires size { length words.old ≡ word_count layout.now }
+    requires number { number < layout.now.leaves }
+    requires room { words_for (length key.now) ≤ leaf_size layout.now number }
+    ensures put { IsPut layout.now words.old words.new (a_leaf number) }
+    ensures fields { leaf_words (key.now, value) ≡ up_to_key (fields_in layout.now words.new (a_leaf number)) }
+    ensures fits { HasLeafWords (key.now, value) }
+{
+    put_record(
+        words,
+        layout.leaf(number),
+        &pack_leaf(key, value),
+        count_leaf_words(key) - 1,
+    );
+}
+
+/// Writes `entry` as that of the root.
+pub(crate) fn put_root(words: &mut [u64], entry: Option<Entry>)
+    requires room { ROOT_WORD < length words.old }
+    requires entry { HasEntryWord entry }
+    ensures put { words.new ≡ set words.old ROOT_WORD (entry_word entry) }
+    ensures small { (i : ℕ) → get_or words.new i 0 < 2 ^ 64 }
+{
+    words[ROOT_WORD] = pack_entry(entry);
+}
