@@ -1,13 +1,14 @@
-/* Measures calls of the index beside others of its own, on random keys of 8 bytes: a count of 10,000 keys beside a scan of them, and look-ups
- * with huge pages beside look-ups without. A line has four cells, as bench/room.py reads them: what it is, which keys, how many, and the
+/* Measures calls of the index beside others of its own, on random keys of 8 bytes: a count of 10,000 keys beside a scan of them, look-ups
+ * with huge pages beside look-ups without, and look-ups of 64 keys a call beside those of one. A line has four cells, as bench/room.py reads them: what it is, which keys, how many, and the
  * nanoseconds of a processor that a call took where it was fastest. `bench/run own` builds and runs it, and bench/counter.c. */
 #include "keys.h"
 #include <sys/prctl.h>
 #include <sys/wait.h>
 #include <unistd.h>
 
-/* Of how many keys a range is counted and listed, and how often each thing is timed, by turns. */
-enum { RANGE = 10000, TIMES = 40, LOOKUPS = 200000 };
+/* Of how many keys a range is counted and listed, how often each thing is timed, by turns, and how many keys a call looks up; DRAWN is a
+ * multiple of that. */
+enum { RANGE = 10000, TIMES = 40, LOOKUPS = 200000, MANY = 64, DRAWN = 300 * MANY };
 
 static hot_handle handle;
 
@@ -104,6 +105,39 @@ static void without_huge_pages(uint32_t keys)
     look_up("look-ups without huge pages", keys);
 }
 
+/* Looks keys up by hot_get_many and as many by hot_get, by turns. */
+static void look_up_many(uint32_t keys)
+{
+    static uint8_t bytes[DRAWN][LONGEST];
+    static hot_lookup lookups[DRAWN];
+    double together = 0, single = 0;
+    uint64_t drawn = 0;
+    int turn;
+    fill(keys);
+    for (turn = 0; turn < 2 * TIMES; turn++) {
+        double began;
+        int place;
+        for (place = 0; place < DRAWN; place++) {
+            lookups[place].key = bytes[place];
+            lookups[place].length = key_of(RANDOM, mixed(~drawn++) % keys, bytes[place]);
+        }
+        began = seconds(CLOCK_PROCESS_CPUTIME_ID);
+        if (turn % 2) {
+            for (place = 0; place < DRAWN; place++) {
+                must(hot_get(&handle, bytes[place], lookups[place].length, &lookups[place].value), HOT_FOUND);
+            }
+            note(&single, began);
+        } else {
+            for (place = 0; place < DRAWN; place += MANY) {
+                must(hot_get_many(&handle, &lookups[place], MANY), HOT_DONE);
+            }
+            note(&together, began);
+        }
+    }
+    tell("look-ups of 64 keys a call", keys, 1e9 * together / DRAWN);
+    tell("look-ups of one key a call", keys, 1e9 * single / DRAWN);
+}
+
 /* Runs a measurement in a process of its own. */
 static int apart(void (*measure)(uint32_t keys), uint32_t keys)
 {
@@ -118,5 +152,6 @@ static int apart(void (*measure)(uint32_t keys), uint32_t keys)
 
 int main(void)
 {
-    return apart(count_and_list, 200000) | apart(with_huge_pages, 1000000) | apart(without_huge_pages, 1000000);
+    return apart(count_and_list, 200000) | apart(with_huge_pages, 1000000) | apart(without_huge_pages, 1000000)
+        | apart(look_up_many, 10000) | apart(look_up_many, 200000) | apart(look_up_many, 1000000);
 }

@@ -1,24 +1,27 @@
 //! What a walk looks at ahead of its place: so the lines of several leaves come side by side.
 
-ghost use Rattle.std.specs.Prelude.{◌≡◌, ◌+◌, ◌<◌, ◌≤◌, ℕ};
-ghost use Rattle.compound_node.specs.declared.entries.Entry.TheVariants.{Leaf as LeafEntry};
+ghost use Rattle.std.specs.Prelude.{◌≡◌, ◌+◌, ◌<◌, ◌≤◌, ℕ, length, slice_index};
 ghost use Rattle.rowex_reading.specs.Reads.{IsReader, Reads};
-ghost use Rattle.rowex_reading.specs.Seen.{IsLedTo};
 ghost use Rattle.rowex_scanning.specs.Ahead.{HasPlaces, HasSeenAhead, entries_ahead};
+ghost use Rattle.rowex_core.specs.Cores.{HasRecord};
 ghost use Rattle.version_laws.specs.Directions.{to_come as to_come_of};
+ghost use Rattle.versions.specs.declared.Rec.TheVariants.{Leaf as a_leaf};
 
 use crate::direction::{entries_to_come, slot_ahead};
 use crate::scanning::Scan;
 use crate::sinks::Tallies;
 use compound_node::Entry;
 use insert_cases::PathNode;
-use record_words::{LENGTH_OFFSET, Origins};
+use record_words::{Origins, VALUE_OFFSET};
 use rowex_core::{Gate, Rec};
 use rowex_reading::load_entry;
 use rowex_table::{HotTable, NodeAt, TableSeat};
 
 /// How many slots of a node a walk looks at together, at most.
 pub(crate) const MOST_AHEAD: u8 = 16;
+
+/// If an index has fewer leaf records, a walk touches none of them: they are in a processor's cache mostly.
+const LEAST_LEAVES: u32 = 32_768;
 
 /// If the limit leaves fewer pairs, a walk looks at one slot at a time.
 const LEAST_PAIRS: usize = 4;
@@ -52,8 +55,8 @@ fn most_slots(limit: usize, taken: usize) -> u8
 }
 
 /// Loads the entries in the next slots of the node `top`, up to the first that leads to a node. It looks at [`most_slots`] slots, or
-/// fewer if fewer are to come. The leaves' numbers go to the first of `leaves`, and the leaves are touched where `sink`, which has the pairs
-/// so far, says so. Returns how many leaves these are, and that node, if there is one.
+/// fewer if fewer are to come. The leaves' numbers go to the first of `leaves`. Returns how many leaves these are, and that node, if there is
+/// one. `sink` has the pairs so far.
 #[inline(always)]
 pub(crate) fn load_entries_ahead<G: Gate, S: Tallies>(
     scan: &Scan,
@@ -86,7 +89,6 @@ pub(crate) fn load_entries_ahead<G: Gate, S: Tallies>(
         number: top.number,
         start: scan.origins.start_of_node(top.number),
     };
-    let is_touching = sink.should_touch_leaves(count);
     for index in 0..count {
         let place = slot_ahead(scan.range.direction, *top, index);
         match load_entry(scan.table, seat, gate, node, place) {
@@ -97,9 +99,6 @@ pub(crate) fn load_entries_ahead<G: Gate, S: Tallies>(
                 };
             }
             Entry::Leaf(number) => {
-                if is_touching {
-                    touch_leaf(scan.table, scan.origins, seat, gate, number);
-                }
                 leaves[index as usize] = number;
             }
         }
@@ -107,23 +106,34 @@ pub(crate) fn load_entries_ahead<G: Gate, S: Tallies>(
     Ahead { count, node: None }
 }
 
-/// Loads a word of the record of leaf `number` and ignores it, and touches the last one, so that its cache lines are there when the leaf is
-/// read. `origins` are those of `table`.
+/// Asks for the cache lines of `leaves`, which are read next, so that they come side by side.
+///
+/// It asks for none where they are there anyway: for one leaf, in an index of few, or where they lie side by side and so come by themselves.
 #[inline(always)]
-fn touch_leaf<G: Gate>(
-    table: &HotTable,
-    origins: &Origins,
-    seat: &mut TableSeat,
-    gate: &mut G,
-    number: u32,
-)
-    requires reader { IsReader table.now seat.old }
+pub(crate) fn touch_leaves(scan: &Scan, leaves: &[u32])
+    requires origins { scan.now.origins.now.layout ≡ scan.now.table.now.layout }
+    requires records { (i : ℕ) → i < length leaves.now → HasRecord scan.now.table.now.layout (a_leaf (slice_index leaves.now i)) }
+{
+    let count = leaves.len();
+    if count < 2 || scan.origins.layout.leaves < LEAST_LEAVES {
+        return;
+    }
+    if leaves[count - 1].abs_diff(leaves[0]) < u32::from(MOST_AHEAD) {
+        return;
+    }
+    for index in 0..count {
+        touch_leaf(scan.table, scan.origins, leaves[index]);
+    }
+}
+
+/// Asks for the first and the last cache line of the record of leaf `number`. `origins` are those of `table`.
+#[inline(always)]
+fn touch_leaf(table: &HotTable, origins: &Origins, number: u32)
+    requires range { HasRecord table.now.layout (a_leaf number) }
     requires origins { origins.now.layout ≡ table.now.layout }
-    requires led { (m : ℕ) × IsLedTo seat.old.known m (LeafEntry number) }
-    ensures reads { Reads table.now G.becomes 0 1 (seat.old, gate.old) (seat.new, gate.new) }
 {
     let (rec, start) = (Rec::Leaf(number), origins.start_of_leaf(number));
     let last = origins.layout.leaf_size(number) - 1;
+    table.touch(rec, start, VALUE_OFFSET);
     table.touch(rec, start, last as u8);
-    table.load_fixed_at(seat, gate, rec, start, LENGTH_OFFSET);
 }

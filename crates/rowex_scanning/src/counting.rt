@@ -47,12 +47,6 @@ impl Tallies for Number {
         self.count
     }
 
-    /// Most of them are not read.
-    #[inline(always)]
-    fn should_touch_leaves(&self, _count: u8) -> bool {
-        false
-    }
-
     #[inline(always)]
     fn take_pair(
         &mut self,

@@ -18,7 +18,7 @@ ghost use Rattle.rowex_scanning.specs.Scanning.{HasScanned, HasScannedPart, HasT
 ghost use Rattle.rowex_scanning.specs.Scanning.{IsEntered, IsLeafRefused, IsLeafTaken, IsPairRefused, IsPairTaken, IsReached, IsWalkAlong, asked_range, first_key_of, last_key_of, request_of};
 ghost use Rattle.rowex_scanning.specs.Tallies.{IsNone, tally_of_values};
 
-use crate::ahead::{MOST_AHEAD, load_entries_ahead};
+use crate::ahead::{MOST_AHEAD, load_entries_ahead, touch_leaves};
 use crate::direction::{
     entries_to_come, first_gap, gap_after_entries, gap_behind_slot, is_earlier_key, is_key_before,
     slot_ahead,
@@ -303,7 +303,7 @@ fn walk_slots<G: Gate, S: Sink>(
     }
 }
 
-/// Takes the pairs of `leaves` one by one, as [`Sink::take_leaves`] says.
+/// Takes the pairs of `leaves` one by one, as [`Sink::take_leaves`] says. It touches them before.
 #[inline(always)]
 pub(crate) fn take_each_leaf<G: Gate, S: Tallies>(
     scan: &Scan,
@@ -321,6 +321,7 @@ pub(crate) fn take_each_leaf<G: Gate, S: Tallies>(
     ensures part { OnErr result (HasTakenPart scan.now.range.now.direction seat.new.known (asked_range scan.now.range.now) (S.tally sink.new)) }
     ensures refused { OnErr result S.may_refuse }
 {
+    touch_leaves(scan, leaves);
     for index in 0..leaves.len() {
         match take_leaf(scan, seat, gate, leaves[index], places, sink)? {
             Verdict::Further => (),

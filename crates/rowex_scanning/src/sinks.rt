@@ -35,9 +35,6 @@ pub(crate) trait Tallies {
     fn size(&self) -> usize
         ensures { result ≡ (tally self.now).size };
 
-    /// Whether a walk touches the next `count` leaves before it reads them.
-    fn should_touch_leaves(&self, count: u8) -> bool;
-
     /// Takes the pair of `value` and of the key in the first `length` bytes of `places`. An error if memory is refused.
     fn take_pair(
         &mut self,
@@ -93,15 +90,6 @@ impl Tallies for Pairs {
         self.len()
     }
 
-    /// They are touched if they are several, and the keys so far have together at least eight bytes more than eight for each.
-    ///
-    /// The leaf in one slot alone is read at once. Shorter keys take few instructions each, always as many, so a processor reads ahead by
-    /// itself.
-    #[inline(always)]
-    fn should_touch_leaves(&self, count: u8) -> bool {
-        count > 1 && self.key_bytes() / 8 > self.len()
-    }
-
     #[inline(always)]
     fn take_pair(
         &mut self,
@@ -142,12 +130,6 @@ impl Tallies for Vec<u64> {
     #[inline(always)]
     fn size(&self) -> usize {
         self.len()
-    }
-
-    /// They are touched if they are several.
-    #[inline(always)]
-    fn should_touch_leaves(&self, count: u8) -> bool {
-        count > 1
     }
 
     #[inline(always)]

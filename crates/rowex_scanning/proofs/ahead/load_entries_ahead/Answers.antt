@@ -1,18 +1,16 @@
--- No entry, and one more: it leads to a leaf, which may be touched, or to a node.
-use Rattle.std.proofs.Common.{ℕ, ◌+◌, ◌≤◌, ◌∙◌, arith}
+-- No entry, and one more: it leads to a leaf or to a node.
+use Rattle.std.proofs.Common.{ℕ, ◌+◌, ◌∙◌, arith}
 use Rattle.std.proofs.lemmas.List.{length-set}
 use Rattle.compound_node.specs.declared.entries.Entry.TheVariants.{Leaf, Node}
-use Rattle.rowex_reading.specs.Reads.{Reads}
 use Rattle.rowex_reading.specs.Seen.{HasPlace}
-use Rattle.rowex_reading.proofs.Led.{placed_led, reader_then, reads_later, reads_none, reads_trans}
-use Rattle.rowex_reading.proofs.Seeing.{placed_stable, since_later, sure_later}
+use Rattle.rowex_reading.proofs.Led.{reader_then, reads_later, reads_none, reads_trans}
 use Rattle.rowex_scanning.specs.Ahead.{HasPlaces}
 use Rattle.version_laws.specs.Directions.{place_ahead}
 use Rattle.rowex_scanning.proofs.Begins.{node_begins}
 use Rattle.rowex_scanning.proofs.Passing.{ahead_later, ahead_more, loaded_at, places_later}
 use Rattle.rowex_scanning.proofs.ahead.load_entries_ahead.Given as given
 use Rattle.rowex_scanning.proofs.ahead.load_entries_ahead.Goals as goal
-use Rattle.rowex_scanning.proofs.ahead.load_entries_ahead.Goals.{After-slot_ahead-place, then-is_touching, else-is_touching}
+use Rattle.rowex_scanning.proofs.ahead.load_entries_ahead.Goals.{After-slot_ahead-place}
 
 -- the node has an entry at the place
 has_place : (g : given.Over) (c : After-slot_ahead-place g) (m : ℕ) → HasPlaces c.args.scan.now.range.now.direction c.args.seat.now.known m c.args.top.now →
@@ -47,31 +45,15 @@ returns-in-Node-clause-ahead g c = λ m has.
     let (lower, placed) = loaded_at d m top c.loop-index.index c.slot_ahead-place.result (Node c.in-Node.number c.in-Node.height) c.slot_ahead-place.ensures place c.in-Node.ensures.entry in
     record { first = ahead_later d m top later c.loop-index.index c.loop-index.leaves (c.loop-index.invariant.ahead m has); node = (c.in-Node.height, lower, placed) }
 
-pub touch_leaf-requires-clause-reader : goal.touch_leaf-requires-clause-reader
-touch_leaf-requires-clause-reader g c = reader_then c.loop-index.invariant.reader c.load_entry.ensures.reads
-
-pub touch_leaf-requires-clause-led : goal.touch_leaf-requires-clause-led
-touch_leaf-requires-clause-led g c =
-    let d = c.args.scan.now.range.now.direction in let top = c.args.top.now in let (m, has) = c.requires.places in
-    let place = has_place g (goal.at.touch_leaf-requires-clause-led g c).After-slot_ahead-place m has in
-    let placed = (loaded_at d m top c.loop-index.index c.slot_ahead-place.result (Leaf c.in-Leaf.number) c.slot_ahead-place.ensures place c.in-Leaf.ensures.entry).1 in
-    (m, placed_led top.number (place_ahead d top.at c.loop-index.index) (Leaf c.in-Leaf.number) (since_later (reads_later c.load_entry.ensures.reads) place.0.0) placed)
-
 pub loop-index-preserved : goal.loop-index-preserved
 loop-index-preserved g c =
     let i = c.loop-index.invariant in let (n, few, before) = i.reads in let d = c.args.scan.now.range.now.direction in let top = c.args.top.now in let loaded = c.load_entry.ensures.reads in
-    let (t, once, touched) : (t : ℕ) × (t ≤ 1) × Reads c.args.scan.now.table.now g.G.Gate.becomes 0 t (c.load_entry.new.seat, c.load_entry.new.gate) (c.if-is_touching.seat, c.if-is_touching.gate) = elim c.if-is_touching.branch [
-      | then-is_touching w ↦ rw (w.seat-is, w.gate-is) (1, omega arith, w.touch_leaf.ensures.reads)
-      | else-is_touching w ↦ rw (w.seat-is, w.gate-is) (0, omega arith, reads_none (c.load_entry.new.seat, c.load_entry.new.gate))
-    ] in
-    let more = reads_trans loaded touched in
     record {
-      reader = reader_then i.reader more;
-      reads = (n + (1 + t), omega (arith, few, once), reads_trans before more);
+      reader = reader_then i.reader loaded;
+      reads = (n + 1, omega (arith, few), reads_trans before loaded);
       long = length-set c.loop-index.leaves c.loop-index.index c.in-Leaf.number ∙ i.long;
       ahead = λ m has.
           let place = has_place g (goal.at.loop-index-preserved g c).After-slot_ahead-place m has in
           let placed = (loaded_at d m top c.loop-index.index c.slot_ahead-place.result (Leaf c.in-Leaf.number) c.slot_ahead-place.ensures place c.in-Leaf.ensures.entry).1 in
-          ahead_more d m top c.loop-index.index c.loop-index.leaves c.in-Leaf.number (ahead_later d m top (reads_later more) c.loop-index.index c.loop-index.leaves (i.ahead m has)) (omega (arith, i.long, c.loop-index-test.true, c.min-count.ensures, c.most_slots.ensures.most))
-          (sure_later (placed_stable m top.number (place_ahead d top.at c.loop-index.index) (Leaf c.in-Leaf.number)) (reads_later touched) placed);
+          ahead_more d m top c.loop-index.index c.loop-index.leaves c.in-Leaf.number (ahead_later d m top (reads_later loaded) c.loop-index.index c.loop-index.leaves (i.ahead m has)) (omega (arith, i.long, c.loop-index-test.true, c.min-count.ensures, c.most_slots.ensures.most)) placed;
     }

@@ -1,5 +1,5 @@
 -- The entries so far lead to leaves.
-use Rattle.std.proofs.Common.{◌≡◌, ℕ, ◌*◌, ◌≤◌, length}
+use Rattle.std.proofs.Common.{◌≡◌, ℕ, ◌≤◌, length}
 use Rattle.rowex_reading.specs.Reads.{IsReader, Reads}
 use Rattle.rowex_scanning.specs.Ahead.{AreAhead, HasPlaces}
 use Rattle.rowex_scanning.specs.declared.ahead.TheConstants.{MOST_AHEAD}
@@ -8,7 +8,7 @@ use Rattle.rowex_scanning.proofs.ahead.load_entries_ahead.Given as goal
 abbrev pub invariant-loop-index : goal.invariant-loop-index
 invariant-loop-index g l = record {
   reader : IsReader l.scan.table.now l.seat;
-  reads : (n : ℕ) × (n ≤ 2 * l.index) × Reads l.scan.table.now g.G.Gate.becomes l.index n (l.fn.seat, l.fn.gate) (l.seat, l.gate);
+  reads : (n : ℕ) × (n ≤ l.index) × Reads l.scan.table.now g.G.Gate.becomes l.index n (l.fn.seat, l.fn.gate) (l.seat, l.gate);
   long : length l.leaves ≡ MOST_AHEAD;
   ahead : (m : ℕ) → HasPlaces l.scan.range.now.direction l.fn.seat.known m l.top → AreAhead l.scan.range.now.direction l.seat.known m l.top l.index l.leaves;
 }

@@ -1,23 +1,17 @@
--- The record is one of the table's, and has this word.
-use Rattle.std.proofs.Common.{ap, arith, lit≤}
-use Rattle.versions.specs.declared.Rec.TheVariants.{Leaf as a_leaf}
-use Rattle.record_words.specs.Layout.{leaf_size}
-use Rattle.record_words.proofs.Locations.{size_fits}
-use Rattle.rowex_core.specs.declared.event.Act.TheVariants.{LoadFixed}
-use Rattle.rowex_reading.proofs.Led.{reads_one}
-use Rattle.rowex_scanning.proofs.Begins.{leaf_begins}
+-- The record is one of the table's, and has these words.
+use Rattle.std.proofs.Common.{ap, arith}
+use Rattle.record_words.specs.Layout.{leaf_size, leaf_start}
+use Rattle.record_words.specs.declared.layout.Layout.{Layout}
 use Rattle.rowex_scanning.proofs.ahead.touch_leaf.Goals as goal
 
-pub touch-requires : goal.touch-requires
-touch-requires g c = record {
-  start = leaf_begins c.args.table.now.layout c.args.origins.now.layout c.args.seat.now.known c.requires.led.0 c.args.number c.start_of_leaf-start.result c.requires.reader.1 c.requires.led.1 c.requires.origins c.start_of_leaf-start.ensures;
-  range = let e = c.leaf_size-last.ensures in let same = ap (λ z. leaf_size z c.args.number) c.requires.origins in omega (arith, e.size, e.few, same, c.ranges.number.fits);
-}
+pub touch-requires-clause-start : goal.touch-requires-clause-start
+touch-requires-clause-start g = let e = g.start_of_leaf-start.ensures in let same = ap (λ (l : Layout). leaf_start l g.args.number) g.requires.origins in (g.requires.range, omega (arith, e, same))
 
-pub load_fixed_at-requires : goal.load_fixed_at-requires
-load_fixed_at-requires g c =
-    let start = leaf_begins c.args.table.now.layout c.args.origins.now.layout c.args.seat.now.known c.requires.led.0 c.args.number c.start_of_leaf-start.result c.requires.reader.1 c.requires.led.1 c.requires.origins c.start_of_leaf-start.ensures in
-    record { own = c.requires.reader.0; range = (start.0, (lit≤ tt, lit≤ tt), omega (arith, size_fits c.args.table.now.layout c.args.number)); start = start }
+pub touch-requires-clause-range : goal.touch-requires-clause-range
+touch-requires-clause-range g = let e = g.leaf_size-last.ensures in let same = ap (λ (l : Layout). leaf_size l g.args.number) g.requires.origins in omega (arith, e.size, e.few, same)
 
-pub returns : goal.returns
-returns g c = record { reads = reads_one (LoadFixed (a_leaf c.args.number) 2 c.load_fixed_at.result) tt c.load_fixed_at.ensures }
+pub touch-requires-2-clause-start : goal.touch-requires-2-clause-start
+touch-requires-2-clause-start g = let e = g.start_of_leaf-start.ensures in let same = ap (λ (l : Layout). leaf_start l g.args.number) g.requires.origins in (g.requires.range, omega (arith, e, same))
+
+pub touch-requires-2-clause-range : goal.touch-requires-2-clause-range
+touch-requires-2-clause-range g = let e = g.leaf_size-last.ensures in let same = ap (λ (l : Layout). leaf_size l g.args.number) g.requires.origins in omega (arith, e.size, e.few, same, g.ranges.number.fits)

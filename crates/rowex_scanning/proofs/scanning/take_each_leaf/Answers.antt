@@ -6,13 +6,14 @@ use Rattle.record_words.specs.declared.TheConstants.{LEAF_FIELDS}
 use Rattle.insert_cases.specs.declared.choice.PathNode.{PathNode}
 use Rattle.rowex_reading.specs.Reads.{Reads}
 use Rattle.rowex_reading.specs.Seen.{since}
-use Rattle.rowex_reading.proofs.Led.{reader_then, reads_later, reads_none, reads_trans, same_since}
+use Rattle.rowex_reading.proofs.Led.{placed_led, reader_then, reads_later, reads_none, reads_trans, same_since}
+use Rattle.rowex_reading.proofs.Standing.{led_in_table}
 use Rattle.rowex_scanning.specs.Ahead.{AreNext, HavePassed}
 use Rattle.version_laws.specs.Directions.{place_ahead}
 use Rattle.rowex_scanning.specs.Scanning.{asked_range, request_of}
 use Rattle.rowex_scanning.proofs.Parts.{walk_part}
 use Rattle.rowex_scanning.proofs.Passing.{ahead_later, leaf_at, leaf_reached, passed_more, passed_none}
-use Rattle.rowex_scanning.proofs.Walking.{IsAtEntry, walk_fits, walk_full, walk_past, walk_short}
+use Rattle.rowex_scanning.proofs.Walking.{IsAtEntry, walk_fits, walk_full, walk_past, walk_places, walk_short}
 use Rattle.rowex_scanning.proofs.scanning.take_each_leaf.Given as given
 use Rattle.rowex_scanning.proofs.scanning.take_each_leaf.Goals as goal
 use Rattle.rowex_scanning.proofs.scanning.take_each_leaf.Goals.{After-take_leaf}
@@ -35,6 +36,13 @@ ended g c = let (n, few, reads) = loads g c in (n, omega (arith, few, c.loop-ind
 
 same : (g : given.Over) (c : After-take_leaf g) → since c.take_leaf.new.seat.known ≡ since c.args.seat.now.known
 same g c = same_since (loads g c).2
+
+-- the leaves are of the table
+pub touch_leaves-requires-clause-records : goal.touch_leaves-requires-clause-records
+touch_leaves-requires-clause-records g c = λ i low.
+    let (top, frames, next) = c.requires.next in let come = next.come in let n = get_or c.args.leaves.now i 0 in let place = place_ahead c.args.scan.now.range.now.direction top.at i in
+    led_in_table c.args.scan.now.table.now.layout c.args.seat.now.known (since c.args.seat.now.known) (Leaf n) c.requires.reader.1
+    (placed_led top.number place (Leaf n) (walk_places next.bound.0 i (omega (arith, come, low))).0.0 (next.ahead i low))
 
 pub loop-index-init : goal.loop-index-init
 loop-index-init g c = record {
