@@ -726,15 +726,13 @@ static hot_status begin_load(const hot_stock *stock, size_t handles, loading *lo
 }
 
 /* Makes an index of what a load has taken, and opens its keeper. */
-static hot_status end_load(const hot_stock *stock, loading *load, void *words, hot_index *index) {
-    size_t bytes = 0;
-    proved_stock_bytes(stock, index->count, &bytes);
-    heap_go_on(bytes, words);
+static hot_status end_load(loading *load, void *words, hot_index *index) {
+    heap_go_on(words);
     return end_making(proved_end_load(load, &index->keeper), &index->keeper, 1);
 }
 
-/* Gives an index its keeper, and the pairs, which its first handle counts; and writes why the next one was refused, or HOT_DONE. HOT_DONE, or
- * HOT_NO_MEMORY. */
+/* Gives an index its keeper, and the pairs, which its first handle counts; and writes why the next one was refused, or HOT_DONE. The stock is
+ * read before `next` is called, which may change it. HOT_DONE, or HOT_NO_MEMORY. */
 static hot_status fill_index(const hot_stock *stock, hot_source *next, void *context, hot_index *index, hot_status *refused) {
     loading load = {0, {NULL}};
     void *words;
@@ -748,7 +746,7 @@ static hot_status fill_index(const hot_stock *stock, hot_source *next, void *con
         return HOT_NO_MEMORY;
     }
     index->places[0].keys = count;
-    return end_load(stock, &load, words, index);
+    return end_load(&load, words, index);
 }
 
 hot_status hot_load(const hot_stock *stock, size_t handles, hot_source *next, void *context, hot_index **index, size_t *count) {

@@ -84,6 +84,10 @@ static void test_none(void) {
     CHECK(hot_open(index, &handle) == HOT_DONE && hot_len(&handle, &count) == HOT_DONE && count == 0);
     CHECK(hot_insert(&handle, bytes("a"), 1, 9, NULL) == HOT_INSERTED);
     close_all(&handle, index);
+    count = 99;
+    CHECK(hot_load(&stock, 1, next_of_none, NULL, &index, &count) == HOT_DONE && count == 0 && hot_close_index(index) == HOT_DONE);
+    count = 99;
+    CHECK(hot_load_packed(&stock, 1, NULL, NULL, 0, &index, &count) == HOT_DONE && count == 0 && hot_close_index(index) == HOT_DONE);
 }
 
 /* A load of keys from a stock ends at a pair: with this status, and what came before is there. */
@@ -137,8 +141,8 @@ static void test_long(void) {
     close_all(&handle, index);
 }
 
-/* Too few nodes: what went in is there, and can be taken out. */
-static void test_few_nodes(void) {
+/* Too few nodes: what went in is there, and can be taken out, with room for so many handles. */
+static void test_few_nodes(size_t handles) {
     static const hot_stock few = {3, 1000, 0, 0, 0, 0};
     numbers all = {{0}, 0, 1000};
     hot_handle handle = HOT_HANDLE;
@@ -146,7 +150,7 @@ static void test_few_nodes(void) {
     uint8_t key[8];
     uint64_t value, number;
     size_t count = 99, left;
-    CHECK(hot_load(&few, 1, next_number, &all, &index, &count) == HOT_FULL_NODES && count >= 2 && count < 1000 && all.next == count + 1);
+    CHECK(hot_load(&few, handles, next_number, &all, &index, &count) == HOT_FULL_NODES && count >= 2 && count < 1000 && all.next == count + 1);
     CHECK(hot_open(index, &handle) == HOT_DONE);
     for (number = 0; number < count; number++)
         CHECK(hot_get(&handle, spell(number, key), 8, &value) == HOT_FOUND && value == 10 * number);
@@ -154,6 +158,38 @@ static void test_few_nodes(void) {
         CHECK(hot_remove(&handle, spell(number, key), 8, &value) == HOT_REMOVED && value == 10 * number);
     CHECK(hot_len(&handle, &left) == HOT_DONE && left == 0);
     close_all(&handle, index);
+}
+
+/* Numbers to load, and the stock that the load was given, which each call overwrites. */
+typedef struct over_stock {
+    numbers all;
+    hot_stock stock;
+} over_stock;
+
+static int next_over_stock(void *context, const uint8_t **key, size_t *length, uint64_t *value) {
+    over_stock *it = context;
+    memset(&it->stock, (int)it->all.next, sizeof it->stock);
+    return next_number(&it->all, key, length, value);
+}
+
+/* A load has read its stock before it asks for pairs: also one whose table has pages of its own. */
+static void test_stock_changed(void) {
+    static const uint32_t room[2] = {100, 100000};
+    static over_stock from;
+    int place;
+    for (place = 0; place < 2; place++) {
+        hot_handle handle = HOT_HANDLE;
+        hot_index *index = NULL;
+        uint8_t key[8];
+        uint64_t value = 0;
+        size_t count = 99;
+        from.all.next = 0;
+        from.all.end = 50;
+        hot_stock_for_keys(room[place], 8, &from.stock);
+        CHECK(hot_load(&from.stock, 2, next_over_stock, &from, &index, &count) == HOT_DONE && count == 50);
+        CHECK(hot_open(index, &handle) == HOT_DONE && hot_get(&handle, spell(49, key), 8, &value) == HOT_FOUND && value == 490);
+        close_all(&handle, index);
+    }
 }
 
 /* What scans write packed goes into another index as it is. Where it is cut, the load is. */
@@ -228,7 +264,9 @@ int main(void) {
     test_none();
     test_refused();
     test_long();
-    test_few_nodes();
+    test_few_nodes(1);
+    test_few_nodes(2);
+    test_stock_changed();
     test_packed();
     test_nested();
     puts(failures ? "c/loads.c failed" : "passed: c/loads.c");
