@@ -26,8 +26,8 @@
  * huge pages. */
 enum { PAGE = 4096, HUGE_PAGE = 2 << 20, LEAST_BLOCK = 64 << 10, LEAST_TABLE = 1 << 20, LEAST_HUGE_TABLE = 64 << 20 };
 
-/* A chunk has at least so many bytes, and a table so many chunks at most. */
-enum { LEAST_CHUNK = 1 << 20, MOST_CHUNKS = 2048 };
+/* A chunk has at least so many bytes, and stands at most so often in a block: the system limits how many pieces of memory a process maps. */
+enum { LEAST_CHUNK = 1 << 20, MOST_CHUNKS = 512 };
 
 /* Advice of Linux 5.14 and later: pages are there before they are read one by one. Else each is found when it is touched. */
 #ifndef MADV_POPULATE_READ
