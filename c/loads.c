@@ -225,6 +225,7 @@ typedef struct copying {
     hot_pair pair;
     uint8_t from[HOT_MAX_KEY];
     size_t length;
+    int has_ended;
 } copying;
 
 static int next_copied(void *context, const uint8_t **key, size_t *length, uint64_t *value) {
@@ -233,12 +234,13 @@ static int next_copied(void *context, const uint8_t **key, size_t *length, uint6
     hot_index *index;
     size_t count;
     CHECK(hot_load(&stock, 1, next_text, &none, &index, &count) == HOT_DONE && hot_close_index(index) == HOT_DONE);
-    if (hot_first(&all->handle, all->from, all->length, &all->pair) != HOT_FOUND)
+    if (all->has_ended || hot_first(&all->handle, all->from, all->length, &all->pair) != HOT_FOUND)
         return 0;
     *key = all->pair.key;
     *length = all->pair.length;
     *value = all->pair.value;
-    return hot_after(*key, *length, all->from, &all->length) == HOT_DONE;
+    all->has_ended = hot_after(*key, *length, all->from, &all->length) == HOT_ABSENT;
+    return 1;
 }
 
 static void test_nested(void) {
@@ -252,8 +254,11 @@ static void test_nested(void) {
     uint64_t value = 0;
     size_t count;
     hot_stock_for_keys(100000, 8, &large);
+    large.long_leaves = 1;
     CHECK(hot_load(&large, 1, next_number, &all, &index, &count) == HOT_DONE && hot_open(index, &from.handle) == HOT_DONE);
-    CHECK(hot_load(&large, 1, next_copied, &from, &copy, &count) == HOT_DONE && count == MANY && hot_open(copy, &handle) == HOT_DONE);
+    CHECK(hot_insert(&from.handle, HOT_TO_END, 7, NULL) == HOT_INSERTED);
+    CHECK(hot_load(&large, 1, next_copied, &from, &copy, &count) == HOT_DONE && count == MANY + 1 && hot_open(copy, &handle) == HOT_DONE);
+    CHECK(hot_get(&handle, HOT_TO_END, &value) == HOT_FOUND && value == 7);
     CHECK(hot_get(&handle, spell(MANY - 1, key), 8, &value) == HOT_FOUND && value == 10 * (MANY - 1));
     close_all(&from.handle, index);
     close_all(&handle, copy);
