@@ -771,18 +771,20 @@ hot_status hot_load(const hot_stock *stock, size_t handles, hot_source *next, vo
 /* Pairs that lie packed. */
 typedef struct packed {
     const uint8_t *bytes;
-    const hot_head *heads, *end;
+    const hot_head *heads;
+    size_t count;
 } packed;
 
 static int next_packed(void *context, const uint8_t **key, size_t *length, uint64_t *value) {
     packed *left = context;
-    if (left->heads == left->end)
+    if (left->count == 0)
         return 0;
     *key = left->bytes;
     *length = left->heads->length;
     *value = left->heads->value;
     left->bytes += left->heads->length;
     ++left->heads;
+    --left->count;
     return 1;
 }
 
@@ -791,7 +793,7 @@ hot_status hot_load_packed(const hot_stock *stock, size_t handles, const uint8_t
     packed all;
     all.bytes = bytes;
     all.heads = heads;
-    all.end = heads + count;
+    all.count = count;
     return hot_load(stock, handles, next_packed, &all, index, loaded);
 }
 

@@ -75,6 +75,12 @@ static void test_loaded(void) {
     close_all(&handles[2], index);
 }
 
+static int next_of_none(void *context, const uint8_t **key, size_t *length, uint64_t *value) {
+    (void)key, (void)length, (void)value;
+    CHECK(context == NULL);
+    return 0;
+}
+
 static void test_none(void) {
     texts none = {NULL, 0, 0};
     hot_handle handle = HOT_HANDLE;
