@@ -41,7 +41,7 @@
  * some 40 KB. A page that was written stays when keys go. Tables of 64 MB and more ask for huge pages, of 2 MiB, where the system lets
  * them. If memory runs out when a page is first written, the system ends the program. So take a stock whose hot_stock_bytes the machine has
  * to spare; or call mlockall once the index is made, which takes all of it at once. Making an index takes a processor some 0.1 s for each
- * 100 MB of the table, as much address space as two tables, and a 250th of one in memory. Where the system refuses such pages, all
+ * 100 MB of the table, as much address space as two tables, and in memory 2 MB or a 250th of one. Where the system refuses such pages, all
  * memory comes from malloc, and an index takes all of it at once.
  *
  * Each handle has memory for the pairs of its scans, too, which the next scan uses again. After a scan it goes if the keys have more than
