@@ -26,8 +26,8 @@
  * huge pages. */
 enum { PAGE = 4096, HUGE_PAGE = 2 << 20, LEAST_BLOCK = 64 << 10, LEAST_TABLE = 1 << 20, LEAST_HUGE_TABLE = 64 << 20 };
 
-/* A chunk has at least so many bytes, and a table so many chunks at most. */
-enum { LEAST_CHUNK = 1 << 20, MOST_CHUNKS = 2048 };
+/* A chunk has at least so many bytes, and stands at most so often in a block: the system limits how many pieces of memory a process maps. */
+enum { LEAST_CHUNK = 1 << 20, MOST_CHUNKS = 512 };
 
 /* Advice of Linux 5.14 and later: pages are there before they are read one by one. Else each is found when it is touched. */
 #ifndef MADV_POPULATE_READ
@@ -42,7 +42,8 @@ enum { IN_PAGES = 56, LEAST_OF_MALLOC = 16 };
 typedef struct pages {
     char *begin; /* of all that was mapped, with what comes before and behind these pages */
     size_t length;
-    size_t size; /* of these pages, in bytes */
+    size_t size;  /* of these pages, in bytes */
+    size_t bytes; /* that the block was asked for */
 } pages;
 
 /* What this thread makes. */
@@ -80,6 +81,7 @@ static pages *map_pages(size_t bytes, size_t step) {
     made->begin = begin;
     made->length = length;
     made->size = size;
+    made->bytes = bytes;
     return made;
 }
 
@@ -152,8 +154,8 @@ static pages *map_table(size_t bytes) {
     return made;
 }
 
-/* Gives a table its pages, which then hold what it holds: those of what was filled, or fresh ones. Returns whether they were moved. Where the
- * system refuses that, which may have taken the table's own pages away, what was filled is copied. */
+/* Gives a table its pages, which then hold what it holds: those of what was filled, which is as large, or fresh ones. Returns whether they were
+ * moved. Where the system refuses that, which may have taken the table's own pages away, what was filled is copied. */
 static int move_pages(pages *table, char *from, size_t rest) {
     char *to = (char *)table + PAGE;
     if (making.is_filled && mremap(from, rest, rest, MREMAP_MAYMOVE | MREMAP_FIXED, to) != MAP_FAILED)
@@ -289,10 +291,11 @@ int heap_pause(void **words) {
     return heap_end();
 }
 
-void heap_go_on(size_t table, void *words) {
-    heap_begin(words == NULL ? 0 : table);
-    making.zeros = words;
+void heap_go_on(void *words) {
+    pages *filled = words;
+    heap_begin(filled == NULL ? 0 : filled->bytes);
+    making.zeros = filled;
     making.is_filled = 1;
-    if (words != NULL)
-        madvise((char *)words + PAGE, making.zeros->size - PAGE, MADV_POPULATE_READ);
+    if (filled != NULL)
+        madvise((char *)filled + PAGE, filled->size - PAGE, MADV_POPULATE_READ);
 }

@@ -15,7 +15,7 @@ int heap_end(void);
  * at their beginning, and between heap_go_on and heap_end the table is made of the filled ones. heap_pause writes what heap_go_on takes, and
  * returns whether the words may be filled: if not, memory was refused. In between this thread may make other things. */
 int heap_pause(void **words);
-void heap_go_on(size_t table, void *words);
+void heap_go_on(void *words);
 
 /* Between these two calls blocks of this thread come from a room, as far as they fit, and each of them is freed. The room begins at a
  * multiple of 16, and its size is one. */

@@ -726,15 +726,13 @@ static hot_status begin_load(const hot_stock *stock, size_t handles, loading *lo
 }
 
 /* Makes an index of what a load has taken, and opens its keeper. */
-static hot_status end_load(const hot_stock *stock, loading *load, void *words, hot_index *index) {
-    size_t bytes = 0;
-    proved_stock_bytes(stock, index->count, &bytes);
-    heap_go_on(bytes, words);
+static hot_status end_load(loading *load, void *words, hot_index *index) {
+    heap_go_on(words);
     return end_making(proved_end_load(load, &index->keeper), &index->keeper, 1);
 }
 
-/* Gives an index its keeper, and the pairs, which its first handle counts; and writes why the next one was refused, or HOT_DONE. HOT_DONE, or
- * HOT_NO_MEMORY. */
+/* Gives an index its keeper, and the pairs, which its first handle counts; and writes why the next one was refused, or HOT_DONE. The stock is
+ * read before `next` is called, which may change it. HOT_DONE, or HOT_NO_MEMORY. */
 static hot_status fill_index(const hot_stock *stock, hot_source *next, void *context, hot_index *index, hot_status *refused) {
     loading load = {0, {NULL}};
     void *words;
@@ -748,7 +746,7 @@ static hot_status fill_index(const hot_stock *stock, hot_source *next, void *con
         return HOT_NO_MEMORY;
     }
     index->places[0].keys = count;
-    return end_load(stock, &load, words, index);
+    return end_load(&load, words, index);
 }
 
 hot_status hot_load(const hot_stock *stock, size_t handles, hot_source *next, void *context, hot_index **index, size_t *count) {
@@ -773,18 +771,20 @@ hot_status hot_load(const hot_stock *stock, size_t handles, hot_source *next, vo
 /* Pairs that lie packed. */
 typedef struct packed {
     const uint8_t *bytes;
-    const hot_head *heads, *end;
+    const hot_head *heads;
+    size_t count;
 } packed;
 
 static int next_packed(void *context, const uint8_t **key, size_t *length, uint64_t *value) {
     packed *left = context;
-    if (left->heads == left->end)
+    if (left->count == 0)
         return 0;
     *key = left->bytes;
     *length = left->heads->length;
     *value = left->heads->value;
     left->bytes += left->heads->length;
     ++left->heads;
+    --left->count;
     return 1;
 }
 
@@ -793,7 +793,7 @@ hot_status hot_load_packed(const hot_stock *stock, size_t handles, const uint8_t
     packed all;
     all.bytes = bytes;
     all.heads = heads;
-    all.end = heads + count;
+    all.count = count;
     return hot_load(stock, handles, next_packed, &all, index, loaded);
 }
 

@@ -25,8 +25,8 @@
  * Keys in calls. A key, a prefix or an end of a range that has more than HOT_MAX_KEY bytes is refused as HOT_KEY_TOO_LONG by each call.
  * The value that a key had is written to `had` if the call says so, and else `had` stays as it is; it may be NULL, if it is not wanted.
  *
- * What the library relies on, and doesn't check. No pointer is NULL but `had`, not even a key's if its length is 0; each points to what
- * its type says, and what a call writes overlaps no other argument. A handle is zeroed before it is opened, and the program never copies,
+ * What the library relies on, and doesn't check. No pointer is NULL but `had` and `context`, not even a key's if its length is 0; each points
+ * to what its type says, and what a call writes overlaps no other argument. A handle is zeroed before it is opened, and the program never copies,
  * moves or writes its bytes. malloc, realloc and free belong to one allocator, and 16 bytes or more begin at a multiple of 16. No call is
  * made from a signal handler, or after a fork in the child of a process with threads. A call has 48 KiB of stack.
  *
@@ -41,7 +41,7 @@
  * some 40 KB. A page that was written stays when keys go. Tables of 64 MB and more ask for huge pages, of 2 MiB, where the system lets
  * them. If memory runs out when a page is first written, the system ends the program. So take a stock whose hot_stock_bytes the machine has
  * to spare; or call mlockall once the index is made, which takes all of it at once. Making an index takes a processor some 0.1 s for each
- * 100 MB of the table, as much address space as two tables, and a thousandth of one in memory. Where the system refuses such pages, all
+ * 100 MB of the table, as much address space as two tables, and in memory 2 MB or a 250th of one. Where the system refuses such pages, all
  * memory comes from malloc, and an index takes all of it at once.
  *
  * Each handle has memory for the pairs of its scans, too, which the next scan uses again. After a scan it goes if the keys have more than
@@ -81,8 +81,8 @@ extern const uint8_t hot_last_key[HOT_MAX_KEY];
 
 /* How a call came out. Each call says which of these it returns. From HOT_BUSY to HOT_NO_MEMORY, and from HOT_HELD_BACK on, the call
  * was refused and changed nothing; with any other status it was made. hot_copy, hot_clear, hot_clear_range, hot_each and hot_get_packed
- * return the status of the first of their calls that was refused: what those before it did stays. So a load keeps the pairs before one
- * that was refused. */
+ * return the status of the first of their calls that was refused: what those before it did stays. A load keeps the pairs before one that
+ * was refused; where memory is refused, it makes no index. */
 typedef uint32_t hot_status;
 enum {
     HOT_DONE = 0,          /* it was made; there is nothing else to tell */
@@ -189,15 +189,16 @@ hot_status hot_stock_bytes(const hot_stock *stock, size_t handles, size_t *bytes
 hot_status hot_open_index(const hot_stock *stock, size_t handles, hot_index **index);
 
 /* What a load takes its pairs from: a call writes the next one, whose key is there until the function is called again or the load returns.
- * It answers 0 if there is none. */
+ * It returns 0 if there is none. It does return: neither longjmp nor an exception leads out of it. */
 typedef int hot_source(void *context, const uint8_t **key, size_t *length, uint64_t *value);
 
-/* Makes an index as hot_open_index does, of the pairs that `next` gives it, with the `context`, until it answers 0; and writes how many there
+/* Makes an index as hot_open_index does, of the pairs that `next` gives it, with the `context`, until it returns 0; and writes how many there
  * are to `count`. Each key is above the one before it. The index is as if a handle had put them in one after another by hot_insert, before
- * any other call; but that takes several times as long. Where a pair is refused, the load ends: the index has those before it, and `count` is
- * the number of the refused one, from 0 on. A load takes no more memory than hot_open_index and the pairs do. It leaves node records for what
- * it has to end: so it may be HOT_FULL_NODES where insertions go on, but never while the stock has a node for each pair. `next` may make
- * calls with other indexes. hot_load_packed takes pairs that lie in memory.
+ * any other call. Where a pair is refused, the load ends: the index has those before it, and `count` is the number of the refused one, from 0
+ * on. A load takes no more memory than hot_open_index and the pairs do, but page tables of a 500th of the table. Below 1 MiB, and where the
+ * system refuses pages, it takes two tables for a moment. It leaves node records for what it has to end: so it may be HOT_FULL_NODES where
+ * insertions go on, but never while the stock has a node for each pair. `next` may make calls with other indexes. hot_load_packed takes pairs
+ * that lie in memory.
  * HOT_DONE; or HOT_NOT_RISING, HOT_KEY_TOO_LONG, HOT_FULL_NODES, HOT_FULL_LEAVES, if a pair was refused; or HOT_OUT_OF_RANGE, HOT_NO_MEMORY,
  * HOT_OLD_PROCESSOR, and then nothing is written. */
 hot_status hot_load(const hot_stock *stock, size_t handles, hot_source *next, void *context, hot_index **index, size_t *count);
@@ -418,7 +419,7 @@ hot_status hot_scan_packed_reverse(hot_handle *handle, const uint8_t *from, size
                                    uint8_t *bytes, size_t room, hot_head *heads, size_t limit, size_t *count, uint32_t *more);
 
 /* hot_load of `count` pairs that lie packed, as hot_scan_packed writes them: the keys one after another in `bytes`, and their heads. Writes
- * how many went in to `loaded`. It answers what hot_load does. */
+ * how many went in to `loaded`. Where there are none, `bytes` and `heads` may be NULL. It returns what hot_load does. */
 hot_status hot_load_packed(const hot_stock *stock, size_t handles, const uint8_t *bytes, const hot_head *heads, size_t count, hot_index **index,
                            size_t *loaded);
 

@@ -75,6 +75,12 @@ static void test_loaded(void) {
     close_all(&handles[2], index);
 }
 
+static int next_of_none(void *context, const uint8_t **key, size_t *length, uint64_t *value) {
+    (void)key, (void)length, (void)value;
+    CHECK(context == NULL);
+    return 0;
+}
+
 static void test_none(void) {
     texts none = {NULL, 0, 0};
     hot_handle handle = HOT_HANDLE;
@@ -84,6 +90,10 @@ static void test_none(void) {
     CHECK(hot_open(index, &handle) == HOT_DONE && hot_len(&handle, &count) == HOT_DONE && count == 0);
     CHECK(hot_insert(&handle, bytes("a"), 1, 9, NULL) == HOT_INSERTED);
     close_all(&handle, index);
+    count = 99;
+    CHECK(hot_load(&stock, 1, next_of_none, NULL, &index, &count) == HOT_DONE && count == 0 && hot_close_index(index) == HOT_DONE);
+    count = 99;
+    CHECK(hot_load_packed(&stock, 1, NULL, NULL, 0, &index, &count) == HOT_DONE && count == 0 && hot_close_index(index) == HOT_DONE);
 }
 
 /* A load of keys from a stock ends at a pair: with this status, and what came before is there. */
@@ -137,8 +147,8 @@ static void test_long(void) {
     close_all(&handle, index);
 }
 
-/* Too few nodes: what went in is there, and can be taken out. */
-static void test_few_nodes(void) {
+/* Too few nodes: what went in is there, and can be taken out, with room for so many handles. */
+static void test_few_nodes(size_t handles) {
     static const hot_stock few = {3, 1000, 0, 0, 0, 0};
     numbers all = {{0}, 0, 1000};
     hot_handle handle = HOT_HANDLE;
@@ -146,7 +156,7 @@ static void test_few_nodes(void) {
     uint8_t key[8];
     uint64_t value, number;
     size_t count = 99, left;
-    CHECK(hot_load(&few, 1, next_number, &all, &index, &count) == HOT_FULL_NODES && count >= 2 && count < 1000 && all.next == count + 1);
+    CHECK(hot_load(&few, handles, next_number, &all, &index, &count) == HOT_FULL_NODES && count >= 2 && count < 1000 && all.next == count + 1);
     CHECK(hot_open(index, &handle) == HOT_DONE);
     for (number = 0; number < count; number++)
         CHECK(hot_get(&handle, spell(number, key), 8, &value) == HOT_FOUND && value == 10 * number);
@@ -154,6 +164,38 @@ static void test_few_nodes(void) {
         CHECK(hot_remove(&handle, spell(number, key), 8, &value) == HOT_REMOVED && value == 10 * number);
     CHECK(hot_len(&handle, &left) == HOT_DONE && left == 0);
     close_all(&handle, index);
+}
+
+/* Numbers to load, and the stock that the load was given, which each call overwrites. */
+typedef struct over_stock {
+    numbers all;
+    hot_stock stock;
+} over_stock;
+
+static int next_over_stock(void *context, const uint8_t **key, size_t *length, uint64_t *value) {
+    over_stock *it = context;
+    memset(&it->stock, (int)it->all.next, sizeof it->stock);
+    return next_number(&it->all, key, length, value);
+}
+
+/* A load has read its stock before it asks for pairs: also one whose table has pages of its own. */
+static void test_stock_changed(void) {
+    static const uint32_t room[2] = {100, 100000};
+    static over_stock from;
+    int place;
+    for (place = 0; place < 2; place++) {
+        hot_handle handle = HOT_HANDLE;
+        hot_index *index = NULL;
+        uint8_t key[8];
+        uint64_t value = 0;
+        size_t count = 99;
+        from.all.next = 0;
+        from.all.end = 50;
+        hot_stock_for_keys(room[place], 8, &from.stock);
+        CHECK(hot_load(&from.stock, 2, next_over_stock, &from, &index, &count) == HOT_DONE && count == 50);
+        CHECK(hot_open(index, &handle) == HOT_DONE && hot_get(&handle, spell(49, key), 8, &value) == HOT_FOUND && value == 490);
+        close_all(&handle, index);
+    }
 }
 
 /* What scans write packed goes into another index as it is. Where it is cut, the load is. */
@@ -189,6 +231,7 @@ typedef struct copying {
     hot_pair pair;
     uint8_t from[HOT_MAX_KEY];
     size_t length;
+    int has_ended;
 } copying;
 
 static int next_copied(void *context, const uint8_t **key, size_t *length, uint64_t *value) {
@@ -197,12 +240,13 @@ static int next_copied(void *context, const uint8_t **key, size_t *length, uint6
     hot_index *index;
     size_t count;
     CHECK(hot_load(&stock, 1, next_text, &none, &index, &count) == HOT_DONE && hot_close_index(index) == HOT_DONE);
-    if (hot_first(&all->handle, all->from, all->length, &all->pair) != HOT_FOUND)
+    if (all->has_ended || hot_first(&all->handle, all->from, all->length, &all->pair) != HOT_FOUND)
         return 0;
     *key = all->pair.key;
     *length = all->pair.length;
     *value = all->pair.value;
-    return hot_after(*key, *length, all->from, &all->length) == HOT_DONE;
+    all->has_ended = hot_after(*key, *length, all->from, &all->length) == HOT_ABSENT;
+    return 1;
 }
 
 static void test_nested(void) {
@@ -216,8 +260,11 @@ static void test_nested(void) {
     uint64_t value = 0;
     size_t count;
     hot_stock_for_keys(100000, 8, &large);
+    large.long_leaves = 1;
     CHECK(hot_load(&large, 1, next_number, &all, &index, &count) == HOT_DONE && hot_open(index, &from.handle) == HOT_DONE);
-    CHECK(hot_load(&large, 1, next_copied, &from, &copy, &count) == HOT_DONE && count == MANY && hot_open(copy, &handle) == HOT_DONE);
+    CHECK(hot_insert(&from.handle, HOT_TO_END, 7, NULL) == HOT_INSERTED);
+    CHECK(hot_load(&large, 1, next_copied, &from, &copy, &count) == HOT_DONE && count == MANY + 1 && hot_open(copy, &handle) == HOT_DONE);
+    CHECK(hot_get(&handle, HOT_TO_END, &value) == HOT_FOUND && value == 7);
     CHECK(hot_get(&handle, spell(MANY - 1, key), 8, &value) == HOT_FOUND && value == 10 * (MANY - 1));
     close_all(&from.handle, index);
     close_all(&handle, copy);
@@ -228,7 +275,9 @@ int main(void) {
     test_none();
     test_refused();
     test_long();
-    test_few_nodes();
+    test_few_nodes(1);
+    test_few_nodes(2);
+    test_stock_changed();
     test_packed();
     test_nested();
     puts(failures ? "c/loads.c failed" : "passed: c/loads.c");

@@ -105,21 +105,12 @@ PyObject *map_load(PyObject *self, PyObject *pairs) {
     return usable(it) ? load_pairs(it, pairs) : NULL;
 }
 
-/* Whether it is a map, of a subclass too: -1 with an exception. */
-static int is_map(PyObject *it) {
-    PyObject *module = PyImport_ImportModule("hot._hot");
-    PyObject *type = module ? PyObject_GetAttrString(module, "Map") : NULL;
-    int status = type ? PyObject_IsInstance(it, type) : -1;
-    Py_XDECREF(module);
-    Py_XDECREF(type);
-    return status;
-}
-
 PyObject *map_load_map(PyObject *self, PyObject *other) {
-    int status = is_map(other);
-    if (status == 0)
+    if (!is_map(other)) {
         PyErr_SetString(PyExc_TypeError, "it is no map");
-    store *in = usable((map *)self), *from = status == 1 && in ? usable((map *)other) : NULL;
+        return NULL;
+    }
+    store *in = usable((map *)self), *from = in ? usable((map *)other) : NULL;
     if (!from)
         return NULL;
     hot_status copied = store_copy(in, from);

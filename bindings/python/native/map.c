@@ -254,6 +254,16 @@ static void map_dealloc(PyObject *self) {
     Py_DECREF(type);
 }
 
+int is_map(PyObject *it) {
+    PyTypeObject *type = Py_TYPE(it);
+    while (type && PyType_GetFlags(type) & Py_TPFLAGS_HEAPTYPE) {
+        if (PyType_GetSlot(type, Py_tp_dealloc) == SLOT(map_dealloc))
+            return 1;
+        type = PyType_GetSlot(type, Py_tp_base);
+    }
+    return 0;
+}
+
 static PyMethodDef methods[] = {
     {"get", METHOD(map_get), METH_VARARGS | METH_KEYWORDS, "get($self, key, default=None)\n--\n\nThe key's value, or the default."},
     {"setdefault", METHOD(map_setdefault), METH_VARARGS | METH_KEYWORDS,

@@ -70,6 +70,10 @@ extern PyType_Spec map_spec;
 /* The map's store: NULL with an exception if it can't be used. */
 store *usable(map *it);
 
+/* Whether an object is a map, of a subclass too, and may be taken for one. It asks types alone: `__class__` and a module's names say what Python
+ * code lets them say. */
+int is_map(PyObject *it);
+
 /* After a fork, in the child of a process with threads: the maps that there are can't be used. */
 void map_forked(void);
 

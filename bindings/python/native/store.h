@@ -82,7 +82,7 @@ hot_status store_clear(store *it);
  * HOT_FULL_LEAVES or HOT_KEY_TOO_LONG, for a pair whose number it writes, and then it holds what it held. */
 hot_status store_load(store *it, const sorted_pairs *pairs, size_t *number);
 
-/* Has the store hold the pairs of another, and no others. It answers what store_load does, but is never HOT_NOT_RISING. */
+/* Has the store hold the pairs of another, and no others. It returns what store_load does, but is never HOT_NOT_RISING. */
 hot_status store_copy(store *it, store *from);
 
 /* Without a turn: makes a call with a handle that no other thread has, and waits for one if it must. */

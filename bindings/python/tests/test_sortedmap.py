@@ -7,6 +7,7 @@ import random
 import subprocess
 import sys
 import unittest
+import weakref
 from pathlib import Path
 
 from hot import Codec, FullError, SortedMap
@@ -318,6 +319,42 @@ class Whole(unittest.TestCase):
         many = SortedMap(((at, at) for at in range(3000)), keys=int)
         with self.assertRaises(FullError):
             SortedMap(many, keys=int, grow=False)
+
+    def test_loads_no_pretender(self) -> None:
+        class Pretender:
+            """What says that it is a map, and has bytes where a map has its store."""
+
+            __slots__ = ("first", "second")
+            __class__ = SortedMap  # type: ignore[assignment]
+            _options = {"keys": str}
+
+            def items(self) -> list[tuple[str, int]]:
+                return [("a", 1)]
+
+            def keys(self) -> list[str]:
+                return ["a"]
+
+            def __getitem__(self, key: str) -> int:
+                return 1
+
+        m, pretender = SortedMap({"a": 1}), Pretender()
+        pretender.first = pretender.second = bytes(4000)
+        for data in weakref.proxy(m), pretender:
+            self.assertIsInstance(data, SortedMap)
+            self.assertEqual([*SortedMap(data).items()], [("a", 1)])
+            self.assertEqual([*SortedMap(data, sorted=True).items()], [("a", 1)])
+            with self.assertRaises(TypeError):
+                m._load_map(data)
+        self.assertFalse(any(pretender.first))
+        for other in 1, Pretender, SortedMap, type(iter(m)):
+            with self.assertRaises(TypeError):
+                m._load_map(other)  # type: ignore[arg-type]
+
+        class Own(SortedMap[str]):
+            pass
+
+        self.assertEqual([*SortedMap(Own(m)).items()], [("a", 1)])
+        self.assertEqual([*m.items()], [("a", 1)])
 
     def test_repr(self):
         self.assertEqual(

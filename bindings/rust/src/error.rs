@@ -80,7 +80,7 @@ impl error::Error for Error {}
 pub struct LoadError {
     /// Why a pair was refused, or the whole load.
     pub error: Error,
-    /// How many pairs came before the one that was refused.
+    /// How many pairs came before the one that was refused; 0 if the whole load was, as for [`Error::NoMemory`].
     pub count: usize,
 }
 
@@ -92,7 +92,12 @@ impl From<Error> for LoadError {
 
 impl fmt::Display for LoadError {
     fn fmt(&self, to: &mut fmt::Formatter<'_>) -> fmt::Result {
-        write!(to, "{}, after {} pairs", self.error, self.count)
+        match self.error {
+            Error::NotRising | Error::KeyTooLong | Error::FullNodes | Error::FullLeaves => {
+                write!(to, "{}, after {} pairs", self.error, self.count)
+            }
+            _ => self.error.fmt(to),
+        }
     }
 }
 

@@ -153,9 +153,8 @@ impl Hot {
         Ok(Hot { index })
     }
 
-    /// Makes an index of these pairs, whose keys rise, with these records and room for 1 to 1,024 handles at a time. That takes a fraction of the
-    /// time of insertions. Where a pair is refused no index is made: [`Error::NotRising`] if its key is not above the one before, or what a
-    /// change returns.
+    /// Makes an index of these pairs, whose keys rise, with these records and room for 1 to 1,024 handles at a time. Where a pair is refused no
+    /// index is made: [`Error::NotRising`] if its key is not above the one before, or what a change returns.
     ///
     /// ```
     /// use hot::{Error, Hot, LoadError, Stock};

@@ -55,6 +55,7 @@ fn a_refused_pair_has_its_number() {
         refused(Error::NotRising, 1).unwrap().to_string(),
         "the key is not above the one before, after 1 pairs"
     );
+    assert_eq!(refused(Error::NoMemory, 0).unwrap().to_string(), "out of memory");
 }
 
 #[test]

@@ -81,8 +81,10 @@ class SortedMap(Map[K], MutableMapping[K, int], Generic[K]):
         kind: Union[type, Codec] = keys if isinstance(keys, type) else Codec(*keys)
         super().__init__(kind, capacity, longest, threads, grow)
         self._options: dict[str, Any] = {"keys": keys, "threads": threads, "grow": grow}
-        if isinstance(data, SortedMap) and data._options["keys"] == keys:
-            self._copy_of(data)
+        given: Any = data
+        # isinstance believes what an object says of its class.
+        if issubclass(type(given), SortedMap) and given._options["keys"] == keys:
+            self._copy_of(given)
         elif sorted:
             self._load(data.items() if isinstance(data, Mapping) else data)
         else:
