@@ -104,6 +104,7 @@ module _ (table : TableView) (words : List ℕ) (load : IsLoad table.layout word
         words = words;
         load = load;
         seat = is;
+        out = (n, low, out);
         spare = spare s is n low out;
       }
 

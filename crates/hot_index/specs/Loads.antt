@@ -13,10 +13,12 @@ use Rattle.record_words.specs.Layout.{leaf_size}
 use Rattle.record_words.specs.Leaf.{words_for}
 use Rattle.tries.specs.Content.{Item, item}
 use Rattle.tries.specs.Keys.{Key}
+use Rattle.versions.specs.declared.Rec.TheVariants.{Node as a_node}
+use Rattle.versions.specs.State.{IsLinked}
 use Rattle.versions.specs.Told.{added_notes}
 use Rattle.key_counts.specs.Counts.{IsCountOf}
 use Rattle.key_counts.specs.declared.KeyCount.{KeyCount}
-use Rattle.rowex_core.specs.Events.{IsLoad}
+use Rattle.rowex_core.specs.Events.{IsLoad, loaded_tree}
 use Rattle.rowex_table.specs.Seats.{IsLoaderSeat, TableView}
 use Rattle.lone_runs.specs.Lone.{HasSpare}
 use Rattle.hot_index_calls.specs.Passes.{IsNewPass, PassView}
@@ -43,7 +45,8 @@ pairs_noted place [] = []
 pairs_noted place (x ∷ xs) = record { place = place; call = Insert x.0 x.1; reply = Inserted } ∷ pairs_noted (suc place) xs
 
 -- Pass 0 of an index that was made of these pairs: it has inserted each of them, in their order, and has seen nothing else. Its calls are legal,
--- and the map has just these pairs. Its seat is that of a load, its one step. As in a new index, one node record stands in no tree.
+-- and the map has just these pairs. Its seat is that of a load, its one step. Some node record is left out of the tree that was loaded: so where
+-- there is one pass, one is spare, as in a new index.
 pub record IsLoaderPass (index : TableView) (xs : List (Key × ℕ)) (p : PassView) : Type 0 where
   pub number : p.number ≡ 0
   pub front : p.front ≡ map inserted_pair xs
@@ -53,6 +56,7 @@ pub record IsLoaderPass (index : TableView) (xs : List (Key × ℕ)) (p : PassVi
   pub words : List ℕ
   pub load : IsLoad index.layout words
   pub seat : IsLoaderSeat index words p.seat
+  pub out : (n : ℕ) × (n < index.layout.nodes) × ¬ IsLinked (loaded_tree index.layout words) (a_node n)
   pub spare : HasSpare index.layout p.seat
 
 -- the pass of this number of such an index: all but pass 0 are new

@@ -1,0 +1,9 @@
+-- No pair is counted.
+use Rattle.std.proofs.Common.{◌≡◌, refl, sym, subst}
+use Rattle.bulk_load.specs.Views.{LoadView}
+use Rattle.hot_index.specs.Loads.{CountsItems}
+use Rattle.hot_index.proofs.loading.Load.begin.Goals as goal
+
+pub invariant_of-result : goal.invariant_of-result
+invariant_of-result c =
+    subst (λ (v : LoadView). (c.args.layout ≡ v.layout) × CountsItems v.items c.new-count.result) (sym c.in_ok-loader.ensures) (refl, c.new-count.ensures)
