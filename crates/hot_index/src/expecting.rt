@@ -92,7 +92,8 @@ impl Index {
     /// Removes `key` if it has the value `expected` (`Removed` with that value). Else it changes nothing, and returns `Differs` with the
     /// key's value, or `Absent`.
     ///
-    /// It never blocks, makes no more steps than `try_insert` may, and is refused for the same reasons as `try_remove`.
+    /// It never blocks, makes no more steps than `try_insert` may, and is refused for the same reasons as `try_remove`. It returns `FullNodes`
+    /// only if its search found the key with the value `expected`.
     pub fn try_remove_if(
         &self,
         pass: &mut Pass,

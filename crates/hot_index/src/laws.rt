@@ -27,7 +27,7 @@ pub fn held_is_never_full()
     ensures { HeldIsNeverFull }
 {}
 
-/// A removal is never refused as full if the key was absent all the while. `remove_if` is so refused only if it found the value that it expects.
+/// A removal is never refused as full if the key was absent all the while: in each version that its pass has seen since the call began.
 pub fn absent_is_never_full()
     ensures { AbsentIsNeverFull }
 {}

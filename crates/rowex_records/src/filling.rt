@@ -10,7 +10,7 @@ ghost use Rattle.record_words.specs.declared.TheConstants.{FIRST_POSITIONS, FIRS
 ghost use Rattle.rowex_core.specs.Cores.{FitsIn, HasRecord, HasWord};
 ghost use Rattle.rowex_core.specs.Events.{IsOffset};
 ghost use Rattle.rowex_table.specs.Rights.{IsClaimed};
-ghost use Rattle.rowex_table.specs.Rule.{IsStartOf};
+ghost use Rattle.rowex_table.specs.Rule.{IsNodeAt, IsStartOf};
 ghost use Rattle.rowex_table.specs.Runs.{Steps};
 ghost use Rattle.rowex_table.specs.Seats.{IsSeatOf};
 ghost use Rattle.rowex_records.specs.Records.{HaveBelow, IsBehindValue, IsFilled, IsFilledLeaf, IsLookedAt, Readies, Sets, SetsAll, SetsMore, SetsSome, load_of_word, unused_word};
@@ -22,7 +22,7 @@ use record_words::{
     read_numbers,
 };
 use rowex_core::{Gate, Rec};
-use rowex_table::{HotTable, NodeAt, RecordAt, TableSeat};
+use rowex_table::{HotTable, RecordAt, TableSeat};
 use std::ops::Range;
 
 /// Fills the claimed leaf record `number`, which has room for `key`, with `value` and with the words of `key` up to its end.
@@ -80,15 +80,8 @@ pub fn fill_node<G: Gate>(
     let start = table.start_of(rec);
     let (columns, rows) = used_ends(words);
     let leads = read_numbers(words[0]).entries_end();
-    store_word(
-        table,
-        seat,
-        gate,
-        RecordAt { rec, start },
-        NUMBERS_OFFSET,
-        words[0],
-    );
-    let node = NodeAt { number, start };
+    let node = RecordAt { rec, start };
+    store_word(table, seat, gate, node, NUMBERS_OFFSET, words[0]);
     set_eight_words(table, seat, gate, node, words, FIRST_POSITIONS..columns);
     set_eight_words(table, seat, gate, node, words, FIRST_ROWS..rows);
     set_eight_words(table, seat, gate, node, words, FIRST_ROWS + 8..rows);
@@ -126,30 +119,22 @@ fn set_eight_words<G: Gate>(
     table: &HotTable,
     seat: &mut TableSeat,
     gate: &mut G,
-    node: NodeAt,
+    node: RecordAt,
     words: &[u64; NODE_FIELDS],
     used: Range<usize>,
 )
     requires own { IsSeatOf table.now seat.old }
-    requires start { IsStartOf table.now.layout (a_node node.number) node.start }
-    requires held { IsClaimed seat.old.known (a_node node.number) }
+    requires node { IsNodeAt table.now.layout node }
+    requires held { IsClaimed seat.old.known node.rec }
     requires range { used.start + 8 ≤ NODE_FIELDS }
     requires have { HaveBelow words.now used.start used.end }
-    ensures { SetsMore table.now G.becomes (a_node node.number) words.now used.start 8 (seat.old, gate.old) (seat.new, gate.new) }
+    ensures { SetsMore table.now G.becomes node.rec words.now used.start 8 (seat.old, gate.old) (seat.new, gate.new) }
 {
-    let (rec, start) = (Rec::Node(node.number), node.start);
-    let at = RecordAt { rec, start };
     if used.start + 8 <= used.end {
         for place in 0..8 {
             let index = used.start + place;
-            store_word(
-                table,
-                seat,
-                gate,
-                at,
-                index as u8 + FIELDS_OFFSET,
-                words[index],
-            );
+            let offset = index as u8 + FIELDS_OFFSET;
+            store_word(table, seat, gate, node, offset, words[index]);
         }
         return;
     }
@@ -157,9 +142,9 @@ fn set_eight_words<G: Gate>(
         let index = used.start + place;
         let offset = index as u8 + FIELDS_OFFSET;
         if index < used.end {
-            store_word(table, seat, gate, at, offset, words[index]);
+            store_word(table, seat, gate, node, offset, words[index]);
         } else {
-            store_word_if_changed(table, seat, gate, at, offset, unused_node_word(offset));
+            store_word_if_changed(table, seat, gate, node, offset, unused_node_word(offset));
         }
     }
 }
@@ -223,11 +208,11 @@ fn load_word<G: Gate>(
     ensures { Steps table.now G.becomes (load_of_word at.rec offset result) (seat.old, gate.old) (seat.new, gate.new) }
 {
     match at.rec {
-        Rec::Node(number) if offset as usize >= FIRST_ENTRY => {
-            let entry = offset - FIRST_ENTRY as u8;
-            table.load_slot_at(seat, gate, number, at.start, entry)
+        Rec::Node(_) if offset as usize >= FIRST_ENTRY => {
+            let slot = offset - FIRST_ENTRY as u8;
+            table.load_slot_at(seat, gate, at, slot)
         }
-        _ => table.load_fixed_at(seat, gate, at.rec, at.start, offset),
+        _ => table.load_fixed_at(seat, gate, at, offset),
     }
 }
 

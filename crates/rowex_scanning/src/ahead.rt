@@ -15,7 +15,7 @@ use insert_cases::PathNode;
 use record_words::{LENGTH_OFFSET, Origins};
 use rowex_core::{Gate, Rec};
 use rowex_reading::load_entry;
-use rowex_table::{HotTable, NodeAt, TableSeat};
+use rowex_table::{HotTable, RecordAt, TableSeat};
 
 /// How many slots of a node a walk looks at together, at most.
 pub(crate) const MOST_AHEAD: u8 = 16;
@@ -82,10 +82,7 @@ pub(crate) fn load_entries_ahead<G: Gate, S: Tallies>(
         scan.range.limit,
         sink.size(),
     ));
-    let node = NodeAt {
-        number: top.number,
-        start: scan.origins.start_of_node(top.number),
-    };
+    let node = RecordAt::find(scan.origins, Rec::Node(top.number));
     let is_touching = sink.should_touch_leaves(count);
     for index in 0..count {
         let place = slot_ahead(scan.range.direction, *top, index);
@@ -122,8 +119,8 @@ fn touch_leaf<G: Gate>(
     requires led { (m : ℕ) × IsLedTo seat.old.known m (LeafEntry number) }
     ensures reads { Reads table.now G.becomes 0 1 (seat.old, gate.old) (seat.new, gate.new) }
 {
-    let (rec, start) = (Rec::Leaf(number), origins.start_of_leaf(number));
+    let leaf = RecordAt::find(origins, Rec::Leaf(number));
     let last = origins.layout.leaf_size(number) - 1;
-    table.touch(rec, start, last as u8);
-    table.load_fixed_at(seat, gate, rec, start, LENGTH_OFFSET);
+    table.touch(leaf, last as u8);
+    table.load_fixed_at(seat, gate, leaf, LENGTH_OFFSET);
 }

@@ -3,5 +3,5 @@ use Rattle.compound_node.specs.declared.entries.Entry.TheVariants.{Leaf}
 use Rattle.rowex_reading.proofs.Standing.{led_in_table}
 use Rattle.rowex_reading.proofs.reading.load_value.Goals as goal
 
-pub start_of-start-requires : goal.start_of-start-requires
-start_of-start-requires g c = let l = c.requires.led in led_in_table c.args.table.now.layout c.args.seat.now.known l.0 (Leaf c.args.number) c.requires.reader.1 l.1
+pub locate-leaf-requires : goal.locate-leaf-requires
+locate-leaf-requires g c = let l = c.requires.led in led_in_table c.args.table.now.layout c.args.seat.now.known l.0 (Leaf c.args.number) c.requires.reader.1 l.1
