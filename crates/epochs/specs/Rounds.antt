@@ -110,7 +110,8 @@ VisitsAll table becomes bound kind n given a b =
 -- visits of each record, nodes first, which give so many nodes and so many leaves back
 abbrev pub VisitsTable : {G : Type 0} → TableView → (G → Event → G → Type 0) → (bound given_nodes given_leaves : ℕ) → SeatView × G → SeatView × G → Type 0
 VisitsTable {G = G} table becomes bound given_nodes given_leaves a b =
-    (m : SeatView × G) × VisitsAll table becomes bound a_node table.layout.nodes given_nodes a m × VisitsAll table becomes bound a_leaf table.layout.leaves given_leaves m b
+    (m : SeatView × G) × VisitsAll table becomes bound a_node table.layout.nodes given_nodes a m ×
+    VisitsAll table becomes bound a_leaf table.layout.leaves given_leaves m b
 
 -- So many records of a kind were visited, the first ones, and so many of them given back. Then visits go on, until this is so of more.
 abbrev pub GoesOnVisiting : {G : Type 0} → TableView → (G → Event → G → Type 0) → ℕ → (ℕ → Rec) → ℕ × ℕ → ℕ × ℕ → SeatView × G → SeatView × G → Type 0

@@ -47,14 +47,12 @@ pub fn fill_leaf<G: Gate>(
     ensures steps { seat.new.known.steps ≤ seat.old.known.steps + 2 * LEAF_FIELDS }
 {
     let length = key.as_bytes().len() as u64;
-    let rec = Rec::Leaf(number);
-    let start = table.start_of(rec);
-    let at = RecordAt { rec, start };
-    store_word(table, seat, gate, at, VALUE_OFFSET, value);
-    store_word_if_changed(table, seat, gate, at, LENGTH_OFFSET, length);
+    let leaf = table.locate(Rec::Leaf(number));
+    store_word(table, seat, gate, leaf, VALUE_OFFSET, value);
+    store_word_if_changed(table, seat, gate, leaf, LENGTH_OFFSET, length);
     for index in 0..count_key_words(length) {
         let word = key_word_at(key, index);
-        store_word(table, seat, gate, at, index as u8 + KEY_OFFSET, word);
+        store_word(table, seat, gate, leaf, index as u8 + KEY_OFFSET, word);
     }
 }
 
@@ -76,11 +74,9 @@ pub fn fill_node<G: Gate>(
     ensures filled { IsFilled seat.new.known (a_node number) words.now }
     ensures steps { seat.new.known.steps ≤ seat.old.known.steps + 2 * NODE_FIELDS }
 {
-    let rec = Rec::Node(number);
-    let start = table.start_of(rec);
+    let node = table.locate(Rec::Node(number));
     let (columns, rows) = used_ends(words);
     let leads = read_numbers(words[0]).entries_end();
-    let node = RecordAt { rec, start };
     store_word(table, seat, gate, node, NUMBERS_OFFSET, words[0]);
     set_eight_words(table, seat, gate, node, words, FIRST_POSITIONS..columns);
     set_eight_words(table, seat, gate, node, words, FIRST_ROWS..rows);

@@ -11,6 +11,9 @@ use Rattle.rowex_reading.proofs.reading.load_head_words.Goals as goal
 pub locate-node-requires : goal.locate-node-requires
 locate-node-requires g c = let l = c.requires.led in led_in_table c.args.table.now.layout c.args.seat.now.known l.0 (Node c.args.number l.1) c.requires.reader.1 l.2
 
+pub load_head_part-requires-clause-led : goal.load_head_part-requires-clause-led
+load_head_part-requires-clause-led g c = let (m, h, led) = c.requires.led in (m, h, rw (ap number_of c.locate-node.ensures.rec) led)
+
 pub returns-clause-words : goal.returns-clause-words
 returns-clause-words g c = λ m h led.
     let e = c.load_head_part.ensures in let told : length c.args.words.now ≡ HEAD_WORDS = search rules in

@@ -1,11 +1,11 @@
 -- No entry, and one more: it leads to a leaf, which may be touched, or to a node.
-use Rattle.std.proofs.Common.{ℕ, ◌+◌, ◌≤◌, ◌∙◌, ap, arith}
+use Rattle.std.proofs.Common.{ℕ, ◌+◌, ◌≤◌, ◌∙◌, arith}
 use Rattle.std.proofs.lemmas.List.{length-set}
 use Rattle.compound_node.specs.declared.entries.Entry.TheVariants.{Leaf, Node}
-use Rattle.rowex_table.specs.Rule.{number_of}
 use Rattle.rowex_reading.specs.Reads.{Reads}
 use Rattle.rowex_reading.specs.Seen.{HasPlace}
 use Rattle.rowex_reading.proofs.Led.{placed_led, reader_then, reads_later, reads_none, reads_trans}
+use Rattle.rowex_reading.proofs.Naming.{entry_told, node_place}
 use Rattle.rowex_reading.proofs.Seeing.{placed_stable, since_later, sure_later}
 use Rattle.rowex_scanning.specs.Ahead.{HasPlaces}
 use Rattle.version_laws.specs.Directions.{place_ahead}
@@ -30,7 +30,12 @@ loop-index-init g c = record {
 
 pub load_entry-requires-clause-place : goal.load_entry-requires-clause-place
 load_entry-requires-clause-place g c =
-    (c.requires.places.0, c.args.top.now.height, rw ((ap number_of c.find-node.ensures.rec), c.slot_ahead-place.ensures) (has_place g (goal.at.load_entry-requires-clause-place g c).After-slot_ahead-place c.requires.places.0 c.requires.places.1))
+    (
+      c.requires.places.0,
+      c.args.top.now.height,
+      node_place c.args.top.now.number c.find-node.result.rec c.find-node.ensures.rec c.loop-index.seat.known c.requires.places.0 c.args.top.now.height c.slot_ahead-place.result
+          (rw c.slot_ahead-place.ensures (has_place g (goal.at.load_entry-requires-clause-place g c).After-slot_ahead-place c.requires.places.0 c.requires.places.1)),
+    )
 
 pub find-node-requires : goal.find-node-requires
 find-node-requires g c =
@@ -47,7 +52,7 @@ pub returns-in-Node-clause-ahead : goal.returns-in-Node-clause-ahead
 returns-in-Node-clause-ahead g c = λ m has.
     let d = c.args.scan.now.range.now.direction in let top = c.args.top.now in let later = reads_later c.load_entry.ensures.reads in
     let place = has_place g (goal.at.returns-in-Node-clause-ahead g c).After-slot_ahead-place m has in
-    let (lower, placed) = loaded_at d m top c.loop-index.index c.slot_ahead-place.result (Node c.in-Node.number c.in-Node.height) c.slot_ahead-place.ensures place (rw (ap number_of c.find-node.ensures.rec) at c.in-Node.ensures.entry) in
+    let (lower, placed) = loaded_at d m top c.loop-index.index c.slot_ahead-place.result (Node c.in-Node.number c.in-Node.height) c.slot_ahead-place.ensures place (entry_told c.args.top.now.number c.find-node.result.rec c.find-node.ensures.rec c.loop-index.seat.known c.load_entry.new.seat.known c.slot_ahead-place.result (Node c.in-Node.number c.in-Node.height) c.in-Node.ensures.entry) in
     record { first = ahead_later d m top later c.loop-index.index c.loop-index.leaves (c.loop-index.invariant.ahead m has); node = (c.in-Node.height, lower, placed) }
 
 pub touch_leaf-requires-clause-reader : goal.touch_leaf-requires-clause-reader
@@ -57,7 +62,7 @@ pub touch_leaf-requires-clause-led : goal.touch_leaf-requires-clause-led
 touch_leaf-requires-clause-led g c =
     let d = c.args.scan.now.range.now.direction in let top = c.args.top.now in let (m, has) = c.requires.places in
     let place = has_place g (goal.at.touch_leaf-requires-clause-led g c).After-slot_ahead-place m has in
-    let placed = (loaded_at d m top c.loop-index.index c.slot_ahead-place.result (Leaf c.in-Leaf.number) c.slot_ahead-place.ensures place (rw (ap number_of c.find-node.ensures.rec) at c.in-Leaf.ensures.entry)).1 in
+    let placed = (loaded_at d m top c.loop-index.index c.slot_ahead-place.result (Leaf c.in-Leaf.number) c.slot_ahead-place.ensures place (entry_told c.args.top.now.number c.find-node.result.rec c.find-node.ensures.rec c.loop-index.seat.known c.load_entry.new.seat.known c.slot_ahead-place.result (Leaf c.in-Leaf.number) c.in-Leaf.ensures.entry)).1 in
     (m, placed_led top.number (place_ahead d top.at c.loop-index.index) (Leaf c.in-Leaf.number) (since_later (reads_later c.load_entry.ensures.reads) place.0.0) placed)
 
 pub loop-index-preserved : goal.loop-index-preserved
@@ -74,7 +79,7 @@ loop-index-preserved g c =
       long = length-set c.loop-index.leaves c.loop-index.index c.in-Leaf.number ∙ i.long;
       ahead = λ m has.
           let place = has_place g (goal.at.loop-index-preserved g c).After-slot_ahead-place m has in
-          let placed = (loaded_at d m top c.loop-index.index c.slot_ahead-place.result (Leaf c.in-Leaf.number) c.slot_ahead-place.ensures place (rw (ap number_of c.find-node.ensures.rec) at c.in-Leaf.ensures.entry)).1 in
+          let placed = (loaded_at d m top c.loop-index.index c.slot_ahead-place.result (Leaf c.in-Leaf.number) c.slot_ahead-place.ensures place (entry_told c.args.top.now.number c.find-node.result.rec c.find-node.ensures.rec c.loop-index.seat.known c.load_entry.new.seat.known c.slot_ahead-place.result (Leaf c.in-Leaf.number) c.in-Leaf.ensures.entry)).1 in
           ahead_more d m top c.loop-index.index c.loop-index.leaves c.in-Leaf.number (ahead_later d m top (reads_later more) c.loop-index.index c.loop-index.leaves (i.ahead m has)) (omega (arith, i.long, c.loop-index-test.true, c.min-count.ensures, c.most_slots.ensures.most))
           (sure_later (placed_stable m top.number (place_ahead d top.at c.loop-index.index) (Leaf c.in-Leaf.number)) (reads_later touched) placed);
     }
