@@ -198,14 +198,15 @@ static uint64_t upsert(uint64_t *pin, uint64_t key)
     return some;
 }
 
-/* Makes a node's record of another: stores to the words that have something, and looks at the others. */
+/* Makes a node's record of another, of whose head it loads what a search does: stores to the words that have something, and looks at the
+ * others. */
 static uint64_t make_node(uint64_t *made, const uint64_t *old)
 {
     uint64_t some = 0;
     int word;
     store(made, 1);
     for (word = 1; word < NODE; word++) {
-        uint64_t value = load(old + word);
+        uint64_t value = word >= SEARCHED_END && word < HEAD_END ? 0 : load(old + word);
         if (word <= NUMBERS_AND_COLUMNS || (word >= NARROW_ROWS_FROM && word < NARROW_ROWS_FROM + ROWS) || (word >= HEAD_END && word < HEAD_END + ENTRIES)) {
             store(made + word, value);
         } else {

@@ -1,7 +1,10 @@
-/* Tells how many keys there are for each node of an index: once keys of a kind have been inserted, in the order of their numbers,
- * and once a share of them, drawn by chance, has been replaced by keys of the next numbers, some times over. `bench/run nodes` builds
- * and runs it. */
+/* Tells how many keys there are for each node of an index, and how many bytes of nodes for each key: once keys of a kind have been
+ * inserted, in the order of their numbers, and once a share of them, drawn by chance, has been replaced by keys of the next numbers, some
+ * times over. `bench/run nodes` builds and runs it. */
 #include "keys.h"
+
+/* How many bytes a node record has. */
+#define NODE_BYTES 464
 
 /* How many keys there are for each node, once all that was replaced has been given back. */
 static double keys_a_node(hot_handle *handle, uint32_t keys)
@@ -59,8 +62,8 @@ static void measure(int kind, uint64_t *numbers, uint32_t keys, uint32_t of_ten,
         now = keys_a_node(&handle, keys);
         least = now < least ? now : least;
     }
-    printf("%-26s%6.1f keys a node; %u tenths replaced, %d times over: %.1f, at least %.1f\n", kind_names[kind], before,
-           (unsigned)of_ten, times, keys_a_node(&handle, keys), least);
+    printf("%-26s%6.1f keys a node, %5.1f bytes of nodes a key; %u tenths replaced, %d times over: %.1f, at least %.1f\n", kind_names[kind],
+           before, NODE_BYTES / before, (unsigned)of_ten, times, keys_a_node(&handle, keys), least);
     must(hot_destroy(&handle), HOT_DONE);
 }
 

@@ -14,7 +14,7 @@ use Rattle.record_words.specs.declared.layout.Layout.{Layout}
 use Rattle.tries.specs.Keys.{Key}
 use Rattle.versions.specs.declared.Pin.{Pin}
 use Rattle.rowex_core.specs.declared.event.Act.{Act}
-use Rattle.rowex_core.specs.declared.event.Act.TheVariants.{LoadRef}
+use Rattle.rowex_core.specs.declared.event.Act.TheVariants.{Load, LoadRef}
 use Rattle.rowex_core.specs.declared.event.Event.{Event}
 use Rattle.rowex_core.specs.declared.event.Spot.TheVariants.{Root, Slot, Value}
 use Rattle.rowex_core.specs.declared.event.Target.{Target}
@@ -66,6 +66,7 @@ event_pinned : (layout : Layout) (act : Act) (k j : Known) → IsEvent layout ac
 event_pinned layout (LoadRef Root w) k j e = inr (ap (λ (z : Known). z.fresh.pinned) e.learned_is)
 event_pinned layout (LoadRef (Slot n i) w) k j e = inl (act_fresh layout k j (LoadRef (Slot n i) w) silent e tt)
 event_pinned layout (LoadRef (Value l) w) k j e = inl (act_fresh layout k j (LoadRef (Value l) w) silent e tt)
+event_pinned layout (Load words) k j e = inr (ap (λ (z : Known). z.fresh.pinned) e.learned_is)
 event_pinned layout act k j e = inl (act_fresh layout k j act silent e tt)
 
 module _ {G : Type 0} (table : TableView) (becomes : G → Event → G → Type 0) where

@@ -14,7 +14,7 @@ use Rattle.rowex_table.specs.Seats.{IsShownAll, SeatView, TableView}
 use Rattle.rowex_table.specs.Traces.{OthersStepOn, RunBeginsWith}
 use Rattle.rowex_table.proofs.Onward.{begins_itself, begins_on, next_begins, others_begin}
 use Rattle.linearizability.specs.Moments.{Happening, invokes, shows, steps}
-use Rattle.index_laws.specs.Joined.{HasEndedAs, IsNextTo, happenings_of, pass_in, KeepCallsWhole}
+use Rattle.index_laws.specs.Joined.{HasEndedAs, happenings_of, pass_in, KeepCallsWhole}
 use Rattle.index_laws.specs.Traced.{ContractsLeadOn, Instant, IsTracedExecution, MakesEvent}
 use Rattle.index_laws.proofs.Reaching.{before, before-new, before-old, traced_more, upto, upto-new, upto-old}
 

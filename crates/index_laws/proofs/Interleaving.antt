@@ -24,7 +24,7 @@ use Rattle.rowex_table.proofs.Onward.{begins_on, others_begin}
 use Rattle.rowex_table.proofs.Running.{runs_same}
 use Rattle.hot_index_calls.specs.Traces.{untold}
 use Rattle.linearizability.specs.Moments.{Happening, invokes, responds, shows, steps}
-use Rattle.index_laws.specs.Joined.{HasGoneThrough, HasEndedAs, HaveEndedInOneRun, IsExecutionOf, IsNextTo, call_of, called, happenings_of, loaded, loader, new, notes_of_end, shown, stamped, steps_of, HasGoneThrough, KeepCallsWhole}
+use Rattle.index_laws.specs.Joined.{HasGoneThrough, HasEndedAs, HaveEndedInOneRun, IsExecutionOf, call_of, called, happenings_of, loaded, loader, new, notes_of_end, shown, stamped, steps_of, KeepCallsWhole}
 use Rattle.index_laws.specs.Traced.{Instant, MakesEvent}
 use Rattle.index_laws.specs.Executions.{insertion_notes, insertions}
 use Rattle.index_laws.proofs.Loaded.{makes_load, unloaded}
@@ -255,7 +255,7 @@ module _ (table : TableView) (whole : ℕ → List Happening) (end : ℕ → Sea
 
 -- Lives from what passes have done
 
-event_of : {table : TableView} {act : Act} {said : Known → List Note} {s m : SeatView} → StepsWith table untold act said (s, tt) (m, tt) → MakesEvent table act said s m
+abbrev event_of : {table : TableView} {act : Act} {said : Known → List Note} {s m : SeatView} → StepsWith table untold act said (s, tt) (m, tt) → MakesEvent table act said s m
 event_of x = record { seat = x.seat; event = x.event; next = x.next }
 
 silent_step : {table : TableView} {act : Act} {s m : SeatView} → StepsWith table untold act silent (s, tt) (m, tt) → MakesStep table act [] s m

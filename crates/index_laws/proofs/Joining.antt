@@ -15,7 +15,7 @@ use Rattle.rowex_table.specs.Traces.{OthersStepOn}
 use Rattle.hot_index_calls.specs.Traces.{untold}
 use Rattle.linearizability.specs.Histories.{PendingEndOrChangeAsAsked}
 use Rattle.linearizability.specs.Moments.{Happening, Moment, Pending}
-use Rattle.index_laws.specs.Joined.{HasGoneThrough, LoadedHaveEnded, OneRunIsAnExecution, ShownHaveEnded, SilentStepsEnd, StepsNeedNoGate, TwoThatMeetHaveEnded, load_call, loader, new, of_two, HasGoneThrough}
+use Rattle.index_laws.specs.Joined.{HasGoneThrough, LoadedHaveEnded, OneRunIsAnExecution, ShownHaveEnded, SilentStepsEnd, StepsNeedNoGate, TwoThatMeetHaveEnded, load_call, loader, new, of_two}
 use Rattle.index_laws.specs.Traced.{moment_of}
 use Rattle.rowex_table.proofs.Onward.{others_none}
 use Rattle.index_laws.proofs.Interleaving.{named_by, one_execution}
@@ -78,7 +78,7 @@ loaded_have_ended table words seat some load is fresh = record {
   others = λ q low. ⊎_elim
       (λ (e : q ≡ 0). subst (λ k. OthersStepOn k (seat k).trace run) (sym e) (subst (λ l. OthersStepOn 0 l run) (sym is.2) (others_none 0 run)))
       (λ (ne : q ≢ 0). subst (λ l. OthersStepOn q l run) (sym (fresh q (omega (arith, ne)) low).2)
-      (run, refl, All-cons (λ x. x.pass ≢ q) the_load [] (λ e. ne (sym e)) (All-nil (λ x. x.pass ≢ q))))
+      (run, refl, All-cons (λ (x : Event). x.pass ≢ q) the_load [] (λ e. ne (sym e)) (All-nil (λ (x : Event). x.pass ≢ q))))
       (cases_eq q 0);
 }
   where

@@ -14,7 +14,7 @@ use Rattle.rowex_table.specs.Traces.{OthersStepOn}
 use Rattle.rowex_table.proofs.Onward.{others_more, others_none}
 use Rattle.linearizability.specs.Moments.{Happening, Pending, invokes, refuses, responds, shows, steps}
 use Rattle.index_laws.specs.Executions.{IsReturning}
-use Rattle.index_laws.specs.Joined.{HasEndedAs, IsNextTo, answered, loaded, looked_up, pass_in, quiet, refused, KeepCallsWhole}
+use Rattle.index_laws.specs.Joined.{HasEndedAs, answered, loaded, looked_up, pass_in, quiet, refused, KeepCallsWhole}
 use Rattle.index_laws.specs.Traced.{ContractsLeadOn, Instant, IsSeatShowing, IsSeatStep, IsSeatTurn, IsShownItself, IsShownSteps, MakesEvent, moment_of}
 use Rattle.index_laws.proofs.Reaching.{upto, upto-new, upto-old}
 use Rattle.index_laws.proofs.Coming.{Begun, IsWaiting, MakesStep, Reached, Rest, Shows, Waits, put, reached_more, waits_on}

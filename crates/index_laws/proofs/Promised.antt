@@ -1,10 +1,12 @@
 -- The promises of the headline, one by one.
-use Rattle.std.proofs.Common.{◌≡◌, ◌≢◌, inl, inr, ⊎_elim, ℕ, ◌+◌, ◌*◌, ◌<◌, ◌≤◌, List, [], ◌∷◌, ◌++◌, refl, sym, ap, subst, ◌∙◌, arith, append-nil, le_refl, le_trans}
+use Rattle.std.proofs.Common.{◌≡◌, ◌≢◌, inl, inr, ⊎_elim, ℕ, ◌+◌, ◌*◌, ◌<◌, ◌≤◌, List, [], ◌∷◌, ◌++◌, Option, map, suc, refl, sym, ap, subst, ◌∙◌, arith, append-nil, le_refl, le_trans}
 use Rattle.std.specs.Prelude.{All}
 use Rattle.std.proofs.lemmas.List.Elements.{All-head, All-nil}
 use Rattle.key_bits.specs.declared.TheConstants.{MAX_BYTES}
-use Rattle.finite_map.specs.declared.Call.TheVariants.{Add, Exchange, Remove, RemoveIf}
+use Rattle.finite_map.specs.declared.Call.TheVariants.{Add, Exchange, Insert, Remove, RemoveIf}
+use Rattle.finite_map.specs.declared.Change.{Change}
 use Rattle.finite_map.specs.declared.Note.{Note}
+use Rattle.finite_map.specs.declared.Reply.TheVariants.{Inserted}
 use Rattle.finite_map.specs.declared.Scan.{Scan}
 use Rattle.finite_map.specs.Calls.{LegalCalls, StandsIn, changes_of, own_changes}
 use Rattle.finite_map.specs.Maps.{Map, key_of}
@@ -15,16 +17,21 @@ use Rattle.finite_map.proofs.Weaving.{weave-legal}
 use Rattle.plain_index.proofs.InOrder.{weave-in_order}
 use Rattle.plain_index.proofs.Together.{woven-in_order_two}
 use Rattle.rowex_core.specs.declared.known.Known.{Known}
+use Rattle.rowex_core.specs.Events.{loaded_tree}
 use Rattle.rowex_core.proofs.Loading.{LastOf, last, value_fact, view}
 use Rattle.rowex_core.proofs.Promises.{entries_in_reach, in_reach}
 use Rattle.record_words.specs.declared.layout.Layout.{Layout}
 use Rattle.rowex_writing.specs.declared.attempts.TryFault.{TryFault}
 use Rattle.rowex_writing.specs.declared.attempts.TryFault.TheVariants.{Busy, FullLeaves, FullNodes}
+use Rattle.tries.specs.Content.{Item}
+use Rattle.tries.specs.Tree.{Tree}
 use Rattle.version_laws.specs.Directions.{ScanLaw}
 use Rattle.versions.specs.Core.{pin_version}
 use Rattle.versions.specs.State.{IsReach}
 use Rattle.versions.specs.declared.Rec.TheVariants.{Leaf as a_leaf}
+use Rattle.versions.specs.Told.{added_notes, items_of}
 use Rattle.versions.proofs.States.{reach_later}
+use Rattle.versions.proofs.Telling.{content_in_order}
 use Rattle.hot_index_calls.specs.Answers.{IsCause, MayRefuse}
 use Rattle.hot_index.proofs.Alone.{one_pass_full_is_full, one_pass_is_never_busy}
 use Rattle.hot_index.proofs.Counted.{counts_add_up}
@@ -34,9 +41,10 @@ use Rattle.linearizability.specs.Moments.{Happening, IsWholeRun, Moment}
 use Rattle.linearizability.specs.Scanning.{IsScanInTime}
 use Rattle.linearizability.proofs.Replies.{behind, effect, replies_in_time}
 use Rattle.linearizability.proofs.Scanning.{scans_in_time}
-use Rattle.index_laws.specs.Headline.{BoundedSteps, Freshness, FreshnessOfMany, Headline, History, NeverRefused, OneHistory, Refusals, ScansShow, ValuesInReach}
+use Rattle.index_laws.specs.Headline.{BoundedSteps, Freshness, FreshnessOfMany, Headline, History, LoadedHistory, NeverRefused, OneHistory, Refusals, ScansShow, ValuesInReach}
 use Rattle.index_laws.proofs.Joining.{one_run_is_an_execution}
 use Rattle.index_laws.proofs.Living.{one_history_of_all}
+use Rattle.index_laws.proofs.Loaded.{loader_legal}
 use Rattle.index_laws.proofs.Traced.{ended_before_loaded, traced_are_executions}
 use Rattle.index_laws.proofs.Timed.{executions_are_linearizable, legal_now, noted_placed, responses, returned_responds}
 
@@ -44,9 +52,13 @@ calls-append : (ns : List Note) (n : Note) → calls_of (ns ++ n ∷ []) ≡ cal
 calls-append [] n = refl
 calls-append (m ∷ ns) n = ap (λ (es : List Event). answered m.call m.reply ∷ es) (calls-append ns n)
 
+legal_alone : (front : List Change) (q : ℕ) (ns : List Note) → LegalCalls front q ns → LegalHistory (weave front ns)
+legal_alone front q ns legal =
+    subst (λ l. LegalHistory (weave front l)) (append-nil ns) (weave-legal front ((q, ns) ∷ []) (legal, All-nil (λ (other : ℕ × List Note). other.0 ≢ q), tt))
+
 history : History
 history layout k j call reply noted = (
-  subst (λ ns. LegalHistory (weave j.front ns)) (append-nil j.notes) (weave-legal j.front ((j.number, j.notes) ∷ []) (noted.legal, All-nil (λ other. other.0 ≢ j.number), tt)),
+  legal_alone j.front j.number j.notes noted.legal,
   weave-in_order j.front j.number j.notes noted.legal,
   ap calls_of noted.notes ∙ calls-append k.notes (record { place = noted.place; call = call; reply = reply }),
 )
@@ -56,6 +68,21 @@ one_history layout j k j' k' met = (
   met.history,
   woven-in_order_two j'.front j'.number k'.number j'.notes k'.notes met.first.legal (subst (λ f. LegalCalls f k'.number k'.notes) (sym met.fronts) met.second.legal),
 )
+
+answered_insertions : (n : ℕ) (xs : List Item) → calls_of (added_notes n xs) ≡ map (λ (x : Item). answered (Insert x.key x.value) Inserted) xs
+answered_insertions n [] = refl
+answered_insertions n (x ∷ xs) = ap (λ (es : List Event). answered (Insert x.key x.value) Inserted ∷ es) (answered_insertions (suc n) xs)
+
+loaded_history : LoadedHistory
+loaded_history table words s load is =
+    let t : Option Tree = loaded_tree table.layout words in
+    let k : Known = s.known in
+    let legal : LegalCalls k.front k.pass k.notes =
+    subst (λ (z : Known). LegalCalls z.front z.pass z.notes) (sym is.1) (loader_legal table.layout words load) in (
+      legal_alone k.front k.pass k.notes legal,
+      weave-in_order k.front k.pass k.notes legal ∙ (ap (λ (z : Known). calls_of z.notes) is.1 ∙ answered_insertions 0 (items_of t)),
+      content_in_order t (λ u e. (load.tree u e).0),
+    )
 
 freshness : Freshness
 freshness layout last at happens run q t below within call s e ends asked reply noted =
@@ -162,6 +189,7 @@ headline = record {
   history = history;
   one_history = one_history;
   one_history_of_all = one_history_of_all;
+  loaded_history = loaded_history;
   traced = traced_are_executions;
   one_run = one_run_is_an_execution;
   linearizable = executions_are_linearizable;

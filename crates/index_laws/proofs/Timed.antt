@@ -19,7 +19,7 @@ use Rattle.hot_index_calls.specs.Answers.{IsNoted}
 use Rattle.hot_index_calls.specs.Passes.{pass_of}
 use Rattle.linearizability.specs.Moments.{Continues, Happening, IsPlacedSince, IsResponse, IsWholeRun, Moment, Pending, invokes, refuses, responds, shows, steps}
 use Rattle.linearizability.proofs.Completing.{linearizable}
-use Rattle.index_laws.specs.Executions.{HasAnsweredMany, HasLoaded, LeadsOn, IsExecution, IsQuiet, IsReturning, insertions}
+use Rattle.index_laws.specs.Executions.{HasAnsweredMany, HasBulkLoaded, LeadsOn, IsExecution, IsQuiet, IsReturning, insertions}
 use Rattle.index_laws.specs.Statements.{ExecutionsAreLinearizable, ExecutionsAreRuns, LackMayRefuse, OpeningIsNew, RefusedIsRefused, Responses, ReturnedResponds}
 use Rattle.index_laws.proofs.Loaded.{insertion_calls, loader_legal}
 
@@ -99,7 +99,7 @@ quiet_is_response layout at q t call s e ends notes x = record {
 }
 
 loaded_is_response : (layout : Layout) (at : ℕ → Moment) (q t : ℕ) (call : Pending) (s e : SeatView) → IsReturning at q t call s e → (notes : List Note) →
-    HasLoaded layout call.calls s.known e.known notes → IsResponse at t q call notes
+    HasBulkLoaded layout call.calls s.known e.known notes → IsResponse at t q call notes
 loaded_is_response layout at q t call s e ends notes x = record {
   called = ends.pending;
   calls = subst (λ (z : List Call × List Call). IsPermutation z.0 z.1)

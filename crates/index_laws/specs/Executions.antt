@@ -56,7 +56,7 @@ abbrev pub insertion_notes : Layout → List ℕ → List Note
 insertion_notes layout words = added_notes 0 (items_of (loaded_tree layout words))
 
 -- It was the bulk load with which the table was made (`IsLoaderSeat`): pass 0 was new, and it asked for these insertions.
-pub record HasLoaded (layout : Layout) (calls : List Call) (k j : Known) (notes : List Note) : Type 0 where
+pub record HasBulkLoaded (layout : Layout) (calls : List Call) (k j : Known) (notes : List Note) : Type 0 where
   pub words : List ℕ
   pub load : IsLoad layout words
   pub new : k ≡ opening_of 0
@@ -70,7 +70,7 @@ HasReturned layout at q t call notes =
     (s : SeatView) × (e : SeatView) × IsReturning at q t call s e ×
     (IsAnswered layout call (pass_of s) (pass_of e) notes ⊎
     (HasAnsweredMany layout call (pass_of s) (pass_of e) notes ⊎
-    (IsQuiet call (pass_of s) (pass_of e) notes ⊎ HasLoaded layout call.calls s.known e.known notes)))
+    (IsQuiet call (pass_of s) (pass_of e) notes ⊎ HasBulkLoaded layout call.calls s.known e.known notes)))
 
 -- The call asked one of the map, and is refused at moment t.
 abbrev pub HasBeenRefused : Layout → (ℕ → Moment) → ℕ → ℕ → Pending → Type 0

@@ -7,31 +7,34 @@
 -- - when a call begins and ends, by the clock. The kit says of its table that each atomic step is one step of it, and that it has one state
 --   between any two of them. By its rule all steps are one list, of which each pass knows a part, and contracts of steps say how they follow one
 --   another in it: so what they tell is an execution (`traced`).
-use Rattle.std.specs.Prelude.{◌≡◌, ◌≢◌, ◌⊎◌, ℕ, ◌+◌, ◌*◌, ◌<◌, ◌≤◌, All, List, [], ◌∷◌, ◌++◌, Result, Some}
+use Rattle.std.specs.Prelude.{◌≡◌, ◌≢◌, ◌⊎◌, ℕ, ◌+◌, ◌*◌, ◌<◌, ◌≤◌, All, List, [], ◌∷◌, ◌++◌, Result, Some, map}
 use Rattle.key_bits.specs.declared.TheConstants.{MAX_BYTES}
 use Rattle.finite_map.specs.declared.Call.{Call}
 use Rattle.finite_map.specs.declared.Note.{Note}
-use Rattle.finite_map.specs.declared.Call.TheVariants.{Add, Exchange, Get, Remove, RemoveIf}
+use Rattle.finite_map.specs.declared.Call.TheVariants.{Add, Exchange, Get, Insert, Remove, RemoveIf}
 use Rattle.finite_map.specs.declared.Reply.{Reply}
+use Rattle.finite_map.specs.declared.Reply.TheVariants.{Inserted}
 use Rattle.finite_map.specs.declared.Scan.{Scan}
 use Rattle.finite_map.specs.Calls.{LegalCalls, own_changes}
-use Rattle.finite_map.specs.Maps.{Map, key_of, reply_of}
+use Rattle.finite_map.specs.Maps.{IsRising, Map, key_of, reply_of}
 use Rattle.finite_map.specs.Reverse.{IsDownToLast, IsLawfulReverseScan}
 use Rattle.finite_map.specs.Scans.{IsLawfulScan, IsUpToLast}
 use Rattle.finite_map.specs.Weaves.{LegalHistory, answered, calls_of, weave}
 use Rattle.plain_index.specs.Orders.{AreWoven, calls_in}
 use Rattle.record_words.specs.declared.layout.Layout.{Layout}
 use Rattle.rowex_core.specs.Cores.{Core, IsLawful, value_offset}
+use Rattle.rowex_core.specs.Events.{IsLoad, loaded_tree}
 use Rattle.rowex_core.specs.Reading.{head_value}
 use Rattle.rowex_core.specs.Statements.{EntriesInReach, InReach, StoodLast}
 use Rattle.rowex_core.specs.Words.{record_word}
 use Rattle.rowex_scanning.specs.Counts.{scan_entries}
-use Rattle.rowex_table.specs.Seats.{SeatView, TableView}
+use Rattle.rowex_table.specs.Seats.{IsLoaderSeat, SeatView, TableView}
 use Rattle.rowex_writing.specs.declared.attempts.TryFault.{TryFault}
 use Rattle.rowex_writing.specs.declared.attempts.TryFault.TheVariants.{Busy, FullLeaves}
 use Rattle.tries.specs.Tree.{Tree}
 use Rattle.version_laws.specs.Directions.{ScanLaw}
 use Rattle.versions.specs.State.{Stands}
+use Rattle.versions.specs.Told.{content, items_of}
 use Rattle.versions.specs.declared.Pin.{Pin}
 use Rattle.versions.specs.declared.Rec.TheVariants.{Leaf as a_leaf}
 use Rattle.hot_index_calls.specs.Answers.{HaveMet, IsCause, IsListedBy, IsNoted, IsRefusedFor, IsScannedBy, MayRefuse, range_from}
@@ -62,6 +65,15 @@ abbrev pub OneHistory : Type 0
 OneHistory =
     (layout : Layout) (j k j' k' : PassView) → HaveMet layout j k j' k' →
     LegalHistory (weave j'.front (j'.notes ++ k'.notes)) × AreWoven (calls_of j'.notes) (calls_of k'.notes) (calls_in (weave j'.front (j'.notes ++ k'.notes)))
+
+-- Once a bulk load has made the table, the calls of pass 0 are the insertions of its pairs, in the order of their keys. Each returned `Inserted`,
+-- and they are a legal history. The words show the pairs.
+abbrev pub LoadedHistory : Type 0
+LoadedHistory =
+    (table : TableView) (words : List ℕ) (s : SeatView) → IsLoad table.layout words → IsLoaderSeat table words s →
+    LegalHistory (weave (pass_of s).front (pass_of s).notes) ×
+    (calls_in (weave (pass_of s).front (pass_of s).notes) ≡ map (λ x. answered (Insert x.key x.value) Inserted) (items_of (loaded_tree table.layout words))) ×
+    IsRising (content (loaded_tree table.layout words))
 
 -- A call that a pass made from its invocation to moment t of a run was answered as the map was at a moment in between: nothing that had been
 -- changed before it began is missed.
@@ -141,6 +153,8 @@ pub record Headline : Type 0 where
   pub one_history : OneHistory
   -- and so do any number of passes that have seen the same: each call that they have lived through stands in it once
   pub one_history_of_all : OneHistoryOfAll
+  -- a bulk load is the history of its table at first; in an execution it is one call, of many insertions
+  pub loaded_history : LoadedHistory
   -- contracts of steps, of meetings and stamps and of calls make an execution, if each step's trace is what came before it in one order
   pub traced : TracedAreExecutions
   -- the calls of passes whose traces have ended in one run, as those of two that have met, are such an execution, and linearizable

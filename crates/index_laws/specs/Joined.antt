@@ -25,7 +25,7 @@ use Rattle.hot_index_calls.specs.Passes.{pass_of}
 use Rattle.hot_index_calls.specs.Traces.{untold}
 use Rattle.linearizability.specs.Moments.{Happening, invokes, refuses, responds, shows, steps}
 use Rattle.linearizability.specs.Statements.{IsLinearizable}
-use Rattle.index_laws.specs.Executions.{HasLoaded, insertion_notes, insertions}
+use Rattle.index_laws.specs.Executions.{HasBulkLoaded, insertion_notes, insertions}
 use Rattle.index_laws.specs.Traced.{Instant, IsTracedExecution, moment_of}
 
 -- What one pass has done
@@ -38,7 +38,7 @@ pub data HasEndedAs (layout : Layout) (q : ℕ) (calls : List Call) (s e : SeatV
   looked_up : (asked : List (Call × Reply)) → map (λ x. x.0) asked ≡ calls → (noted : AreNoted layout (pass_of s) (pass_of e) asked) →
       HasEndedAs layout q calls s e (responds q noted.added)
   quiet : calls ≡ [] → e.known.notes ≡ s.known.notes → LegalCalls e.known.front e.known.pass e.known.notes → HasEndedAs layout q calls s e (responds q [])
-  loaded : {notes : List Note} → HasLoaded layout calls s.known e.known notes → HasEndedAs layout q calls s e (responds q notes)
+  loaded : {notes : List Note} → HasBulkLoaded layout calls s.known e.known notes → HasEndedAs layout q calls s e (responds q notes)
   refused : (asked : Call) (fault : TryFault) → calls ≡ asked ∷ [] → IsRefusedFor layout asked (pass_of s) (pass_of e) fault → MayRefuse asked fault →
       HasEndedAs layout q calls s e (refuses q)
 

@@ -1,5 +1,5 @@
 -- What is told of the number of a located record is told of the number by which it was located, and the other way round.
-use Rattle.std.proofs.Common.{◌≡◌, ℕ, ◌<◌, ap, subst, sym}
+use Rattle.std.proofs.Common.{◌≡◌, ℕ, ◌<◌, List, ap, subst, sym}
 use Rattle.compound_node.specs.Nodes.{HeadView, height_of}
 use Rattle.compound_node.specs.declared.entries.Entry.{Entry}
 use Rattle.compound_node.specs.declared.entries.Entry.TheVariants.{Leaf, Node}
@@ -12,7 +12,7 @@ use Rattle.versions.specs.declared.Rec.TheVariants.{Leaf as a_leaf, Node as a_no
 use Rattle.version_laws.specs.Scan.{IsPlaced, IsRead, IsShaped}
 use Rattle.rowex_core.specs.declared.known.Known.{Known}
 use Rattle.rowex_table.specs.Rule.{number_of}
-use Rattle.rowex_reading.specs.Seen.{HasPlace, IsHeadSeen, IsLedTo, Sure, shape_of}
+use Rattle.rowex_reading.specs.Seen.{AreHeadWords, HasPlace, IsHeadSeen, IsLedTo, Sure, shape_of}
 use Rattle.rowex_reading.specs.Ways.{step_at}
 
 -- what a search of the head of node n tells, a load of its entry, and the loads of leaf n
@@ -37,6 +37,9 @@ module _ (n : ℕ) (r : Rec) (is : r ≡ a_node n) where
 
   pub node_place : (k : Known) (m h slot : ℕ) → HasPlace k m n h slot → HasPlace k m (number_of r) h slot
   node_place k m h slot has = subst (λ q. HasPlace k m q h slot) (sym number_is) has
+
+  pub words_told : (k : Known) (m h : ℕ) (words : List ℕ) → AreHeadWords k m (number_of r) h words → AreHeadWords k m n h words
+  words_told k m h words told = subst (λ q. AreHeadWords k m q h words) number_is told
 
   pub slot_told : (k j : Known) (key : Key) (slot : ℕ) → TellsSlot k j key slot (number_of r) → TellsSlot k j key slot n
   slot_told k j key slot told = subst (TellsSlot k j key slot) number_is told

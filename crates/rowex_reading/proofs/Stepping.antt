@@ -86,6 +86,14 @@ near_read layout k j i n kind first more possible loaded behind is one long m h 
     most Narrow = omega arith
     most Middle = omega arith
 
+-- and the words behind these need no load
+pub kind_read : (layout : Layout) (k j i : Known) (n : ℕ) (kind : Kind) (first more : List ℕ) → IsPossible layout i → AreLoaded k j (a_node n) 0 (λ o. o < length first) first →
+    AreLoaded j i (a_node n) 1 (λ o. o < length more) more → kind_in (get_or first 0 0) ≡ kind → length first ≡ 1 → 1 + length more ≡ head_size kind → (m h : ℕ) → IsLedTo k m (Node n h) →
+    AreHeadWords i m n h (get_or first 0 0 ∷ (more ++ replicate (HEAD_WORDS - head_size kind) (2 ^ 64 - 1)))
+kind_read layout k j i n kind first more possible loaded behind is one long m h led =
+    subst (λ (ws : List ℕ). AreHeadWords i m n h (get_or first 0 0 ∷ (ws ++ replicate (HEAD_WORDS - head_size kind) (2 ^ 64 - 1)))) (append-nil more)
+    (near_read layout k j i n kind first more possible loaded behind is one long m h led)
+
 -- a wide head has been loaded
 pub wide_read : (layout : Layout) (k j i : Known) (n : ℕ) (front back : List ℕ) → IsPossible layout i → AreLoaded k j (a_node n) 0 (λ o. o < length front) front →
     AreLoaded j i (a_node n) FIRST_ROWS (λ o. o < length back) back → kind_in (get_or front 0 0) ≡ Wide → length front ≡ FIRST_ROWS → length back ≡ ROW_WORDS → (m h : ℕ) → IsLedTo k m (Node n h) →

@@ -1,6 +1,6 @@
 //! The entries of a node that a position affects, by a look at the node's head.
 
-ghost use Rattle.std.specs.Prelude.{◌≡◌, ◌+◌, ℕ};
+ghost use Rattle.std.specs.Prelude.{◌≡◌, ◌+◌, ◌≤◌, ℕ};
 ghost use Rattle.node_tries.specs.Growth.{affected_count, affected_first};
 ghost use Rattle.record_words.specs.declared.TheConstants.{HEAD_WORDS};
 ghost use Rattle.version_laws.specs.Scan.{IsShaped};
@@ -9,12 +9,12 @@ ghost use Rattle.rowex_reading.specs.Seen.{HasPlace, Sure};
 ghost use Rattle.tries.specs.Tree.{Subtrie};
 
 use crate::reading::load_head_words;
-use record_words::{HEAD_WORDS, affected_slots};
+use record_words::affected_slots;
 use rowex_core::Gate;
 use rowex_table::{HotTable, TableSeat};
 
 /// The slots of the first and the last entry of node `number` that a new fork at `position` affects. The entry in `found`, a slot that
-/// the node has, is one of these. It loads all words of the node's head, and `gate` is told of each load.
+/// the node has, is one of these. It loads as many words of the node's head as say something, and `gate` is told of each load.
 #[inline(always)]
 pub fn find_affected<G: Gate>(
     table: &HotTable,
@@ -26,12 +26,11 @@ pub fn find_affected<G: Gate>(
 ) -> (u8, u8)
     requires reader { IsReader table.now seat.old }
     requires place { (m h : ℕ) × HasPlace seat.old.known m number h found }
-    ensures reads { Reads table.now G.becomes 0 HEAD_WORDS (seat.old, gate.old) (seat.new, gate.new) }
+    ensures reads { (n : ℕ) × (n ≤ HEAD_WORDS) × Reads table.now G.becomes 0 n (seat.old, gate.old) (seat.new, gate.new) }
     ensures affected { (m h : ℕ) → HasPlace seat.old.known m number h found →
         (forks : Subtrie) × Sure seat.new.known (λ s. IsShaped s m number forks) ×
         (affected_first position found forks ≡ result.0) × (affected_count position found forks + result.0 ≡ result.1 + 1) }
 {
-    let mut words = [0; HEAD_WORDS];
-    load_head_words(table, seat, gate, number, &mut words);
+    let words = load_head_words(table, seat, gate, number);
     affected_slots(&words, found, position)
 }

@@ -6,10 +6,10 @@
 //! A search takes no lock and tries nothing twice. It begins at the root's entry, with the pass pinned, and makes for each node on
 //! its path these loads:
 //!
-//! 1. the nine words with the node's count, height and positions. The key's bits at the positions are gathered into a dense
-//!    partial key;
-//! 2. the sixteen words with the sparse partial keys, its rows. The last row that complies with the dense key tells the slot. The lines of
-//!    the node's entries are touched before, by loads that are no steps, so that they come meanwhile;
+//! 1. the first word of its head, which has the node's count, height and kind. Then the lines of the node's entries are touched, by loads
+//!    that are no steps, so that they come meanwhile;
+//! 2. the words of the head that say something in that kind, 6, 12 or 24 more. The key's bits at the columns are gathered into a dense
+//!    partial key. The last row, a sparse partial key, that complies with it tells the slot;
 //! 3. the entry in that slot. It names a leaf, or a node of lower height, so the path ends.
 //!
 //! At the leaf the length and the words of the key are loaded and compared, up to the first difference. If there is none, the

@@ -66,26 +66,38 @@ fn load_head_part<G: Gate>(
     }
 }
 
-/// Loads all words of the head of node `number` into `words`, those of unused slots too. So no load waits for the numbers of entries and
-/// columns.
+/// Returns the words of the head of node `number`. The first word tells the kind of the head. Then as many words are loaded as say something
+/// in that kind: 7, 13 or 25 in all. The others are all ones, and need no load.
 #[inline(always)]
 pub(crate) fn load_head_words<G: Gate>(
     table: &HotTable,
     seat: &mut TableSeat,
     gate: &mut G,
     number: u32,
-    words: &mut [u64; HEAD_WORDS],
-)
+) -> [u64; HEAD_WORDS]
     requires reader { IsReader table.now seat.old }
     requires led { (m h : ℕ) × IsLedTo seat.old.known m (NodeEntry number h) }
-    ensures reads { Reads table.now G.becomes 0 HEAD_WORDS (seat.old, gate.old) (seat.new, gate.new) }
-    ensures words { (m h : ℕ) → IsLedTo seat.old.known m (NodeEntry number h) → AreHeadWords seat.new.known m number h words.new }
+    ensures reads { (n : ℕ) × (n ≤ HEAD_WORDS) × Reads table.now G.becomes 0 n (seat.old, gate.old) (seat.new, gate.new) }
+    ensures words { (m h : ℕ) → IsLedTo seat.old.known m (NodeEntry number h) → AreHeadWords seat.new.known m number h result }
 {
     let node = table.locate(Rec::Node(number));
-    load_head_part(table, seat, gate, node, 0, words);
+    let mut first = [0; 1];
+    load_head_part(table, seat, gate, node, 0, &mut first);
+    let mut words = [u64::MAX; HEAD_WORDS];
+    words[0] = first[0];
+    match read_numbers(first[0]).kind {
+        Kind::Narrow => {
+            load_head_part(table, seat, gate, node, 1, &mut words[1..NARROW_HEAD_WORDS]);
+        }
+        Kind::Middle => {
+            load_head_part(table, seat, gate, node, 1, &mut words[1..MIDDLE_HEAD_WORDS]);
+        }
+        Kind::Wide => load_head_part(table, seat, gate, node, 1, &mut words[1..]),
+    }
+    words
 }
 
-/// Loads all words of the head of node `number`. Returns the node as one of a path that takes its first entry.
+/// Loads the head of node `number`, as [`load_head_words`] does. Returns the node as one of a path that takes its first entry.
 #[inline(always)]
 pub fn load_path_node<G: Gate>(
     table: &HotTable,
@@ -95,12 +107,11 @@ pub fn load_path_node<G: Gate>(
 ) -> PathNode
     requires reader { IsReader table.now seat.old }
     requires led { (m h : ℕ) × IsLedTo seat.old.known m (NodeEntry number h) }
-    ensures reads { Reads table.now G.becomes 0 HEAD_WORDS (seat.old, gate.old) (seat.new, gate.new) }
+    ensures reads { (n : ℕ) × (n ≤ HEAD_WORDS) × Reads table.now G.becomes 0 n (seat.old, gate.old) (seat.new, gate.new) }
     ensures step { (m h : ℕ) → IsLedTo seat.old.known m (NodeEntry number h) →
         (head : HeadView) × IsHeadSeen seat.new.known m number h head × (result ≡ step_at head number 0) }
 {
-    let mut words = [0; HEAD_WORDS];
-    load_head_words(table, seat, gate, number, &mut words);
+    let words = load_head_words(table, seat, gate, number);
     let numbers = read_numbers(words[0]);
     let word = words[index_of_first_position(numbers.kind)];
     path_node(number, numbers, word, 0)

@@ -1,10 +1,13 @@
 -- Loads under a lock, and steps one after the other.
-use Rattle.std.proofs.Common.{◌≡◌, ℕ, ◌+◌, ◌-◌, ◌<◌, ◌≤◌, List, [], ◌∷◌, ◌++◌, length, get_or, set, replicate, refl, sym, ap, subst, ◌∙◌, arith, add-one, inl, inr, ◌⊎◌, ⊎_elim}
+use Rattle.std.proofs.Common.{◌≡◌, ℕ, ◌+◌, ◌-◌, ◌^◌, ◌<◌, ◌≤◌, List, [], ◌∷◌, ◌++◌, length, get_or, set, replicate, refl, sym, ap, subst, ◌∙◌, arith, add-one, inl, inr, ◌⊎◌, ⊎_elim}
 use Rattle.std.proofs.lemmas.Bool.{cases_lt}
 use Rattle.std.proofs.lemmas.List.Elements.{All-append, All-cons}
 use Rattle.std.proofs.lemmas.List.{ext_get_or, get_or-set_same, get_or-set_other, length-replicate, length-set}
 use Rattle.record_words.specs.declared.layout.Layout.{Layout}
-use Rattle.compound_node.specs.Nodes.{NodeView}
+use Rattle.compound_node.specs.Nodes.{NodeView, head_of}
+use Rattle.record_words.specs.Kinds.{head_size, kind_in, kind_of}
+use Rattle.record_words.specs.Node.{head_words}
+use Rattle.record_words.proofs.TellingHead.{past_kind, told}
 use Rattle.rowex_core.proofs.Reading.{node_is}
 use Rattle.record_words.proofs.Nodes.{length-node_words}
 use Rattle.record_words.proofs.Unused.{zero_in}
@@ -29,6 +32,7 @@ use Rattle.publish_laws.proofs.Loops.{still_locked, locked_on as stays_on, locke
 use Rattle.versions.proofs.Members.{all_of}
 use Rattle.rowex_writing.specs.Going.{WorksOn, ReadsOn, HasLocked, IsNodeOf, TriesNoLock}
 use Rattle.rowex_writing.specs.Loads.{AreRead, AreThose}
+use Rattle.rowex_writing.proofs.Heading.{head_word}
 
 -- ---- one after the other
 module _ {G : Type 0} (table : TableView) (becomes : G → Event → G → Type 0) where
@@ -135,6 +139,20 @@ module _ {G : Type 0} (table : TableView) (becomes : G → Event → G → Type 
         more_those loaded words n w (omega (arith, i.long, low)) (i.those words h) (word words there) (spelled words there));
     few = let before = i.few in omega (arith, before, few);
   }
+
+  -- a word of a head behind those that say something is all ones
+  pub unused_read : (b c : SeatView × G) (number : ℕ) (old loaded : List ℕ) (n : ℕ) → AreRead table becomes a b number old 1 → AreRead table becomes a c number loaded n → 0 < n → n < 25 →
+      head_size (kind_in (get_or old 0 0)) ≤ n → AreRead table becomes a c number (set loaded n (2 ^ 64 - 1)) (n + 1)
+  unused_read b c number old loaded n first i some low past =
+      let then : (words : List ℕ) → HasLocked c.0.known number words → HasLocked a.0.known number words = λ words h. locked_on c.0.known a.0.known number words (sym i.reads.goes.stays.1) h in
+      one_read c c number loaded n (2 ^ 64 - 1) i (omega (arith, low)) (reads_none table becomes c)
+      (λ words h.
+      let (view, is) = (i.those words (then words h)).spelled some in
+      let kind : kind_of view.columns ≡ kind_in (get_or old 0 0) =
+      sym (told view is.has.lawful (head_words (head_of view)) refl).kind_told ∙ ap kind_in (head_word view words is 0 (omega arith) ∙ sym ((first.those words (then words h)).each 0 (omega arith))) in
+      sym (past_kind view is.has.lawful (head_words (head_of view)) refl n (subst (λ k. head_size k ≤ n) (sym kind) past) low) ∙ head_word view words is n low)
+      (λ words h. (i.those words (then words h)).spelled some)
+      (omega arith)
 
   -- all of them, where those of its entries have been loaded
   pub all_read : (b : SeatView × G) (number : ℕ) (loaded : List ℕ) (n : ℕ) → AreRead table becomes a b number loaded n →

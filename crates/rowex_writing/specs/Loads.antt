@@ -1,6 +1,8 @@
 -- Words of a locked node that have been loaded, the first one first.
 use Rattle.std.specs.Prelude.{◌≡◌, ◌⊎◌, ℕ, ◌+◌, ◌<◌, ◌≤◌, List, length, get_or}
 use Rattle.compound_node.specs.Nodes.{NodeView}
+use Rattle.record_words.specs.Kinds.{head_size, kind_in}
+use Rattle.record_words.specs.declared.TheConstants.{HEAD_WORDS}
 use Rattle.rowex_core.specs.declared.event.Event.{Event}
 use Rattle.rowex_table.specs.Rule.{number_of}
 use Rattle.rowex_table.specs.Seats.{TableView, SeatView, IsSeatOf}
@@ -12,7 +14,7 @@ pub record AreThose (loaded words : List ℕ) (n : ℕ) : Type 0 where
   pub each : (o : ℕ) → o < n → get_or loaded o 0 ≡ get_or words o 0
   pub spelled : 0 < n → (view : NodeView) × IsNodeOf words view
 
--- The first n words of a locked node have been loaded, each by one load, and none behind them.
+-- The first n words of a locked node are here, each by at most one load, and none behind them.
 pub record AreRead {G : Type 0} (table : TableView) (becomes : G → Event → G → Type 0) (a b : SeatView × G) (number : ℕ) (loaded : List ℕ) (n : ℕ) : Type 0 where
   pub own : IsSeatOf table b.0
   pub reads : ReadsOn table becomes a b
@@ -21,7 +23,12 @@ pub record AreRead {G : Type 0} (table : TableView) (becomes : G → Event → G
   pub those : (words : List ℕ) → HasLocked a.0.known number words → AreThose loaded words n
   pub few : b.0.known.steps ≤ a.0.known.steps + n
 
--- They have been loaded up to this index, or at least up to the end, which is before it.
+-- Where the first word is here, and so many words of such a head say something, the pass goes on with the others of the head.
+abbrev pub ReadsRest : {G : Type 0} → TableView → (G → Event → G → Type 0) → (number size : ℕ) → (SeatView × G) × List ℕ → (SeatView × G) × List ℕ → Type 0
+ReadsRest {G} table becomes number size (b, old) (c, new) =
+    (a : SeatView × G) → AreRead table becomes a b number old 1 → head_size (kind_in (get_or old 0 0)) ≡ size → AreRead table becomes a c number new HEAD_WORDS
+
+-- They are here up to this index, or at least up to the end, which is before it.
 abbrev pub IsReadTo : {G : Type 0} → TableView → (G → Event → G → Type 0) → (a b : SeatView × G) → NodeLoads → (loaded : List ℕ) → (upto : ℕ) → Type 0
 IsReadTo table becomes a b loads loaded upto = (n : ℕ) × AreRead table becomes a b (number_of loads.node.rec) loaded n × (n ≤ upto) × ((n ≡ upto) ⊎ (loads.end ≤ n))
 

@@ -13,12 +13,12 @@ ghost use Rattle.rowex_reading.specs.Seen.{HasPlace};
 ghost use Rattle.rowex_table.specs.Rule.{IsNodeAt, number_of};
 ghost use Rattle.rowex_table.specs.Seats.{IsSeatOf};
 ghost use Rattle.rowex_writing.specs.Going.{ReadsOn, HasLocked, IsLockedBy, HasLockedNode, IsNodeOf};
-ghost use Rattle.rowex_writing.specs.Loads.{ReadsEight};
+ghost use Rattle.rowex_writing.specs.Loads.{AreRead, ReadsEight, ReadsRest};
 
 use compound_node::{Entry, Node, find_sibling};
 use record_words::{
-    FIELDS_OFFSET, HEAD_WORDS, HeadNumbers, MAX_ENTRIES, NODE_FIELDS, read_node, read_numbers,
-    read_some_entry,
+    FIELDS_OFFSET, HEAD_WORDS, HeadNumbers, Kind, MAX_ENTRIES, MIDDLE_HEAD_WORDS,
+    NARROW_HEAD_WORDS, NODE_FIELDS, read_node, read_numbers, read_some_entry,
 };
 use rowex_core::{Gate, Rec, Spot};
 use rowex_table::{HotTable, RecordAt, TableSeat};
@@ -30,8 +30,8 @@ struct NodeLoads {
     end: usize,
 }
 
-/// Loads the words of the locked node `number`, all but its state, into `words`, which are 0 before. Words of slots are loaded in groups
-/// of eight, as far as there are entries. Those behind stay 0.
+/// Loads the words of the locked node `number`, all but its state, into `words`, which are 0 before. Of the head as many are loaded as say
+/// something. Words of slots are loaded in groups of eight, as far as there are entries. Those behind stay 0.
 pub(crate) fn load_locked_node_words<G: Gate>(
     table: &HotTable,
     seat: &mut TableSeat,
@@ -49,15 +49,60 @@ pub(crate) fn load_locked_node_words<G: Gate>(
     ensures few { seat.new.known.steps ≤ seat.old.known.steps + NODE_FIELDS }
 {
     let node = table.locate(Rec::Node(number));
-    for index in 0..HEAD_WORDS {
-        words[index] = load_locked_word(table, seat, gate, node, index);
-    }
+    load_locked_head(table, seat, gate, node, words);
     let end = read_numbers(words[0]).entries_end();
     let loads = NodeLoads { node, end };
     load_eight_words(table, seat, gate, loads, words, HEAD_WORDS);
     load_eight_words(table, seat, gate, loads, words, HEAD_WORDS + 8);
     load_eight_words(table, seat, gate, loads, words, HEAD_WORDS + 16);
     load_eight_words(table, seat, gate, loads, words, HEAD_WORDS + 24);
+}
+
+/// Loads the words of the head of the locked node `node` into `words`, which are 0 before. The first one tells its kind, and so how many
+/// say something. The others of the head become all ones, which they are, without a load.
+#[inline(always)]
+fn load_locked_head<G: Gate>(
+    table: &HotTable,
+    seat: &mut TableSeat,
+    gate: &mut G,
+    node: RecordAt,
+    words: &mut [u64; NODE_FIELDS],
+)
+    requires own { IsSeatOf table.now seat.old }
+    requires node { IsNodeAt table.now.layout node }
+    requires empty { words.old ≡ replicate NODE_FIELDS 0 }
+    ensures { AreRead table.now G.becomes (seat.old, gate.old) (seat.new, gate.new) (number_of node.rec) words.new HEAD_WORDS }
+{
+    words[0] = load_locked_word(table, seat, gate, node, 0);
+    match read_numbers(words[0]).kind {
+        Kind::Narrow => load_rest_of_head(table, seat, gate, node, words, NARROW_HEAD_WORDS),
+        Kind::Middle => load_rest_of_head(table, seat, gate, node, words, MIDDLE_HEAD_WORDS),
+        Kind::Wide => load_rest_of_head(table, seat, gate, node, words, HEAD_WORDS),
+    }
+}
+
+/// Loads the words of the locked node `node` behind the first and before index `size` into `words`. The others of the head become all ones.
+/// Inline, so that each index is known when it is compiled.
+#[inline(always)]
+fn load_rest_of_head<G: Gate>(
+    table: &HotTable,
+    seat: &mut TableSeat,
+    gate: &mut G,
+    node: RecordAt,
+    words: &mut [u64; NODE_FIELDS],
+    size: usize,
+)
+    requires own { IsSeatOf table.now seat.old }
+    requires node { IsNodeAt table.now.layout node }
+    requires size { (1 ≤ size) × (size ≤ HEAD_WORDS) }
+    ensures { ReadsRest table.now G.becomes (number_of node.rec) size ((seat.old, gate.old), words.old) ((seat.new, gate.new), words.new) }
+{
+    for index in 1..size {
+        words[index] = load_locked_word(table, seat, gate, node, index);
+    }
+    for index in size..HEAD_WORDS {
+        words[index] = u64::MAX;
+    }
 }
 
 /// Loads the first word of the locked node `node`, and returns the numbers in it.

@@ -25,7 +25,7 @@ part g c m v w =
     let level = c.last_level_before-level.ensures in let e = c.find_affected-first.ensures in
     let at = slice_get-get_or c.args.way.now c.last_level_before-level.result _ level.within in
     let (forks, shaped, from, upto) = e.affected m _ (way_place c.args.table.now.layout c.args.seat.now.known m c.args.key.now c.args.way.now (Leaf c.args.found.number v c.args.found.mismatch) w c.last_level_before-level.result _ at) in
-    chosen_starts c.args.table.now.layout c.args.seat.now.known c.find_affected-first.new.seat.known m c.args.key.now c.args.way.now c.args.found.number v c.args.found.mismatch w (reader_then c.requires.reader e.reads).1 (reads_later e.reads)
+    chosen_starts c.args.table.now.layout c.args.seat.now.known c.find_affected-first.new.seat.known m c.args.key.now c.args.way.now c.args.found.number v c.args.found.mismatch w (reader_then c.requires.reader e.reads.2).1 (reads_later e.reads.2)
     c.in-Some.position c.in-Some.is c.last_level_before-level.result level _ at forks shaped c.find_affected-first.result.0 c.find_affected-first.result.1 from upto c.choose_case-part.result c.choose_case-part.ensures.chosen
 
 pub returns-in_default-clause-start : goal.returns-in_default-clause-start
