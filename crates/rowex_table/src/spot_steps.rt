@@ -54,12 +54,7 @@ impl HotTable {
 
     /// Loads the value in the leaf's record `leaf`, and returns it.
     #[inline(always)]
-    pub fn load_value_at<G: Gate>(
-        &self,
-        seat: &mut TableSeat,
-        gate: &mut G,
-        leaf: RecordAt,
-    ) -> u64
+    pub fn load_value_at<G: Gate>(&self, seat: &mut TableSeat, gate: &mut G, leaf: RecordAt) -> u64
         requires own { IsSeatOf self.now seat.old }
         requires leaf { IsLeafAt self.now.layout leaf }
         ensures { Steps self.now G.becomes (LoadRef (Value (number_of leaf.rec)) result) (seat.old, gate.old) (seat.new, gate.new) }

@@ -29,13 +29,12 @@ loop-index-init g c = record {
 }
 
 pub load_entry-requires-clause-place : goal.load_entry-requires-clause-place
-load_entry-requires-clause-place g c =
-    (
-      c.requires.places.0,
-      c.args.top.now.height,
-      node_place c.args.top.now.number c.find-node.result.rec c.find-node.ensures.rec c.loop-index.seat.known c.requires.places.0 c.args.top.now.height c.slot_ahead-place.result
-          (rw c.slot_ahead-place.ensures (has_place g (goal.at.load_entry-requires-clause-place g c).After-slot_ahead-place c.requires.places.0 c.requires.places.1)),
-    )
+load_entry-requires-clause-place g c = (
+  c.requires.places.0,
+  c.args.top.now.height,
+  node_place c.args.top.now.number c.find-node.result.rec c.find-node.ensures.rec c.loop-index.seat.known c.requires.places.0 c.args.top.now.height c.slot_ahead-place.result
+      (rw c.slot_ahead-place.ensures (has_place g (goal.at.load_entry-requires-clause-place g c).After-slot_ahead-place c.requires.places.0 c.requires.places.1)),
+)
 
 pub find-node-requires : goal.find-node-requires
 find-node-requires g c =
