@@ -15,7 +15,8 @@ use std::process::Abort;
 
 /// The node of five leaves 0 to 4 with columns 1 to 4, each fork on the 1 side of the one before.
 fn node_of_five() -> Node
-    ensures { piece result ≡ Fork 1 (Place (LeafEntry 0)) (Fork 2 (Place (LeafEntry 1)) (Fork 3 (Place (LeafEntry 2)) (Fork 4 (Place (LeafEntry 3)) (Place (LeafEntry 4))))) }
+    ensures { piece result ≡ Fork 1 (Place (LeafEntry 0)) (Fork 2 (Place (LeafEntry 1)) (Fork 3 (Place (LeafEntry 2))
+        (Fork 4 (Place (LeafEntry 3)) (Place (LeafEntry 4))))) }
 {
     Node::pair(1, Entry::Leaf(0), Entry::Leaf(1))
         .insert(1, 1, 2, true, Entry::Leaf(2))
@@ -25,8 +26,8 @@ fn node_of_five() -> Node
 
 /// The same with columns up to 8 and leaves up to 8: its head is narrow, and with a further column middle.
 fn node_of_nine() -> Node
-    ensures { piece result ≡ Fork 1 (Place (LeafEntry 0)) (Fork 2 (Place (LeafEntry 1)) (Fork 3 (Place (LeafEntry 2)) (Fork 4 (Place (LeafEntry 3)) (Fork 5 (Place (LeafEntry 4))
-        (Fork 6 (Place (LeafEntry 5)) (Fork 7 (Place (LeafEntry 6)) (Fork 8 (Place (LeafEntry 7)) (Place (LeafEntry 8))))))))) }
+    ensures { piece result ≡ Fork 1 (Place (LeafEntry 0)) (Fork 2 (Place (LeafEntry 1)) (Fork 3 (Place (LeafEntry 2)) (Fork 4 (Place (LeafEntry 3))
+        (Fork 5 (Place (LeafEntry 4)) (Fork 6 (Place (LeafEntry 5)) (Fork 7 (Place (LeafEntry 6)) (Fork 8 (Place (LeafEntry 7)) (Place (LeafEntry 8))))))))) }
 {
     node_of_five()
         .insert(4, 4, 5, true, Entry::Leaf(5))
@@ -37,8 +38,9 @@ fn node_of_nine() -> Node
 
 /// The same with leaf 10 behind leaf 8, from which it parts at 10: its head is middle.
 fn node_of_ten() -> Node
-    ensures { piece result ≡ Fork 1 (Place (LeafEntry 0)) (Fork 2 (Place (LeafEntry 1)) (Fork 3 (Place (LeafEntry 2)) (Fork 4 (Place (LeafEntry 3)) (Fork 5 (Place (LeafEntry 4))
-        (Fork 6 (Place (LeafEntry 5)) (Fork 7 (Place (LeafEntry 6)) (Fork 8 (Place (LeafEntry 7)) (Fork 10 (Place (LeafEntry 8)) (Place (LeafEntry 10)))))))))) }
+    ensures { piece result ≡ Fork 1 (Place (LeafEntry 0)) (Fork 2 (Place (LeafEntry 1)) (Fork 3 (Place (LeafEntry 2)) (Fork 4 (Place (LeafEntry 3))
+        (Fork 5 (Place (LeafEntry 4)) (Fork 6 (Place (LeafEntry 5)) (Fork 7 (Place (LeafEntry 6))
+        (Fork 8 (Place (LeafEntry 7)) (Fork 10 (Place (LeafEntry 8)) (Place (LeafEntry 10)))))))))) }
 {
     node_of_nine().insert(8, 8, 10, true, Entry::Leaf(10))
 }
