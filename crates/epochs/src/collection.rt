@@ -94,7 +94,9 @@ pub fn collect_if_risen<G: Gate>(
     requires free { seat.old.known.pin ≡ None }
     ensures free { seat.new.known.pin ≡ None }
     ensures round { IfSome result (λ round. IsRound table.now G.becomes (seat.old, gate.old) (seat.new, gate.new) round.given.nodes round.given.leaves) }
+    ensures swept { IfSome result (λ round. limbo.new.swept ≡ seat.new.known.round.bound) }
     ensures several { result ≡ None → 1 < table.now.layout.passes }
+    ensures low { result ≡ None → (seat.new.known.round.bound ≤ limbo.old.swept) × (limbo.new.swept ≡ limbo.old.swept) }
     ensures spared { result ≡ None → IsSparedRound table.now G.becomes (seat.old, gate.old) (seat.new, gate.new) }
 {
     let bound = begin_round(table, seat, gate);

@@ -203,7 +203,7 @@ headline = record {
   refusals = refusals;
   full_alone = one_pass_full_is_full;
   never_refused = never_refused;
-  new_values_fit = record { held = held_is_never_full; absent = absent_is_never_full; alone = one_pass_refuses_new_alone };
+  never_full = record { held = held_is_never_full; absent = absent_is_never_full; alone = one_pass_refuses_new_alone };
   number_of_keys = counts_add_up;
   steps = steps;
   out_of_reach = in_reach;

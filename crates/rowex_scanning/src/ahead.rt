@@ -15,7 +15,7 @@ use insert_cases::PathNode;
 use record_words::{Origins, VALUE_OFFSET};
 use rowex_core::{Gate, Rec};
 use rowex_reading::load_entry;
-use rowex_table::{HotTable, NodeAt, TableSeat};
+use rowex_table::{HotTable, RecordAt, TableSeat};
 
 /// How many slots of a node a walk looks at together, at most.
 pub(crate) const MOST_AHEAD: u8 = 16;
@@ -85,10 +85,7 @@ pub(crate) fn load_entries_ahead<G: Gate, S: Tallies>(
         scan.range.limit,
         sink.size(),
     ));
-    let node = NodeAt {
-        number: top.number,
-        start: scan.origins.start_of_node(top.number),
-    };
+    let node = RecordAt::find(scan.origins, Rec::Node(top.number));
     for index in 0..count {
         let place = slot_ahead(scan.range.direction, *top, index);
         match load_entry(scan.table, seat, gate, node, place) {
@@ -132,8 +129,8 @@ fn touch_leaf(table: &HotTable, origins: &Origins, number: u32)
     requires range { HasRecord table.now.layout (a_leaf number) }
     requires origins { origins.now.layout ≡ table.now.layout }
 {
-    let (rec, start) = (Rec::Leaf(number), origins.start_of_leaf(number));
+    let leaf = RecordAt::find(origins, Rec::Leaf(number));
     let last = origins.layout.leaf_size(number) - 1;
-    table.touch(rec, start, VALUE_OFFSET);
-    table.touch(rec, start, last as u8);
+    table.touch(leaf, VALUE_OFFSET);
+    table.touch(leaf, last as u8);
 }

@@ -21,7 +21,7 @@ use insert_cases::PathNode;
 use key_bits::MAX_BYTES;
 use rowex_core::Gate;
 use rowex_reading::{MOST_NODES, load_leaf};
-use rowex_table::{HotTable, LeafAt, TableSeat};
+use rowex_table::{HotTable, RecordAt, TableSeat};
 use std::alloc::AllocError;
 
 /// How many pairs a walk has taken, and nothing else of them.
@@ -164,8 +164,7 @@ fn is_leaf_past<G: Gate>(
     ensures past { IsTrue result → (m : ℕ) → IsLedTo seat.old.known m (LeafEntry number) → IsLeafPast seat.new.known m (request_of scan.now.range.now) number }
     ensures not_past { result ≡ false → (m : ℕ) → IsLedTo seat.old.known m (LeafEntry number) → IsLeafNotPast seat.new.known m (request_of scan.now.range.now) number }
 {
-    let start = scan.origins.start_of_leaf(number);
-    let leaf = LeafAt { number, start };
+    let leaf = RecordAt::find(scan.origins, Rec::Leaf(number));
     let (length, _) = load_leaf(scan.table, seat, gate, leaf, places);
     is_past_range(scan.range, &places[..length])
 }

@@ -32,7 +32,7 @@ use packed_pairs::Pairs;
 use record_words::{Origins, key_word_at};
 use rowex_core::{Gate, Rec};
 use rowex_reading::{Found, MOST_NODES, load_leaf, load_path_node, load_root, search_way};
-use rowex_table::{HotTable, LeafAt, TableSeat};
+use rowex_table::{HotTable, RecordAt, TableSeat};
 use std::alloc::AllocError;
 use version_laws::Direction;
 
@@ -196,9 +196,8 @@ fn scan_leaf<G: Gate, S: Sink>(
     ensures part { OnErr result (HasTakenPart range.now.direction seat.new.known (asked_range range.now) (S.tally sink.new)) }
     ensures refused { OnErr result S.may_refuse }
 {
-    let start = table.start_of(Rec::Leaf(number));
     let mut places = [0; MAX_BYTES];
-    let leaf = LeafAt { number, start };
+    let leaf = table.locate(Rec::Leaf(number));
     let (length, value) = load_leaf(table, seat, gate, leaf, &mut places);
     if is_earlier_key(
         range.direction,
@@ -373,8 +372,7 @@ fn take_leaf<G: Gate, S: Tallies>(
     ensures refused { OnErr result (IsLeafRefused seat.old.known seat.new.known (asked_range scan.now.range.now) number (S.tally sink.old) (S.tally sink.new)) }
     ensures may { OnErr result S.may_refuse }
 {
-    let start = scan.origins.start_of_leaf(number);
-    let leaf = LeafAt { number, start };
+    let leaf = RecordAt::find(scan.origins, Rec::Leaf(number));
     let (length, value) = load_leaf(scan.table, seat, gate, leaf, places);
     if length == 8 {
         return take_pair_in_range(sink, scan.range, places, 8, value);

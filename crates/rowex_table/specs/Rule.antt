@@ -11,6 +11,7 @@ use Rattle.record_words.specs.declared.layout.Layout.{Layout}
 use Rattle.record_words.specs.declared.layout.Location.{Location}
 use Rattle.record_words.specs.Layout.{address, IsInTable}
 use Rattle.versions.specs.declared.Rec.{Rec}
+use Rattle.versions.specs.declared.Rec.TheVariants.{Node as a_node, Leaf as a_leaf}
 use Rattle.rowex_core.specs.declared.event.Act.{Act}
 use Rattle.rowex_core.specs.declared.event.Act.TheVariants.{Claim, LoadRef, LoadFixed, Lock, LoadEpoch, Advance, LoadPin, LoadState, GiveBack, Load}
 use Rattle.rowex_core.specs.declared.event.Spot.{Spot}
@@ -24,6 +25,7 @@ use Rattle.versions.specs.Told.{added_notes, items_of}
 use Rattle.rowex_core.specs.Knowing.{Knows, Knowing, IsViewOf, IsEvent, learned}
 use Rattle.rowex_core.specs.Opening.{opening}
 use Rattle.rowex_core.specs.Runs.{EventsLead}
+use Rattle.rowex_table.specs.declared.record_steps.RecordAt.{RecordAt}
 use Rattle.rowex_table.specs.declared.traces.Trace.{Trace}
 use Rattle.rowex_table.specs.declared.traces.TracedView.{TracedView}
 use Rattle.rowex_table.specs.declared.traces.TracedView.TheVariants.{Spent, Dealer, Founder, Pass, Pair, Witness, Follower}
@@ -116,6 +118,18 @@ IsAddressOf layout location word = (word ≡ address layout location) × IsInTab
 -- the record is one of the table's, and begins at this word
 abbrev pub IsStartOf : Layout → Rec → ℕ → Type 0
 IsStartOf layout r word = HasRecord layout r × (word ≡ address layout (word_of r 0))
+
+-- the record's number among those of its kind
+abbrev pub number_of : Rec → ℕ
+number_of (a_node n) = n
+number_of (a_leaf l) = l
+
+-- It is a node's record, of the table, and begins at this word; or a leaf's.
+abbrev pub IsNodeAt : Layout → RecordAt → Type 0
+IsNodeAt layout at = (at.rec ≡ a_node (number_of at.rec)) × IsStartOf layout (a_node (number_of at.rec)) at.start
+
+abbrev pub IsLeafAt : Layout → RecordAt → Type 0
+IsLeafAt layout at = (at.rec ≡ a_leaf (number_of at.rec)) × IsStartOf layout (a_leaf (number_of at.rec)) at.start
 
 -- Events
 

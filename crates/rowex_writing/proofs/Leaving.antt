@@ -33,7 +33,7 @@ use Rattle.rowex_writing.specs.Changes.{MayPublishOnceReady}
 use Rattle.rowex_writing.specs.Deeds.{MayReplace}
 use Rattle.rowex_writing.specs.Going.{HasLocked, IsNodeOf, WorksOn}
 use Rattle.rowex_writing.specs.Jobs.{HoldsSpan}
-use Rattle.rowex_writing.specs.Merging.{HasClaimed, IsLeft, IsWide, TakesOn, TakesStill, lower}
+use Rattle.rowex_writing.specs.Merging.{HasClaimed, IsLeftOfNode, IsWide, TakesOn, TakesStill, lower}
 use Rattle.rowex_writing.specs.Taking.{HasLeafBelow}
 use Rattle.rowex_writing.specs.declared.job.Job.{Job}
 use Rattle.rowex_reading.specs.Ways.{IsWayOf}
@@ -106,12 +106,12 @@ module _ {G : Type 0} (table : TableView) (becomes : G → Event → G → Type 
       }
 
 -- ---- the words of what is left
-pub left_on : (k j : Known) (job : Job) (left : List ℕ) → j.locks ≡ k.locks → IsLeft k job left → IsLeft j job left
+pub left_on : (k j : Known) (job : Job) (left : List ℕ) → j.locks ≡ k.locks → IsLeftOfNode k job left → IsLeftOfNode j job left
 left_on k j job left same is = record { words = is.words; has = locked_on k j (lower job).number is.words same is.has; built = is.built }
 
 -- so under the wider locks
 module _ (table : TableView) (b : SeatView) (job : Job) (number : ℕ) (w : IsWide table b job number) where
-  pub left_wider : (k : Known) (left : List ℕ) → w.taking.before.known.locks ≡ k.locks → IsLeft k job left → IsLeft b.known job left
+  pub left_wider : (k : Known) (left : List ℕ) → w.taking.before.known.locks ≡ k.locks → IsLeftOfNode k job left → IsLeftOfNode b.known job left
   left_wider k left same is = record {
     words = is.words;
     has = held_wide table b job number w (lower job).number is.words (locked_on k w.taking.before.known (lower job).number is.words same is.has);
@@ -127,7 +127,7 @@ module _ (table : TableView) (b : SeatView) (job : Job) (number : ℕ) (w : IsWi
       (node, λ words k. subst (λ z. IsNodeOf z node) (same_words table.layout b.known (lower job).number low words w.possible h k) is)
 
   -- what is left of it, as a node without an entry
-  module _ (left : List ℕ) (is : IsLeft b.known job left) (node : NodeView) (node_is : (words : List ℕ) → HasLocked b.known (lower job).number words → IsNodeOf words node) where
+  module _ (left : List ℕ) (is : IsLeftOfNode b.known job left) (node : NodeView) (node_is : (words : List ℕ) → HasLocked b.known (lower job).number words → IsNodeOf words node) where
     same_left : subtrie_without job.key.now (node_words_of is.words).subtrie ≡ without (lower job).at (piece node)
     same_left =
         let own = node_is is.words is.has in

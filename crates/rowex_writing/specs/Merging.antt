@@ -83,7 +83,7 @@ pub record HasClaimed (table : TableView) (k : Known) (n : ℕ) : Type 0 where
   pub own : k.own ≡ record { rec = a_node n; holding = Held; words = words } ∷ []
 
 -- Without the leaf a node is left of the lower one, by the words under its lock, and these words spell it.
-pub record IsLeft (k : Known) (job : Job) (left : List ℕ) : Type 0 where
+pub record IsLeftOfNode (k : Known) (job : Job) (left : List ℕ) : Type 0 where
   pub words : List ℕ
   pub has : HasLocked k (lower job).number words
   pub built : SpellBuilt left (subtrie_without job.key.now (node_words_of words).subtrie)

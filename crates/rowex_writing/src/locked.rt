@@ -10,7 +10,7 @@ ghost use Rattle.tries.specs.Place.{entry_at};
 ghost use Rattle.rowex_core.specs.Reading.{node_words_of};
 ghost use Rattle.rowex_reading.specs.Possible.{IsPossible};
 ghost use Rattle.rowex_reading.specs.Seen.{HasPlace};
-ghost use Rattle.rowex_table.specs.Rule.{IsStartOf};
+ghost use Rattle.rowex_table.specs.Rule.{IsNodeAt, number_of};
 ghost use Rattle.rowex_table.specs.Seats.{IsSeatOf};
 ghost use Rattle.rowex_writing.specs.Going.{ReadsOn, HasLocked, IsLockedBy, HasLockedNode, IsNodeOf};
 ghost use Rattle.rowex_writing.specs.Loads.{AreRead, ReadsEight, ReadsRest};
@@ -21,12 +21,12 @@ use record_words::{
     NARROW_HEAD_WORDS, NODE_FIELDS, read_node, read_numbers, read_some_entry,
 };
 use rowex_core::{Gate, Rec, Spot};
-use rowex_table::{HotTable, NodeAt, TableSeat};
+use rowex_table::{HotTable, RecordAt, TableSeat};
 
 /// A locked node whose words are to be loaded. Its last entry's word is that before index `end`, counted from 0 behind the state.
 #[derive(Clone, Copy)]
 struct NodeLoads {
-    node: NodeAt,
+    node: RecordAt,
     end: usize,
 }
 
@@ -48,8 +48,7 @@ pub(crate) fn load_locked_node_words<G: Gate>(
     ensures node { (view : NodeView) × IsNodeOf words.new view }
     ensures few { seat.new.known.steps ≤ seat.old.known.steps + NODE_FIELDS }
 {
-    let start = table.start_of(Rec::Node(number));
-    let node = NodeAt { number, start };
+    let node = table.locate(Rec::Node(number));
     load_locked_head(table, seat, gate, node, words);
     let end = read_numbers(words[0]).entries_end();
     let loads = NodeLoads { node, end };
@@ -66,13 +65,13 @@ fn load_locked_head<G: Gate>(
     table: &HotTable,
     seat: &mut TableSeat,
     gate: &mut G,
-    node: NodeAt,
+    node: RecordAt,
     words: &mut [u64; NODE_FIELDS],
 )
     requires own { IsSeatOf table.now seat.old }
-    requires start { IsStartOf table.now.layout (a_node node.number) node.start }
+    requires node { IsNodeAt table.now.layout node }
     requires empty { words.old ≡ replicate NODE_FIELDS 0 }
-    ensures { AreRead table.now G.becomes (seat.old, gate.old) (seat.new, gate.new) node.number words.new HEAD_WORDS }
+    ensures { AreRead table.now G.becomes (seat.old, gate.old) (seat.new, gate.new) (number_of node.rec) words.new HEAD_WORDS }
 {
     words[0] = load_locked_word(table, seat, gate, node, 0);
     match read_numbers(words[0]).kind {
@@ -89,14 +88,14 @@ fn load_rest_of_head<G: Gate>(
     table: &HotTable,
     seat: &mut TableSeat,
     gate: &mut G,
-    node: NodeAt,
+    node: RecordAt,
     words: &mut [u64; NODE_FIELDS],
     size: usize,
 )
     requires own { IsSeatOf table.now seat.old }
-    requires start { IsStartOf table.now.layout (a_node node.number) node.start }
+    requires node { IsNodeAt table.now.layout node }
     requires size { (1 ≤ size) × (size ≤ HEAD_WORDS) }
-    ensures { ReadsRest table.now G.becomes node.number size ((seat.old, gate.old), words.old) ((seat.new, gate.new), words.new) }
+    ensures { ReadsRest table.now G.becomes (number_of node.rec) size ((seat.old, gate.old), words.old) ((seat.new, gate.new), words.new) }
 {
     for index in 1..size {
         words[index] = load_locked_word(table, seat, gate, node, index);
@@ -112,13 +111,13 @@ fn load_numbers<G: Gate>(
     table: &HotTable,
     seat: &mut TableSeat,
     gate: &mut G,
-    node: NodeAt,
+    node: RecordAt,
 ) -> HeadNumbers
     requires own { IsSeatOf table.now seat.old }
-    requires start { IsStartOf table.now.layout (a_node node.number) node.start }
+    requires node { IsNodeAt table.now.layout node }
     ensures own { IsSeatOf table.now seat.new }
     ensures reads { ReadsOn table.now G.becomes (seat.old, gate.old) (seat.new, gate.new) }
-    ensures numbers { (view : NodeView) → HasLockedNode seat.old.known node.number view → AreNumbersOf result view }
+    ensures numbers { (view : NodeView) → HasLockedNode seat.old.known (number_of node.rec) view → AreNumbersOf result view }
     ensures few { seat.new.known.steps ≤ seat.old.known.steps + 1 }
 {
     read_numbers(load_locked_word(table, seat, gate, node, 0))
@@ -130,15 +129,15 @@ fn load_row<G: Gate>(
     table: &HotTable,
     seat: &mut TableSeat,
     gate: &mut G,
-    node: NodeAt,
+    node: RecordAt,
     numbers: HeadNumbers,
     at: u8,
 ) -> u32
     requires own { IsSeatOf table.now seat.old }
-    requires start { IsStartOf table.now.layout (a_node node.number) node.start }
+    requires node { IsNodeAt table.now.layout node }
     ensures own { IsSeatOf table.now seat.new }
     ensures reads { ReadsOn table.now G.becomes (seat.old, gate.old) (seat.new, gate.new) }
-    ensures row { (view : NodeView) → HasLockedNode seat.old.known node.number view → AreNumbersOf numbers view → result ≡ row_at view.rows at }
+    ensures row { (view : NodeView) → HasLockedNode seat.old.known (number_of node.rec) view → AreNumbersOf numbers view → result ≡ row_at view.rows at }
     ensures few { seat.new.known.steps ≤ seat.old.known.steps + 1 }
 {
     if at as usize >= MAX_ENTRIES {
@@ -165,8 +164,7 @@ pub(crate) fn load_sibling<G: Gate>(
     ensures beside { (node : NodeView) → HasLockedNode seat.old.known number node → at < length node.entries → IsBesideIn node at result }
     ensures few { seat.new.known.steps ≤ seat.old.known.steps + 5 }
 {
-    let start = table.start_of(Rec::Node(number));
-    let node = NodeAt { number, start };
+    let node = table.locate(Rec::Node(number));
     let numbers = load_numbers(table, seat, gate, node);
     let before = load_row(table, seat, gate, node, numbers, at.saturating_sub(1));
     let own = load_row(table, seat, gate, node, numbers, at);
@@ -190,8 +188,7 @@ pub(crate) fn load_position<G: Gate>(
     ensures position { (node : NodeView) → HasLockedNode seat.old.known number node → result ≡ position_at node.columns column }
     ensures few { seat.new.known.steps ≤ seat.old.known.steps + 3 }
 {
-    let start = table.start_of(Rec::Node(number));
-    let node = NodeAt { number, start };
+    let node = table.locate(Rec::Node(number));
     let numbers = load_numbers(table, seat, gate, node);
     let index = numbers.index_of_position(column);
     let word = load_locked_word(table, seat, gate, node, index);
@@ -235,7 +232,7 @@ fn load_eight_words<G: Gate>(
     first: usize,
 )
     requires own { IsSeatOf table.now seat.old }
-    requires start { IsStartOf table.now.layout (a_node loads.node.number) loads.node.start }
+    requires node { IsNodeAt table.now.layout loads.node }
     requires range { first + 8 ≤ NODE_FIELDS }
     ensures own { IsSeatOf table.now seat.new }
     ensures reads { ReadsEight table.now G.becomes loads first ((seat.old, gate.old), words.old) ((seat.new, gate.new), words.new) }
@@ -274,22 +271,22 @@ fn load_locked_word<G: Gate>(
     table: &HotTable,
     seat: &mut TableSeat,
     gate: &mut G,
-    node: NodeAt,
+    node: RecordAt,
     index: usize,
 ) -> u64
     requires own { IsSeatOf table.now seat.old }
-    requires start { IsStartOf table.now.layout (a_node node.number) node.start }
+    requires node { IsNodeAt table.now.layout node }
     requires index { index < NODE_FIELDS }
     ensures reads { ReadsOn table.now G.becomes (seat.old, gate.old) (seat.new, gate.new) }
-    ensures word { (words : List ℕ) → HasLocked seat.old.known node.number words → result ≡ get_or words index 0 }
-    ensures spelled { (words : List ℕ) → HasLocked seat.old.known node.number words → (view : NodeView) × IsNodeOf words view }
+    ensures word { (words : List ℕ) → HasLocked seat.old.known (number_of node.rec) words → result ≡ get_or words index 0 }
+    ensures spelled { (words : List ℕ) → HasLocked seat.old.known (number_of node.rec) words → (view : NodeView) × IsNodeOf words view }
     ensures few { seat.new.known.steps ≤ seat.old.known.steps + 1 }
 {
     if index < HEAD_WORDS {
         let offset = index as u8 + FIELDS_OFFSET;
-        table.load_fixed_at(seat, gate, Rec::Node(node.number), node.start, offset)
+        table.load_fixed_at(seat, gate, node, offset)
     } else {
         let entry = (index - HEAD_WORDS) as u8;
-        table.load_slot_at(seat, gate, node.number, node.start, entry)
+        table.load_slot_at(seat, gate, node, entry)
     }
 }

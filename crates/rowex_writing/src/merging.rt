@@ -19,7 +19,7 @@ ghost use Rattle.rowex_writing.specs.Building.{IsBuilding};
 ghost use Rattle.rowex_writing.specs.Changes.{HasRun};
 ghost use Rattle.rowex_writing.specs.Going.{HasLocked, HasLockedNode, IsLockedBy, ReadsOn, WorksOn};
 ghost use Rattle.rowex_writing.specs.Locks.{span_numbers};
-ghost use Rattle.rowex_writing.specs.Merging.{AreNoNode, ClosesFork, HasClaimed, HasHeight, HasListed, IsLeft, IsNeighbour, IsWide, MayMergeInto, TakesOn, TriesFew, lower, upper};
+ghost use Rattle.rowex_writing.specs.Merging.{AreNoNode, ClosesFork, HasClaimed, HasHeight, HasListed, IsLeftOfNode, IsNeighbour, IsWide, MayMergeInto, TakesOn, TriesFew, lower, upper};
 ghost use Rattle.rowex_writing.specs.declared.plan.Deed.TheVariants.{Take};
 
 use crate::building::make_node_from_words;
@@ -67,7 +67,7 @@ pub(crate) fn try_merge<G: Gate>(
     requires takes { TakesOn table.now seat.old job.now }
     requires beside { IsNeighbour seat.old.known job.now merge.now }
     requires claimed { HasClaimed table.now seat.old.known left.now.number }
-    requires left { IsLeft seat.old.known job.now left.now.words }
+    requires left { IsLeftOfNode seat.old.known job.now left.now.words }
     ensures tries { TriesFew table.now G.becomes (span_numbers job.now.way.now job.now.span) build.old.left_nodes 53 (seat.old, gate.old) (seat.new, gate.new) }
     ensures done { result ≡ true → HasDoneDeed seat.old.known seat.new.known Take job.now.key.now job.now.value job.now.found }
     ensures later { result ≡ false → IsLater seat.old.known seat.new.known × IsSeatOf table.now seat.new × IsPossible table.now.layout seat.new.known }
@@ -137,7 +137,7 @@ fn merge_under_locks<G: Gate>(
     requires wide { IsWide table.now seat.old job.now merge.now.number }
     requires beside { IsNeighbour seat.old.known job.now merge.now }
     requires claimed { HasClaimed table.now seat.old.known left.now.number }
-    requires left { IsLeft seat.old.known job.now left.now.words }
+    requires left { IsLeftOfNode seat.old.known job.now left.now.words }
     requires loaded { HasLoadedFound seat.old.known job.now.found }
     ensures run { HasRun table.now G.becomes (seat.old, gate.old) (seat.new, gate.new) }
     ensures done { result ≡ true → HasDoneDeed seat.old.known seat.new.known Take job.now.key.now job.now.value job.now.found }
@@ -171,7 +171,7 @@ fn make_merge_records<G: Gate>(
     requires wide { IsWide table.now seat.old job.now merge.now.number }
     requires beside { IsNeighbour seat.old.known job.now merge.now }
     requires claimed { HasClaimed table.now seat.old.known left.now.number }
-    requires left { IsLeft seat.old.known job.now left.now.words }
+    requires left { IsLeftOfNode seat.old.known job.now left.now.words }
     ensures goes { WorksOn table.now G.becomes (seat.old, gate.old) (seat.new, gate.new) }
     ensures may { IfSome result (λ e. MayMergeInto table.now seat.new build.new.made.items job.now merge.now.number e) }
     ensures same { result ≡ None → HasClaimed table.now seat.new.known left.now.number }
@@ -206,7 +206,7 @@ fn merge_siblings<G: Gate>(
 ) -> Option<Node>
     requires wide { IsWide table.now seat.old job.now merge.now.number }
     requires beside { IsNeighbour seat.old.known job.now merge.now }
-    requires left { IsLeft seat.old.known job.now left.now }
+    requires left { IsLeftOfNode seat.old.known job.now left.now }
     ensures reads { ReadsOn table.now G.becomes (seat.old, gate.old) (seat.new, gate.new) }
     ensures joined { (leaf : ℕ) (b : AreBeside seat.old.known.locks job.now.key.now (upper job.now).number (lower job.now).number merge.now.number leaf) →
         b.position ≡ merge.now.position → IfSome result (λ node. IsBuiltFrom node (merged b)) }

@@ -3,9 +3,11 @@ use Rattle.std.proofs.Common.{◌∙◌, ◌≤◌, ℕ, subst, take}
 use Rattle.std.proofs.lemmas.Result.{err_from_is_err_and}
 use Rattle.compound_node.specs.declared.entries.Entry.TheVariants.{Leaf}
 use Rattle.record_words.specs.declared.TheConstants.{LEAF_FIELDS}
+use Rattle.rowex_table.proofs.Located.{leaf_at}
 use Rattle.rowex_reading.specs.Reads.{Reads, leaf_loads}
 use Rattle.rowex_reading.specs.Seen.{since}
 use Rattle.rowex_reading.proofs.Led.{reads_later, rooted_led, same_since}
+use Rattle.rowex_reading.proofs.Naming.{leaf_led, leaf_told}
 use Rattle.rowex_reading.proofs.Standing.{led_in_table}
 use Rattle.version_laws.specs.Directions.{IsEarlier, IsNoLater}
 use Rattle.rowex_scanning.specs.Scanning.{asked_range}
@@ -20,16 +22,19 @@ root_read : (g : given.Over) (c : After-load_leaf-length g) →
     IsRootRead c.args.seat.now.known c.load_leaf-length.new.seat.known c.args.number (take c.load_leaf-length.result.0 c.load_leaf-length.new.places) c.load_leaf-length.result.1
 root_read g c =
     let e = c.load_leaf-length.ensures in
-    record { later = reads_later e.reads; root = c.requires.root; same = same_since e.reads; read = e.leaf (since c.args.seat.now.known) (rooted_led (Leaf c.args.number) c.requires.root) }
+    record { later = reads_later e.reads; root = c.requires.root; same = same_since e.reads; read = leaf_told c.args.number c.locate-leaf.result.rec c.locate-leaf.ensures.rec c.args.seat.now.known c.load_leaf-length.new.seat.known (take c.load_leaf-length.result.0 c.load_leaf-length.new.places) c.load_leaf-length.result.1 e.leaf (since c.args.seat.now.known) (rooted_led (Leaf c.args.number) c.requires.root) }
 
 loads : (g : given.Over) (c : After-load_leaf-length g) → (n : ℕ) × (n ≤ LEAF_FIELDS) × Reads c.args.table.now g.G.Gate.becomes 0 n (c.args.seat.now, c.args.gate.now) (c.load_leaf-length.new.seat, c.load_leaf-length.new.gate)
 loads g c = let e = c.load_leaf-length.ensures in (leaf_loads (take c.load_leaf-length.result.0 c.load_leaf-length.new.places), e.few, e.reads)
 
-pub start_of-start-requires : goal.start_of-start-requires
-start_of-start-requires g c = led_in_table c.args.table.now.layout c.args.seat.now.known (since c.args.seat.now.known) (Leaf c.args.number) c.requires.reader.1 (rooted_led (Leaf c.args.number) c.requires.root)
+pub locate-leaf-requires : goal.locate-leaf-requires
+locate-leaf-requires g c = led_in_table c.args.table.now.layout c.args.seat.now.known (since c.args.seat.now.known) (Leaf c.args.number) c.requires.reader.1 (rooted_led (Leaf c.args.number) c.requires.root)
 
 pub load_leaf-length-requires-clause-led : goal.load_leaf-length-requires-clause-led
-load_leaf-length-requires-clause-led g c = (since c.args.seat.now.known, rooted_led (Leaf c.args.number) c.requires.root)
+load_leaf-length-requires-clause-led g c = (since c.args.seat.now.known, leaf_led c.args.number c.locate-leaf.result.rec c.locate-leaf.ensures.rec c.args.seat.now.known (since c.args.seat.now.known) (rooted_led (Leaf c.args.number) c.requires.root))
+
+pub load_leaf-length-requires-clause-leaf : goal.load_leaf-length-requires-clause-leaf
+load_leaf-length-requires-clause-leaf g c = leaf_at c.args.table.now.layout c.args.number c.locate-leaf.result c.locate-leaf.ensures.rec c.locate-leaf.ensures.start
 
 pub returns-then-is_earlier_key-clause-reads : goal.returns-then-is_earlier_key-clause-reads
 returns-then-is_earlier_key-clause-reads g c = loads g (goal.at.returns-then-is_earlier_key-clause-reads g c).After-load_leaf-length

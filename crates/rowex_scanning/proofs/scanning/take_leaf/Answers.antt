@@ -6,8 +6,9 @@ use Rattle.version_laws.specs.Directions.{IsNoLater, first_key}
 use Rattle.version_laws.specs.Scan.{IsRead}
 use Rattle.rowex_reading.specs.Seen.{IsLedTo, Sure}
 use Rattle.rowex_reading.proofs.Led.{reader_then, reads_later}
+use Rattle.rowex_reading.proofs.Naming.{leaf_led, leaf_told}
 use Rattle.rowex_scanning.specs.Scanning.{asked_range, request_of, IsLeafRefused, IsLeafTaken, IsPairRefused, IsPairTaken}
-use Rattle.rowex_scanning.proofs.Begins.{leaf_begins}
+use Rattle.rowex_scanning.proofs.Begins.{leaf_begins, leaf_there}
 use Rattle.rowex_scanning.proofs.scanning.take_leaf.Given as given
 use Rattle.rowex_scanning.proofs.scanning.take_leaf.Goals as goal
 use Rattle.rowex_scanning.proofs.scanning.take_leaf.Goals.{After-load_leaf-length, Then-length-eq8}
@@ -17,20 +18,22 @@ late : (g : given.Over) (c : After-load_leaf-length g) →
     IsNoLater c.args.scan.now.range.now.direction (first_key c.args.scan.now.range.now.direction (asked_range c.args.scan.now.range.now)) (take c.load_leaf-length.result.0 c.load_leaf-length.new.places)
 late g c =
     let e = c.load_leaf-length.ensures in let (m, led, reached) = c.requires.leaf in
-    reached c.load_leaf-length.new.seat.known (reads_later e.reads) (reader_then c.requires.reader e.reads).1 _ _ (e.leaf m led)
+    reached c.load_leaf-length.new.seat.known (reads_later e.reads) (reader_then c.requires.reader e.reads).1 _ _ (leaf_told c.args.number c.find-leaf.result.rec c.find-leaf.ensures.rec c.args.seat.now.known c.load_leaf-length.new.seat.known (take c.load_leaf-length.result.0 c.load_leaf-length.new.places) c.load_leaf-length.result.1 e.leaf m led)
 
 -- a key of eight bytes
 read_eight : (g : given.Over) (c : Then-length-eq8 g) (m : ℕ) → IsLedTo c.args.seat.now.known m (Leaf c.args.number) →
     Sure c.load_leaf-length.new.seat.known (λ s. IsRead s m c.args.number (take 8 c.load_leaf-length.new.places) c.load_leaf-length.result.1)
 read_eight g c m led =
-    subst (λ n. Sure c.load_leaf-length.new.seat.known (λ s. IsRead s m c.args.number (take n c.load_leaf-length.new.places) c.load_leaf-length.result.1)) c.if-length-eq8.true (c.load_leaf-length.ensures.leaf m led)
+    subst (λ n. Sure c.load_leaf-length.new.seat.known (λ s. IsRead s m c.args.number (take n c.load_leaf-length.new.places) c.load_leaf-length.result.1)) c.if-length-eq8.true (leaf_told c.args.number c.find-leaf.result.rec c.find-leaf.ensures.rec c.args.seat.now.known c.load_leaf-length.new.seat.known (take c.load_leaf-length.result.0 c.load_leaf-length.new.places) c.load_leaf-length.result.1 c.load_leaf-length.ensures.leaf m led)
 
 pub load_leaf-length-requires-clause-led : goal.load_leaf-length-requires-clause-led
-load_leaf-length-requires-clause-led g c = (c.requires.leaf.0, c.requires.leaf.1)
+load_leaf-length-requires-clause-led g c = (c.requires.leaf.0, leaf_led c.args.number c.find-leaf.result.rec c.find-leaf.ensures.rec c.args.seat.now.known c.requires.leaf.0 c.requires.leaf.1)
 
-pub load_leaf-length-requires-clause-start : goal.load_leaf-length-requires-clause-start
-load_leaf-length-requires-clause-start g c =
-    leaf_begins c.args.scan.now.table.now.layout c.args.scan.now.origins.now.layout c.args.seat.now.known c.requires.leaf.0 c.args.number c.start_of_leaf-start.result c.requires.reader.1 c.requires.leaf.1 c.requires.origins c.start_of_leaf-start.ensures
+pub find-leaf-requires : goal.find-leaf-requires
+find-leaf-requires g c = leaf_there c.args.scan.now.table.now.layout c.args.scan.now.origins.now.layout c.requires.origins c.args.seat.now.known c.requires.leaf.0 c.args.number c.requires.reader.1 c.requires.leaf.1
+
+pub load_leaf-length-requires-clause-leaf : goal.load_leaf-length-requires-clause-leaf
+load_leaf-length-requires-clause-leaf g c = leaf_begins c.args.scan.now.table.now.layout c.args.scan.now.origins.now.layout c.requires.origins c.args.number c.find-leaf.result c.find-leaf.ensures.rec c.find-leaf.ensures.start
 
 pub take_pair_in_range-requires-clause-reached : goal.take_pair_in_range-requires-clause-reached
 take_pair_in_range-requires-clause-reached g c =
@@ -57,5 +60,5 @@ pub returns-clause-refused : goal.returns-clause-refused
 returns-clause-refused g c =
     let key = take c.load_leaf-length.result.0 c.load_leaf-length.new.places in let range = asked_range c.args.scan.now.range.now in
     let of_leaf : IsPairRefused range (g.S.Tallies.tally c.args.sink.now) key (g.S.Tallies.tally c.take_pair_in_range-2.new.sink) → IsLeafRefused c.args.seat.now.known c.load_leaf-length.new.seat.known range c.args.number (g.S.Tallies.tally c.args.sink.now) (g.S.Tallies.tally c.take_pair_in_range-2.new.sink) =
-    λ refused. record { key = key; value = c.load_leaf-length.result.1; read = c.load_leaf-length.ensures.leaf; refused = refused } in
+    λ refused. record { key = key; value = c.load_leaf-length.result.1; read = leaf_told c.args.number c.find-leaf.result.rec c.find-leaf.ensures.rec c.args.seat.now.known c.load_leaf-length.new.seat.known (take c.load_leaf-length.result.0 c.load_leaf-length.new.places) c.load_leaf-length.result.1 c.load_leaf-length.ensures.leaf; refused = refused } in
     on_err_weaker c.take_pair_in_range-2.result of_leaf c.take_pair_in_range-2.ensures.refused
