@@ -1,7 +1,7 @@
 //! Atomic steps on the shared words, as events.
 
+use record_words::Rec;
 use std::marker::Model;
-use versions::Rec;
 
 /// What a writer locks.
 #[derive(Clone, Copy)]

@@ -3,8 +3,8 @@
 
 use compound_node::Entry;
 use finite_map::{Change, Note};
-use record_words::Location;
-use versions::{Listed, Pin, Rec, Round};
+use record_words::{Location, Rec};
+use versions::{Listed, Pin, Round};
 
 /// What a load told a pinned pass. `since` is the version at its pin, and `at` the newest version at the load.
 pub enum Fact {

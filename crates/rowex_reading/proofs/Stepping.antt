@@ -26,7 +26,7 @@ use Rattle.rowex_core.specs.Reading.{IsPacked}
 use Rattle.rowex_core.specs.declared.known.Known.{Known}
 use Rattle.tries.specs.Keys.{Key}
 use Rattle.tries.specs.Place.{spot}
-use Rattle.versions.specs.declared.Rec.TheVariants.{Node as a_node}
+use Rattle.record_words.specs.declared.records.Rec.TheVariants.{Node as a_node}
 use Rattle.rowex_reading.specs.Possible.{IsPossible}
 use Rattle.rowex_reading.specs.Seen.{AreHeadWords, AreLoaded, IsLedTo, shape_of}
 use Rattle.rowex_reading.specs.Ways.{step_at}

@@ -6,7 +6,7 @@ ghost use Rattle.record_words.specs.declared.TheConstants.{HEAD_WORDS};
 ghost use Rattle.version_laws.specs.Scan.{IsShaped};
 ghost use Rattle.rowex_table.specs.Rule.{IsNodeAt, number_of};
 ghost use Rattle.rowex_table.specs.Seats.{IsSeatOf};
-ghost use Rattle.versions.specs.declared.Rec.TheVariants.{Node as a_node};
+ghost use Rattle.record_words.specs.declared.records.Rec.TheVariants.{Node as a_node};
 ghost use Rattle.tries.specs.Place.{spot};
 ghost use Rattle.tries.specs.Tree.{Subtrie};
 ghost use Rattle.rowex_reading.specs.Lookups.{HasFound, HasSearched};

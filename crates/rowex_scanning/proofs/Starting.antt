@@ -33,7 +33,7 @@ use Rattle.version_laws.proofs.Starts.{at_beyond, at_on_way, fit_sole, scan_star
 use Rattle.version_laws.proofs.Walk.{scan_skipped, stack_place}
 use Rattle.rowex_reading.specs.Possible.{IsPossible}
 use Rattle.rowex_table.specs.Made.{IsLater}
-use Rattle.versions.specs.declared.Rec.TheVariants.{Leaf as a_leaf}
+use Rattle.record_words.specs.declared.records.Rec.TheVariants.{Leaf as a_leaf}
 use Rattle.rowex_reading.specs.Seen.{seen, since, IsAtRoot, Sure}
 use Rattle.rowex_reading.proofs.Seeing.{read_stable, seen_steady, since_later, sure_later}
 use Rattle.rowex_reading.proofs.Shapes.{same_shape}

@@ -5,7 +5,7 @@ ghost use Rattle.rowex_reading.specs.Reads.{IsReader, Reads};
 ghost use Rattle.rowex_scanning.specs.Ahead.{HasPlaces, HasSeenAhead, entries_ahead};
 ghost use Rattle.rowex_core.specs.Cores.{HasRecord};
 ghost use Rattle.version_laws.specs.Directions.{to_come as to_come_of};
-ghost use Rattle.versions.specs.declared.Rec.TheVariants.{Leaf as a_leaf};
+ghost use Rattle.record_words.specs.declared.records.Rec.TheVariants.{Leaf as a_leaf};
 
 use crate::direction::{entries_to_come, slot_ahead};
 use crate::scanning::Scan;

@@ -18,7 +18,7 @@ use Rattle.tries.proofs.Building.{size-piece}
 use Rattle.tries.proofs.Places.{spot_below}
 use Rattle.tries.proofs.Spots.{sibling_spot}
 use Rattle.versions.specs.Heap.{NodeWords}
-use Rattle.versions.specs.declared.Rec.TheVariants.{Node as a_node}
+use Rattle.record_words.specs.declared.records.Rec.TheVariants.{Node as a_node}
 use Rattle.versions.proofs.Members.{all_of}
 use Rattle.rowex_core.specs.Cores.{IsWhole}
 use Rattle.rowex_core.specs.Reading.{IsPacked, node_words_of}

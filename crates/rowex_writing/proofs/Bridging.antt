@@ -16,7 +16,7 @@ use Rattle.insert_cases.proofs.Choosing.{some_injective, some_at}
 use Rattle.versions.specs.Heap.{NodeWords}
 use Rattle.versions.specs.Frames.{IsGrown}
 use Rattle.versions.specs.State.{Past}
-use Rattle.versions.specs.declared.Rec.TheVariants.{Node as a_node}
+use Rattle.record_words.specs.declared.records.Rec.TheVariants.{Node as a_node}
 use Rattle.versions.proofs.Members.{all_of}
 use Rattle.node_tries.proofs.Paths.{size_pos}
 use Rattle.node_tries.specs.Piece.{Place, Fork, size}

@@ -16,7 +16,7 @@ use Rattle.tries.proofs.Places.{seek_spot, spot_below}
 use Rattle.versions.specs.Heap.{Heap, NodeWords}
 use Rattle.versions.specs.State.{IsTop}
 use Rattle.versions.specs.declared.Pin.{Pin}
-use Rattle.versions.specs.declared.Rec.TheVariants.{Node as a_node}
+use Rattle.record_words.specs.declared.records.Rec.TheVariants.{Node as a_node}
 use Rattle.versions.specs.Trades.{IsOneOf}
 use Rattle.versions.proofs.Members.{all_of, map_of}
 use Rattle.rowex_core.specs.declared.event.Act.TheVariants.{LoadRef}

@@ -10,8 +10,8 @@ use Rattle.compound_node.specs.declared.entries.Entry.{Entry}
 use Rattle.compound_node.specs.declared.entries.Entry.TheVariants.{Leaf as LeafEntry, Node}
 use Rattle.insert_cases.specs.declared.choice.PathNode.{PathNode}
 use Rattle.versions.specs.Trades.{IsOneOf, AreApart}
-use Rattle.versions.specs.declared.Rec.{Rec}
-use Rattle.versions.specs.declared.Rec.TheVariants.{Node as a_node}
+use Rattle.record_words.specs.declared.records.Rec.{Rec}
+use Rattle.record_words.specs.declared.records.Rec.TheVariants.{Node as a_node}
 use Rattle.versions.proofs.Members.{map_of, of_append, of_left, of_map, of_right}
 use Rattle.node_tries.specs.Piece.{Place, places}
 use Rattle.record_words.specs.Entry.{HasEntryWord, entry_word}

@@ -12,8 +12,8 @@ use Rattle.tries.specs.Place.{spot, subtrie_without}
 use Rattle.tries.proofs.Spots.{without_spot}
 use Rattle.versions.specs.Heap.{NodeWords}
 use Rattle.versions.specs.Steps.{same_rec}
-use Rattle.versions.specs.declared.Rec.{Rec}
-use Rattle.versions.specs.declared.Rec.TheVariants.{Node as a_node, Leaf as a_leaf}
+use Rattle.record_words.specs.declared.records.Rec.{Rec}
+use Rattle.record_words.specs.declared.records.Rec.TheVariants.{Node as a_node, Leaf as a_leaf}
 use Rattle.versions.proofs.Legal.{same_rec_refl}
 use Rattle.version_laws.specs.Writer.{removed_change}
 use Rattle.rowex_core.specs.Reading.{IsPacked, node_words_of}

@@ -28,8 +28,8 @@ use Rattle.tries.proofs.Places.{spot_below}
 use Rattle.tries.proofs.Spots.{collapsed_spot, without_spot}
 use Rattle.versions.specs.Heap.{NodeWords}
 use Rattle.versions.specs.Trades.{AreApart, IsOneOf}
-use Rattle.versions.specs.declared.Rec.{Rec}
-use Rattle.versions.specs.declared.Rec.TheVariants.{Node as a_node, Leaf as a_leaf}
+use Rattle.record_words.specs.declared.records.Rec.{Rec}
+use Rattle.record_words.specs.declared.records.Rec.TheVariants.{Node as a_node, Leaf as a_leaf}
 use Rattle.versions.proofs.Members.{all_of, map_of, of_map}
 use Rattle.rowex_core.specs.Cores.{HasRecord}
 use Rattle.rowex_core.specs.Having.{AreKept}

@@ -24,7 +24,7 @@ use Rattle.tries.specs.Place.{shape}
 use Rattle.tries.specs.Search.{seek}
 use Rattle.tries.specs.Tree.{Subtrie, leaf}
 use Rattle.tries.proofs.Tries.{trie_within}
-use Rattle.versions.specs.declared.Rec.{Rec}
+use Rattle.record_words.specs.declared.records.Rec.{Rec}
 use Rattle.versions.specs.Trades.{IsOneOf}
 use Rattle.version_laws.specs.Scan.{IsRead}
 use Rattle.version_laws.specs.Writer.{added_change, replaced_change}

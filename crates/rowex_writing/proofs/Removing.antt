@@ -17,8 +17,8 @@ use Rattle.tries.specs.Place.{joined, subtrie_without, spot}
 use Rattle.tries.specs.Search.{seek}
 use Rattle.tries.specs.Tree.{Subtrie, leaf}
 use Rattle.versions.specs.Heap.{NodeWords}
-use Rattle.versions.specs.declared.Rec.{Rec}
-use Rattle.versions.specs.declared.Rec.TheVariants.{Node as a_node, Leaf as a_leaf}
+use Rattle.record_words.specs.declared.records.Rec.{Rec}
+use Rattle.record_words.specs.declared.records.Rec.TheVariants.{Node as a_node, Leaf as a_leaf}
 use Rattle.versions.specs.Trades.{IsOneOf}
 use Rattle.versions.proofs.Members.{all_of, none_of, of_append, of_left, of_right}
 use Rattle.rowex_core.specs.declared.event.Spot.{Spot}

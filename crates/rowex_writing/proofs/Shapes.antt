@@ -10,7 +10,7 @@ use Rattle.tries.specs.Keys.{Key}
 use Rattle.tries.specs.Place.{shape, spot}
 use Rattle.tries.specs.Tree.{Subtrie, Tree, Fixed, node, subtrie, first_position}
 use Rattle.tries.proofs.Places.{shape_tips, spot_shape}
-use Rattle.versions.specs.declared.Rec.TheVariants.{Node as a_node}
+use Rattle.record_words.specs.declared.records.Rec.TheVariants.{Node as a_node}
 use Rattle.versions.specs.Heap.{NodeWords}
 use Rattle.versions.specs.State.{Past, Stands, IsSteady}
 use Rattle.versions.proofs.Growth.{in_tree_now}

@@ -26,8 +26,8 @@ use Rattle.tries.specs.Place.{spot}
 use Rattle.tries.specs.Tree.{Subtrie}
 use Rattle.version_laws.specs.Rise.{Side, entry}
 use Rattle.version_laws.specs.Writer.{Newcomer}
-use Rattle.versions.specs.declared.Rec.{Rec}
-use Rattle.versions.specs.declared.Rec.TheVariants.{Node as a_node}
+use Rattle.record_words.specs.declared.records.Rec.{Rec}
+use Rattle.record_words.specs.declared.records.Rec.TheVariants.{Node as a_node}
 use Rattle.rowex_core.specs.Cores.{FitsIn}
 use Rattle.rowex_core.specs.Reading.{IsPacked, node_words_of}
 use Rattle.rowex_table.specs.Made.{Made, recs_of, HoldsMade}

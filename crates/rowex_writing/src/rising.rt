@@ -17,7 +17,7 @@ ghost use Rattle.tries.specs.Keys.{Key as KeyValue};
 ghost use Rattle.tries.specs.Place.{subtrie_without};
 ghost use Rattle.insert_cases.specs.Risen.{subtrie_of};
 ghost use Rattle.insert_cases.specs.declared.raising.Risen.TheVariants.{Split};
-ghost use Rattle.versions.specs.declared.Rec.TheVariants.{Node as a_node};
+ghost use Rattle.record_words.specs.declared.records.Rec.TheVariants.{Node as a_node};
 ghost use Rattle.rowex_core.specs.Reading.{node_words_of};
 ghost use Rattle.version_laws.specs.Rise.{entry};
 ghost use Rattle.rowex_writing.specs.Counts.{level_steps, node_steps};

@@ -7,7 +7,7 @@ use Rattle.compound_node.specs.declared.entries.Entry.{Entry}
 use Rattle.compound_node.specs.declared.entries.Entry.TheVariants.{Leaf, Node}
 use Rattle.node_tries.specs.Piece.{Place}
 use Rattle.versions.specs.State.{Past, IsKeptSince, IsSameRecord, IsSteady}
-use Rattle.versions.specs.declared.Rec.TheVariants.{Node as a_node}
+use Rattle.record_words.specs.declared.records.Rec.TheVariants.{Node as a_node}
 use Rattle.compound_node.specs.Nodes.{height_of}
 use Rattle.tries.specs.Place.{entry_at}
 use Rattle.version_laws.specs.Scan.{IsRooted, IsPlaced, IsRead, EntryStoodSince, IsBlank, Frame, IsStack, Range, IsInRange}

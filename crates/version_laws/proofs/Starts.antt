@@ -13,7 +13,7 @@ use Rattle.tries.proofs.Places.{spot_below, spot_shape, shape_tips}
 use Rattle.tries.proofs.Tries.{has_under, under_below, kin_tips}
 use Rattle.versions.specs.Frames.{IsGrown}
 use Rattle.versions.specs.State.{Past, IsKeptSince, IsSteady}
-use Rattle.versions.specs.declared.Rec.TheVariants.{Node as a_node}
+use Rattle.record_words.specs.declared.records.Rec.TheVariants.{Node as a_node}
 use Rattle.version_laws.specs.Scan.{AgreeUpToPlace, IsPlaced, IsShaped, MayStandAt, HadKeyBelow, Frame, IsStack, Range, IsInRange}
 use Rattle.version_laws.specs.Directions.{gap_before, gap_behind, first_gap, first_key, IsEarlier, IsNoLater, IsToCome, WasPassed, ComesOnWay, IsScanBy, IsPastKey}
 use Rattle.version_laws.specs.declared.direction.Direction.{Direction}

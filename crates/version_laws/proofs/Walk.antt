@@ -6,7 +6,7 @@ use Rattle.compound_node.specs.declared.entries.Entry.TheVariants.{Leaf, Node}
 use Rattle.tries.specs.Tree.{Subtrie}
 use Rattle.node_tries.specs.Piece.{size}
 use Rattle.versions.specs.State.{Past, IsKeptSince, IsSteady}
-use Rattle.versions.specs.declared.Rec.TheVariants.{Node as a_node}
+use Rattle.record_words.specs.declared.records.Rec.TheVariants.{Node as a_node}
 use Rattle.tries.specs.Place.{spot}
 use Rattle.version_laws.specs.Scan.{IsPlaced, IsShaped, IsRead, MayStandAt, HadKeyBelow, Frame, IsStack, Pair, Every, IsKeyListed, Range, IsInRange}
 use Rattle.version_laws.specs.Directions.{gap_before, gap_behind, first_gap, to_come, first_key, last_key, IsEarlier, IsNoLater, IsToCome, WasPassed, WasPassedOnWay, HasPassed, ComesOnWay, Comes, IsScanBy, IsComplete, IsCut, IsReachedBy}

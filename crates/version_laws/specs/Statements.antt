@@ -13,8 +13,8 @@ use Rattle.tries.specs.Place.{subtrie_collapsed, subtrie_without, spot, entry_at
 use Rattle.tries.specs.Affected.{subtrie_forked, FirstForkIsBefore}
 use Rattle.versions.specs.Heap.{Heap}
 use Rattle.versions.specs.State.{State, Past, IsLawfulState, IsReach, IsSteady, IsLed, WasAbsentSince, IsHeldSince}
-use Rattle.versions.specs.declared.Rec.{Rec}
-use Rattle.versions.specs.declared.Rec.TheVariants.{Node as a_node, Leaf as a_leaf}
+use Rattle.record_words.specs.declared.records.Rec.{Rec}
+use Rattle.record_words.specs.declared.records.Rec.TheVariants.{Node as a_node, Leaf as a_leaf}
 use Rattle.versions.specs.Trades.{HasTraded}
 use Rattle.versions.specs.Core.{BareCore, view}
 use Rattle.versions.specs.declared.Pin.{Pin}

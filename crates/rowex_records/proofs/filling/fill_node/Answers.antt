@@ -1,6 +1,6 @@
 -- The first word, and eight by eight all of them, which spell the node.
 use Rattle.std.proofs.Common.{rules, length, ◌≡◌}
-use Rattle.versions.specs.declared.Rec.TheVariants.{Node as a_node}
+use Rattle.record_words.specs.declared.records.Rec.TheVariants.{Node as a_node}
 use Rattle.rowex_core.specs.Reading.{IsPacked}
 use Rattle.rowex_records.proofs.SetAll.{set_claimed, sets_eights, sets_node, sets_count, sets_give}
 use Rattle.rowex_records.proofs.Used.{numbers_used}

@@ -3,7 +3,7 @@ use Rattle.std.proofs.Common.{ℕ, ◌≡◌, ◌<◌, arith}
 use Rattle.std.proofs.lemmas.Bool.{le-ltb}
 use Rattle.record_words.specs.declared.TheConstants.{FIRST_ENTRY}
 use Rattle.rowex_records.proofs.SetAll.{fixed_is_load, is_fixed}
-use Rattle.versions.specs.declared.Rec.TheVariants.{Node as a_node}
+use Rattle.record_words.specs.declared.records.Rec.TheVariants.{Node as a_node}
 use Rattle.rowex_records.proofs.filling.load_word.Goals.{in_default-via-in-Node+else-offset-ge-FIRST_ENTRY, in_default-via-in_default}
 use Rattle.rowex_records.proofs.filling.load_word.Goals as goal
 

@@ -1,7 +1,7 @@
 -- The node of both in the record that is claimed, and what is left of the upper one.
 use Rattle.std.proofs.Common.{◌∷◌, [], ◌++◌, ap, arith, length, refl, subst, sym, ◌∙◌}
 use Rattle.compound_node.specs.declared.entries.Entry.TheVariants.{Node}
-use Rattle.versions.specs.declared.Rec.TheVariants.{Node as a_node}
+use Rattle.record_words.specs.declared.records.Rec.TheVariants.{Node as a_node}
 use Rattle.publish_laws.specs.Rises.{made_of_node}
 use Rattle.rowex_writing.specs.Building.{IsBuilding}
 use Rattle.rowex_writing.specs.Merging.{ClosesFork, upper}
