@@ -15,8 +15,8 @@ use Rattle.version_laws.proofs.Starts.{beyond_grown, same_past}
 use Rattle.version_laws.proofs.Walk.{come_before, may_stand_earlier}
 use Rattle.version_laws.specs.Directions.{IsEarlier, IsNoLater, IsPastKey, IsToCome, WasPassed, first_key, gap_before, last_key, place_ahead, to_come}
 use Rattle.version_laws.specs.Scan.{Range, IsInRange, IsPlaced, IsRead}
-use Rattle.version_laws.specs.declared.direction.Direction.{Direction}
-use Rattle.version_laws.specs.declared.direction.Direction.TheVariants.{Upwards, Downwards}
+use Rattle.packed_pairs.specs.declared.direction.Direction.{Direction}
+use Rattle.packed_pairs.specs.declared.direction.Direction.TheVariants.{Upwards, Downwards}
 use Rattle.rowex_reading.specs.Seen.{Sure, IsLedTo, seen, since}
 use Rattle.rowex_reading.proofs.Led.{placed_led}
 use Rattle.rowex_reading.proofs.Seeing.{later_reflexive, read_stable, recalls_before, seen_grown, seen_steady, since_later, sure_later}

@@ -46,8 +46,8 @@ use Rattle.rowex_scanning.specs.Scanning.{ArePastKey, AreInside, IsBound, IsReac
 use Rattle.rowex_scanning.specs.Tallies.{IsNone, Tally, tally_of_number}
 use Rattle.rowex_scanning.specs.declared.start.SearchEnd.{SearchEnd}
 use Rattle.rowex_scanning.specs.Starts.{IsSearchEnd, IsBegun, IsFirst, IsParting, IsStart}
-use Rattle.version_laws.specs.declared.direction.Direction.{Direction}
-use Rattle.version_laws.specs.declared.direction.Direction.TheVariants.{Upwards, Downwards}
+use Rattle.packed_pairs.specs.declared.direction.Direction.{Direction}
+use Rattle.packed_pairs.specs.declared.direction.Direction.TheVariants.{Upwards, Downwards}
 use Rattle.rowex_scanning.specs.declared.start.Start.{Start}
 use Rattle.rowex_scanning.proofs.Walking.{beyond_append, walk_before, IsAtEntry, tallied_none, walk_tallied}
 

@@ -23,7 +23,7 @@ use Rattle.rowex_scanning.proofs.Walking.{beyond_parts, walk_before, walk_fits, 
 use Rattle.rowex_scanning.specs.Scanning.{ArePastKey, IsBound, IsWalk, frame, frames_of}
 use Rattle.rowex_scanning.specs.Starts.{IsBegun, IsFirst, IsParting, IsStart, IsWalkFrom}
 use Rattle.rowex_scanning.specs.Tallies.{tally_of_number}
-use Rattle.version_laws.specs.declared.direction.Direction.TheVariants.{Upwards, Downwards}
+use Rattle.packed_pairs.specs.declared.direction.Direction.TheVariants.{Upwards, Downwards}
 use Rattle.rowex_scanning.specs.declared.start.Start.{Start}
 use Rattle.rowex_table.specs.Made.{IsLater}
 use Rattle.version_laws.proofs.Starts.{beyond_further, same_past, scan_started, IsWayEarlier}

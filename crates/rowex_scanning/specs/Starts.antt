@@ -9,8 +9,8 @@ use Rattle.rowex_reading.specs.Seen.{Sure}
 use Rattle.version_laws.specs.Directions.{IsNoLater, IsPastKey, first_key, gap_before, gap_behind}
 use Rattle.rowex_scanning.specs.Scanning.{ArePastKey, IsBound, IsWalk}
 use Rattle.rowex_scanning.specs.Tallies.{tally_of_number}
-use Rattle.version_laws.specs.declared.direction.Direction.{Direction}
-use Rattle.version_laws.specs.declared.direction.Direction.TheVariants.{Upwards, Downwards}
+use Rattle.packed_pairs.specs.declared.direction.Direction.{Direction}
+use Rattle.packed_pairs.specs.declared.direction.Direction.TheVariants.{Upwards, Downwards}
 use Rattle.record_words.specs.declared.layout.Layout.{Layout}
 use Rattle.rowex_reading.specs.Ways.{IsWayOf}
 use Rattle.rowex_reading.specs.declared.descent.Found.TheVariants.{Leaf as FoundLeaf}

@@ -8,7 +8,7 @@ ghost use Rattle.version_laws.specs.Directions.{IsEarlier, IsNoLater};
 ghost use Rattle.version_laws.specs.Directions.{gap_behind as gap_behind_of, first_gap as first_gap_of, gap_after as gap_after_of, place_ahead as place_ahead_of, to_come as to_come_of};
 
 use insert_cases::PathNode;
-use version_laws::Direction;
+use packed_pairs::Direction;
 
 /// How many entries are to come in the node `top`, for a walk in the direction `direction` that stands at its gap `top.at`.
 #[inline(always)]

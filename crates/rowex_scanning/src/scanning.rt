@@ -28,13 +28,12 @@ use crate::start::{SearchEnd, find_start};
 use arrayvec::ArrayVec;
 use insert_cases::PathNode;
 use key_bits::{Key, MAX_BYTES};
-use packed_pairs::Pairs;
+use packed_pairs::{Direction, Pairs};
 use record_words::{Origins, key_word_at};
 use rowex_core::{Gate, Rec};
 use rowex_reading::{Found, MOST_NODES, load_leaf, load_path_node, load_root, search_way};
 use rowex_table::{HotTable, RecordAt, TableSeat};
 use std::alloc::AllocError;
-use version_laws::Direction;
 
 /// What a scan asks for.
 #[derive(Drop)]

@@ -9,10 +9,10 @@ ghost use Rattle.rowex_scanning.specs.Starts.{IsSearchEnd, IsParting, IsStart};
 use crate::scanning::{Scan, first_key};
 use insert_cases::{PathNode, choose_case, last_level_before};
 use key_bits::Key;
+use packed_pairs::Direction;
 use rowex_core::Gate;
 use rowex_reading::find_affected;
 use rowex_table::{HotTable, TableSeat};
-use version_laws::Direction;
 
 /// Where a scan starts on the way of the search for its first key.
 #[derive(Clone, Copy)]

@@ -12,7 +12,7 @@ use Rattle.compound_node.specs.Nodes.{height_of}
 use Rattle.tries.specs.Place.{entry_at}
 use Rattle.version_laws.specs.Scan.{IsRooted, IsPlaced, IsRead, EntryStoodSince, IsBlank, Frame, IsStack, Range, IsInRange}
 use Rattle.version_laws.specs.Directions.{IsComplete, IsCut}
-use Rattle.version_laws.specs.declared.direction.Direction.{Direction}
+use Rattle.packed_pairs.specs.declared.direction.Direction.{Direction}
 use Rattle.tries.proofs.Tries.{built_within}
 use Rattle.version_laws.proofs.Scans.{node_of, root_had_key, leaf_had_key, read_held, before_most, never_before, place_same}
 use Rattle.version_laws.proofs.Loads.{lower_at, subtrie_at, rooted_seen, placed_seen, fixed_height}

@@ -10,7 +10,7 @@ use Rattle.record_words.specs.declared.records.Rec.TheVariants.{Node as a_node, 
 use Rattle.versions.specs.Frames.{IsGrown}
 use Rattle.version_laws.specs.Scan.{Stood, IsRooted, IsPlaced, IsShaped, IsRead, MayStandAt, HadKeyBelow, Frame, IsStack, Pair, Range}
 use Rattle.version_laws.specs.Directions.{WasPassedOnWay, HasPassed, ComesOnWay, Comes, IsScanBy}
-use Rattle.version_laws.specs.declared.direction.Direction.{Direction}
+use Rattle.packed_pairs.specs.declared.direction.Direction.{Direction}
 use Rattle.version_laws.proofs.Walk.{every_map}
 use Rattle.versions.proofs.Growth.{stands_grown}
 

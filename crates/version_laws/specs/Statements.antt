@@ -25,7 +25,7 @@ use Rattle.version_laws.specs.Spots.{HoldsSpot, IsLowAt, AffectsSpotAloneInCore,
 use Rattle.version_laws.specs.Rise.{IsNewSubtrie, IsEntryFor, IsUpper, IsLeafOf, IsBesideNode, subtrie_merged, entry, IsRise, linked_for_entry, linked_by_rise, unlinked_by_rise}
 use Rattle.version_laws.specs.Scan.{Pair, Range, in_order_taken, IsRooted, IsPlaced, IsShaped, IsRead, EntryStoodSince}
 use Rattle.version_laws.specs.Directions.{IsAnswer, IsLawfulBy}
-use Rattle.version_laws.specs.declared.direction.Direction.{Direction}
+use Rattle.packed_pairs.specs.declared.direction.Direction.{Direction}
 use Rattle.compound_node.specs.Nodes.{height_of}
 use Rattle.versions.specs.Frames.{IsGrown}
 

@@ -9,8 +9,8 @@ use Rattle.tries.proofs.Places.{spot_below}
 use Rattle.rowex_reading.proofs.Led.{reader_then, reads_later}
 use Rattle.rowex_scanning.specs.Scanning.{first_key_of}
 use Rattle.rowex_scanning.specs.Starts.{IsSearchEnd, IsParting, IsStart}
-use Rattle.version_laws.specs.declared.direction.Direction.{Direction}
-use Rattle.version_laws.specs.declared.direction.Direction.TheVariants.{Downwards}
+use Rattle.packed_pairs.specs.declared.direction.Direction.{Direction}
+use Rattle.packed_pairs.specs.declared.direction.Direction.TheVariants.{Downwards}
 use Rattle.rowex_scanning.specs.declared.start.Start.{Start}
 use Rattle.rowex_scanning.proofs.Turning.{turns_before, turns_behind, turns_same, turns_there}
 use Rattle.rowex_scanning.proofs.start.find_start.Given as given
