@@ -18,8 +18,8 @@ use Rattle.tries.proofs.Contents.{trie_if_local}
 use Rattle.tries.proofs.Fitting.{children_are}
 use Rattle.tries.proofs.Ranges.{has_key}
 use Rattle.tries.proofs.Tries.{has_first}
-use Rattle.versions.specs.declared.Rec.{Rec}
-use Rattle.versions.specs.declared.Rec.TheVariants.{Node as a_node}
+use Rattle.record_words.specs.declared.records.Rec.{Rec}
+use Rattle.record_words.specs.declared.records.Rec.TheVariants.{Node as a_node}
 use Rattle.versions.specs.Heap.{Heap, IsShown}
 use Rattle.versions.proofs.Heaps.{node_number}
 use Rattle.versions.specs.State.{Links}

@@ -19,7 +19,7 @@ ghost use Rattle.record_words.specs.Entry.{HasEntryWord};
 ghost use Rattle.tries.specs.Content.{Item, item, items};
 ghost use Rattle.tries.specs.Keys.{IsParted};
 ghost use Rattle.tries.specs.Tree.{Tree, subtrie};
-ghost use Rattle.versions.specs.declared.Rec.TheVariants.{Leaf as a_leaf};
+ghost use Rattle.record_words.specs.declared.records.Rec.TheVariants.{Leaf as a_leaf};
 
 use crate::records::{put_leaf, put_node, put_root};
 use crate::slots::{Slot, build_node, merge_slots};

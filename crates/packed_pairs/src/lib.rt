@@ -2,10 +2,12 @@
 #![tactic(auto)]
 
 mod back;
+mod direction;
 mod iter;
 mod keys;
 mod pairs;
 mod parts;
 
+pub use direction::Direction;
 pub use iter::Iter;
 pub use pairs::{Head, Pairs};

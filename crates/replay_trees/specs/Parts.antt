@@ -5,8 +5,8 @@ use Rattle.record_words.specs.Node.{HasNodeWords, node_words}
 use Rattle.record_words.specs.Leaf.{HasLeafWords, leaf_words, up_to_key}
 use Rattle.tries.specs.Tree.{Subtrie, Tree, leaf, node, fork, subtrie, IsBuilt}
 use Rattle.tries.specs.Content.{items, IsLocal}
-use Rattle.versions.specs.declared.Rec.{Rec}
-use Rattle.versions.specs.declared.Rec.TheVariants.{Node as a_node, Leaf as a_leaf}
+use Rattle.record_words.specs.declared.records.Rec.{Rec}
+use Rattle.record_words.specs.declared.records.Rec.TheVariants.{Node as a_node, Leaf as a_leaf}
 use Rattle.versions.specs.Heap.{IsShown}
 use Rattle.versions.specs.State.{Links}
 use Rattle.rowex_core.specs.Cores.{heap_of}

@@ -3,8 +3,8 @@ use Rattle.std.specs.Prelude.{◌≡◌, ◌↔◌, ℕ, ◌<◌, List, [], leng
 use Rattle.compound_node.specs.declared.entries.Entry.{Entry}
 use Rattle.tries.specs.Tree.{Tree, IsTrie, IsBuilt}
 use Rattle.tries.specs.Content.{Item}
-use Rattle.versions.specs.declared.Rec.{Rec}
-use Rattle.versions.specs.declared.Rec.TheVariants.{Node as a_node, Leaf as a_leaf}
+use Rattle.record_words.specs.declared.records.Rec.{Rec}
+use Rattle.record_words.specs.declared.records.Rec.TheVariants.{Node as a_node, Leaf as a_leaf}
 use Rattle.versions.specs.State.{IsTop, IsLinked}
 use Rattle.versions.specs.Told.{items_of}
 use Rattle.rowex_core.specs.Reading.{IsPacked}

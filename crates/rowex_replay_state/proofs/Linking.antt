@@ -8,8 +8,8 @@ use Rattle.compound_node.specs.declared.entries.Entry.{Entry}
 use Rattle.record_words.specs.declared.layout.Layout.{Layout}
 use Rattle.tries.specs.Tree.{Tree}
 use Rattle.tries.specs.Content.{Item}
-use Rattle.versions.specs.declared.Rec.{Rec}
-use Rattle.versions.specs.declared.Rec.TheVariants.{Node as a_node, Leaf as a_leaf}
+use Rattle.record_words.specs.declared.records.Rec.{Rec}
+use Rattle.record_words.specs.declared.records.Rec.TheVariants.{Node as a_node, Leaf as a_leaf}
 use Rattle.versions.specs.State.{IsTop, IsLinked}
 use Rattle.versions.specs.Told.{items_of}
 use Rattle.versions.specs.Core.{Fate, Free, Held, Ready as ReadyBy, InTree as InTreeSince, Unlinked, Marked}

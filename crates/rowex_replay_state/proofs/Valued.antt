@@ -16,8 +16,8 @@ use Rattle.record_words.specs.Node.{HasNodeWords, node_words}
 use Rattle.tries.specs.Place.{entry_at}
 use Rattle.tries.specs.Content.{items}
 use Rattle.tries.specs.Tree.{Tree, leaf, node, fork}
-use Rattle.versions.specs.declared.Rec.{Rec}
-use Rattle.versions.specs.declared.Rec.TheVariants.{Node as a_node, Leaf as a_leaf}
+use Rattle.record_words.specs.declared.records.Rec.{Rec}
+use Rattle.record_words.specs.declared.records.Rec.TheVariants.{Node as a_node, Leaf as a_leaf}
 use Rattle.versions.specs.Core.{Free, InTree}
 use Rattle.versions.specs.Heap.{NodeWords}
 use Rattle.versions.specs.Steps.{is_linked, next_fate, HasLockedNamer, in_root, in_node}

@@ -1,7 +1,7 @@
 -- The records to which a walk is led are the table's, and are located by its origins.
 use Rattle.std.proofs.Common.{◌≡◌, ◌<◌, ℕ, subst, sym}
 use Rattle.compound_node.specs.declared.entries.Entry.TheVariants.{Leaf, Node}
-use Rattle.versions.specs.declared.Rec.TheVariants.{Leaf as a_leaf, Node as a_node}
+use Rattle.record_words.specs.declared.records.Rec.TheVariants.{Leaf as a_leaf, Node as a_node}
 use Rattle.record_words.specs.declared.layout.Layout.{Layout}
 use Rattle.record_words.specs.Layout.{leaf_size}
 use Rattle.rowex_core.specs.declared.known.Known.{Known}

@@ -10,5 +10,5 @@ mod sinks;
 mod start;
 
 pub use counting::count_root;
+pub use packed_pairs::Direction;
 pub use scanning::{Range, scan_root, scan_values};
-pub use version_laws::Direction;

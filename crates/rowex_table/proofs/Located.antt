@@ -1,7 +1,7 @@
 -- A record that was located, as a node's or a leaf's.
 use Rattle.std.proofs.Common.{◌≡◌, ◌∙◌, ℕ, ap, subst, sym}
 use Rattle.record_words.specs.declared.layout.Layout.{Layout}
-use Rattle.versions.specs.declared.Rec.TheVariants.{Node as a_node, Leaf as a_leaf}
+use Rattle.record_words.specs.declared.records.Rec.TheVariants.{Node as a_node, Leaf as a_leaf}
 use Rattle.rowex_table.specs.declared.record_steps.RecordAt.{RecordAt}
 use Rattle.rowex_table.specs.Rule.{IsLeafAt, IsNodeAt, IsStartOf, number_of}
 

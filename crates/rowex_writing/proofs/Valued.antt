@@ -17,7 +17,7 @@ use Rattle.version_laws.specs.Scan.{IsRead}
 use Rattle.version_laws.proofs.Search.{holds_within}
 use Rattle.versions.specs.State.{IsSteady, Past, Stands}
 use Rattle.versions.specs.Trades.{IsOneOf}
-use Rattle.versions.specs.declared.Rec.TheVariants.{Leaf as a_leaf}
+use Rattle.record_words.specs.declared.records.Rec.TheVariants.{Leaf as a_leaf}
 use Rattle.rowex_core.specs.declared.event.Act.TheVariants.{LoadRef, Publish}
 use Rattle.rowex_core.specs.declared.event.Event.{Event}
 use Rattle.rowex_core.specs.declared.event.Spot.{Spot}
@@ -69,7 +69,7 @@ use Rattle.rowex_writing.specs.Building.{IsBuilding}
 use Rattle.rowex_writing.specs.declared.job.Raised.{Raised}
 use Rattle.rowex_writing.specs.declared.attempts.TryFault.{TryFault}
 use Rattle.rowex_writing.specs.declared.attempts.TryFault.TheVariants.{Busy, FullNodes, FullLeaves}
-use Rattle.versions.specs.declared.Rec.{Rec}
+use Rattle.record_words.specs.declared.records.Rec.{Rec}
 use Rattle.rowex_writing.specs.Retiring.{IsAnchored}
 use Rattle.rowex_core.specs.Having.{AreKept, LocksJust}
 use Rattle.versions.proofs.Members.{map_of}
@@ -189,7 +189,7 @@ some_spot way end low = go (cases_lt 0 end)
   where
     go : (0 < end) ⊎ (end ≤ 0) → (spot : Spot) × IsSpotAbove way end spot
     go (inr none) = (Root, omega (arith, none))
-    go (inl some) = let s = get_or way (end - 1) no_step in (Slot s.number s.at, (s, some, slice_get-get_or way (end - 1) no_step (omega (arith, some, low)), refl, refl))
+    go (inl some) = let s = get_or way (end - 1) no_step in (Slot s.number s.slot, (s, some, slice_get-get_or way (end - 1) no_step (omega (arith, some, low)), refl, refl))
 
 -- so a change's records are those that the pass has made
 pub replaced_made : (table : TableView) (a : SeatView) (made : List Rec) (job : Job) (raised : Raised) (x : Change) (was : Option ℕ) → job.span.end ≤ length job.way.now → MayReplace table a made job raised x was →

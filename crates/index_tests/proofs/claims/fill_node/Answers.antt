@@ -1,6 +1,6 @@
 -- The seat has claimed the record, and may fill it.
 use Rattle.std.proofs.Common.{rules, ◌≡◌, true, arith}
-use Rattle.versions.specs.declared.Rec.TheVariants.{Node as a_node}
+use Rattle.record_words.specs.declared.records.Rec.TheVariants.{Node as a_node}
 use Rattle.rowex_table.proofs.Rights.{fills}
 use Rattle.index_tests.proofs.claims.fill_node.Goals as goal
 

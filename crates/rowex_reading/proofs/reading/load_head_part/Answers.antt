@@ -2,7 +2,7 @@
 use Rattle.std.proofs.Common.{◌+◌, ◌<◌, ◌∙◌, arith, length, refl, subst}
 use Rattle.std.proofs.lemmas.List.{length-set}
 use Rattle.compound_node.specs.declared.entries.Entry.TheVariants.{Node}
-use Rattle.versions.specs.declared.Rec.TheVariants.{Node as a_node}
+use Rattle.record_words.specs.declared.records.Rec.TheVariants.{Node as a_node}
 use Rattle.rowex_core.specs.declared.event.Act.TheVariants.{LoadFixed}
 use Rattle.rowex_table.specs.Rule.{number_of}
 use Rattle.rowex_reading.specs.Reads.{Reads}

@@ -1,6 +1,6 @@
 -- The words so far are loaded.
 use Rattle.std.proofs.Common.{◌≡◌, ◌<◌, length}
-use Rattle.versions.specs.declared.Rec.TheVariants.{Node as a_node}
+use Rattle.record_words.specs.declared.records.Rec.TheVariants.{Node as a_node}
 use Rattle.rowex_table.specs.Rule.{number_of}
 use Rattle.rowex_reading.specs.Reads.{IsReader, Reads}
 use Rattle.rowex_reading.specs.Seen.{AreLoaded}

@@ -1,6 +1,6 @@
 -- What the loads of a leaf tell.
 use Rattle.std.proofs.Common.{rules, ◌≡◌, ◌+◌, ◌<◌, arith, length, lit≤, lit<, subst, sym}
-use Rattle.versions.specs.declared.Rec.TheVariants.{Leaf as a_leaf}
+use Rattle.record_words.specs.declared.records.Rec.TheVariants.{Leaf as a_leaf}
 use Rattle.key_bits.specs.declared.TheConstants.{MAX_BYTES}
 use Rattle.record_words.specs.declared.TheConstants.{LEAF_FIELDS}
 use Rattle.record_words.specs.Leaf.{words_of_key}

@@ -1,6 +1,6 @@
 -- The record is one of the table's, and has these words.
 use Rattle.std.proofs.Common.{arith, subst, sym}
-use Rattle.versions.specs.declared.Rec.TheVariants.{Leaf as a_leaf}
+use Rattle.record_words.specs.declared.records.Rec.TheVariants.{Leaf as a_leaf}
 use Rattle.rowex_core.specs.Cores.{HasRecord}
 use Rattle.rowex_scanning.proofs.Begins.{start_there, word_there}
 use Rattle.rowex_scanning.proofs.ahead.touch_leaf.Goals as goal

@@ -4,7 +4,7 @@ use Rattle.std.proofs.lemmas.List.{with_items_is, places}
 use Rattle.compound_node.specs.declared.entries.Entry.TheVariants.{Node}
 use Rattle.compound_node.specs.Nodes.{IsBuiltFrom}
 use Rattle.tries.specs.Tree.{Tree, subtrie}
-use Rattle.versions.specs.declared.Rec.TheVariants.{Node as a_node}
+use Rattle.record_words.specs.declared.records.Rec.TheVariants.{Node as a_node}
 use Rattle.bulk_load.specs.Loading.{IsPiece}
 use Rattle.bulk_load.specs.Slots.{slot}
 use Rattle.bulk_load.specs.Stacks.{LeftPiece, whole_of, position_of, front_slots, with_right}
@@ -13,7 +13,7 @@ use Rattle.compound_node.specs.declared.entries.Entry.TheVariants.{Leaf}
 use Rattle.bulk_load.specs.Tables.{HoldsTree}
 use Rattle.bulk_load.proofs.Closing.{fits, taken_part, slots_given, each_given, merged, closed, holds_closed, local_closed, all_built, taken_closed, slots_closed}
 use Rattle.bulk_load.proofs.Putting.{state_stays}
-use Rattle.versions.specs.declared.Rec.TheVariants.{Leaf as a_leaf}
+use Rattle.record_words.specs.declared.records.Rec.TheVariants.{Leaf as a_leaf}
 use Rattle.versions.proofs.Heaps.{node_leaf}
 use Rattle.bulk_load.proofs.builder.Builder.close_piece.Goals as goal
 use Rattle.bulk_load.proofs.builder.Builder.close_piece.Goals.{After-deref}
