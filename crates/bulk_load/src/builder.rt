@@ -106,7 +106,8 @@ impl Builder {
         })
     }
 
-    /// Where the leaf of `key` belongs, if the key is above the last one, and there are records for it.
+    /// Where the leaf of `key` belongs. `NotRising` if `key` isn't above the last one. Else `LeavesFull` if no leaf record with room for it
+    /// is free, and then `NodesFull` if too few node records may be left.
     pub(crate) fn find_next_leaf(&self, key: &Key) -> Result<NextLeaf, LoadFault>
         requires { (xs : List Item) × IsLoading self.now xs }
         ensures next_leaf { IfOk result (λ next_leaf. IsNextLeaf self.now key.now next_leaf.fork_position next_leaf.record_number) }
@@ -230,7 +231,8 @@ impl Builder {
             && self.words[self.layout.leaf(number)] == pack_state(Tag::Free)
     }
 
-    /// Whether node records are left for one leaf more: for closing all pieces then, two for each, or one for each slot.
+    /// Whether enough node records are left for one leaf more: two for each piece that there is then, or one for each slot. Closing all
+    /// pieces takes no more.
     fn has_nodes(&self) -> bool
         ensures { IsTrue result ↔ HasNodesFor self.now 1 }
     {
@@ -278,7 +280,7 @@ impl Builder {
         }
     }
 
-    /// Joins all pieces.
+    /// Joins all pieces, of which there is one at least, into one.
     fn join_all(&mut self)
         requires { (xs : List Item) × IsStackOf self.old xs }
         ensures alone { (xs : List Item) → IsStackOf self.old xs → (t : Tree) × IsAlone self.new t xs }

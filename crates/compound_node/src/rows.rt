@@ -88,7 +88,7 @@ pub(crate) fn spread_rows(rows: &mut [u32; 32], count: usize, j: u8)
     }
 }
 
-/// `rows` with 0 in a new column `j` of each. The columns from there on move on by one, and the last one is lost.
+/// `rows` with 0 in a new column `j`, at most 31, of each. The columns from there on move on by one, and the last one is lost.
 #[inline(always)]
 pub fn spread_lanes(rows: u32x32, j: u8) -> u32x32
     requires { j ≤ 31 }
@@ -300,7 +300,7 @@ pub(crate) fn without_row(rows: &[u32], at: usize) -> ArrayVec<u32, 32>
     out
 }
 
-/// The index of the first of `rows` that hasn't `bit`, from `first` on; `end` if there is none before it.
+/// The index of the first of `rows`, from `first` on, that has 0 at `bit`, a mask of one bit or none. `end` if there is none before it.
 #[inline(always)]
 fn end_of_front(rows: u32x32, first: u32, end: u32, bit: u32) -> u32
     requires ordered { first ≤ end }

@@ -221,7 +221,8 @@ pub fn load_entry<G: Gate>(
 /// Loads `leaf`, and returns its key's length in bytes and its value. Writes the bytes of the key to the first of `places`.
 ///
 /// Words behind the key are not loaded, and their places stay. If all were 0 before, `places` are the key's (`Key::from_padded`); else
-/// those behind the key mean nothing. Inline, so that a caller has the bytes where they were read.
+/// those behind the key mean nothing. Keys of eight bytes are common: their one word is loaded without a loop. Inline, so that a caller has
+/// the bytes where they were read.
 #[inline(always)]
 pub fn load_leaf<G: Gate>(
     table: &HotTable,

@@ -109,7 +109,8 @@ fn used_ends(words: &[u64; NODE_FIELDS]) -> (usize, usize)
 }
 
 /// Fills eight words of the claimed node record `node`, with those of `words` from index `used.start` on. The node has something in those
-/// before `used.end`: these are stored. The others are loaded, and stored only where another stands. Inline, so that offsets are constants.
+/// before `used.end`: these are stored. The others are loaded, and stored only where another stands. If the node has something in all
+/// eight, no index is compared with `used.end`. Inline, so that offsets are constants.
 #[inline(always)]
 fn set_eight_words<G: Gate>(
     table: &HotTable,

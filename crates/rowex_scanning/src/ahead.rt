@@ -54,9 +54,9 @@ fn most_slots(limit: usize, taken: usize) -> u8
     }
 }
 
-/// Loads the entries in the next slots of the node `top`, up to the first that leads to a node. It looks at [`most_slots`] slots, or
-/// fewer if fewer are to come. The leaves' numbers go to the first of `leaves`. Returns how many leaves these are, and that node, if there is
-/// one. `sink` has the pairs so far.
+/// Loads the entries in the next slots of the node `top`, in the scan's direction, up to the first that leads to a node. It looks at
+/// [`most_slots`] slots, or fewer if fewer are to come, but one at least. The leaves' numbers go to the first of `leaves`. Returns how many
+/// leaves these are, and that node, if there is one. `sink` has the pairs so far.
 #[inline(always)]
 pub(crate) fn load_entries_ahead<G: Gate, S: Tallies>(
     scan: &Scan,

@@ -240,6 +240,7 @@ impl HotTable {
         requires may { MayStep self.now.layout (λ found. GiveBack at.rec epoch found) seat.old.known }
         ensures { Steps self.now G.becomes (GiveBack at.rec epoch result) (seat.old, gate.old) (seat.new, gate.new) }
     {
+        // What the step finds comes in the place of this 0.
         let (rec, found) = (at.rec, 0);
         let act = Act::GiveBack { rec, epoch, found };
         let (expected, new) = (obsolete_word(epoch), pack_state(Tag::Free));

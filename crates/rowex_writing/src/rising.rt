@@ -74,8 +74,8 @@ pub(crate) struct LoadedNode {
     pub words: [u64; NODE_FIELDS],
 }
 
-/// Makes what [`make_risen_with_leaf`] makes, from a value of the node, whatever entries that has. `None` if no node record was free: one
-/// that was made by then stays in `build.made`.
+/// Does what [`make_risen_with_leaf`] does, for any node, by way of a `Node` made of its words. `None` if no node record was free: one that
+/// was made by then stays in `build.made`.
 fn make_risen_with_leaf_by_value<G: Gate>(
     table: &HotTable,
     seat: &mut TableSeat,
