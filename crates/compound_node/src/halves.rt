@@ -74,14 +74,14 @@ pub(crate) fn make_cut(columns: &Columns, rows: &[u32], entries: &[Entry]) -> Cu
     }
 }
 
-/// What is left of the node of `columns`, `rows` and `entries` without the entry in slot `at`. The last fork on the path to it goes too.
+/// What is left of the node of `columns`, `rows` and `entries` without the entry in `slot`. The last fork on the path to it goes too.
 /// The result is never `Same`.
-pub(crate) fn make_rest(columns: &Columns, rows: &[u32], entries: &[Entry], at: usize) -> Half
+pub(crate) fn make_rest(columns: &Columns, rows: &[u32], entries: &[Entry], slot: usize) -> Half
     requires fit { FitTogether columns.now rows.now entries.now }
-    requires in_range { at < length entries.now }
-    ensures { HalfShows result (without at (piece_of (LeafEntry 0) columns.now rows.now entries.now)) }
+    requires in_range { slot < length entries.now }
+    ensures { HalfShows result (without slot (piece_of (LeafEntry 0) columns.now rows.now entries.now)) }
 {
-    let rest_rows = without_row(rows, at);
-    let rest_entries = list_entries_without(entries, at);
+    let rest_rows = without_row(rows, slot);
+    let rest_entries = list_entries_without(entries, slot);
     make_half(columns, rest_rows, rest_entries)
 }

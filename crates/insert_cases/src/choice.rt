@@ -22,7 +22,7 @@ pub struct PathNode {
     /// How many entries the node has.
     pub count: u8,
     /// The slot that the search took.
-    pub at: u8,
+    pub slot: u8,
 }
 
 /// What is done at the affected node.
@@ -42,7 +42,7 @@ pub enum Case {
 /// For `NormalInsert` it is the affected node. For `Overflow` these are the nodes from the affected one up to `pull_up_chain_end`, but for
 /// a full node that stays whole as one half.
 ///
-/// The last two store into slot `at` of the node above the uppermost of these, or at the root. A writer locks these nodes, also the one
+/// The last two store into `slot` of the node above the uppermost of these, or at the root. A writer locks these nodes, also the one
 /// that stays whole, and the one that is stored into.
 #[derive(Clone, Copy)]
 pub struct Choice {

@@ -17,8 +17,8 @@ pub enum Target {
 pub enum Spot {
     /// The word of the root.
     Root,
-    /// Slot `entry`, 0 to 31, of node record `node`.
-    Slot { node: u32, entry: u8 },
+    /// A slot, 0 to 31, of node record `node`.
+    Slot { node: u32, slot: u8 },
     /// The value of leaf record `leaf`.
     Value { leaf: u32 },
 }

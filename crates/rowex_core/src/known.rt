@@ -14,12 +14,12 @@ pub enum Fact {
         at: u64,
         entry: Option<Entry>,
     },
-    /// Let m be `since` or later. If the node was in the tree in versions from m to `at`, it had this entry at this place in one of them.
+    /// Let m be `since` or later. If the node was in the tree in versions from m to `at`, it had this entry in this slot in one of them.
     Placed {
         since: u64,
         at: u64,
         node: u32,
-        place: u8,
+        slot: u8,
         entry: Option<Entry>,
     },
     /// The same holds of the record, and of this word at this offset.

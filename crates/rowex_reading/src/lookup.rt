@@ -38,8 +38,8 @@ pub fn look_up<G: Gate>(
             Entry::Leaf(number) => return load_value(table, seat, gate, number, key),
             Entry::Node { number, .. } => {
                 let node = table.locate(Rec::Node(number));
-                let place = find_slot(table, seat, gate, node, key);
-                entry = load_entry(table, seat, gate, node, place);
+                let slot = find_slot(table, seat, gate, node, key);
+                entry = load_entry(table, seat, gate, node, slot);
             }
         }
     }
@@ -61,5 +61,5 @@ pub(crate) fn find_slot<G: Gate>(
     ensures place { (m h : ℕ) → IsLedTo seat.old.known m (NodeEntry (number_of node.rec) h) →
         (forks : Subtrie) × Sure seat.new.known (λ s. IsShaped s m (number_of node.rec) forks) × (result ≡ spot key.now forks) }
 {
-    search_node(table, seat, gate, node, key).at
+    search_node(table, seat, gate, node, key).slot
 }

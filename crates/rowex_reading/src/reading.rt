@@ -117,10 +117,10 @@ pub fn load_path_node<G: Gate>(
     path_node(number, numbers, word, 0)
 }
 
-/// Node `number` as one of a path that takes slot `at`. Its head has `numbers`, and `word` at [`index_of_first_position`].
+/// Node `number` as one of a path that takes `slot`. Its head has `numbers`, and `word` at [`index_of_first_position`].
 #[inline(always)]
-fn path_node(number: u32, numbers: HeadNumbers, word: u64, at: u8) -> PathNode
-    ensures same { (result.number ≡ number) × (result.at ≡ at) }
+fn path_node(number: u32, numbers: HeadNumbers, word: u64, slot: u8) -> PathNode
+    ensures same { (result.number ≡ number) × (result.slot ≡ slot) }
     ensures node { InNodesWith numbers (mask_index numbers.kind 0) word (λ node.
         (result.height ≡ node.height) × (result.count ≡ length node.entries) × (result.first_position ≡ slice_index node.columns 0)) }
 {
@@ -129,7 +129,7 @@ fn path_node(number: u32, numbers: HeadNumbers, word: u64, at: u8) -> PathNode
         height: numbers.height,
         first_position: first_position_of(numbers, word),
         count: numbers.count,
-        at,
+        slot,
     }
 }
 
@@ -148,8 +148,9 @@ pub(crate) fn touch_entries(table: &HotTable, node: RecordAt)
 
 /// Loads the head of `node` and searches it for `key`. Returns the node of the key's path, with the slot to which the bits of `key` lead.
 ///
-/// The first word tells the kind of the head. Then as many words are loaded as say something in that kind: 7, 13 or 25 in all, and none waits
-/// for another. Nor does the load of an entry, whose line is asked for here. The rows of a wide head are loaded last, and stay in registers.
+/// The first word tells the kind of the head. Then as many words are loaded as say something in that kind: 7, 13 or 25 in all, and none
+/// waits for another. Nor does the load of an entry, whose line is asked for here. The rows of a wide head are loaded last, and stay in
+/// registers.
 #[inline(always)]
 pub fn search_node<G: Gate>(
     table: &HotTable,
@@ -174,16 +175,16 @@ pub fn search_node<G: Gate>(
         Kind::Narrow => {
             let mut words = [first[0]; NARROW_HEAD_WORDS];
             load_head_part(table, seat, gate, node, 1, &mut words[1..]);
-            let at = search_narrow(&words, key);
+            let slot = search_narrow(&words, key);
             let word = words[index_of_first_position(Kind::Narrow)];
-            path_node(number, numbers, word, at)
+            path_node(number, numbers, word, slot)
         }
         Kind::Middle => {
             let mut words = [first[0]; MIDDLE_HEAD_WORDS];
             load_head_part(table, seat, gate, node, 1, &mut words[1..]);
-            let at = search_middle(&words, key);
+            let slot = search_middle(&words, key);
             let word = words[index_of_first_position(Kind::Middle)];
-            path_node(number, numbers, word, at)
+            path_node(number, numbers, word, slot)
         }
         Kind::Wide => {
             let mut front = [first[0]; FIRST_ROWS];
@@ -191,30 +192,30 @@ pub fn search_node<G: Gate>(
             let dense = extract_dense_key(&front, key);
             let mut back = [0; ROW_WORDS];
             load_head_part(table, seat, gate, node, FIRST_ROWS, &mut back);
-            let at = search_row_words(&back, dense);
+            let slot = search_row_words(&back, dense);
             let word = front[index_of_first_position(Kind::Wide)];
-            path_node(number, numbers, word, at)
+            path_node(number, numbers, word, slot)
         }
     }
 }
 
-/// Loads the entry in slot `place` of `node`, which has that slot.
+/// Loads the entry in `slot` of `node`, which has that slot.
 #[inline(always)]
 pub fn load_entry<G: Gate>(
     table: &HotTable,
     seat: &mut TableSeat,
     gate: &mut G,
     node: RecordAt,
-    place: u8,
+    slot: u8,
 ) -> Entry
     requires reader { IsReader table.now seat.old }
-    requires place { (m h : ℕ) × HasPlace seat.old.known m (number_of node.rec) h place }
+    requires place { (m h : ℕ) × HasPlace seat.old.known m (number_of node.rec) h slot }
     requires node { IsNodeAt table.now.layout node }
     ensures reads { Reads table.now G.becomes 1 1 (seat.old, gate.old) (seat.new, gate.new) }
-    ensures entry { (m h : ℕ) → HasPlace seat.old.known m (number_of node.rec) h place →
-        (height_of result < h) × Sure seat.new.known (λ s. IsPlaced s m (number_of node.rec) place result) }
+    ensures entry { (m h : ℕ) → HasPlace seat.old.known m (number_of node.rec) h slot →
+        (height_of result < h) × Sure seat.new.known (λ s. IsPlaced s m (number_of node.rec) slot result) }
 {
-    let word = table.load_slot_at(seat, gate, node, place);
+    let word = table.load_slot_at(seat, gate, node, slot);
     read_some_entry(word)
 }
 

@@ -89,7 +89,7 @@ IsReached d layout k m first number =
 
 -- a node on the way of a walk, without its forks
 abbrev pub frame : Stage → PathNode
-frame f = record { number = f.number; height = f.height; first_position = first_position f.shape; count = size f.shape; at = f.place }
+frame f = record { number = f.number; height = f.height; first_position = first_position f.shape; count = size f.shape; slot = f.place }
 
 -- the way, from the root on
 abbrev pub frames_of : List Stage → List PathNode
@@ -123,11 +123,11 @@ pub record IsWalk (k : Known) (m : ℕ) (r : Request) (top : PathNode) (frames :
 -- The pass is sure that all keys that stand behind the places of these frames come later than this one,
 abbrev pub ArePastKey : Direction → Known → ℕ → Key → List PathNode → Type 0
 ArePastKey d k m key [] = Unit {0}
-ArePastKey d k m key (f ∷ fs) = Sure k (λ s. IsPastKey d s m key f.number (gap_behind d f.at)) × ArePastKey d k m key fs
+ArePastKey d k m key (f ∷ fs) = Sure k (λ s. IsPastKey d s m key f.number (gap_behind d f.slot)) × ArePastKey d k m key fs
 
 -- and those behind the gap of the topmost frame.
 pub record IsBound (d : Direction) (k : Known) (m : ℕ) (key : Key) (top : PathNode) (frames : List PathNode) : Type 0 where
-  pub there : Sure k (λ s. IsPastKey d s m key top.number top.at)
+  pub there : Sure k (λ s. IsPastKey d s m key top.number top.slot)
   pub above : ArePastKey d k m key frames
 
 -- The walk is at a gap of this node on this way, with such pairs so far; and what stands behind it comes later than the range's first key.

@@ -238,7 +238,7 @@ fn scan_node<G: Gate, S: Sink>(
     let places = &mut [0; MAX_BYTES];
     if start.leaf {
         match take_leaf(scan, seat, gate, found.number, places, sink)? {
-            Verdict::Further => top.at = gap_behind_slot(direction, top.at),
+            Verdict::Further => top.slot = gap_behind_slot(direction, top.slot),
             Verdict::Past => return Ok(false),
             Verdict::Full => return Ok(true),
         }
@@ -285,18 +285,18 @@ fn walk_slots<G: Gate, S: Sink>(
             }
             match ahead.node {
                 Some(number) => {
-                    top.at = slot_ahead(direction, top, ahead.count);
+                    top.slot = slot_ahead(direction, top, ahead.count);
                     way.push(top);
                     top = enter_node_at_gap(scan.table, seat, gate, direction, number);
                 }
-                None => top.at = gap_after_entries(direction, top, ahead.count),
+                None => top.slot = gap_after_entries(direction, top, ahead.count),
             }
         } else {
             let Some(above) = way.pop() else {
                 return Ok(false);
             };
             top = above;
-            top.at = gap_behind_slot(direction, above.at);
+            top.slot = gap_behind_slot(direction, above.slot);
         }
     }
 }
@@ -344,7 +344,7 @@ fn enter_node_at_gap<G: Gate>(
     ensures entered { (m h : ℕ) → IsLedTo seat.old.known m (NodeEntry number h) → IsEntered direction seat.new.known m number h result }
 {
     let mut step = load_path_node(table, seat, gate, number);
-    step.at = first_gap(direction, step.count);
+    step.slot = first_gap(direction, step.count);
     step
 }
 

@@ -61,8 +61,8 @@ pub(crate) fn find_start<G: Gate>(
             let lowest = way[way.len() - 1];
             if start.leaf {
                 start.leaf = found.mismatch.is_none();
-            } else if start.level + 1 == way.len() && lowest.at + 1 == start.top.at {
-                start.top.at = lowest.at;
+            } else if start.level + 1 == way.len() && lowest.slot + 1 == start.top.slot {
+                start.top.slot = lowest.slot;
                 start.leaf = true;
             }
             start
@@ -100,10 +100,10 @@ fn find_start_of_upward_scan<G: Gate>(
     let below = key.bit(position);
     let level = last_level_before(way, position);
     let step = way[level];
-    let (first, last) = find_affected(table, seat, gate, step.number, step.at, position);
+    let (first, last) = find_affected(table, seat, gate, step.number, step.slot, position);
     let part = choose_case(way, level, first, last);
     let mut top = way[part.level];
-    top.at = if below { part.last + 1 } else { part.first };
+    top.slot = if below { part.last + 1 } else { part.first };
     Start {
         level: part.level,
         top,

@@ -46,7 +46,7 @@ impl HotTable {
     {
         let spot = Spot::Slot {
             node: node.number(),
-            entry: slot,
+            slot,
         };
         let address = node.start + FIRST_ENTRY + slot as usize;
         self.load_word_at::<Brand, G>(seat, gate, Act::LoadRef { spot, word: 0 }, address)

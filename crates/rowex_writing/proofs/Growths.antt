@@ -231,7 +231,7 @@ full_since layout key a b c made Leaves count missed = λ q low room. (let (step
 
 -- ---- the leaf's record is made
 pub may_grow : (table : TableView) (a b : SeatView) (made : List Rec) (m : ℕ) (job : Job) (aim : Aim) (new : NewLeaf) → HasTakenSpan table a m new.key.now job.way.now job.found job.span →
-    IsPlanned a.known m new.key.now job.way.now aim job.found (change job.span.len job.span.end (Grow new.position)) → ((s : PathNode) → slice_get job.way.now (job.span.len - 1) ≡ Some s → s.at ≡ new.at) → StaysLocked a.known b.known → HasLeafMade table b made (item new.number new.key.now job.value) →
+    IsPlanned a.known m new.key.now job.way.now aim job.found (change job.span.len job.span.end (Grow new.position)) → ((s : PathNode) → slice_get job.way.now (job.span.len - 1) ≡ Some s → s.slot ≡ new.slot) → StaysLocked a.known b.known → HasLeafMade table b made (item new.number new.key.now job.value) →
     MayGrow table b made job new
 may_grow table a b made m job aim new t planned is_took stays made_leaf = record {
   within = (omega (arith, upto, len_is), omega (arith, len_is, within));

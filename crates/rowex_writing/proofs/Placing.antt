@@ -147,7 +147,7 @@ last_level : (way : List PathNode) (p level first last : ℕ) (c : Choice) → I
 last_level way p level first last c is chosen down = ⊎_elim (λ several. absurd (by_several several)) (λ single. ⊎_elim (λ more. absurd (by_next single more)) (λ none. by_leaf single none) (cases_lt (level + 1) (length way))) (cases_lt first last)
   where
     d : PathNode
-    d = record { number = 0; height = 0; first_position = 0; count = 0; at = 0 }
+    d = record { number = 0; height = 0; first_position = 0; count = 0; slot = 0 }
 
     by_several : first < last → ⊥
     by_several h =

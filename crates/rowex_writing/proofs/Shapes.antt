@@ -100,7 +100,7 @@ pub record IsStepOf (key : Key) (s : PathNode) (forks : Subtrie) (w : NodeWords)
   pub height : w.fixed.height ≡ s.height
   pub count : size w.subtrie ≡ s.count
   pub first : first_position w.subtrie ≡ s.first_position
-  pub at : spot key w.subtrie ≡ s.at
+  pub at : spot key w.subtrie ≡ s.slot
   pub room : size w.subtrie ≤ 32
 
 pub way_node_locked : (layout : Layout) (k : Known) (m : ℕ) (key : Key) (s : PathNode) (e : Entry) (words : List ℕ) → IsPossible layout k → IsPinnedSince k m →

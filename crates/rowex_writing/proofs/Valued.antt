@@ -189,7 +189,7 @@ some_spot way end low = go (cases_lt 0 end)
   where
     go : (0 < end) ⊎ (end ≤ 0) → (spot : Spot) × IsSpotAbove way end spot
     go (inr none) = (Root, omega (arith, none))
-    go (inl some) = let s = get_or way (end - 1) no_step in (Slot s.number s.at, (s, some, slice_get-get_or way (end - 1) no_step (omega (arith, some, low)), refl, refl))
+    go (inl some) = let s = get_or way (end - 1) no_step in (Slot s.number s.slot, (s, some, slice_get-get_or way (end - 1) no_step (omega (arith, some, low)), refl, refl))
 
 -- so a change's records are those that the pass has made
 pub replaced_made : (table : TableView) (a : SeatView) (made : List Rec) (job : Job) (raised : Raised) (x : Change) (was : Option ℕ) → job.span.end ≤ length job.way.now → MayReplace table a made job raised x was →

@@ -172,7 +172,7 @@ pub record GetsLeaf (table : TableView) (a : SeatView) (made : List Rec) (number
   pub made_leaf : HasLeafMade table a made item
   pub found : HasFoundBelow a.known a.known.locks (record { since = since; item = item; mismatch = new.position; like = like }) number words
   pub part : IsPartSubtrie (subtrie_affected new.position item.key (node_words_of words).subtrie)
-  pub leads : spot item.key (node_words_of words).subtrie ≡ new.at
+  pub leads : spot item.key (node_words_of words).subtrie ≡ new.slot
 
 -- so its newcomer
 abbrev pub newcomer_of : {table : TableView} {a : SeatView} {made : List Rec} {number : ℕ} {new : NewLeaf} → GetsLeaf table a made number new → Newcomer

@@ -181,6 +181,6 @@ pub(crate) fn spot_above(way: &[PathNode], end: usize) -> Spot
     let step = way[end - 1];
     Spot::Slot {
         node: step.number,
-        entry: step.at,
+        slot: step.slot,
     }
 }

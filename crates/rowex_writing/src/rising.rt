@@ -327,15 +327,15 @@ pub(crate) fn load_without_leaf<G: Gate>(
     requires own { IsSeatOf table.now seat.old }
     requires range { step.number < table.now.layout.nodes }
     requires locked { IsLockedBy seat.old.known step.number }
-    requires place { (key : KeyValue) × LeadsLocked seat.old.known step.number key step.at }
+    requires place { (key : KeyValue) × LeadsLocked seat.old.known step.number key step.slot }
     requires empty { words.old ≡ replicate NODE_FIELDS 0 }
     ensures reads { ReadsOn table.now G.becomes (seat.old, gate.old) (seat.new, gate.new) }
-    ensures left { (key : KeyValue) (shown : List ℕ) → LeadsLocked seat.old.known step.number key step.at → HasLocked seat.old.known step.number shown →
+    ensures left { (key : KeyValue) (shown : List ℕ) → LeadsLocked seat.old.known step.number key step.slot → HasLocked seat.old.known step.number shown →
         SpellLeft words.new result (subtrie_without key (node_words_of shown).subtrie) }
     ensures few { seat.new.known.steps ≤ seat.old.known.steps + NODE_FIELDS }
 {
     load_locked_node_words(table, seat, gate, step.number, words);
-    drop_entry(words, step.at)
+    drop_entry(words, step.slot)
 }
 
 /// The entry for what is left of the locked node of `step` without the leaf in its slot, to which some key's search leads. It is that of a
@@ -350,10 +350,10 @@ pub(crate) fn raise_without_leaf<G: Gate>(
     requires building { IsBuilding table.now seat.old build.old.made.items [] }
     requires range { step.number < table.now.layout.nodes }
     requires locked { IsLockedBy seat.old.known step.number }
-    requires place { (key : KeyValue) × LeadsLocked seat.old.known step.number key step.at }
+    requires place { (key : KeyValue) × LeadsLocked seat.old.known step.number key step.slot }
     requires room { length build.old.made.items < MOST_MADE }
     ensures makes { Makes 1 level_steps table.now G.becomes ((seat.old, gate.old), build.old) ((seat.new, gate.new), build.new) result }
-    ensures made { (key : KeyValue) (words : List ℕ) → LeadsLocked seat.old.known step.number key step.at → HasLocked seat.old.known step.number words →
+    ensures made { (key : KeyValue) (words : List ℕ) → LeadsLocked seat.old.known step.number key step.slot → HasLocked seat.old.known step.number words →
         MatchOption result (HasNotMade table.now seat.new build.new.made.items)
         (λ e. (news : List Made) × IsSide (subtrie_without key (node_words_of words).subtrie) e news × IsBuilding table.now seat.new build.new.made.items news) }
     ensures finds { FindsOne table.now.layout build.old.left_nodes seat.old result }

@@ -13,18 +13,18 @@ told_as : (at before own after second : ℕ) (result : Option (ℕ × ℕ)) → 
 told_as at before own after second result e = λ node lawful l round. subst (IsBesideIn node at) e (told_beside node lawful at before own after second l round)
 
 pub returns-then-after-second : goal.returns-then-after-second
-returns-then-after-second c = told_as c.args.at c.args.before c.args.own c.args.after c.args.second _
-    (by_several_next c.args.at (column_before c.args.before) (column_before c.args.own) (column_before c.args.after) (column_before c.args.second) (omega arith) (omega arith))
+returns-then-after-second c = told_as c.args.slot c.args.before c.args.own c.args.after c.args.second _
+    (by_several_next c.args.slot (column_before c.args.before) (column_before c.args.own) (column_before c.args.after) (column_before c.args.second) (omega arith) (omega arith))
 
 pub returns-else-after-second : goal.returns-else-after-second
-returns-else-after-second c = told_as c.args.at c.args.before c.args.own c.args.after c.args.second _
-    (rw (← c.fork_column-after.ensures) (by_next c.args.at (column_before c.args.before) (column_before c.args.own) c.fork_column-after.result (column_before c.args.second) (omega arith) (omega arith)))
+returns-else-after-second c = told_as c.args.slot c.args.before c.args.own c.args.after c.args.second _
+    (rw (← c.fork_column-after.ensures) (by_next c.args.slot (column_before c.args.before) (column_before c.args.own) c.fork_column-after.result (column_before c.args.second) (omega arith) (omega arith)))
 
 pub returns-then-own-before : goal.returns-then-own-before
-returns-then-own-before c = told_as c.args.at c.args.before c.args.own c.args.after c.args.second _
-    (by_several_before c.args.at (column_before c.args.before) (column_before c.args.own) (column_before c.args.after) (column_before c.args.second) (omega arith) (omega arith))
+returns-then-own-before c = told_as c.args.slot c.args.before c.args.own c.args.after c.args.second _
+    (by_several_before c.args.slot (column_before c.args.before) (column_before c.args.own) (column_before c.args.after) (column_before c.args.second) (omega arith) (omega arith))
 
 pub returns-else-own-before : goal.returns-else-own-before
-returns-else-own-before c = told_as c.args.at c.args.before c.args.own c.args.after c.args.second _
-    (by_before c.args.at (column_before c.args.before) (column_before c.args.own) (column_before c.args.after) (column_before c.args.second) (omega arith) (omega arith)
+returns-else-own-before c = told_as c.args.slot c.args.before c.args.own c.args.after c.args.second _
+    (by_before c.args.slot (column_before c.args.before) (column_before c.args.own) (column_before c.args.after) (column_before c.args.second) (omega arith) (omega arith)
     ∙ ap₂ found (sym c.saturating_sub.ensures) (omega arith))

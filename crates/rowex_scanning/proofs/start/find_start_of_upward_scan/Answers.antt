@@ -20,7 +20,7 @@ part : (g : given.Over) (c : After-choose_case-part g) (m v : ℕ) →
     (c.choose_case-part.result.level < length c.args.way.now) × (c.choose_case-part.result.last ≤ 31) × ((below : Bool) → bit_of c.args.key.now c.in-Some.position ≡ below → (t : PathNode) →
     slice_get c.args.way.now c.choose_case-part.result.level ≡ Some t → (place : ℕ) → place ≡ (if below then c.choose_case-part.result.last + 1 else c.choose_case-part.result.first) → (comes : Bool) →
     comes ≡ (if below then false else nat_eq c.choose_case-part.result.first c.choose_case-part.result.last) →
-    IsParting c.find_affected-first.new.seat.known m c.args.key.now c.args.way.now c.args.found.number (record { level = c.choose_case-part.result.level; top = record t { at = place }; leaf = comes }))
+    IsParting c.find_affected-first.new.seat.known m c.args.key.now c.args.way.now c.args.found.number (record { level = c.choose_case-part.result.level; top = record t { slot = place }; leaf = comes }))
 part g c m v w =
     let level = c.last_level_before-level.ensures in let e = c.find_affected-first.ensures in
     let at = slice_get-get_or c.args.way.now c.last_level_before-level.result _ level.within in
