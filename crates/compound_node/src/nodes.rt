@@ -162,8 +162,8 @@ impl Node {
     {
         let columns = self.head.columns();
         let before = self.row(slot.saturating_sub(1));
-        let (own, after, second) = (self.row(slot), self.row(slot + 1), self.row(slot + 2));
-        match find_sibling(slot, before, own, after, second) {
+        let (own, after, after_next) = (self.row(slot), self.row(slot + 1), self.row(slot + 2));
+        match find_sibling(slot, before, own, after, after_next) {
             Some((sibling, column)) => Some((sibling, columns.position(column))),
             None => None,
         }
