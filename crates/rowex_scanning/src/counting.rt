@@ -19,7 +19,7 @@ use crate::sinks::{Sink, Tallies};
 use arrayvec::ArrayVec;
 use insert_cases::PathNode;
 use key_bits::MAX_BYTES;
-use rowex_core::Gate;
+use rowex_core::{Gate, Rec};
 use rowex_reading::{MOST_NODES, load_leaf};
 use rowex_table::{HotTable, RecordAt, TableSeat};
 use std::alloc::AllocError;

@@ -149,15 +149,15 @@ pub(crate) fn walk_root<G: Gate, S: Sink>(
             mismatch,
             ..
         } => {
+            let origins = table.origins();
+            let scan = Scan {
+                table,
+                origins: &origins,
+                range,
+            };
             if way.len() == 0 {
-                scan_leaf(table, seat, gate, range, number, sink)
+                scan_leaf(&scan, seat, gate, number, sink)
             } else {
-                let origins = table.origins();
-                let scan = Scan {
-                    table,
-                    origins: &origins,
-                    range,
-                };
                 let found = SearchEnd { number, mismatch };
                 scan_node(&scan, seat, gate, way, found, sink)
             }
@@ -176,28 +176,29 @@ pub(crate) fn first_key<'a>(range: &'a Range) -> &'a Key
     }
 }
 
-/// Scans from a root that is leaf `number`: gives its pair to `sink`, if it belongs to `range` and the limit leaves room. Returns whether
+/// Scans from a root that is leaf `number`: gives its pair to `sink`, if it belongs to the range and the limit leaves room. Returns whether
 /// it belongs there and has no room. An error if memory is refused.
 #[inline(always)]
 fn scan_leaf<G: Gate, S: Sink>(
-    table: &HotTable,
+    scan: &Scan,
     seat: &mut TableSeat,
     gate: &mut G,
-    range: &Range,
     number: u32,
     sink: &mut S,
 ) -> Result<bool, AllocError>
-    requires reader { IsReader table.now seat.old }
+    requires reader { IsReader scan.now.table.now seat.old }
+    requires origins { scan.now.origins.now.layout ≡ scan.now.table.now.layout }
     requires root { IsAtRoot seat.old.known (LeafEntry number) }
     requires empty { IsNone (S.tally sink.old) }
-    ensures reads { (n : ℕ) × (n ≤ LEAF_FIELDS) × Reads table.now G.becomes 0 n (seat.old, gate.old) (seat.new, gate.new) }
-    ensures scanned { IfOk result (HasTaken range.now.direction seat.new.known (asked_range range.now) (S.tally sink.new)) }
-    ensures part { OnErr result (HasTakenPart range.now.direction seat.new.known (asked_range range.now) (S.tally sink.new)) }
+    ensures reads { (n : ℕ) × (n ≤ LEAF_FIELDS) × Reads scan.now.table.now G.becomes 0 n (seat.old, gate.old) (seat.new, gate.new) }
+    ensures scanned { IfOk result (HasTaken scan.now.range.now.direction seat.new.known (asked_range scan.now.range.now) (S.tally sink.new)) }
+    ensures part { OnErr result (HasTakenPart scan.now.range.now.direction seat.new.known (asked_range scan.now.range.now) (S.tally sink.new)) }
     ensures refused { OnErr result S.may_refuse }
 {
+    let range = scan.range;
     let mut places = [0; MAX_BYTES];
-    let leaf = table.locate(Rec::Leaf(number));
-    let (length, value) = load_leaf(table, seat, gate, leaf, &mut places);
+    let leaf = RecordAt::find(scan.origins, Rec::Leaf(number));
+    let (length, value) = load_leaf(scan.table, seat, gate, leaf, &mut places);
     if is_earlier_key(
         range.direction,
         &places[..length],

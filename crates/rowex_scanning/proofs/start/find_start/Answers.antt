@@ -32,12 +32,7 @@ in_direction {k = k} {m = m} {key = key} {way = way} {number = number} {start = 
 -- where the scan upwards starts
 parting : (g : given.Over) (c : After-find_start_of_upward_scan-start g) (m : ℕ) → IsSearchEnd c.args.scan.now.table.now.layout c.args.seat.now.known m (first_key_of c.args.scan.now.range.now) c.args.way.now c.args.found →
     IsParting c.find_start_of_upward_scan-start.new.seat.known m (first_key_of c.args.scan.now.range.now) c.args.way.now c.args.found.number c.find_start_of_upward_scan-start.result
-parting g c m e = subst (λ z. IsParting c.find_start_of_upward_scan-start.new.seat.known m z c.args.way.now c.args.found.number c.find_start_of_upward_scan-start.result) c.first_key-key.ensures
-    (c.find_start_of_upward_scan-start.ensures.start m (subst (λ z. IsSearchEnd c.args.scan.now.table.now.layout c.args.seat.now.known m z c.args.way.now c.args.found) (sym c.first_key-key.ensures) e))
-
-pub find_start_of_upward_scan-start-requires-clause-way : goal.find_start_of_upward_scan-start-requires-clause-way
-find_start_of_upward_scan-start-requires-clause-way g c =
-    let (m, e) = c.requires.way in (m, subst (λ z. IsSearchEnd c.args.scan.now.table.now.layout c.args.seat.now.known m z c.args.way.now c.args.found) (sym c.first_key-key.ensures) e)
+parting g c m e = c.find_start_of_upward_scan-start.ensures.start m e
 
 pub returns-in-Upwards-clause-start : goal.returns-in-Upwards-clause-start
 returns-in-Upwards-clause-start g c = λ m e. in_direction c.in-Upwards.is (parting g (goal.at.returns-in-Upwards-clause-start g c).After-find_start_of_upward_scan-start m e).upwards
