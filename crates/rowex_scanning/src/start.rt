@@ -6,7 +6,7 @@ ghost use Rattle.rowex_reading.specs.Reads.{IsReader, Reads};
 ghost use Rattle.rowex_scanning.specs.Scanning.{first_key_of};
 ghost use Rattle.rowex_scanning.specs.Starts.{IsSearchEnd, IsParting, IsStart};
 
-use crate::scanning::{Scan, first_key};
+use crate::scan::{Scan, first_key};
 use insert_cases::{PathNode, choose_case, last_level_before};
 use packed_pairs::Direction;
 use rowex_core::Gate;
