@@ -1,5 +1,5 @@
 -- One word more: it has been loaded, or it is all ones.
-use Rattle.std.proofs.Common.{◌≡◌, ◌+◌, arith, subst}
+use Rattle.std.proofs.Common.{◌≡◌, arith, subst}
 use Rattle.rowex_table.specs.Rule.{number_of}
 use Rattle.rowex_writing.specs.Loads.{AreRead}
 use Rattle.rowex_writing.proofs.Locking.{one_read, seat_of, unused_read}

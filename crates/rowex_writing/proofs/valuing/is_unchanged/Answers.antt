@@ -1,11 +1,10 @@
 -- A leaf with the key is one of the table's; and where it has another value, it has been changed.
 use Rattle.std.proofs.Common.{◌≡◌, ◌≢◌, None, ap, sym, subst, ◌∙◌}
 use Rattle.std.proofs.lemmas.Bool.{eq-eqb, false≢true}
-use Rattle.rowex_table.specs.Rule.{number_of}
 use Rattle.rowex_table.proofs.Located.{leaf_at}
 use Rattle.rowex_reading.specs.Ways.{IsFoundAt}
 use Rattle.rowex_reading.specs.declared.descent.Found.TheVariants.{Leaf}
-use Rattle.rowex_writing.proofs.Valued.{found_in_table, moved_since, value_reads}
+use Rattle.rowex_writing.proofs.Valued.{found_in_table, moved_since, value_reads, of_leaf}
 use Rattle.rowex_writing.proofs.valuing.is_unchanged.Given as given
 use Rattle.rowex_writing.proofs.valuing.is_unchanged.Goals as goal
 use Rattle.rowex_writing.proofs.valuing.is_unchanged.Goals.{In-Leaf-default-default-None}
@@ -27,7 +26,7 @@ locate-requires g c =
 
 pub returns-in-Leaf-default-default-None-clause-reads : goal.returns-in-Leaf-default-default-None-clause-reads
 returns-in-Leaf-default-default-None-clause-reads g c =
-    value_reads c.args.table.now g.G.Gate.becomes c.in-Leaf-default-default-None.number c.load_value_at.result (c.args.seat.now, c.args.gate.now) (c.load_value_at.new.seat, c.load_value_at.new.gate) (rw (ap number_of c.locate.ensures.rec) at c.load_value_at.ensures)
+    value_reads c.args.table.now g.G.Gate.becomes c.in-Leaf-default-default-None.number c.load_value_at.result (c.args.seat.now, c.args.gate.now) (c.load_value_at.new.seat, c.load_value_at.new.gate) (of_leaf c.locate.ensures.rec c.load_value_at.ensures)
 
 pub returns-in-Leaf-default-default-None-clause-moved : goal.returns-in-Leaf-default-default-None-clause-moved
 returns-in-Leaf-default-default-None-clause-moved g c differs m from =
@@ -35,4 +34,4 @@ returns-in-Leaf-default-default-None-clause-moved g c differs m from =
     let v = c.in-Leaf-default-default-None.value in
     let w = c.load_value_at.result in
     let other : v ≢ w = λ same. false≢true (sym differs ∙ eq-eqb w v (sym same)) in
-    moved_since c.in-Leaf-default-default-None.number v w m c.args.job.now.key.now (subst (IsFoundAt c.args.seat.now.known m c.args.job.now.key.now) is from.found_at) from.since (rw (ap number_of c.locate.ensures.rec) at c.load_value_at.ensures).event other
+    moved_since c.in-Leaf-default-default-None.number v w m c.args.job.now.key.now (subst (IsFoundAt c.args.seat.now.known m c.args.job.now.key.now) is from.found_at) from.since (of_leaf c.locate.ensures.rec c.load_value_at.ensures).event other
