@@ -4,7 +4,7 @@ ghost use Rattle.std.specs.Prelude.{◌≡◌, ◌<◌, ◌+◌, ◌*◌, ◌^�
 ghost use Rattle.rowex_core.specs.declared.event.Act.TheVariants.{Claim, Fill, Ready, Release, LoadFixed, Mark, LoadState, GiveBack};
 ghost use Rattle.rowex_core.specs.Cores.{HasRecord, HasWord};
 ghost use Rattle.rowex_core.specs.Events.{IsOffset, IsFixedOffset};
-ghost use Rattle.rowex_table.specs.Rule.{IsStartOf, MayStep, number_of};
+ghost use Rattle.rowex_table.specs.Rule.{IsStartOf, MayStep, record_number};
 ghost use Rattle.rowex_table.specs.Runs.{Steps};
 ghost use Rattle.rowex_table.specs.Seats.{IsSeatOf};
 
@@ -39,7 +39,7 @@ impl RecordAt {
     /// The record's number among those of its kind.
     #[inline(always)]
     pub fn number(self) -> u32
-        ensures { result ≡ number_of self.rec }
+        ensures { result ≡ record_number self.rec }
     {
         match self.rec {
             Rec::Node(number) | Rec::Leaf(number) => number,
