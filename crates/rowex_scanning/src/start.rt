@@ -96,8 +96,7 @@ fn find_start_of_upward_scan<G: Gate>(
     };
     let below = first_key(scan.range).bit(position);
     let level = last_level_before(way, position);
-    let step = way[level];
-    let (first, last) = find_affected(scan.table, seat, gate, step.number, step.slot, position);
+    let (first, last) = find_affected(scan.table, seat, gate, way[level], position);
     let part = choose_case(way, level, first, last);
     let mut top = way[part.level];
     top.slot = if below { part.last + 1 } else { part.first };
