@@ -1,13 +1,9 @@
 //! Compound nodes.
 
-use super::building::build_node;
 use super::entries::{
-    Entry, all_stand_below, concatenate_entries, height_with_added_entry, insert_entry_beside,
-    list_items,
+    Entry, all_stand_below, height_with_added_entry, insert_entry_beside, list_items,
 };
-use super::halves::{Cut, Half, make_cut, make_rest};
 use super::heads::Head;
-use super::joining::{concatenate_rows, ensure_columns};
 use super::rows::find_sibling;
 use arrayvec::ArrayVec;
 use key_bits::Key;
@@ -19,8 +15,8 @@ use std::marker::Model;
 /// stored height is above that of each entry.
 #[derive(Drop)]
 pub struct Node {
-    head: Head,
-    entries: ArrayVec<Entry, 32>,
+    pub(crate) head: Head,
+    pub(crate) entries: ArrayVec<Entry, 32>,
 }
 
 impl Model for Node {
@@ -35,14 +31,13 @@ impl Model for Node {
 
 impl Node {
     ghost use Rattle.std.specs.Prelude.{◌≡◌, ℕ, ◌↔◌, ◌+◌, ◌<◌, ◌≤◌, IsSome, IfSome, Some, length, slice_get, slice_index, slice_index_or, slice_set};
-    ghost use Rattle.compound_node.specs.Halves.{CutShows, HalfShows};
     ghost use Rattle.compound_node.specs.Nodes.{AgreeBefore, IsBuiltFrom, IsEntry, IsLawfulNode, IsNode, StandsBelow, head_of, node_from, node_of, piece};
     ghost use Rattle.key_bits.specs.Bits.{bit_of};
     ghost use Rattle.partial_keys.specs.Rows.{with_unused};
-    ghost use Rattle.node_tries.specs.Changes.{AtRootFork, beside, without};
+    ghost use Rattle.node_tries.specs.Changes.{AtRootFork, beside};
     ghost use Rattle.node_tries.specs.Changes.{replaced as replaced_place};
     ghost use Rattle.node_tries.specs.Growth.{IsAffected, affected_count, affected_first, grown};
-    ghost use Rattle.node_tries.specs.Piece.{Fork, Place, RisesFrom, leads_to};
+    ghost use Rattle.node_tries.specs.Piece.{leads_to};
 
     /// The node with these fields; `None` exactly if no node has them. A node has 2 to 32 entries, each lower than `height`. `sparse` has
     /// their rows, those of one piece that uses each of `columns`, and 4,294,967,295 at each unused slot.
@@ -68,37 +63,6 @@ impl Node {
         ensures { result ≡ node_of head entries.items }
     {
         Node { head, entries }
-    }
-
-    /// The node of two entries, `zero` and `one`, the sides of a fork at `position`. Its height is one above the greater of theirs.
-    pub fn pair(position: u16, zero: Entry, one: Entry) -> Node
-        requires below { position < 65535 }
-        requires zero { IsEntry zero }
-        requires one { IsEntry one }
-        ensures { IsBuiltFrom result (Fork position (Place zero) (Place one)) }
-    {
-        let mut entries = ArrayVec::new();
-        entries.push(zero);
-        entries.push(one);
-        build_node(Columns::of(&[position]), &[0, 1 << 31], entries)
-    }
-
-    /// The node of all entries of `zero` and `one`, 32 at most, as the two sides of a fork at `position`. All forks of both have higher
-    /// positions. The height is one above the greatest of the entries'.
-    pub fn merge(position: u16, zero: &Node, one: &Node) -> Node
-        requires room { length zero.now.entries + length one.now.entries ≤ 32 }
-        requires after { RisesFrom 0 (Fork position (piece zero.now) (piece one.now)) }
-        ensures { IsBuiltFrom result (Fork position (piece zero.now) (piece one.now)) }
-    {
-        let (zero_count, one_count) = (zero.count() as usize, one.count() as usize);
-        let (mut columns, mut zero_rows) = (*zero.columns(), *zero.padded_rows());
-        ensure_columns(&mut columns, &mut zero_rows, position, one.columns());
-        let (mut same_columns, mut one_rows) = (*one.columns(), *one.padded_rows());
-        ensure_columns(&mut same_columns, &mut one_rows, position, zero.columns());
-        let bit = 1 << (31 - columns.count_columns_below(position));
-        let rows = concatenate_rows(&zero_rows[..zero_count], &one_rows[..one_count], bit);
-        let entries = concatenate_entries(zero.entries.as_slice(), one.entries.as_slice());
-        build_node(columns, rows.as_slice(), entries)
     }
 
     /// How many entries there are, 2 to 32.
@@ -198,8 +162,8 @@ impl Node {
     {
         let columns = self.head.columns();
         let before = self.row(slot.saturating_sub(1));
-        let (own, after, second) = (self.row(slot), self.row(slot + 1), self.row(slot + 2));
-        match find_sibling(slot, before, own, after, second) {
+        let (own, after, after_next) = (self.row(slot), self.row(slot + 1), self.row(slot + 2));
+        match find_sibling(slot, before, own, after, after_next) {
             Some((sibling, column)) => Some((sibling, columns.position(column))),
             None => None,
         }
@@ -278,32 +242,5 @@ impl Node {
         ensures lawful { IsLawfulNode self.new }
     {
         self.entries[slot as usize] = entry;
-    }
-
-    /// The two sides of the node, cut at its root fork. Each is one entry, or a new node of several. A new node has only the columns that
-    /// it uses, and its height is one above the greatest of its entries'. Neither side is `Same`.
-    pub fn cut(&self) -> Cut
-        ensures { CutShows result (piece self.now) }
-    {
-        make_cut(
-            self.head.columns(),
-            self.head.rows(),
-            self.entries.as_slice(),
-        )
-    }
-
-    /// What is left without the entry in `slot`, and without the last fork on the path to it. That fork's other side stands in its stead.
-    /// `One` if one entry is left; else `Many`, a new node with only the columns that it uses, one higher than the highest of its entries.
-    /// Never `Same`.
-    pub fn without(&self, slot: u8) -> Half
-        requires { slot < length self.now.entries }
-        ensures { HalfShows result (without slot (piece self.now)) }
-    {
-        make_rest(
-            self.head.columns(),
-            self.head.rows(),
-            self.entries.as_slice(),
-            slot as usize,
-        )
     }
 }

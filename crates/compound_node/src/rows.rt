@@ -68,33 +68,33 @@ pub(crate) fn or_rows(rows: &[u32]) -> u32
 
 // ---- a new column and a new fork
 
-/// `row` with 0 in a new column `j`. The columns from there on move on by one, and the last one is lost.
-fn spread_row(row: u32, j: u8) -> u32
-    requires { j ≤ 31 }
-    ensures { result ≡ spread_row j row }
+/// `row` with 0 in a new column at `column`. The columns from there on move on by one, and the last one is lost.
+fn spread_row(row: u32, column: u8) -> u32
+    requires { column ≤ 31 }
+    ensures { result ≡ spread_row column row }
 {
-    let low = u32::MAX >> j;
+    let low = u32::MAX >> column;
     row & !low | (row & low) >> 1
 }
 
-/// Puts 0 in a new column `j` of the first `count` rows. The columns from there on move on by one, and the last one is lost.
-pub(crate) fn spread_rows(rows: &mut [u32; 32], count: usize, j: u8)
-    requires column { j ≤ 31 }
+/// Puts 0 in a new column at `column` of the first `count` rows. The columns from there on move on by one, and the last one is lost.
+pub(crate) fn spread_rows(rows: &mut [u32; 32], count: usize, column: u8)
+    requires column { column ≤ 31 }
     requires room { count ≤ 32 }
-    ensures { rows.new ≡ map (spread_row j) (take count rows.old) ++ drop count rows.old }
+    ensures { rows.new ≡ map (spread_row column) (take count rows.old) ++ drop count rows.old }
 {
     for i in 0..count {
-        rows[i] = spread_row(rows[i], j);
+        rows[i] = spread_row(rows[i], column);
     }
 }
 
-/// `rows` with 0 in a new column `j`, at most 31, of each. The columns from there on move on by one, and the last one is lost.
+/// `rows` with 0 in a new column at `column`, at most 31, of each. The columns from there on move on by one, and the last one is lost.
 #[inline(always)]
-pub fn spread_lanes(rows: u32x32, j: u8) -> u32x32
-    requires { j ≤ 31 }
-    ensures { result ≡ map (spread_row j) rows }
+pub fn spread_lanes(rows: u32x32, column: u8) -> u32x32
+    requires { column ≤ 31 }
+    ensures { result ≡ map (spread_row column) rows }
 {
-    let low = u32::MAX >> j;
+    let low = u32::MAX >> column;
     let moved = (rows & u32x32::splat(low)) >> u32x32::splat(1);
     rows & u32x32::splat(!low) | moved
 }
@@ -214,22 +214,22 @@ pub(crate) fn clear_first_column(rows: &[u32]) -> ArrayVec<u32, 32>
     out
 }
 
-/// `row` without column `j`. The columns behind it move forward by one.
-fn close_column(row: u32, j: u8) -> u32
-    requires { j ≤ 31 }
-    ensures { result ≡ closed_row j row }
+/// `row` without the column at `column`. The columns behind it move forward by one.
+fn close_column(row: u32, column: u8) -> u32
+    requires { column ≤ 31 }
+    ensures { result ≡ closed_row column row }
 {
-    let low = u32::MAX >> j;
+    let low = u32::MAX >> column;
     row & !low | (row & low >> 1) << 1
 }
 
-/// Takes column `j` out of each of `rows`.
-fn close_column_of_rows(rows: &mut [u32], j: u8)
-    requires { j ≤ 31 }
-    ensures { rows.new ≡ map (closed_row j) rows.old }
+/// Takes the column at `column` out of each of `rows`.
+fn close_column_of_rows(rows: &mut [u32], column: u8)
+    requires { column ≤ 31 }
+    ensures { rows.new ≡ map (closed_row column) rows.old }
 {
     for row in rows.iter_mut() {
-        *row = close_column(*row, j);
+        *row = close_column(*row, column);
     }
 }
 
@@ -240,9 +240,9 @@ pub(crate) fn squeeze_rows(rows: &mut [u32], used: u32, columns: u8)
     requires rows { All (IsRowOver columns) rows.old }
     ensures { rows.new ≡ map (squeezed used) rows.old }
 {
-    for j in (0..columns).rev() {
-        if used >> (31 - j) & 1 == 0 {
-            close_column_of_rows(rows, j);
+    for column in (0..columns).rev() {
+        if used >> (31 - column) & 1 == 0 {
+            close_column_of_rows(rows, column);
         }
     }
 }
@@ -302,7 +302,7 @@ pub(crate) fn without_row(rows: &[u32], slot: usize) -> ArrayVec<u32, 32>
 
 /// The index of the first of `rows`, from `first` on, that has 0 at `bit`, a mask of one bit or none. `end` if there is none before it.
 #[inline(always)]
-fn end_of_front(rows: u32x32, first: u32, end: u32, bit: u32) -> u32
+fn first_row_without(rows: u32x32, first: u32, end: u32, bit: u32) -> u32
     requires ordered { first ≤ end }
     requires in_range { end ≤ 32 }
     ensures range { (first ≤ result) × (result ≤ end) }
@@ -344,7 +344,7 @@ pub fn remove_row(rows: u32x32, count: usize, slot: usize) -> u32x32
     ensures { result ≡ removed_row slot (take count rows) ++ 4294967295 ∷ drop count rows }
 {
     let bit = sibling_bit(&rows.to_array()[..count], slot);
-    let end = end_of_front(rows, slot as u32 + 1, count as u32, bit);
+    let end = first_row_without(rows, slot as u32 + 1, count as u32, bit);
     lower_rows(rows, count as u32, slot as u32, end, bit)
 }
 
@@ -380,21 +380,21 @@ pub fn squeeze_lanes(rows: u32x32, used: u32, columns: u8) -> u32x32
     ensures each { (n : ℕ) → All (IsRowOver columns) (take n rows) → take n result ≡ map (squeezed used) (take n rows) }
 {
     let mut left = rows;
-    for j in (0..columns).rev() {
-        if used >> (31 - j) & 1 == 0 {
-            left = close_lanes(left, j);
+    for column in (0..columns).rev() {
+        if used >> (31 - column) & 1 == 0 {
+            left = close_lanes(left, column);
         }
     }
     left
 }
 
-/// `rows` without column `j`. The columns behind it move forward by one.
+/// `rows` without the column at `column`. The columns behind it move forward by one.
 #[inline(always)]
-fn close_lanes(rows: u32x32, j: u8) -> u32x32
-    requires { j ≤ 31 }
-    ensures { result ≡ map (closed_row j) rows }
+fn close_lanes(rows: u32x32, column: u8) -> u32x32
+    requires { column ≤ 31 }
+    ensures { result ≡ map (closed_row column) rows }
 {
-    let low = u32::MAX >> j;
+    let low = u32::MAX >> column;
     let moved = (rows & u32x32::splat(low >> 1)) << u32x32::splat(1);
     rows & u32x32::splat(!low) | moved
 }
@@ -411,18 +411,24 @@ fn fork_column(row: u32) -> u8
 /// The one slot on the other side of the last fork on the path to `slot`, and the index of that fork's column. `None` if that side has
 /// several slots.
 ///
-/// `before`, `own`, `after` and `second` are the rows of slots `slot - 1` to `slot + 2`, with 4,294,967,295 past the last entry. If `slot`
-/// is 0, `before` is row 0. The result holds for each node with these rows.
+/// `before`, `own`, `after` and `after_next` are the rows of slots `slot - 1` to `slot + 2`, with 4,294,967,295 past the last entry. If
+/// `slot` is 0, `before` is row 0. The result holds for each node with these rows.
 #[inline(always)]
-pub fn find_sibling(slot: u8, before: u32, own: u32, after: u32, second: u32) -> Option<(u8, u8)>
+pub fn find_sibling(
+    slot: u8,
+    before: u32,
+    own: u32,
+    after: u32,
+    after_next: u32,
+) -> Option<(u8, u8)>
     requires { slot < 32 }
     ensures { (node : NodeView) → IsLawfulNode node → slot < length node.entries →
-        AreRound node.rows slot before own after second → IsBesideIn node slot result }
+        AreRound node.rows slot before own after after_next → IsBesideIn node slot result }
 {
     let (before, own) = (fork_column(before), fork_column(own));
-    let (after, second) = (fork_column(after), fork_column(second));
+    let (after, after_next) = (fork_column(after), fork_column(after_next));
     if own < after {
-        if after < second {
+        if after < after_next {
             None
         } else {
             Some((slot + 1, after - 1))

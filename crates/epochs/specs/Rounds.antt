@@ -13,8 +13,8 @@ use Rattle.rowex_core.specs.declared.known.Known.{Known}
 use Rattle.rowex_table.specs.Runs.{Does, InTurn}
 use Rattle.rowex_table.specs.Seats.{TableView, SeatView}
 use Rattle.epochs.specs.Runs.{collecting, paced}
-use Rattle.epochs.specs.declared.collection.Visited.{Visited}
-use Rattle.epochs.specs.declared.collection.Visited.TheVariants.{Given}
+use Rattle.epochs.specs.declared.limbo.Visited.{Visited}
+use Rattle.epochs.specs.declared.limbo.Visited.TheVariants.{Given}
 
 -- the exchange that makes an epoch the next one; at the last epoch there is none
 abbrev pub advance_steps : ℕ → ℕ → List Act

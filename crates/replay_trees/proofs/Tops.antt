@@ -16,7 +16,7 @@ use Rattle.versions.specs.Told.{items_of}
 use Rattle.versions.proofs.Reading.{read_exact}
 use Rattle.rowex_core.specs.Cores.{heap_of}
 use Rattle.rowex_core.specs.Events.{tree_of}
-use Rattle.replay_trees.specs.declared.trees.Linked.{Linked}
+use Rattle.replay_trees.specs.declared.linked.Linked.{Linked}
 use Rattle.replay_trees.specs.Versions.{IsSpelled, IsReadVersion, read_item, Table}
 use Rattle.replay_trees.specs.Parts.{ShowsPart, HasMarks, IsTreeRead}
 use Rattle.replay_trees.proofs.Shown.{from_start}

@@ -10,7 +10,7 @@ use Rattle.record_words.specs.declared.records.Rec.TheVariants.{Node as a_node, 
 use Rattle.versions.specs.Heap.{IsShown}
 use Rattle.versions.specs.State.{Links}
 use Rattle.rowex_core.specs.Cores.{heap_of}
-use Rattle.replay_trees.specs.declared.trees.Linked.{Linked}
+use Rattle.replay_trees.specs.declared.linked.Linked.{Linked}
 use Rattle.replay_trees.specs.declared.parts.Records.{Records}
 use Rattle.replay_trees.specs.Versions.{AreWordsOf, IsSpelled, Table, read_item}
 

@@ -10,8 +10,8 @@ use Rattle.versions.specs.Told.{items_of}
 use Rattle.rowex_core.specs.Reading.{IsPacked}
 use Rattle.rowex_core.specs.Cores.{heap_of}
 use Rattle.rowex_core.specs.Events.{tree_of}
-use Rattle.replay_trees.specs.declared.trees.Item.{Item as ReadItem}
-use Rattle.replay_trees.specs.declared.trees.Linked.{Linked}
+use Rattle.replay_trees.specs.declared.linked.Item.{Item as ReadItem}
+use Rattle.replay_trees.specs.declared.linked.Linked.{Linked}
 
 -- of each node record and of each leaf record its words from offset 1 on
 pub record Table : Type 0 where

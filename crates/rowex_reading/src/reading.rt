@@ -13,7 +13,7 @@ ghost use Rattle.rowex_reading.specs.Reads.{IsReader, Reads, ReadsRoot, leaf_loa
 ghost use Rattle.rowex_reading.specs.Ways.{step_at};
 ghost use Rattle.rowex_reading.specs.Seen.{Sure, RootIs, IsCompared, IsHeadSeen, IsLedTo, HasPlace, AreHeadWords, AreLoaded, shape_of};
 ghost use Rattle.record_words.specs.declared.records.Rec.TheVariants.{Leaf as a_leaf, Node as a_node};
-ghost use Rattle.rowex_table.specs.Rule.{IsLeafAt, IsNodeAt, number_of};
+ghost use Rattle.rowex_table.specs.Rule.{IsLeafRecordAt, IsNodeRecordAt, record_number};
 ghost use Rattle.rowex_table.specs.Seats.{IsSeatOf};
 ghost use Rattle.tries.specs.Place.{spot};
 
@@ -53,12 +53,12 @@ fn load_head_part<G: Gate>(
     words: &mut [u64],
 )
     requires reader { IsReader table.now seat.old }
-    requires led { (m h : ℕ) × IsLedTo seat.old.known m (NodeEntry (number_of node.rec) h) }
-    requires node { IsNodeAt table.now.layout node }
+    requires led { (m h : ℕ) × IsLedTo seat.old.known m (NodeEntry (record_number node.rec) h) }
+    requires node { IsNodeRecordAt table.now.layout node }
     requires range { first + length words.old ≤ HEAD_WORDS }
     ensures reads { Reads table.now G.becomes 0 (length words.old) (seat.old, gate.old) (seat.new, gate.new) }
     ensures long { length words.new ≡ length words.old }
-    ensures loaded { AreLoaded seat.old.known seat.new.known (a_node (number_of node.rec)) first (λ i. i < length words.new) words.new }
+    ensures loaded { AreLoaded seat.old.known seat.new.known (a_node (record_number node.rec)) first (λ i. i < length words.new) words.new }
 {
     for index in 0..words.len() {
         let offset = (first + index) as u8 + FIELDS_OFFSET;
@@ -137,7 +137,7 @@ fn path_node(number: u32, numbers: HeadNumbers, word: u64, slot: u8) -> PathNode
 /// words as a line has is touched; the line of those before them has words of the head, too.
 #[inline(always)]
 pub(crate) fn touch_entries(table: &HotTable, node: RecordAt)
-    requires node { IsNodeAt table.now.layout node }
+    requires node { IsNodeRecordAt table.now.layout node }
 {
     let (last, line) = (NODE_WORDS as u8 - 1, CACHE_LINE_WORDS as u8);
     table.touch(node, last - 3 * line);
@@ -160,11 +160,12 @@ pub fn search_node<G: Gate>(
     key: &Key,
 ) -> PathNode
     requires reader { IsReader table.now seat.old }
-    requires led { (m h : ℕ) × IsLedTo seat.old.known m (NodeEntry (number_of node.rec) h) }
-    requires node { IsNodeAt table.now.layout node }
+    requires led { (m h : ℕ) × IsLedTo seat.old.known m (NodeEntry (record_number node.rec) h) }
+    requires node { IsNodeRecordAt table.now.layout node }
     ensures reads { (n : ℕ) × (n ≤ HEAD_WORDS) × Reads table.now G.becomes 0 n (seat.old, gate.old) (seat.new, gate.new) }
-    ensures step { (m h : ℕ) → IsLedTo seat.old.known m (NodeEntry (number_of node.rec) h) →
-        (head : HeadView) × IsHeadSeen seat.new.known m (number_of node.rec) h head × (result ≡ step_at head (number_of node.rec) (spot key.now (shape_of head))) }
+    ensures step { (m h : ℕ) → IsLedTo seat.old.known m (NodeEntry (record_number node.rec) h) →
+        (head : HeadView) × IsHeadSeen seat.new.known m (record_number node.rec) h head ×
+        (result ≡ step_at head (record_number node.rec) (spot key.now (shape_of head))) }
 {
     let mut first = [0; 1];
     load_head_part(table, seat, gate, node, 0, &mut first);
@@ -209,11 +210,11 @@ pub fn load_entry<G: Gate>(
     slot: u8,
 ) -> Entry
     requires reader { IsReader table.now seat.old }
-    requires place { (m h : ℕ) × HasPlace seat.old.known m (number_of node.rec) h slot }
-    requires node { IsNodeAt table.now.layout node }
+    requires place { (m h : ℕ) × HasPlace seat.old.known m (record_number node.rec) h slot }
+    requires node { IsNodeRecordAt table.now.layout node }
     ensures reads { Reads table.now G.becomes 1 1 (seat.old, gate.old) (seat.new, gate.new) }
-    ensures entry { (m h : ℕ) → HasPlace seat.old.known m (number_of node.rec) h slot →
-        (height_of result < h) × Sure seat.new.known (λ s. IsPlaced s m (number_of node.rec) slot result) }
+    ensures entry { (m h : ℕ) → HasPlace seat.old.known m (record_number node.rec) h slot →
+        (height_of result < h) × Sure seat.new.known (λ s. IsPlaced s m (record_number node.rec) slot result) }
 {
     let word = table.load_slot_at(seat, gate, node, slot);
     read_some_entry(word)
@@ -233,14 +234,14 @@ pub fn load_leaf<G: Gate>(
     places: &mut [u8; MAX_BYTES],
 ) -> (usize, u64)
     requires reader { IsReader table.now seat.old }
-    requires led { (m : ℕ) × IsLedTo seat.old.known m (LeafEntry (number_of leaf.rec)) }
-    requires leaf { IsLeafAt table.now.layout leaf }
+    requires led { (m : ℕ) × IsLedTo seat.old.known m (LeafEntry (record_number leaf.rec)) }
+    requires leaf { IsLeafRecordAt table.now.layout leaf }
     ensures reads { Reads table.now G.becomes 0 (leaf_loads (take result.0 places.new)) (seat.old, gate.old) (seat.new, gate.new) }
     ensures few { leaf_loads (take result.0 places.new) ≤ LEAF_FIELDS }
     ensures key { IsKey (take result.0 places.new) × (result.0 ≤ MAX_BYTES) }
     ensures places { places.old ≡ replicate MAX_BYTES 0 → HoldsKey places.new result.0 }
-    ensures leaf { (m : ℕ) → IsLedTo seat.old.known m (LeafEntry (number_of leaf.rec)) →
-        Sure seat.new.known (λ s. IsRead s m (number_of leaf.rec) (take result.0 places.new) result.1) }
+    ensures leaf { (m : ℕ) → IsLedTo seat.old.known m (LeafEntry (record_number leaf.rec)) →
+        Sure seat.new.known (λ s. IsRead s m (record_number leaf.rec) (take result.0 places.new) result.1) }
 {
     let value = table.load_value_at(seat, gate, leaf);
     let length = table.load_fixed_at(seat, gate, leaf, LENGTH_OFFSET);
@@ -292,12 +293,12 @@ fn compare_leaf<G: Gate>(
     size: u64,
 ) -> Option<u64>
     requires reader { IsReader table.now seat.old }
-    requires led { (m : ℕ) × IsLedTo seat.old.known m (LeafEntry (number_of leaf.rec)) }
-    requires leaf { IsLeafAt table.now.layout leaf }
+    requires led { (m : ℕ) × IsLedTo seat.old.known m (LeafEntry (record_number leaf.rec)) }
+    requires leaf { IsLeafRecordAt table.now.layout leaf }
     requires key { IsKey key.now × (size ≡ length key.now) }
     ensures reads { (n : ℕ) × (n ≤ LEAF_FIELDS) × Reads table.now G.becomes 0 n (seat.old, gate.old) (seat.new, gate.new) }
-    ensures leaf { (m : ℕ) → IsLedTo seat.old.known m (LeafEntry (number_of leaf.rec)) →
-        Sure seat.new.known (λ s. IsCompared s m (number_of leaf.rec) key.now result) }
+    ensures leaf { (m : ℕ) → IsLedTo seat.old.known m (LeafEntry (record_number leaf.rec)) →
+        Sure seat.new.known (λ s. IsCompared s m (record_number leaf.rec) key.now result) }
 {
     if table.load_fixed_at(seat, gate, leaf, LENGTH_OFFSET) != size {
         return None;

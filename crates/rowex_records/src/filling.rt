@@ -10,7 +10,7 @@ ghost use Rattle.record_words.specs.declared.TheConstants.{FIRST_POSITIONS, FIRS
 ghost use Rattle.rowex_core.specs.Cores.{FitsIn, HasRecord, HasWord};
 ghost use Rattle.rowex_core.specs.Events.{IsOffset};
 ghost use Rattle.rowex_table.specs.Rights.{IsClaimed};
-ghost use Rattle.rowex_table.specs.Rule.{IsNodeAt, IsStartOf};
+ghost use Rattle.rowex_table.specs.Rule.{IsNodeRecordAt, IsStartOf};
 ghost use Rattle.rowex_table.specs.Runs.{Steps};
 ghost use Rattle.rowex_table.specs.Seats.{IsSeatOf};
 ghost use Rattle.rowex_records.specs.Records.{HaveBelow, IsBehindValue, IsFilled, IsFilledLeaf, IsLookedAt, Readies, Sets, SetsAll, SetsMore, SetsSome, load_of_word, unused_word};
@@ -121,7 +121,7 @@ fn set_eight_words<G: Gate>(
     used: Range<usize>,
 )
     requires own { IsSeatOf table.now seat.old }
-    requires node { IsNodeAt table.now.layout node }
+    requires node { IsNodeRecordAt table.now.layout node }
     requires held { IsClaimed seat.old.known node.rec }
     requires range { used.start + 8 ≤ NODE_FIELDS }
     requires have { HaveBelow words.now used.start used.end }

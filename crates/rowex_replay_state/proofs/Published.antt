@@ -14,8 +14,8 @@ use Rattle.rowex_core.specs.Cores.{Core, HasRecord, heap_of}
 use Rattle.rowex_core.specs.Events.{AreSame, IsInTree, tree_of, change_between}
 use Rattle.replay_trees.specs.Changed.{IsFoundChange}
 use Rattle.replay_trees.specs.Versions.{AreWordsOf, IsVersion, IsReadVersion, Tells, read_item}
-use Rattle.replay_trees.specs.declared.trees.Item.{Item as ReadItem}
-use Rattle.replay_trees.specs.declared.trees.Linked.{Linked}
+use Rattle.replay_trees.specs.declared.linked.Item.{Item as ReadItem}
+use Rattle.replay_trees.specs.declared.linked.Linked.{Linked}
 use Rattle.rowex_replay_state.specs.declared.fate.Fate.{Fate as Stored}
 use Rattle.rowex_replay_state.specs.declared.fate.Fate.TheVariants.{Ready as IsReady, InTree as IsTree}
 use Rattle.rowex_replay_state.specs.Fates.{stored_fate}

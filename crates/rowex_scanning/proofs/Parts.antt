@@ -12,7 +12,7 @@ use Rattle.rowex_reading.specs.Seen.{seen, since}
 use Rattle.rowex_scanning.specs.Scanning.{HasTaken, HasTakenPart, IsLeafRefused, IsLeafTaken, IsPairRefused, limited}
 use Rattle.rowex_scanning.specs.Tallies.{IsNone, IsKept, Tally}
 use Rattle.packed_pairs.specs.declared.direction.Direction.{Direction}
-use Rattle.rowex_scanning.specs.declared.scanning.Verdict.TheVariants.{Full}
+use Rattle.rowex_scanning.specs.declared.scan.Verdict.TheVariants.{Full}
 use Rattle.rowex_scanning.proofs.Directed.{scan_limited}
 use Rattle.rowex_scanning.proofs.Walking.{IsAtEntry, IsBeforeEntry, IsRootRead, leaf_full, walk_full}
 

@@ -18,8 +18,8 @@ use Rattle.version_laws.specs.Directions.{first_key, gap_after, gap_before, gap_
 use Rattle.rowex_scanning.specs.Scanning.{IsBound, IsLeafTaken, IsReached, IsWalk}
 use Rattle.rowex_scanning.specs.Tallies.{Tally}
 use Rattle.packed_pairs.specs.declared.direction.Direction.{Direction}
-use Rattle.rowex_scanning.specs.declared.scanning.Verdict.{Verdict}
-use Rattle.rowex_scanning.specs.declared.scanning.Verdict.TheVariants.{Further}
+use Rattle.rowex_scanning.specs.declared.scan.Verdict.{Verdict}
+use Rattle.rowex_scanning.specs.declared.scan.Verdict.TheVariants.{Further}
 use Rattle.rowex_scanning.proofs.Directed.{gap_before_place, gap_behind_place, gap_none}
 use Rattle.rowex_scanning.proofs.Walking.{IsAtEntry, bound_later, bound_leaf, bound_next, entry_led, taken_more, walk_at_place, walk_further}
 

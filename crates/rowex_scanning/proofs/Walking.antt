@@ -53,8 +53,8 @@ use Rattle.rowex_scanning.specs.Scanning.{ArePastKey, AreInside, HasTaken, IsBou
 use Rattle.rowex_scanning.specs.Tallies.{AreTallied, IsKept, IsNone, IsOneMore, IsTalliedScan, Tally, tally_of_number}
 use Rattle.packed_pairs.specs.declared.direction.Direction.{Direction}
 use Rattle.packed_pairs.specs.declared.direction.Direction.TheVariants.{Upwards, Downwards}
-use Rattle.rowex_scanning.specs.declared.scanning.Verdict.{Verdict}
-use Rattle.rowex_scanning.specs.declared.scanning.Verdict.TheVariants.{Further, Past as IsPast, Full}
+use Rattle.rowex_scanning.specs.declared.scan.Verdict.{Verdict}
+use Rattle.rowex_scanning.specs.declared.scan.Verdict.TheVariants.{Further, Past as IsPast, Full}
 use Rattle.rowex_scanning.proofs.Directed.{before_fits, behind_fits, come_after, come_behind, come_first, come_most, first_fits, gap_before_place, place_inside, out_first, out_last}
 
 -- What a walk has still to do, at most: its measure.

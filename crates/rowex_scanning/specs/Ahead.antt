@@ -12,8 +12,8 @@ use Rattle.rowex_scanning.specs.Scanning.{HasTaken, IsBound, IsBoundWalk, IsWalk
 use Rattle.rowex_scanning.specs.Tallies.{Tally}
 use Rattle.rowex_scanning.specs.declared.ahead.Ahead.{Ahead}
 use Rattle.packed_pairs.specs.declared.direction.Direction.{Direction}
-use Rattle.rowex_scanning.specs.declared.scanning.Verdict.{Verdict}
-use Rattle.rowex_scanning.specs.declared.scanning.Verdict.TheVariants.{Further, Past as IsPast, Full}
+use Rattle.rowex_scanning.specs.declared.scan.Verdict.{Verdict}
+use Rattle.rowex_scanning.specs.declared.scan.Verdict.TheVariants.{Further, Past as IsPast, Full}
 
 -- the node has entries at all places that are to come
 abbrev pub HasPlaces : Direction → Known → ℕ → PathNode → Type 0

@@ -8,8 +8,8 @@ ghost use Rattle.version_laws.specs.Directions.{to_come as to_come_of};
 ghost use Rattle.record_words.specs.declared.records.Rec.TheVariants.{Leaf as a_leaf};
 
 use crate::direction::{entries_to_come, slot_ahead};
-use crate::scanning::Scan;
-use crate::sinks::Tallies;
+use crate::scan::Scan;
+use crate::tallies::Tallies;
 use compound_node::Entry;
 use insert_cases::PathNode;
 use record_words::{Origins, VALUE_OFFSET};

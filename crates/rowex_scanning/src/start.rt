@@ -6,7 +6,7 @@ ghost use Rattle.rowex_reading.specs.Reads.{IsReader, Reads};
 ghost use Rattle.rowex_scanning.specs.Scanning.{first_key_of};
 ghost use Rattle.rowex_scanning.specs.Starts.{IsSearchEnd, IsParting, IsStart};
 
-use crate::scanning::{Scan, first_key};
+use crate::scan::{Scan, first_key};
 use insert_cases::{PathNode, choose_case, last_level_before};
 use packed_pairs::Direction;
 use rowex_core::Gate;
@@ -96,8 +96,7 @@ fn find_start_of_upward_scan<G: Gate>(
     };
     let below = first_key(scan.range).bit(position);
     let level = last_level_before(way, position);
-    let step = way[level];
-    let (first, last) = find_affected(scan.table, seat, gate, step.number, step.slot, position);
+    let (first, last) = find_affected(scan.table, seat, gate, way[level], position);
     let part = choose_case(way, level, first, last);
     let mut top = way[part.level];
     top.slot = if below { part.last + 1 } else { part.first };

@@ -29,7 +29,7 @@ use Rattle.rowex_core.specs.Knowing.{IsEvent, IsPinnedSince}
 use Rattle.rowex_core.proofs.Owning.{recalls}
 use Rattle.rowex_table.specs.Made.{IsLater, Made, nodes_of}
 use Rattle.rowex_table.specs.Publishes.{HasPublished}
-use Rattle.rowex_table.specs.Rule.{number_of}
+use Rattle.rowex_table.specs.Rule.{record_number}
 use Rattle.rowex_table.specs.Runs.{Steps, silent}
 use Rattle.rowex_table.specs.Seats.{SeatView, TableView}
 use Rattle.rowex_table.proofs.ActsBefore.{value_loaded}
@@ -135,8 +135,8 @@ found_loaded {layout} {k} {j} n w e number value is =
 
 -- a load of a located leaf's value, by the leaf's number
 pub of_leaf : {G : Type 0} {table : TableView} {becomes : G → Event → G → Type 0} {r : Rec} {n w : ℕ} {a b : SeatView × G} → r ≡ a_leaf n →
-    Steps table becomes (LoadRef (Value (number_of r)) w) a b → Steps table becomes (LoadRef (Value n) w) a b
-of_leaf {table = table} {becomes = becomes} {w = w} {a = a} {b = b} is steps = subst (λ z. Steps table becomes (LoadRef (Value z) w) a b) (ap number_of is) steps
+    Steps table becomes (LoadRef (Value (record_number r)) w) a b → Steps table becomes (LoadRef (Value n) w) a b
+of_leaf {table = table} {becomes = becomes} {w = w} {a = a} {b = b} is steps = subst (λ z. Steps table becomes (LoadRef (Value z) w) a b) (ap record_number is) steps
 
 pub value_reads : {G : Type 0} (table : TableView) (becomes : G → Event → G → Type 0) (n w : ℕ) (a b : SeatView × G) → Steps table becomes (LoadRef (Value n) w) a b → ReadsOn table becomes a b
 value_reads table becomes n w a b s = record {

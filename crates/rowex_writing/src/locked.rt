@@ -10,7 +10,7 @@ ghost use Rattle.tries.specs.Place.{entry_at};
 ghost use Rattle.rowex_core.specs.Reading.{node_words_of};
 ghost use Rattle.rowex_reading.specs.Possible.{IsPossible};
 ghost use Rattle.rowex_reading.specs.Seen.{HasPlace};
-ghost use Rattle.rowex_table.specs.Rule.{IsNodeAt, number_of};
+ghost use Rattle.rowex_table.specs.Rule.{IsNodeRecordAt, record_number};
 ghost use Rattle.rowex_table.specs.Seats.{IsSeatOf};
 ghost use Rattle.rowex_writing.specs.Going.{ReadsOn, HasLocked, IsLockedBy, HasLockedNode, IsNodeOf};
 ghost use Rattle.rowex_writing.specs.Loads.{AreRead, ReadsEight, ReadsRest};
@@ -69,9 +69,9 @@ fn load_locked_head<G: Gate>(
     words: &mut [u64; NODE_FIELDS],
 )
     requires own { IsSeatOf table.now seat.old }
-    requires node { IsNodeAt table.now.layout node }
+    requires node { IsNodeRecordAt table.now.layout node }
     requires empty { words.old ≡ replicate NODE_FIELDS 0 }
-    ensures { AreRead table.now G.becomes (seat.old, gate.old) (seat.new, gate.new) (number_of node.rec) words.new HEAD_WORDS }
+    ensures { AreRead table.now G.becomes (seat.old, gate.old) (seat.new, gate.new) (record_number node.rec) words.new HEAD_WORDS }
 {
     words[0] = load_locked_word(table, seat, gate, node, 0);
     match read_numbers(words[0]).kind {
@@ -93,9 +93,9 @@ fn load_rest_of_head<G: Gate>(
     size: usize,
 )
     requires own { IsSeatOf table.now seat.old }
-    requires node { IsNodeAt table.now.layout node }
+    requires node { IsNodeRecordAt table.now.layout node }
     requires size { (1 ≤ size) × (size ≤ HEAD_WORDS) }
-    ensures { ReadsRest table.now G.becomes (number_of node.rec) size ((seat.old, gate.old), words.old) ((seat.new, gate.new), words.new) }
+    ensures { ReadsRest table.now G.becomes (record_number node.rec) size ((seat.old, gate.old), words.old) ((seat.new, gate.new), words.new) }
 {
     for index in 1..size {
         words[index] = load_locked_word(table, seat, gate, node, index);
@@ -114,10 +114,10 @@ fn load_numbers<G: Gate>(
     node: RecordAt,
 ) -> HeadNumbers
     requires own { IsSeatOf table.now seat.old }
-    requires node { IsNodeAt table.now.layout node }
+    requires node { IsNodeRecordAt table.now.layout node }
     ensures own { IsSeatOf table.now seat.new }
     ensures reads { ReadsOn table.now G.becomes (seat.old, gate.old) (seat.new, gate.new) }
-    ensures numbers { (view : NodeView) → HasLockedNode seat.old.known (number_of node.rec) view → AreNumbersOf result view }
+    ensures numbers { (view : NodeView) → HasLockedNode seat.old.known (record_number node.rec) view → AreNumbersOf result view }
     ensures few { seat.new.known.steps ≤ seat.old.known.steps + 1 }
 {
     read_numbers(load_locked_word(table, seat, gate, node, 0))
@@ -134,10 +134,10 @@ fn load_row<G: Gate>(
     slot: u8,
 ) -> u32
     requires own { IsSeatOf table.now seat.old }
-    requires node { IsNodeAt table.now.layout node }
+    requires node { IsNodeRecordAt table.now.layout node }
     ensures own { IsSeatOf table.now seat.new }
     ensures reads { ReadsOn table.now G.becomes (seat.old, gate.old) (seat.new, gate.new) }
-    ensures row { (view : NodeView) → HasLockedNode seat.old.known (number_of node.rec) view → AreNumbersOf numbers view → result ≡ row_at view.rows slot }
+    ensures row { (view : NodeView) → HasLockedNode seat.old.known (record_number node.rec) view → AreNumbersOf numbers view → result ≡ row_at view.rows slot }
     ensures few { seat.new.known.steps ≤ seat.old.known.steps + 1 }
 {
     if slot as usize >= MAX_ENTRIES {
@@ -229,7 +229,7 @@ fn load_eight_words<G: Gate>(
     first: usize,
 )
     requires own { IsSeatOf table.now seat.old }
-    requires node { IsNodeAt table.now.layout loads.node }
+    requires node { IsNodeRecordAt table.now.layout loads.node }
     requires range { first + 8 ≤ NODE_FIELDS }
     ensures own { IsSeatOf table.now seat.new }
     ensures reads { ReadsEight table.now G.becomes loads first ((seat.old, gate.old), words.old) ((seat.new, gate.new), words.new) }
@@ -272,11 +272,11 @@ fn load_locked_word<G: Gate>(
     index: usize,
 ) -> u64
     requires own { IsSeatOf table.now seat.old }
-    requires node { IsNodeAt table.now.layout node }
+    requires node { IsNodeRecordAt table.now.layout node }
     requires index { index < NODE_FIELDS }
     ensures reads { ReadsOn table.now G.becomes (seat.old, gate.old) (seat.new, gate.new) }
-    ensures word { (words : List ℕ) → HasLocked seat.old.known (number_of node.rec) words → result ≡ get_or words index 0 }
-    ensures spelled { (words : List ℕ) → HasLocked seat.old.known (number_of node.rec) words → (view : NodeView) × IsNodeOf words view }
+    ensures word { (words : List ℕ) → HasLocked seat.old.known (record_number node.rec) words → result ≡ get_or words index 0 }
+    ensures spelled { (words : List ℕ) → HasLocked seat.old.known (record_number node.rec) words → (view : NodeView) × IsNodeOf words view }
     ensures few { seat.new.known.steps ≤ seat.old.known.steps + 1 }
 {
     if index < HEAD_WORDS {

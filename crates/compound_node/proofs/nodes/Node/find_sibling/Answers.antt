@@ -17,12 +17,12 @@ overflow_add-slot-2 c = omega (arith, (lawful_self (goal.at.overflow_add-slot-2 
 pub find_sibling-requires : goal.find_sibling-requires
 find_sibling-requires c = omega (arith, (lawful_self (goal.at.find_sibling-requires c).After-self).room)
 
-round : (c : After-find_sibling) → AreRound c.args.self.now.rows c.args.slot c.row-before.result c.row-own.result c.row-after.result c.row-second.result
+round : (c : After-find_sibling) → AreRound c.args.self.now.rows c.args.slot c.row-before.result c.row-own.result c.row-after.result c.row-after_next.result
 round c = record {
   before_is = c.row-before.ensures ∙ ap (λ k. get_or c.args.self.now.rows k 4294967295) c.saturating_sub.ensures;
   own_is = c.row-own.ensures;
   after_is = c.row-after.ensures;
-  second_is = c.row-second.ensures;
+  second_is = c.row-after_next.ensures;
 }
 
 told : (c : After-find_sibling) → IsBesideIn c.args.self.now c.args.slot c.find_sibling.result

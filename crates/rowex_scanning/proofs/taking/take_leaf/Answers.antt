@@ -9,9 +9,9 @@ use Rattle.rowex_reading.proofs.Led.{reader_then, reads_later}
 use Rattle.rowex_reading.proofs.Naming.{leaf_led, leaf_told}
 use Rattle.rowex_scanning.specs.Scanning.{asked_range, request_of, IsLeafRefused, IsLeafTaken, IsPairRefused, IsPairTaken}
 use Rattle.rowex_scanning.proofs.Begins.{leaf_begins, leaf_there}
-use Rattle.rowex_scanning.proofs.scanning.take_leaf.Given as given
-use Rattle.rowex_scanning.proofs.scanning.take_leaf.Goals as goal
-use Rattle.rowex_scanning.proofs.scanning.take_leaf.Goals.{After-load_leaf-length}
+use Rattle.rowex_scanning.proofs.taking.take_leaf.Given as given
+use Rattle.rowex_scanning.proofs.taking.take_leaf.Goals as goal
+use Rattle.rowex_scanning.proofs.taking.take_leaf.Goals.{After-load_leaf-length}
 
 -- the leaf has been read
 read_leaf : (g : given.Over) (c : After-load_leaf-length g) (m : ℕ) → IsLedTo c.args.seat.now.known m (Leaf c.args.number) →

@@ -14,9 +14,9 @@ use Rattle.rowex_scanning.specs.Scanning.{asked_range, request_of}
 use Rattle.rowex_scanning.proofs.Parts.{walk_part}
 use Rattle.rowex_scanning.proofs.Passing.{ahead_later, leaf_at, leaf_reached, passed_more, passed_none}
 use Rattle.rowex_scanning.proofs.Walking.{IsAtEntry, walk_fits, walk_full, walk_past, walk_places, walk_short}
-use Rattle.rowex_scanning.proofs.scanning.take_each_leaf.Given as given
-use Rattle.rowex_scanning.proofs.scanning.take_each_leaf.Goals as goal
-use Rattle.rowex_scanning.proofs.scanning.take_each_leaf.Goals.{After-take_leaf}
+use Rattle.rowex_scanning.proofs.taking.take_each_leaf.Given as given
+use Rattle.rowex_scanning.proofs.taking.take_each_leaf.Goals as goal
+use Rattle.rowex_scanning.proofs.taking.take_each_leaf.Goals.{After-take_leaf}
 
 -- The walk is at the leaf that was read.
 leaf : (g : given.Over) (c : After-take_leaf g) (top : PathNode) (frames : List PathNode) → AreNext c.args.seat.now.known (request_of c.args.scan.now.range.now) top frames (g.S.Tallies.tally c.args.sink.now) c.args.leaves.now →
