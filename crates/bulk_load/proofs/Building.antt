@@ -19,7 +19,7 @@ use Rattle.partial_keys.specs.Columns.{IsColumns}
 use Rattle.partial_keys.specs.Rows.{with_unused}
 use Rattle.partial_keys.specs.Shows.{ShowsPiece}
 use Rattle.bulk_load.proofs.Rows.{has-append, last_row, last_row-append, parts_show, rows_behind-append}
-use Rattle.bulk_load.specs.Slots.{AreSlotsOf, IsSlot, entries_of, forks_between, next_row, rows_behind}
+use Rattle.bulk_load.specs.Slots.{AreSlotsOf, IsSlot, entries_in_slots, forks_between, next_row, rows_behind}
 use Rattle.bulk_load.specs.declared.slots.Slot.{Slot}
 
 -- ---- one slot more
@@ -161,24 +161,24 @@ front_rows cs slots n some e =
     take_at (0 ∷ rows_behind cs 0 (forks_between slots)) (replicate (32 - length (0 ∷ rows_behind cs 0 (forks_between slots))) 4294967295) n (all_rows cs slots some ∙ sym e)
 
 -- ---- entries
-pub entries_fit : (slots : List Slot) → All IsSlot slots → All IsEntry (entries_of slots)
+pub entries_fit : (slots : List Slot) → All IsSlot slots → All IsEntry (entries_in_slots slots)
 entries_fit slots each k d l =
     let inside : k < length slots = omega (arith, l, length-map slots (λ (s : Slot). s.entry)) in
     subst IsEntry (sym (get_or-map (λ (s : Slot). s.entry) slots k (record { fork = 0; entry = d }) d inside)) (each k (record { fork = 0; entry = d }) inside).0
 
 abbrev pub node_of_slots : List ℕ → List Slot → NodeView
-node_of_slots cs slots = record { height = 1 + greatest_height (entries_of slots); columns = cs; rows = 0 ∷ rows_behind cs 0 (forks_between slots); entries = entries_of slots }
+node_of_slots cs slots = record { height = 1 + greatest_height (entries_in_slots slots); columns = cs; rows = 0 ∷ rows_behind cs 0 (forks_between slots); entries = entries_in_slots slots }
 
 -- THE NODE of all parts
 module _ (cs : List ℕ) (slots : List Slot) (several : 2 ≤ length slots) (few : length slots ≤ 32) (each : All IsSlot slots) (columns : IsColumns cs) (positions : (q : ℕ) → has cs q ≡ has (forks_between slots) q) where
   pub built : (p : ℕ) (x : Piece Entry) → AreSlotsOf slots p x → IsBuiltFrom (node_of_slots cs slots) x
   built p x are =
-      let shows : ShowsPiece cs (0 ∷ rows_behind cs 0 (forks_between slots)) (entries_of slots) x = parts_show cs slots p x are columns positions in
-      let long : length (entries_of slots) ≡ length slots = length-map slots (λ (s : Slot). s.entry) in
-      let fit : FitTogether cs (0 ∷ rows_behind cs 0 (forks_between slots)) (entries_of slots) =
-      fit_from_shown cs (0 ∷ rows_behind cs 0 (forks_between slots)) (entries_of slots) x shows (omega arith) (omega arith) columns (entries_fit slots each) in
+      let shows : ShowsPiece cs (0 ∷ rows_behind cs 0 (forks_between slots)) (entries_in_slots slots) x = parts_show cs slots p x are columns positions in
+      let long : length (entries_in_slots slots) ≡ length slots = length-map slots (λ (s : Slot). s.entry) in
+      let fit : FitTogether cs (0 ∷ rows_behind cs 0 (forks_between slots)) (entries_in_slots slots) =
+      fit_from_shown cs (0 ∷ rows_behind cs 0 (forks_between slots)) (entries_in_slots slots) x shows (omega arith) (omega arith) columns (entries_fit slots each) in
       record {
-        lawful = built_lawful cs (0 ∷ rows_behind cs 0 (forks_between slots)) (entries_of slots) fit;
-        shows_it = piece_of_shown (Leaf 0) cs (0 ∷ rows_behind cs 0 (forks_between slots)) (entries_of slots) x shows;
+        lawful = built_lawful cs (0 ∷ rows_behind cs 0 (forks_between slots)) (entries_in_slots slots) fit;
+        shows_it = piece_of_shown (Leaf 0) cs (0 ∷ rows_behind cs 0 (forks_between slots)) (entries_in_slots slots) x shows;
         height_is = refl;
       }

@@ -17,7 +17,7 @@ use Rattle.partial_keys.proofs.Codes.{code-falses, code-join}
 use Rattle.partial_keys.specs.Columns.{IsColumns}
 use Rattle.partial_keys.specs.Rows.{rows_of}
 use Rattle.partial_keys.specs.Shows.{ShowsPiece}
-use Rattle.bulk_load.specs.Slots.{AreSlotsOf, entries_of, forks_between, next_row, rows_behind, slot, slots_of}
+use Rattle.bulk_load.specs.Slots.{AreSlotsOf, entries_in_slots, forks_between, next_row, rows_behind, slot, slots_of}
 use Rattle.bulk_load.specs.declared.slots.Slot.{Slot}
 
 -- ---- the forks and the entries of a piece
@@ -41,7 +41,7 @@ pub all_forks : (p : ℕ) (x : Piece Entry) → map (λ (s : Slot). s.fork) (slo
 all_forks p (Place e) = refl
 all_forks p (Fork q a b) = map-append (λ (s : Slot). s.fork) (slots_of p a) (slots_of q b) ∙ ap₂ (λ xs ys. xs ++ ys) (all_forks p a) (all_forks q b)
 
-pub all_entries : (p : ℕ) (x : Piece Entry) → entries_of (slots_of p x) ≡ places x
+pub all_entries : (p : ℕ) (x : Piece Entry) → entries_in_slots (slots_of p x) ≡ places x
 all_entries p (Place e) = refl
 all_entries p (Fork q a b) = map-append (λ (s : Slot). s.entry) (slots_of p a) (slots_of q b) ∙ ap₂ (λ xs ys. xs ++ ys) (all_entries p a) (all_entries q b)
 
@@ -255,7 +255,7 @@ module _ (cs : List ℕ) (slots : List Slot) (p : ℕ) (x : Piece Entry) (are : 
   used : (q : ℕ) → has cs q ≡ uses x q
   used q = positions q ∙ ap (λ ps. has ps q) forks_are ∙ has_forks x q
 
-  pub parts_show : ShowsPiece cs (0 ∷ rows_behind cs 0 (forks_between slots)) (entries_of slots) x
+  pub parts_show : ShowsPiece cs (0 ∷ rows_behind cs 0 (forks_between slots)) (entries_in_slots slots) x
   parts_show =
       let only : UsesOnly cs x = uses_only cs x (λ q u. used q ∙ u) in
       record {
@@ -265,5 +265,5 @@ module _ (cs : List ℕ) (slots : List Slot) (p : ℕ) (x : Piece Entry) (are : 
         columns_used = all_of (uses x) cs (λ q h. sym (used q) ∙ h);
         paths_rise = are.rises;
         rows_are = ap (λ ps. 0 ∷ rows_behind cs 0 ps) forks_are ∙ sym (rows_are cs columns.few columns.rise x are.rises only);
-        entries_are = ap entries_of are.are ∙ all_entries p x;
+        entries_are = ap entries_in_slots are.are ∙ all_entries p x;
       }

@@ -23,8 +23,8 @@ pub record AreSlotsOf (slots : List Slot) (p : ℕ) (x : Piece Entry) : Type 0 w
   pub are : slots ≡ slots_of p x
   pub rises : RisesFrom 0 x
 
-abbrev pub entries_of : List Slot → List Entry
-entries_of slots = map (λ s. s.entry) slots
+abbrev pub entries_in_slots : List Slot → List Entry
+entries_in_slots slots = map (λ s. s.entry) slots
 
 -- the positions of the forks between the slots
 abbrev pub forks_between : List Slot → List ℕ

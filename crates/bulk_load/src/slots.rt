@@ -2,7 +2,7 @@
 
 ghost use Rattle.std.specs.Prelude.{ℕ, ◌≡◌, ◌≤◌, ◌<◌, ◌+◌, ◌∷◌, All, length, get_or};
 ghost use Rattle.std.specs.Vec.{vec_capacity, vec_len};
-ghost use Rattle.bulk_load.specs.Slots.{AreSlotsOf, IsSlot, entries_of, forks_between, rows_behind, slot};
+ghost use Rattle.bulk_load.specs.Slots.{AreSlotsOf, IsSlot, entries_in_slots, forks_between, rows_behind, slot};
 ghost use Rattle.compound_node.specs.Nodes.{IsBuiltFrom, greatest_height};
 ghost use Rattle.compound_node.specs.declared.entries.Entry.{Entry as EntryView};
 ghost use Rattle.node_tries.specs.Piece.{Piece};
@@ -75,7 +75,7 @@ fn make_rows(slots: &[Slot], columns: &Columns) -> [u32; 32]
 /// The height of a node of `slots`: one above the greatest of their entries'.
 fn height_over(slots: &[Slot]) -> u16
     requires { All IsSlot slots.now }
-    ensures { result ≡ 1 + greatest_height (entries_of slots.now) }
+    ensures { result ≡ 1 + greatest_height (entries_in_slots slots.now) }
 {
     let mut greatest = 0;
     for i in (0..slots.len()).rev() {
@@ -87,7 +87,7 @@ fn height_over(slots: &[Slot]) -> u16
 /// The entries of `slots`.
 fn list_entries(slots: &[Slot]) -> ArrayVec<Entry, 32>
     requires { length slots.now ≤ 32 }
-    ensures { result.items ≡ entries_of slots.now }
+    ensures { result.items ≡ entries_in_slots slots.now }
 {
     let mut entries = ArrayVec::new();
     for i in 0..slots.len() {

@@ -2,7 +2,7 @@
 use Rattle.std.proofs.Common.{arith, length, refl, subst, sym, ◌∙◌, ◌≡◌}
 use Rattle.std.proofs.lemmas.List.{length-map}
 use Rattle.bulk_load.proofs.Building.{built, front_rows, node_of_slots}
-use Rattle.bulk_load.specs.Slots.{entries_of}
+use Rattle.bulk_load.specs.Slots.{entries_in_slots}
 use Rattle.bulk_load.specs.declared.slots.Slot.{Slot}
 use Rattle.compound_node.specs.Nodes.{IsBuiltFrom}
 use Rattle.bulk_load.proofs.slots.build_node.Goals as goal
@@ -13,9 +13,9 @@ of-head-requires c =
     let cs = c.collect_columns-columns.result in
     let (p, x, are) = c.requires.shown in
     let long = length-map slots (λ (s : Slot). s.entry) in
-    let front = front_rows cs slots (length (entries_of slots)) (omega arith) long in
+    let front = front_rows cs slots (length (entries_in_slots slots)) (omega arith) long in
     let b = built cs slots c.requires.few.0 c.requires.few.1 c.requires.each c.collect_columns-columns.ensures.columns c.collect_columns-columns.ensures.positions p x are in (
-      entries_of slots,
+      entries_in_slots slots,
       long,
       record {
         padded = rw (c.make_rows-rows.ensures, front) refl;
