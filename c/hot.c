@@ -1,5 +1,5 @@
-/* What of the library for C is written in C, and tested: the texts of statuses, scans of a prefix, pairs that are handed over one by
- * one, and taken one by one by a load, calls for many keys, an index that opens its handles one by one, and the calls that wait: the proved library may neither wait
+/* What of the library for C is written in C, and tested: the texts of statuses, pairs that are handed over one by one, and taken one by one
+ * by a load, calls for many keys, an index that opens its handles one by one, and the calls that wait: the proved library may neither wait
  * nor yield, so it says when to try again, and the wait is here. */
 #define _POSIX_C_SOURCE 199309L
 #include "hot.h"
@@ -23,6 +23,16 @@ hot_status proved_try_remove(hot_handle *handle, const uint8_t *key, size_t leng
 hot_status proved_try_remove_if(hot_handle *handle, const uint8_t *key, size_t length, uint64_t expected, uint64_t *had);
 hot_status proved_destroy(hot_handle *handle);
 hot_status proved_get_many(hot_handle *handle, hot_lookup *lookups, size_t count);
+
+/* Those that list the pairs of a prefix: of all keys that begin with it, or of those above a key, or below it. */
+hot_status proved_scan_whole_prefix(hot_handle *handle, const uint8_t *prefix, size_t length, hot_pair *pairs, size_t limit, size_t *count,
+                                    uint32_t *more);
+hot_status proved_scan_whole_prefix_reverse(hot_handle *handle, const uint8_t *prefix, size_t length, hot_pair *pairs, size_t limit,
+                                            size_t *count, uint32_t *more);
+hot_status proved_scan_prefix_after(hot_handle *handle, const uint8_t *prefix, size_t length, const uint8_t *after, size_t after_length,
+                                    hot_pair *pairs, size_t limit, size_t *count, uint32_t *more);
+hot_status proved_scan_prefix_before(hot_handle *handle, const uint8_t *prefix, size_t length, const uint8_t *before, size_t before_length,
+                                     hot_pair *pairs, size_t limit, size_t *count, uint32_t *more);
 
 /* And those that a program may call before it has a handle: there the processor is known to be one for which they were compiled. */
 void proved_stock_for_keys(uint32_t keys, size_t longest, hot_stock *stock);
@@ -135,51 +145,25 @@ hot_status hot_stock_bytes(const hot_stock *stock, size_t handles, size_t *bytes
     return is_processor_new() ? proved_stock_bytes(stock, handles, bytes) : HOT_OLD_PROCESSOR;
 }
 
-static int is_below(const uint8_t *one, size_t one_length, const uint8_t *other, size_t other_length) {
-    int order = memcmp(one, other, one_length < other_length ? one_length : other_length);
-    return order < 0 || (order == 0 && one_length < other_length);
+/* A key of no bytes may be NULL here, but not where a proved call takes it. */
+static const uint8_t *not_null(const uint8_t *key, size_t length) {
+    return length > 0 ? key : hot_last_key;
 }
 
 hot_status hot_scan_prefix(hot_handle *handle, const uint8_t *prefix, size_t length, const uint8_t *after, size_t after_length,
                            hot_pair *pairs, size_t limit, size_t *count, uint32_t *more) {
-    uint8_t from[HOT_MAX_KEY], upto[HOT_MAX_KEY];
-    size_t from_length = length;
-    if (length > HOT_MAX_KEY)
-        return hot_scan(handle, prefix, length, prefix, length, pairs, limit, count, more);
-    memset(upto, 0xff, HOT_MAX_KEY);
-    if (length > 0)
-        memcpy(upto, prefix, length);
-    switch (after == NULL ? HOT_DONE : hot_after(after, after_length, from, &from_length)) {
-    case HOT_ABSENT: /* No key comes after it: the range is empty. */
-        return hot_scan(handle, upto, HOT_MAX_KEY, upto, 0, pairs, limit, count, more);
-    case HOT_KEY_TOO_LONG: return hot_scan(handle, after, after_length, upto, 0, pairs, limit, count, more);
-    }
-    if (after == NULL || is_below(from, from_length, upto, length)) {
-        memcpy(from, upto, length);
-        from_length = length;
-    }
-    return hot_scan(handle, from, from_length, upto, HOT_MAX_KEY, pairs, limit, count, more);
+    prefix = not_null(prefix, length);
+    if (after == NULL)
+        return proved_scan_whole_prefix(handle, prefix, length, pairs, limit, count, more);
+    return proved_scan_prefix_after(handle, prefix, length, after, after_length, pairs, limit, count, more);
 }
 
 hot_status hot_scan_prefix_reverse(hot_handle *handle, const uint8_t *prefix, size_t length, const uint8_t *before, size_t before_length,
                                    hot_pair *pairs, size_t limit, size_t *count, uint32_t *more) {
-    uint8_t last[HOT_MAX_KEY], upto[HOT_MAX_KEY];
-    size_t upto_length = HOT_MAX_KEY;
-    if (length > HOT_MAX_KEY)
-        return hot_scan_reverse(handle, prefix, length, prefix, length, pairs, limit, count, more);
-    memset(last, 0xff, HOT_MAX_KEY);
-    if (length > 0)
-        memcpy(last, prefix, length);
-    switch (before == NULL ? HOT_DONE : hot_before(before, before_length, upto, &upto_length)) {
-    case HOT_ABSENT: /* No key comes before it: the range is empty. */
-        return hot_scan_reverse(handle, last, HOT_MAX_KEY, last, 0, pairs, limit, count, more);
-    case HOT_KEY_TOO_LONG: return hot_scan_reverse(handle, last, HOT_MAX_KEY, before, before_length, pairs, limit, count, more);
-    }
-    if (before == NULL || is_below(last, HOT_MAX_KEY, upto, upto_length)) {
-        memcpy(upto, last, HOT_MAX_KEY);
-        upto_length = HOT_MAX_KEY;
-    }
-    return hot_scan_reverse(handle, last, length, upto, upto_length, pairs, limit, count, more);
+    prefix = not_null(prefix, length);
+    if (before == NULL)
+        return proved_scan_whole_prefix_reverse(handle, prefix, length, pairs, limit, count, more);
+    return proved_scan_prefix_before(handle, prefix, length, before, before_length, pairs, limit, count, more);
 }
 
 hot_status hot_each(hot_handle *handle, const uint8_t *from, size_t from_length, const uint8_t *upto, size_t upto_length,

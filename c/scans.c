@@ -26,6 +26,7 @@ static void test_prefix(void) {
     CHECK(hot_scan_prefix(&handle, bytes(""), 0, pairs[0].key, pairs[0].length, pairs, 2, &count, &more) == HOT_DONE && count == 1 && pairs[0].value == 4);
     CHECK(hot_first(&handle, bytes(""), 0, &pair) == HOT_FOUND && pair.value == 1);
     CHECK(hot_scan_prefix(&handle, bytes("b"), 1, pair.key, pair.length, pairs, 2, &count, &more) == HOT_DONE && count == 1 && pairs[0].value == 4);
+    CHECK(hot_scan_prefix(&handle, bytes("a"), 1, bytes("b"), 1, pairs, 2, &count, &more) == HOT_DONE && count == 0 && more == 0);
     CHECK(hot_first(&handle, bytes("ac"), 2, &pair) == HOT_FOUND && pair.length == 3 && pair.value == 3);
     CHECK(hot_first(&handle, bytes("c"), 1, &pair) == HOT_ABSENT && pair.value == 3);
     CHECK(hot_try_insert(&handle, key, HOT_MAX_KEY, 5, &had) == HOT_INSERTED);

@@ -4,6 +4,7 @@ pub mod Boxes
 pub mod Shares
 pub mod Parted
 pub mod Listed
+pub mod Prefixed
 pub mod Found
 pub mod Places
 pub mod Written

@@ -8,6 +8,7 @@ pub mod Around
 pub mod Calls
 pub mod Orders
 pub mod Scans
+pub mod Prefixes
 pub mod Counting
 pub mod Values
 pub mod Packs

@@ -14,6 +14,7 @@ mod opened;
 mod opening;
 mod packs;
 mod pairs;
+mod prefixes;
 mod refusals;
 mod scans;
 mod sectioning;

@@ -72,7 +72,7 @@ pub extern "C" fn hot_scan_last(
 }
 
 /// Lists pairs of `query` in its order, as `hot_scan` does: the first ones for `Upwards`, else the last ones.
-fn list_pairs_of_query(
+pub fn list_pairs_of_query(
     handle: &mut Handle,
     query: &Query,
     room: &mut [Pair],
