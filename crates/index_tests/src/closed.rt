@@ -4,7 +4,7 @@ ghost use Rattle.std.specs.Prelude.{All};
 ghost use Rattle.hot_index_calls.specs.Passes.{Owns};
 
 use crate::shared::*;
-use hot_index::{ClosedHandle, ClosedPass, Handle, Index, Key, Reply, Stock, create_closed, total};
+use hot_index::{ClosedPass, Handle, Index, Key, Reply, Stock, create_closed, total};
 use std::alloc::Global;
 use std::process::Abort;
 use std::test::*;
@@ -16,34 +16,6 @@ fn create_closed_passes(rt: &impl Abort, alloc: Global) -> (Index, Vec<ClosedPas
     match create_closed(alloc, 2, Stock::for_keys(8, 240)) {
         Ok(made) => made,
         Err(_) => panic!(rt; "no index"),
-    }
-}
-
-/// Opens the handle `closed`, with buffers of `alloc`. Panics if memory is refused.
-fn open_handle<'a>(
-    rt: &impl Abort,
-    alloc: Global,
-    closed: ClosedHandle<&'a Index>,
-) -> Handle<&'a Index> {
-    match closed.open(alloc) {
-        Ok(handle) => handle,
-        Err(_) => panic!(rt; "no memory"),
-    }
-}
-
-/// Takes the last of `passes` out, and opens a handle of it at `index`. Panics if there is none.
-fn open_last_handle<'a>(
-    rt: &impl Abort,
-    alloc: Global,
-    index: &'a Index,
-    passes: &mut Vec<ClosedPass>,
-) -> Handle<&'a Index>
-    requires { All (Owns index.now) passes.old.items }
-    ensures { All (Owns index.now) passes.new.items }
-{
-    match passes.pop() {
-        Some(pass) => open_handle(rt, alloc, ClosedHandle::new(index, pass)),
-        None => panic!(rt; "no pass"),
     }
 }
 
