@@ -11,6 +11,8 @@ mod closed;
 #[cfg(test)]
 mod full;
 #[cfg(test)]
+mod loaded_threads;
+#[cfg(test)]
 mod loads;
 #[cfg(test)]
 mod refused;
