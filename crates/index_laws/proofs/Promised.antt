@@ -28,7 +28,7 @@ use Rattle.tries.specs.Tree.{Tree}
 use Rattle.version_laws.specs.Directions.{ScanLaw}
 use Rattle.versions.specs.Core.{pin_version}
 use Rattle.versions.specs.State.{IsReach}
-use Rattle.versions.specs.declared.Rec.TheVariants.{Leaf as a_leaf}
+use Rattle.record_words.specs.declared.records.Rec.TheVariants.{Leaf as a_leaf}
 use Rattle.versions.specs.Told.{added_notes, items_of}
 use Rattle.versions.proofs.States.{reach_later}
 use Rattle.versions.proofs.Telling.{content_in_order}

@@ -36,7 +36,7 @@ use Rattle.version_laws.specs.Directions.{ScanLaw}
 use Rattle.versions.specs.State.{Stands}
 use Rattle.versions.specs.Told.{content, items_of}
 use Rattle.versions.specs.declared.Pin.{Pin}
-use Rattle.versions.specs.declared.Rec.TheVariants.{Leaf as a_leaf}
+use Rattle.record_words.specs.declared.records.Rec.TheVariants.{Leaf as a_leaf}
 use Rattle.hot_index_calls.specs.Answers.{HaveMet, IsCause, IsListedBy, IsNoted, IsRefusedFor, IsScannedBy, MayRefuse, range_from}
 use Rattle.hot_index_calls.specs.declared.census.RecordCounts.{RecordCounts}
 use Rattle.hot_index_calls.specs.Census.{HasCounted}

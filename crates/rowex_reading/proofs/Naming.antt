@@ -7,11 +7,11 @@ use Rattle.insert_cases.specs.declared.choice.PathNode.{PathNode}
 use Rattle.tries.specs.Keys.{Key}
 use Rattle.tries.specs.Place.{spot}
 use Rattle.tries.specs.Tree.{Subtrie}
-use Rattle.versions.specs.declared.Rec.{Rec}
-use Rattle.versions.specs.declared.Rec.TheVariants.{Leaf as a_leaf, Node as a_node}
+use Rattle.record_words.specs.declared.records.Rec.{Rec}
+use Rattle.record_words.specs.declared.records.Rec.TheVariants.{Leaf as a_leaf, Node as a_node}
 use Rattle.version_laws.specs.Scan.{IsPlaced, IsRead, IsShaped}
 use Rattle.rowex_core.specs.declared.known.Known.{Known}
-use Rattle.rowex_table.specs.Rule.{number_of}
+use Rattle.rowex_table.specs.Rule.{record_number}
 use Rattle.rowex_reading.specs.Seen.{AreHeadWords, HasPlace, IsHeadSeen, IsLedTo, Sure, shape_of}
 use Rattle.rowex_reading.specs.Ways.{step_at}
 
@@ -29,30 +29,30 @@ abbrev pub TellsLeaf : Known → Known → Key → ℕ → ℕ → Type 0
 TellsLeaf k j key value n = (m : ℕ) → IsLedTo k m (Leaf n) → Sure j (λ s. IsRead s m n key value)
 
 module _ (n : ℕ) (r : Rec) (is : r ≡ a_node n) where
-  number_is : number_of r ≡ n
-  number_is = ap number_of is
+  number_is : record_number r ≡ n
+  number_is = ap record_number is
 
-  pub node_led : (k : Known) (m h : ℕ) → IsLedTo k m (Node n h) → IsLedTo k m (Node (number_of r) h)
+  pub node_led : (k : Known) (m h : ℕ) → IsLedTo k m (Node n h) → IsLedTo k m (Node (record_number r) h)
   node_led k m h led = subst (λ q. IsLedTo k m (Node q h)) (sym number_is) led
 
-  pub node_place : (k : Known) (m h slot : ℕ) → HasPlace k m n h slot → HasPlace k m (number_of r) h slot
+  pub node_place : (k : Known) (m h slot : ℕ) → HasPlace k m n h slot → HasPlace k m (record_number r) h slot
   node_place k m h slot has = subst (λ q. HasPlace k m q h slot) (sym number_is) has
 
-  pub words_told : (k : Known) (m h : ℕ) (words : List ℕ) → AreHeadWords k m (number_of r) h words → AreHeadWords k m n h words
+  pub words_told : (k : Known) (m h : ℕ) (words : List ℕ) → AreHeadWords k m (record_number r) h words → AreHeadWords k m n h words
   words_told k m h words told = subst (λ q. AreHeadWords k m q h words) number_is told
 
-  pub slot_told : (k j : Known) (key : Key) (slot : ℕ) → TellsSlot k j key slot (number_of r) → TellsSlot k j key slot n
+  pub slot_told : (k j : Known) (key : Key) (slot : ℕ) → TellsSlot k j key slot (record_number r) → TellsSlot k j key slot n
   slot_told k j key slot told = subst (TellsSlot k j key slot) number_is told
 
-  pub step_told : (k j : Known) (key : Key) (step : PathNode) → TellsStep k j key step (number_of r) → TellsStep k j key step n
+  pub step_told : (k j : Known) (key : Key) (step : PathNode) → TellsStep k j key step (record_number r) → TellsStep k j key step n
   step_told k j key step told = subst (TellsStep k j key step) number_is told
 
-  pub entry_told : (k j : Known) (slot : ℕ) (e : Entry) → TellsEntry k j slot e (number_of r) → TellsEntry k j slot e n
+  pub entry_told : (k j : Known) (slot : ℕ) (e : Entry) → TellsEntry k j slot e (record_number r) → TellsEntry k j slot e n
   entry_told k j slot e told = subst (TellsEntry k j slot e) number_is told
 
 module _ (n : ℕ) (r : Rec) (is : r ≡ a_leaf n) where
-  pub leaf_led : (k : Known) (m : ℕ) → IsLedTo k m (Leaf n) → IsLedTo k m (Leaf (number_of r))
-  leaf_led k m led = subst (λ q. IsLedTo k m (Leaf q)) (sym (ap number_of is)) led
+  pub leaf_led : (k : Known) (m : ℕ) → IsLedTo k m (Leaf n) → IsLedTo k m (Leaf (record_number r))
+  leaf_led k m led = subst (λ q. IsLedTo k m (Leaf q)) (sym (ap record_number is)) led
 
-  pub leaf_told : (k j : Known) (key : Key) (value : ℕ) → TellsLeaf k j key value (number_of r) → TellsLeaf k j key value n
-  leaf_told k j key value told = subst (TellsLeaf k j key value) (ap number_of is) told
+  pub leaf_told : (k j : Known) (key : Key) (value : ℕ) → TellsLeaf k j key value (record_number r) → TellsLeaf k j key value n
+  leaf_told k j key value told = subst (TellsLeaf k j key value) (ap record_number is) told

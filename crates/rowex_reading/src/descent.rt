@@ -70,7 +70,7 @@ pub fn search_way<G: Gate>(
             Entry::Node { number, .. } => {
                 let node = table.locate(Rec::Node(number));
                 let step = search_node(table, seat, gate, node, key);
-                entry = load_entry(table, seat, gate, node, step.at);
+                entry = load_entry(table, seat, gate, node, step.slot);
                 way.push(step);
             }
         }

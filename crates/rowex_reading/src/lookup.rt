@@ -4,9 +4,9 @@ ghost use Rattle.std.specs.Prelude.{◌≡◌, ◌≤◌, ℕ, IsSome};
 ghost use Rattle.compound_node.specs.declared.entries.Entry.TheVariants.{Node as NodeEntry};
 ghost use Rattle.record_words.specs.declared.TheConstants.{HEAD_WORDS};
 ghost use Rattle.version_laws.specs.Scan.{IsShaped};
-ghost use Rattle.rowex_table.specs.Rule.{IsNodeAt, number_of};
+ghost use Rattle.rowex_table.specs.Rule.{IsNodeRecordAt, record_number};
 ghost use Rattle.rowex_table.specs.Seats.{IsSeatOf};
-ghost use Rattle.versions.specs.declared.Rec.TheVariants.{Node as a_node};
+ghost use Rattle.record_words.specs.declared.records.Rec.TheVariants.{Node as a_node};
 ghost use Rattle.tries.specs.Place.{spot};
 ghost use Rattle.tries.specs.Tree.{Subtrie};
 ghost use Rattle.rowex_reading.specs.Lookups.{HasFound, HasSearched};
@@ -38,8 +38,8 @@ pub fn look_up<G: Gate>(
             Entry::Leaf(number) => return load_value(table, seat, gate, number, key),
             Entry::Node { number, .. } => {
                 let node = table.locate(Rec::Node(number));
-                let place = find_slot(table, seat, gate, node, key);
-                entry = load_entry(table, seat, gate, node, place);
+                let slot = find_slot(table, seat, gate, node, key);
+                entry = load_entry(table, seat, gate, node, slot);
             }
         }
     }
@@ -55,11 +55,11 @@ pub(crate) fn find_slot<G: Gate>(
     key: &Key,
 ) -> u8
     requires reader { IsReader table.now seat.old }
-    requires led { (m h : ℕ) × IsLedTo seat.old.known m (NodeEntry (number_of node.rec) h) }
-    requires node { IsNodeAt table.now.layout node }
+    requires led { (m h : ℕ) × IsLedTo seat.old.known m (NodeEntry (record_number node.rec) h) }
+    requires node { IsNodeRecordAt table.now.layout node }
     ensures reads { (n : ℕ) × (n ≤ HEAD_WORDS) × Reads table.now G.becomes 0 n (seat.old, gate.old) (seat.new, gate.new) }
-    ensures place { (m h : ℕ) → IsLedTo seat.old.known m (NodeEntry (number_of node.rec) h) →
-        (forks : Subtrie) × Sure seat.new.known (λ s. IsShaped s m (number_of node.rec) forks) × (result ≡ spot key.now forks) }
+    ensures place { (m h : ℕ) → IsLedTo seat.old.known m (NodeEntry (record_number node.rec) h) →
+        (forks : Subtrie) × Sure seat.new.known (λ s. IsShaped s m (record_number node.rec) forks) × (result ≡ spot key.now forks) }
 {
-    search_node(table, seat, gate, node, key).at
+    search_node(table, seat, gate, node, key).slot
 }

@@ -127,8 +127,8 @@ fn enter_node<G: Gate>(
     ensures entry { (h : ℕ) → HasComeTo seat.old.known key.now (NodeEntry number h) → (height_of result < h) × HasComeTo seat.new.known key.now result }
 {
     let node = table.locate(Rec::Node(number));
-    let place = find_slot(table, seat, gate, node, key);
-    let entry = load_entry(table, seat, gate, node, place);
+    let slot = find_slot(table, seat, gate, node, key);
+    let entry = load_entry(table, seat, gate, node, slot);
     touch_record(table, entry);
     entry
 }

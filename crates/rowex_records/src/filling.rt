@@ -1,7 +1,7 @@
 //! Records filled with the words of a leaf or of a node, and made ready.
 
 ghost use Rattle.std.specs.Prelude.{◌≡◌, ◌≢◌, ◌<◌, ◌≤◌, ◌+◌, ◌-◌, ◌*◌, ℕ, List, length};
-ghost use Rattle.versions.specs.declared.Rec.TheVariants.{Node as a_node, Leaf as a_leaf};
+ghost use Rattle.record_words.specs.declared.records.Rec.TheVariants.{Node as a_node, Leaf as a_leaf};
 ghost use Rattle.record_words.specs.Layout.{leaf_size};
 ghost use Rattle.record_words.specs.Leaf.{leaf_words, words_for};
 ghost use Rattle.record_words.specs.Node.{HasNodeWords, node_words};
@@ -10,7 +10,7 @@ ghost use Rattle.record_words.specs.declared.TheConstants.{FIRST_POSITIONS, FIRS
 ghost use Rattle.rowex_core.specs.Cores.{FitsIn, HasRecord, HasWord};
 ghost use Rattle.rowex_core.specs.Events.{IsOffset};
 ghost use Rattle.rowex_table.specs.Rights.{IsClaimed};
-ghost use Rattle.rowex_table.specs.Rule.{IsNodeAt, IsStartOf};
+ghost use Rattle.rowex_table.specs.Rule.{IsNodeRecordAt, IsStartOf};
 ghost use Rattle.rowex_table.specs.Runs.{Steps};
 ghost use Rattle.rowex_table.specs.Seats.{IsSeatOf};
 ghost use Rattle.rowex_records.specs.Records.{HaveBelow, IsBehindValue, IsFilled, IsFilledLeaf, IsLookedAt, Readies, Sets, SetsAll, SetsMore, SetsSome, load_of_word, unused_word};
@@ -109,7 +109,8 @@ fn used_ends(words: &[u64; NODE_FIELDS]) -> (usize, usize)
 }
 
 /// Fills eight words of the claimed node record `node`, with those of `words` from index `used.start` on. The node has something in those
-/// before `used.end`: these are stored. The others are loaded, and stored only where another stands. Inline, so that offsets are constants.
+/// before `used.end`: these are stored. The others are loaded, and stored only where another stands. If the node has something in all
+/// eight, no index is compared with `used.end`. Inline, so that offsets are constants.
 #[inline(always)]
 fn set_eight_words<G: Gate>(
     table: &HotTable,
@@ -120,7 +121,7 @@ fn set_eight_words<G: Gate>(
     used: Range<usize>,
 )
     requires own { IsSeatOf table.now seat.old }
-    requires node { IsNodeAt table.now.layout node }
+    requires node { IsNodeRecordAt table.now.layout node }
     requires held { IsClaimed seat.old.known node.rec }
     requires range { used.start + 8 ≤ NODE_FIELDS }
     requires have { HaveBelow words.now used.start used.end }

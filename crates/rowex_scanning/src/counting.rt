@@ -14,12 +14,14 @@ ghost use Rattle.rowex_scanning.specs.Scanning.{HasTaken, asked_range, request_o
 ghost use Rattle.rowex_scanning.specs.Tallies.{tally_of_number};
 ghost use Rattle.rowex_table.specs.Seats.{IsSeatOf};
 
-use crate::scanning::{Range, Scan, Verdict, is_past_range, walk_root};
-use crate::sinks::{Sink, Tallies};
+use crate::scan::{Range, Scan, Verdict, is_past_range};
+use crate::scanning::walk_root;
+use crate::sinks::Sink;
+use crate::tallies::Tallies;
 use arrayvec::ArrayVec;
 use insert_cases::PathNode;
 use key_bits::MAX_BYTES;
-use rowex_core::Gate;
+use rowex_core::{Gate, Rec};
 use rowex_reading::{MOST_NODES, load_leaf};
 use rowex_table::{HotTable, RecordAt, TableSeat};
 use std::alloc::AllocError;

@@ -10,8 +10,8 @@ use Rattle.record_words.specs.declared.TheConstants.{MAX_ENTRIES}
 use Rattle.record_words.specs.declared.layout.Layout.{Layout}
 use Rattle.record_words.specs.declared.layout.Location.{Location}
 use Rattle.record_words.specs.Layout.{address, IsInTable}
-use Rattle.versions.specs.declared.Rec.{Rec}
-use Rattle.versions.specs.declared.Rec.TheVariants.{Node as a_node, Leaf as a_leaf}
+use Rattle.record_words.specs.declared.records.Rec.{Rec}
+use Rattle.record_words.specs.declared.records.Rec.TheVariants.{Node as a_node, Leaf as a_leaf}
 use Rattle.rowex_core.specs.declared.event.Act.{Act}
 use Rattle.rowex_core.specs.declared.event.Act.TheVariants.{Claim, LoadRef, LoadFixed, Lock, LoadEpoch, Advance, LoadPin, LoadState, GiveBack, Load}
 use Rattle.rowex_core.specs.declared.event.Spot.{Spot}
@@ -120,16 +120,16 @@ abbrev pub IsStartOf : Layout → Rec → ℕ → Type 0
 IsStartOf layout r word = HasRecord layout r × (word ≡ address layout (word_of r 0))
 
 -- the record's number among those of its kind
-abbrev pub number_of : Rec → ℕ
-number_of (a_node n) = n
-number_of (a_leaf l) = l
+abbrev pub record_number : Rec → ℕ
+record_number (a_node n) = n
+record_number (a_leaf l) = l
 
 -- It is a node's record, of the table, and begins at this word; or a leaf's.
-abbrev pub IsNodeAt : Layout → RecordAt → Type 0
-IsNodeAt layout at = (at.rec ≡ a_node (number_of at.rec)) × IsStartOf layout (a_node (number_of at.rec)) at.start
+abbrev pub IsNodeRecordAt : Layout → RecordAt → Type 0
+IsNodeRecordAt layout at = (at.rec ≡ a_node (record_number at.rec)) × IsStartOf layout (a_node (record_number at.rec)) at.start
 
-abbrev pub IsLeafAt : Layout → RecordAt → Type 0
-IsLeafAt layout at = (at.rec ≡ a_leaf (number_of at.rec)) × IsStartOf layout (a_leaf (number_of at.rec)) at.start
+abbrev pub IsLeafRecordAt : Layout → RecordAt → Type 0
+IsLeafRecordAt layout at = (at.rec ≡ a_leaf (record_number at.rec)) × IsStartOf layout (a_leaf (record_number at.rec)) at.start
 
 -- Events
 

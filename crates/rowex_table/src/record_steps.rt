@@ -4,7 +4,7 @@ ghost use Rattle.std.specs.Prelude.{◌≡◌, ◌<◌, ◌+◌, ◌*◌, ◌^�
 ghost use Rattle.rowex_core.specs.declared.event.Act.TheVariants.{Claim, Fill, Ready, Release, LoadFixed, Mark, LoadState, GiveBack};
 ghost use Rattle.rowex_core.specs.Cores.{HasRecord, HasWord};
 ghost use Rattle.rowex_core.specs.Events.{IsOffset, IsFixedOffset};
-ghost use Rattle.rowex_table.specs.Rule.{IsStartOf, MayStep, number_of};
+ghost use Rattle.rowex_table.specs.Rule.{IsStartOf, MayStep, record_number};
 ghost use Rattle.rowex_table.specs.Runs.{Steps};
 ghost use Rattle.rowex_table.specs.Seats.{IsSeatOf};
 
@@ -39,7 +39,7 @@ impl RecordAt {
     /// The record's number among those of its kind.
     #[inline(always)]
     pub fn number(self) -> u32
-        ensures { result ≡ number_of self.rec }
+        ensures { result ≡ record_number self.rec }
     {
         match self.rec {
             Rec::Node(number) | Rec::Leaf(number) => number,
@@ -80,17 +80,8 @@ impl HotTable {
         self.compare_exchange_at::<Brand, G>(seat, gate, act, at.start, Exchange { expected, new })
     }
 
-    /// Stores `word` at `offset` of `rec`, which the pass holds. `offset` is that of a word of `rec`, and not 0, where the state stands.
-    pub fn fill<G: Gate>(&self, seat: &mut TableSeat, gate: &mut G, rec: Rec, offset: u8, word: u64)
-        requires own { IsSeatOf self.now seat.old }
-        requires range { HasRecord self.now.layout rec × IsOffset rec offset × HasWord self.now.layout rec offset }
-        requires may { MayStep self.now.layout (λ _. Fill rec offset word) seat.old.known }
-        ensures { Steps self.now G.becomes (Fill rec offset word) (seat.old, gate.old) (seat.new, gate.new) }
-    {
-        self.fill_at(seat, gate, self.locate(rec), offset, word);
-    }
-
-    /// Stores `word` at `offset` of the record `at`, which the pass holds. `offset` is as for `fill`.
+    /// Stores `word` at `offset` of the record `at`, which the pass holds. `offset` is that of a word of the record, and not 0, where the
+    /// state stands.
     #[inline(always)]
     pub fn fill_at<G: Gate>(
         &self,
@@ -240,6 +231,7 @@ impl HotTable {
         requires may { MayStep self.now.layout (λ found. GiveBack at.rec epoch found) seat.old.known }
         ensures { Steps self.now G.becomes (GiveBack at.rec epoch result) (seat.old, gate.old) (seat.new, gate.new) }
     {
+        // What the step finds comes in the place of this 0.
         let (rec, found) = (at.rec, 0);
         let act = Act::GiveBack { rec, epoch, found };
         let (expected, new) = (obsolete_word(epoch), pack_state(Tag::Free));

@@ -6,7 +6,7 @@ ghost use Rattle.record_words.specs.declared.TheConstants.{MAX_ENTRIES};
 ghost use Rattle.rowex_core.specs.declared.event.Act.TheVariants.{LoadRef, Lock, Unlock, Publish};
 ghost use Rattle.rowex_core.specs.declared.event.Spot.TheVariants.{Slot, Value};
 ghost use Rattle.rowex_core.specs.Events.{target_word};
-ghost use Rattle.rowex_table.specs.Rule.{HasSpot, IsLeafAt, IsNodeAt, MayStep, number_of};
+ghost use Rattle.rowex_table.specs.Rule.{HasSpot, IsLeafRecordAt, IsNodeRecordAt, MayStep, record_number};
 ghost use Rattle.rowex_table.specs.Rights.{MayLock};
 ghost use Rattle.rowex_table.specs.Runs.{Steps};
 ghost use Rattle.rowex_table.specs.Seats.{IsSeatOf};
@@ -40,13 +40,13 @@ impl HotTable {
         slot: u8,
     ) -> u64
         requires own { IsSeatOf self.now seat.old }
-        requires node { IsNodeAt self.now.layout node }
+        requires node { IsNodeRecordAt self.now.layout node }
         requires slot { slot < MAX_ENTRIES }
-        ensures { Steps self.now G.becomes (LoadRef (Slot (number_of node.rec) slot) result) (seat.old, gate.old) (seat.new, gate.new) }
+        ensures { Steps self.now G.becomes (LoadRef (Slot (record_number node.rec) slot) result) (seat.old, gate.old) (seat.new, gate.new) }
     {
         let spot = Spot::Slot {
             node: node.number(),
-            entry: slot,
+            slot,
         };
         let address = node.start + FIRST_ENTRY + slot as usize;
         self.load_word_at::<Brand, G>(seat, gate, Act::LoadRef { spot, word: 0 }, address)
@@ -56,8 +56,8 @@ impl HotTable {
     #[inline(always)]
     pub fn load_value_at<G: Gate>(&self, seat: &mut TableSeat, gate: &mut G, leaf: RecordAt) -> u64
         requires own { IsSeatOf self.now seat.old }
-        requires leaf { IsLeafAt self.now.layout leaf }
-        ensures { Steps self.now G.becomes (LoadRef (Value (number_of leaf.rec)) result) (seat.old, gate.old) (seat.new, gate.new) }
+        requires leaf { IsLeafRecordAt self.now.layout leaf }
+        ensures { Steps self.now G.becomes (LoadRef (Value (record_number leaf.rec)) result) (seat.old, gate.old) (seat.new, gate.new) }
     {
         let spot = Spot::Value {
             leaf: leaf.number(),

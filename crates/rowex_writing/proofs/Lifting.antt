@@ -24,9 +24,9 @@ use Rattle.tries.specs.Place.{spot, with_subtrie}
 use Rattle.tries.specs.Tree.{Subtrie}
 use Rattle.versions.specs.Heap.{NodeWords}
 use Rattle.versions.specs.Trades.{IsOneOf}
-use Rattle.versions.specs.declared.Rec.{Rec}
+use Rattle.record_words.specs.declared.records.Rec.{Rec}
 use Rattle.versions.proofs.Members.{of_right}
-use Rattle.versions.specs.declared.Rec.TheVariants.{Node as a_node}
+use Rattle.record_words.specs.declared.records.Rec.TheVariants.{Node as a_node}
 use Rattle.version_laws.specs.Rise.{Side, body, entry}
 use Rattle.version_laws.specs.Writer.{Newcomer}
 use Rattle.rowex_core.specs.declared.event.Event.{Event}
@@ -182,7 +182,7 @@ module _ {G : Type 0} (table : TableView) (becomes : G → Event → G → Type 
       (risen_subtrie table.layout a.0.known (made_of_leaf b.item b.made_leaf.fresh ∷ []) [] (newcomer_of b) (body number) b.words (subtrie_grown new.position b.item.key (Leaf b.item.number) (piece node))
       b.made_leaf.building.possible b.made_leaf.building.holds b.made_leaf.building.packed low_leaf b.found.locked low_grown)
 
-  low_leads : spot new.key.now (piece node) ≡ new.at
+  low_leads : spot new.key.now (piece node) ≡ new.slot
   low_leads = ap (λ k. spot k (piece node)) b.key_is ∙ (ap (spot b.item.key) (sym low_subtrie) ∙ b.leads)
 
   pub low_takes : {words : List ℕ} → IsNodeOf words node → AwaitsLeaf words node new

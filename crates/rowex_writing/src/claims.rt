@@ -3,14 +3,14 @@
 ghost use Rattle.std.specs.Prelude.{◌≡◌, false, true, ◌<◌, ◌≤◌, ◌+◌, ◌-◌, ◌*◌, MatchOption, ◌++◌, ◌∷◌, [], List, ℕ, Contains, length};
 ghost use Rattle.record_words.specs.Layout.{leaf_size};
 ghost use Rattle.record_words.specs.declared.TheConstants.{LEAF_WORDS};
-ghost use Rattle.versions.specs.declared.Rec.TheVariants.{Leaf as a_leaf, Node as a_node};
+ghost use Rattle.record_words.specs.declared.records.Rec.TheVariants.{Leaf as a_leaf, Node as a_node};
 ghost use Rattle.rowex_table.specs.Seats.{IsSeatOf};
 ghost use Rattle.rowex_records.specs.Claims.{AllMissed, AllMissedFrom, HoldsOneMore, IsAnothersTo, IsKindOf, count_of, record_of, HasMissedSince, IsAnothersBut};
 ghost use Rattle.lone_runs.specs.Lone.{HasFree};
 ghost use Rattle.rowex_writing.specs.Spare.{FindsOne};
 ghost use Rattle.rowex_writing.specs.Classes.{AllMissedBetween};
 ghost use Rattle.rowex_writing.specs.Going.{WorksOn};
-ghost use Rattle.versions.specs.declared.Rec.{Rec as Record};
+ghost use Rattle.record_words.specs.declared.records.Rec.{Rec as Record};
 ghost use Rattle.rowex_table.specs.Made.{Made};
 ghost use Rattle.rowex_writing.specs.Building.{IsBuilding};
 ghost use Rattle.rowex_writing.specs.Walks.{HasNoOther, HasWalked, IsClaimWalk, looks_for, looks_unless};

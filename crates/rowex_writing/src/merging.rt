@@ -46,7 +46,7 @@ struct ClosedFork {
     /// The node, and a slot below the fork.
     step: PathNode,
     /// The slot that stands alone on the fork's other side.
-    place: u8,
+    slot: u8,
     /// The entry that takes the fork's place.
     entry: Entry,
 }
@@ -104,11 +104,10 @@ pub(crate) fn find_merge<G: Gate>(
     if low.count > 31 {
         return None;
     }
-    let Some((place, column)) = load_sibling(table, seat, gate, above.number, above.at) else {
+    let Some((slot, column)) = load_sibling(table, seat, gate, above.number, above.slot) else {
         return None;
     };
-    let Entry::Node { number, .. } = load_locked_entry(table, seat, gate, above.number, place)
-    else {
+    let Entry::Node { number, .. } = load_locked_entry(table, seat, gate, above.number, slot) else {
         return None;
     };
     let word = table.load_fixed(seat, gate, Rec::Node(number), NUMBERS_OFFSET);
@@ -117,7 +116,7 @@ pub(crate) fn find_merge<G: Gate>(
     }
     let position = load_position(table, seat, gate, above.number, column);
     Some(Merge {
-        place,
+        slot,
         position,
         number,
     })
@@ -183,7 +182,7 @@ fn make_merge_records<G: Gate>(
     build.made.push(Rec::Node(left.number));
     let fork = ClosedFork {
         step: job.way[job.span.end - 1],
-        place: merge.place,
+        slot: merge.slot,
         entry: Entry::Node {
             number: left.number,
             height: joined.height(),
@@ -211,7 +210,7 @@ fn merge_siblings<G: Gate>(
     ensures joined { (leaf : ℕ) (b : AreBeside seat.old.known.locks job.now.key.now (upper job.now).number (lower job.now).number merge.now.number leaf) →
         b.position ≡ merge.now.position → IfSome result (λ node. IsBuiltFrom node (merged b)) }
     ensures none { result ≡ None → (node other : NodeView) → HasLockedNode seat.old.known (lower job.now).number node →
-        HasLockedNode seat.old.known merge.now.number other → AreNoNode (without (lower job.now).at (piece node)) (piece other) }
+        HasLockedNode seat.old.known merge.now.number other → AreNoNode (without (lower job.now).slot (piece node)) (piece other) }
     ensures few { seat.new.known.steps ≤ seat.old.known.steps + 114 }
 {
     let other = read_locked_node(table, seat, gate, merge.number);
@@ -261,7 +260,7 @@ fn raise_closed_fork<G: Gate>(
 {
     let mut words = [0; NODE_FIELDS];
     load_locked_node_words(table, seat, gate, fork.step.number, &mut words);
-    if let Some(entry) = close_fork(&mut words, fork.step.at, fork.place, fork.entry) {
+    if let Some(entry) = close_fork(&mut words, fork.step.slot, fork.slot, fork.entry) {
         return Some(entry);
     }
     make_node_from_words(table, seat, gate, build, &words)

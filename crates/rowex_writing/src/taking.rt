@@ -148,7 +148,7 @@ pub(crate) fn fill_left<G: Gate>(
     put_in_place(job, entry)
 }
 
-/// What `entry` has to take the place of, where it is all that is left of the lower node of `job`'s span.
+/// What takes the place of the lower node of `job`'s span, if `entry` is all that is left of it without the leaf that the search found.
 pub(crate) fn put_in_place(job: &Job<'_>, entry: Entry) -> Raised
     requires found { (leaf value : ℕ) × (job.now.found ≡ FoundLeaf leaf value None) }
     ensures same { (leaf value : ℕ) → job.now.found ≡ FoundLeaf leaf value None →

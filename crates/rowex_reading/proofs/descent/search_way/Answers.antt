@@ -89,7 +89,7 @@ pub load_entry-entry-requires-clause-place : goal.load_entry-entry-requires-clau
 load_entry-entry-requires-clause-place g c =
     let i = c.loop-entry.invariant in let n = c.in-Node in let e = c.search_node-step.ensures in let m = since c.loop-entry.seat.known in
     let (head, seen, stepped) = step_told c.in-Node.number c.locate-node.result.rec c.locate-node.ensures.rec c.loop-entry.seat.known c.search_node-step.new.seat.known c.args.key.now c.search_node-step.result e.step m n.height (at_led i.at _ n.is) in
-    (m, n.height, node_place c.in-Node.number c.locate-node.result.rec c.locate-node.ensures.rec c.search_node-step.new.seat.known m n.height c.search_node-step.result.at (there i.at _ i.going n.number n.height c.search_node-step.result head n.is e.reads.1 e.reads.2 seen stepped))
+    (m, n.height, node_place c.in-Node.number c.locate-node.result.rec c.locate-node.ensures.rec c.search_node-step.new.seat.known m n.height c.search_node-step.result.slot (there i.at _ i.going n.number n.height c.search_node-step.result head n.is e.reads.1 e.reads.2 seen stepped))
 
 pub load_entry-entry-requires-clause-node : goal.load_entry-entry-requires-clause-node
 load_entry-entry-requires-clause-node g c = node_at c.args.table.now.layout c.in-Node.number c.locate-node.result c.locate-node.ensures.rec c.locate-node.ensures.start
@@ -98,13 +98,13 @@ pub push-requires : goal.push-requires
 push-requires g c =
     let i = c.loop-entry.invariant in let n = c.in-Node in let e = c.search_node-step.ensures in let o = c.load_entry-entry.ensures in
     let (head, seen, stepped) = step_told c.in-Node.number c.locate-node.result.rec c.locate-node.ensures.rec c.loop-entry.seat.known c.search_node-step.new.seat.known c.args.key.now c.search_node-step.result e.step (since c.loop-entry.seat.known) n.height (at_led i.at _ n.is) in
-    (omega arith, way_room i.at _ i.going n.number n.height c.search_node-step.result head n.is e.reads.1 e.reads.2 seen stepped _ o.reads (entry_told c.in-Node.number c.locate-node.result.rec c.locate-node.ensures.rec c.search_node-step.new.seat.known c.load_entry-entry.new.seat.known c.search_node-step.result.at c.load_entry-entry.result o.entry))
+    (omega arith, way_room i.at _ i.going n.number n.height c.search_node-step.result head n.is e.reads.1 e.reads.2 seen stepped _ o.reads (entry_told c.in-Node.number c.locate-node.result.rec c.locate-node.ensures.rec c.search_node-step.new.seat.known c.load_entry-entry.new.seat.known c.search_node-step.result.slot c.load_entry-entry.result o.entry))
 
 pub loop-entry-smaller : goal.loop-entry-smaller
 loop-entry-smaller g c =
     let i = c.loop-entry.invariant in let n = c.in-Node in let e = c.search_node-step.ensures in let o = c.load_entry-entry.ensures in
     let (head, seen, stepped) = step_told c.in-Node.number c.locate-node.result.rec c.locate-node.ensures.rec c.loop-entry.seat.known c.search_node-step.new.seat.known c.args.key.now c.search_node-step.result e.step (since c.loop-entry.seat.known) n.height (at_led i.at _ n.is) in
-    falls_on i.at _ i.going n.number n.height c.search_node-step.result head n.is e.reads.1 e.reads.2 seen stepped _ o.reads (entry_told c.in-Node.number c.locate-node.result.rec c.locate-node.ensures.rec c.search_node-step.new.seat.known c.load_entry-entry.new.seat.known c.search_node-step.result.at c.load_entry-entry.result o.entry)
+    falls_on i.at _ i.going n.number n.height c.search_node-step.result head n.is e.reads.1 e.reads.2 seen stepped _ o.reads (entry_told c.in-Node.number c.locate-node.result.rec c.locate-node.ensures.rec c.search_node-step.new.seat.known c.load_entry-entry.new.seat.known c.search_node-step.result.slot c.load_entry-entry.result o.entry)
 
 pub loop-entry-preserved : goal.loop-entry-preserved
 loop-entry-preserved g c =
@@ -113,7 +113,7 @@ loop-entry-preserved g c =
     let (head, seen, stepped) = step_told c.in-Node.number c.locate-node.result.rec c.locate-node.ensures.rec c.loop-entry.seat.known c.search_node-step.new.seat.known c.args.key.now c.search_node-step.result e.step (since c.loop-entry.seat.known) n.height (at_led i.at _ n.is) in
     record {
       reader = reader_then (reader_then i.reader e.reads.2) o.reads;
-      at = led_down i.at _ i.going n.number n.height c.search_node-step.result head n.is e.reads.1 e.reads.2 seen stepped _ o.reads (entry_told c.in-Node.number c.locate-node.result.rec c.locate-node.ensures.rec c.search_node-step.new.seat.known c.load_entry-entry.new.seat.known c.search_node-step.result.at c.load_entry-entry.result o.entry);
+      at = led_down i.at _ i.going n.number n.height c.search_node-step.result head n.is e.reads.1 e.reads.2 seen stepped _ o.reads (entry_told c.in-Node.number c.locate-node.result.rec c.locate-node.ensures.rec c.search_node-step.new.seat.known c.load_entry-entry.new.seat.known c.search_node-step.result.slot c.load_entry-entry.result o.entry);
       going = subst (λ z. IsGoing c.args.table.now.layout known (since known) c.args.key.now z c.load_entry-entry.result) (sym c.push.ensures.items)
-          (way_on i.at _ i.going n.number n.height c.search_node-step.result head n.is e.reads.1 e.reads.2 seen stepped _ o.reads (entry_told c.in-Node.number c.locate-node.result.rec c.locate-node.ensures.rec c.search_node-step.new.seat.known c.load_entry-entry.new.seat.known c.search_node-step.result.at c.load_entry-entry.result o.entry) i.reader.1);
+          (way_on i.at _ i.going n.number n.height c.search_node-step.result head n.is e.reads.1 e.reads.2 seen stepped _ o.reads (entry_told c.in-Node.number c.locate-node.result.rec c.locate-node.ensures.rec c.search_node-step.new.seat.known c.load_entry-entry.new.seat.known c.search_node-step.result.slot c.load_entry-entry.result o.entry) i.reader.1);
     }

@@ -2,7 +2,7 @@
 use Rattle.std.proofs.Common.{◌+◌, ◌∙◌, ap, lit≤, sym}
 use Rattle.compound_node.specs.declared.entries.Entry.TheVariants.{Node}
 use Rattle.record_words.specs.declared.kind.Kind.TheVariants.{Middle, Narrow, Wide}
-use Rattle.rowex_table.specs.Rule.{number_of}
+use Rattle.rowex_table.specs.Rule.{record_number}
 use Rattle.rowex_reading.proofs.Led.{led_on, reader_then, reads_trans}
 use Rattle.rowex_reading.proofs.Naming.{node_led, words_told}
 use Rattle.rowex_reading.proofs.Standing.{led_in_table}
@@ -29,7 +29,7 @@ pub returns-in-Narrow-clause-words : goal.returns-in-Narrow-clause-words
 returns-in-Narrow-clause-words g c = λ m h led.
     let e = c.load_head_part.ensures in let f = c.load_head_part-in-Narrow.ensures in
     words_told c.args.number c.locate-node.result.rec c.locate-node.ensures.rec c.load_head_part-in-Narrow.new.seat.known m h _
-    (kind_read _ _ _ _ (number_of c.locate-node.result.rec) Narrow c.load_head_part.new.words c.load_head_part-in-Narrow.new.words (reader_then (reader_then c.requires.reader e.reads) f.reads).1 e.loaded f.loaded
+    (kind_read _ _ _ _ (record_number c.locate-node.result.rec) Narrow c.load_head_part.new.words c.load_head_part-in-Narrow.new.words (reader_then (reader_then c.requires.reader e.reads) f.reads).1 e.loaded f.loaded
     (sym c.read_numbers.ensures.parts.3 ∙ c.in-Narrow.is) e.long (ap (λ n. 1 + n) f.long) m h (node_led c.args.number c.locate-node.result.rec c.locate-node.ensures.rec c.args.seat.now.known m h led))
 
 -- ---- a middle head
@@ -46,7 +46,7 @@ pub returns-in-Middle-clause-words : goal.returns-in-Middle-clause-words
 returns-in-Middle-clause-words g c = λ m h led.
     let e = c.load_head_part.ensures in let f = c.load_head_part-in-Middle.ensures in
     words_told c.args.number c.locate-node.result.rec c.locate-node.ensures.rec c.load_head_part-in-Middle.new.seat.known m h _
-    (kind_read _ _ _ _ (number_of c.locate-node.result.rec) Middle c.load_head_part.new.words c.load_head_part-in-Middle.new.words (reader_then (reader_then c.requires.reader e.reads) f.reads).1 e.loaded f.loaded
+    (kind_read _ _ _ _ (record_number c.locate-node.result.rec) Middle c.load_head_part.new.words c.load_head_part-in-Middle.new.words (reader_then (reader_then c.requires.reader e.reads) f.reads).1 e.loaded f.loaded
     (sym c.read_numbers.ensures.parts.3 ∙ c.in-Middle.is) e.long (ap (λ n. 1 + n) f.long) m h (node_led c.args.number c.locate-node.result.rec c.locate-node.ensures.rec c.args.seat.now.known m h led))
 
 -- ---- a wide head
@@ -63,5 +63,5 @@ pub returns-in-Wide-clause-words : goal.returns-in-Wide-clause-words
 returns-in-Wide-clause-words g c = λ m h led.
     let e = c.load_head_part.ensures in let f = c.load_head_part-in-Wide.ensures in
     words_told c.args.number c.locate-node.result.rec c.locate-node.ensures.rec c.load_head_part-in-Wide.new.seat.known m h _
-    (kind_read _ _ _ _ (number_of c.locate-node.result.rec) Wide c.load_head_part.new.words c.load_head_part-in-Wide.new.words (reader_then (reader_then c.requires.reader e.reads) f.reads).1 e.loaded f.loaded
+    (kind_read _ _ _ _ (record_number c.locate-node.result.rec) Wide c.load_head_part.new.words c.load_head_part-in-Wide.new.words (reader_then (reader_then c.requires.reader e.reads) f.reads).1 e.loaded f.loaded
     (sym c.read_numbers.ensures.parts.3 ∙ c.in-Wide.is) e.long (ap (λ n. 1 + n) f.long) m h (node_led c.args.number c.locate-node.result.rec c.locate-node.ensures.rec c.args.seat.now.known m h led))

@@ -1,6 +1,6 @@
 -- The value, the length, and one more word of the key: these are the leaf's words up to the end of its key.
 use Rattle.std.proofs.Common.{rules, arith, subst, length, ap, ◌≡◌, ◌+◌, ◌-◌}
-use Rattle.versions.specs.declared.Rec.TheVariants.{Leaf as a_leaf}
+use Rattle.record_words.specs.declared.records.Rec.TheVariants.{Leaf as a_leaf}
 use Rattle.record_words.specs.Leaf.{leaf_words, words_for}
 use Rattle.rowex_records.specs.Records.{SetsSome}
 use Rattle.rowex_records.proofs.Named.{claimed_at, sets_of}

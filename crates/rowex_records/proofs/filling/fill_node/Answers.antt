@@ -1,6 +1,6 @@
 -- The first word, and eight by eight all of them, which spell the node.
 use Rattle.std.proofs.Common.{rules, length, ◌≡◌}
-use Rattle.versions.specs.declared.Rec.TheVariants.{Node as a_node}
+use Rattle.record_words.specs.declared.records.Rec.TheVariants.{Node as a_node}
 use Rattle.rowex_core.specs.Reading.{IsPacked}
 use Rattle.rowex_records.specs.Records.{SetsSome}
 use Rattle.rowex_records.proofs.Named.{claimed_at, more_of, sets_of, unseen_at}

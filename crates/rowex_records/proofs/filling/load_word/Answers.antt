@@ -5,7 +5,7 @@ use Rattle.rowex_core.specs.Cores.{HasWord}
 use Rattle.rowex_table.specs.Rule.{IsStartOf}
 use Rattle.rowex_table.proofs.Located.{node_at}
 use Rattle.rowex_records.proofs.SetAll.{entry_is_load, fixed_is_load, is_fixed}
-use Rattle.versions.specs.declared.Rec.TheVariants.{Node as a_node}
+use Rattle.record_words.specs.declared.records.Rec.TheVariants.{Node as a_node}
 use Rattle.rowex_records.proofs.filling.load_word.Goals.{in_default-via-in-Node+else-offset-ge-FIRST_ENTRY, in_default-via-in_default}
 use Rattle.rowex_records.proofs.filling.load_word.Goals as goal
 

@@ -1,6 +1,6 @@
 -- No class yet; one more in which no record is free; and one in which one is.
 use Rattle.std.proofs.Common.{◌+◌, arith, refl, ◌∙◌}
-use Rattle.versions.specs.declared.Rec.TheVariants.{Leaf as a_leaf}
+use Rattle.record_words.specs.declared.records.Rec.TheVariants.{Leaf as a_leaf}
 use Rattle.rowex_records.specs.Claims.{IsAnothersTo}
 use Rattle.rowex_records.proofs.Claimed.{missed_before, more_since}
 use Rattle.rowex_writing.proofs.Classes.{missed_more}

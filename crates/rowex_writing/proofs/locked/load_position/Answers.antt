@@ -1,7 +1,7 @@
 -- Two words of the head have the position.
 use Rattle.std.proofs.Common.{◌∙◌, ap, arith, get_or, sym, subst}
 use Rattle.record_words.specs.Kinds.{mask_index, position_index}
-use Rattle.rowex_table.specs.Rule.{number_of}
+use Rattle.rowex_table.specs.Rule.{record_number}
 use Rattle.rowex_writing.specs.Going.{HasLocked}
 use Rattle.rowex_writing.proofs.Heading.{head_word, mask_within, position_within}
 use Rattle.rowex_writing.proofs.Locking.{locked_on, reads_more, seat_of}
@@ -28,8 +28,8 @@ returns-clause-reads g c =
 
 pub returns-clause-position : goal.returns-clause-position
 returns-clause-position g c = λ node (words, h, is).
-    let n = number_of c.locate-node.result.rec in
-    let there = subst (λ q. HasLocked c.args.seat.now.known q words) (sym (ap number_of c.locate-node.ensures.rec)) h in
+    let n = record_number c.locate-node.result.rec in
+    let there = subst (λ q. HasLocked c.args.seat.now.known q words) (sym (ap record_number c.locate-node.ensures.rec)) h in
     let kind = c.load_numbers-numbers.result.kind in
     let then = locked_on c.args.seat.now.known c.load_numbers-numbers.new.seat.known n words c.load_numbers-numbers.ensures.reads.goes.stays.1 there in
     let last = locked_on c.load_numbers-numbers.new.seat.known c.load_locked_word-word.new.seat.known n words c.load_locked_word-word.ensures.reads.goes.stays.1 then in

@@ -1,6 +1,6 @@
 -- The rows round the place tell it.
 use Rattle.std.proofs.Common.{◌∙◌, ap, get_or, subst, sym}
-use Rattle.rowex_table.specs.Rule.{number_of}
+use Rattle.rowex_table.specs.Rule.{record_number}
 use Rattle.rowex_writing.specs.Going.{HasLocked}
 use Rattle.rowex_writing.proofs.Locking.{locked_on, reads_more}
 use Rattle.rowex_writing.proofs.locked.load_sibling.Goals as goal
@@ -17,8 +17,8 @@ returns-clause-reads g c =
 
 pub returns-clause-beside : goal.returns-clause-beside
 returns-clause-beside g c = λ node (words, h, is) inside.
-    let n = number_of c.locate-node.result.rec in
-    let there = subst (λ q. HasLocked c.args.seat.now.known q words) (sym (ap number_of c.locate-node.ensures.rec)) h in
+    let n = record_number c.locate-node.result.rec in
+    let there = subst (λ q. HasLocked c.args.seat.now.known q words) (sym (ap record_number c.locate-node.ensures.rec)) h in
     let told = c.load_numbers-numbers.ensures.numbers node (words, there, is) in
     let before = locked_on c.args.seat.now.known c.load_numbers-numbers.new.seat.known n words c.load_numbers-numbers.ensures.reads.goes.stays.1 there in
     let own = locked_on c.load_numbers-numbers.new.seat.known c.load_row-before.new.seat.known n words c.load_row-before.ensures.reads.goes.stays.1 before in
