@@ -9,7 +9,7 @@ use Rattle.record_words.specs.Layout.{node_start, leaf_start, leaf_size}
 use Rattle.record_words.specs.Leaf.{HasLeafWords, leaf_words, up_to_key, words_for}
 use Rattle.record_words.proofs.Leaves.{IsLeafOf, leaf_words_parts}
 use Rattle.record_words.proofs.UpToKey.{spells_up_to_key}
-use Rattle.versions.specs.declared.Rec.TheVariants.{Node as a_node, Leaf as a_leaf}
+use Rattle.record_words.specs.declared.records.Rec.TheVariants.{Node as a_node, Leaf as a_leaf}
 use Rattle.rowex_core.specs.Cores.{fields_in}
 
 pub node_field : (layout : Layout) (table : List ℕ) (n i : ℕ) → i < NODE_FIELDS → get_or (fields_in layout table (a_node n)) i 0 ≡ get_or table (node_start layout n + (1 + i)) 0

@@ -10,7 +10,7 @@ ghost use Rattle.record_words.specs.Leaf.{HasLeafWords, leaf_words, up_to_key, w
 ghost use Rattle.record_words.specs.Node.{HasNodeWords, node_words};
 ghost use Rattle.record_words.specs.State.{state_word};
 ghost use Rattle.record_words.specs.declared.state.Tag.TheVariants.{Live as LiveTag};
-ghost use Rattle.versions.specs.declared.Rec.TheVariants.{Leaf as a_leaf, Node as a_node};
+ghost use Rattle.record_words.specs.declared.records.Rec.TheVariants.{Leaf as a_leaf, Node as a_node};
 
 use compound_node::{Entry, Node};
 use key_bits::Key;

@@ -4,14 +4,14 @@ ghost use Rattle.std.specs.Prelude.{◌≡◌, ◌≢◌, ℕ, ◌+◌, ◌^◌,
 ghost use Rattle.record_words.specs.declared.state.Tag.TheVariants.{Free as FreeTag, Obsolete};
 ghost use Rattle.record_words.specs.Layout.{leaf_size};
 ghost use Rattle.record_words.specs.State.{state_word};
-ghost use Rattle.versions.specs.declared.Rec.TheVariants.{Node as a_node, Leaf as a_leaf};
+ghost use Rattle.record_words.specs.declared.records.Rec.TheVariants.{Node as a_node, Leaf as a_leaf};
 ghost use Rattle.rowex_core.specs.Cores.{HasRecord};
 ghost use Rattle.rowex_table.specs.Rule.{IsStartOf};
 ghost use Rattle.rowex_table.specs.Seats.{IsSeatOf};
 ghost use Rattle.epochs.specs.Rounds.{AdvancesEpoch, BeginsRound, FindsBound, HasBound, IsRound, IsSmallRound, IsSparedRound, VisitsAll, GoesOnVisiting, VisitsOne, VisitsSome, VisitsTable, is_given};
-ghost use Rattle.epochs.specs.declared.collection.Visited.TheVariants.{Free, Waits};
+ghost use Rattle.epochs.specs.declared.limbo.Visited.TheVariants.{Free, Waits};
 
-use crate::limbo::{Limbo, MOST_VISITED};
+use crate::limbo::{Limbo, MOST_VISITED, Visited};
 use record_words::{EPOCHS, Layout, Tag, read_obsolete_epoch, unpack_state};
 use rowex_core::{Gate, Rec};
 use rowex_table::{HotTable, RecordAt, TableSeat};
@@ -33,19 +33,6 @@ pub struct Collected {
     pub found_free_node: bool,
     /// Whether it found a leaf record free already.
     pub found_free_leaf: bool,
-}
-
-/// What a visit of a record came to.
-#[derive(Clone, Copy)]
-pub enum Visited {
-    /// The visit gave the record back.
-    Given,
-    /// The record is retired, in an epoch that isn't below the bound of the round.
-    Waits,
-    /// The record is free already.
-    Free,
-    /// The record is in another state.
-    Other,
 }
 
 /// What visits of records of one kind came to.
@@ -94,7 +81,9 @@ pub fn collect_if_risen<G: Gate>(
     requires free { seat.old.known.pin ≡ None }
     ensures free { seat.new.known.pin ≡ None }
     ensures round { IfSome result (λ round. IsRound table.now G.becomes (seat.old, gate.old) (seat.new, gate.new) round.given.nodes round.given.leaves) }
+    ensures swept { IfSome result (λ round. limbo.new.swept ≡ seat.new.known.round.bound) }
     ensures several { result ≡ None → 1 < table.now.layout.passes }
+    ensures low { result ≡ None → (seat.new.known.round.bound ≤ limbo.old.swept) × (limbo.new.swept ≡ limbo.old.swept) }
     ensures spared { result ≡ None → IsSparedRound table.now G.becomes (seat.old, gate.old) (seat.new, gate.new) }
 {
     let bound = begin_round(table, seat, gate);

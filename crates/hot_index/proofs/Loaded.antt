@@ -14,7 +14,7 @@ use Rattle.record_words.specs.declared.layout.Layout.{Layout}
 use Rattle.tries.specs.Content.{Item, pairs}
 use Rattle.tries.specs.Tree.{Tree}
 use Rattle.versions.specs.State.{IsLinked}
-use Rattle.versions.specs.declared.Rec.TheVariants.{Node as a_node}
+use Rattle.record_words.specs.declared.records.Rec.TheVariants.{Node as a_node}
 use Rattle.versions.specs.Loads.{first_leaves_of, loaded_past}
 use Rattle.versions.specs.Steps.{is_linked}
 use Rattle.versions.specs.Told.{TellChanges, added_change, added_notes, content, items_of}

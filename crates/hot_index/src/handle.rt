@@ -234,7 +234,8 @@ impl<I: ShowsIndex> Handle<I> {
         self.index.show().try_upsert(&mut self.pass, key, value)
     }
 
-    /// Tries to give `key` the value `value` if it has the value `expected`, and returns what `Index::try_exchange` does.
+    /// Tries to give `key` the value `value` if it has the value `expected`, and returns what `Index::try_exchange` does. Its only fault is
+    /// `Busy`.
     pub fn try_exchange(&mut self, key: &Key, expected: u64, value: u64) -> Result<Reply, TryFault>
         ensures call { Stays (IsOutcome (Exchange key.now expected value) result) self.old self.new }
         ensures cause { Stays (HasCause (Exchange key.now expected value) result) self.old self.new }

@@ -1,7 +1,7 @@
 //! Records filled with the words of a leaf or of a node, and made ready.
 
 ghost use Rattle.std.specs.Prelude.{◌≡◌, ◌≢◌, ◌<◌, ◌≤◌, ◌+◌, ◌-◌, ◌*◌, ℕ, List, length};
-ghost use Rattle.versions.specs.declared.Rec.TheVariants.{Node as a_node, Leaf as a_leaf};
+ghost use Rattle.record_words.specs.declared.records.Rec.TheVariants.{Node as a_node, Leaf as a_leaf};
 ghost use Rattle.record_words.specs.Layout.{leaf_size};
 ghost use Rattle.record_words.specs.Leaf.{leaf_words, words_for};
 ghost use Rattle.record_words.specs.Node.{HasNodeWords, node_words};
@@ -10,7 +10,7 @@ ghost use Rattle.record_words.specs.declared.TheConstants.{FIRST_POSITIONS, FIRS
 ghost use Rattle.rowex_core.specs.Cores.{FitsIn, HasRecord, HasWord};
 ghost use Rattle.rowex_core.specs.Events.{IsOffset};
 ghost use Rattle.rowex_table.specs.Rights.{IsClaimed};
-ghost use Rattle.rowex_table.specs.Rule.{IsStartOf};
+ghost use Rattle.rowex_table.specs.Rule.{IsNodeRecordAt, IsStartOf};
 ghost use Rattle.rowex_table.specs.Runs.{Steps};
 ghost use Rattle.rowex_table.specs.Seats.{IsSeatOf};
 ghost use Rattle.rowex_records.specs.Records.{HaveBelow, IsBehindValue, IsFilled, IsFilledLeaf, IsLookedAt, Readies, Sets, SetsAll, SetsMore, SetsSome, load_of_word, unused_word};
@@ -22,7 +22,7 @@ use record_words::{
     read_numbers,
 };
 use rowex_core::{Gate, Rec};
-use rowex_table::{HotTable, NodeAt, RecordAt, TableSeat};
+use rowex_table::{HotTable, RecordAt, TableSeat};
 use std::ops::Range;
 
 /// Fills the claimed leaf record `number`, which has room for `key`, with `value` and with the words of `key` up to its end.
@@ -47,14 +47,12 @@ pub fn fill_leaf<G: Gate>(
     ensures steps { seat.new.known.steps ≤ seat.old.known.steps + 2 * LEAF_FIELDS }
 {
     let length = key.as_bytes().len() as u64;
-    let rec = Rec::Leaf(number);
-    let start = table.start_of(rec);
-    let at = RecordAt { rec, start };
-    store_word(table, seat, gate, at, VALUE_OFFSET, value);
-    store_word_if_changed(table, seat, gate, at, LENGTH_OFFSET, length);
+    let leaf = table.locate(Rec::Leaf(number));
+    store_word(table, seat, gate, leaf, VALUE_OFFSET, value);
+    store_word_if_changed(table, seat, gate, leaf, LENGTH_OFFSET, length);
     for index in 0..count_key_words(length) {
         let word = key_word_at(key, index);
-        store_word(table, seat, gate, at, index as u8 + KEY_OFFSET, word);
+        store_word(table, seat, gate, leaf, index as u8 + KEY_OFFSET, word);
     }
 }
 
@@ -76,19 +74,10 @@ pub fn fill_node<G: Gate>(
     ensures filled { IsFilled seat.new.known (a_node number) words.now }
     ensures steps { seat.new.known.steps ≤ seat.old.known.steps + 2 * NODE_FIELDS }
 {
-    let rec = Rec::Node(number);
-    let start = table.start_of(rec);
+    let node = table.locate(Rec::Node(number));
     let (columns, rows) = used_ends(words);
     let leads = read_numbers(words[0]).entries_end();
-    store_word(
-        table,
-        seat,
-        gate,
-        RecordAt { rec, start },
-        NUMBERS_OFFSET,
-        words[0],
-    );
-    let node = NodeAt { number, start };
+    store_word(table, seat, gate, node, NUMBERS_OFFSET, words[0]);
     set_eight_words(table, seat, gate, node, words, FIRST_POSITIONS..columns);
     set_eight_words(table, seat, gate, node, words, FIRST_ROWS..rows);
     set_eight_words(table, seat, gate, node, words, FIRST_ROWS + 8..rows);
@@ -120,36 +109,29 @@ fn used_ends(words: &[u64; NODE_FIELDS]) -> (usize, usize)
 }
 
 /// Fills eight words of the claimed node record `node`, with those of `words` from index `used.start` on. The node has something in those
-/// before `used.end`: these are stored. The others are loaded, and stored only where another stands. Inline, so that offsets are constants.
+/// before `used.end`: these are stored. The others are loaded, and stored only where another stands. If the node has something in all
+/// eight, no index is compared with `used.end`. Inline, so that offsets are constants.
 #[inline(always)]
 fn set_eight_words<G: Gate>(
     table: &HotTable,
     seat: &mut TableSeat,
     gate: &mut G,
-    node: NodeAt,
+    node: RecordAt,
     words: &[u64; NODE_FIELDS],
     used: Range<usize>,
 )
     requires own { IsSeatOf table.now seat.old }
-    requires start { IsStartOf table.now.layout (a_node node.number) node.start }
-    requires held { IsClaimed seat.old.known (a_node node.number) }
+    requires node { IsNodeRecordAt table.now.layout node }
+    requires held { IsClaimed seat.old.known node.rec }
     requires range { used.start + 8 ≤ NODE_FIELDS }
     requires have { HaveBelow words.now used.start used.end }
-    ensures { SetsMore table.now G.becomes (a_node node.number) words.now used.start 8 (seat.old, gate.old) (seat.new, gate.new) }
+    ensures { SetsMore table.now G.becomes node.rec words.now used.start 8 (seat.old, gate.old) (seat.new, gate.new) }
 {
-    let (rec, start) = (Rec::Node(node.number), node.start);
-    let at = RecordAt { rec, start };
     if used.start + 8 <= used.end {
         for place in 0..8 {
             let index = used.start + place;
-            store_word(
-                table,
-                seat,
-                gate,
-                at,
-                index as u8 + FIELDS_OFFSET,
-                words[index],
-            );
+            let offset = index as u8 + FIELDS_OFFSET;
+            store_word(table, seat, gate, node, offset, words[index]);
         }
         return;
     }
@@ -157,9 +139,9 @@ fn set_eight_words<G: Gate>(
         let index = used.start + place;
         let offset = index as u8 + FIELDS_OFFSET;
         if index < used.end {
-            store_word(table, seat, gate, at, offset, words[index]);
+            store_word(table, seat, gate, node, offset, words[index]);
         } else {
-            store_word_if_changed(table, seat, gate, at, offset, unused_node_word(offset));
+            store_word_if_changed(table, seat, gate, node, offset, unused_node_word(offset));
         }
     }
 }
@@ -223,11 +205,11 @@ fn load_word<G: Gate>(
     ensures { Steps table.now G.becomes (load_of_word at.rec offset result) (seat.old, gate.old) (seat.new, gate.new) }
 {
     match at.rec {
-        Rec::Node(number) if offset as usize >= FIRST_ENTRY => {
-            let entry = offset - FIRST_ENTRY as u8;
-            table.load_slot_at(seat, gate, number, at.start, entry)
+        Rec::Node(_) if offset as usize >= FIRST_ENTRY => {
+            let slot = offset - FIRST_ENTRY as u8;
+            table.load_slot_at(seat, gate, at, slot)
         }
-        _ => table.load_fixed_at(seat, gate, at.rec, at.start, offset),
+        _ => table.load_fixed_at(seat, gate, at, offset),
     }
 }
 

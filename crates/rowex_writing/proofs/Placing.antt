@@ -24,7 +24,7 @@ use Rattle.tries.specs.Place.{shape}
 use Rattle.tries.specs.Search.{seek}
 use Rattle.tries.specs.Tree.{Subtrie, leaf}
 use Rattle.tries.proofs.Tries.{trie_within}
-use Rattle.versions.specs.declared.Rec.{Rec}
+use Rattle.record_words.specs.declared.records.Rec.{Rec}
 use Rattle.versions.specs.Trades.{IsOneOf}
 use Rattle.version_laws.specs.Scan.{IsRead}
 use Rattle.version_laws.specs.Writer.{added_change, replaced_change}
@@ -147,7 +147,7 @@ last_level : (way : List PathNode) (p level first last : ℕ) (c : Choice) → I
 last_level way p level first last c is chosen down = ⊎_elim (λ several. absurd (by_several several)) (λ single. ⊎_elim (λ more. absurd (by_next single more)) (λ none. by_leaf single none) (cases_lt (level + 1) (length way))) (cases_lt first last)
   where
     d : PathNode
-    d = record { number = 0; height = 0; first_position = 0; count = 0; at = 0 }
+    d = record { number = 0; height = 0; first_position = 0; count = 0; slot = 0 }
 
     by_several : first < last → ⊥
     by_several h =

@@ -17,8 +17,8 @@ use Rattle.tries.specs.Place.{joined, subtrie_without, spot}
 use Rattle.tries.specs.Search.{seek}
 use Rattle.tries.specs.Tree.{Subtrie, leaf}
 use Rattle.versions.specs.Heap.{NodeWords}
-use Rattle.versions.specs.declared.Rec.{Rec}
-use Rattle.versions.specs.declared.Rec.TheVariants.{Node as a_node, Leaf as a_leaf}
+use Rattle.record_words.specs.declared.records.Rec.{Rec}
+use Rattle.record_words.specs.declared.records.Rec.TheVariants.{Node as a_node, Leaf as a_leaf}
 use Rattle.versions.specs.Trades.{IsOneOf}
 use Rattle.versions.proofs.Members.{all_of, none_of, of_append, of_left, of_right}
 use Rattle.rowex_core.specs.declared.event.Spot.{Spot}
@@ -104,7 +104,7 @@ module _ (table : TableView) (a : SeatView) (number : ℕ) (key : Key) (value : 
 -- ---- the way
 -- what stands past its end
 abbrev pub no_step : PathNode
-no_step = record { number = 0; height = 0; first_position = 0; count = 0; at = 0 }
+no_step = record { number = 0; height = 0; first_position = 0; count = 0; slot = 0 }
 
 -- the last node of the way that a leaf below it leaves
 pub low_step : (table : TableView) (a : SeatView) (m : ℕ) (job : Job) (number value : ℕ) → HasLeafBelow table a m job number value → slice_get job.way.now job.span.end ≡ Some (get_or job.way.now job.span.end no_step)
@@ -255,7 +255,7 @@ module _ (table : TableView) (a : SeatView) (m : ℕ) (job : Job) (number value 
   lowest_locked = locked_at a.known job.way.now job.span b.taken.locked job.span.end s (omega arith) (let e = b.last in omega (arith, e)) at
 
   -- the key's search takes the same entry in it as it did before
-  pub lowest_leads : LeadsLocked a.known s.number job.key.now s.at
+  pub lowest_leads : LeadsLocked a.known s.number job.key.now s.slot
   lowest_leads words h = let (e, is, node) = w.nodes job.span.end s at in (way_node_locked table.layout a.known m job.key.now s e words b.taken.possible w.since node h).at
 
   pub low_names : (words : List ℕ) → HasLocked a.known s.number words → seek job.key.now (node_words_of words).subtrie ≡ LeafEntry number

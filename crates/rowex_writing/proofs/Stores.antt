@@ -7,7 +7,7 @@ use Rattle.finite_map.specs.declared.Change.{Change}
 use Rattle.insert_cases.specs.declared.choice.PathNode.{PathNode}
 use Rattle.record_words.specs.Entry.{entry_word}
 use Rattle.versions.specs.Trades.{AreApart, IsOneOf}
-use Rattle.versions.specs.declared.Rec.{Rec}
+use Rattle.record_words.specs.declared.records.Rec.{Rec}
 use Rattle.rowex_table.specs.Rule.{HasSpot}
 use Rattle.rowex_core.specs.Having.{AreKept}
 use Rattle.rowex_core.specs.declared.event.Spot.{Spot}
@@ -33,7 +33,7 @@ use Rattle.rowex_writing.proofs.Raised.{gone_records, kept_nodes, kept_raised, s
 use Rattle.rowex_core.specs.Events.{IsOfEntry}
 use Rattle.rowex_writing.specs.Attempts.{HasLoadedFound}
 use Rattle.publish_laws.specs.Stages.{HasLoaded}
-use Rattle.versions.specs.declared.Rec.TheVariants.{Node as a_node, Leaf as a_leaf}
+use Rattle.record_words.specs.declared.records.Rec.TheVariants.{Node as a_node, Leaf as a_leaf}
 use Rattle.versions.proofs.Members.{of_append}
 use Rattle.tries.specs.Keys.{Key}
 use Rattle.rowex_reading.specs.declared.descent.Found.{Found}

@@ -11,9 +11,9 @@ use Rattle.tries.specs.Keys.{Key}
 use Rattle.tries.specs.Search.{seek}
 use Rattle.tries.specs.Tree.{Subtrie}
 use Rattle.versions.specs.Trades.{AreApart, IsOneOf}
-use Rattle.versions.specs.declared.Rec.{Rec}
+use Rattle.record_words.specs.declared.records.Rec.{Rec}
 use Rattle.record_words.specs.Leaf.{words_for}
-use Rattle.versions.specs.declared.Rec.TheVariants.{Node as a_node, Leaf as a_leaf}
+use Rattle.record_words.specs.declared.records.Rec.TheVariants.{Node as a_node, Leaf as a_leaf}
 use Rattle.rowex_core.specs.declared.event.Event.{Event}
 use Rattle.rowex_core.specs.declared.event.Spot.{Spot}
 use Rattle.rowex_core.specs.declared.event.Target.{Target}

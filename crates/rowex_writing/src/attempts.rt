@@ -17,7 +17,7 @@ ghost use Rattle.rowex_writing.specs.Deeds.{MayReplace, leaf_gone};
 ghost use Rattle.rowex_table.specs.Stays.{LeavesPin};
 ghost use Rattle.rowex_writing.specs.Building.{HasNotMade};
 ghost use Rattle.rowex_writing.specs.Changes.{HasChanged, HasPlanned, HasRun, HasTakenPlan, HasTakenSpan, HasTriedOnce};
-ghost use Rattle.rowex_writing.specs.Merging.{ChangesOn, EndsChange, HasClaimed, IsLeft, TakesOn, TriesFew};
+ghost use Rattle.rowex_writing.specs.Merging.{ChangesOn, EndsChange, HasClaimed, IsLeftOfNode, TakesOn, TriesFew};
 ghost use Rattle.rowex_writing.specs.declared.plan.Deed.TheVariants.{Take};
 ghost use Rattle.rowex_writing.specs.Jobs.{HoldsSpan, IsJobFrom, IsWithinWay};
 ghost use Rattle.rowex_writing.specs.Locks.{HasMadeNoChange, HasMetLock, TriesNodesBy, Works, locks_of, span_numbers};
@@ -267,7 +267,7 @@ fn end_removal<G: Gate>(
 ) -> Result<(), TryFault>
     requires takes { TakesOn table.now seat.old job.now }
     requires claimed { HasClaimed table.now seat.old.known left.now.number }
-    requires left { IsLeft seat.old.known job.now left.now.words }
+    requires left { IsLeftOfNode seat.old.known job.now left.now.words }
     requires loaded { HasLoadedFound seat.old.known job.now.found }
     ensures tries { TriesFew table.now G.becomes (span_numbers job.now.way.now job.now.span) build.old.left_nodes (84 + 2 * NODE_FIELDS)
         (seat.old, gate.old) (seat.new, gate.new) }

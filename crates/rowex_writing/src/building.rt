@@ -145,7 +145,7 @@ pub(crate) fn make_node_with_leaf<G: Gate>(
     ensures same { result ≡ None → (seat.new.known.own ≡ seat.old.known.own) × (build.new.made.items ≡ build.old.made.items) }
 {
     let bit = new.key.bit(new.position);
-    let (first, last) = affected_slots(&words[..HEAD_WORDS], new.at, new.position);
+    let (first, last) = affected_slots(&words[..HEAD_WORDS], new.slot, new.position);
     record_words::add_leaf(words, first, last, new.position, bit, new.number);
     make_node_from_words(table, seat, gate, build, words)
 }

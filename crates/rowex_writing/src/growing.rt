@@ -45,7 +45,7 @@ pub(crate) fn grow_node<G: Gate>(
         key: job.key,
         number,
         position,
-        at: job.way[job.span.len - 1].at,
+        slot: job.way[job.span.len - 1].slot,
     };
     grow_with_leaf(table, seat, gate, build, job, &new)
 }

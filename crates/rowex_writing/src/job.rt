@@ -33,7 +33,7 @@ pub(crate) struct Raised {
 #[derive(Clone, Copy)]
 pub(crate) struct Merge {
     /// The sibling's slot in the upper node.
-    pub place: u8,
+    pub slot: u8,
     /// The position of the fork between the two.
     pub position: u16,
     /// The number of the sibling's record.

@@ -207,8 +207,7 @@ pub(crate) fn find_plan<G: Gate>(
     match plan_call(way, aim, found) {
         Outline::Known(plan) => plan,
         Outline::Beside { position, level } => {
-            let step = way[level];
-            let (first, last) = find_affected(table, seat, gate, step.number, step.at, position);
+            let (first, last) = find_affected(table, seat, gate, way[level], position);
             plan_beside_entries(way, position, level, first, last)
         }
     }

@@ -12,7 +12,7 @@ ghost use Rattle.rowex_writing.specs.Deeds.{CarriesOut, HasNoneFree, MayReplace}
 ghost use Rattle.rowex_writing.specs.Going.{WorksOn};
 ghost use Rattle.rowex_writing.specs.Taking.{HasLeafBelow};
 ghost use Rattle.rowex_writing.specs.Growths.{HasNumber};
-ghost use Rattle.rowex_writing.specs.Merging.{HasClaimed, IsLeft, TakesOn, TakesStill};
+ghost use Rattle.rowex_writing.specs.Merging.{HasClaimed, IsLeftOfNode, TakesOn, TakesStill};
 ghost use Rattle.finite_map.specs.declared.Change.{Change};
 ghost use Rattle.record_words.specs.declared.TheConstants.{NODE_FIELDS};
 ghost use Rattle.rowex_reading.specs.declared.descent.Found.TheVariants.{Leaf as FoundLeaf};
@@ -131,7 +131,7 @@ pub(crate) fn fill_left<G: Gate>(
 ) -> Raised
     requires still { TakesStill table.now seat.old job.now }
     requires claimed { HasClaimed table.now seat.old.known left.now.number }
-    requires left { IsLeft seat.old.known job.now left.now.words }
+    requires left { IsLeftOfNode seat.old.known job.now left.now.words }
     ensures goes { WorksOn table.now G.becomes (seat.old, gate.old) (seat.new, gate.new) }
     ensures may { (x : Change) × (was : Option ℕ) × IsTakeChange seat.old.known.pass job.now.key.now job.now.found x was ×
         MayReplace table.now seat.new build.new.made.items job.now result x was }
@@ -148,7 +148,7 @@ pub(crate) fn fill_left<G: Gate>(
     put_in_place(job, entry)
 }
 
-/// What `entry` has to take the place of, where it is all that is left of the lower node of `job`'s span.
+/// What takes the place of the lower node of `job`'s span, if `entry` is all that is left of it without the leaf that the search found.
 pub(crate) fn put_in_place(job: &Job<'_>, entry: Entry) -> Raised
     requires found { (leaf value : ℕ) × (job.now.found ≡ FoundLeaf leaf value None) }
     ensures same { (leaf value : ℕ) → job.now.found ≡ FoundLeaf leaf value None →

@@ -67,13 +67,13 @@ node_ahead g c =
     node_later d m top (reads_later c.take_leaves.ensures.reads.2) ahead.count c.in-Some-node.number
     (subst (λ z. IfSome z (IsNodeAhead d c.load_entries_ahead-ahead.new.seat.known m top ahead.count)) c.in-Some-node.is (c.load_entries_ahead-ahead.ensures.ahead m (walk_places c.loop-seat.invariant.walk)).node)
 
-inside : (g : given.Over) (c : In-Some-node g) → c.load_entries_ahead-ahead.result.count < to_come c.args.scan.now.range.now.direction c.loop-seat.top.count c.loop-seat.top.at
+inside : (g : given.Over) (c : In-Some-node g) → c.load_entries_ahead-ahead.result.count < to_come c.args.scan.now.range.now.direction c.loop-seat.top.count c.loop-seat.top.slot
 inside g c = let come = c.load_entries_ahead-ahead.ensures.come in let one : length (option_to_list c.load_entries_ahead-ahead.result.node) ≡ 1 = ap (λ z. length (option_to_list z)) c.in-Some-node.is in omega (arith, one, come)
 
 -- which is pushed.
 pushed : (g : given.Over) (c : After-push g) →
-    c.push.new.self.items ≡ c.loop-seat.way.items ++ (record c.loop-seat.top { at = place_ahead c.args.scan.now.range.now.direction c.loop-seat.top.at c.load_entries_ahead-ahead.result.count }) ∷ []
-pushed g c = c.push.ensures.items ∙ ap (λ z. c.loop-seat.way.items ++ (let x : PathNode = record c.loop-seat.top { at = z } in x) ∷ []) c.slot_ahead.ensures
+    c.push.new.self.items ≡ c.loop-seat.way.items ++ (record c.loop-seat.top { slot = place_ahead c.args.scan.now.range.now.direction c.loop-seat.top.slot c.load_entries_ahead-ahead.result.count }) ∷ []
+pushed g c = c.push.ensures.items ∙ ap (λ z. c.loop-seat.way.items ++ (let x : PathNode = record c.loop-seat.top { slot = z } in x) ∷ []) c.slot_ahead.ensures
 
 pub loop-seat-init : goal.loop-seat-init
 loop-seat-init g c =
@@ -135,7 +135,7 @@ loop-seat-smaller-in-Some-node g c =
     let within = inside g at.In-Some-node in let ahead = node_ahead g at.In-Some-node in
     let a = node_at (walk_fits c.loop-seat.invariant.walk) within (passed g at.In-Further (long g here) (next g here)) ahead in
     let less = walk_push_less a (reads_later e.reads.2) (e.entered (since c.args.seat.now.known) ahead.0 (entry_led a)) (pushed g at.After-push) ahead.1 in
-    let there = subst (λ z. rest_of d c.enter_node_at_gap-top.result c.push.new.self.items < rest_of d (record top { at = z }) c.loop-seat.way.items) (sym (gap_before_place d top.count top.at count within)) less in
+    let there = subst (λ z. rest_of d c.enter_node_at_gap-top.result c.push.new.self.items < rest_of d (record top { slot = z }) c.loop-seat.way.items) (sym (gap_before_place d top.count top.slot count within)) less in
     let before = after_less d top c.loop-seat.way.items count (omega (arith, within)) in omega (arith, there, before)
 
 pub loop-seat-preserved-in-Some-node : goal.loop-seat-preserved-in-Some-node
@@ -147,8 +147,8 @@ loop-seat-preserved-in-Some-node g c =
     let n = long g here in let later = reads_later e.reads.2 in
     let fits = walk_fits i.walk in let within = inside g at.In-Some-node in let p = passed g at.In-Further n (next g here) in let ahead = node_ahead g at.In-Some-node in
     let a = node_at fits within p ahead in let entered = e.entered m ahead.0 (entry_led a) in let there = pushed g at.After-push in
-    let placed = sure_later (placed_stable m top.number (place_ahead d top.at count) (Node c.in-Some-node.number ahead.0)) later ahead.2 in
-    let bound = subst (λ z. IsBound d c.enter_node_at_gap-top.new.seat.known m key (record top { at = z }) c.loop-seat.way.items) (gap_before_place d top.count top.at count within) (bound_later d m key later p.bound) in
+    let placed = sure_later (placed_stable m top.number (place_ahead d top.slot count) (Node c.in-Some-node.number ahead.0)) later ahead.2 in
+    let bound = subst (λ z. IsBound d c.enter_node_at_gap-top.new.seat.known m key (record top { slot = z }) c.loop-seat.way.items) (gap_before_place d top.count top.slot count within) (bound_later d m key later p.bound) in
     record {
       reader = reader_then (reader_then (reader_then i.reader look.2) take.2) e.reads.2;
       reads = (
@@ -159,7 +159,7 @@ loop-seat-preserved-in-Some-node g c =
         reads_trans i.reads.3 (reads_trans look.2 (reads_trans take.2 e.reads.2)),
       );
       walk = walk_push a later entered there;
-      bound = bound_push d m key (record top { at = place_ahead d top.at count }) bound c.in-Some-node.number ahead.0 placed c.enter_node_at_gap-top.result (entered_number entered) (entered_first entered) c.push.new.self.items there;
+      bound = bound_push d m key (record top { slot = place_ahead d top.slot count }) bound c.in-Some-node.number ahead.0 placed c.enter_node_at_gap-top.result (entered_number entered) (entered_first entered) c.push.new.self.items there;
     }
 
 pub loop-seat-smaller-in-None : goal.loop-seat-smaller-in-None
@@ -197,7 +197,7 @@ loop-seat-smaller g c = rw c.gap_behind_slot.ensures (pop_less c.args.scan.now.r
 pub loop-seat-preserved : goal.loop-seat-preserved
 loop-seat-preserved g c =
     let i = c.loop-seat.invariant in let d = c.args.scan.now.range.now.direction in let e = c.in-Some-pop.ensures.items in
-    let done : to_come d c.loop-seat.top.count c.loop-seat.top.at ≡ 0 = omega (arith, c.if-entries_to_come-gt0.false, c.entries_to_come.ensures) in
+    let done : to_come d c.loop-seat.top.count c.loop-seat.top.slot ≡ 0 = omega (arith, c.if-entries_to_come-gt0.false, c.entries_to_come.ensures) in
     rw c.gap_behind_slot.ensures (record {
       reader = i.reader;
       reads = (

@@ -1,6 +1,6 @@
 -- A claim and its fills are the first record.
 use Rattle.std.proofs.Common.{◌∷◌, [], ◌++◌, subst, sym, ap, ◌∙◌, length, arith}
-use Rattle.versions.specs.declared.Rec.TheVariants.{Leaf as a_leaf}
+use Rattle.record_words.specs.declared.records.Rec.TheVariants.{Leaf as a_leaf}
 use Rattle.rowex_records.specs.Claims.{AllMissedFrom, IsAnothersTo}
 use Rattle.rowex_records.proofs.Claimed.{more_is_claimed}
 use Rattle.rowex_writing.specs.Building.{HasLeafMade, IsBuilding}

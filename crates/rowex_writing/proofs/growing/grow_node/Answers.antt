@@ -20,8 +20,8 @@ grow_with_leaf-requires g c =
     let (m, aim, t, planned) = c.requires.taken in
     record {
       may = may_grow c.args.table.now c.args.seat.now c.make_leaf.new.seat c.make_leaf.new.build.made.items m job aim
-          (record { key = job.key; number = c.in-Some.number; position = c.args.position; at = (get_or job.way.now (job.span.len - 1) no_step).at }) t planned
-          (λ s there. ap (λ (z : PathNode). z.at) (sym (get_or_from_slice_get job.way.now (job.span.len - 1) s no_step there)))
+          (record { key = job.key; number = c.in-Some.number; position = c.args.position; slot = (get_or job.way.now (job.span.len - 1) no_step).slot }) t planned
+          (λ s there. ap (λ (z : PathNode). z.slot) (sym (get_or_from_slice_get job.way.now (job.span.len - 1) s no_step there)))
           c.in-Some.ensures.goes.stays c.in-Some.ensures.made;
     }
 

@@ -3,7 +3,7 @@ use Rattle.rowex_writing.specs.Walks.{nodes_among}
 use Rattle.rowex_writing.specs.Spare.{by_kept}
 use Rattle.rowex_writing.proofs.Spare.{low_spares}
 use Rattle.std.proofs.Common.{[], ◌∷◌, Some, refl, sym, ap, subst, arith, length, ◌≡◌, ◌∙◌, None}
-use Rattle.versions.specs.declared.Rec.TheVariants.{Leaf as a_leaf}
+use Rattle.record_words.specs.declared.records.Rec.TheVariants.{Leaf as a_leaf}
 use Rattle.version_laws.specs.Writer.{removed_change}
 use Rattle.rowex_writing.specs.Changes.{IsTakeChange, MayPublishOnceReady}
 use Rattle.std.proofs.lemmas.Result.{IfErr-weaker}

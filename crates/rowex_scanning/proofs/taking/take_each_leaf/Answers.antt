@@ -14,14 +14,14 @@ use Rattle.rowex_scanning.specs.Scanning.{asked_range, request_of}
 use Rattle.rowex_scanning.proofs.Parts.{walk_part}
 use Rattle.rowex_scanning.proofs.Passing.{ahead_later, leaf_at, leaf_reached, passed_more, passed_none}
 use Rattle.rowex_scanning.proofs.Walking.{IsAtEntry, walk_fits, walk_full, walk_past, walk_places, walk_short}
-use Rattle.rowex_scanning.proofs.scanning.take_each_leaf.Given as given
-use Rattle.rowex_scanning.proofs.scanning.take_each_leaf.Goals as goal
-use Rattle.rowex_scanning.proofs.scanning.take_each_leaf.Goals.{After-take_leaf}
+use Rattle.rowex_scanning.proofs.taking.take_each_leaf.Given as given
+use Rattle.rowex_scanning.proofs.taking.take_each_leaf.Goals as goal
+use Rattle.rowex_scanning.proofs.taking.take_each_leaf.Goals.{After-take_leaf}
 
 -- The walk is at the leaf that was read.
 leaf : (g : given.Over) (c : After-take_leaf g) (top : PathNode) (frames : List PathNode) → AreNext c.args.seat.now.known (request_of c.args.scan.now.range.now) top frames (g.S.Tallies.tally c.args.sink.now) c.args.leaves.now →
     IsAtEntry c.args.scan.now.range.now.direction c.loop-index.seat.known (since c.args.seat.now.known) (asked_range c.args.scan.now.range.now)
-    (record top { at = place_ahead c.args.scan.now.range.now.direction top.at c.loop-index.index })
+    (record top { slot = place_ahead c.args.scan.now.range.now.direction top.slot c.loop-index.index })
     frames (g.S.Tallies.tally c.loop-index.sink) (Leaf (get_or c.args.leaves.now c.loop-index.index 0))
 leaf g c top frames next =
     let (ahead, p) = c.loop-index.invariant.passed top frames next in leaf_at (walk_fits next.bound.0) (let come = next.come in omega (arith, come, c.loop-index-test.true)) p (ahead c.loop-index.index c.loop-index-test.true)
@@ -40,7 +40,7 @@ same g c = same_since (loads g c).2
 -- the leaves are of the table
 pub touch_leaves-requires-clause-records : goal.touch_leaves-requires-clause-records
 touch_leaves-requires-clause-records g c = λ i low.
-    let (top, frames, next) = c.requires.next in let come = next.come in let n = get_or c.args.leaves.now i 0 in let place = place_ahead c.args.scan.now.range.now.direction top.at i in
+    let (top, frames, next) = c.requires.next in let come = next.come in let n = get_or c.args.leaves.now i 0 in let place = place_ahead c.args.scan.now.range.now.direction top.slot i in
     led_in_table c.args.scan.now.table.now.layout c.args.seat.now.known (since c.args.seat.now.known) (Leaf n) c.requires.reader.1
     (placed_led top.number place (Leaf n) (walk_places next.bound.0 i (omega (arith, come, low))).0.0 (next.ahead i low))
 

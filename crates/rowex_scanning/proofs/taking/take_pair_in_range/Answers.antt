@@ -3,7 +3,7 @@ use Rattle.std.proofs.Common.{refl, sym, ◌∙◌}
 use Rattle.std.proofs.lemmas.Result.{err_from_is_err_and}
 use Rattle.rowex_scanning.specs.Scanning.{asked_range}
 use Rattle.rowex_scanning.proofs.Directed.{in_range}
-use Rattle.rowex_scanning.proofs.scanning.take_pair_in_range.Goals as goal
+use Rattle.rowex_scanning.proofs.taking.take_pair_in_range.Goals as goal
 
 pub returns-then-is_past_range-clause-taken : goal.returns-then-is_past_range-clause-taken
 returns-then-is_past_range-clause-taken g c = (c.is_past_range.ensures.past c.if-is_past_range.true, (refl, λ taken said. said))

@@ -6,7 +6,7 @@ use Rattle.rowex_reading.specs.Reads.{IsReader, Reads}
 use Rattle.rowex_reading.specs.Seen.{since}
 use Rattle.rowex_scanning.specs.Ahead.{AreAhead, AreNext, HavePassed}
 use Rattle.rowex_scanning.specs.Scanning.{request_of}
-use Rattle.rowex_scanning.proofs.scanning.take_each_leaf.Given as goal
+use Rattle.rowex_scanning.proofs.taking.take_each_leaf.Given as goal
 
 abbrev pub invariant-loop-index : goal.invariant-loop-index
 invariant-loop-index g l = record {

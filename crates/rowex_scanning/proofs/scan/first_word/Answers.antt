@@ -1,7 +1,7 @@
 -- The eight bytes are those of the first word.
 use Rattle.std.proofs.Common.{◌∙◌, sym, zero-add, arith, ap, get_or, get_or-take}
 use Rattle.record_words.proofs.Bytes.{key_word-eight}
-use Rattle.rowex_scanning.proofs.scanning.first_word.Goals as goal
+use Rattle.rowex_scanning.proofs.scan.first_word.Goals as goal
 
 pub returns : goal.returns
 returns c =

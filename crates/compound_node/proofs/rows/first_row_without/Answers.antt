@@ -1,6 +1,6 @@
 -- The lowest bit is that of the first lane that lacks the bit.
 use Rattle.compound_node.proofs.Lowering.{front_end, front_having, front_range, lacking-lt}
-use Rattle.compound_node.proofs.rows.end_of_front.Goals as goal
+use Rattle.compound_node.proofs.rows.first_row_without.Goals as goal
 
 pub overflow_cast-lacking : goal.overflow_cast-lacking
 overflow_cast-lacking c = record { fits = lacking-lt c.args.rows c.fits-rows.0 c.args.first c.args.bit }

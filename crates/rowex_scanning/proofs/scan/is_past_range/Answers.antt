@@ -3,7 +3,7 @@ use Rattle.std.proofs.Common.{inr, ◌<◌, arith}
 use Rattle.record_words.specs.Leaf.{key_word}
 use Rattle.rowex_scanning.proofs.Ordering.{small_byte, word_less}
 use Rattle.rowex_scanning.proofs.Walking.{less_before}
-use Rattle.rowex_scanning.proofs.scanning.is_past_range.Goals as goal
+use Rattle.rowex_scanning.proofs.scan.is_past_range.Goals as goal
 
 pub returns-then-first_word-key_word_at-clause-inside : goal.returns-then-first_word-key_word_at-clause-inside
 returns-then-first_word-key_word_at-clause-inside c = λ is.
