@@ -8,6 +8,8 @@ mod kinds;
 #[cfg(test)]
 mod layouts;
 #[cfg(test)]
+mod loads;
+#[cfg(test)]
 mod maps;
 #[cfg(test)]
 mod merges;
