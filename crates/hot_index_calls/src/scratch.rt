@@ -39,8 +39,9 @@ impl Scratch {
         ensures made { self.new.build.made.items ≡ self.old.build.made.items }
         ensures gone { self.new.build.gone.items ≡ self.old.build.gone.items }
     {
+        let build = &mut self.build;
         for rec in self.limbo.given.as_slice() {
-            keep_spare(&mut self.build, layout, *rec);
+            keep_spare(build, layout, *rec);
         }
     }
 
@@ -83,7 +84,7 @@ fn first_leaf_of_class(layout: Layout, number: u32) -> u32 {
 /// Empty scratch lists for pass `number` of a table with this layout; an error if memory is refused. The pass's claims begin at a part of
 /// the records of its own, so that passes begin apart.
 pub fn new_scratch(alloc: Global, layout: Layout, number: u16) -> Result<Box<Scratch>, AllocError>
-    ensures { IfOk result (λ scratch. (scratch.way.items ≡ []) × (scratch.build.made.items ≡ []) × (scratch.build.gone.items ≡ [])) }
+    ensures { IfOk result (λ scratch. (scratch.value.way.items ≡ []) × (scratch.value.build.made.items ≡ []) × (scratch.value.build.gone.items ≡ [])) }
 {
     let part = |from: u32, upto: u32| {
         Hint::begin_at(first_number_to_claim(number, layout.passes, upto.saturating_sub(from)))

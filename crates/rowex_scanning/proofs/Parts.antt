@@ -1,5 +1,5 @@
 -- A scan for which memory was refused, as one that was cut at the number of its pairs.
-use Rattle.std.proofs.Common.{◌≡◌, ◌<◌, ◌≤◌, ◌∷◌, refl, sym, ◌∙◌, subst, arith, true, ℕ}
+use Rattle.std.proofs.Common.{◌≡◌, ◌<◌, ◌≤◌, ◌∷◌, refl, sym, subst, arith, true, ℕ}
 use Rattle.compound_node.specs.declared.entries.Entry.TheVariants.{Leaf}
 use Rattle.insert_cases.specs.declared.choice.PathNode.{PathNode}
 use Rattle.std.specs.Prelude.{List}

@@ -1,5 +1,5 @@
 -- Leaves that come together in a node: those before one whose key is not past the range belong to the range.
-use Rattle.std.proofs.Common.{◌≡◌, ◌≢◌, ◌⊎◌, inl, inr, ⊎_elim, ℕ, zero, suc, ◌+◌, ◌-◌, ◌<◌, ◌≤◌, List, length, refl, sym, ◌∙◌, subst, arith, Bool, true, false, Option, Some, get_or}
+use Rattle.std.proofs.Common.{◌≡◌, ◌≢◌, inl, inr, ⊎_elim, ℕ, zero, suc, ◌+◌, ◌<◌, ◌≤◌, List, length, refl, sym, subst, arith, true, false, get_or}
 use Rattle.std.proofs.lemmas.Bool.{cases_lt}
 use Rattle.compound_node.specs.declared.entries.Entry.TheVariants.{Leaf}
 use Rattle.insert_cases.specs.declared.choice.PathNode.{PathNode}
@@ -7,8 +7,6 @@ use Rattle.tries.specs.Keys.{Key, IsBefore}
 use Rattle.versions.specs.State.{IsSteady, Past, Stands}
 use Rattle.record_words.specs.declared.records.Rec.TheVariants.{Leaf as a_leaf}
 use Rattle.rowex_core.specs.declared.known.Known.{Known}
-use Rattle.rowex_core.specs.Cores.{Core, IsLawful}
-use Rattle.rowex_core.specs.Knowing.{IsPinnedSince, Recalls}
 use Rattle.rowex_table.specs.Made.{IsLater}
 use Rattle.version_laws.proofs.Scans.{before_trans, leaf_may_stand, leaf_of, placed_stands}
 use Rattle.version_laws.proofs.Starts.{beyond_grown, same_past}
@@ -20,8 +18,8 @@ use Rattle.packed_pairs.specs.declared.direction.Direction.TheVariants.{Upwards,
 use Rattle.rowex_reading.specs.Seen.{Sure, IsLedTo, seen, since}
 use Rattle.rowex_reading.proofs.Led.{placed_led}
 use Rattle.rowex_reading.proofs.Seeing.{later_reflexive, read_stable, recalls_before, seen_grown, seen_steady, since_later, sure_later}
-use Rattle.rowex_scanning.specs.Ahead.{AreAhead, AreBehindGap, AreNext, AreWithin, HavePassed, IsLeafNotPast, IsLeafPast}
-use Rattle.rowex_scanning.specs.Scanning.{HasTaken, IsBound, IsWalk, Request}
+use Rattle.rowex_scanning.specs.Ahead.{AreBehindGap, AreNext, AreWithin, HavePassed, IsLeafNotPast, IsLeafPast}
+use Rattle.rowex_scanning.specs.Scanning.{HasTaken, Request}
 use Rattle.rowex_scanning.specs.Tallies.{IsOneMore, Tally, tally_of_number}
 use Rattle.rowex_scanning.proofs.Directed.{in_range}
 use Rattle.rowex_scanning.proofs.Starting.{read_same}

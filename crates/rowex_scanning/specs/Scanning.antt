@@ -14,7 +14,7 @@ use Rattle.rowex_reading.specs.Possible.{IsPossible}
 use Rattle.rowex_reading.specs.Seen.{IsLedTo, Sure, since}
 use Rattle.version_laws.specs.Directions.{IsAnswer, IsPastKey, IsEarlier, IsNoLater, first_gap, first_key, gap_behind, last_key}
 use Rattle.packed_pairs.specs.declared.direction.Direction.{Direction}
-use Rattle.rowex_scanning.specs.Tallies.{AreTallied, IsKept, IsOneMore, IsTalliedScan, Tally, tally_of_pairs}
+use Rattle.rowex_scanning.specs.Tallies.{AreTallied, IsKept, IsOneMore, IsTalliedScan, Tally}
 use Rattle.rowex_scanning.specs.declared.scan.Range.{Range as Asked}
 use Rattle.rowex_scanning.specs.declared.scan.Verdict.{Verdict}
 use Rattle.rowex_scanning.specs.declared.scan.Verdict.TheVariants.{Further, Past as IsPast, Full}

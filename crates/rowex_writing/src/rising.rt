@@ -172,21 +172,20 @@ fn is_whole_node(half: &Half) -> bool
     }
 }
 
-/// The one entry for `risen`, which takes the place of the locked node `number`. It is the entry itself, or that of a new node of two for a
-/// fork. `None` if no node record was free. Inline, since mostly it is the entry already.
+/// The one entry for `risen`, which takes the place of a locked node. It is the entry itself, or that of a new node of two for a fork.
+/// `None` if no node record was free. Inline, since mostly it is the entry already.
 #[inline(always)]
 fn make_one_entry<G: Gate>(
     table: &HotTable,
     seat: &mut TableSeat,
     gate: &mut G,
     build: &mut Build,
-    number: u32,
     risen: Risen,
 ) -> Option<Entry>
-    requires risen { IsRisenAt table.now seat.old build.old.made.items number risen }
+    requires risen { (number : ℕ) × IsRisenAt table.now seat.old build.old.made.items number risen }
     requires room { length build.old.made.items < MOST_MADE }
     ensures makes { Makes 1 node_steps table.now G.becomes ((seat.old, gate.old), build.old) ((seat.new, gate.new), build.new) result }
-    ensures made { (b : IsRisenAt table.now seat.old build.old.made.items number risen) → MatchOption result
+    ensures made { (number : ℕ) (b : IsRisenAt table.now seat.old build.old.made.items number risen) → MatchOption result
         (HasNotMade table.now seat.new build.new.made.items)
         (λ e. IsRaising table.now seat.new build.new.made.items b.gone b.newcomer (entry number) (At e)) }
     ensures low { (height : ℕ) → IsLowRisen height risen → IfSome result (IsAtMostOneHigher height risen) }
@@ -269,7 +268,7 @@ fn raise_to_end<G: Gate>(
             risen,
         };
     }
-    make_one_entry(table, seat, gate, build, way[rise.level].number, rise.risen)
+    make_one_entry(table, seat, gate, build, rise.risen)
 }
 
 /// The one entry that takes the place of the topmost node of `job`'s span, when the lowest gets the leaf `new`. The flag tells whether

@@ -4,6 +4,6 @@ use Rattle.hot_index_calls.proofs.scratch.Scratch.reuse_given_records.Given as g
 
 abbrev pub invariant-loop-rec : goal.invariant-loop-rec
 invariant-loop-rec l = record {
-  made : l.self.build.made.items ≡ l.fn.self.build.made.items;
-  gone : l.self.build.gone.items ≡ l.fn.self.build.gone.items;
+  made : l.build.made.items ≡ l.fn.self.build.made.items;
+  gone : l.build.gone.items ≡ l.fn.self.build.gone.items;
 }
