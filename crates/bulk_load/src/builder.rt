@@ -328,6 +328,24 @@ impl Builder {
         if !closes {
             return count;
         }
+        self.write_piece(behind, count);
+        1
+    }
+
+    /// Writes a node of the `count` slots before the last `behind` ones, and puts its entry in their place. Never inline: the memory of its
+    /// locals is cleared at each call.
+    #[inline(never)]
+    fn write_piece(&mut self, behind: usize, count: usize)
+        requires fits { behind + count ≤ vec_len self.old.slots }
+        requires room { (2 ≤ count) × (count ≤ 32) × (self.old.nodes < self.old.layout.nodes) }
+        requires piece { (ls : List LeftPiece) × (z : Tree) × (right : Maybe LeftPiece) × IsPiece self.old ls z right count behind }
+        ensures closed { (ls : List LeftPiece) (z : Tree) (right : Maybe LeftPiece) → IsPiece self.old ls z right count behind →
+            (y : Tree) × StandsFor y z 1 × IsTreeOf self.new (whole_of ls (with_right y right)) }
+        ensures parts { self.new.parts ≡ self.old.parts }
+        ensures nodes { self.new.nodes ≡ self.old.nodes + 1 }
+        ensures slots { vec_len self.new.slots + count ≡ vec_len self.old.slots + 1 }
+        ensures kept { KeepsLeaves self.old self.new }
+    {
         let start = self.slots.len() - behind - count;
         let node = build_node(&self.slots[start..start + count]);
         let number = self.nodes;
@@ -340,7 +358,6 @@ impl Builder {
             count,
             Entry::Node { number, height },
         );
-        1
     }
 }
 

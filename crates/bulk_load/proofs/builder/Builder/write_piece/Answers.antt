@@ -15,8 +15,8 @@ use Rattle.bulk_load.proofs.Closing.{fits, taken_part, slots_given, each_given, 
 use Rattle.bulk_load.proofs.Putting.{state_stays}
 use Rattle.record_words.specs.declared.records.Rec.TheVariants.{Leaf as a_leaf}
 use Rattle.versions.proofs.Heaps.{node_leaf}
-use Rattle.bulk_load.proofs.builder.Builder.close_piece.Goals as goal
-use Rattle.bulk_load.proofs.builder.Builder.close_piece.Goals.{After-deref}
+use Rattle.bulk_load.proofs.builder.Builder.write_piece.Goals as goal
+use Rattle.bulk_load.proofs.builder.Builder.write_piece.Goals.{After-deref}
 
 -- where the piece begins
 starts : (c : After-deref) (ls : List LeftPiece) (z : Tree) (right : Option LeftPiece) → IsPiece c.args.self.now ls z right c.args.count c.args.behind →
@@ -45,7 +45,7 @@ returns-clause-closed c = λ ls z right p.
     let built : IsBuiltFrom v (subtrie z) = c.build_node-node.ensures (position_of ls) (subtrie z) (slots_given l ls z right c.args.count c.args.behind p _
     (taken_part _ _ c.args.count (length (front_slots ls)) _ _ (omega arith) at c.deref.ensures.value)) in
     let put : IsPut l.layout l.words.items new (a_node l.nodes) = subst (λ old. IsPut l.layout old new (a_node l.nodes)) c.as_mut_slice.ensures.value c.put_node.ensures.put in
-    let few = c.requires.room (search rules) in
+    let few = c.requires.room in
     let d = slot 0 (Leaf 0) in let ss = c.merge_slots.new.slots.items in
     let long : length ss + c.args.count ≡ length l.slots.items + 1 = omega (arith, c.merge_slots.ensures.len, c.merge_slots.new.slots.ok.0, l.slots.ok.0) in
     let merges = merged l ls z right c.args.count c.args.behind p e d ss (let two = few.0 in omega (arith, two)) long
@@ -69,7 +69,7 @@ pub returns-clause-kept : goal.returns-clause-kept
 returns-clause-kept c =
     let l = c.args.self.now in let new = c.put_node.new.words in
     let put : IsPut l.layout l.words.items new (a_node l.nodes) = subst (λ old. IsPut l.layout old new (a_node l.nodes)) c.as_mut_slice.ensures.value c.put_node.ensures.put in
-    let few = c.requires.room (search rules) in record {
+    let few = c.requires.room in record {
       layout = refl;
       last = refl;
       cursors = refl;
