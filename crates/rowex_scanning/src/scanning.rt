@@ -15,7 +15,7 @@ ghost use Rattle.rowex_scanning.specs.Scanning.{HasScanned, HasScannedPart, HasT
 ghost use Rattle.rowex_scanning.specs.Scanning.{IsEntered, IsWalkAlong, asked_range, first_key_of, request_of};
 ghost use Rattle.rowex_scanning.specs.Tallies.{IsNone, tally_of_values};
 
-use crate::ahead::{MOST_AHEAD, load_entries_ahead};
+use crate::ahead::load_entries_ahead;
 use crate::direction::{
     entries_to_come, first_gap, gap_after_entries, gap_behind_slot, is_earlier_key, is_key_before,
     slot_ahead,
@@ -222,15 +222,14 @@ fn walk_slots<G: Gate, S: Sink>(
     ensures refused { OnErr result S.may_refuse }
 {
     let direction = scan.range.direction;
-    let mut leaves = [0; MOST_AHEAD as usize];
     let places = &mut [0; MAX_BYTES];
     let Some(mut top) = way.pop() else {
         return Ok(false);
     };
     loop {
         if entries_to_come(direction, &top) > 0 {
-            let ahead = load_entries_ahead(scan, seat, gate, &top, sink, &mut leaves);
-            let next = &leaves[..ahead.count as usize];
+            let ahead = load_entries_ahead(scan, seat, gate, &top, sink);
+            let next = &ahead.leaves[..ahead.count as usize];
             match sink.take_leaves(scan, seat, gate, next, places)? {
                 Verdict::Further => (),
                 Verdict::Past => return Ok(false),
