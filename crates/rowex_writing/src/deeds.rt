@@ -60,7 +60,7 @@ pub(crate) fn put_new_leaf<G: Gate>(
     ensures kind { result ≢ Err Full.Nodes }
     ensures spares { HasSpare table.now.layout seat.old → IfOk result (WillSpareOne table.now.layout seat.new build.new.made.items job.now) }
 {
-    let Some(number) = make_leaf(table, seat, gate, build, job.key, job.value) else {
+    let Some(number) = make_leaf(table, seat, gate, build, job) else {
         return Err(Full::Leaves);
     };
     Ok(Raised {
@@ -88,7 +88,7 @@ pub(crate) fn push_leaf_down<G: Gate>(
     let Found::Leaf { number: old, .. } = job.found else {
         unreachable!()
     };
-    let Some(leaf) = make_leaf(table, seat, gate, build, job.key, job.value) else {
+    let Some(leaf) = make_leaf(table, seat, gate, build, job) else {
         return Err(Full::Leaves);
     };
     build.nodes.next = build.nodes.stretch.start();
