@@ -18,8 +18,8 @@ use Rattle.tries.proofs.Contents.{trie_if_local}
 use Rattle.tries.proofs.Fitting.{children_are}
 use Rattle.tries.proofs.Ranges.{has_key}
 use Rattle.tries.proofs.Tries.{has_first}
-use Rattle.versions.specs.declared.Rec.{Rec}
-use Rattle.versions.specs.declared.Rec.TheVariants.{Node as a_node}
+use Rattle.record_words.specs.declared.records.Rec.{Rec}
+use Rattle.record_words.specs.declared.records.Rec.TheVariants.{Node as a_node}
 use Rattle.versions.specs.Heap.{Heap, IsShown}
 use Rattle.versions.proofs.Heaps.{node_number}
 use Rattle.versions.specs.State.{Links}
@@ -33,7 +33,7 @@ use Rattle.bulk_load.specs.declared.builder.Builder.{Builder}
 use Rattle.bulk_load.specs.Loading.{IsPiece, size_right}
 use Rattle.bulk_load.specs.Tables.{IsPut, HoldsTree}
 use Rattle.rowex_core.specs.Cores.{fields_in}
-use Rattle.bulk_load.proofs.Climbing.{slots_split as piece_split}
+use Rattle.bulk_load.proofs.Rows.{slots_split as piece_split}
 use Rattle.bulk_load.proofs.Fields.{node_field, node_fields_long}
 use Rattle.bulk_load.proofs.Putting.{IsAddedTo, added, still_shown}
 use Rattle.bulk_load.proofs.Stacking.{slots_joined, length_slots, built_inner, built_joined, shown_joined, links_inner, links_kept, links_added, local_inner, IsAboveHead, above_head, local_joined}

@@ -8,7 +8,7 @@ use Rattle.record_words.specs.declared.state.Tag.TheVariants.{Free}
 use Rattle.record_words.specs.declared.TheConstants.{SHORT_WORDS, MEDIUM_WORDS, LARGE_WORDS, WIDE_WORDS, LEAF_WORDS}
 use Rattle.record_words.specs.Layout.{leaf_size}
 use Rattle.record_words.specs.State.{state_word}
-use Rattle.versions.specs.declared.Rec.TheVariants.{Leaf as a_leaf}
+use Rattle.record_words.specs.declared.records.Rec.TheVariants.{Leaf as a_leaf}
 use Rattle.versions.proofs.Heaps.{leaf_number}
 use Rattle.bulk_load.specs.Tables.{AreCursors, IsCursorOf, IsPut, leaf_class, state_in}
 use Rattle.bulk_load.proofs.Putting.{state_stays}

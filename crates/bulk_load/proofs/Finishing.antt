@@ -30,8 +30,8 @@ use Rattle.record_words.proofs.Locations.{size_fits}
 use Rattle.tries.specs.Content.{Item, items, IsLocal}
 use Rattle.tries.specs.Tree.{Tree, leaf, node, fork, subtrie, IsTrie, IsBuilt}
 use Rattle.tries.proofs.Fitting.{lower_positive}
-use Rattle.versions.specs.declared.Rec.{Rec}
-use Rattle.versions.specs.declared.Rec.TheVariants.{Node as a_node, Leaf as a_leaf}
+use Rattle.record_words.specs.declared.records.Rec.{Rec}
+use Rattle.record_words.specs.declared.records.Rec.TheVariants.{Node as a_node, Leaf as a_leaf}
 use Rattle.versions.specs.Core.{Free, InTree}
 use Rattle.versions.specs.Heap.{Heap, IsShown}
 use Rattle.versions.specs.State.{IsLinked, IsTop}

@@ -16,7 +16,7 @@ use Rattle.std.proofs.lemmas.Bool.{cases_order}
 use Rattle.bulk_load.specs.Loading.{CanJoin, HasParts, IsAlone, IsEmpty, IsJoined, IsLoading, CanPart, HasNodesFor, IsReady, IsPiece, IsStackOf, IsTreeOf, StandsFor, greatest_key}
 use Rattle.bulk_load.specs.Stacks.{LeftPiece, left_piece, whole_of, counts, position_of, front_slots, with_right}
 use Rattle.bulk_load.proofs.Stacking.{fronts, items_joined, last_joined, local_inner, slots_joined}
-use Rattle.bulk_load.proofs.Climbing.{head_entry, slots_split as piece_split}
+use Rattle.bulk_load.proofs.Rows.{head_entry, slots_split as piece_split}
 use Rattle.bulk_load.proofs.Closing.{fits}
 use Rattle.bulk_load.proofs.Pushing.{has_last}
 use Rattle.tries.proofs.Contents.{trie_if_local}

@@ -1,5 +1,6 @@
 -- Lemmas of the crate.
-mod Climbing
+mod Rows
+mod Building
 mod Fields
 mod Stacking
 mod Putting

@@ -11,7 +11,7 @@ use Rattle.record_words.specs.State.{state_word}
 use Rattle.tries.specs.Content.{Item, items}
 use Rattle.tries.specs.Keys.{Key}
 use Rattle.tries.specs.Tree.{Tree, leaf, node, fork, subtrie, IsBuilt}
-use Rattle.versions.specs.declared.Rec.TheVariants.{Leaf as a_leaf}
+use Rattle.record_words.specs.declared.records.Rec.TheVariants.{Leaf as a_leaf}
 use Rattle.versions.specs.Heap.{Heap, IsShown}
 use Rattle.versions.specs.State.{Links}
 use Rattle.versions.specs.Told.{items_of}

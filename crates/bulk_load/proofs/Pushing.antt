@@ -10,8 +10,8 @@ use Rattle.tries.specs.Content.{item, items, first, IsAbove, IsLocal}
 use Rattle.tries.specs.Tree.{Tree, leaf, node, fork, subtrie, Has, IsTrie, IsBuilt}
 use Rattle.tries.proofs.Contents.{trie_if_local}
 use Rattle.tries.proofs.Tries.{has_first}
-use Rattle.versions.specs.declared.Rec.{Rec}
-use Rattle.versions.specs.declared.Rec.TheVariants.{Node as a_node, Leaf as a_leaf}
+use Rattle.record_words.specs.declared.records.Rec.{Rec}
+use Rattle.record_words.specs.declared.records.Rec.TheVariants.{Node as a_node, Leaf as a_leaf}
 use Rattle.versions.specs.Heap.{Heap}
 use Rattle.versions.specs.State.{Links}
 use Rattle.versions.proofs.Heaps.{node_leaf}

@@ -8,8 +8,8 @@ use Rattle.record_words.specs.Layout.{node_start, leaf_start, leaf_size}
 use Rattle.record_words.proofs.Locations.{leaf_before, size_fits}
 use Rattle.tries.specs.Tree.{Tree, leaf, node, fork}
 use Rattle.tries.proofs.Reading.{some_injective}
-use Rattle.versions.specs.declared.Rec.{Rec}
-use Rattle.versions.specs.declared.Rec.TheVariants.{Node as a_node, Leaf as a_leaf}
+use Rattle.record_words.specs.declared.records.Rec.{Rec}
+use Rattle.record_words.specs.declared.records.Rec.TheVariants.{Node as a_node, Leaf as a_leaf}
 use Rattle.versions.specs.Heap.{Heap, IsShown}
 use Rattle.versions.specs.State.{Links, IsLinked}
 use Rattle.rowex_core.specs.Cores.{heap_of, size_of, HasRecord, FitsIn}

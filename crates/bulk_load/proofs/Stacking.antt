@@ -8,7 +8,7 @@ use Rattle.tries.specs.Content.{Item, items, first, IsAbove, IsLocal}
 use Rattle.tries.specs.Tree.{Tree, fork, subtrie, IsBuilt}
 use Rattle.versions.specs.Heap.{Heap, IsShown}
 use Rattle.versions.specs.State.{Links}
-use Rattle.versions.specs.declared.Rec.{Rec}
+use Rattle.record_words.specs.declared.records.Rec.{Rec}
 use Rattle.bulk_load.specs.Slots.{slots_of}
 use Rattle.bulk_load.specs.Stacks.{LeftPiece, whole_of, position_of, front_slots}
 use Rattle.bulk_load.specs.Loading.{greatest_key}

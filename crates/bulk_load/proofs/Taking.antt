@@ -6,7 +6,7 @@ use Rattle.record_words.specs.Layout.{word_count}
 use Rattle.tries.specs.Content.{Item}
 use Rattle.tries.specs.Keys.{Key, IsParted}
 use Rattle.tries.specs.Tree.{Tree}
-use Rattle.versions.specs.declared.Rec.TheVariants.{Leaf as a_leaf}
+use Rattle.record_words.specs.declared.records.Rec.TheVariants.{Leaf as a_leaf}
 use Rattle.bulk_load.specs.declared.builder.Builder.{Builder}
 use Rattle.bulk_load.specs.Loading.{CanJoin, CanPart, EndsInLeaf, HasCursors, HasNodesFor, HasSameFields, IsEmpty, IsLoading, IsNextLeaf, IsStackOf, IsTreeOf, KeepsLeaves, KeepsNodes, MayTakeNext, items_in}
 use Rattle.bulk_load.specs.Stacks.{whole_of}

@@ -10,7 +10,7 @@ use Rattle.record_words.specs.State.{state_word}
 use Rattle.tries.specs.Keys.{Key, IsParted, bit}
 use Rattle.tries.specs.Content.{Item, first, items, IsAbove, IsLocal}
 use Rattle.tries.specs.Tree.{Tree, leaf, node, fork, subtrie, IsBuilt}
-use Rattle.versions.specs.declared.Rec.TheVariants.{Node as a_node, Leaf as a_leaf}
+use Rattle.record_words.specs.declared.records.Rec.TheVariants.{Node as a_node, Leaf as a_leaf}
 use Rattle.versions.specs.Heap.{Heap}
 use Rattle.versions.specs.State.{Links}
 use Rattle.versions.specs.Told.{items_of}

@@ -1,8 +1,9 @@
 -- Entries with the forks between them.
-use Rattle.std.specs.Prelude.{ℕ, ◌≡◌, ◌<◌, List, [], ◌∷◌, ◌++◌}
+use Rattle.std.specs.Prelude.{ℕ, ◌≡◌, ◌<◌, ◌+◌, ◌-◌, ◌*◌, ◌/◌, ◌^◌, List, [], ◌∷◌, ◌++◌, drop, map}
 use Rattle.compound_node.specs.Nodes.{IsEntry}
 use Rattle.compound_node.specs.declared.entries.Entry.{Entry}
 use Rattle.node_tries.specs.Piece.{Piece, Place, Fork, RisesFrom}
+use Rattle.node_tries.specs.Positions.{front_below}
 use Rattle.bulk_load.specs.declared.slots.Slot.{Slot}
 
 abbrev pub slot : ℕ → Entry → Slot
@@ -21,3 +22,20 @@ IsSlot s = IsEntry s.entry × (s.fork < 65535)
 pub record AreSlotsOf (slots : List Slot) (p : ℕ) (x : Piece Entry) : Type 0 where
   pub are : slots ≡ slots_of p x
   pub rises : RisesFrom 0 x
+
+abbrev pub entries_in_slots : List Slot → List Entry
+entries_in_slots slots = map (λ s. s.entry) slots
+
+-- the positions of the forks between the slots
+abbrev pub forks_between : List Slot → List ℕ
+forks_between slots = drop 1 (map (λ s. s.fork) slots)
+
+-- The row of the entry behind a fork, from the row of the entry before: the bits of the columns before the fork's are the same, that of
+-- the fork's is 1, and those behind are 0
+abbrev pub next_row : List ℕ → ℕ → ℕ → ℕ
+next_row columns row p = let j = front_below p columns in (row / 2 ^ (32 - j) * 2 + 1) * 2 ^ (31 - j)
+
+-- the rows of the entries behind the forks, one after another
+abbrev pub rows_behind : List ℕ → ℕ → List ℕ → List ℕ
+rows_behind columns row [] = []
+rows_behind columns row (p ∷ ps) = next_row columns row p ∷ rows_behind columns (next_row columns row p) ps

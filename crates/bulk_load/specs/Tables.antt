@@ -6,8 +6,8 @@ use Rattle.record_words.specs.declared.state.Tag.TheVariants.{Free, Live}
 use Rattle.record_words.specs.Layout.{node_start, leaf_start, word_count}
 use Rattle.record_words.specs.State.{state_word}
 use Rattle.tries.specs.Tree.{Tree}
-use Rattle.versions.specs.declared.Rec.{Rec}
-use Rattle.versions.specs.declared.Rec.TheVariants.{Node as a_node, Leaf as a_leaf}
+use Rattle.record_words.specs.declared.records.Rec.{Rec}
+use Rattle.record_words.specs.declared.records.Rec.TheVariants.{Node as a_node, Leaf as a_leaf}
 use Rattle.versions.specs.State.{IsLinked}
 use Rattle.versions.specs.Heap.{IsShown}
 use Rattle.rowex_core.specs.Cores.{heap_of, fields_in, size_of, HasRecord, FitsIn}

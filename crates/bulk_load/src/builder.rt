@@ -19,7 +19,7 @@ ghost use Rattle.record_words.specs.Entry.{HasEntryWord};
 ghost use Rattle.tries.specs.Content.{Item, item, items};
 ghost use Rattle.tries.specs.Keys.{IsParted};
 ghost use Rattle.tries.specs.Tree.{Tree, subtrie};
-ghost use Rattle.versions.specs.declared.Rec.TheVariants.{Leaf as a_leaf};
+ghost use Rattle.record_words.specs.declared.records.Rec.TheVariants.{Leaf as a_leaf};
 
 use crate::records::{put_leaf, put_node, put_root};
 use crate::slots::{Slot, build_node, merge_slots};
@@ -106,7 +106,8 @@ impl Builder {
         })
     }
 
-    /// Where the leaf of `key` belongs, if the key is above the last one, and there are records for it.
+    /// Where the leaf of `key` belongs. `NotRising` if `key` isn't above the last one. Else `LeavesFull` if no leaf record with room for it
+    /// is free, and then `NodesFull` if too few node records may be left.
     pub(crate) fn find_next_leaf(&self, key: &Key) -> Result<NextLeaf, LoadFault>
         requires { (xs : List Item) × IsLoading self.now xs }
         ensures next_leaf { IfOk result (λ next_leaf. IsNextLeaf self.now key.now next_leaf.fork_position next_leaf.record_number) }
@@ -212,7 +213,7 @@ impl Builder {
     {
         for class in 0..LEAF_CLASSES {
             let number = self.leaves[class];
-            if self.is_free(class, number) && self.layout.leaf_size(number) >= words {
+            if self.layout.leaf_size(number) >= words && self.is_free(class, number) {
                 return Some(number);
             }
         }
@@ -230,7 +231,8 @@ impl Builder {
             && self.words[self.layout.leaf(number)] == pack_state(Tag::Free)
     }
 
-    /// Whether node records are left for one leaf more: for closing all pieces then, two for each, or one for each slot.
+    /// Whether enough node records are left for one leaf more: two for each piece that there is then, or one for each slot. Closing all
+    /// pieces takes no more.
     fn has_nodes(&self) -> bool
         ensures { IsTrue result ↔ HasNodesFor self.now 1 }
     {
@@ -278,7 +280,7 @@ impl Builder {
         }
     }
 
-    /// Joins all pieces.
+    /// Joins all pieces, of which there is one at least, into one.
     fn join_all(&mut self)
         requires { (xs : List Item) × IsStackOf self.old xs }
         ensures alone { (xs : List Item) → IsStackOf self.old xs → (t : Tree) × IsAlone self.new t xs }
@@ -326,6 +328,24 @@ impl Builder {
         if !closes {
             return count;
         }
+        self.write_piece(behind, count);
+        1
+    }
+
+    /// Writes a node of the `count` slots before the last `behind` ones, and puts its entry in their place. Never inline: the memory of its
+    /// locals is cleared at each call.
+    #[inline(never)]
+    fn write_piece(&mut self, behind: usize, count: usize)
+        requires fits { behind + count ≤ vec_len self.old.slots }
+        requires room { (2 ≤ count) × (count ≤ 32) × (self.old.nodes < self.old.layout.nodes) }
+        requires piece { (ls : List LeftPiece) × (z : Tree) × (right : Maybe LeftPiece) × IsPiece self.old ls z right count behind }
+        ensures closed { (ls : List LeftPiece) (z : Tree) (right : Maybe LeftPiece) → IsPiece self.old ls z right count behind →
+            (y : Tree) × StandsFor y z 1 × IsTreeOf self.new (whole_of ls (with_right y right)) }
+        ensures parts { self.new.parts ≡ self.old.parts }
+        ensures nodes { self.new.nodes ≡ self.old.nodes + 1 }
+        ensures slots { vec_len self.new.slots + count ≡ vec_len self.old.slots + 1 }
+        ensures kept { KeepsLeaves self.old self.new }
+    {
         let start = self.slots.len() - behind - count;
         let node = build_node(&self.slots[start..start + count]);
         let number = self.nodes;
@@ -338,7 +358,6 @@ impl Builder {
             count,
             Entry::Node { number, height },
         );
-        1
     }
 }
 

@@ -28,7 +28,7 @@ impl Model for Loader {
 impl Loader {
     ghost use Rattle.std.specs.Prelude.{◌≡◌, ◌↔◌, ◌≤◌, ◌<◌, ℕ, Err, IfOk, OnErr, OnOk, length};
     ghost use Rattle.tries.specs.Content.{item};
-    ghost use Rattle.versions.specs.declared.Rec.TheVariants.{Node as a_node};
+    ghost use Rattle.record_words.specs.declared.records.Rec.TheVariants.{Node as a_node};
     ghost use Rattle.versions.specs.State.{IsLinked};
     ghost use Rattle.versions.specs.Told.{items_of};
     ghost use Rattle.rowex_core.specs.Events.{IsLoad, after, loaded_tree};

@@ -113,19 +113,19 @@ pub(crate) fn insert_entry_beside(
     requires in_range { last < array_vec_len entries.old }
     ensures { entries.new.items ≡ edited first (last + 1 - first) (forked_places bit entry) entries.old.items }
 {
-    let at = if bit { last + 1 } else { first };
-    entries.insert(at, entry);
+    let slot = if bit { last + 1 } else { first };
+    entries.insert(slot, entry);
 }
 
-/// The list of `entries` without that in slot `at`.
-pub(crate) fn list_entries_without(entries: &[Entry], at: usize) -> ArrayVec<Entry, 32>
+/// The list of `entries` without that in `slot`.
+pub(crate) fn list_entries_without(entries: &[Entry], slot: usize) -> ArrayVec<Entry, 32>
     requires room { length entries.now ≤ 32 }
-    requires in_range { at < length entries.now }
-    ensures { result.items ≡ remove entries.now at }
+    requires in_range { slot < length entries.now }
+    ensures { result.items ≡ remove entries.now slot }
 {
     let mut list = ArrayVec::new();
-    append_items(&mut list, &entries[..at]);
-    append_items(&mut list, &entries[at + 1..]);
+    append_items(&mut list, &entries[..slot]);
+    append_items(&mut list, &entries[slot + 1..]);
     list
 }
 

@@ -3,7 +3,7 @@
 ghost use Rattle.std.specs.List.{All};
 ghost use Rattle.std.specs.Prelude.{◌<◌, ◌≤◌, length};
 ghost use Rattle.compound_node.specs.Halves.{CutShows, HalfShows};
-ghost use Rattle.compound_node.specs.Nodes.{FitTogether, IsEntry};
+ghost use Rattle.compound_node.specs.Nodes.{FitTogether, IsEntry, piece};
 ghost use Rattle.compound_node.specs.declared.entries.Entry.TheVariants.{Leaf as LeafEntry};
 ghost use Rattle.partial_keys.specs.Columns.{IsColumns};
 ghost use Rattle.partial_keys.specs.Shown.{piece_of};
@@ -74,14 +74,43 @@ pub(crate) fn make_cut(columns: &Columns, rows: &[u32], entries: &[Entry]) -> Cu
     }
 }
 
-/// What is left of the node of `columns`, `rows` and `entries` without the entry in slot `at`. The last fork on the path to it goes too.
+/// What is left of the node of `columns`, `rows` and `entries` without the entry in `slot`. The last fork on the path to it goes too.
 /// The result is never `Same`.
-pub(crate) fn make_rest(columns: &Columns, rows: &[u32], entries: &[Entry], at: usize) -> Half
+pub(crate) fn make_rest(columns: &Columns, rows: &[u32], entries: &[Entry], slot: usize) -> Half
     requires fit { FitTogether columns.now rows.now entries.now }
-    requires in_range { at < length entries.now }
-    ensures { HalfShows result (without at (piece_of (LeafEntry 0) columns.now rows.now entries.now)) }
+    requires in_range { slot < length entries.now }
+    ensures { HalfShows result (without slot (piece_of (LeafEntry 0) columns.now rows.now entries.now)) }
 {
-    let rest_rows = without_row(rows, at);
-    let rest_entries = list_entries_without(entries, at);
+    let rest_rows = without_row(rows, slot);
+    let rest_entries = list_entries_without(entries, slot);
     make_half(columns, rest_rows, rest_entries)
+}
+
+impl Node {
+    /// The two sides of the node, cut at its root fork. Each is one entry, or a new node of several. A new node has only the columns that
+    /// it uses, and its height is one above the greatest of its entries'. Neither side is `Same`.
+    pub fn cut(&self) -> Cut
+        ensures { CutShows result (piece self.now) }
+    {
+        make_cut(
+            self.head.columns(),
+            self.head.rows(),
+            self.entries.as_slice(),
+        )
+    }
+
+    /// What is left without the entry in `slot`, and without the last fork on the path to it. That fork's other side stands in its stead.
+    /// `One` if one entry is left; else `Many`, a new node with only the columns that it uses, one higher than the highest of its entries.
+    /// Never `Same`.
+    pub fn without(&self, slot: u8) -> Half
+        requires { slot < length self.now.entries }
+        ensures { HalfShows result (without slot (piece self.now)) }
+    {
+        make_rest(
+            self.head.columns(),
+            self.head.rows(),
+            self.entries.as_slice(),
+            slot as usize,
+        )
+    }
 }

@@ -106,21 +106,21 @@ impl Head {
     }
 
     /// The first and the last affected slot, in each node that has this head. From the one to the other stand just the entries whose rows
-    /// agree with that of slot `found` in all columns below `position`.
-    pub fn affected(&self, found: u8, position: u16) -> (u8, u8)
-        requires { found < length self.now.rows }
+    /// agree with that of `slot` in all columns below `position`.
+    pub fn affected(&self, slot: u8, position: u16) -> (u8, u8)
+        requires { slot < length self.now.rows }
         ensures range { InEachNode self.now (λ node. (k : ℕ) → k < length node.entries →
-            AgreeBefore node position found k ↔ ((result.0 ≤ k) × (k ≤ result.1))) }
+            AgreeBefore node position slot k ↔ ((result.0 ≤ k) × (k ≤ result.1))) }
 
-        // In terms of the piece: the part below the forks before the position, on the way to entry `found`.
-        ensures from { InEachNode self.now (λ node. affected_first position found (piece node) ≡ result.0) }
-        ensures upto { InEachNode self.now (λ node. affected_count position found (piece node) + result.0 ≡ result.1 + 1) }
+        // In terms of the piece: the part below the forks before the position, on the way to the entry in `slot`.
+        ensures from { InEachNode self.now (λ node. affected_first position slot (piece node) ≡ result.0) }
+        ensures upto { InEachNode self.now (λ node. affected_count position slot (piece node) + result.0 ≡ result.1 + 1) }
     {
         let rows = self.rows();
         let columns = self.columns.count_columns_below(position) as usize;
         (
-            first_of_run(rows, columns, found as usize) as u8,
-            last_of_run(rows, columns, found as usize) as u8,
+            first_of_run(rows, columns, slot as usize) as u8,
+            last_of_run(rows, columns, slot as usize) as u8,
         )
     }
 
@@ -195,13 +195,13 @@ impl Head {
         &self.sparse
     }
 
-    /// The row of slot `at`; 4,294,967,295 if the slot is unused.
-    pub(crate) fn row(&self, at: u8) -> u32
-        requires { at < 32 }
-        ensures used { at < length self.now.rows → result ≡ slice_index self.now.rows at }
-        ensures unused { length self.now.rows ≤ at → result ≡ 4294967295 }
+    /// The row of `slot`; 4,294,967,295 if the slot is unused.
+    pub(crate) fn row(&self, slot: u8) -> u32
+        requires { slot < 32 }
+        ensures used { slot < length self.now.rows → result ≡ slice_index self.now.rows slot }
+        ensures unused { length self.now.rows ≤ slot → result ≡ 4294967295 }
     {
-        self.sparse[at as usize]
+        self.sparse[slot as usize]
     }
 }
 

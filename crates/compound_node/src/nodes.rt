@@ -1,13 +1,9 @@
 //! Compound nodes.
 
-use super::building::build_node;
 use super::entries::{
-    Entry, all_stand_below, concatenate_entries, height_with_added_entry, insert_entry_beside,
-    list_items,
+    Entry, all_stand_below, height_with_added_entry, insert_entry_beside, list_items,
 };
-use super::halves::{Cut, Half, make_cut, make_rest};
 use super::heads::Head;
-use super::joining::{concatenate_rows, ensure_columns};
 use super::rows::find_sibling;
 use arrayvec::ArrayVec;
 use key_bits::Key;
@@ -19,8 +15,8 @@ use std::marker::Model;
 /// stored height is above that of each entry.
 #[derive(Drop)]
 pub struct Node {
-    head: Head,
-    entries: ArrayVec<Entry, 32>,
+    pub(crate) head: Head,
+    pub(crate) entries: ArrayVec<Entry, 32>,
 }
 
 impl Model for Node {
@@ -35,14 +31,13 @@ impl Model for Node {
 
 impl Node {
     ghost use Rattle.std.specs.Prelude.{◌≡◌, ℕ, ◌↔◌, ◌+◌, ◌<◌, ◌≤◌, IsSome, IfSome, Some, length, slice_get, slice_index, slice_index_or, slice_set};
-    ghost use Rattle.compound_node.specs.Halves.{CutShows, HalfShows};
     ghost use Rattle.compound_node.specs.Nodes.{AgreeBefore, IsBuiltFrom, IsEntry, IsLawfulNode, IsNode, StandsBelow, head_of, node_from, node_of, piece};
     ghost use Rattle.key_bits.specs.Bits.{bit_of};
     ghost use Rattle.partial_keys.specs.Rows.{with_unused};
-    ghost use Rattle.node_tries.specs.Changes.{AtRootFork, beside, without};
+    ghost use Rattle.node_tries.specs.Changes.{AtRootFork, beside};
     ghost use Rattle.node_tries.specs.Changes.{replaced as replaced_place};
     ghost use Rattle.node_tries.specs.Growth.{IsAffected, affected_count, affected_first, grown};
-    ghost use Rattle.node_tries.specs.Piece.{Fork, Place, RisesFrom, leads_to};
+    ghost use Rattle.node_tries.specs.Piece.{leads_to};
 
     /// The node with these fields; `None` exactly if no node has them. A node has 2 to 32 entries, each lower than `height`. `sparse` has
     /// their rows, those of one piece that uses each of `columns`, and 4,294,967,295 at each unused slot.
@@ -70,37 +65,6 @@ impl Node {
         Node { head, entries }
     }
 
-    /// The node of two entries, `zero` and `one`, the sides of a fork at `position`. Its height is one above the greater of theirs.
-    pub fn pair(position: u16, zero: Entry, one: Entry) -> Node
-        requires below { position < 65535 }
-        requires zero { IsEntry zero }
-        requires one { IsEntry one }
-        ensures { IsBuiltFrom result (Fork position (Place zero) (Place one)) }
-    {
-        let mut entries = ArrayVec::new();
-        entries.push(zero);
-        entries.push(one);
-        build_node(Columns::of(&[position]), &[0, 1 << 31], entries)
-    }
-
-    /// The node of all entries of `zero` and `one`, 32 at most, as the two sides of a fork at `position`. All forks of both have higher
-    /// positions. The height is one above the greatest of the entries'.
-    pub fn merge(position: u16, zero: &Node, one: &Node) -> Node
-        requires room { length zero.now.entries + length one.now.entries ≤ 32 }
-        requires after { RisesFrom 0 (Fork position (piece zero.now) (piece one.now)) }
-        ensures { IsBuiltFrom result (Fork position (piece zero.now) (piece one.now)) }
-    {
-        let (zero_count, one_count) = (zero.count() as usize, one.count() as usize);
-        let (mut columns, mut zero_rows) = (*zero.columns(), *zero.padded_rows());
-        ensure_columns(&mut columns, &mut zero_rows, position, one.columns());
-        let (mut same_columns, mut one_rows) = (*one.columns(), *one.padded_rows());
-        ensure_columns(&mut same_columns, &mut one_rows, position, zero.columns());
-        let bit = 1 << (31 - columns.count_columns_below(position));
-        let rows = concatenate_rows(&zero_rows[..zero_count], &one_rows[..one_count], bit);
-        let entries = concatenate_entries(zero.entries.as_slice(), one.entries.as_slice());
-        build_node(columns, rows.as_slice(), entries)
-    }
-
     /// How many entries there are, 2 to 32.
     pub fn count(&self) -> u8
         ensures count { result ≡ length self.now.entries }
@@ -123,13 +87,13 @@ impl Node {
         self.head.columns()
     }
 
-    /// The row of slot `i`, its sparse partial key; 4,294,967,295 if the slot is unused. `i` is below 32.
-    pub fn sparse(&self, i: u8) -> u32
-        requires { i < 32 }
-        ensures used { i < length self.now.rows → result ≡ slice_index self.now.rows i }
-        ensures unused { length self.now.rows ≤ i → result ≡ 4294967295 }
+    /// The row of `slot`, its sparse partial key; 4,294,967,295 if the slot is unused. `slot` is below 32.
+    pub fn sparse(&self, slot: u8) -> u32
+        requires { slot < 32 }
+        ensures used { slot < length self.now.rows → result ≡ slice_index self.now.rows slot }
+        ensures unused { length self.now.rows ≤ slot → result ≡ 4294967295 }
     {
-        self.head.row(i)
+        self.head.row(slot)
     }
 
     /// The rows of the entries, and 4,294,967,295 for the unused ones of 32 slots.
@@ -139,13 +103,13 @@ impl Node {
         self.head.padded_rows()
     }
 
-    /// The entry in slot `i`, which is below `count()`.
-    pub fn entry(&self, i: u8) -> Entry
-        requires { i < length self.now.entries }
-        ensures entry { slice_get self.now.entries i ≡ Some result }
+    /// The entry in `slot`, which is below `count()`.
+    pub fn entry(&self, slot: u8) -> Entry
+        requires { slot < length self.now.entries }
+        ensures entry { slice_get self.now.entries slot ≡ Some result }
         ensures stands { StandsBelow self.now.height result }
     {
-        self.entries[i as usize]
+        self.entries[slot as usize]
     }
 
     /// A copy of the node's head.
@@ -178,38 +142,42 @@ impl Node {
         self.head.search(key)
     }
 
-    /// The first and the last affected slot. From the one to the other stand just the entries whose rows agree with that of slot `found` in
+    /// The first and the last affected slot. From the one to the other stand just the entries whose rows agree with that of `slot` in
     /// all columns below `position`.
-    pub fn affected(&self, found: u8, position: u16) -> (u8, u8)
-        requires { found < length self.now.entries }
-        ensures range { (k : ℕ) → k < length self.now.entries → AgreeBefore self.now position found k ↔ ((result.0 ≤ k) × (k ≤ result.1)) }
+    pub fn affected(&self, slot: u8, position: u16) -> (u8, u8)
+        requires { slot < length self.now.entries }
+        ensures range { (k : ℕ) → k < length self.now.entries → AgreeBefore self.now position slot k ↔ ((result.0 ≤ k) × (k ≤ result.1)) }
 
-        // In terms of the piece: the part below the forks before the position, on the way to entry `found`.
-        ensures from { affected_first position found (piece self.now) ≡ result.0 }
-        ensures upto { affected_count position found (piece self.now) + result.0 ≡ result.1 + 1 }
+        // In terms of the piece: the part below the forks before the position, on the way to the entry in `slot`.
+        ensures from { affected_first position slot (piece self.now) ≡ result.0 }
+        ensures upto { affected_count position slot (piece self.now) + result.0 ≡ result.1 + 1 }
     {
-        self.head.affected(found, position)
+        self.head.affected(slot, position)
     }
 
-    /// The one slot on the other side of the last fork on the path to slot `at`, and that fork's position. `None` if that side has several.
-    pub fn find_sibling(&self, at: u8) -> Option<(u8, u16)>
-        requires { at < length self.now.entries }
-        ensures { result ≡ beside at (piece self.now) }
+    /// The one slot on the other side of the last fork on the path to `slot`, and that fork's position. `None` if that side has several.
+    pub fn find_sibling(&self, slot: u8) -> Option<(u8, u16)>
+        requires { slot < length self.now.entries }
+        ensures { result ≡ beside slot (piece self.now) }
     {
         let columns = self.head.columns();
-        let before = self.row(at.saturating_sub(1));
-        let (own, after, second) = (self.row(at), self.row(at + 1), self.row(at + 2));
-        match find_sibling(at, before, own, after, second) {
-            Some((slot, column)) => Some((slot, columns.position(column))),
+        let before = self.row(slot.saturating_sub(1));
+        let (own, after, after_next) = (self.row(slot), self.row(slot + 1), self.row(slot + 2));
+        match find_sibling(slot, before, own, after, after_next) {
+            Some((sibling, column)) => Some((sibling, columns.position(column))),
             None => None,
         }
     }
 
-    /// The row of slot `at`; 4,294,967,295 past the last entry, also past slot 31.
-    fn row(&self, at: u8) -> u32
-        ensures { result ≡ slice_index_or self.now.rows at 4294967295 }
+    /// The row of `slot`; 4,294,967,295 past the last entry, also past slot 31.
+    fn row(&self, slot: u8) -> u32
+        ensures { result ≡ slice_index_or self.now.rows slot 4294967295 }
     {
-        if at < 32 { self.head.row(at) } else { u32::MAX }
+        if slot < 32 {
+            self.head.row(slot)
+        } else {
+            u32::MAX
+        }
     }
 
     /// A copy of the node with one entry more, for which there is room. A new fork at `position` parts `entry` from the affected slots
@@ -252,54 +220,27 @@ impl Node {
         }
     }
 
-    /// A copy of the node with `entry`, which is lower than the node, in slot `i`. The stored height and all else stay.
-    pub fn replace(&self, i: u8, entry: Entry) -> Node
-        requires in_range { i < length self.now.entries }
+    /// A copy of the node with `entry`, which is lower than the node, in `slot`. The stored height and all else stay.
+    pub fn replace(&self, slot: u8, entry: Entry) -> Node
+        requires in_range { slot < length self.now.entries }
         requires stands { StandsBelow self.now.height entry }
-        ensures fields { result ≡ record self.now { entries = slice_set self.now.entries i entry } }
-        ensures piece { piece result ≡ replaced_place i entry (piece self.now) }
+        ensures fields { result ≡ record self.now { entries = slice_set self.now.entries slot entry } }
+        ensures piece { piece result ≡ replaced_place slot entry (piece self.now) }
         ensures lawful { IsLawfulNode result }
     {
         let mut node = self.copy();
-        node.set_entry(i, entry);
+        node.set_entry(slot, entry);
         node
     }
 
-    /// Puts `entry` into slot `i` of this node, as `replace` does in a copy.
-    pub fn set_entry(&mut self, i: u8, entry: Entry)
-        requires in_range { i < length self.old.entries }
+    /// Puts `entry` into `slot` of this node, as `replace` does in a copy.
+    pub fn set_entry(&mut self, slot: u8, entry: Entry)
+        requires in_range { slot < length self.old.entries }
         requires stands { StandsBelow self.old.height entry }
-        ensures fields { self.new ≡ record self.old { entries = slice_set self.old.entries i entry } }
-        ensures piece { piece self.new ≡ replaced_place i entry (piece self.old) }
+        ensures fields { self.new ≡ record self.old { entries = slice_set self.old.entries slot entry } }
+        ensures piece { piece self.new ≡ replaced_place slot entry (piece self.old) }
         ensures lawful { IsLawfulNode self.new }
     {
-        self.entries[i as usize] = entry;
-    }
-
-    /// The two sides of the node, cut at its root fork. Each is one entry, or a new node of several. A new node has only the columns that
-    /// it uses, and its height is one above the greatest of its entries'. Neither side is `Same`.
-    pub fn cut(&self) -> Cut
-        ensures { CutShows result (piece self.now) }
-    {
-        make_cut(
-            self.head.columns(),
-            self.head.rows(),
-            self.entries.as_slice(),
-        )
-    }
-
-    /// What is left without the entry in slot `i`, and without the last fork on the path to it. That fork's other side stands in its stead.
-    /// `One` if one entry is left; else `Many`, a new node with only the columns that it uses, one higher than the highest of its entries.
-    /// Never `Same`.
-    pub fn without(&self, i: u8) -> Half
-        requires { i < length self.now.entries }
-        ensures { HalfShows result (without i (piece self.now)) }
-    {
-        make_rest(
-            self.head.columns(),
-            self.head.rows(),
-            self.entries.as_slice(),
-            i as usize,
-        )
+        self.entries[slot as usize] = entry;
     }
 }

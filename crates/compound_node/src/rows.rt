@@ -68,33 +68,33 @@ pub(crate) fn or_rows(rows: &[u32]) -> u32
 
 // ---- a new column and a new fork
 
-/// `row` with 0 in a new column `j`. The columns from there on move on by one, and the last one is lost.
-fn spread_row(row: u32, j: u8) -> u32
-    requires { j ≤ 31 }
-    ensures { result ≡ spread_row j row }
+/// `row` with 0 in a new column at `column`. The columns from there on move on by one, and the last one is lost.
+fn spread_row(row: u32, column: u8) -> u32
+    requires { column ≤ 31 }
+    ensures { result ≡ spread_row column row }
 {
-    let low = u32::MAX >> j;
+    let low = u32::MAX >> column;
     row & !low | (row & low) >> 1
 }
 
-/// Puts 0 in a new column `j` of the first `count` rows. The columns from there on move on by one, and the last one is lost.
-pub(crate) fn spread_rows(rows: &mut [u32; 32], count: usize, j: u8)
-    requires column { j ≤ 31 }
+/// Puts 0 in a new column at `column` of the first `count` rows. The columns from there on move on by one, and the last one is lost.
+pub(crate) fn spread_rows(rows: &mut [u32; 32], count: usize, column: u8)
+    requires column { column ≤ 31 }
     requires room { count ≤ 32 }
-    ensures { rows.new ≡ map (spread_row j) (take count rows.old) ++ drop count rows.old }
+    ensures { rows.new ≡ map (spread_row column) (take count rows.old) ++ drop count rows.old }
 {
     for i in 0..count {
-        rows[i] = spread_row(rows[i], j);
+        rows[i] = spread_row(rows[i], column);
     }
 }
 
-/// `rows` with 0 in a new column `j` of each. The columns from there on move on by one, and the last one is lost.
+/// `rows` with 0 in a new column at `column`, at most 31, of each. The columns from there on move on by one, and the last one is lost.
 #[inline(always)]
-pub fn spread_lanes(rows: u32x32, j: u8) -> u32x32
-    requires { j ≤ 31 }
-    ensures { result ≡ map (spread_row j) rows }
+pub fn spread_lanes(rows: u32x32, column: u8) -> u32x32
+    requires { column ≤ 31 }
+    ensures { result ≡ map (spread_row column) rows }
 {
-    let low = u32::MAX >> j;
+    let low = u32::MAX >> column;
     let moved = (rows & u32x32::splat(low)) >> u32x32::splat(1);
     rows & u32x32::splat(!low) | moved
 }
@@ -105,16 +105,16 @@ const INDEXES: [u32; 32] = [
     26, 27, 28, 29, 30, 31,
 ];
 
-/// `rows` with `row` put in at index `at`. The rows from there on move up by one, and the last of the 32 is lost.
+/// `rows` with `row` put in as row `slot`. The rows from there on move up by one, and the last of the 32 is lost.
 #[inline(always)]
-fn insert_row(rows: u32x32, at: u32, row: u32) -> u32x32
-    requires { at < 32 }
-    ensures { result ≡ take 32 (insert rows at row) }
+fn insert_row(rows: u32x32, slot: u32, row: u32) -> u32x32
+    requires { slot < 32 }
+    ensures { result ≡ take 32 (insert rows slot row) }
 {
-    let (indexes, at) = (u32x32::from_array(INDEXES), u32x32::splat(at));
+    let (indexes, slot) = (u32x32::from_array(INDEXES), u32x32::splat(slot));
     let moved = rows.rotate_elements_right::<1>();
-    let put = indexes.simd_eq(at).select(u32x32::splat(row), moved);
-    indexes.simd_lt(at).select(rows, put)
+    let put = indexes.simd_eq(slot).select(u32x32::splat(row), moved);
+    indexes.simd_lt(slot).select(rows, put)
 }
 
 /// `rows` with a copy of row `first` put in before it. In the result, the rows from `first + 1` on and below `end` have `bits` set besides.
@@ -159,28 +159,28 @@ fn rows_agree(a: u32, b: u32, columns: usize) -> bool
     columns == 0 || a >> (32 - columns) == b >> (32 - columns)
 }
 
-/// The index of the first of the consecutive rows round row `found` that agree with it in their first `columns` columns.
-pub(crate) fn first_of_run(rows: &[u32], columns: usize, found: usize) -> usize
+/// The index of the first of the consecutive rows round row `slot` that agree with it in their first `columns` columns.
+pub(crate) fn first_of_run(rows: &[u32], columns: usize, slot: usize) -> usize
     requires few { columns ≤ 31 }
-    requires in_range { found < length rows.now }
-    ensures { IsRunStart rows.now columns found result }
+    requires in_range { slot < length rows.now }
+    ensures { IsRunStart rows.now columns slot result }
 {
-    for i in (0..found).rev() {
-        if !rows_agree(rows[i], rows[found], columns) {
+    for i in (0..slot).rev() {
+        if !rows_agree(rows[i], rows[slot], columns) {
             return i + 1;
         }
     }
     0
 }
 
-/// The index of the last of the consecutive rows round row `found` that agree with it in their first `columns` columns.
-pub(crate) fn last_of_run(rows: &[u32], columns: usize, found: usize) -> usize
+/// The index of the last of the consecutive rows round row `slot` that agree with it in their first `columns` columns.
+pub(crate) fn last_of_run(rows: &[u32], columns: usize, slot: usize) -> usize
     requires few { columns ≤ 31 }
-    requires in_range { found < length rows.now }
-    ensures { IsRunEnd rows.now columns found result }
+    requires in_range { slot < length rows.now }
+    ensures { IsRunEnd rows.now columns slot result }
 {
-    for i in found + 1..rows.len() {
-        if !rows_agree(rows[i], rows[found], columns) {
+    for i in slot + 1..rows.len() {
+        if !rows_agree(rows[i], rows[slot], columns) {
             return i - 1;
         }
     }
@@ -214,22 +214,22 @@ pub(crate) fn clear_first_column(rows: &[u32]) -> ArrayVec<u32, 32>
     out
 }
 
-/// `row` without column `j`. The columns behind it move forward by one.
-fn close_column(row: u32, j: u8) -> u32
-    requires { j ≤ 31 }
-    ensures { result ≡ closed_row j row }
+/// `row` without the column at `column`. The columns behind it move forward by one.
+fn close_column(row: u32, column: u8) -> u32
+    requires { column ≤ 31 }
+    ensures { result ≡ closed_row column row }
 {
-    let low = u32::MAX >> j;
+    let low = u32::MAX >> column;
     row & !low | (row & low >> 1) << 1
 }
 
-/// Takes column `j` out of each of `rows`.
-fn close_column_of_rows(rows: &mut [u32], j: u8)
-    requires { j ≤ 31 }
-    ensures { rows.new ≡ map (closed_row j) rows.old }
+/// Takes the column at `column` out of each of `rows`.
+fn close_column_of_rows(rows: &mut [u32], column: u8)
+    requires { column ≤ 31 }
+    ensures { rows.new ≡ map (closed_row column) rows.old }
 {
     for row in rows.iter_mut() {
-        *row = close_column(*row, j);
+        *row = close_column(*row, column);
     }
 }
 
@@ -240,9 +240,9 @@ pub(crate) fn squeeze_rows(rows: &mut [u32], used: u32, columns: u8)
     requires rows { All (IsRowOver columns) rows.old }
     ensures { rows.new ≡ map (squeezed used) rows.old }
 {
-    for j in (0..columns).rev() {
-        if used >> (31 - j) & 1 == 0 {
-            close_column_of_rows(rows, j);
+    for column in (0..columns).rev() {
+        if used >> (31 - column) & 1 == 0 {
+            close_column_of_rows(rows, column);
         }
     }
 }
@@ -257,18 +257,18 @@ fn lowest_bit(row: u32) -> u32
     row - (row & (row - 1))
 }
 
-/// A mask of the column of the last fork on the path to row `at`, if that row is the fork's 0 side; else 0. When row `at` is taken out,
+/// A mask of the column of the last fork on the path to row `slot`, if that row is the fork's 0 side; else 0. When row `slot` is taken out,
 /// the rows of the 1 side lose this bit.
-fn sibling_bit(rows: &[u32], at: usize) -> u32
+fn sibling_bit(rows: &[u32], slot: usize) -> u32
     requires ladder { IsLadder rows.now }
-    requires in_range { at < length rows.now }
-    ensures { result ≡ bit_after at rows.now }
+    requires in_range { slot < length rows.now }
+    ensures { result ≡ bit_after slot rows.now }
 {
-    if at + 1 == rows.len() {
+    if slot + 1 == rows.len() {
         return 0;
     }
-    let after = lowest_bit(rows[at + 1]);
-    if at == 0 || after < lowest_bit(rows[at]) {
+    let after = lowest_bit(rows[slot + 1]);
+    if slot == 0 || after < lowest_bit(rows[slot]) {
         after
     } else {
         0
@@ -287,22 +287,22 @@ fn append_cleared_rows(out: &mut ArrayVec<u32, 32>, rows: &[u32], bit: u32)
     }
 }
 
-/// The list of `rows` without row `at`. If that is the 0 side of its last fork, the rows of the 1 side lose the fork's bit.
-pub(crate) fn without_row(rows: &[u32], at: usize) -> ArrayVec<u32, 32>
+/// The list of `rows` without row `slot`. If that is the 0 side of its last fork, the rows of the 1 side lose the fork's bit.
+pub(crate) fn without_row(rows: &[u32], slot: usize) -> ArrayVec<u32, 32>
     requires ladder { IsLadder rows.now }
     requires room { length rows.now ≤ 32 }
-    requires in_range { at < length rows.now }
-    ensures { result.items ≡ removed_row at rows.now }
+    requires in_range { slot < length rows.now }
+    ensures { result.items ≡ removed_row slot rows.now }
 {
     let mut out = ArrayVec::new();
-    append_items(&mut out, &rows[..at]);
-    append_cleared_rows(&mut out, &rows[at + 1..], sibling_bit(rows, at));
+    append_items(&mut out, &rows[..slot]);
+    append_cleared_rows(&mut out, &rows[slot + 1..], sibling_bit(rows, slot));
     out
 }
 
-/// The index of the first of `rows` that hasn't `bit`, from `first` on; `end` if there is none before it.
+/// The index of the first of `rows`, from `first` on, that has 0 at `bit`, a mask of one bit or none. `end` if there is none before it.
 #[inline(always)]
-fn end_of_front(rows: u32x32, first: u32, end: u32, bit: u32) -> u32
+fn first_row_without(rows: u32x32, first: u32, end: u32, bit: u32) -> u32
     requires ordered { first ≤ end }
     requires in_range { end ≤ 32 }
     ensures range { (first ≤ result) × (result ≤ end) }
@@ -315,14 +315,14 @@ fn end_of_front(rows: u32x32, first: u32, end: u32, bit: u32) -> u32
     lacking.trailing_zeros().min(end)
 }
 
-/// `rows` without row `at` of the first `count`. Those behind it move down by one; of these, the ones before row `end` lose `bit`. Behind the
-/// rows that are left comes 4,294,967,295.
+/// `rows` without row `slot` of the first `count`. Those behind it move down by one; of these, the ones before row `end` lose `bit`. Behind
+/// the rows that are left comes 4,294,967,295.
 #[inline(always)]
-fn lower_rows(rows: u32x32, count: u32, at: u32, end: u32, bit: u32) -> u32x32
+fn lower_rows(rows: u32x32, count: u32, slot: u32, end: u32, bit: u32) -> u32x32
     requires some { 0 < count }
     requires few { count ≤ 32 }
     ensures whole { length result ≡ 32 }
-    ensures each { (i : ℕ) → i < 32 → slice_index result i ≡ lowered_row count at end bit rows i }
+    ensures each { (i : ℕ) → i < 32 → slice_index result i ≡ lowered_row count slot end bit rows i }
 {
     let indexes = u32x32::from_array(INDEXES);
     let losing = indexes.simd_lt(u32x32::splat(end));
@@ -330,22 +330,22 @@ fn lower_rows(rows: u32x32, count: u32, at: u32, end: u32, bit: u32) -> u32x32
     let moved = (rows & !lost).rotate_elements_left::<1>();
     let used = indexes.simd_lt(u32x32::splat(count - 1));
     let left = used.select(moved, u32x32::splat(u32::MAX));
-    indexes.simd_lt(u32x32::splat(at)).select(rows, left)
+    indexes.simd_lt(u32x32::splat(slot)).select(rows, left)
 }
 
-/// Takes row `at` out of the first `count` of `rows`, as `without_row` does. The rows behind the first `count` are 4,294,967,295, and so is
-/// one more then.
+/// Takes row `slot` out of the first `count` of `rows`, as `without_row` does. The rows behind the first `count` are 4,294,967,295, and so
+/// is one more then.
 #[inline(always)]
-pub fn remove_row(rows: u32x32, count: usize, at: usize) -> u32x32
+pub fn remove_row(rows: u32x32, count: usize, slot: usize) -> u32x32
     requires ladder { IsLadder (take count rows) }
     requires unused { rows ≡ with_unused (take count rows) }
     requires room { count ≤ 32 }
-    requires in_range { at < count }
-    ensures { result ≡ removed_row at (take count rows) ++ 4294967295 ∷ drop count rows }
+    requires in_range { slot < count }
+    ensures { result ≡ removed_row slot (take count rows) ++ 4294967295 ∷ drop count rows }
 {
-    let bit = sibling_bit(&rows.to_array()[..count], at);
-    let end = end_of_front(rows, at as u32 + 1, count as u32, bit);
-    lower_rows(rows, count as u32, at as u32, end, bit)
+    let bit = sibling_bit(&rows.to_array()[..count], slot);
+    let end = first_row_without(rows, slot as u32 + 1, count as u32, bit);
+    lower_rows(rows, count as u32, slot as u32, end, bit)
 }
 
 /// The bits that at least one of the first `count` of `rows` has.
@@ -380,21 +380,21 @@ pub fn squeeze_lanes(rows: u32x32, used: u32, columns: u8) -> u32x32
     ensures each { (n : ℕ) → All (IsRowOver columns) (take n rows) → take n result ≡ map (squeezed used) (take n rows) }
 {
     let mut left = rows;
-    for j in (0..columns).rev() {
-        if used >> (31 - j) & 1 == 0 {
-            left = close_lanes(left, j);
+    for column in (0..columns).rev() {
+        if used >> (31 - column) & 1 == 0 {
+            left = close_lanes(left, column);
         }
     }
     left
 }
 
-/// `rows` without column `j`. The columns behind it move forward by one.
+/// `rows` without the column at `column`. The columns behind it move forward by one.
 #[inline(always)]
-fn close_lanes(rows: u32x32, j: u8) -> u32x32
-    requires { j ≤ 31 }
-    ensures { result ≡ map (closed_row j) rows }
+fn close_lanes(rows: u32x32, column: u8) -> u32x32
+    requires { column ≤ 31 }
+    ensures { result ≡ map (closed_row column) rows }
 {
-    let low = u32::MAX >> j;
+    let low = u32::MAX >> column;
     let moved = (rows & u32x32::splat(low >> 1)) << u32x32::splat(1);
     rows & u32x32::splat(!low) | moved
 }
@@ -408,28 +408,34 @@ fn fork_column(row: u32) -> u8
     ((32 - row.trailing_zeros()) % 32) as u8
 }
 
-/// The one slot on the other side of the last fork on the path to slot `at`, and the index of that fork's column. `None` if that side has
+/// The one slot on the other side of the last fork on the path to `slot`, and the index of that fork's column. `None` if that side has
 /// several slots.
 ///
-/// `before`, `own`, `after` and `second` are the rows of slots `at - 1` to `at + 2`, with 4,294,967,295 past the last entry. If `at` is 0,
-/// `before` is row 0. The result holds for each node with these rows.
+/// `before`, `own`, `after` and `after_next` are the rows of slots `slot - 1` to `slot + 2`, with 4,294,967,295 past the last entry. If
+/// `slot` is 0, `before` is row 0. The result holds for each node with these rows.
 #[inline(always)]
-pub fn find_sibling(at: u8, before: u32, own: u32, after: u32, second: u32) -> Option<(u8, u8)>
-    requires { at < 32 }
-    ensures { (node : NodeView) → IsLawfulNode node → at < length node.entries →
-        AreRound node.rows at before own after second → IsBesideIn node at result }
+pub fn find_sibling(
+    slot: u8,
+    before: u32,
+    own: u32,
+    after: u32,
+    after_next: u32,
+) -> Option<(u8, u8)>
+    requires { slot < 32 }
+    ensures { (node : NodeView) → IsLawfulNode node → slot < length node.entries →
+        AreRound node.rows slot before own after after_next → IsBesideIn node slot result }
 {
     let (before, own) = (fork_column(before), fork_column(own));
-    let (after, second) = (fork_column(after), fork_column(second));
+    let (after, after_next) = (fork_column(after), fork_column(after_next));
     if own < after {
-        if after < second {
+        if after < after_next {
             None
         } else {
-            Some((at + 1, after - 1))
+            Some((slot + 1, after - 1))
         }
     } else if own < before {
         None
     } else {
-        Some((at.saturating_sub(1), own.saturating_sub(1)))
+        Some((slot.saturating_sub(1), own.saturating_sub(1)))
     }
 }

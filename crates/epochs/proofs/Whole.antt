@@ -1,6 +1,6 @@
 -- A round of its parts.
 use Rattle.std.proofs.Common.{◌≡◌, ℕ, ◌∷◌, ◌++◌, refl, sym, ap, subst, ◌∙◌}
-use Rattle.versions.specs.declared.Rec.TheVariants.{Node as a_node, Leaf as a_leaf}
+use Rattle.record_words.specs.declared.records.Rec.TheVariants.{Node as a_node, Leaf as a_leaf}
 use Rattle.versions.specs.declared.Round.{Round}
 use Rattle.rowex_core.specs.declared.event.Act.TheVariants.{LoadEpoch}
 use Rattle.rowex_core.specs.declared.event.Event.{Event}

@@ -1,7 +1,7 @@
 -- Records that pinned passes can reach.
 use Rattle.std.specs.Prelude.{◌≡◌, ◌≢◌, ℕ, ◌≤◌, Some}
 use Rattle.tries.specs.Tree.{Tree}
-use Rattle.versions.specs.declared.Rec.{Rec}
+use Rattle.record_words.specs.declared.records.Rec.{Rec}
 use Rattle.versions.specs.declared.Pin.{Pin}
 use Rattle.versions.specs.State.{Stands}
 use Rattle.versions.specs.Core.{Free, Held}

@@ -4,8 +4,8 @@ use Rattle.record_words.specs.declared.TheConstants.{EPOCHS}
 use Rattle.record_words.specs.declared.state.Tag.TheVariants.{Obsolete}
 use Rattle.record_words.specs.State.{state_word}
 use Rattle.versions.specs.Core.{has_seen}
-use Rattle.versions.specs.declared.Rec.{Rec}
-use Rattle.versions.specs.declared.Rec.TheVariants.{Node as a_node, Leaf as a_leaf}
+use Rattle.record_words.specs.declared.records.Rec.{Rec}
+use Rattle.record_words.specs.declared.records.Rec.TheVariants.{Node as a_node, Leaf as a_leaf}
 use Rattle.rowex_core.specs.declared.event.Act.{Act}
 use Rattle.rowex_core.specs.declared.event.Event.{Event}
 use Rattle.rowex_core.specs.declared.event.Act.TheVariants.{LoadEpoch, Advance, LoadPin, LoadState, GiveBack}
@@ -13,8 +13,8 @@ use Rattle.rowex_core.specs.declared.known.Known.{Known}
 use Rattle.rowex_table.specs.Runs.{Does, InTurn}
 use Rattle.rowex_table.specs.Seats.{TableView, SeatView}
 use Rattle.epochs.specs.Runs.{collecting, paced}
-use Rattle.epochs.specs.declared.collection.Visited.{Visited}
-use Rattle.epochs.specs.declared.collection.Visited.TheVariants.{Given}
+use Rattle.epochs.specs.declared.limbo.Visited.{Visited}
+use Rattle.epochs.specs.declared.limbo.Visited.TheVariants.{Given}
 
 -- the exchange that makes an epoch the next one; at the last epoch there is none
 abbrev pub advance_steps : ℕ → ℕ → List Act

@@ -4,7 +4,7 @@ use Rattle.finite_map.specs.declared.Note.{Note}
 use Rattle.record_words.specs.declared.layout.Layout.{Layout}
 use Rattle.record_words.specs.declared.state.Tag.TheVariants.{Obsolete}
 use Rattle.record_words.specs.State.{state_word}
-use Rattle.versions.specs.declared.Rec.{Rec}
+use Rattle.record_words.specs.declared.records.Rec.{Rec}
 use Rattle.rowex_core.specs.declared.event.Act.{Act}
 use Rattle.rowex_core.specs.declared.event.Act.TheVariants.{GiveBack}
 use Rattle.rowex_core.specs.declared.event.Event.{Event}

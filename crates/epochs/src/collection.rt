@@ -4,14 +4,14 @@ ghost use Rattle.std.specs.Prelude.{◌≡◌, ◌≢◌, ℕ, ◌+◌, ◌^◌,
 ghost use Rattle.record_words.specs.declared.state.Tag.TheVariants.{Free as FreeTag, Obsolete};
 ghost use Rattle.record_words.specs.Layout.{leaf_size};
 ghost use Rattle.record_words.specs.State.{state_word};
-ghost use Rattle.versions.specs.declared.Rec.TheVariants.{Node as a_node, Leaf as a_leaf};
+ghost use Rattle.record_words.specs.declared.records.Rec.TheVariants.{Node as a_node, Leaf as a_leaf};
 ghost use Rattle.rowex_core.specs.Cores.{HasRecord};
 ghost use Rattle.rowex_table.specs.Rule.{IsStartOf};
 ghost use Rattle.rowex_table.specs.Seats.{IsSeatOf};
 ghost use Rattle.epochs.specs.Rounds.{AdvancesEpoch, BeginsRound, FindsBound, HasBound, IsRound, IsSmallRound, IsSparedRound, VisitsAll, GoesOnVisiting, VisitsOne, VisitsSome, VisitsTable, is_given};
-ghost use Rattle.epochs.specs.declared.collection.Visited.TheVariants.{Free, Waits};
+ghost use Rattle.epochs.specs.declared.limbo.Visited.TheVariants.{Free, Waits};
 
-use crate::limbo::{Limbo, MOST_VISITED};
+use crate::limbo::{Limbo, MOST_VISITED, Visited};
 use record_words::{EPOCHS, Layout, Tag, read_obsolete_epoch, unpack_state};
 use rowex_core::{Gate, Rec};
 use rowex_table::{HotTable, RecordAt, TableSeat};
@@ -33,19 +33,6 @@ pub struct Collected {
     pub found_free_node: bool,
     /// Whether it found a leaf record free already.
     pub found_free_leaf: bool,
-}
-
-/// What a visit of a record came to.
-#[derive(Clone, Copy)]
-pub enum Visited {
-    /// The visit gave the record back.
-    Given,
-    /// The record is retired, in an epoch that isn't below the bound of the round.
-    Waits,
-    /// The record is free already.
-    Free,
-    /// The record is in another state.
-    Other,
 }
 
 /// What visits of records of one kind came to.
@@ -94,7 +81,9 @@ pub fn collect_if_risen<G: Gate>(
     requires free { seat.old.known.pin ≡ None }
     ensures free { seat.new.known.pin ≡ None }
     ensures round { IfSome result (λ round. IsRound table.now G.becomes (seat.old, gate.old) (seat.new, gate.new) round.given.nodes round.given.leaves) }
+    ensures swept { IfSome result (λ round. limbo.new.swept ≡ seat.new.known.round.bound) }
     ensures several { result ≡ None → 1 < table.now.layout.passes }
+    ensures low { result ≡ None → (seat.new.known.round.bound ≤ limbo.old.swept) × (limbo.new.swept ≡ limbo.old.swept) }
     ensures spared { result ≡ None → IsSparedRound table.now G.becomes (seat.old, gate.old) (seat.new, gate.new) }
 {
     let bound = begin_round(table, seat, gate);
@@ -314,7 +303,9 @@ fn visit_limbo<G: Gate>(
 {
     let count = limbo.count().min(MOST_VISITED);
     for index in 0..count {
-        if !visit_waiting_record(table, seat, gate, limbo, bound, index) {
+        let rec = limbo.waiting_record(index);
+        let seen = visit_if_there(table, seat, gate, rec, bound);
+        if !limbo.take_visit(rec, seen) {
             limbo.drop_oldest_records(index);
             return;
         }
@@ -322,27 +313,23 @@ fn visit_limbo<G: Gate>(
     limbo.drop_oldest_records(count);
 }
 
-/// Visits the record that waits at `index` in `limbo`, counted from 0 at the oldest. Returns whether it is to leave the list: not if it has
-/// to wait. One that the table hasn't is to leave it, too, without a visit. `bound` is the round's. One given back is added to `limbo.given`.
-fn visit_waiting_record<G: Gate>(
+/// Visits `rec`, and returns what the visit came to. If the table has no such record, this is no visit, and `Other`. `bound` is the round's.
+fn visit_if_there<G: Gate>(
     table: &HotTable,
     seat: &mut TableSeat,
     gate: &mut G,
-    limbo: &mut Limbo,
+    rec: Rec,
     bound: u64,
-    index: usize,
-) -> bool
+) -> Visited
     requires own { IsSeatOf table.now seat.old }
     requires bound { HasBound table.now.layout.passes bound seat.old.known }
     ensures same { (seat.new.known.pin ≡ seat.old.known.pin) × (seat.new.known.round ≡ seat.old.known.round) }
     ensures steps { VisitsSome table.now G.becomes bound 1 (seat.old, gate.old) (seat.new, gate.new) }
 {
-    let rec = limbo.waiting_record(index);
     if !has_record(table.layout(), rec) {
-        return true;
+        return Visited::Other;
     }
-    let seen = visit_record(table, seat, gate, table.locate(rec), bound);
-    limbo.take_visit(rec, seen)
+    visit_record(table, seat, gate, table.locate(rec), bound)
 }
 
 /// Whether a table of `layout` has the record `rec`.

@@ -2,9 +2,8 @@
 
 ghost use Rattle.std.specs.Prelude.{◌≡◌, ◌≢◌, ◌≤◌, ◌<◌, ◌+◌, ◌-◌, ◌^◌, min, true, false};
 ghost use Rattle.epochs.specs.Limbo.{due_after};
-ghost use Rattle.epochs.specs.declared.collection.Visited.TheVariants.{Waits};
+ghost use Rattle.epochs.specs.declared.limbo.Visited.TheVariants.{Waits};
 
-use crate::collection::Visited;
 use arrayvec::ArrayVec;
 use record_words::Layout;
 use rowex_core::Rec;
@@ -20,6 +19,19 @@ const MOST_DUE: u32 = 96;
 
 /// How many records a small round visits at most.
 pub const MOST_VISITED: usize = 128;
+
+/// What a visit of a record came to.
+#[derive(Clone, Copy)]
+pub enum Visited {
+    /// The visit gave the record back.
+    Given,
+    /// The record is retired, in an epoch that isn't below the bound of the round.
+    Waits,
+    /// The record is free already.
+    Free,
+    /// The record is in another state.
+    Other,
+}
 
 /// After how many retired records a small round is due in a table of `layout`. The more passes there are, the more, since a round loads each
 /// pin: an eighth of their number. But the lists of all passes together are to have at most a quarter of the nodes.

@@ -2,7 +2,7 @@
 use Rattle.std.specs.Prelude.{◌≡◌, ◌||◌, ℕ, ◌<◌, ◌≤◌, List, ◌++◌, length, take, drop, map, Bool, true, nat_lt, Option}
 use Rattle.std.specs.Int.{from_bool}
 use Rattle.packed_pairs.specs.Parts.{fitting, packed_head, keys_in}
-use Rattle.packed_pairs.specs.declared.pairs.Head.{Head}
+use Rattle.packed_pairs.specs.declared.head.Head.{Head}
 use Rattle.record_words.specs.declared.layout.Layout.{Layout}
 use Rattle.rowex_scanning.specs.Scanning.{limited}
 use Rattle.version_laws.specs.Scan.{Range}

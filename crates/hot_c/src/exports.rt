@@ -138,7 +138,8 @@ pub extern "C" fn hot_open_kept(alloc: Global, keeper: &mut Handle, handle: &mut
     }
 }
 
-/// Writes to `stock` that of `Stock::for_keys`: for up to `count` keys at once, of at most `longest` bytes each, and of at most 240.
+/// Writes to `stock` what `Stock::for_keys` returns: records for up to `count` keys at once, of at most `longest` bytes each. A `longest`
+/// above 240 counts as 240.
 #[unsafe(no_mangle)]
 pub extern "C" fn hot_stock_for_keys(count: u32, longest: usize, stock: &mut HotStock)
     ensures { stock_in stock.new ≡ stock_for count longest }

@@ -6,8 +6,8 @@ use Rattle.finite_map.specs.declared.Scan.{Scan}
 use Rattle.record_words.specs.declared.layout.Layout.{Layout}
 use Rattle.tries.specs.Keys.{Key}
 use Rattle.version_laws.specs.Directions.{IsLawfulBy}
-use Rattle.version_laws.specs.declared.direction.Direction.{Direction}
-use Rattle.version_laws.specs.declared.direction.Direction.TheVariants.{Upwards, Downwards}
+use Rattle.packed_pairs.specs.declared.direction.Direction.{Direction}
+use Rattle.packed_pairs.specs.declared.direction.Direction.TheVariants.{Upwards, Downwards}
 use Rattle.hot_index_calls.specs.Answers.{IsListedBy, range_from}
 use Rattle.hot_index_calls.specs.Passes.{PassView}
 

@@ -17,8 +17,8 @@ use Rattle.rowex_scanning.proofs.Scanned.{lawful_scan}
 use Rattle.version_laws.specs.Directions.{IsAnswer, IsLawfulBy}
 use Rattle.rowex_scanning.specs.Scanning.{HasScanned, HasScannedPart, HasTakenPart, limited}
 use Rattle.rowex_scanning.specs.Tallies.{Tally}
-use Rattle.version_laws.specs.declared.direction.Direction.{Direction}
-use Rattle.version_laws.specs.declared.direction.Direction.TheVariants.{Upwards, Downwards}
+use Rattle.packed_pairs.specs.declared.direction.Direction.{Direction}
+use Rattle.packed_pairs.specs.declared.direction.Direction.TheVariants.{Upwards, Downwards}
 use Rattle.rowex_table.specs.Runs.{silent}
 use Rattle.rowex_table.specs.Seats.{SeatView}
 use Rattle.version_laws.specs.Scan.{IsInRange, Pair, Range}

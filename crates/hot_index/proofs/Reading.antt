@@ -14,8 +14,8 @@ use Rattle.rowex_scanning.specs.Counts.{Scans, scan_loads}
 use Rattle.version_laws.specs.Directions.{IsLawfulBy}
 use Rattle.rowex_scanning.specs.Scanning.{HasScanned, HasScannedPart, HasTaken, HasTakenPart, limited}
 use Rattle.rowex_scanning.specs.Tallies.{tally_of_number, tally_of_values}
-use Rattle.version_laws.specs.declared.direction.Direction.TheVariants.{Upwards}
-use Rattle.version_laws.specs.declared.direction.Direction.{Direction}
+use Rattle.packed_pairs.specs.declared.direction.Direction.TheVariants.{Upwards}
+use Rattle.packed_pairs.specs.declared.direction.Direction.{Direction}
 use Rattle.rowex_table.specs.Runs.{StepsWith, silent}
 use Rattle.rowex_table.specs.Seats.{IsSeatOf, SeatView, TableView}
 use Rattle.version_laws.specs.Scan.{Range}

@@ -8,13 +8,13 @@ use Rattle.finite_map.specs.declared.Reply.{Reply}
 use Rattle.finite_map.specs.Calls.{LegalCalls, place_after}
 use Rattle.finite_map.specs.Fronts.{BeginsWith, LegalFront, OthersGoOn, map_of}
 use Rattle.finite_map.specs.Maps.{key_of, value_at}
-use Rattle.key_counts.specs.Counts.{AreCounts, IsCountOf}
-use Rattle.key_counts.specs.declared.KeyCount.{KeyCount}
+use Rattle.hot_index.specs.KeyCounts.{AreCounts, IsCountOf}
+use Rattle.hot_index.specs.declared.key_counts.KeyCount.{KeyCount}
 use Rattle.record_words.specs.declared.layout.Layout.{Layout}
 use Rattle.record_words.specs.Leaf.{words_for}
 use Rattle.versions.specs.Trades.{AreApart, IsOneOf}
-use Rattle.versions.specs.declared.Rec.{Rec}
-use Rattle.versions.specs.declared.Rec.TheVariants.{Node as a_node, Leaf as a_leaf}
+use Rattle.record_words.specs.declared.records.Rec.{Rec}
+use Rattle.record_words.specs.declared.records.Rec.TheVariants.{Node as a_node, Leaf as a_leaf}
 use Rattle.tries.specs.Keys.{Key}
 use Rattle.lone_runs.specs.Lone.{HasSpare, KeepsSpare}
 use Rattle.rowex_core.specs.declared.event.Event.{Event}

@@ -3,7 +3,7 @@
 ghost use Rattle.std.specs.Prelude.{◌≡◌, ◌≢◌, Err, length};
 ghost use Rattle.finite_map.specs.declared.Call.TheVariants.{Get, Insert, Remove, Upsert};
 ghost use Rattle.finite_map.specs.Calls.{LegalCalls};
-ghost use Rattle.key_counts.specs.Counts.{IsCountOf};
+ghost use Rattle.hot_index.specs.KeyCounts.{IsCountOf};
 ghost use Rattle.rowex_table.specs.Seats.{IsShownAll};
 ghost use Rattle.rowex_writing.specs.Attempts.{IsLeafless};
 ghost use Rattle.rowex_writing.specs.declared.attempts.TryFault.TheVariants.{FullLeaves};
@@ -19,6 +19,7 @@ ghost use Rattle.hot_index_calls.specs.Rooms.{LeavesRoom};
 ghost use Rattle.hot_index_calls.specs.Traces.{HasCollected, HasGot, HasMade, HasTold, untold};
 ghost use Rattle.hot_index.specs.Stamps.{HasSeenMore};
 
+use crate::key_counts::KeyCount;
 use epochs::{Given, collect_round, pin, unpin};
 use finite_map::{Call, Reply};
 use hot_index_calls::{
@@ -26,7 +27,6 @@ use hot_index_calls::{
     try_change,
 };
 use key_bits::Key;
-use key_counts::KeyCount;
 use rowex_core::{Gate, NoGate};
 use rowex_reading::{look_up, look_up_all};
 use rowex_table::{HotTable, TableSeat};

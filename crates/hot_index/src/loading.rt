@@ -13,10 +13,10 @@ ghost use Rattle.hot_index_calls.specs.Passes.{Owns, PassView};
 use crate::closed::ClosedPass;
 use crate::creating::{IndexFault, keep_one_node, make_closed_passes};
 use crate::index::Index;
+use crate::key_counts::KeyCount;
 use bulk_load::{LoadFault, Loader};
 use finite_map::Reply;
 use key_bits::Key;
-use key_counts::KeyCount;
 use record_words::{Layout, LayoutFault, Stock, count_leaf_words};
 use rowex_table::HotTable;
 use std::alloc::{AllocError, Global};
@@ -52,7 +52,8 @@ impl Load {
         ensures none { IfOk result (λ load. load.items ≡ []) }
         ensures passes { (result ≡ Err (IndexFault.Layout LayoutFault.Passes)) ↔ ¬ IsStockPassCount passes }
         ensures nodes { (result ≡ Err (IndexFault.Layout LayoutFault.Nodes)) ↔ (IsStockPassCount passes × ¬ IsRecordCount stock.nodes) }
-        ensures leaves { (result ≡ Err (IndexFault.Layout LayoutFault.Leaves)) ↔ (IsStockPassCount passes × IsRecordCount stock.nodes × ¬ IsRecordCount (leaves_of stock)) }
+        ensures leaves { (result ≡ Err (IndexFault.Layout LayoutFault.Leaves)) ↔
+            (IsStockPassCount passes × IsRecordCount stock.nodes × ¬ IsRecordCount (leaves_of stock)) }
         ensures memory { result ≡ Err IndexFault.Memory → IsStockPassCount passes × IsRecordCount stock.nodes × IsRecordCount (leaves_of stock) }
     {
         match Layout::with_stock(passes, stock) {

@@ -8,8 +8,8 @@ use Rattle.record_words.specs.declared.state.Tag.TheVariants.{Free, Held, Live, 
 use Rattle.record_words.specs.Layout.{word_count}
 use Rattle.record_words.specs.Reading.{IsSpelling}
 use Rattle.record_words.specs.State.{HasStateWord, state_word}
-use Rattle.versions.specs.declared.Rec.{Rec}
-use Rattle.versions.specs.declared.Rec.TheVariants.{Node as a_node, Leaf as a_leaf}
+use Rattle.record_words.specs.declared.records.Rec.{Rec}
+use Rattle.record_words.specs.declared.records.Rec.TheVariants.{Node as a_node, Leaf as a_leaf}
 use Rattle.rowex_core.proofs.States.{has_state_word}
 use Rattle.rowex_core.specs.declared.event.Act.{Act}
 use Rattle.rowex_core.specs.declared.event.Act.TheVariants.{LoadState}

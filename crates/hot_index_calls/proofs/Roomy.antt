@@ -40,8 +40,8 @@ use Rattle.versions.specs.Core.{Fate, Free, Held, Ready, InTree, Unlinked, Marke
 use Rattle.versions.specs.Steps.{lowered}
 use Rattle.versions.specs.Steps.{with_epoch}
 use Rattle.versions.specs.Trades.{IsOneOf}
-use Rattle.versions.specs.declared.Rec.TheVariants.{Node as a_node, Leaf as a_leaf}
-use Rattle.versions.specs.declared.Rec.{Rec}
+use Rattle.record_words.specs.declared.records.Rec.TheVariants.{Node as a_node, Leaf as a_leaf}
+use Rattle.record_words.specs.declared.records.Rec.{Rec}
 use Rattle.versions.specs.declared.Round.{Round}
 
 -- ---- what a visit frees

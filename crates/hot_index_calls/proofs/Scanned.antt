@@ -24,8 +24,8 @@ use Rattle.hot_index_calls.specs.Answers.{AreValuesListed, IsListed, IsListedBy,
 use Rattle.version_laws.specs.Directions.{IsAnswer, IsLawfulBy}
 use Rattle.rowex_scanning.specs.Scanning.{HasScanned, HasTaken}
 use Rattle.rowex_scanning.specs.Tallies.{tally_of_number, tally_of_values}
-use Rattle.version_laws.specs.declared.direction.Direction.{Direction}
-use Rattle.version_laws.specs.declared.direction.Direction.TheVariants.{Upwards}
+use Rattle.packed_pairs.specs.declared.direction.Direction.{Direction}
+use Rattle.packed_pairs.specs.declared.direction.Direction.TheVariants.{Upwards}
 use Rattle.rowex_reading.specs.Seen.{seen, since}
 use Rattle.rowex_reading.proofs.Later.{event_recalls}
 use Rattle.rowex_scanning.proofs.Scanned.{answer_short, lawful_scan, lawful_taken, values_of_pairs}

@@ -16,7 +16,7 @@ use Rattle.tries.specs.Keys.{Key}
 use Rattle.record_words.specs.declared.layout.Layout.{Layout}
 use Rattle.rowex_scanning.specs.Scanning.{limited}
 use Rattle.version_laws.specs.Directions.{ScanLaw}
-use Rattle.versions.specs.declared.Rec.{Rec}
+use Rattle.record_words.specs.declared.records.Rec.{Rec}
 use Rattle.version_laws.specs.Scan.{Range}
 use Rattle.rowex_writing.specs.Attempts.{IsFullFault}
 use Rattle.rowex_writing.specs.Changes.{LacksLeaves, LacksNodes}

@@ -11,7 +11,7 @@ use Rattle.rowex_writing.specs.declared.attempts.TryFault.{TryFault}
 use Rattle.rowex_writing.specs.declared.attempts.TryFault.TheVariants.{Busy}
 use Rattle.rowex_writing.specs.declared.plan.Full.{Full}
 use Rattle.rowex_writing.specs.declared.plan.Full.TheVariants.{Nodes, Leaves}
-use Rattle.versions.specs.declared.Rec.{Rec}
+use Rattle.record_words.specs.declared.records.Rec.{Rec}
 use Rattle.hot_index_calls.specs.Answers.{fault_of}
 use Rattle.hot_index_calls.specs.Census.{HasCounted}
 use Rattle.hot_index_calls.specs.Passes.{PassView}

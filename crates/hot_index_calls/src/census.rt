@@ -1,7 +1,7 @@
 //! Census: how many records of an index are in each state.
 
 ghost use Rattle.std.specs.Prelude.{◌≡◌, ◌+◌, ◌<◌, ◌≤◌, ◌^◌, []};
-ghost use Rattle.versions.specs.declared.Rec.TheVariants.{Node as a_node, Leaf as a_leaf};
+ghost use Rattle.record_words.specs.declared.records.Rec.TheVariants.{Node as a_node, Leaf as a_leaf};
 ghost use Rattle.record_words.specs.declared.state.Tag.{Tag as Found};
 ghost use Rattle.record_words.specs.Reading.{IsSpelling};
 ghost use Rattle.record_words.specs.State.{HasStateWord, state_word};

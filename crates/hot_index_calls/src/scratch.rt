@@ -1,6 +1,6 @@
 //! Where a pass builds what it puts into the index.
 
-ghost use Rattle.std.specs.Prelude.{◌≡◌, []};
+ghost use Rattle.std.specs.Prelude.{◌≡◌, [], IfOk};
 
 use arrayvec::ArrayVec;
 use epochs::Limbo;
@@ -35,9 +35,13 @@ impl Scratch {
     }
 
     /// Lets the next claims begin with the records that the last small round gave back. `layout` is that of the table.
-    pub fn reuse_given_records(&mut self, layout: Layout) {
+    pub fn reuse_given_records(&mut self, layout: Layout)
+        ensures made { self.new.build.made.items ≡ self.old.build.made.items }
+        ensures gone { self.new.build.gone.items ≡ self.old.build.gone.items }
+    {
+        let build = &mut self.build;
         for rec in self.limbo.given.as_slice() {
-            keep_spare(&mut self.build, layout, *rec);
+            keep_spare(build, layout, *rec);
         }
     }
 
@@ -53,7 +57,9 @@ impl Scratch {
 
 /// Adds `rec` to the spare numbers of its kind, for a leaf of its class, so that the next claim there tries `rec` first. If that list is
 /// full, `rec` isn't kept. Either way claims don't skip that kind or class any more. `layout` is that of the table.
-fn keep_spare(build: &mut Build, layout: Layout, rec: Rec) {
+fn keep_spare(build: &mut Build, layout: Layout, rec: Rec)
+    ensures { (build.new.made.items ≡ build.old.made.items) × (build.new.gone.items ≡ build.old.gone.items) }
+{
     match rec {
         Rec::Node(number) => build.nodes.give_back(number),
         Rec::Leaf(number) => {
@@ -77,7 +83,9 @@ fn first_leaf_of_class(layout: Layout, number: u32) -> u32 {
 
 /// Empty scratch lists for pass `number` of a table with this layout; an error if memory is refused. The pass's claims begin at a part of
 /// the records of its own, so that passes begin apart.
-pub fn new_scratch(alloc: Global, layout: Layout, number: u16) -> Result<Box<Scratch>, AllocError> {
+pub fn new_scratch(alloc: Global, layout: Layout, number: u16) -> Result<Box<Scratch>, AllocError>
+    ensures { IfOk result (λ scratch. (scratch.value.way.items ≡ []) × (scratch.value.build.made.items ≡ []) × (scratch.value.build.gone.items ≡ [])) }
+{
     let part = |from: u32, upto: u32| {
         Hint::begin_at(first_number_to_claim(number, layout.passes, upto.saturating_sub(from)))
     };

@@ -9,7 +9,7 @@ use Rattle.record_words.specs.declared.state.Tag.TheVariants.{Free, Live}
 use Rattle.record_words.specs.Layout.{leaf_size}
 use Rattle.record_words.specs.Leaf.{HasLeafWords, key_word, leaf_words, up_to_key}
 use Rattle.record_words.specs.State.{state_word}
-use Rattle.versions.specs.declared.Rec.TheVariants.{Leaf as a_leaf}
+use Rattle.record_words.specs.declared.records.Rec.TheVariants.{Leaf as a_leaf}
 use Rattle.rowex_core.specs.declared.event.Act.{Act}
 use Rattle.rowex_core.specs.declared.event.Act.TheVariants.{Claim, Fill, LoadEpoch, LoadRef, Lock, Ready, SetPin, ClearPin, Publish, Unlock}
 use Rattle.rowex_core.specs.declared.event.Event.{Event}

@@ -28,7 +28,7 @@ use Rattle.tries.specs.Tree.{Tree}
 use Rattle.version_laws.specs.Directions.{ScanLaw}
 use Rattle.versions.specs.Core.{pin_version}
 use Rattle.versions.specs.State.{IsReach}
-use Rattle.versions.specs.declared.Rec.TheVariants.{Leaf as a_leaf}
+use Rattle.record_words.specs.declared.records.Rec.TheVariants.{Leaf as a_leaf}
 use Rattle.versions.specs.Told.{added_notes, items_of}
 use Rattle.versions.proofs.States.{reach_later}
 use Rattle.versions.proofs.Telling.{content_in_order}
@@ -203,7 +203,7 @@ headline = record {
   refusals = refusals;
   full_alone = one_pass_full_is_full;
   never_refused = never_refused;
-  new_values_fit = record { held = held_is_never_full; absent = absent_is_never_full; alone = one_pass_refuses_new_alone };
+  never_full = record { held = held_is_never_full; absent = absent_is_never_full; alone = one_pass_refuses_new_alone };
   number_of_keys = counts_add_up;
   steps = steps;
   out_of_reach = in_reach;

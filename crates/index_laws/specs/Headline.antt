@@ -36,7 +36,7 @@ use Rattle.version_laws.specs.Directions.{ScanLaw}
 use Rattle.versions.specs.State.{Stands}
 use Rattle.versions.specs.Told.{content, items_of}
 use Rattle.versions.specs.declared.Pin.{Pin}
-use Rattle.versions.specs.declared.Rec.TheVariants.{Leaf as a_leaf}
+use Rattle.record_words.specs.declared.records.Rec.TheVariants.{Leaf as a_leaf}
 use Rattle.hot_index_calls.specs.Answers.{HaveMet, IsCause, IsListedBy, IsNoted, IsRefusedFor, IsScannedBy, MayRefuse, range_from}
 use Rattle.hot_index_calls.specs.declared.census.RecordCounts.{RecordCounts}
 use Rattle.hot_index_calls.specs.Census.{HasCounted}
@@ -114,7 +114,7 @@ Refusals =
 
 -- A call that gives its key a value is full only if its key was absent: it is never refused as full if the key was held all the while, and in
 -- an index of one pass never at all if the key is held. And a removal is never refused as full if its key was absent all the while.
-pub record NewValuesFit : Type 0 where
+pub record NeverFull : Type 0 where
   pub held : HeldIsNeverFull
   pub absent : AbsentIsNeverFull
   pub alone : OnePassRefusesNewAlone
@@ -175,7 +175,7 @@ pub record Headline : Type 0 where
   -- and each of them but for 4,321 at most
   pub full_alone : OnePassFullIsFull
   pub never_refused : NeverRefused
-  pub new_values_fit : NewValuesFit
+  pub never_full : NeverFull
   -- if no pass is changing the index, the counts that passes keep of their keys are those of its map
   pub number_of_keys : CountsAddUp
   pub steps : BoundedSteps

@@ -30,7 +30,7 @@ pub record IsStep (k : Key) (s : PathNode) (n : ℕ) (x : Fixed) (b : Tree) : Ty
   pub height : s.height ≡ x.height
   pub first : s.first_position ≡ first_position (subtrie b)
   pub count : s.count ≡ size (subtrie b)
-  pub at : s.at ≡ spot k (subtrie b)
+  pub at : s.slot ≡ spot k (subtrie b)
 
 abbrev pub IsStepAt : Key → PathNode → Tree → Type 0
 IsStepAt k s (leaf n l v) = ⊥

@@ -22,7 +22,7 @@ pub struct PathNode {
     /// How many entries the node has.
     pub count: u8,
     /// The slot that the search took.
-    pub at: u8,
+    pub slot: u8,
 }
 
 /// What is done at the affected node.
@@ -42,7 +42,7 @@ pub enum Case {
 /// For `NormalInsert` it is the affected node. For `Overflow` these are the nodes from the affected one up to `pull_up_chain_end`, but for
 /// a full node that stays whole as one half.
 ///
-/// The last two store into slot `at` of the node above the uppermost of these, or at the root. A writer locks these nodes, also the one
+/// The last two store into `slot` of the node above the uppermost of these, or at the root. A writer locks these nodes, also the one
 /// that stays whole, and the one that is stored into.
 #[derive(Clone, Copy)]
 pub struct Choice {
@@ -52,7 +52,7 @@ pub struct Choice {
     pub case: Case,
 }
 
-/// The index on `way` of the last node whose first position is below `position`; 0 if there is none.
+/// The index on `way`, which isn't empty, of the last node whose first position is below `position`; 0 if there is none.
 pub fn last_level_before(way: &[PathNode], position: u16) -> usize
     requires { 0 < length way.now }
     ensures { IsLevel way.now position result }
@@ -103,7 +103,8 @@ pub fn choose_case(way: &[PathNode], level: usize, first: u8, last: u8) -> Choic
     }
 }
 
-/// What is done at the node of `step`, the affected one. `one_leaf` says whether one leaf alone is affected.
+/// What is done at the node of `step`, the affected one. `one_leaf` says whether one leaf alone is affected, which is pushed down if the
+/// node is higher than 1. Else a node with room gets the entry, and a full one overflows.
 fn case_at_node(step: PathNode, one_leaf: bool) -> Case
     ensures { result ≡ case_of step.height step.count one_leaf }
 {

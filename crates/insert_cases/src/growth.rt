@@ -144,35 +144,35 @@ fn grow_half(half: Half, first: u8, last: u8, position: u16, bit: bool, entry: E
     }
 }
 
-/// The node with a fork of `zero` and `one` at `position` in place of entry `at`. `position` is above those of all forks on the path to
-/// `at`. It is one node if there are fewer than 32 entries, else the cut that [`pull_up_full`] returns.
-pub fn pull_up(node: &Node, at: u8, position: u16, zero: Entry, one: Entry) -> Grown
-    requires place { at < length node.now.entries }
-    requires path { IsAbovePath position at (piece node.now) }
+/// The node with a fork of `zero` and `one` at `position` in place of the entry in `slot`. `position` is above those of all forks on the
+/// path to `slot`. It is one node if there are fewer than 32 entries, else the cut that [`pull_up_full`] returns.
+pub fn pull_up(node: &Node, slot: u8, position: u16, zero: Entry, one: Entry) -> Grown
+    requires place { slot < length node.now.entries }
+    requires path { IsAbovePath position slot (piece node.now) }
     requires position { position < 65535 }
     requires zero { IsEntry zero }
     requires one { IsEntry one }
-    ensures shows { GrownShows node.now result (grafted at (Fork position (At zero) (At one)) (piece node.now)) }
+    ensures shows { GrownShows node.now result (grafted slot (Fork position (At zero) (At one)) (piece node.now)) }
     ensures whole { IsTrue (is_whole result) ↔ (length node.now.entries < 32) }
     ensures same { keeps_node result ≡ false }
 {
     if node.count() < 32 {
         let mut grown = node.copy();
-        put_fork(&mut grown, at, position, zero, one);
+        put_fork(&mut grown, slot, position, zero, one);
         return Grown::One(grown);
     }
-    Grown::Two(pull_up_full(node, at, position, zero, one))
+    Grown::Two(pull_up_full(node, slot, position, zero, one))
 }
 
 /// As [`pull_up`], of a full node. The node is cut at its root fork, and the new fork stands in one of the halves.
-pub fn pull_up_full(node: &Node, at: u8, position: u16, zero: Entry, one: Entry) -> Cut
+pub fn pull_up_full(node: &Node, slot: u8, position: u16, zero: Entry, one: Entry) -> Cut
     requires full { length node.now.entries ≡ 32 }
-    requires place { at < length node.now.entries }
-    requires path { IsAbovePath position at (piece node.now) }
+    requires place { slot < length node.now.entries }
+    requires path { IsAbovePath position slot (piece node.now) }
     requires position { position < 65535 }
     requires zero { IsEntry zero }
     requires one { IsEntry one }
-    ensures shows { IsCutOf node.now result (grafted at (Fork position (At zero) (At one)) (piece node.now)) }
+    ensures shows { IsCutOf node.now result (grafted slot (Fork position (At zero) (At one)) (piece node.now)) }
     ensures same { keeps_side result ≡ false }
 {
     prove!(node.count() == 32);
@@ -182,15 +182,15 @@ pub fn pull_up_full(node: &Node, at: u8, position: u16, zero: Entry, one: Entry)
         one: rest,
     } = node.cut();
     let count = half_count(&front);
-    if at < count {
-        let front = Half::Many(fork_half(front, at, position, zero, one));
+    if slot < count {
+        let front = Half::Many(fork_half(front, slot, position, zero, one));
         Cut {
             position: root,
             zero: front,
             one: rest,
         }
     } else {
-        let rest = Half::Many(fork_half(rest, at - count, position, zero, one));
+        let rest = Half::Many(fork_half(rest, slot - count, position, zero, one));
         Cut {
             position: root,
             zero: front,
@@ -199,20 +199,21 @@ pub fn pull_up_full(node: &Node, at: u8, position: u16, zero: Entry, one: Entry)
     }
 }
 
-/// The node of `half`, a side of a cut with fewer than 32 entries, with a fork in place of entry `at`, as [`pull_up`] puts it there.
-fn fork_half(half: Half, at: u8, position: u16, zero: Entry, one: Entry) -> Node
+/// The node of `half`, a side of a cut with fewer than 32 entries, with a fork in place of the entry in `slot`, as [`pull_up`] puts it
+/// there.
+fn fork_half(half: Half, slot: u8, position: u16, zero: Entry, one: Entry) -> Node
     requires half { HalfShows half (half_piece half) }
     requires room { size (half_piece half) < 32 }
-    requires place { at < size (half_piece half) }
-    requires path { IsAbovePath position at (half_piece half) }
+    requires place { slot < size (half_piece half) }
+    requires path { IsAbovePath position slot (half_piece half) }
     requires position { position < 65535 }
     requires zero { IsEntry zero }
     requires one { IsEntry one }
-    ensures { IsBuiltFrom result (grafted at (Fork position (At zero) (At one)) (half_piece half)) }
+    ensures { IsBuiltFrom result (grafted slot (Fork position (At zero) (At one)) (half_piece half)) }
 {
     match half {
         Half::Many(mut node) => {
-            put_fork(&mut node, at, position, zero, one);
+            put_fork(&mut node, slot, position, zero, one);
             node
         }
         Half::One(_) => Node::pair(position, zero, one),
@@ -220,25 +221,26 @@ fn fork_half(half: Half, at: u8, position: u16, zero: Entry, one: Entry) -> Node
     }
 }
 
-/// Puts a fork of `zero` and `one` at `position` in the place of entry `at` of `node`, which has fewer than 32 entries. `position` is above
-/// those of all forks on the path to `at`. The height is made anew: one above the greatest of the entries that the node has then.
-pub fn put_fork(node: &mut Node, at: u8, position: u16, zero: Entry, one: Entry)
+/// Puts a fork of `zero` and `one` at `position` in the place of the entry in `slot` of `node`, which has fewer than 32 entries. `position`
+/// is above those of all forks on the path to `slot`. The height is made anew: one above the greatest of the entries that the node has
+/// then.
+pub fn put_fork(node: &mut Node, slot: u8, position: u16, zero: Entry, one: Entry)
     requires room { length node.old.entries < 32 }
-    requires place { at < length node.old.entries }
-    requires path { IsAbovePath position at (piece node.old) }
+    requires place { slot < length node.old.entries }
+    requires path { IsAbovePath position slot (piece node.old) }
     requires position { position < 65535 }
     requires zero { IsEntry zero }
     requires one { IsEntry one }
-    ensures { IsBuiltFrom node.new (grafted at (Fork position (At zero) (At one)) (piece node.old)) }
+    ensures { IsBuiltFrom node.new (grafted slot (Fork position (At zero) (At one)) (piece node.old)) }
 {
     prove!(node.count() < 32);
     // A leaf stands in for the old entry, whose height doesn't count. The higher entry is added first, so that the height is above both.
-    node.set_entry(at, Entry::Leaf(0));
+    node.set_entry(slot, Entry::Leaf(0));
     if zero.height() <= one.height() {
-        node.add_entry(at, at, position, true, one);
-        node.set_entry(at, zero);
+        node.add_entry(slot, slot, position, true, one);
+        node.set_entry(slot, zero);
     } else {
-        node.add_entry(at, at, position, false, zero);
-        node.set_entry(at + 1, one);
+        node.add_entry(slot, slot, position, false, zero);
+        node.set_entry(slot + 1, one);
     }
 }

@@ -2,7 +2,7 @@
 use Rattle.std.proofs.Common.{◌≡◌, ◌≢◌, ℕ, suc, Bool, true, false, nat_eq, if◌then◌else◌, Option, Some, None, refl, subst}
 use Rattle.record_words.specs.declared.state.Tag.TheVariants.{Live}
 use Rattle.record_words.specs.State.{state_word}
-use Rattle.versions.specs.declared.Rec.{Rec}
+use Rattle.record_words.specs.declared.records.Rec.{Rec}
 use Rattle.versions.specs.Core.{Fate, Shared, Free, Held, Ready, InTree, Unlinked, Marked}
 use Rattle.versions.specs.Steps.{with_fate, with_lock, with_epoch, unlocked, next_fate}
 use Rattle.rowex_core.specs.declared.event.Act.{Act}

@@ -4,7 +4,7 @@ use Rattle.record_words.specs.declared.layout.Layout.{Layout}
 use Rattle.versions.specs.Core.{Free, Ready}
 use Rattle.versions.specs.Steps.{is_linked}
 use Rattle.versions.specs.Trades.{IsOneOf}
-use Rattle.versions.specs.declared.Rec.TheVariants.{Node as a_node}
+use Rattle.record_words.specs.declared.records.Rec.TheVariants.{Node as a_node}
 use Rattle.versions.proofs.Members.{all_of}
 use Rattle.rowex_core.specs.declared.event.Act.TheVariants.{Publish}
 use Rattle.rowex_core.specs.declared.event.Event.{Event}

@@ -2,7 +2,7 @@
 use Rattle.std.proofs.Common.{◌≡◌, ℕ, ◌+◌, ◌-◌, ◌≤◌, List, [], ◌∷◌, ◌++◌, length, take, drop, ap, sym, subst, ◌∙◌, arith, length-drop}
 use Rattle.std.proofs.lemmas.List.{drop-take, length-take-le, take-append-drop, take-take}
 use Rattle.key_bits.specs.Key.{IsKey}
-use Rattle.packed_pairs.specs.declared.pairs.Head.{Head}
+use Rattle.packed_pairs.specs.declared.head.Head.{Head}
 use Rattle.packed_pairs.specs.Packed.{ArePacked, unpacked}
 use Rattle.packed_pairs.proofs.Lasts.{at_end}
 use Rattle.packed_pairs.proofs.Packing.{unpacked-push}

@@ -3,7 +3,7 @@ use Rattle.std.proofs.Common.{◌≡◌, ℕ, ◌-◌, ◌<◌, ◌≤◌, suc, 
 use Rattle.std.proofs.Math.Seq.{take-append_seam}
 use Rattle.std.proofs.lemmas.Bool.{le-leb, leb-true, lt-leb}
 use Rattle.std.proofs.lemmas.List.{length-take-le, take-append-drop}
-use Rattle.packed_pairs.specs.declared.pairs.Head.{Head}
+use Rattle.packed_pairs.specs.declared.head.Head.{Head}
 use Rattle.packed_pairs.specs.Packed.{ArePacked, unpacked}
 use Rattle.packed_pairs.specs.Parts.{fitting, packed_head, keys_in}
 

@@ -4,7 +4,7 @@ use Rattle.std.proofs.lemmas.List.{take-append-le, drop-append-le, take_all}
 use Rattle.std.proofs.lemmas.List.Elements.{All-cons, All-nil}
 use Rattle.std.specs.Prelude.{All}
 use Rattle.key_bits.specs.Key.{IsKey}
-use Rattle.packed_pairs.specs.declared.pairs.Head.{Head}
+use Rattle.packed_pairs.specs.declared.head.Head.{Head}
 use Rattle.packed_pairs.specs.Packed.{ArePacked, unpacked}
 
 pub length-unpacked : (heads : List Head) (bytes : List ℕ) → length (unpacked heads bytes) ≡ length heads

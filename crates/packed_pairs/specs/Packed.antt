@@ -2,7 +2,7 @@
 use Rattle.std.specs.Prelude.{ℕ, ◌≡◌, ◌≤◌, List, [], ◌∷◌, length, take, drop}
 use denote.Ref.{Bor}
 use Rattle.key_bits.specs.Key.{IsKey}
-use Rattle.packed_pairs.specs.declared.pairs.Head.{Head}
+use Rattle.packed_pairs.specs.declared.head.Head.{Head}
 
 -- the pairs of these heads: the first key has the first of the bytes
 abbrev pub unpacked : List Head → List ℕ → List (List ℕ × ℕ)

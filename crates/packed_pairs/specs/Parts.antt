@@ -1,6 +1,6 @@
 -- The parts of packed pairs: their heads, and their keys one after another.
 use Rattle.std.specs.Prelude.{ℕ, ◌-◌, List, [], ◌∷◌, ◌++◌, length, nat_le, if◌then◌else◌}
-use Rattle.packed_pairs.specs.declared.pairs.Head.{Head}
+use Rattle.packed_pairs.specs.declared.head.Head.{Head}
 
 -- how long the key is, and the value
 abbrev pub packed_head : List ℕ × ℕ → Head

@@ -5,7 +5,7 @@ ghost use Rattle.std.specs.Iterator.{YieldsFirst};
 ghost use Rattle.key_bits.specs.Key.{IsKey};
 ghost use Rattle.packed_pairs.specs.Packed.{ArePacked, unpacked};
 
-use crate::pairs::Head;
+use crate::head::Head;
 use key_bits::{Key, MAX_BYTES};
 use std::marker::Model;
 

@@ -2,10 +2,14 @@
 #![tactic(auto)]
 
 mod back;
+mod direction;
+mod head;
 mod iter;
 mod keys;
 mod pairs;
 mod parts;
 
+pub use direction::Direction;
+pub use head::Head;
 pub use iter::Iter;
-pub use pairs::{Head, Pairs};
+pub use pairs::Pairs;

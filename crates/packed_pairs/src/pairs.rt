@@ -5,19 +5,12 @@ ghost use Rattle.key_bits.specs.Key.{IsKey};
 ghost use Rattle.key_bits.specs.declared.TheConstants.{MAX_BYTES};
 ghost use Rattle.packed_pairs.specs.Last.{IsLastKey};
 
+use crate::head::Head;
 use crate::iter::{Iter, key_from_bytes};
 use crate::keys::KeyBytes;
 use key_bits::{Key, MAX_BYTES};
 use std::alloc::{AllocError, Global};
 use std::marker::Model;
-
-/// How many bytes the key of a pair has, and its value. The fields have the order of C's.
-#[repr(C)]
-#[derive(Clone, Copy, Drop)]
-pub struct Head {
-    pub count: u8,
-    pub value: u64,
-}
 
 /// Keys with their values, in the order in which they came.
 ///

@@ -3,7 +3,8 @@
 ghost use Rattle.std.specs.Prelude.{◌≡◌, [], length, map, pred, take};
 ghost use Rattle.packed_pairs.specs.Parts.{fitting, packed_head, keys_in};
 
-use crate::pairs::{Head, Pairs};
+use crate::head::Head;
+use crate::pairs::Pairs;
 
 impl Pairs {
     /// The heads of the list's pairs, and the bytes of their keys, one key behind the other, both in the list's order.

@@ -235,7 +235,7 @@ impl PlainTrie {
 fn find_entry(node: &Node, key: &Key) -> Entry
     ensures { result ≡ seek key.now (piece node.now) }
 {
-    let at = node.search(key);
-    prove!(at < node.count());
-    node.entry(at)
+    let slot = node.search(key);
+    prove!(slot < node.count());
+    node.entry(slot)
 }

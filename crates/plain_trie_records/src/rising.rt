@@ -52,17 +52,17 @@ pub fn raise_newcomer(
         Entry::Leaf(_) => fork_entries(entry, position, key.bit(position), Entry::Leaf(leaf)),
         Entry::Node { number, height } => {
             let node = &nodes[number as usize];
-            let at = node.search(key);
-            prove!(at < node.count());
-            let (first, last) = node.affected(at, position);
+            let slot = node.search(key);
+            prove!(slot < node.count());
+            let (first, last) = node.affected(slot, position);
             if node_takes_leaf(height, first, last) {
                 let bit = key.bit(position);
                 let grown = grow(node, first, last, position, bit, Entry::Leaf(leaf));
                 return store_grown(nodes, number, height, grown);
             }
-            let child = node.entry(at);
+            let child = node.entry(slot);
             let risen = raise_newcomer(nodes, child, key, position, leaf);
-            lift_risen(nodes, number, height, at, child.height(), risen)
+            lift_risen(nodes, number, height, slot, child.height(), risen)
         }
     }
 }
@@ -95,36 +95,36 @@ fn fork_entries(old: Entry, position: u16, bit: bool, new: Entry) -> Risen
     }
 }
 
-/// Puts `risen` in the place of entry `at` of node `number`, which is `height` high, and returns what takes the node's place. `low` is the
-/// height of the entry that was there. A fork goes into the node if that is one higher than `low`, else into a new node at the place. A
-/// full node that takes in the fork is cut, and the fork of its sides is returned.
+/// Puts `risen` in the place of the entry in `slot` of node `number`, which is `height` high, and returns what takes the node's place.
+/// `low` is the height of the entry that was there. A fork goes into the node if that is one higher than `low`, else into a new node at the
+/// place. A full node that takes in the fork is cut, and the fork of its sides is returned.
 fn lift_risen(
     nodes: &mut Vec<Node>,
     number: u32,
     height: u16,
-    at: u8,
+    slot: u8,
     low: u16,
     risen: Risen,
 ) -> Risen
     requires place { (ns : List NodeView) × (leaves : List LeafRecord) × (x : Item) × (p : ℕ) × (y : Fixed) × (b : Tree) ×
-        IsLifting (records ns leaves) nodes.old.items x p (level number height at low) y b (subtrie_of risen) }
+        IsLifting (records ns leaves) nodes.old.items x p (level number height slot low) y b (subtrie_of risen) }
     requires room { vec_len nodes.old < vec_capacity nodes.old }
     requires small { vec_len nodes.old < 2 ^ 32 }
     ensures raised { (ns : List NodeView) (leaves : List LeafRecord) (x : Item) (p : ℕ) (y : Fixed) (b : Tree) →
-        IsLifting (records ns leaves) nodes.old.items x p (level number height at low) y b (subtrie_of risen) →
+        IsLifting (records ns leaves) nodes.old.items x p (level number height slot low) y b (subtrie_of risen) →
         IsRaised ns nodes.new.items leaves x p (tree_node number y b) (suc height) (subtrie_of result) }
     ensures between { (old : NodeView) (p : ℕ) (zero one : EntryView) → slice_get nodes.old.items number ≡ Some old →
         subtrie_of risen ≡ Fork p (At zero) (At one) → low + 1 < height →
-        IsPutBetween nodes.old.items nodes.new.items number at old (Fork p (At zero) (At one)) }
+        IsPutBetween nodes.old.items nodes.new.items number slot old (Fork p (At zero) (At one)) }
     ensures takes { (old : NodeView) → slice_get nodes.old.items number ≡ Some old →
-        (new : NodeView) × (slice_get nodes.new.items number ≡ Some new) × IsLevelDone low (is_split risen) old new at (is_split result) }
+        (new : NodeView) × (slice_get nodes.new.items number ≡ Some new) × IsLevelDone low (is_split risen) old new slot (is_split result) }
     ensures others { OthersStay nodes.old.items nodes.new.items number }
     ensures heights { KeepsHeights nodes.old.items nodes.new.items }
     ensures len { vec_len nodes.new ≤ vec_len nodes.old + 1 }
     ensures capacity { vec_capacity nodes.new ≡ vec_capacity nodes.old }
 {
     match risen {
-        Risen::Whole(entry) => Risen::Whole(replace_entry(nodes, number, at, entry)),
+        Risen::Whole(entry) => Risen::Whole(replace_entry(nodes, number, slot, entry)),
         Risen::Split {
             position,
             zero,
@@ -132,12 +132,12 @@ fn lift_risen(
         } => {
             if is_pull_up(low, height) {
                 let node = &nodes[number as usize];
-                prove!(at < node.count());
-                let grown = pull_up(node, at, position, zero, one);
+                prove!(slot < node.count());
+                let grown = pull_up(node, slot, position, zero, one);
                 return store_grown(nodes, number, height, grown);
             }
             let entry = push_pair(nodes, position, zero, one);
-            Risen::Whole(replace_entry(nodes, number, at, entry))
+            Risen::Whole(replace_entry(nodes, number, slot, entry))
         }
     }
 }
@@ -166,19 +166,19 @@ pub fn make_root(nodes: &mut Vec<Node>, risen: Risen) -> Entry
     }
 }
 
-/// Puts `entry`, which is lower than node `number`, into its slot `at` in its own record, and returns the node's entry. Its height stays.
-fn replace_entry(nodes: &mut Vec<Node>, number: u32, at: u8, entry: Entry) -> Entry
-    requires { (old : NodeView) × (slice_get nodes.old.items number ≡ Some old) × (at < size (piece old)) × StandsBelow old.height entry }
-    ensures shows { (old : NodeView) → slice_get nodes.old.items number ≡ Some old → IsNamed nodes.new.items old result (grafted at (At entry) (piece old)) }
+/// Puts `entry`, which is lower than node `number`, into its slot `slot` in its own record, and returns the node's entry. Its height stays.
+fn replace_entry(nodes: &mut Vec<Node>, number: u32, slot: u8, entry: Entry) -> Entry
+    requires { (old : NodeView) × (slice_get nodes.old.items number ≡ Some old) × (slot < size (piece old)) × StandsBelow old.height entry }
+    ensures shows { (old : NodeView) → slice_get nodes.old.items number ≡ Some old → IsNamed nodes.new.items old result (grafted slot (At entry) (piece old)) }
     ensures fields { (old : NodeView) → slice_get nodes.old.items number ≡ Some old →
-        slice_get nodes.new.items number ≡ Some (record old { entries = slice_set old.entries at entry }) }
+        slice_get nodes.new.items number ≡ Some (record old { entries = slice_set old.entries slot entry }) }
     ensures others { OthersStay nodes.old.items nodes.new.items number }
     ensures heights { KeepsHeights nodes.old.items nodes.new.items }
     ensures len { vec_len nodes.new ≡ vec_len nodes.old }
     ensures capacity { vec_capacity nodes.new ≡ vec_capacity nodes.old }
 {
     let node = &nodes[number as usize];
-    prove!(at < node.count());
-    let node = node.replace(at, entry);
+    prove!(slot < node.count());
+    let node = node.replace(slot, entry);
     put_node(nodes, number, node)
 }

@@ -45,8 +45,8 @@ pub fn scan_below(
         Entry::Leaf(number) => scan_leaf(&leaves[number as usize], range, scan),
         Entry::Node { number, .. } => {
             let node = &nodes[number as usize];
-            for place in 0..node.count() {
-                scan_below(nodes, leaves, node.entry(place), range, scan)?;
+            for slot in 0..node.count() {
+                scan_below(nodes, leaves, node.entry(slot), range, scan)?;
             }
             Ok(())
         }

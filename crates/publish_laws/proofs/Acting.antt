@@ -1,7 +1,7 @@
 -- Locks and loads under them, and what a pass recalls after an act.
 use Rattle.std.proofs.Common.{◌≡◌, ◌+◌, subst, ◌∙◌, arith, suc}
 use Rattle.rowex_core.specs.declared.event.Act.TheVariants.{LoadFixed}
-use Rattle.versions.specs.declared.Rec.TheVariants.{Node as a_node}
+use Rattle.record_words.specs.declared.records.Rec.TheVariants.{Node as a_node}
 use Rattle.rowex_core.specs.Knowing.{IsEvent}
 use Rattle.rowex_core.proofs.Owning.{recalls, pin_is}
 use Rattle.rowex_core.proofs.Leading.{led_is_in_tree}

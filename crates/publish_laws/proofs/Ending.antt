@@ -1,7 +1,7 @@
 -- From the publish to rest.
 use Rattle.std.proofs.Common.{◌≡◌, inl, ℕ, List, [], ◌∷◌, refl, sym, ap, subst, ◌∙◌}
 use Rattle.record_words.specs.declared.layout.Layout.{Layout}
-use Rattle.versions.specs.declared.Rec.{Rec}
+use Rattle.record_words.specs.declared.records.Rec.{Rec}
 use Rattle.versions.specs.declared.Round.{Round}
 use Rattle.rowex_core.specs.declared.known.Known.{Known}
 use Rattle.rowex_core.specs.declared.known.Owned.{Owned}
@@ -9,7 +9,7 @@ use Rattle.versions.specs.Trades.{AreApart}
 use Rattle.rowex_core.specs.Having.{OwnsJust, LocksJust, IsUnlinkedBefore, is_among}
 use Rattle.rowex_table.proofs.Rights.{unlocks_anchor}
 use Rattle.std.specs.Prelude.{not}
-use Rattle.versions.specs.declared.Rec.TheVariants.{Node as a_node}
+use Rattle.record_words.specs.declared.records.Rec.TheVariants.{Node as a_node}
 use Rattle.rowex_core.proofs.Kept.{kept_are_not_gone, filter_apart}
 use Rattle.rowex_core.proofs.Having.{owns_none, locks_none}
 use Rattle.rowex_table.proofs.ActsAfter.{marks_own, unlocks_node, unlock_round, epoch_owns, epoch_leaves, mark_gives, mark_leaves, unlock_gives, unlock_leaves, unlock_anchor_gives}

@@ -14,8 +14,8 @@ use Rattle.tries.specs.Tree.{Subtrie, Tree, subtrie, Within, here, inside, node}
 use Rattle.tries.proofs.Building.{greatest-append}
 use Rattle.tries.proofs.Tries.{built_within, trie_within, within_trans}
 use Rattle.versions.specs.Heap.{NodeWords, LeafWords}
-use Rattle.versions.specs.declared.Rec.{Rec}
-use Rattle.versions.specs.declared.Rec.TheVariants.{Node as a_node, Leaf as a_leaf}
+use Rattle.record_words.specs.declared.records.Rec.{Rec}
+use Rattle.record_words.specs.declared.records.Rec.TheVariants.{Node as a_node, Leaf as a_leaf}
 use Rattle.versions.specs.Trades.{IsOneOf}
 use Rattle.versions.proofs.Heaps.{shown_within}
 use Rattle.versions.proofs.Members.{all_of, of_left, of_right}

@@ -9,7 +9,7 @@ use Rattle.record_words.specs.Entry.{HasEntryWord, entry_word}
 use Rattle.tries.specs.Keys.{Key}
 use Rattle.tries.specs.Tree.{Tree, leaf, Within}
 use Rattle.tries.proofs.Maps.{holds_value}
-use Rattle.versions.specs.declared.Rec.{Rec}
+use Rattle.record_words.specs.declared.records.Rec.{Rec}
 use Rattle.versions.specs.Told.{content}
 use Rattle.versions.specs.Trades.{HasTraded}
 use Rattle.version_laws.specs.Statements.{IsPublished}

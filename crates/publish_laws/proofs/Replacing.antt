@@ -12,7 +12,7 @@ use Rattle.finite_map.specs.declared.Change.{Change}
 use Rattle.tries.specs.Search.{seek}
 use Rattle.tries.specs.Place.{subtrie_without}
 use Rattle.tries.specs.Tree.{leaf, Within}
-use Rattle.versions.specs.declared.Rec.TheVariants.{Node as a_node, Leaf as a_leaf}
+use Rattle.record_words.specs.declared.records.Rec.TheVariants.{Node as a_node, Leaf as a_leaf}
 use Rattle.versions.specs.Heap.{NodeWords, LeafWords}
 use Rattle.version_laws.specs.Writer.{replaced_change, removed_change}
 use Rattle.version_laws.specs.Rise.{IsLeafOf, linked_for_entry}

@@ -18,7 +18,7 @@ use Rattle.tries.specs.Place.{spot, with_entry}
 use Rattle.tries.specs.Affected.{subtrie_affected, IsLowerSubtrie, IsTipSubtrie, FirstForkIsBefore}
 use Rattle.tries.specs.Search.{seek}
 use Rattle.tries.proofs.Places.{spot_below}
-use Rattle.versions.specs.declared.Rec.TheVariants.{Node as a_node, Leaf as a_leaf}
+use Rattle.record_words.specs.declared.records.Rec.TheVariants.{Node as a_node, Leaf as a_leaf}
 use Rattle.versions.specs.Heap.{NodeWords}
 use Rattle.versions.proofs.Legal.{same_rec_refl}
 use Rattle.version_laws.specs.Writer.{IsNewLeaf, IsSubtrieStored}

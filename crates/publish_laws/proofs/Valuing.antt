@@ -5,7 +5,7 @@ use Rattle.tries.specs.Keys.{Key}
 use Rattle.tries.specs.Place.{spot}
 use Rattle.tries.specs.Search.{seek}
 use Rattle.tries.proofs.Places.{seek_spot, spot_below}
-use Rattle.versions.specs.declared.Rec.TheVariants.{Leaf as a_leaf}
+use Rattle.record_words.specs.declared.records.Rec.TheVariants.{Leaf as a_leaf}
 use Rattle.versions.specs.Core.{Free}
 use Rattle.versions.specs.Heap.{LeafWords}
 use Rattle.versions.specs.Steps.{HasLockedNamer, in_root, in_node}

@@ -6,7 +6,7 @@ use Rattle.record_words.specs.declared.layout.Layout.{Layout}
 use Rattle.record_words.specs.declared.TheConstants.{HEAD_WORDS}
 use Rattle.tries.specs.Keys.{Key}
 use Rattle.tries.specs.Place.{subtrie_sibling}
-use Rattle.versions.specs.declared.Rec.TheVariants.{Node as a_node}
+use Rattle.record_words.specs.declared.records.Rec.TheVariants.{Node as a_node}
 use Rattle.versions.specs.Trades.{IsOneOf}
 use Rattle.version_laws.specs.Scan.{EntryStoodSince}
 use Rattle.rowex_core.specs.declared.event.Act.{Act}

@@ -11,7 +11,7 @@ use Rattle.tries.specs.Search.{seek}
 use Rattle.tries.specs.Place.{subtrie_collapsed, subtrie_without}
 use Rattle.tries.specs.Content.{Item, item}
 use Rattle.tries.specs.Affected.{subtrie_forked}
-use Rattle.versions.specs.declared.Rec.TheVariants.{Node as a_node, Leaf as a_leaf}
+use Rattle.record_words.specs.declared.records.Rec.TheVariants.{Node as a_node, Leaf as a_leaf}
 use Rattle.versions.specs.Trades.{IsOneOf}
 use Rattle.version_laws.specs.Writer.{added_change, replaced_change, removed_change}
 use Rattle.rowex_core.specs.declared.event.Spot.{Spot}

@@ -2,7 +2,7 @@
 use Rattle.std.specs.Prelude.{◌≡◌, ℕ, List, [], ◌∷◌, Option, None, IsSome}
 use Rattle.finite_map.specs.declared.Change.{Change}
 use Rattle.record_words.specs.declared.layout.Layout.{Layout}
-use Rattle.versions.specs.declared.Rec.{Rec}
+use Rattle.record_words.specs.declared.records.Rec.{Rec}
 use Rattle.versions.specs.Trades.{IsOneOf, AreApart}
 use Rattle.rowex_core.specs.declared.event.Act.TheVariants.{Unlock, Mark, LoadEpoch}
 use Rattle.rowex_core.specs.declared.event.Target.TheVariants.{Anchor, Node as NodeTarget}

@@ -9,8 +9,8 @@ use Rattle.tries.specs.Keys.{bit}
 use Rattle.tries.specs.Tree.{Subtrie}
 use Rattle.tries.specs.Place.{with_subtrie}
 use Rattle.tries.specs.Affected.{subtrie_affected, subtrie_forked, subtrie_grown, IsPartSubtrie}
-use Rattle.versions.specs.declared.Rec.{Rec}
-use Rattle.versions.specs.declared.Rec.TheVariants.{Node as a_node}
+use Rattle.record_words.specs.declared.records.Rec.{Rec}
+use Rattle.record_words.specs.declared.records.Rec.TheVariants.{Node as a_node}
 use Rattle.versions.specs.State.{FirstForkIsFrom}
 use Rattle.version_laws.specs.Writer.{added_change, Newcomer}
 use Rattle.version_laws.specs.Rise.{entry}

@@ -11,7 +11,7 @@ use Rattle.tries.specs.Keys.{Key, bit, AgreeBelow}
 use Rattle.tries.specs.Tree.{Subtrie}
 use Rattle.tries.specs.Content.{Item}
 use Rattle.tries.specs.Affected.{FirstForkIsBefore}
-use Rattle.versions.specs.declared.Rec.TheVariants.{Node as a_node, Leaf as a_leaf}
+use Rattle.record_words.specs.declared.records.Rec.TheVariants.{Node as a_node, Leaf as a_leaf}
 use Rattle.versions.specs.Trades.{IsOneOf}
 use Rattle.version_laws.specs.Writer.{IsWayBelow, Newcomer}
 use Rattle.rowex_core.specs.declared.known.Known.{Known}

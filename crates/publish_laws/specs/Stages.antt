@@ -9,8 +9,8 @@ use Rattle.tries.specs.Tree.{Subtrie}
 use Rattle.tries.specs.Search.{seek}
 use Rattle.tries.specs.Place.{fork_of, subtrie_sibling, subtrie_without}
 use Rattle.tries.specs.Content.{Item}
-use Rattle.versions.specs.declared.Rec.{Rec}
-use Rattle.versions.specs.declared.Rec.TheVariants.{Leaf as a_leaf}
+use Rattle.record_words.specs.declared.records.Rec.{Rec}
+use Rattle.record_words.specs.declared.records.Rec.TheVariants.{Leaf as a_leaf}
 use Rattle.versions.specs.State.{Past}
 use Rattle.versions.specs.Trades.{IsOneOf}
 use Rattle.version_laws.specs.Spots.{AffectsOne}

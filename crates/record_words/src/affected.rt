@@ -14,33 +14,33 @@ use partial_keys::count_below;
 use std::simd::prelude::*;
 
 /// The first and the last affected slot, in each node whose head has `words`. From the one to the other stand just the entries whose rows
-/// agree with that of slot `found` in all columns below `position`. No head is made: the words are compared as vectors. Rows rise, so those
+/// agree with that of `slot` in all columns below `position`. No head is made: the words are compared as vectors. Rows rise, so those
 /// that agree in the first columns follow each other.
 #[inline(always)]
-pub fn affected_slots(words: &[u64], found: u8, position: u16) -> (u8, u8)
+pub fn affected_slots(words: &[u64], slot: u8, position: u16) -> (u8, u8)
     requires long { length words.now ≡ HEAD_WORDS }
     requires spelling { IsSpelling HasHeadWords head_words words.now }
-    requires in_range { InNodesOf words.now (λ node. found < length node.entries) }
-    ensures from { InNodesOf words.now (λ node. affected_first position found (piece node) ≡ result.0) }
-    ensures upto { InNodesOf words.now (λ node. affected_count position found (piece node) + result.0 ≡ result.1 + 1) }
+    requires in_range { InNodesOf words.now (λ node. slot < length node.entries) }
+    ensures from { InNodesOf words.now (λ node. affected_first position slot (piece node) ≡ result.0) }
+    ensures upto { InNodesOf words.now (λ node. affected_count position slot (piece node) + result.0 ≡ result.1 + 1) }
 {
     let positions = positions_in(words);
     let rest = u32::MAX >> count_below(positions, position);
-    let row = row_in(words, found);
+    let row = row_in(words, slot);
     let rows = rows_in(words);
     let first = count_rows_below(rows, row & !rest);
     let end = count_rows_upto(rows, row | rest).min(read_numbers(words[0]).count as u32);
     (first as u8, (end - 1) as u8)
 }
 
-/// The row of slot `at` of each node whose head has `words`; 4,294,967,295 past the last entry.
+/// The row of `slot` of each node whose head has `words`; 4,294,967,295 past the last entry.
 #[inline(always)]
-fn row_in(words: &[u64], at: u8) -> u32
-    requires { (length words.now ≡ HEAD_WORDS) × (at < 32) }
-    ensures { InNodesOf words.now (λ node. result ≡ row_at node.rows at) }
+fn row_in(words: &[u64], slot: u8) -> u32
+    requires { (length words.now ≡ HEAD_WORDS) × (slot < 32) }
+    ensures { InNodesOf words.now (λ node. result ≡ row_at node.rows slot) }
 {
     let numbers = read_numbers(words[0]);
-    numbers.row_of(words[numbers.index_of_row(at)], at)
+    numbers.row_of(words[numbers.index_of_row(slot)], slot)
 }
 
 /// How many of `rows` are below `bound`.

@@ -70,6 +70,7 @@ mod near;
 mod node;
 mod numbers;
 mod origins;
+mod records;
 mod search;
 mod state;
 mod stock;
@@ -83,6 +84,7 @@ pub use leaf::{count_key_words, count_leaf_words, key_word_at, pack_leaf, write_
 pub use node::{add_leaf, can_take_leaf, close_fork, drop_entry, pack_head, pack_node, read_node};
 pub use numbers::{HeadNumbers, first_position_of, index_of_first_position, read_numbers};
 pub use origins::Origins;
+pub use records::Rec;
 pub use search::{extract_dense_key, search_middle, search_narrow, search_row_words};
 pub use state::{Tag, obsolete_word, pack_state, read_obsolete_epoch, unpack_state};
 

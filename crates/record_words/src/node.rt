@@ -46,8 +46,8 @@ pub fn pack_node(node: &Node) -> [u64; NODE_FIELDS]
 {
     let mut words = [0; NODE_FIELDS];
     put_head(&mut words, node.as_head());
-    for i in 0..node.count() {
-        words[HEAD_WORDS + i as usize] = entry_word_at(node, i);
+    for slot in 0..node.count() {
+        words[HEAD_WORDS + slot as usize] = entry_word_at(node, slot);
     }
     words
 }
@@ -219,34 +219,34 @@ fn add_column_fork(words: &mut [u64; NODE_FIELDS], first: u8, last: u8, position
     put_parts(words, numbers.count + 1, 1, &columns, rows);
 }
 
-/// Takes the entry in slot `at`, and the last fork on the path to it, out of the node of `words`, and returns `None`. The height is made
+/// Takes the entry in `slot`, and the last fork on the path to it, out of the node of `words`, and returns `None`. The height is made
 /// anew. If there are two entries, the words stay, and it returns the other one.
-pub fn drop_entry(words: &mut [u64; NODE_FIELDS], at: u8) -> Option<Entry>
-    requires { (node : NodeView) × HasNodeWords node × (node_words node ≡ words.old) × (at < length node.entries) }
-    ensures { (node : NodeView) → HasNodeWords node → node_words node ≡ words.old → SpellLeft words.new result (without at (piece node)) }
+pub fn drop_entry(words: &mut [u64; NODE_FIELDS], slot: u8) -> Option<Entry>
+    requires { (node : NodeView) × HasNodeWords node × (node_words node ≡ words.old) × (slot < length node.entries) }
+    ensures { (node : NodeView) → HasNodeWords node → node_words node ≡ words.old → SpellLeft words.new result (without slot (piece node)) }
 {
     let numbers = read_numbers(words[0]);
     if numbers.count == 2 {
-        return Some(read_some_entry(words[HEAD_WORDS + 1 - at as usize]));
+        return Some(read_some_entry(words[HEAD_WORDS + 1 - slot as usize]));
     }
     let last = HEAD_WORDS + numbers.count as usize - 1;
-    remove_element(words, last + 1, HEAD_WORDS + at as usize, 0);
+    remove_element(words, last + 1, HEAD_WORDS + slot as usize, 0);
     let height = height_over(&words[HEAD_WORDS..last], numbers.height);
-    drop_row(words, at, height);
+    drop_row(words, slot, height);
     None
 }
 
-/// Takes the row of slot `at`, one of more than two, and the last fork on the path to it out of the head of `words`, whose height becomes
+/// Takes the row of `slot`, one of more than two, and the last fork on the path to it out of the head of `words`, whose height becomes
 /// `height`. The words of the entries stay. Mostly each column has a fork still, and the words of the columns stay too.
-fn drop_row(words: &mut [u64; NODE_FIELDS], at: u8, height: u16)
-    requires dropping { (node : NodeView) × CanDropAt words.old node at }
+fn drop_row(words: &mut [u64; NODE_FIELDS], slot: u8, height: u16)
+    requires dropping { (node : NodeView) × CanDropAt words.old node slot }
     requires height { 0 < height }
-    ensures { (node : NodeView) → CanDropAt words.old node at → HasHeadWithout words.old words.new at height node }
+    ensures { (node : NodeView) → CanDropAt words.old node slot → HasHeadWithout words.old words.new slot height node }
 {
     let numbers = read_numbers(words[0]);
     let count = numbers.count - 1;
     let rows = rows_in(&words[..HEAD_WORDS]);
-    let rows = remove_row(rows, numbers.count as usize, at as usize);
+    let rows = remove_row(rows, numbers.count as usize, slot as usize);
     let used = or_first_rows(rows, count as u32);
     if used != !(u32::MAX >> numbers.columns) {
         return drop_columns(words, count, height, rows, used);
@@ -277,14 +277,19 @@ fn drop_columns(words: &mut [u64; NODE_FIELDS], count: u8, height: u16, rows: u3
     );
 }
 
-/// Puts `entry`, which is lower than the node of `words`, in place of its entries in slots `at` and `other` and of the fork over just
+/// Puts `entry`, which is lower than the node of `words`, in place of its entries in slots `slot` and `other` and of the fork over just
 /// these. Returns `None`. If the node has no other entries, it returns `entry`, and only the word of slot `other` changes.
-pub fn close_fork(words: &mut [u64; NODE_FIELDS], at: u8, other: u8, entry: Entry) -> Option<Entry>
-    requires { (node : NodeView) × CanCloseAt words.old node at other entry }
-    ensures { (node : NodeView) → CanCloseAt words.old node at other entry → SpellLeft words.new result (collapsed at entry (piece node)) }
+pub fn close_fork(
+    words: &mut [u64; NODE_FIELDS],
+    slot: u8,
+    other: u8,
+    entry: Entry,
+) -> Option<Entry>
+    requires { (node : NodeView) × CanCloseAt words.old node slot other entry }
+    ensures { (node : NodeView) → CanCloseAt words.old node slot other entry → SpellLeft words.new result (collapsed slot entry (piece node)) }
 {
     words[HEAD_WORDS + other as usize] = pack_entry(Some(entry));
-    drop_entry(words, at)
+    drop_entry(words, slot)
 }
 
 /// The height of a new node over the entries of `words`, all of which stood in a node of the height `height`: one above the greatest of
@@ -309,8 +314,8 @@ pub fn read_node(words: &[u64; NODE_FIELDS]) -> Node
     ensures { IsSpelledBy HasNodeWords node_words words.now result }
 {
     let mut entries = ArrayVec::new();
-    for i in 0..read_numbers(words[0]).count {
-        entries.push(read_some_entry(words[HEAD_WORDS + i as usize]));
+    for slot in 0..read_numbers(words[0]).count {
+        entries.push(read_some_entry(words[HEAD_WORDS + slot as usize]));
     }
     Node::of(read_head(&words[..HEAD_WORDS]), entries)
 }
@@ -330,11 +335,11 @@ fn read_head(words: &[u64]) -> Head
     )
 }
 
-/// The word of the entry in slot `i` of `node`.
-fn entry_word_at(node: &Node, i: u8) -> u64
-    requires { i < length node.now.entries }
-    ensures word { result ≡ entry_word (slice_get node.now.entries i) }
-    ensures fits { HasEntryWord (slice_get node.now.entries i) }
+/// The word of the entry in `slot` of `node`.
+fn entry_word_at(node: &Node, slot: u8) -> u64
+    requires { slot < length node.now.entries }
+    ensures word { result ≡ entry_word (slice_get node.now.entries slot) }
+    ensures fits { HasEntryWord (slice_get node.now.entries slot) }
 {
-    pack_entry(Some(node.entry(i)))
+    pack_entry(Some(node.entry(slot)))
 }

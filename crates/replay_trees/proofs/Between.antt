@@ -10,7 +10,7 @@ use Rattle.finite_map.specs.Maps.{key_order}
 use Rattle.tries.specs.Content.{Item, IsMore, added, behind, IsExchange, exchanged, past_one}
 use Rattle.versions.specs.Told.{item_of, IsChanged, added_change, replaced_change, removed_change}
 use Rattle.rowex_core.specs.Events.{AreSame, change_between, change_at}
-use Rattle.replay_trees.specs.declared.trees.Item.{Item as ReadItem}
+use Rattle.replay_trees.specs.declared.linked.Item.{Item as ReadItem}
 use Rattle.replay_trees.specs.Versions.{read_item}
 use Rattle.replay_trees.specs.Changed.{BeginApart, numbers, Changes, IsFoundChange, IsMade}
 use Rattle.rowex_core.proofs.Publishing.{no_change}

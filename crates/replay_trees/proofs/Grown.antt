@@ -6,10 +6,10 @@ use Rattle.compound_node.specs.Nodes.{HeadView}
 use Rattle.tries.specs.Keys.{Key}
 use Rattle.tries.specs.Tree.{Tree, leaf, node, fork}
 use Rattle.tries.specs.Content.{Item, items, first}
-use Rattle.versions.specs.declared.Rec.TheVariants.{Node as a_node, Leaf as a_leaf}
+use Rattle.record_words.specs.declared.records.Rec.TheVariants.{Node as a_node, Leaf as a_leaf}
 use Rattle.versions.specs.State.{Links}
-use Rattle.replay_trees.specs.declared.trees.Item.{Item as ReadItem}
-use Rattle.replay_trees.specs.declared.trees.Linked.{Linked}
+use Rattle.replay_trees.specs.declared.linked.Item.{Item as ReadItem}
+use Rattle.replay_trees.specs.declared.linked.Linked.{Linked}
 use Rattle.replay_trees.specs.Versions.{read_item}
 use Rattle.replay_trees.specs.Parts.{GrowsBy}
 use Rattle.versions.proofs.Heaps.{leaf_number, node_number}

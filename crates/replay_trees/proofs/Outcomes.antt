@@ -11,9 +11,9 @@ use Rattle.compound_node.specs.declared.halves.Cut.{Cut}
 use Rattle.tries.specs.Keys.{IsParted}
 use Rattle.tries.specs.Tree.{Subtrie, Tree, leaf, node, fork, subtrie, first_position, IsFork}
 use Rattle.tries.specs.Content.{items, first}
-use Rattle.versions.specs.declared.Rec.{Rec}
-use Rattle.replay_trees.specs.declared.trees.Item.{Item as ReadItem}
-use Rattle.replay_trees.specs.declared.trees.Linked.{Linked}
+use Rattle.record_words.specs.declared.records.Rec.{Rec}
+use Rattle.replay_trees.specs.declared.linked.Item.{Item as ReadItem}
+use Rattle.replay_trees.specs.declared.linked.Linked.{Linked}
 use Rattle.replay_trees.specs.Versions.{AreWordsOf, read_item, Table}
 use Rattle.replay_trees.specs.Parts.{ShowsPart, HasMarks, GrowsBy, AddsLeaf, SpellsNode, IsTreeRead}
 use Rattle.replay_trees.proofs.Grown.{leaf_grown, node_grown, fork_grown, first_read}

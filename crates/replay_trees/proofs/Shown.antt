@@ -12,8 +12,8 @@ use Rattle.record_words.specs.Node.{HasNodeWords, node_words}
 use Rattle.tries.specs.Keys.{IsParted}
 use Rattle.tries.specs.Tree.{Subtrie, Tree, leaf, node, fork, subtrie, first_position, IsFork, IsLower, IsFit}
 use Rattle.tries.specs.Content.{IsAbove, first}
-use Rattle.versions.specs.declared.Rec.{Rec}
-use Rattle.versions.specs.declared.Rec.TheVariants.{Node as a_node, Leaf as a_leaf}
+use Rattle.record_words.specs.declared.records.Rec.{Rec}
+use Rattle.record_words.specs.declared.records.Rec.TheVariants.{Node as a_node, Leaf as a_leaf}
 use Rattle.versions.specs.Heap.{NodeWords}
 use Rattle.versions.specs.State.{Links}
 use Rattle.versions.proofs.Heaps.{determined, leaf_parts, node_parts}

@@ -7,8 +7,8 @@ use Rattle.compound_node.specs.declared.entries.Entry.{Entry}
 use Rattle.tries.specs.Tree.{Tree, subtrie, IsTrie, IsBuilt}
 use Rattle.tries.specs.Content.{items}
 use Rattle.tries.proofs.Contents.{trie_if_local, local_if_trie}
-use Rattle.versions.specs.declared.Rec.{Rec}
-use Rattle.versions.specs.declared.Rec.TheVariants.{Node as a_node, Leaf as a_leaf}
+use Rattle.record_words.specs.declared.records.Rec.{Rec}
+use Rattle.record_words.specs.declared.records.Rec.TheVariants.{Node as a_node, Leaf as a_leaf}
 use Rattle.versions.specs.Heap.{IsShown}
 use Rattle.versions.specs.Read.{read}
 use Rattle.versions.specs.State.{Links, IsTop, IsLinked}
@@ -16,7 +16,7 @@ use Rattle.versions.specs.Told.{items_of}
 use Rattle.versions.proofs.Reading.{read_exact}
 use Rattle.rowex_core.specs.Cores.{heap_of}
 use Rattle.rowex_core.specs.Events.{tree_of}
-use Rattle.replay_trees.specs.declared.trees.Linked.{Linked}
+use Rattle.replay_trees.specs.declared.linked.Linked.{Linked}
 use Rattle.replay_trees.specs.Versions.{IsSpelled, IsReadVersion, read_item, Table}
 use Rattle.replay_trees.specs.Parts.{ShowsPart, HasMarks, IsTreeRead}
 use Rattle.replay_trees.proofs.Shown.{from_start}

@@ -5,12 +5,12 @@ use Rattle.record_words.specs.Node.{HasNodeWords, node_words}
 use Rattle.record_words.specs.Leaf.{HasLeafWords, leaf_words, up_to_key}
 use Rattle.tries.specs.Tree.{Subtrie, Tree, leaf, node, fork, subtrie, IsBuilt}
 use Rattle.tries.specs.Content.{items, IsLocal}
-use Rattle.versions.specs.declared.Rec.{Rec}
-use Rattle.versions.specs.declared.Rec.TheVariants.{Node as a_node, Leaf as a_leaf}
+use Rattle.record_words.specs.declared.records.Rec.{Rec}
+use Rattle.record_words.specs.declared.records.Rec.TheVariants.{Node as a_node, Leaf as a_leaf}
 use Rattle.versions.specs.Heap.{IsShown}
 use Rattle.versions.specs.State.{Links}
 use Rattle.rowex_core.specs.Cores.{heap_of}
-use Rattle.replay_trees.specs.declared.trees.Linked.{Linked}
+use Rattle.replay_trees.specs.declared.linked.Linked.{Linked}
 use Rattle.replay_trees.specs.declared.parts.Records.{Records}
 use Rattle.replay_trees.specs.Versions.{AreWordsOf, IsSpelled, Table, read_item}
 

@@ -3,15 +3,15 @@ use Rattle.std.specs.Prelude.{◌≡◌, ◌↔◌, ℕ, ◌<◌, List, [], leng
 use Rattle.compound_node.specs.declared.entries.Entry.{Entry}
 use Rattle.tries.specs.Tree.{Tree, IsTrie, IsBuilt}
 use Rattle.tries.specs.Content.{Item}
-use Rattle.versions.specs.declared.Rec.{Rec}
-use Rattle.versions.specs.declared.Rec.TheVariants.{Node as a_node, Leaf as a_leaf}
+use Rattle.record_words.specs.declared.records.Rec.{Rec}
+use Rattle.record_words.specs.declared.records.Rec.TheVariants.{Node as a_node, Leaf as a_leaf}
 use Rattle.versions.specs.State.{IsTop, IsLinked}
 use Rattle.versions.specs.Told.{items_of}
 use Rattle.rowex_core.specs.Reading.{IsPacked}
 use Rattle.rowex_core.specs.Cores.{heap_of}
 use Rattle.rowex_core.specs.Events.{tree_of}
-use Rattle.replay_trees.specs.declared.trees.Item.{Item as ReadItem}
-use Rattle.replay_trees.specs.declared.trees.Linked.{Linked}
+use Rattle.replay_trees.specs.declared.linked.Item.{Item as ReadItem}
+use Rattle.replay_trees.specs.declared.linked.Linked.{Linked}
 
 -- of each node record and of each leaf record its words from offset 1 on
 pub record Table : Type 0 where

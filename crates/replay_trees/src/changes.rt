@@ -5,7 +5,7 @@ ghost use Rattle.replay_trees.specs.Versions.{read_item};
 ghost use Rattle.rowex_core.specs.Events.{AreSame};
 ghost use Rattle.replay_trees.specs.Changed.{BeginApart, IsFoundChange, IsMade, numbers};
 
-use crate::trees::Item;
+use crate::linked::Item;
 use finite_map::{Change, Kind};
 use std::cmp::Ordering;
 

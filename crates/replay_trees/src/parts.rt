@@ -7,8 +7,8 @@ ghost use Rattle.node_tries.specs.Piece.{Place};
 ghost use Rattle.replay_trees.specs.Parts.{AddsLeaf, HasGrown, HasMarks, IsNodeAt, IsPartRead, table_of};
 
 use crate::leaf::unpack_leaf;
+use crate::linked::{Item, Linked};
 use crate::node::unpack_node;
-use crate::trees::{Item, Linked};
 use compound_node::{Cut, Entry, Half, Node};
 use key_bits::{Key, MAX_BYTES, mismatch};
 use record_words::{LEAF_FIELDS, NODE_FIELDS};

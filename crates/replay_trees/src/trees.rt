@@ -3,27 +3,11 @@
 ghost use Rattle.std.specs.Prelude.{IfOk, ◌≡◌, replicate, false};
 ghost use Rattle.replay_trees.specs.Versions.{IsToldVersion};
 
+use crate::linked::Linked;
 use crate::parts::{Records, read_entry};
 use compound_node::Entry;
-use key_bits::Key;
 use record_words::{LEAF_FIELDS, NODE_FIELDS};
 use std::alloc::{AllocError, Global};
-
-/// A leaf record as it stands in a tree.
-#[derive(Drop)]
-pub struct Item {
-    pub number: u32,
-    pub key: Key,
-    pub value: u64,
-}
-
-/// What a tree links: its leaves in the order of their keys, and of each record of the table whether it is linked.
-#[derive(Drop)]
-pub struct Linked {
-    pub items: Vec<Item>,
-    pub nodes: Vec<bool>,
-    pub leaves: Vec<bool>,
-}
 
 /// What the tree links that begins at the entry `root`; it is empty for `None`. `nodes` and `leaves` are the words of the table's records,
 /// each from offset 1 on. `None` if these show no lawful tree there, or if that links a record that the table hasn't, or one whose words

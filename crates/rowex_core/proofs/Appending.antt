@@ -1,6 +1,6 @@
 -- A publish appends one change and one version, and no other step does anything to either.
 use Rattle.std.proofs.Common.{◌≡◌, ℕ, suc, Bool, true, false, if◌then◌else◌, nat_eq, Option, Some, None, refl, arith}
-use Rattle.versions.specs.declared.Rec.{Rec}
+use Rattle.record_words.specs.declared.records.Rec.{Rec}
 use Rattle.versions.specs.Core.{Shared, Fate, Free, Unlinked, Marked}
 use Rattle.versions.specs.Steps.{with_fate, with_lock, with_epoch}
 use Rattle.versions.proofs.Publish.{version_old}

@@ -8,8 +8,8 @@ use Rattle.finite_map.specs.Fronts.{BeginsWith, OthersGoOn}
 use Rattle.compound_node.specs.declared.entries.Entry.{Entry}
 use Rattle.node_tries.specs.Piece.{Place}
 use Rattle.tries.specs.Tree.{Tree, leaf, node, fork, subtrie}
-use Rattle.versions.specs.declared.Rec.{Rec}
-use Rattle.versions.specs.declared.Rec.TheVariants.{Node as a_node, Leaf as a_leaf}
+use Rattle.record_words.specs.declared.records.Rec.{Rec}
+use Rattle.record_words.specs.declared.records.Rec.TheVariants.{Node as a_node, Leaf as a_leaf}
 use Rattle.versions.specs.declared.Pin.{Pin}
 use Rattle.versions.specs.declared.Round.{Round}
 use Rattle.versions.specs.Heap.{Heap}

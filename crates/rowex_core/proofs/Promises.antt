@@ -19,8 +19,8 @@ use Rattle.record_words.specs.Leaf.{leaf_words, words_for}
 use Rattle.record_words.proofs.Leaves.{leaf_words_parts}
 use Rattle.tries.specs.Keys.{Key}
 use Rattle.tries.specs.Tree.{Fixed, Tree, leaf, node, fork}
-use Rattle.versions.specs.declared.Rec.{Rec}
-use Rattle.versions.specs.declared.Rec.TheVariants.{Node as a_node, Leaf as a_leaf}
+use Rattle.record_words.specs.declared.records.Rec.{Rec}
+use Rattle.record_words.specs.declared.records.Rec.TheVariants.{Node as a_node, Leaf as a_leaf}
 use Rattle.versions.specs.State.{IsRecord, IsSameRecord}
 use Rattle.versions.specs.Core.{Free, Unlinked, Marked, pin_version}
 use Rattle.versions.specs.Told.{content}

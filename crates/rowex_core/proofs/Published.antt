@@ -6,8 +6,8 @@ use Rattle.finite_map.specs.declared.Change.{Change}
 use Rattle.compound_node.specs.declared.entries.Entry.{Entry}
 use Rattle.compound_node.specs.declared.entries.Entry.TheVariants.{Leaf, Node}
 use Rattle.record_words.specs.Entry.{HasEntryWord, entry_word}
-use Rattle.versions.specs.declared.Rec.{Rec}
-use Rattle.versions.specs.declared.Rec.TheVariants.{Node as a_node, Leaf as a_leaf}
+use Rattle.record_words.specs.declared.records.Rec.{Rec}
+use Rattle.record_words.specs.declared.records.Rec.TheVariants.{Node as a_node, Leaf as a_leaf}
 use Rattle.versions.specs.State.{IsLinked}
 use Rattle.versions.specs.Core.{Fate, Free, Held, Ready as ReadyBy, InTree, Unlinked, Marked}
 use Rattle.versions.specs.Steps.{same_rec, is_linked, next_fate, publishes, IsStore, at_root, at_slot, at_value, IsVersionPublish as IsVersionsPublish}

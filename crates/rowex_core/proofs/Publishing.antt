@@ -11,8 +11,8 @@ use Rattle.tries.specs.Tree.{Tree, leaf, node, fork, subtrie, Has, IsTrie, IsBui
 use Rattle.tries.specs.Content.{Item, IsMore, added, behind, first}
 use Rattle.tries.proofs.Contents.{within_has}
 use Rattle.tries.proofs.Tries.{has_first}
-use Rattle.versions.specs.declared.Rec.{Rec}
-use Rattle.versions.specs.declared.Rec.TheVariants.{Node as a_node, Leaf as a_leaf}
+use Rattle.record_words.specs.declared.records.Rec.{Rec}
+use Rattle.record_words.specs.declared.records.Rec.TheVariants.{Node as a_node, Leaf as a_leaf}
 use Rattle.versions.specs.Heap.{Heap, NodeWords, IsShown}
 use Rattle.versions.specs.State.{IsRecord, IsLived, IsTop, IsLinked, Links, Spans}
 use Rattle.versions.specs.Core.{Fate, Free, Held, Ready as ReadyBy, InTree, Unlinked as UnlinkedBy, Marked, life_of}

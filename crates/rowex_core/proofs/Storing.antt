@@ -10,7 +10,7 @@ use Rattle.partial_keys.specs.Shown.{shown}
 use Rattle.node_tries.specs.Positions.{front_below}
 use Rattle.node_tries.specs.Piece.{Fork}
 use Rattle.tries.specs.Place.{Swap, swap, in_zero, in_one}
-use Rattle.versions.specs.declared.Rec.TheVariants.{Node as a_node}
+use Rattle.record_words.specs.declared.records.Rec.TheVariants.{Node as a_node}
 use Rattle.versions.specs.Heap.{IsNear}
 use Rattle.versions.specs.Steps.{same_rec}
 use Rattle.versions.proofs.Heaps.{near_refl}

@@ -13,8 +13,8 @@ use Rattle.record_words.specs.Leaf.{up_to_key}
 use Rattle.record_words.proofs.Leaves.{IsLeafOf, leaf_words_parts}
 use Rattle.record_words.proofs.UpToKey.{up_to_key_before, up_to_key_size, spells_up_to_key}
 use Rattle.tries.specs.Tree.{Tree, IsTrie, IsBuilt}
-use Rattle.versions.specs.declared.Rec.{Rec}
-use Rattle.versions.specs.declared.Rec.TheVariants.{Node as a_node, Leaf as a_leaf}
+use Rattle.record_words.specs.declared.records.Rec.{Rec}
+use Rattle.record_words.specs.declared.records.Rec.TheVariants.{Node as a_node, Leaf as a_leaf}
 use Rattle.versions.specs.Core.{Fate, Free, Held, Ready, InTree, Unlinked, Marked, life_of}
 use Rattle.versions.specs.Heap.{NodeWords, Heap}
 use Rattle.versions.specs.State.{IsTop, IsLinked, IsLived, Links, Spans}

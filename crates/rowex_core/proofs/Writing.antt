@@ -10,8 +10,8 @@ use Rattle.record_words.specs.Layout.{address, word_count, IsInTable}
 use Rattle.record_words.specs.State.{state_word}
 use Rattle.record_words.specs.Entry.{entry_word}
 use Rattle.record_words.proofs.Locations.{size_fits, address-below, same_location}
-use Rattle.versions.specs.declared.Rec.{Rec}
-use Rattle.versions.specs.declared.Rec.TheVariants.{Node as a_node, Leaf as a_leaf}
+use Rattle.record_words.specs.declared.records.Rec.{Rec}
+use Rattle.record_words.specs.declared.records.Rec.TheVariants.{Node as a_node, Leaf as a_leaf}
 use Rattle.versions.specs.declared.Pin.{Pin}
 use Rattle.versions.specs.declared.Round.{Round}
 use Rattle.versions.specs.Core.{Fate, Free, Held, Ready as ReadyBy, InTree, Unlinked, Marked}

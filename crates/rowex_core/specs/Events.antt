@@ -15,8 +15,8 @@ use Rattle.record_words.specs.declared.layout.Location.TheVariants.{Epoch, Root 
 use Rattle.tries.specs.Tree.{Tree, IsTrie, IsBuilt}
 use Rattle.tries.specs.Content.{Item, IsIn}
 use Rattle.versions.specs.Told.{items_of, added_change, replaced_change, removed_change}
-use Rattle.versions.specs.declared.Rec.{Rec}
-use Rattle.versions.specs.declared.Rec.TheVariants.{Node as a_node, Leaf as a_leaf}
+use Rattle.record_words.specs.declared.records.Rec.{Rec}
+use Rattle.record_words.specs.declared.records.Rec.TheVariants.{Node as a_node, Leaf as a_leaf}
 use Rattle.versions.specs.Heap.{Heap}
 use Rattle.versions.specs.Loads.{loaded_by}
 use Rattle.versions.specs.Read.{read}

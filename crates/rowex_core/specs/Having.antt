@@ -1,7 +1,7 @@
 -- What a pass has, by lists in which nothing is left out.
 use Rattle.std.specs.Prelude.{[], ◌∷◌, Bool, true, false, not, filter, if◌then◌else◌, ◌≡◌, ◌⊎◌, ℕ, ◌<◌, List}
-use Rattle.versions.specs.declared.Rec.{Rec}
-use Rattle.versions.specs.declared.Rec.TheVariants.{Node as a_node}
+use Rattle.record_words.specs.declared.records.Rec.{Rec}
+use Rattle.record_words.specs.declared.records.Rec.TheVariants.{Node as a_node}
 use Rattle.rowex_core.specs.declared.known.Holding.TheVariants.{Unlinked}
 use Rattle.rowex_core.specs.declared.known.Locked.{Locked}
 use Rattle.rowex_core.specs.declared.known.Owned.{Owned}

@@ -20,8 +20,8 @@ use Rattle.record_words.specs.Node.{HasNodeWords, node_words}
 use Rattle.record_words.specs.Leaf.{HasLeafWords, leaf_words, up_to_key, words_for}
 use Rattle.tries.specs.Tree.{Tree, leaf, node, fork, subtrie, Fixed}
 use Rattle.tries.specs.Place.{entry_at}
-use Rattle.versions.specs.declared.Rec.{Rec}
-use Rattle.versions.specs.declared.Rec.TheVariants.{Node as a_node, Leaf as a_leaf}
+use Rattle.record_words.specs.declared.records.Rec.{Rec}
+use Rattle.record_words.specs.declared.records.Rec.TheVariants.{Node as a_node, Leaf as a_leaf}
 use Rattle.versions.specs.Heap.{NodeWords, LeafWords}
 
 -- ---- reading words, whatever they are; of words that spell a value these are its parts

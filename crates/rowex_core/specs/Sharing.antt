@@ -1,8 +1,8 @@
 -- What of a core is a pass's own.
 use Rattle.std.specs.Prelude.{◌≡◌, ℕ, ◌&&◌, All, Contains, List, [], ◌∷◌, filter, nat_eq, if◌then◌else◌, Bool, true, false, Option, Some, None}
 use Rattle.compound_node.specs.declared.entries.Entry.{Entry}
-use Rattle.versions.specs.declared.Rec.{Rec}
-use Rattle.versions.specs.declared.Rec.TheVariants.{Node as a_node}
+use Rattle.record_words.specs.declared.records.Rec.{Rec}
+use Rattle.record_words.specs.declared.records.Rec.TheVariants.{Node as a_node}
 use Rattle.versions.specs.declared.Pin.{Pin}
 use Rattle.versions.specs.declared.Round.{Round}
 use Rattle.versions.specs.Core.{Fate, Free, Held as HeldBy, Ready as ReadyBy, InTree, Unlinked as UnlinkedBy, Marked}

@@ -16,8 +16,8 @@ use Rattle.record_words.specs.State.{state_word}
 use Rattle.tries.specs.Keys.{Key, IsParted}
 use Rattle.tries.specs.Tree.{Fixed, Tree, node, subtrie, IsTrie, IsBuilt}
 use Rattle.tries.specs.Search.{seek, between, IsUnder}
-use Rattle.versions.specs.declared.Rec.{Rec}
-use Rattle.versions.specs.declared.Rec.TheVariants.{Node as a_node}
+use Rattle.record_words.specs.declared.records.Rec.{Rec}
+use Rattle.record_words.specs.declared.records.Rec.TheVariants.{Node as a_node}
 use Rattle.versions.specs.declared.Pin.{Pin}
 use Rattle.versions.specs.State.{Past, Spans, Stands, IsSameRecord, IsLed, IsTop}
 use Rattle.versions.specs.Core.{Free, Held, life_of}

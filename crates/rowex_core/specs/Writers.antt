@@ -8,8 +8,8 @@ use Rattle.record_words.specs.Entry.{HasEntryWord, entry_word}
 use Rattle.record_words.specs.Node.{HasNodeWords, node_words}
 use Rattle.tries.specs.Tree.{Tree}
 use Rattle.tries.specs.Place.{with_entry}
-use Rattle.versions.specs.declared.Rec.{Rec}
-use Rattle.versions.specs.declared.Rec.TheVariants.{Node as a_node}
+use Rattle.record_words.specs.declared.records.Rec.{Rec}
+use Rattle.record_words.specs.declared.records.Rec.TheVariants.{Node as a_node}
 use Rattle.versions.specs.declared.Pin.{Pin}
 use Rattle.versions.specs.State.{Stands}
 use Rattle.versions.specs.Told.{items_of}

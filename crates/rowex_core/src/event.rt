@@ -1,7 +1,7 @@
-//! Atomic steps on the shared words, as events.
+//! What passes do to the shared words, as events: atomic steps, and bulk loads.
 
+use record_words::Rec;
 use std::marker::Model;
-use versions::Rec;
 
 /// What a writer locks.
 #[derive(Clone, Copy)]
@@ -17,8 +17,8 @@ pub enum Target {
 pub enum Spot {
     /// The word of the root.
     Root,
-    /// Slot `entry`, 0 to 31, of node record `node`.
-    Slot { node: u32, entry: u8 },
+    /// A slot, 0 to 31, of node record `node`.
+    Slot { node: u32, slot: u8 },
     /// The value of leaf record `leaf`.
     Value { leaf: u32 },
 }
@@ -67,14 +67,14 @@ pub enum Act {
     Load { words: &'static [u64] },
 }
 
-/// An atomic step of the pass of this number.
+/// An atomic step of the pass of this number, or its bulk load.
 #[derive(Clone, Copy)]
 pub struct Event {
     pub pass: u16,
     pub act: Act,
 }
 
-/// What is told each event, straight after its step.
+/// What is told each step of a call, as an event, straight after it. No gate is told of a bulk load.
 pub trait Gate {
     ghost use Rattle.rowex_core.specs.declared.event.Event.{Event};
 

@@ -3,8 +3,8 @@
 
 use compound_node::Entry;
 use finite_map::{Change, Note};
-use record_words::Location;
-use versions::{Listed, Pin, Rec, Round};
+use record_words::{Location, Rec};
+use versions::{Listed, Pin, Round};
 
 /// What a load told a pinned pass. `since` is the version at its pin, and `at` the newest version at the load.
 pub enum Fact {
@@ -14,12 +14,12 @@ pub enum Fact {
         at: u64,
         entry: Option<Entry>,
     },
-    /// Let m be `since` or later. If the node was in the tree in versions from m to `at`, it had this entry at this place in one of them.
+    /// Let m be `since` or later. If the node was in the tree in versions from m to `at`, it had this entry in this slot in one of them.
     Placed {
         since: u64,
         at: u64,
         node: u32,
-        place: u8,
+        slot: u8,
         entry: Option<Entry>,
     },
     /// The same holds of the record, and of this word at this offset.

@@ -52,7 +52,8 @@ pub fn runs_keep_knowledge()
     ensures { RunsKeep }
 {}
 
-/// A publish appends one change and one version, a load one for each leaf; all earlier ones stay. Every other step leaves both lists.
+/// A publish appends one change and one version; all earlier ones stay. A bulk load appends one change for each leaf, and makes the
+/// versions anew: it is legal at the opening alone. Every other act leaves both lists.
 pub fn only_publish_appends()
     ensures { OnlyPublishAppends }
 {}

@@ -9,4 +9,5 @@ pub mod writer_laws;
 
 pub use event::{Act, Event, Gate, NoGate, Spot, Target};
 pub use known::{Fact, Failed, FailedAct, Fresh, Holding, Known, Loaded, Locked, Owned, View};
-pub use versions::{Pin, Rec, Round};
+pub use record_words::Rec;
+pub use versions::{Pin, Round};

@@ -12,7 +12,7 @@ use Rattle.record_words.proofs.Leaves.{same_leaf}
 use Rattle.record_words.proofs.Unused.{leaf_word_past}
 use Rattle.record_words.proofs.UpToKey.{up_to_key_before}
 use Rattle.tries.specs.Keys.{Key}
-use Rattle.versions.specs.declared.Rec.TheVariants.{Leaf as a_leaf}
+use Rattle.record_words.specs.declared.records.Rec.TheVariants.{Leaf as a_leaf}
 use Rattle.rowex_core.specs.declared.event.Act.TheVariants.{LoadRef, LoadFixed}
 use Rattle.rowex_core.specs.declared.event.Spot.TheVariants.{Value}
 use Rattle.rowex_core.specs.declared.known.Known.{Known}

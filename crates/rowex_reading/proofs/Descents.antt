@@ -142,7 +142,7 @@ module _ (head : HeadView) (lawful : IsLawfulNode (node_of head (leaves (length 
   head_size = size-piece (node_of head (leaves (length head.rows))) lawful ∙ length-replicate (length head.rows) (LeafEntry 0)
 
   pub step_is : (number at count first : ℕ) → count ≡ length head.rows → InEachNode head (λ node. AtRootFork (λ p a b. first ≡ p) (piece node)) →
-      (let s : PathNode = record { number = number; height = head.height; first_position = first; count = count; at = at } in s) ≡ step_at head number at
+      (let s : PathNode = record { number = number; height = head.height; first_position = first; count = count; slot = at } in s) ≡ step_at head number at
   step_is number at count first count_is root =
       let n : count ≡ size (shape_of head) = count_is ∙ sym head_size in
       let f : first ≡ first_position (shape_of head) = first_is first (shape_of head) (root (node_of head (leaves (length head.rows))) lawful refl) in cc
@@ -153,16 +153,16 @@ module _ {G : Type 0} {table : TableView} {becomes : G → Event → G → Type 
   -- It is a node, of which the head was read, and so the step there: there is an entry at the key's place.
   module _ (n height : ℕ) (step : PathNode) (head : HeadView) (is : d ≡ Node n height) {loads : ℕ} (most : loads ≤ HEAD_WORDS) (reads : Reads table becomes 0 loads b c) (seen : IsHeadSeen c.0.known (since b.0.known) n height head)
       (stepped : step ≡ step_at head n (spot key (shape_of head))) where
-    spot_is : step.at ≡ spot key (shape_of head)
-    spot_is = ap (λ (s : PathNode). s.at) stepped
+    spot_is : step.slot ≡ spot key (shape_of head)
+    spot_is = ap (λ (s : PathNode). s.slot) stepped
 
-    pub there : HasPlace c.0.known (since b.0.known) n height step.at
-    there = place_of at n height (shape_of head) step.at is most reads seen.shaped spot_is
+    pub there : HasPlace c.0.known (since b.0.known) n height step.slot
+    there = place_of at n height (shape_of head) step.slot is most reads seen.shaped spot_is
 
     -- The entry was read.
     module _ {i : SeatView × G} (e : Entry) (one : Reads table becomes 1 1 c i)
-        (entry : (m h : ℕ) → HasPlace c.0.known m n h step.at → (height_of e < h) × Sure i.0.known (λ s. IsPlaced s m n step.at e)) where
-      stood : (height_of e < height) × Sure i.0.known (λ s. IsPlaced s (since b.0.known) n step.at e)
+        (entry : (m h : ℕ) → HasPlace c.0.known m n h step.slot → (height_of e < h) × Sure i.0.known (λ s. IsPlaced s m n step.slot e)) where
+      stood : (height_of e < height) × Sure i.0.known (λ s. IsPlaced s (since b.0.known) n step.slot e)
       stood = entry (since b.0.known) height there
 
       both : Reads table becomes 1 (loads + 1) b i
@@ -174,13 +174,13 @@ module _ {G : Type 0} {table : TableView} {becomes : G → Event → G → Type 
 
       -- the search has been led to it
       pub led_down : IsAt table becomes a i key e
-      led_down = next_of at n height (shape_of head) step.at is most reads seen.shaped spot_is e one stood
+      led_down = next_of at n height (shape_of head) step.slot is most reads seen.shaped spot_is e one stood
 
       -- the way has room for the node
       pub way_room : length way < 9 * MAX_BYTES
       way_room = let f = going.falls in let lower = falls_on in omega arith
 
-      way_node : IsPossible table.layout b.0.known → IsWayNode table.layout i.0.known (since b.0.known) key (record (step_at head n step.at) { height = height }) e
+      way_node : IsPossible table.layout b.0.known → IsWayNode table.layout i.0.known (since b.0.known) key (record (step_at head n step.slot) { height = height }) e
       way_node possible =
           let led : IsLedTo b.0.known (since b.0.known) (Node n height) = at_led at (Node n height) is in
           record {
@@ -199,8 +199,8 @@ module _ {G : Type 0} {table : TableView} {becomes : G → Event → G → Type 
       -- and goes on by it
       pub way_on : IsPossible table.layout b.0.known → IsGoing table.layout i.0.known (since i.0.known) key (way ++ step ∷ []) e
       way_on possible =
-          let t : PathNode = record (step_at head n step.at) { height = height } in
-          let same : t ≡ step = ap (λ z. let x : PathNode = record (step_at head n step.at) { height = z } in x) (sym seen.height) ∙ (ap (step_at head n) spot_is ∙ sym stepped) in
+          let t : PathNode = record (step_at head n step.slot) { height = height } in
+          let same : t ≡ step = ap (λ z. let x : PathNode = record (step_at head n step.slot) { height = z } in x) (sym seen.height) ∙ (ap (step_at head n) spot_is ∙ sym stepped) in
           let here : IsGoing table.layout b.0.known (since b.0.known) key way (Node n height) = subst (IsGoing table.layout b.0.known (since b.0.known) key way) is going in
           subst (λ z. IsGoing table.layout i.0.known (since i.0.known) key (way ++ z ∷ []) e) same
           (subst (λ o. IsGoing table.layout i.0.known o key (way ++ t ∷ []) e) (sym (same_since both))

@@ -22,7 +22,7 @@ use Rattle.record_words.proofs.Nodes.{length-head_words, same_head}
 use Rattle.record_words.proofs.TellingHead.{parts, told}
 use Rattle.tries.specs.Tree.{Tree, leaf, node, fork, subtrie, Subtrie, Fixed}
 use Rattle.tries.specs.Place.{shape}
-use Rattle.versions.specs.declared.Rec.TheVariants.{Node as a_node}
+use Rattle.record_words.specs.declared.records.Rec.TheVariants.{Node as a_node}
 use Rattle.versions.specs.Heap.{Heap, NodeWords, IsCopied}
 use Rattle.versions.specs.State.{Stands, IsRecord, IsSameRecord, IsReach}
 use Rattle.versions.proofs.States.{steady}

@@ -1,5 +1,5 @@
 -- What a step of the pass leaves of what it is sure of.
-use Rattle.std.proofs.Common.{List, ◌++◌, sym, ◌∙◌, subst}
+use Rattle.std.proofs.Common.{List, ◌++◌, sym, subst}
 use Rattle.finite_map.specs.declared.Note.{Note}
 use Rattle.record_words.specs.declared.layout.Layout.{Layout}
 use Rattle.rowex_core.specs.declared.event.Act.{Act}

@@ -16,7 +16,7 @@ use Rattle.record_words.specs.Reading.{IsSpelling, IsSpelledBy}
 use Rattle.record_words.specs.declared.TheConstants.{LEAF_FIELDS}
 use Rattle.tries.specs.Tree.{leaf}
 use Rattle.tries.specs.Keys.{Key}
-use Rattle.versions.specs.declared.Rec.TheVariants.{Leaf as a_leaf}
+use Rattle.record_words.specs.declared.records.Rec.TheVariants.{Leaf as a_leaf}
 use Rattle.versions.specs.Heap.{LeafWords}
 use Rattle.versions.specs.State.{Stands}
 use Rattle.rowex_core.specs.declared.known.Known.{Known}

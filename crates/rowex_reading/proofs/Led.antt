@@ -12,6 +12,7 @@ use Rattle.finite_map.specs.Fronts.{BeginsWith}
 use Rattle.node_tries.specs.Piece.{size}
 use Rattle.record_words.specs.declared.layout.Layout.{Layout}
 use Rattle.tries.specs.Tree.{Subtrie}
+use Rattle.record_words.specs.declared.records.Rec.{Rec}
 use Rattle.rowex_core.specs.declared.event.Act.{Act}
 use Rattle.rowex_core.specs.declared.event.Act.TheVariants.{LoadRef, LoadFixed}
 use Rattle.rowex_core.specs.declared.event.Event.{Event}
@@ -76,6 +77,11 @@ module _ {layout : Layout} {k j : Known} where
   below_later (LoadRef (Value l) w) below e = event_later e tt
   below_later (LoadFixed r offset w) below e = event_later e tt
   below_later _ below e = absurd below
+
+-- a load of a record's word, where the record is known by another name
+pub of_kind : {G : Type 0} {table : TableView} {becomes : G → Event → G → Type 0} {r q : Rec} {offset w : ℕ} {a b : SeatView × G} → r ≡ q →
+    Steps table becomes (LoadFixed r offset w) a b → Steps table becomes (LoadFixed q offset w) a b
+of_kind {table = table} {becomes = becomes} {offset = offset} {w = w} {a = a} {b = b} is steps = subst (λ z. Steps table becomes (LoadFixed z offset w) a b) is steps
 
 -- Loads below the root
 

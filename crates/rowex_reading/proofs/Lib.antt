@@ -20,3 +20,4 @@ pub mod Descents
 pub mod Counting
 pub mod SideBySide
 pub mod Stepping
+pub mod Naming

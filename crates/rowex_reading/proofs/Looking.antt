@@ -12,7 +12,7 @@ use Rattle.tries.specs.Place.{spot}
 use Rattle.tries.proofs.Places.{spot_below}
 use Rattle.tries.proofs.Tries.{has?, follows_if_has}
 use Rattle.versions.specs.State.{Past, IsSteady, IsLed, WasAbsentSince, IsHeldSince}
-use Rattle.versions.specs.declared.Rec.TheVariants.{Leaf as a_leaf}
+use Rattle.record_words.specs.declared.records.Rec.TheVariants.{Leaf as a_leaf}
 use Rattle.versions.proofs.States.{record_of_subtrie}
 use Rattle.version_laws.specs.Scan.{EntryStoodSince, IsRooted, IsBlank, IsPlaced, IsShaped, IsRead}
 use Rattle.version_laws.proofs.Scans.{led_placed, read_held}

@@ -13,7 +13,7 @@ use Rattle.tries.specs.Place.{entry_at, shape}
 use Rattle.tries.proofs.Places.{shape_tips}
 use Rattle.tries.proofs.Tries.{built_within}
 use Rattle.versions.specs.declared.Pin.{Pin}
-use Rattle.versions.specs.declared.Rec.TheVariants.{Node as a_node}
+use Rattle.record_words.specs.declared.records.Rec.TheVariants.{Node as a_node}
 use Rattle.versions.specs.State.{Past, Stands, IsSteady}
 use Rattle.rowex_core.specs.declared.event.Act.TheVariants.{LoadRef}
 use Rattle.rowex_core.specs.declared.event.Spot.TheVariants.{Slot}

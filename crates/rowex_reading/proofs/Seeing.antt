@@ -12,7 +12,7 @@ use Rattle.tries.specs.Keys.{Key}
 use Rattle.tries.specs.Place.{spot}
 use Rattle.tries.proofs.Places.{leads_spot}
 use Rattle.tries.specs.Tree.{Subtrie, Tree}
-use Rattle.versions.specs.declared.Rec.{Rec}
+use Rattle.record_words.specs.declared.records.Rec.{Rec}
 use Rattle.versions.specs.State.{Past, Stands, IsHeldSince, WasAbsentSince, IsLed, IsSteady, rec_of}
 use Rattle.versions.specs.Core.{pin_version}
 use Rattle.versions.specs.Frames.{IsGrown}

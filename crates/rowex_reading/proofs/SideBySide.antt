@@ -20,7 +20,7 @@ use Rattle.version_laws.specs.Scan.{IsRooted}
 use Rattle.rowex_reading.specs.Lookups.{HasFound, HaveFound, HaveSearched}
 use Rattle.rowex_reading.specs.Reads.{IsReader, Reads, ReadsRoot}
 use Rattle.rowex_reading.specs.Seen.{IsAtRoot, Sure, since}
-use Rattle.rowex_reading.specs.Together.{AreLeaves, AreOnWay, HasComeTo, ReadsForAll, heights_in}
+use Rattle.rowex_reading.specs.Together.{AreLeaves, HaveComeTo, HasComeTo, ReadsForAll, heights_in}
 use Rattle.rowex_reading.proofs.Led.{looks_first, looks_on, reader_then, reads_later, reads_trans, same_since}
 use Rattle.rowex_reading.proofs.Looking.{way_first, way_on}
 use Rattle.rowex_reading.proofs.Seeing.{held_stable, missed_stable, rooted_stable, since_later, sure_later}
@@ -101,7 +101,7 @@ heights_lower tips i e d low lower = let sum = sum_by-set height_of tips i e d l
 -- Ways
 
 module _ {G : Type 0} {table : TableView} {becomes : G → Event → G → Type 0} {f n : ℕ} {a b : SeatView × G} (reads : Reads table becomes f n a b) where
-  pub ways_on : (keys : List Key) (tips : List Entry) → AreOnWay a.0.known keys tips → AreOnWay b.0.known keys tips
+  pub ways_on : (keys : List Key) (tips : List Entry) → HaveComeTo a.0.known keys tips → HaveComeTo b.0.known keys tips
   ways_on keys tips are i key e is at = way_on e reads (are i key e is at)
 
   -- the root's entry is still what it was at the load
@@ -122,11 +122,11 @@ module _ {G : Type 0} {table : TableView} {becomes : G → Event → G → Type 
   found_on count keys found are i key o low is at = found_on_key key o (are i key o low is at)
 
 -- each key's way begins at the root
-pub ways_first : {k : Known} (keys : List Key) (n m : ℕ) (root : Entry) → IsAtRoot k root → AreOnWay k keys (take n (replicate m root))
+pub ways_first : {k : Known} (keys : List Key) (n m : ℕ) (root : Entry) → IsAtRoot k root → HaveComeTo k keys (take n (replicate m root))
 ways_first {k} keys n m root at i key e is there = subst (HasComeTo k key) (in_replicate n m i root e there) (way_first key root at)
 
 -- one goes on
-pub ways_more : {k : Known} (keys : List Key) (tips : List Entry) (i : ℕ) (key : Key) (e : Entry) → AreOnWay k keys tips → slice_get keys i ≡ Some key → HasComeTo k key e → AreOnWay k keys (set tips i e)
+pub ways_more : {k : Known} (keys : List Key) (tips : List Entry) (i : ℕ) (key : Key) (e : Entry) → HaveComeTo k keys tips → slice_get keys i ≡ Some key → HasComeTo k key e → HaveComeTo k keys (set tips i e)
 ways_more {k} keys tips i key e are here way j other d is at =
     ⊎_elim
     (λ (both : (j ≡ i) × (e ≡ d)). subst (λ (z : Key × Entry). HasComeTo k z.0 z.1) (λ x. (same_there keys i j key other (sym both.0) here is x, both.1 x)) way)
@@ -149,7 +149,7 @@ leaves_more i tips n e are here is j d low at =
 pub record HaveGone {G : Type 0} (table : TableView) (becomes : G → Event → G → Type 0) (keys : List Key) (a : SeatView × G) (before : List Entry) (i : ℕ) (b : SeatView × G) (tips : List Entry) (lower : Bool) : Type 0 where
   pub reader : IsReader table b.0
   pub room : length tips ≡ length keys
-  pub ways : AreOnWay b.0.known keys tips
+  pub ways : HaveComeTo b.0.known keys tips
   pub entries : ℕ
   pub falls : entries + heights_in tips ≤ heights_in before
   pub loads : ℕ

@@ -10,8 +10,8 @@ use Rattle.record_words.specs.Node.{head_words, entry_words}
 use Rattle.record_words.proofs.Entries.{entry_words_at}
 use Rattle.record_words.proofs.Nodes.{length-head_words}
 use Rattle.tries.specs.Tree.{Tree}
-use Rattle.versions.specs.declared.Rec.{Rec}
-use Rattle.versions.specs.declared.Rec.TheVariants.{Node as a_node}
+use Rattle.record_words.specs.declared.records.Rec.{Rec}
+use Rattle.record_words.specs.declared.records.Rec.TheVariants.{Node as a_node}
 use Rattle.versions.specs.State.{Stands, IsReach, rec_of}
 use Rattle.versions.specs.Core.{Fate, Free, Held, Ready, InTree, Unlinked, Marked, pin_version}
 use Rattle.versions.proofs.States.{reach_later}

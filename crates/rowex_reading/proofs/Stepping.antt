@@ -26,7 +26,7 @@ use Rattle.rowex_core.specs.Reading.{IsPacked}
 use Rattle.rowex_core.specs.declared.known.Known.{Known}
 use Rattle.tries.specs.Keys.{Key}
 use Rattle.tries.specs.Place.{spot}
-use Rattle.versions.specs.declared.Rec.TheVariants.{Node as a_node}
+use Rattle.record_words.specs.declared.records.Rec.TheVariants.{Node as a_node}
 use Rattle.rowex_reading.specs.Possible.{IsPossible}
 use Rattle.rowex_reading.specs.Seen.{AreHeadWords, AreLoaded, IsLedTo, shape_of}
 use Rattle.rowex_reading.specs.Ways.{step_at}
@@ -107,7 +107,7 @@ wide_read layout k j i n front back possible loaded behind is long back_long m h
 
 -- ---- the step at a node whose head has these words
 same_step : (n m height tall first other count many at place : ℕ) → n ≡ m → height ≡ tall → first ≡ other → count ≡ many → at ≡ place →
-    ◌≡◌ {A = PathNode} (record { number = n; height = height; first_position = first; count = count; at = at }) (record { number = m; height = tall; first_position = other; count = many; at = place })
+    ◌≡◌ {A = PathNode} (record { number = n; height = height; first_position = first; count = count; slot = at }) (record { number = m; height = tall; first_position = other; count = many; slot = place })
 same_step n m height tall first other count many at place a b c d e = rw (a, b, c, d, e) refl
 
 module _ {k : Known} {m n h : ℕ} (words : List ℕ) (are : AreHeadWords k m n h words) where
@@ -118,11 +118,11 @@ module _ {k : Known} {m n h : ℕ} (words : List ℕ) (are : AreHeadWords k m n 
   IsStepOf numbers word step = InNodesWith numbers (mask_index numbers.kind 0) word (λ v. (step.height ≡ v.height) × (step.count ≡ length v.entries) × (step.first_position ≡ get_or v.columns 0 0))
 
   pub step_spelled : (numbers : HeadNumbers) → ((v : NodeView) → IsLawfulNode v → get_or (head_words (head_of v)) 0 0 ≡ get_or words 0 0 → AreNumbersOf numbers v) → (word : ℕ) → word ≡ get_or words (mask_index numbers.kind 0) 0 →
-      (step : PathNode) (number at : ℕ) → (step.number ≡ number) × (step.at ≡ at) → IsStepOf numbers word step → step ≡ step_at are.head number at
+      (step : PathNode) (number at : ℕ) → (step.number ≡ number) × (step.slot ≡ at) → IsStepOf numbers word step → step ≡ step_at are.head number at
   step_spelled numbers numbers_are word word_is step number at same fits =
       let its = numbers_are node are.seen.lawful (ap (λ (ws : List ℕ). get_or ws 0 0) are.words_are) in
       let parts = fits node are.seen.lawful its (ap (λ (ws : List ℕ). get_or ws (mask_index numbers.kind 0) 0) are.words_are ∙ sym word_is) in
-      same_step step.number number step.height are.head.height step.first_position step.first_position step.count step.count step.at at same.0 parts.0 refl refl same.1
+      same_step step.number number step.height are.head.height step.first_position step.first_position step.count step.count step.slot at same.0 parts.0 refl refl same.1
       ∙ step_is are.head are.seen.lawful number at step.count step.first_position (parts.1 ∙ length-replicate (length are.head.rows) (Leaf 0)) (root_of_head are.head step.first_position parts.2)
 
 -- ---- a head of a kind

@@ -8,7 +8,7 @@ use Rattle.record_words.specs.Leaf.{key_word, leaf_words}
 use Rattle.record_words.proofs.Leaves.{IsLeafOf, leaf_words_parts}
 use Rattle.tries.specs.Keys.{Key}
 use Rattle.tries.specs.Tree.{leaf}
-use Rattle.versions.specs.declared.Rec.TheVariants.{Leaf as a_leaf}
+use Rattle.record_words.specs.declared.records.Rec.TheVariants.{Leaf as a_leaf}
 use Rattle.versions.specs.State.{Past, IsSteady, Stands}
 use Rattle.versions.proofs.Growth.{stands_grown}
 use Rattle.rowex_core.specs.declared.event.Act.TheVariants.{LoadRef}

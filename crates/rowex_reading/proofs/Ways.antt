@@ -42,7 +42,7 @@ module _ (layout : Layout) (k j : Known) (m : ℕ) (key : Key) (later : IsLater 
     range = w.range;
     seen = sure_later {P = λ p. EntryStoodSince p m (Node s.number s.height)} (seen_stable m (Node s.number s.height)) later w.seen;
     shaped = sure_later {P = λ p. IsShaped p m s.number w.forks} (shaped_stable m s.number w.forks) later w.shaped;
-    placed = sure_later {P = λ p. IsPlaced p m s.number s.at e} (placed_stable m s.number s.at e) later w.placed;
+    placed = sure_later {P = λ p. IsPlaced p m s.number s.slot e} (placed_stable m s.number s.slot e) later w.placed;
     at = w.at;
     below = w.below;
     count = w.count;
@@ -66,7 +66,7 @@ way_later layout k j m key way found later w = record {
 }
 
 -- each of its nodes has a place on the key's way
-pub way_place : (layout : Layout) (k : Known) (m : ℕ) (key : Key) (way : List PathNode) (found : Found) → IsWayOf layout k m key way found → (i : ℕ) (s : PathNode) → slice_get way i ≡ Some s → HasPlace k m s.number s.height s.at
+pub way_place : (layout : Layout) (k : Known) (m : ℕ) (key : Key) (way : List PathNode) (found : Found) → IsWayOf layout k m key way found → (i : ℕ) (s : PathNode) → slice_get way i ≡ Some s → HasPlace k m s.number s.height s.slot
 way_place layout k m key way found w i s at =
     let node = (w.nodes i s at).2 in
     shape_place ((w.since, node.seen), node.shaped) (subst (λ z. z < size node.forks) (sym node.at) (spot_below key node.forks))

@@ -8,8 +8,8 @@ use Rattle.record_words.specs.Leaf.{leaf_words, words_for}
 use Rattle.record_words.proofs.Leaves.{leaf_words_parts}
 use Rattle.tries.specs.Tree.{Tree, leaf, node, fork}
 use Rattle.versions.specs.declared.Pin.{Pin}
-use Rattle.versions.specs.declared.Rec.{Rec}
-use Rattle.versions.specs.declared.Rec.TheVariants.{Node as a_node, Leaf as a_leaf}
+use Rattle.record_words.specs.declared.records.Rec.{Rec}
+use Rattle.record_words.specs.declared.records.Rec.TheVariants.{Node as a_node, Leaf as a_leaf}
 use Rattle.versions.specs.State.{IsRecord, rec_of}
 use Rattle.versions.proofs.Growth.{stands_grown}
 use Rattle.rowex_core.specs.declared.event.Act.TheVariants.{LoadFixed}

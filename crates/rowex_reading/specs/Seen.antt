@@ -8,7 +8,7 @@ use Rattle.record_words.specs.Node.{head_words}
 use Rattle.tries.specs.Keys.{Key}
 use Rattle.tries.specs.Tree.{Subtrie}
 use Rattle.versions.specs.State.{Past}
-use Rattle.versions.specs.declared.Rec.{Rec}
+use Rattle.record_words.specs.declared.records.Rec.{Rec}
 use Rattle.rowex_core.specs.declared.known.Known.{Known}
 use Rattle.rowex_core.specs.Cores.{Core, IsLawful}
 use Rattle.rowex_core.specs.Knowing.{IsPinnedSince, Recalls, StoodAs, StoodBetween}

@@ -20,8 +20,8 @@ pub record HasComeTo (k : Known) (key : Key) (e : Entry) : Type 0 where
   pub led : Sure k (λ s. IsLed s (since k) key e)
 
 -- each search has led to its entry
-abbrev pub AreOnWay : Known → List Key → List Entry → Type 0
-AreOnWay k keys tips = (i : ℕ) (key : Key) (e : Entry) → slice_get keys i ≡ Some key → slice_get tips i ≡ Some e → HasComeTo k key e
+abbrev pub HaveComeTo : Known → List Key → List Entry → Type 0
+HaveComeTo k keys tips = (i : ℕ) (key : Key) (e : Entry) → slice_get keys i ≡ Some key → slice_get tips i ≡ Some e → HasComeTo k key e
 
 -- the first of these entries are leaves
 abbrev pub AreLeaves : ℕ → List Entry → Type 0

@@ -38,7 +38,7 @@ named (s ∷ way) found (suc i) = named way found i
 
 -- the step at a node with this head, where the search takes the entry at a place
 abbrev pub step_at : HeadView → ℕ → ℕ → PathNode
-step_at head number at = record { number = number; height = head.height; first_position = first_position (shape_of head); count = size (shape_of head); at = at }
+step_at head number at = record { number = number; height = head.height; first_position = first_position (shape_of head); count = size (shape_of head); slot = at }
 
 -- the root's entry in a version since m
 abbrev pub RootWas : Known → ℕ → Option Entry → Type 0
@@ -51,8 +51,8 @@ pub record IsWayNode (layout : Layout) (k : Known) (m : ℕ) (key : Key) (s : Pa
   pub range : s.number < layout.nodes
   pub seen : Sure k (λ past. EntryStoodSince past m (Node s.number s.height))
   pub shaped : Sure k (λ past. IsShaped past m s.number forks)
-  pub placed : Sure k (λ past. IsPlaced past m s.number s.at e)
-  pub at : s.at ≡ spot key forks
+  pub placed : Sure k (λ past. IsPlaced past m s.number s.slot e)
+  pub at : s.slot ≡ spot key forks
   pub below : height_of e < s.height
   pub count : s.count ≡ size forks
   pub room : size forks ≤ 32

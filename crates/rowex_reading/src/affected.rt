@@ -9,28 +9,28 @@ ghost use Rattle.rowex_reading.specs.Seen.{HasPlace, Sure};
 ghost use Rattle.tries.specs.Tree.{Subtrie};
 
 use crate::reading::load_head_words;
+use insert_cases::PathNode;
 use record_words::affected_slots;
 use rowex_core::Gate;
 use rowex_table::{HotTable, TableSeat};
 
-/// The slots of the first and the last entry of node `number` that a new fork at `position` affects. The entry in `found`, a slot that
-/// the node has, is one of these. It loads as many words of the node's head as say something, and `gate` is told of each load.
+/// The slots of the first and the last entry of the node `step` that a new fork at `position` affects. The entry in `step.slot`, a slot
+/// that the node has, is one of these. It loads as many words of the node's head as say something, and `gate` is told of each load.
 #[inline(always)]
 pub fn find_affected<G: Gate>(
     table: &HotTable,
     seat: &mut TableSeat,
     gate: &mut G,
-    number: u32,
-    found: u8,
+    step: PathNode,
     position: u16,
 ) -> (u8, u8)
     requires reader { IsReader table.now seat.old }
-    requires place { (m h : ℕ) × HasPlace seat.old.known m number h found }
+    requires place { (m h : ℕ) × HasPlace seat.old.known m step.number h step.slot }
     ensures reads { (n : ℕ) × (n ≤ HEAD_WORDS) × Reads table.now G.becomes 0 n (seat.old, gate.old) (seat.new, gate.new) }
-    ensures affected { (m h : ℕ) → HasPlace seat.old.known m number h found →
-        (forks : Subtrie) × Sure seat.new.known (λ s. IsShaped s m number forks) ×
-        (affected_first position found forks ≡ result.0) × (affected_count position found forks + result.0 ≡ result.1 + 1) }
+    ensures affected { (m h : ℕ) → HasPlace seat.old.known m step.number h step.slot →
+        (forks : Subtrie) × Sure seat.new.known (λ s. IsShaped s m step.number forks) ×
+        (affected_first position step.slot forks ≡ result.0) × (affected_count position step.slot forks + result.0 ≡ result.1 + 1) }
 {
-    let words = load_head_words(table, seat, gate, number);
-    affected_slots(&words, found, position)
+    let words = load_head_words(table, seat, gate, step.number);
+    affected_slots(&words, step.slot, position)
 }

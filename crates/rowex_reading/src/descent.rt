@@ -13,7 +13,7 @@ use compound_node::Entry;
 use insert_cases::PathNode;
 use key_bits::{Key, MAX_BYTES, mismatch_of_bytes};
 use rowex_core::{Gate, Rec};
-use rowex_table::{HotTable, LeafAt, NodeAt, TableSeat};
+use rowex_table::{HotTable, TableSeat};
 
 /// The most nodes on a way: a node's height is above that of the next one, and at most 2,160.
 pub const MOST_NODES: usize = 2_160;
@@ -59,8 +59,7 @@ pub fn search_way<G: Gate>(
         match entry {
             Entry::Leaf(number) => {
                 let mut places = [0; MAX_BYTES];
-                let start = table.start_of(Rec::Leaf(number));
-                let leaf = LeafAt { number, start };
+                let leaf = table.locate(Rec::Leaf(number));
                 let (length, value) = load_leaf(table, seat, gate, leaf, &mut places);
                 return Found::Leaf {
                     number,
@@ -69,10 +68,9 @@ pub fn search_way<G: Gate>(
                 };
             }
             Entry::Node { number, .. } => {
-                let start = table.start_of(Rec::Node(number));
-                let node = NodeAt { number, start };
+                let node = table.locate(Rec::Node(number));
                 let step = search_node(table, seat, gate, node, key);
-                entry = load_entry(table, seat, gate, node, step.at);
+                entry = load_entry(table, seat, gate, node, step.slot);
                 way.push(step);
             }
         }

@@ -4,9 +4,9 @@ ghost use Rattle.std.specs.Prelude.{◌≡◌, ◌≤◌, ℕ, IsSome};
 ghost use Rattle.compound_node.specs.declared.entries.Entry.TheVariants.{Node as NodeEntry};
 ghost use Rattle.record_words.specs.declared.TheConstants.{HEAD_WORDS};
 ghost use Rattle.version_laws.specs.Scan.{IsShaped};
-ghost use Rattle.rowex_table.specs.Rule.{IsStartOf};
+ghost use Rattle.rowex_table.specs.Rule.{IsNodeRecordAt, record_number};
 ghost use Rattle.rowex_table.specs.Seats.{IsSeatOf};
-ghost use Rattle.versions.specs.declared.Rec.TheVariants.{Node as a_node};
+ghost use Rattle.record_words.specs.declared.records.Rec.TheVariants.{Node as a_node};
 ghost use Rattle.tries.specs.Place.{spot};
 ghost use Rattle.tries.specs.Tree.{Subtrie};
 ghost use Rattle.rowex_reading.specs.Lookups.{HasFound, HasSearched};
@@ -17,7 +17,7 @@ use crate::reading::{load_entry, load_root, load_value, search_node};
 use compound_node::Entry;
 use key_bits::Key;
 use rowex_core::{Gate, Rec};
-use rowex_table::{HotTable, NodeAt, TableSeat};
+use rowex_table::{HotTable, RecordAt, TableSeat};
 
 /// Returns the value of `key`, or `None` if the key is absent. This was so in a version since the load of the root. It makes that load, and
 /// at most 26 for each node on the path and 32 for a leaf. `gate` is told each.
@@ -37,10 +37,9 @@ pub fn look_up<G: Gate>(
         match entry {
             Entry::Leaf(number) => return load_value(table, seat, gate, number, key),
             Entry::Node { number, .. } => {
-                let start = table.start_of(Rec::Node(number));
-                let node = NodeAt { number, start };
-                let place = find_slot(table, seat, gate, node, key);
-                entry = load_entry(table, seat, gate, node, place);
+                let node = table.locate(Rec::Node(number));
+                let slot = find_slot(table, seat, gate, node, key);
+                entry = load_entry(table, seat, gate, node, slot);
             }
         }
     }
@@ -52,15 +51,15 @@ pub(crate) fn find_slot<G: Gate>(
     table: &HotTable,
     seat: &mut TableSeat,
     gate: &mut G,
-    node: NodeAt,
+    node: RecordAt,
     key: &Key,
 ) -> u8
     requires reader { IsReader table.now seat.old }
-    requires led { (m h : ℕ) × IsLedTo seat.old.known m (NodeEntry node.number h) }
-    requires start { IsStartOf table.now.layout (a_node node.number) node.start }
+    requires led { (m h : ℕ) × IsLedTo seat.old.known m (NodeEntry (record_number node.rec) h) }
+    requires node { IsNodeRecordAt table.now.layout node }
     ensures reads { (n : ℕ) × (n ≤ HEAD_WORDS) × Reads table.now G.becomes 0 n (seat.old, gate.old) (seat.new, gate.new) }
-    ensures place { (m h : ℕ) → IsLedTo seat.old.known m (NodeEntry node.number h) →
-        (forks : Subtrie) × Sure seat.new.known (λ s. IsShaped s m node.number forks) × (result ≡ spot key.now forks) }
+    ensures place { (m h : ℕ) → IsLedTo seat.old.known m (NodeEntry (record_number node.rec) h) →
+        (forks : Subtrie) × Sure seat.new.known (λ s. IsShaped s m (record_number node.rec) forks) × (result ≡ spot key.now forks) }
 {
-    search_node(table, seat, gate, node, key).at
+    search_node(table, seat, gate, node, key).slot
 }

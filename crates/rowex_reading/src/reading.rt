@@ -12,8 +12,8 @@ ghost use Rattle.version_laws.specs.Scan.{IsPlaced, IsRead};
 ghost use Rattle.rowex_reading.specs.Reads.{IsReader, Reads, ReadsRoot, leaf_loads};
 ghost use Rattle.rowex_reading.specs.Ways.{step_at};
 ghost use Rattle.rowex_reading.specs.Seen.{Sure, RootIs, IsCompared, IsHeadSeen, IsLedTo, HasPlace, AreHeadWords, AreLoaded, shape_of};
-ghost use Rattle.versions.specs.declared.Rec.TheVariants.{Leaf as a_leaf, Node as a_node};
-ghost use Rattle.rowex_table.specs.Rule.{IsStartOf};
+ghost use Rattle.record_words.specs.declared.records.Rec.TheVariants.{Leaf as a_leaf, Node as a_node};
+ghost use Rattle.rowex_table.specs.Rule.{IsLeafRecordAt, IsNodeRecordAt, record_number};
 ghost use Rattle.rowex_table.specs.Seats.{IsSeatOf};
 ghost use Rattle.tries.specs.Place.{spot};
 
@@ -28,7 +28,7 @@ use record_words::{
     write_key_word,
 };
 use rowex_core::{Gate, Rec, Spot};
-use rowex_table::{HotTable, LeafAt, NodeAt, TableSeat};
+use rowex_table::{HotTable, RecordAt, TableSeat};
 
 /// Loads the root's entry; `None` if the tree is empty.
 pub fn load_root<G: Gate>(table: &HotTable, seat: &mut TableSeat, gate: &mut G) -> Option<Entry>
@@ -48,21 +48,21 @@ fn load_head_part<G: Gate>(
     table: &HotTable,
     seat: &mut TableSeat,
     gate: &mut G,
-    node: NodeAt,
+    node: RecordAt,
     first: usize,
     words: &mut [u64],
 )
     requires reader { IsReader table.now seat.old }
-    requires led { (m h : ℕ) × IsLedTo seat.old.known m (NodeEntry node.number h) }
-    requires start { IsStartOf table.now.layout (a_node node.number) node.start }
+    requires led { (m h : ℕ) × IsLedTo seat.old.known m (NodeEntry (record_number node.rec) h) }
+    requires node { IsNodeRecordAt table.now.layout node }
     requires range { first + length words.old ≤ HEAD_WORDS }
     ensures reads { Reads table.now G.becomes 0 (length words.old) (seat.old, gate.old) (seat.new, gate.new) }
     ensures long { length words.new ≡ length words.old }
-    ensures loaded { AreLoaded seat.old.known seat.new.known (a_node node.number) first (λ i. i < length words.new) words.new }
+    ensures loaded { AreLoaded seat.old.known seat.new.known (a_node (record_number node.rec)) first (λ i. i < length words.new) words.new }
 {
     for index in 0..words.len() {
         let offset = (first + index) as u8 + FIELDS_OFFSET;
-        words[index] = table.load_fixed_at(seat, gate, Rec::Node(node.number), node.start, offset);
+        words[index] = table.load_fixed_at(seat, gate, node, offset);
     }
 }
 
@@ -80,8 +80,7 @@ pub(crate) fn load_head_words<G: Gate>(
     ensures reads { (n : ℕ) × (n ≤ HEAD_WORDS) × Reads table.now G.becomes 0 n (seat.old, gate.old) (seat.new, gate.new) }
     ensures words { (m h : ℕ) → IsLedTo seat.old.known m (NodeEntry number h) → AreHeadWords seat.new.known m number h result }
 {
-    let start = table.start_of(Rec::Node(number));
-    let node = NodeAt { number, start };
+    let node = table.locate(Rec::Node(number));
     let mut first = [0; 1];
     load_head_part(table, seat, gate, node, 0, &mut first);
     let mut words = [u64::MAX; HEAD_WORDS];
@@ -118,10 +117,10 @@ pub fn load_path_node<G: Gate>(
     path_node(number, numbers, word, 0)
 }
 
-/// Node `number` as one of a path that takes slot `at`. Its head has `numbers`, and `word` at [`index_of_first_position`].
+/// Node `number` as one of a path that takes `slot`. Its head has `numbers`, and `word` at [`index_of_first_position`].
 #[inline(always)]
-fn path_node(number: u32, numbers: HeadNumbers, word: u64, at: u8) -> PathNode
-    ensures same { (result.number ≡ number) × (result.at ≡ at) }
+fn path_node(number: u32, numbers: HeadNumbers, word: u64, slot: u8) -> PathNode
+    ensures same { (result.number ≡ number) × (result.slot ≡ slot) }
     ensures node { InNodesWith numbers (mask_index numbers.kind 0) word (λ node.
         (result.height ≡ node.height) × (result.count ≡ length node.entries) × (result.first_position ≡ slice_index node.columns 0)) }
 {
@@ -130,61 +129,63 @@ fn path_node(number: u32, numbers: HeadNumbers, word: u64, at: u8) -> PathNode
         height: numbers.height,
         first_position: first_position_of(numbers, word),
         count: numbers.count,
-        at,
+        slot,
     }
 }
 
 /// Asks for the cache lines of the entries of `node`, so that they come while its head is searched. From the last entry on one of as many
 /// words as a line has is touched; the line of those before them has words of the head, too.
 #[inline(always)]
-pub(crate) fn touch_entries(table: &HotTable, node: NodeAt)
-    requires start { IsStartOf table.now.layout (a_node node.number) node.start }
+pub(crate) fn touch_entries(table: &HotTable, node: RecordAt)
+    requires node { IsNodeRecordAt table.now.layout node }
 {
-    let (rec, line) = (Rec::Node(node.number), CACHE_LINE_WORDS as u8);
-    let last = NODE_WORDS as u8 - 1;
-    table.touch(rec, node.start, last - 3 * line);
-    table.touch(rec, node.start, last - 2 * line);
-    table.touch(rec, node.start, last - line);
-    table.touch(rec, node.start, last);
+    let (last, line) = (NODE_WORDS as u8 - 1, CACHE_LINE_WORDS as u8);
+    table.touch(node, last - 3 * line);
+    table.touch(node, last - 2 * line);
+    table.touch(node, last - line);
+    table.touch(node, last);
 }
 
 /// Loads the head of `node` and searches it for `key`. Returns the node of the key's path, with the slot to which the bits of `key` lead.
 ///
-/// The first word tells the kind of the head. Then as many words are loaded as say something in that kind: 7, 13 or 25 in all, and none waits
-/// for another. Nor does the load of an entry, whose line is asked for here. The rows of a wide head are loaded last, and stay in registers.
+/// The first word tells the kind of the head. Then as many words are loaded as say something in that kind: 7, 13 or 25 in all, and none
+/// waits for another. Nor does the load of an entry, whose line is asked for here. The rows of a wide head are loaded last, and stay in
+/// registers.
 #[inline(always)]
 pub fn search_node<G: Gate>(
     table: &HotTable,
     seat: &mut TableSeat,
     gate: &mut G,
-    node: NodeAt,
+    node: RecordAt,
     key: &Key,
 ) -> PathNode
     requires reader { IsReader table.now seat.old }
-    requires led { (m h : ℕ) × IsLedTo seat.old.known m (NodeEntry node.number h) }
-    requires start { IsStartOf table.now.layout (a_node node.number) node.start }
+    requires led { (m h : ℕ) × IsLedTo seat.old.known m (NodeEntry (record_number node.rec) h) }
+    requires node { IsNodeRecordAt table.now.layout node }
     ensures reads { (n : ℕ) × (n ≤ HEAD_WORDS) × Reads table.now G.becomes 0 n (seat.old, gate.old) (seat.new, gate.new) }
-    ensures step { (m h : ℕ) → IsLedTo seat.old.known m (NodeEntry node.number h) →
-        (head : HeadView) × IsHeadSeen seat.new.known m node.number h head × (result ≡ step_at head node.number (spot key.now (shape_of head))) }
+    ensures step { (m h : ℕ) → IsLedTo seat.old.known m (NodeEntry (record_number node.rec) h) →
+        (head : HeadView) × IsHeadSeen seat.new.known m (record_number node.rec) h head ×
+        (result ≡ step_at head (record_number node.rec) (spot key.now (shape_of head))) }
 {
     let mut first = [0; 1];
     load_head_part(table, seat, gate, node, 0, &mut first);
     touch_entries(table, node);
     let numbers = read_numbers(first[0]);
+    let number = node.number();
     match numbers.kind {
         Kind::Narrow => {
             let mut words = [first[0]; NARROW_HEAD_WORDS];
             load_head_part(table, seat, gate, node, 1, &mut words[1..]);
-            let at = search_narrow(&words, key);
+            let slot = search_narrow(&words, key);
             let word = words[index_of_first_position(Kind::Narrow)];
-            path_node(node.number, numbers, word, at)
+            path_node(number, numbers, word, slot)
         }
         Kind::Middle => {
             let mut words = [first[0]; MIDDLE_HEAD_WORDS];
             load_head_part(table, seat, gate, node, 1, &mut words[1..]);
-            let at = search_middle(&words, key);
+            let slot = search_middle(&words, key);
             let word = words[index_of_first_position(Kind::Middle)];
-            path_node(node.number, numbers, word, at)
+            path_node(number, numbers, word, slot)
         }
         Kind::Wide => {
             let mut front = [first[0]; FIRST_ROWS];
@@ -192,68 +193,67 @@ pub fn search_node<G: Gate>(
             let dense = extract_dense_key(&front, key);
             let mut back = [0; ROW_WORDS];
             load_head_part(table, seat, gate, node, FIRST_ROWS, &mut back);
-            let at = search_row_words(&back, dense);
+            let slot = search_row_words(&back, dense);
             let word = front[index_of_first_position(Kind::Wide)];
-            path_node(node.number, numbers, word, at)
+            path_node(number, numbers, word, slot)
         }
     }
 }
 
-/// Loads the entry in slot `place` of `node`, which has that slot.
+/// Loads the entry in `slot` of `node`, which has that slot.
 #[inline(always)]
 pub fn load_entry<G: Gate>(
     table: &HotTable,
     seat: &mut TableSeat,
     gate: &mut G,
-    node: NodeAt,
-    place: u8,
+    node: RecordAt,
+    slot: u8,
 ) -> Entry
     requires reader { IsReader table.now seat.old }
-    requires place { (m h : ℕ) × HasPlace seat.old.known m node.number h place }
-    requires start { IsStartOf table.now.layout (a_node node.number) node.start }
+    requires place { (m h : ℕ) × HasPlace seat.old.known m (record_number node.rec) h slot }
+    requires node { IsNodeRecordAt table.now.layout node }
     ensures reads { Reads table.now G.becomes 1 1 (seat.old, gate.old) (seat.new, gate.new) }
-    ensures entry { (m h : ℕ) → HasPlace seat.old.known m node.number h place →
-        (height_of result < h) × Sure seat.new.known (λ s. IsPlaced s m node.number place result) }
+    ensures entry { (m h : ℕ) → HasPlace seat.old.known m (record_number node.rec) h slot →
+        (height_of result < h) × Sure seat.new.known (λ s. IsPlaced s m (record_number node.rec) slot result) }
 {
-    let word = table.load_slot_at(seat, gate, node.number, node.start, place);
+    let word = table.load_slot_at(seat, gate, node, slot);
     read_some_entry(word)
 }
 
 /// Loads `leaf`, and returns its key's length in bytes and its value. Writes the bytes of the key to the first of `places`.
 ///
 /// Words behind the key are not loaded, and their places stay. If all were 0 before, `places` are the key's (`Key::from_padded`); else
-/// those behind the key mean nothing. Inline, so that a caller has the bytes where they were read.
+/// those behind the key mean nothing. Keys of eight bytes are common: their one word is loaded without a loop. Inline, so that a caller has
+/// the bytes where they were read.
 #[inline(always)]
 pub fn load_leaf<G: Gate>(
     table: &HotTable,
     seat: &mut TableSeat,
     gate: &mut G,
-    leaf: LeafAt,
+    leaf: RecordAt,
     places: &mut [u8; MAX_BYTES],
 ) -> (usize, u64)
     requires reader { IsReader table.now seat.old }
-    requires led { (m : ℕ) × IsLedTo seat.old.known m (LeafEntry leaf.number) }
-    requires start { IsStartOf table.now.layout (a_leaf leaf.number) leaf.start }
+    requires led { (m : ℕ) × IsLedTo seat.old.known m (LeafEntry (record_number leaf.rec)) }
+    requires leaf { IsLeafRecordAt table.now.layout leaf }
     ensures reads { Reads table.now G.becomes 0 (leaf_loads (take result.0 places.new)) (seat.old, gate.old) (seat.new, gate.new) }
     ensures few { leaf_loads (take result.0 places.new) ≤ LEAF_FIELDS }
     ensures key { IsKey (take result.0 places.new) × (result.0 ≤ MAX_BYTES) }
     ensures places { places.old ≡ replicate MAX_BYTES 0 → HoldsKey places.new result.0 }
-    ensures leaf { (m : ℕ) → IsLedTo seat.old.known m (LeafEntry leaf.number) →
-        Sure seat.new.known (λ s. IsRead s m leaf.number (take result.0 places.new) result.1) }
+    ensures leaf { (m : ℕ) → IsLedTo seat.old.known m (LeafEntry (record_number leaf.rec)) →
+        Sure seat.new.known (λ s. IsRead s m (record_number leaf.rec) (take result.0 places.new) result.1) }
 {
-    let rec = Rec::Leaf(leaf.number);
-    let start = leaf.start;
-    let value = table.load_value_at(seat, gate, leaf.number, start);
-    let length = table.load_fixed_at(seat, gate, rec, start, LENGTH_OFFSET);
+    let value = table.load_value_at(seat, gate, leaf);
+    let length = table.load_fixed_at(seat, gate, leaf, LENGTH_OFFSET);
     if length == 8 {
-        let word = table.load_fixed_at(seat, gate, rec, start, KEY_OFFSET);
+        let word = table.load_fixed_at(seat, gate, leaf, KEY_OFFSET);
         write_key_word(places, 0, word);
         return (length as usize, value);
     }
     // The length is a byte's, so that no sum with it may wrap.
     let used = FIRST_KEY_WORD + count_key_words(u64::from(length as u8));
     for index in FIRST_KEY_WORD..used {
-        let word = table.load_fixed_at(seat, gate, rec, start, index as u8 + FIELDS_OFFSET);
+        let word = table.load_fixed_at(seat, gate, leaf, index as u8 + FIELDS_OFFSET);
         write_key_word(places, index - FIRST_KEY_WORD, word);
     }
     (length as usize, value)
@@ -273,8 +273,7 @@ pub fn load_value<G: Gate>(
     ensures reads { (n : ℕ) × (n ≤ LEAF_FIELDS) × Reads table.now G.becomes 0 n (seat.old, gate.old) (seat.new, gate.new) }
     ensures leaf { (m : ℕ) → IsLedTo seat.old.known m (LeafEntry number) → Sure seat.new.known (λ s. IsCompared s m number key.now result) }
 {
-    let start = table.start_of(Rec::Leaf(number));
-    let leaf = LeafAt { number, start };
+    let leaf = table.locate(Rec::Leaf(number));
     let size = key.as_bytes().len() as u64;
     if size == 8 {
         return compare_leaf(table, seat, gate, leaf, key, 8);
@@ -289,29 +288,28 @@ fn compare_leaf<G: Gate>(
     table: &HotTable,
     seat: &mut TableSeat,
     gate: &mut G,
-    leaf: LeafAt,
+    leaf: RecordAt,
     key: &Key,
     size: u64,
 ) -> Option<u64>
     requires reader { IsReader table.now seat.old }
-    requires led { (m : ℕ) × IsLedTo seat.old.known m (LeafEntry leaf.number) }
-    requires start { IsStartOf table.now.layout (a_leaf leaf.number) leaf.start }
+    requires led { (m : ℕ) × IsLedTo seat.old.known m (LeafEntry (record_number leaf.rec)) }
+    requires leaf { IsLeafRecordAt table.now.layout leaf }
     requires key { IsKey key.now × (size ≡ length key.now) }
     ensures reads { (n : ℕ) × (n ≤ LEAF_FIELDS) × Reads table.now G.becomes 0 n (seat.old, gate.old) (seat.new, gate.new) }
-    ensures leaf { (m : ℕ) → IsLedTo seat.old.known m (LeafEntry leaf.number) →
-        Sure seat.new.known (λ s. IsCompared s m leaf.number key.now result) }
+    ensures leaf { (m : ℕ) → IsLedTo seat.old.known m (LeafEntry (record_number leaf.rec)) →
+        Sure seat.new.known (λ s. IsCompared s m (record_number leaf.rec) key.now result) }
 {
-    let rec = Rec::Leaf(leaf.number);
-    if table.load_fixed_at(seat, gate, rec, leaf.start, LENGTH_OFFSET) != size {
+    if table.load_fixed_at(seat, gate, leaf, LENGTH_OFFSET) != size {
         return None;
     }
     let end = FIRST_KEY_WORD + count_key_words(size);
     for index in FIRST_KEY_WORD..end {
         let offset = index as u8 + FIELDS_OFFSET;
-        let word = table.load_fixed_at(seat, gate, rec, leaf.start, offset);
+        let word = table.load_fixed_at(seat, gate, leaf, offset);
         if word != key_word_at(key, index - FIRST_KEY_WORD) {
             return None;
         }
     }
-    Some(table.load_value_at(seat, gate, leaf.number, leaf.start))
+    Some(table.load_value_at(seat, gate, leaf))
 }

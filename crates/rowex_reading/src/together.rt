@@ -12,7 +12,7 @@ ghost use Rattle.versions.specs.State.{rec_of};
 ghost use Rattle.rowex_reading.specs.Lookups.{HaveFound, HaveSearched};
 ghost use Rattle.rowex_reading.specs.Reads.{IsReader, Reads};
 ghost use Rattle.rowex_reading.specs.Seen.{IsAtRoot};
-ghost use Rattle.rowex_reading.specs.Together.{AreLeaves, AreOnWay, HasComeTo, ReadsForAll, heights_in};
+ghost use Rattle.rowex_reading.specs.Together.{AreLeaves, HaveComeTo, HasComeTo, ReadsForAll, heights_in};
 
 use crate::lookup::find_slot;
 use crate::reading::{load_entry, load_root, load_value, touch_entries};
@@ -20,7 +20,7 @@ use compound_node::Entry;
 use key_bits::Key;
 use record_words::{CACHE_LINE_WORDS, KEY_OFFSET, NUMBERS_OFFSET, VALUE_OFFSET};
 use rowex_core::{Gate, Rec};
-use rowex_table::{HotTable, NodeAt, TableSeat};
+use rowex_table::{HotTable, TableSeat};
 
 /// How many keys go down side by side.
 const TOGETHER: usize = 16;
@@ -94,10 +94,10 @@ fn go_down<G: Gate>(
 ) -> bool
     requires reader { IsReader table.now seat.old }
     requires room { length tips.old ≡ length keys.now }
-    requires ways { AreOnWay seat.old.known keys.now tips.old }
+    requires ways { HaveComeTo seat.old.known keys.now tips.old }
     ensures reads { (entries loads : ℕ) × (entries + heights_in tips.new ≤ heights_in tips.old) × (loads ≤ 26 * entries)
         × Reads table.now G.becomes entries loads (seat.old, gate.old) (seat.new, gate.new) }
-    ensures ways { AreOnWay seat.new.known keys.now tips.new }
+    ensures ways { HaveComeTo seat.new.known keys.now tips.new }
     ensures lower { result ≡ true → heights_in tips.new < heights_in tips.old }
     ensures leaves { result ≡ false → AreLeaves (length keys.now) tips.new }
 {
@@ -126,10 +126,9 @@ fn enter_node<G: Gate>(
     ensures reads { (n : ℕ) × (n ≤ 26) × Reads table.now G.becomes 1 n (seat.old, gate.old) (seat.new, gate.new) }
     ensures entry { (h : ℕ) → HasComeTo seat.old.known key.now (NodeEntry number h) → (height_of result < h) × HasComeTo seat.new.known key.now result }
 {
-    let start = table.start_of(Rec::Node(number));
-    let node = NodeAt { number, start };
-    let place = find_slot(table, seat, gate, node, key);
-    let entry = load_entry(table, seat, gate, node, place);
+    let node = table.locate(Rec::Node(number));
+    let slot = find_slot(table, seat, gate, node, key);
+    let entry = load_entry(table, seat, gate, node, slot);
     touch_record(table, entry);
     entry
 }
@@ -142,18 +141,16 @@ fn touch_record(table: &HotTable, entry: Entry)
 {
     match entry {
         Entry::Leaf(number) => {
-            let rec = Rec::Leaf(number);
-            let start = table.start_of(rec);
-            table.touch(rec, start, VALUE_OFFSET);
-            table.touch(rec, start, KEY_OFFSET);
+            let leaf = table.locate(Rec::Leaf(number));
+            table.touch(leaf, VALUE_OFFSET);
+            table.touch(leaf, KEY_OFFSET);
         }
         Entry::Node { number, .. } => {
-            let (rec, line) = (Rec::Node(number), CACHE_LINE_WORDS as u8);
-            let start = table.start_of(rec);
-            table.touch(rec, start, NUMBERS_OFFSET);
-            table.touch(rec, start, NUMBERS_OFFSET + line);
-            table.touch(rec, start, NUMBERS_OFFSET + 2 * line);
-            touch_entries(table, NodeAt { number, start });
+            let (node, line) = (table.locate(Rec::Node(number)), CACHE_LINE_WORDS as u8);
+            table.touch(node, NUMBERS_OFFSET);
+            table.touch(node, NUMBERS_OFFSET + line);
+            table.touch(node, NUMBERS_OFFSET + 2 * line);
+            touch_entries(table, node);
         }
     }
 }
@@ -170,7 +167,7 @@ fn load_values<G: Gate>(
 )
     requires reader { IsReader table.now seat.old }
     requires rooms { (length tips.now ≡ length keys.now) × (length found.old ≡ length keys.now) }
-    requires ways { AreOnWay seat.old.known keys.now tips.now }
+    requires ways { HaveComeTo seat.old.known keys.now tips.now }
     requires leaves { AreLeaves (length keys.now) tips.now }
     ensures reads { (n : ℕ) × (n ≤ LEAF_FIELDS * length keys.now) × Reads table.now G.becomes 0 n (seat.old, gate.old) (seat.new, gate.new) }
     ensures found { HaveFound seat.new.known (length keys.now) keys.now found.new }

@@ -6,8 +6,8 @@ use Rattle.std.proofs.lemmas.List.Elements.{All-contains, All-head, All-tail, Al
 use Rattle.record_words.specs.declared.layout.Layout.{Layout}
 use Rattle.record_words.specs.Layout.{leaf_size, leaf_start}
 use Rattle.record_words.specs.State.{state_word}
-use Rattle.versions.specs.declared.Rec.{Rec}
-use Rattle.versions.specs.declared.Rec.TheVariants.{Node as a_node}
+use Rattle.record_words.specs.declared.records.Rec.{Rec}
+use Rattle.record_words.specs.declared.records.Rec.TheVariants.{Node as a_node}
 use Rattle.versions.specs.Trades.{IsOneOf}
 use Rattle.versions.proofs.Members.{all_of, map_of, of_map}
 use Rattle.versions.specs.Core.{Fate, Free, Held as HeldBy, Ready as ReadyBy, InTree, Unlinked, Marked}

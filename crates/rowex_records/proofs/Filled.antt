@@ -7,7 +7,7 @@ use Rattle.record_words.specs.declared.TheConstants.{LEAF_FIELDS}
 use Rattle.record_words.specs.Leaf.{HasLeafWords, leaf_words, up_to_key, words_for}
 use Rattle.record_words.proofs.Leaves.{leaf_words_parts}
 use Rattle.record_words.proofs.UpToKey.{spells_up_to_key}
-use Rattle.versions.specs.declared.Rec.{Rec}
+use Rattle.record_words.specs.declared.records.Rec.{Rec}
 use Rattle.versions.specs.Steps.{same_rec}
 use Rattle.versions.proofs.Legal.{same_rec_true}
 use Rattle.rowex_core.specs.declared.event.Act.TheVariants.{Ready, Release}

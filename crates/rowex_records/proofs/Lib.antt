@@ -3,5 +3,6 @@ pub mod Claimed
 pub mod Filled
 pub mod GivenUp
 pub mod Making
+pub mod Named
 pub mod SetAll
 pub mod Used

@@ -2,11 +2,11 @@
 use Rattle.std.proofs.Common.{◌≡◌, ◌≢◌, inl, inr, ℕ, zero, suc, ◌+◌, ◌*◌, ◌-◌, ◌<◌, ◌≤◌, nat_eq, nat_lt, List, [], ◌∷◌, ◌++◌, length, map, set, get_or, Bool, true, false, refl, sym, ap, subst, ◌∙◌, arith, length-append, ap₂}
 use Rattle.std.specs.Prelude.{All, Contains}
 use Rattle.std.proofs.lemmas.List.{length-set, set-get_or}
-use Rattle.std.proofs.lemmas.Bool.{eq-eqb, eqb-true, lt-ltb, ltb-false}
+use Rattle.std.proofs.lemmas.Bool.{eq-eqb, eqb-true, le-ltb, lt-ltb, ltb-false}
 use Rattle.std.proofs.lemmas.List.Elements.{All-head, All-tail}
 use Rattle.finite_map.specs.declared.Change.{Change}
-use Rattle.versions.specs.declared.Rec.{Rec}
-use Rattle.versions.specs.declared.Rec.TheVariants.{Node as a_node, Leaf as a_leaf}
+use Rattle.record_words.specs.declared.records.Rec.{Rec}
+use Rattle.record_words.specs.declared.records.Rec.TheVariants.{Node as a_node, Leaf as a_leaf}
 use Rattle.versions.specs.Steps.{same_rec}
 use Rattle.versions.proofs.Legal.{same_rec_true, same_rec_refl}
 use Rattle.record_words.specs.declared.layout.Layout.{Layout}
@@ -29,6 +29,7 @@ use Rattle.rowex_core.specs.Sharing.{IsOwned}
 use Rattle.rowex_core.specs.Knowing.{IsEvent, learned_by, with_filled_word}
 use Rattle.rowex_core.proofs.Owning.{knows_all}
 use Rattle.rowex_table.specs.Made.{IsLater}
+use Rattle.rowex_table.specs.Rule.{record_number}
 use Rattle.rowex_table.specs.Rights.{OwnsAs, IsClaimed}
 use Rattle.rowex_table.specs.Runs.{silent, Steps, Runs, Does, InTurn}
 use Rattle.rowex_table.specs.Stays.{KeepsRecall}
@@ -89,6 +90,9 @@ looked_behind (a_leaf n) offset word at = omega arith
 pub fixed_is_load : (r : Rec) (offset w : ℕ) → IsFixedOffset r offset → load_of_word r offset w ≡ LoadFixed r offset w
 fixed_is_load (a_leaf n) offset w fixed = refl
 fixed_is_load (a_node n) offset w fixed = rw (lt-ltb offset FIRST_ENTRY fixed.1) refl
+
+pub entry_is_load : (r : Rec) (n offset w : ℕ) → r ≡ a_node n → FIRST_ENTRY ≤ offset → load_of_word r offset w ≡ LoadRef (Slot (record_number r) (offset - FIRST_ENTRY)) w
+entry_is_load r n offset w is high = subst (λ q. load_of_word q offset w ≡ LoadRef (Slot (record_number q) (offset - FIRST_ENTRY)) w) (sym is) (rw (le-ltb offset FIRST_ENTRY high) refl)
 
 -- the word of an entry
 entry_word : (c : Core) (n i : ℕ) → record_word c (a_node n) (FIRST_ENTRY + i) ≡ get_or (c.words (a_node n)) (25 + i) 0

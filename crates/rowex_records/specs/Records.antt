@@ -1,7 +1,7 @@
 -- Steps on records of a pass's own that are not in the tree: filled, made ready, given up.
 use Rattle.std.specs.Prelude.{◌≡◌, ◌≢◌, ◌⊎◌, ℕ, zero, suc, ◌+◌, ◌-◌, ◌*◌, ◌^◌, ◌<◌, ◌≤◌, List, [], ◌∷◌, length, map, set, get_or, nat_eq, nat_lt, All, Contains, if◌then◌else◌}
-use Rattle.versions.specs.declared.Rec.{Rec}
-use Rattle.versions.specs.declared.Rec.TheVariants.{Node as a_node, Leaf as a_leaf}
+use Rattle.record_words.specs.declared.records.Rec.{Rec}
+use Rattle.record_words.specs.declared.records.Rec.TheVariants.{Node as a_node, Leaf as a_leaf}
 use Rattle.versions.specs.Steps.{same_rec}
 use Rattle.rowex_core.specs.declared.event.Act.{Act}
 use Rattle.record_words.specs.declared.TheConstants.{FIRST_ENTRY}

@@ -1,7 +1,7 @@
 //! Records filled with the words of a leaf or of a node, and made ready.
 
 ghost use Rattle.std.specs.Prelude.{◌≡◌, ◌≢◌, ◌<◌, ◌≤◌, ◌+◌, ◌-◌, ◌*◌, ℕ, List, length};
-ghost use Rattle.versions.specs.declared.Rec.TheVariants.{Node as a_node, Leaf as a_leaf};
+ghost use Rattle.record_words.specs.declared.records.Rec.TheVariants.{Node as a_node, Leaf as a_leaf};
 ghost use Rattle.record_words.specs.Layout.{leaf_size};
 ghost use Rattle.record_words.specs.Leaf.{leaf_words, words_for};
 ghost use Rattle.record_words.specs.Node.{HasNodeWords, node_words};
@@ -10,7 +10,7 @@ ghost use Rattle.record_words.specs.declared.TheConstants.{FIRST_POSITIONS, FIRS
 ghost use Rattle.rowex_core.specs.Cores.{FitsIn, HasRecord, HasWord};
 ghost use Rattle.rowex_core.specs.Events.{IsOffset};
 ghost use Rattle.rowex_table.specs.Rights.{IsClaimed};
-ghost use Rattle.rowex_table.specs.Rule.{IsStartOf};
+ghost use Rattle.rowex_table.specs.Rule.{IsNodeRecordAt, IsStartOf};
 ghost use Rattle.rowex_table.specs.Runs.{Steps};
 ghost use Rattle.rowex_table.specs.Seats.{IsSeatOf};
 ghost use Rattle.rowex_records.specs.Records.{HaveBelow, IsBehindValue, IsFilled, IsFilledLeaf, IsLookedAt, Readies, Sets, SetsAll, SetsMore, SetsSome, load_of_word, unused_word};
@@ -22,8 +22,15 @@ use record_words::{
     read_numbers,
 };
 use rowex_core::{Gate, Rec};
-use rowex_table::{HotTable, NodeAt, RecordAt, TableSeat};
+use rowex_table::{HotTable, RecordAt, TableSeat};
 use std::ops::Range;
+
+/// The word at `offset` of the record `at`.
+#[derive(Clone, Copy)]
+struct WordAt {
+    at: RecordAt,
+    offset: u8,
+}
 
 /// Fills the claimed leaf record `number`, which has room for `key`, with `value` and with the words of `key` up to its end.
 ///
@@ -47,14 +54,15 @@ pub fn fill_leaf<G: Gate>(
     ensures steps { seat.new.known.steps ≤ seat.old.known.steps + 2 * LEAF_FIELDS }
 {
     let length = key.as_bytes().len() as u64;
-    let rec = Rec::Leaf(number);
-    let start = table.start_of(rec);
-    let at = RecordAt { rec, start };
-    store_word(table, seat, gate, at, VALUE_OFFSET, value);
-    store_word_if_changed(table, seat, gate, at, LENGTH_OFFSET, length);
+    let leaf = table.locate(Rec::Leaf(number));
+    let offset = VALUE_OFFSET;
+    store_word(table, seat, gate, WordAt { at: leaf, offset }, value);
+    let offset = LENGTH_OFFSET;
+    store_word_if_changed(table, seat, gate, WordAt { at: leaf, offset }, length);
     for index in 0..count_key_words(length) {
         let word = key_word_at(key, index);
-        store_word(table, seat, gate, at, index as u8 + KEY_OFFSET, word);
+        let offset = index as u8 + KEY_OFFSET;
+        store_word(table, seat, gate, WordAt { at: leaf, offset }, word);
     }
 }
 
@@ -76,19 +84,11 @@ pub fn fill_node<G: Gate>(
     ensures filled { IsFilled seat.new.known (a_node number) words.now }
     ensures steps { seat.new.known.steps ≤ seat.old.known.steps + 2 * NODE_FIELDS }
 {
-    let rec = Rec::Node(number);
-    let start = table.start_of(rec);
+    let node = table.locate(Rec::Node(number));
     let (columns, rows) = used_ends(words);
     let leads = read_numbers(words[0]).entries_end();
-    store_word(
-        table,
-        seat,
-        gate,
-        RecordAt { rec, start },
-        NUMBERS_OFFSET,
-        words[0],
-    );
-    let node = NodeAt { number, start };
+    let offset = NUMBERS_OFFSET;
+    store_word(table, seat, gate, WordAt { at: node, offset }, words[0]);
     set_eight_words(table, seat, gate, node, words, FIRST_POSITIONS..columns);
     set_eight_words(table, seat, gate, node, words, FIRST_ROWS..rows);
     set_eight_words(table, seat, gate, node, words, FIRST_ROWS + 8..rows);
@@ -120,36 +120,29 @@ fn used_ends(words: &[u64; NODE_FIELDS]) -> (usize, usize)
 }
 
 /// Fills eight words of the claimed node record `node`, with those of `words` from index `used.start` on. The node has something in those
-/// before `used.end`: these are stored. The others are loaded, and stored only where another stands. Inline, so that offsets are constants.
+/// before `used.end`: these are stored. The others are loaded, and stored only where another stands. If the node has something in all
+/// eight, no index is compared with `used.end`. Inline, so that offsets are constants.
 #[inline(always)]
 fn set_eight_words<G: Gate>(
     table: &HotTable,
     seat: &mut TableSeat,
     gate: &mut G,
-    node: NodeAt,
+    node: RecordAt,
     words: &[u64; NODE_FIELDS],
     used: Range<usize>,
 )
     requires own { IsSeatOf table.now seat.old }
-    requires start { IsStartOf table.now.layout (a_node node.number) node.start }
-    requires held { IsClaimed seat.old.known (a_node node.number) }
+    requires node { IsNodeRecordAt table.now.layout node }
+    requires held { IsClaimed seat.old.known node.rec }
     requires range { used.start + 8 ≤ NODE_FIELDS }
     requires have { HaveBelow words.now used.start used.end }
-    ensures { SetsMore table.now G.becomes (a_node node.number) words.now used.start 8 (seat.old, gate.old) (seat.new, gate.new) }
+    ensures { SetsMore table.now G.becomes node.rec words.now used.start 8 (seat.old, gate.old) (seat.new, gate.new) }
 {
-    let (rec, start) = (Rec::Node(node.number), node.start);
-    let at = RecordAt { rec, start };
     if used.start + 8 <= used.end {
         for place in 0..8 {
             let index = used.start + place;
-            store_word(
-                table,
-                seat,
-                gate,
-                at,
-                index as u8 + FIELDS_OFFSET,
-                words[index],
-            );
+            let offset = index as u8 + FIELDS_OFFSET;
+            store_word(table, seat, gate, WordAt { at: node, offset }, words[index]);
         }
         return;
     }
@@ -157,77 +150,71 @@ fn set_eight_words<G: Gate>(
         let index = used.start + place;
         let offset = index as u8 + FIELDS_OFFSET;
         if index < used.end {
-            store_word(table, seat, gate, at, offset, words[index]);
+            store_word(table, seat, gate, WordAt { at: node, offset }, words[index]);
         } else {
-            store_word_if_changed(table, seat, gate, at, offset, unused_node_word(offset));
+            let unused = unused_node_word(offset);
+            store_word_if_changed(table, seat, gate, WordAt { at: node, offset }, unused);
         }
     }
 }
 
-/// Stores `word` at `offset` of the claimed record `at`. Words that often stand there already go to [`store_word_if_changed`] instead.
+/// Stores `word` at `place`, of a claimed record. Words that often stand there already go to [`store_word_if_changed`] instead.
 #[inline(always)]
 fn store_word<G: Gate>(
     table: &HotTable,
     seat: &mut TableSeat,
     gate: &mut G,
-    at: RecordAt,
-    offset: u8,
+    place: WordAt,
     word: u64,
 )
     requires own { IsSeatOf table.now seat.old }
-    requires start { IsStartOf table.now.layout at.rec at.start }
-    requires held { IsClaimed seat.old.known at.rec }
-    requires range { IsOffset at.rec offset × HasWord table.now.layout at.rec offset }
-    requires stored { ¬ (IsLookedAt at.rec offset word) }
-    ensures { Sets table.now G.becomes at.rec offset word (seat.old, gate.old) (seat.new, gate.new) }
+    requires start { IsStartOf table.now.layout place.at.rec place.at.start }
+    requires held { IsClaimed seat.old.known place.at.rec }
+    requires range { IsOffset place.at.rec place.offset × HasWord table.now.layout place.at.rec place.offset }
+    requires stored { ¬ (IsLookedAt place.at.rec place.offset word) }
+    ensures { Sets table.now G.becomes place.at.rec place.offset word (seat.old, gate.old) (seat.new, gate.new) }
 {
-    table.fill_at(seat, gate, at, offset, word);
+    table.fill_at(seat, gate, place.at, place.offset, word);
 }
 
-/// Makes the word at `offset` of the claimed record `at` be `word`: a key's length, or a word in which a node has nothing. It is loaded
-/// first, and stored only if another stands there, since the record's last leaf or node often had the same.
+/// Makes the word at `place`, of a claimed record, be `word`: a key's length, or a word in which a node has nothing. It is loaded first, and
+/// stored only if another stands there, since the record's last leaf or node often had the same.
 #[inline(always)]
 fn store_word_if_changed<G: Gate>(
     table: &HotTable,
     seat: &mut TableSeat,
     gate: &mut G,
-    at: RecordAt,
-    offset: u8,
+    place: WordAt,
     word: u64,
 )
     requires own { IsSeatOf table.now seat.old }
-    requires start { IsStartOf table.now.layout at.rec at.start }
-    requires held { IsClaimed seat.old.known at.rec }
-    requires range { IsOffset at.rec offset × HasWord table.now.layout at.rec offset }
-    requires looked { IsLookedAt at.rec offset word }
-    ensures { Sets table.now G.becomes at.rec offset word (seat.old, gate.old) (seat.new, gate.new) }
+    requires start { IsStartOf table.now.layout place.at.rec place.at.start }
+    requires held { IsClaimed seat.old.known place.at.rec }
+    requires range { IsOffset place.at.rec place.offset × HasWord table.now.layout place.at.rec place.offset }
+    requires looked { IsLookedAt place.at.rec place.offset word }
+    ensures { Sets table.now G.becomes place.at.rec place.offset word (seat.old, gate.old) (seat.new, gate.new) }
 {
-    if load_word(table, seat, gate, at, offset) != word {
-        table.fill_at(seat, gate, at, offset, word);
+    if load_word(table, seat, gate, place) != word {
+        table.fill_at(seat, gate, place.at, place.offset, word);
     }
 }
 
-/// Loads the word at `offset` of the record `at`, which is neither its state nor a leaf's value, and returns it.
+/// Loads the word at `place`, which is neither a record's state nor a leaf's value, and returns it.
 #[inline(always)]
-fn load_word<G: Gate>(
-    table: &HotTable,
-    seat: &mut TableSeat,
-    gate: &mut G,
-    at: RecordAt,
-    offset: u8,
-) -> u64
+fn load_word<G: Gate>(table: &HotTable, seat: &mut TableSeat, gate: &mut G, place: WordAt) -> u64
     requires own { IsSeatOf table.now seat.old }
-    requires start { IsStartOf table.now.layout at.rec at.start }
-    requires range { IsOffset at.rec offset × HasWord table.now.layout at.rec offset }
-    requires behind { IsBehindValue at.rec offset }
-    ensures { Steps table.now G.becomes (load_of_word at.rec offset result) (seat.old, gate.old) (seat.new, gate.new) }
+    requires start { IsStartOf table.now.layout place.at.rec place.at.start }
+    requires range { IsOffset place.at.rec place.offset × HasWord table.now.layout place.at.rec place.offset }
+    requires behind { IsBehindValue place.at.rec place.offset }
+    ensures { Steps table.now G.becomes (load_of_word place.at.rec place.offset result) (seat.old, gate.old) (seat.new, gate.new) }
 {
+    let WordAt { at, offset } = place;
     match at.rec {
-        Rec::Node(number) if offset as usize >= FIRST_ENTRY => {
-            let entry = offset - FIRST_ENTRY as u8;
-            table.load_slot_at(seat, gate, number, at.start, entry)
+        Rec::Node(_) if offset as usize >= FIRST_ENTRY => {
+            let slot = offset - FIRST_ENTRY as u8;
+            table.load_slot_at(seat, gate, at, slot)
         }
-        _ => table.load_fixed_at(seat, gate, at.rec, at.start, offset),
+        _ => table.load_fixed_at(seat, gate, at, offset),
     }
 }
 

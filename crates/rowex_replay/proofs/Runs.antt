@@ -17,7 +17,7 @@ use Rattle.rowex_core.proofs.Runs.{runs_stay_lawful}
 use Rattle.rowex_replay.specs.Runs.{Run, HasLegalEvents, core_after, core_of, with_event}
 use Rattle.rowex_replay_state.specs.States.{StateView, IsStateOf, HasLock, IsLockedPublish}
 use Rattle.rowex_replay.specs.Replays.{IsAfter, MayWantMemory}
-use Rattle.versions.specs.declared.Rec.TheVariants.{Leaf as a_leaf}
+use Rattle.record_words.specs.declared.records.Rec.TheVariants.{Leaf as a_leaf}
 use Rattle.rowex_replay_state.proofs.Tables.{within, has_words}
 use Rattle.rowex_replay_state.proofs.Valued.{namer_at}
 

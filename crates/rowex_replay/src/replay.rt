@@ -49,9 +49,9 @@ impl Replay {
         })
     }
 
-    /// Makes `event` if it is legal where the run so far leads, and returns Ok. `Illegal` if it isn't; `Memory` if memory was refused,
-    /// which only a publish under the lock of its word takes; `Load` if it is a bulk load. A fault changes nothing. Only a publish takes
-    /// time linear in the table.
+    /// Makes `event` if it is a step that is legal where the run so far leads, and returns Ok. `Illegal` if it isn't legal; `Memory` if
+    /// memory was refused, which only a publish under the lock of its word takes. `Load` only if it is a bulk load, which a replay never
+    /// makes. A fault changes nothing. Only a publish takes time linear in the table.
     pub fn step(&mut self, event: Event) -> Result<(), ReplayFault>
         ensures ok { OnOk result (Legal (core_of self.old) event.pass event.act × (self.new ≡ with_event self.old event)) }
         ensures illegal { result ≡ Err ReplayFault.Illegal → ¬ Legal (core_of self.old) event.pass event.act }

@@ -8,8 +8,8 @@ use Rattle.compound_node.specs.declared.entries.Entry.{Entry}
 use Rattle.record_words.specs.declared.layout.Layout.{Layout}
 use Rattle.tries.specs.Tree.{Tree}
 use Rattle.tries.specs.Content.{Item}
-use Rattle.versions.specs.declared.Rec.{Rec}
-use Rattle.versions.specs.declared.Rec.TheVariants.{Node as a_node, Leaf as a_leaf}
+use Rattle.record_words.specs.declared.records.Rec.{Rec}
+use Rattle.record_words.specs.declared.records.Rec.TheVariants.{Node as a_node, Leaf as a_leaf}
 use Rattle.versions.specs.State.{IsTop, IsLinked}
 use Rattle.versions.specs.Told.{items_of}
 use Rattle.versions.specs.Core.{Fate, Free, Held, Ready as ReadyBy, InTree as InTreeSince, Unlinked, Marked}
@@ -20,7 +20,7 @@ use Rattle.rowex_core.specs.Cores.{Core, HasRecord, IsWhole, heap_of}
 use Rattle.rowex_core.specs.Events.{AreSame, tree_of}
 use Rattle.rowex_core.proofs.Finding.{by_number, top_items}
 use Rattle.replay_trees.specs.Versions.{AreWordsOf, HasRecordIn, IsVersion, Tells, Table}
-use Rattle.replay_trees.specs.declared.trees.Linked.{Linked}
+use Rattle.replay_trees.specs.declared.linked.Linked.{Linked}
 use Rattle.rowex_replay_state.specs.declared.fate.Fate.{Fate as Stored}
 use Rattle.rowex_replay_state.specs.declared.fate.Fate.TheVariants.{Free as IsFree, Held as IsHeld, Ready as IsReady, InTree as IsTree, Unlinked as IsUnlinked, Marked as IsMarked}
 use Rattle.rowex_replay_state.specs.Fates.{stored_fate}

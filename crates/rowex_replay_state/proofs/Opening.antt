@@ -5,7 +5,7 @@ use Rattle.record_words.specs.declared.layout.Layout.{Layout}
 use Rattle.tries.specs.Content.{pairs}
 use Rattle.rowex_core.specs.Cores.{Core}
 use Rattle.rowex_core.specs.Opening.{opening}
-use Rattle.replay_trees.specs.declared.trees.Item.{Item as Stored}
+use Rattle.replay_trees.specs.declared.linked.Item.{Item as Stored}
 use Rattle.rowex_replay_state.specs.Passes.{ArePassesOf, fresh_pass}
 use Rattle.rowex_replay_state.specs.Records.{AreRecordsOf}
 use Rattle.rowex_replay_state.specs.States.{StateView, IsStateOf}

@@ -6,8 +6,8 @@ use Rattle.record_words.specs.Node.{HasNodeWords, node_words}
 use Rattle.record_words.specs.Leaf.{HasLeafWords, leaf_words, up_to_key}
 use Rattle.record_words.specs.declared.WordFault.{WordFault}
 use Rattle.compound_node.specs.Nodes.{NodeView}
-use Rattle.versions.specs.declared.Rec.{Rec}
-use Rattle.versions.specs.declared.Rec.TheVariants.{Node as a_node, Leaf as a_leaf}
+use Rattle.record_words.specs.declared.records.Rec.{Rec}
+use Rattle.record_words.specs.declared.records.Rec.TheVariants.{Node as a_node, Leaf as a_leaf}
 use Rattle.rowex_core.specs.Cores.{FitsIn}
 use Rattle.rowex_core.specs.Reading.{IsPacked}
 use Rattle.rowex_replay_state.specs.Records.{RecordsView, IsPackedIn, words_in}

@@ -4,8 +4,8 @@ use Rattle.std.proofs.lemmas.Bool.{cases_Bool, false≢true, eq-eqb}
 use Rattle.std.proofs.lemmas.Option.{get_or_from_slice_get}
 use Rattle.compound_node.specs.declared.entries.Entry.{Entry}
 use Rattle.finite_map.specs.declared.Change.{Change}
-use Rattle.versions.specs.declared.Rec.{Rec}
-use Rattle.versions.specs.declared.Rec.TheVariants.{Node as a_node, Leaf as a_leaf}
+use Rattle.record_words.specs.declared.records.Rec.{Rec}
+use Rattle.record_words.specs.declared.records.Rec.TheVariants.{Node as a_node, Leaf as a_leaf}
 use Rattle.versions.specs.State.{IsLinked}
 use Rattle.versions.specs.Told.{items_of}
 use Rattle.versions.specs.Core.{Free, Ready as ReadyBy, InTree as InTreeSince}
@@ -14,8 +14,8 @@ use Rattle.rowex_core.specs.Cores.{Core, HasRecord, heap_of}
 use Rattle.rowex_core.specs.Events.{AreSame, IsInTree, tree_of, change_between}
 use Rattle.replay_trees.specs.Changed.{IsFoundChange}
 use Rattle.replay_trees.specs.Versions.{AreWordsOf, IsVersion, IsReadVersion, Tells, read_item}
-use Rattle.replay_trees.specs.declared.trees.Item.{Item as ReadItem}
-use Rattle.replay_trees.specs.declared.trees.Linked.{Linked}
+use Rattle.replay_trees.specs.declared.linked.Item.{Item as ReadItem}
+use Rattle.replay_trees.specs.declared.linked.Linked.{Linked}
 use Rattle.rowex_replay_state.specs.declared.fate.Fate.{Fate as Stored}
 use Rattle.rowex_replay_state.specs.declared.fate.Fate.TheVariants.{Ready as IsReady, InTree as IsTree}
 use Rattle.rowex_replay_state.specs.Fates.{stored_fate}

@@ -5,8 +5,8 @@ use Rattle.std.proofs.lemmas.List.{set-set, set-get_or}
 use Rattle.std.proofs.lemmas.Option.{get_or_from_slice_get}
 use Rattle.compound_node.specs.declared.entries.Entry.{Entry}
 use Rattle.record_words.specs.Entry.{HasEntryWord, entry_word}
-use Rattle.versions.specs.declared.Rec.{Rec}
-use Rattle.versions.specs.declared.Rec.TheVariants.{Node as a_node}
+use Rattle.record_words.specs.declared.records.Rec.{Rec}
+use Rattle.record_words.specs.declared.records.Rec.TheVariants.{Node as a_node}
 use Rattle.versions.specs.Steps.{same_rec}
 use Rattle.versions.proofs.Legal.{same_rec_refl, same_rec_true}
 use Rattle.rowex_core.specs.declared.event.Act.TheVariants.{Publish}

@@ -16,8 +16,8 @@ use Rattle.record_words.specs.Node.{HasNodeWords, node_words}
 use Rattle.tries.specs.Place.{entry_at}
 use Rattle.tries.specs.Content.{items}
 use Rattle.tries.specs.Tree.{Tree, leaf, node, fork}
-use Rattle.versions.specs.declared.Rec.{Rec}
-use Rattle.versions.specs.declared.Rec.TheVariants.{Node as a_node, Leaf as a_leaf}
+use Rattle.record_words.specs.declared.records.Rec.{Rec}
+use Rattle.record_words.specs.declared.records.Rec.TheVariants.{Node as a_node, Leaf as a_leaf}
 use Rattle.versions.specs.Core.{Free, InTree}
 use Rattle.versions.specs.Heap.{NodeWords}
 use Rattle.versions.specs.Steps.{is_linked, next_fate, HasLockedNamer, in_root, in_node}
@@ -30,7 +30,7 @@ use Rattle.rowex_core.specs.Cores.{Core, IsLawful, IsWhole, HasRecord, bare}
 use Rattle.rowex_core.specs.Events.{IsLockedAt, after, next_tree, stored_words}
 use Rattle.rowex_core.proofs.Reading.{entry_of_word, entry_at_is, entry_word_is, few_entries, node_is}
 use Rattle.rowex_core.proofs.Valuing.{fate_stays, valued_in_tree, value_tree}
-use Rattle.replay_trees.specs.declared.trees.Item.{Item as ReadItem}
+use Rattle.replay_trees.specs.declared.linked.Item.{Item as ReadItem}
 use Rattle.replay_trees.specs.Versions.{read_item}
 use Rattle.rowex_replay_state.specs.declared.fate.Fate.TheVariants.{InTree as IsTree}
 use Rattle.rowex_replay_state.specs.Records.{AreRecordsOf, HasKeyIn, IsSpelledIn, with_words_in}

@@ -1,12 +1,12 @@
 -- A publish, once its word is stored.
 use Rattle.std.specs.Prelude.{◌≡◌, ℕ, List, length, slice_get, Bool, true, false, if◌then◌else◌, nat_eq, Option, Some}
-use Rattle.replay_trees.specs.declared.trees.Item.{Item as ReadItem}
+use Rattle.replay_trees.specs.declared.linked.Item.{Item as ReadItem}
 use Rattle.replay_trees.specs.Versions.{read_item}
 use Rattle.tries.specs.Content.{Item, item}
 use Rattle.compound_node.specs.declared.entries.Entry.{Entry}
 use Rattle.finite_map.specs.declared.Change.{Change}
-use Rattle.versions.specs.declared.Rec.{Rec}
-use Rattle.versions.specs.declared.Rec.TheVariants.{Leaf as a_leaf}
+use Rattle.record_words.specs.declared.records.Rec.{Rec}
+use Rattle.record_words.specs.declared.records.Rec.TheVariants.{Leaf as a_leaf}
 use Rattle.versions.specs.Steps.{IsNextVersion, published_by}
 use Rattle.versions.specs.Told.{items_of}
 use Rattle.rowex_core.specs.Reading.{IsPacked}

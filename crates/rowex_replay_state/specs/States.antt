@@ -4,7 +4,7 @@ use Rattle.compound_node.specs.declared.entries.Entry.{Entry}
 use Rattle.compound_node.specs.declared.entries.Entry.TheVariants.{Leaf}
 use Rattle.record_words.specs.Entry.{entry_word}
 use Rattle.finite_map.specs.declared.Change.{Change}
-use Rattle.versions.specs.declared.Rec.TheVariants.{Node as a_node, Leaf as a_leaf}
+use Rattle.record_words.specs.declared.records.Rec.TheVariants.{Node as a_node, Leaf as a_leaf}
 use Rattle.versions.specs.Told.{items_of}
 use Rattle.rowex_core.specs.declared.event.Act.{Act}
 use Rattle.rowex_core.specs.declared.event.Act.TheVariants.{Publish}
@@ -13,7 +13,7 @@ use Rattle.rowex_core.specs.declared.event.Spot.TheVariants.{Root, Slot, Value}
 use Rattle.record_words.specs.declared.TheConstants.{MAX_ENTRIES}
 use Rattle.rowex_core.specs.Cores.{Core, IsLawful}
 use Rattle.rowex_core.specs.Events.{LegalAct, after}
-use Rattle.replay_trees.specs.declared.trees.Item.{Item as ReadItem}
+use Rattle.replay_trees.specs.declared.linked.Item.{Item as ReadItem}
 use Rattle.replay_trees.specs.Versions.{read_item}
 use Rattle.rowex_replay_state.specs.declared.passes.PassState.{PassState}
 use Rattle.rowex_replay_state.specs.Passes.{ArePassesOf}

@@ -20,12 +20,12 @@ impl State {
     {
         match spot {
             Spot::Root => is_entry_word(self.root, word),
-            Spot::Slot { node, entry } => {
-                if entry as usize >= MAX_ENTRIES {
+            Spot::Slot { node, slot } => {
+                if slot as usize >= MAX_ENTRIES {
                     return false;
                 }
                 self.records
-                    .has_word(Rec::Node(node), HEAD_WORDS + entry as usize, word)
+                    .has_word(Rec::Node(node), HEAD_WORDS + slot as usize, word)
             }
             Spot::Value { leaf } => self.records.has_word(Rec::Leaf(leaf), 0, word),
         }

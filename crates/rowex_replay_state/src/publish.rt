@@ -30,7 +30,7 @@ impl State {
         match (spot, unpack_entry(word)) {
             (Spot::Value { leaf }, _) => self.publish_value(pass, leaf, word),
             (Spot::Root, Ok(entry)) => self.publish_root(pass, entry, word),
-            (Spot::Slot { node, entry }, Ok(_)) => self.publish_entry(pass, node, entry, word),
+            (Spot::Slot { node, slot }, Ok(_)) => self.publish_entry(pass, node, slot, word),
             (_, Err(_)) => Ok(false),
         }
     }

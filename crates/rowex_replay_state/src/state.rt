@@ -68,8 +68,9 @@ impl State {
         })
     }
 
-    /// Makes `event` if it is legal, and returns Ok. `Illegal` if it isn't; `Memory` if memory was refused, which only a publish under the
-    /// lock of its word takes; `Load` if it is a bulk load. A fault changes nothing. Only a publish takes time linear in the table.
+    /// Makes `event` if it is a legal step, and returns Ok. `Illegal` if it isn't legal; `Memory` if memory was refused, which only a
+    /// publish under the lock of its word takes. `Load` only if it is a bulk load, which no state makes. A fault changes nothing. Only a
+    /// publish takes time linear in the table.
     pub fn step(&mut self, event: Event) -> Result<(), ReplayFault>
         ensures ok { OnOk result ((c : Core) → ∥ IsLawful c ∥₁ → IsStateOf self.old c
             → Legal c event.pass event.act × IsStateOf self.new (after c event.pass event.act)) }

@@ -1,5 +1,5 @@
 -- A scan for which memory was refused, as one that was cut at the number of its pairs.
-use Rattle.std.proofs.Common.{◌≡◌, ◌<◌, ◌≤◌, ◌∷◌, refl, sym, ◌∙◌, subst, arith, true, ℕ}
+use Rattle.std.proofs.Common.{◌≡◌, ◌<◌, ◌≤◌, ◌∷◌, refl, sym, subst, arith, true, ℕ}
 use Rattle.compound_node.specs.declared.entries.Entry.TheVariants.{Leaf}
 use Rattle.insert_cases.specs.declared.choice.PathNode.{PathNode}
 use Rattle.std.specs.Prelude.{List}
@@ -11,8 +11,8 @@ use Rattle.version_laws.specs.Scan.{Range}
 use Rattle.rowex_reading.specs.Seen.{seen, since}
 use Rattle.rowex_scanning.specs.Scanning.{HasTaken, HasTakenPart, IsLeafRefused, IsLeafTaken, IsPairRefused, limited}
 use Rattle.rowex_scanning.specs.Tallies.{IsNone, IsKept, Tally}
-use Rattle.version_laws.specs.declared.direction.Direction.{Direction}
-use Rattle.rowex_scanning.specs.declared.scanning.Verdict.TheVariants.{Full}
+use Rattle.packed_pairs.specs.declared.direction.Direction.{Direction}
+use Rattle.rowex_scanning.specs.declared.scan.Verdict.TheVariants.{Full}
 use Rattle.rowex_scanning.proofs.Directed.{scan_limited}
 use Rattle.rowex_scanning.proofs.Walking.{IsAtEntry, IsBeforeEntry, IsRootRead, leaf_full, walk_full}
 

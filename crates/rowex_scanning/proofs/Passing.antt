@@ -17,15 +17,15 @@ use Rattle.rowex_scanning.specs.Ahead.{AreAhead, AreTaken, HasPlaces, HavePassed
 use Rattle.version_laws.specs.Directions.{first_key, gap_after, gap_before, gap_behind, place_ahead, to_come}
 use Rattle.rowex_scanning.specs.Scanning.{IsBound, IsLeafTaken, IsReached, IsWalk}
 use Rattle.rowex_scanning.specs.Tallies.{Tally}
-use Rattle.version_laws.specs.declared.direction.Direction.{Direction}
-use Rattle.rowex_scanning.specs.declared.scanning.Verdict.{Verdict}
-use Rattle.rowex_scanning.specs.declared.scanning.Verdict.TheVariants.{Further}
+use Rattle.packed_pairs.specs.declared.direction.Direction.{Direction}
+use Rattle.rowex_scanning.specs.declared.scan.Verdict.{Verdict}
+use Rattle.rowex_scanning.specs.declared.scan.Verdict.TheVariants.{Further}
 use Rattle.rowex_scanning.proofs.Directed.{gap_before_place, gap_behind_place, gap_none}
 use Rattle.rowex_scanning.proofs.Walking.{IsAtEntry, bound_later, bound_leaf, bound_next, entry_led, taken_more, walk_at_place, walk_further}
 
 -- a node with another gap
 abbrev at_gap : PathNode → ℕ → PathNode
-at_gap top gap = record top { at = gap }
+at_gap top gap = record top { slot = gap }
 
 module _ (d : Direction) (m : ℕ) (top : PathNode) where
   -- after more loads
@@ -33,18 +33,18 @@ module _ (d : Direction) (m : ℕ) (top : PathNode) where
     pub places_later : HasPlaces d k m top → HasPlaces d j m top
     places_later has i low = let ((pinned, stood), room) = has i low in (
       (since_later l pinned, sure_later {P = λ s. EntryStoodSince s m (Node top.number top.height)} (seen_stable m (Node top.number top.height)) l stood),
-      sure_later {P = λ s. HasMorePlaces s m top.number (place_ahead d top.at i)} (room_stable m top.number (place_ahead d top.at i)) l room,
+      sure_later {P = λ s. HasMorePlaces s m top.number (place_ahead d top.slot i)} (room_stable m top.number (place_ahead d top.slot i)) l room,
     )
 
     pub ahead_later : (count : ℕ) (leaves : List ℕ) → AreAhead d k m top count leaves → AreAhead d j m top count leaves
-    ahead_later count leaves are i low = sure_later (placed_stable m top.number (place_ahead d top.at i) (Leaf (get_or leaves i 0))) l (are i low)
+    ahead_later count leaves are i low = sure_later (placed_stable m top.number (place_ahead d top.slot i) (Leaf (get_or leaves i 0))) l (are i low)
 
     pub node_later : (count n : ℕ) → IsNodeAhead d k m top count n → IsNodeAhead d j m top count n
-    node_later count n (h, low, placed) = (h, low, sure_later (placed_stable m top.number (place_ahead d top.at count) (Node n h)) l placed)
+    node_later count n (h, low, placed) = (h, low, sure_later (placed_stable m top.number (place_ahead d top.slot count) (Node n h)) l placed)
 
   -- the entry that was loaded behind so many others
-  pub loaded_at : {k j : Known} (i place : ℕ) (e : Entry) → place ≡ place_ahead d top.at i → HasPlace k m top.number top.height (place_ahead d top.at i) →
-      ((n h : ℕ) → HasPlace k n top.number h place → (height_of e < h) × Sure j (λ s. IsPlaced s n top.number place e)) → (height_of e < top.height) × Sure j (λ s. IsPlaced s m top.number (place_ahead d top.at i) e)
+  pub loaded_at : {k j : Known} (i place : ℕ) (e : Entry) → place ≡ place_ahead d top.slot i → HasPlace k m top.number top.height (place_ahead d top.slot i) →
+      ((n h : ℕ) → HasPlace k n top.number h place → (height_of e < h) × Sure j (λ s. IsPlaced s n top.number place e)) → (height_of e < top.height) × Sure j (λ s. IsPlaced s m top.number (place_ahead d top.slot i) e)
   loaded_at {k} {j} i place e is has loaded =
       subst (λ z. (height_of e < top.height) × Sure j (λ s. IsPlaced s m top.number z e)) is (loaded m top.height (subst (λ z. HasPlace k m top.number top.height z) (sym is) has))
 
@@ -52,14 +52,14 @@ module _ (d : Direction) (m : ℕ) (top : PathNode) where
   pub ahead_first : {k : Known} (count : ℕ) (leaves : List ℕ) → count ≤ length leaves → AreAhead d k m top count leaves → AreAhead d k m top (length (take count leaves)) (take count leaves)
   ahead_first {k} count leaves fits are i low =
       let long = length-take-le count leaves fits in let less : i < count = omega (arith, long, low) in
-      subst (λ z. Sure k (λ s. IsPlaced s m top.number (place_ahead d top.at i) (Leaf z))) (sym (get_or-take count leaves i 0 less)) (are i less)
+      subst (λ z. Sure k (λ s. IsPlaced s m top.number (place_ahead d top.slot i) (Leaf z))) (sym (get_or-take count leaves i 0 less)) (are i less)
 
   -- one leaf more
-  pub ahead_more : {k : Known} (i : ℕ) (leaves : List ℕ) (n : ℕ) → AreAhead d k m top i leaves → i < length leaves → Sure k (λ s. IsPlaced s m top.number (place_ahead d top.at i) (Leaf n)) → AreAhead d k m top (i + 1) (set leaves i n)
+  pub ahead_more : {k : Known} (i : ℕ) (leaves : List ℕ) (n : ℕ) → AreAhead d k m top i leaves → i < length leaves → Sure k (λ s. IsPlaced s m top.number (place_ahead d top.slot i) (Leaf n)) → AreAhead d k m top (i + 1) (set leaves i n)
   ahead_more {k} i leaves n are room placed o low = ⊎_elim
-      (λ (less : o < i). subst (λ z. Sure k (λ s. IsPlaced s m top.number (place_ahead d top.at o) (Leaf z))) (sym (get_or-set_other leaves i o n 0 (omega arith))) (are o less))
+      (λ (less : o < i). subst (λ z. Sure k (λ s. IsPlaced s m top.number (place_ahead d top.slot o) (Leaf z))) (sym (get_or-set_other leaves i o n 0 (omega arith))) (are o less))
       (λ (more : i ≤ o). let is : o ≡ i = omega (arith, more, low) in
-      subst (λ z. Sure k (λ s. IsPlaced s m top.number (place_ahead d top.at o) (Leaf z))) (sym (get_or-set_at leaves i o n 0 is room)) (subst (λ z. Sure k (λ s. IsPlaced s m top.number (place_ahead d top.at z) (Leaf n))) (sym is) placed))
+      subst (λ z. Sure k (λ s. IsPlaced s m top.number (place_ahead d top.slot o) (Leaf z))) (sym (get_or-set_at leaves i o n 0 is room)) (subst (λ z. Sure k (λ s. IsPlaced s m top.number (place_ahead d top.slot z) (Leaf n))) (sym is) placed))
       (cases_lt o i)
 
 -- Before any leaf.
@@ -70,29 +70,29 @@ passed_none {d} {k} {m} {g} {top} {frames} {t} w b = record {
   bound = subst (λ (z : PathNode). IsBound d k m (first_key d g) z frames) same b;
 }
   where
-    same : top ≡ record top { at = gap_after d top.at 0 }
-    same = ap (at_gap top) (sym (gap_none d top.at))
+    same : top ≡ record top { slot = gap_after d top.slot 0 }
+    same = ap (at_gap top) (sym (gap_none d top.slot))
 
 -- Behind some leaves, at one more.
-module _ {d : Direction} {k : Known} {m : ℕ} {g : Range} {top : PathNode} {frames : List PathNode} {size i : ℕ} {t : Tally} (fits : top.at ≤ top.count) (come : i < to_come d top.count top.at) (p : HavePassed k m (d, g) frames top size i t)
-    {number : ℕ} (placed : Sure k (λ s. IsPlaced s m top.number (place_ahead d top.at i) (Leaf number))) where
-  pub leaf_at : IsAtEntry d k m g (record top { at = place_ahead d top.at i }) frames t (Leaf number)
+module _ {d : Direction} {k : Known} {m : ℕ} {g : Range} {top : PathNode} {frames : List PathNode} {size i : ℕ} {t : Tally} (fits : top.slot ≤ top.count) (come : i < to_come d top.count top.slot) (p : HavePassed k m (d, g) frames top size i t)
+    {number : ℕ} (placed : Sure k (λ s. IsPlaced s m top.number (place_ahead d top.slot i) (Leaf number))) where
+  pub leaf_at : IsAtEntry d k m g (record top { slot = place_ahead d top.slot i }) frames t (Leaf number)
   leaf_at = record { walk = walk_at_place i fits come p.walk; placed = placed }
 
-  bound_at : IsBound d k m (first_key d g) (record (record top { at = place_ahead d top.at i }) { at = gap_before d (place_ahead d top.at i) }) frames
-  bound_at = subst (λ z. IsBound d k m (first_key d g) (at_gap top z) frames) (gap_before_place d top.count top.at i come) p.bound
+  bound_at : IsBound d k m (first_key d g) (record (record top { slot = place_ahead d top.slot i }) { slot = gap_before d (place_ahead d top.slot i) }) frames
+  bound_at = subst (λ z. IsBound d k m (first_key d g) (at_gap top z) frames) (gap_before_place d top.count top.slot i come) p.bound
 
   -- which doesn't come before the range
   pub leaf_reached : (layout : Layout) → IsLedTo k m (Leaf number) × IsReached d layout k m (first_key d g) number
-  leaf_reached layout = (entry_led leaf_at, bound_leaf d m (first_key d g) (record top { at = place_ahead d top.at i }) bound_at number leaf_at.walk.stands.pinned placed)
+  leaf_reached layout = (entry_led leaf_at, bound_leaf d m (first_key d g) (record top { slot = place_ahead d top.slot i }) bound_at number leaf_at.walk.stands.pinned placed)
 
   -- the walk behind it
-  pub passed_on : {j : Known} {u : Tally} → IsLater k j → u.size ≡ t.size + 1 → IsWalk j m (d, g) (record top { at = gap_behind d (place_ahead d top.at i) }) frames u → HavePassed j m (d, g) frames top size (i + 1) u
+  pub passed_on : {j : Known} {u : Tally} → IsLater k j → u.size ≡ t.size + 1 → IsWalk j m (d, g) (record top { slot = gap_behind d (place_ahead d top.slot i) }) frames u → HavePassed j m (d, g) frames top size (i + 1) u
   passed_on {j} {u} l one w = record {
     more = let before = p.more in omega (arith, one, before);
-    walk = subst (λ z. IsWalk j m (d, g) (at_gap top z) frames u) (gap_behind_place d top.at i) w;
-    bound = subst (λ z. IsBound d j m (first_key d g) (at_gap top z) frames) (gap_behind_place d top.at i)
-        (bound_next d m (first_key d g) (record top { at = place_ahead d top.at i }) (bound_later d m (first_key d g) l bound_at));
+    walk = subst (λ z. IsWalk j m (d, g) (at_gap top z) frames u) (gap_behind_place d top.slot i) w;
+    bound = subst (λ z. IsBound d j m (first_key d g) (at_gap top z) frames) (gap_behind_place d top.slot i)
+        (bound_next d m (first_key d g) (record top { slot = place_ahead d top.slot i }) (bound_later d m (first_key d g) l bound_at));
   }
 
   -- and which was taken
@@ -104,6 +104,6 @@ pub taken_all : (Passed : Type 0) (Ended : Bool → Type 0) {verdict : Verdict} 
 taken_all Passed Ended taken is = subst (λ z. AreTaken Passed Ended z) is taken
 
 -- At the node that comes behind them.
-pub node_at : {d : Direction} {k : Known} {m : ℕ} {g : Range} {top : PathNode} {frames : List PathNode} {size count number : ℕ} {t : Tally} → top.at ≤ top.count → count < to_come d top.count top.at → HavePassed k m (d, g) frames top size count t →
-    (ahead : IsNodeAhead d k m top count number) → IsAtEntry d k m g (record top { at = place_ahead d top.at count }) frames t (Node number ahead.0)
+pub node_at : {d : Direction} {k : Known} {m : ℕ} {g : Range} {top : PathNode} {frames : List PathNode} {size count number : ℕ} {t : Tally} → top.slot ≤ top.count → count < to_come d top.count top.slot → HavePassed k m (d, g) frames top size count t →
+    (ahead : IsNodeAhead d k m top count number) → IsAtEntry d k m g (record top { slot = place_ahead d top.slot count }) frames t (Node number ahead.0)
 node_at {count = count} fits come p ahead = record { walk = walk_at_place count fits come p.walk; placed = ahead.2 }

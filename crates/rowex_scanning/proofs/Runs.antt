@@ -1,27 +1,25 @@
 -- Leaves that come together in a node: those before one whose key is not past the range belong to the range.
-use Rattle.std.proofs.Common.{◌≡◌, ◌≢◌, ◌⊎◌, inl, inr, ⊎_elim, ℕ, zero, suc, ◌+◌, ◌-◌, ◌<◌, ◌≤◌, List, length, refl, sym, ◌∙◌, subst, arith, Bool, true, false, Option, Some, get_or}
+use Rattle.std.proofs.Common.{◌≡◌, ◌≢◌, inl, inr, ⊎_elim, ℕ, zero, suc, ◌+◌, ◌<◌, ◌≤◌, List, length, refl, sym, subst, arith, true, false, get_or}
 use Rattle.std.proofs.lemmas.Bool.{cases_lt}
 use Rattle.compound_node.specs.declared.entries.Entry.TheVariants.{Leaf}
 use Rattle.insert_cases.specs.declared.choice.PathNode.{PathNode}
 use Rattle.tries.specs.Keys.{Key, IsBefore}
 use Rattle.versions.specs.State.{IsSteady, Past, Stands}
-use Rattle.versions.specs.declared.Rec.TheVariants.{Leaf as a_leaf}
+use Rattle.record_words.specs.declared.records.Rec.TheVariants.{Leaf as a_leaf}
 use Rattle.rowex_core.specs.declared.known.Known.{Known}
-use Rattle.rowex_core.specs.Cores.{Core, IsLawful}
-use Rattle.rowex_core.specs.Knowing.{IsPinnedSince, Recalls}
 use Rattle.rowex_table.specs.Made.{IsLater}
 use Rattle.version_laws.proofs.Scans.{before_trans, leaf_may_stand, leaf_of, placed_stands}
 use Rattle.version_laws.proofs.Starts.{beyond_grown, same_past}
 use Rattle.version_laws.proofs.Walk.{come_before, may_stand_earlier}
 use Rattle.version_laws.specs.Directions.{IsEarlier, IsNoLater, IsPastKey, IsToCome, WasPassed, first_key, gap_before, last_key, place_ahead, to_come}
 use Rattle.version_laws.specs.Scan.{Range, IsInRange, IsPlaced, IsRead}
-use Rattle.version_laws.specs.declared.direction.Direction.{Direction}
-use Rattle.version_laws.specs.declared.direction.Direction.TheVariants.{Upwards, Downwards}
+use Rattle.packed_pairs.specs.declared.direction.Direction.{Direction}
+use Rattle.packed_pairs.specs.declared.direction.Direction.TheVariants.{Upwards, Downwards}
 use Rattle.rowex_reading.specs.Seen.{Sure, IsLedTo, seen, since}
 use Rattle.rowex_reading.proofs.Led.{placed_led}
 use Rattle.rowex_reading.proofs.Seeing.{later_reflexive, read_stable, recalls_before, seen_grown, seen_steady, since_later, sure_later}
-use Rattle.rowex_scanning.specs.Ahead.{AreAhead, AreBehindGap, AreNext, AreWithin, HavePassed, IsLeafNotPast, IsLeafPast}
-use Rattle.rowex_scanning.specs.Scanning.{HasTaken, IsBound, IsWalk, Request}
+use Rattle.rowex_scanning.specs.Ahead.{AreBehindGap, AreNext, AreWithin, HavePassed, IsLeafNotPast, IsLeafPast}
+use Rattle.rowex_scanning.specs.Scanning.{HasTaken, Request}
 use Rattle.rowex_scanning.specs.Tallies.{IsOneMore, Tally, tally_of_number}
 use Rattle.rowex_scanning.proofs.Directed.{in_range}
 use Rattle.rowex_scanning.proofs.Starting.{read_same}
@@ -74,14 +72,14 @@ module _ (d : Direction) (s : Past) (m : ℕ) (steady : IsSteady s m) (g : Range
 
 -- What the pass knows of leaves that come next, after more loads.
 module _ {k : Known} {r : Request} {top : PathNode} {leaves : List ℕ} (b : AreBehindGap k r top leaves) {j : Known} (l : IsLater k j) where
-  pub placed_then : (i : ℕ) → i < length leaves → Sure j (λ s. IsPlaced s (since k) top.number (place_ahead r.0 top.at i) (Leaf (get_or leaves i 0)))
+  pub placed_then : (i : ℕ) → i < length leaves → Sure j (λ s. IsPlaced s (since k) top.number (place_ahead r.0 top.slot i) (Leaf (get_or leaves i 0)))
   placed_then = ahead_later r.0 (since k) top l (length leaves) leaves b.ahead
 
-  there_then : Sure j (λ s. IsPastKey r.0 s (since k) (first_key r.0 r.1) top.number top.at)
-  there_then = sure_later {P = λ s. IsPastKey r.0 s (since k) (first_key r.0 r.1) top.number top.at} (λ x y grown. beyond_grown r.0 x y grown (since k) top.number top.at (first_key r.0 r.1)) l b.there
+  there_then : Sure j (λ s. IsPastKey r.0 s (since k) (first_key r.0 r.1) top.number top.slot)
+  there_then = sure_later {P = λ s. IsPastKey r.0 s (since k) (first_key r.0 r.1) top.number top.slot} (λ x y grown. beyond_grown r.0 x y grown (since k) top.number top.slot (first_key r.0 r.1)) l b.there
 
   pub behind_led : (i : ℕ) → i < length leaves → IsLedTo j (since k) (Leaf (get_or leaves i 0))
-  behind_led i low = placed_led top.number (place_ahead r.0 top.at i) (Leaf (get_or leaves i 0)) (since_later l b.pinned) (placed_then i low)
+  behind_led i low = placed_led top.number (place_ahead r.0 top.slot i) (Leaf (get_or leaves i 0)) (since_later l b.pinned) (placed_then i low)
 
   -- One is not past the range: it and those before it belong to it.
   pub within_up_to : (i : ℕ) → i < length leaves → IsLeafNotPast j (since k) r (get_or leaves i 0) → AreWithin j (since k) r.1 leaves (i + 1)
@@ -90,10 +88,10 @@ module _ {k : Known} {r : Request} {top : PathNode} {leaves : List ℕ} (b : Are
       let steady = seen_steady lawful recalls (since_later l b.pinned) in let come = b.come in
       let there = there_then c lawful recalls in let at_last = placed_then i low c lawful recalls in let at_key = placed_then o (omega (arith, less, low)) c lawful recalls in
       ⊎_elim
-      (λ (before : o < i). read_within r.0 (seen c j) (since k) steady r.1 top.number top.count top.at there o i (get_or leaves o 0) (get_or leaves i 0) key last value other before (omega (arith, low, come)) at_key read at_last again late)
+      (λ (before : o < i). read_within r.0 (seen c j) (since k) steady r.1 top.number top.count top.slot there o i (get_or leaves o 0) (get_or leaves i 0) key last value other before (omega (arith, low, come)) at_key read at_last again late)
       (λ (not_before : i ≤ o).
       let same : o ≡ i = omega (arith, not_before, less) in
-      read_alone r.0 (seen c j) (since k) steady r.1 top.number top.count top.at there o (get_or leaves o 0) key last value other (omega (arith, same, low, come)) at_key read
+      read_alone r.0 (seen c j) (since k) steady r.1 top.number top.count top.slot there o (get_or leaves o 0) key last value other (omega (arith, same, low, come)) at_key read
       (subst (λ z. IsRead (seen c j) (since k) (get_or leaves z 0) last other) (sym same) again) late)
       (cases_lt o i)
 
@@ -111,7 +109,7 @@ module _ {k : Known} {r : Request} {top : PathNode} {frames : List PathNode} {t 
   pub next_behind : AreBehindGap k r top leaves
   next_behind = record { pinned = n.bound.0.pinned; there = n.bound.1.there; ahead = n.ahead; come = n.come }
 
-  fits : top.at ≤ top.count
+  fits : top.slot ≤ top.count
   fits = walk_fits n.bound.0
 
   module _ {j : Known} (l : IsLater k j) where
@@ -120,14 +118,14 @@ module _ {k : Known} {r : Request} {top : PathNode} {frames : List PathNode} {t 
 
     -- The walk is behind so many of them, at one that belongs to the range.
     module _ {i : ℕ} (low : i < length leaves) {u : Tally} (p : HavePassed j (since k) r frames top t.size i u) where
-      come_at : i < to_come r.0 top.count top.at
+      come_at : i < to_come r.0 top.count top.slot
       come_at = let come = n.come in omega (arith, low, come)
 
-      at_leaf : IsAtEntry r.0 j (since k) r.1 (record top { at = place_ahead r.0 top.at i }) frames u (Leaf (get_or leaves i 0))
+      at_leaf : IsAtEntry r.0 j (since k) r.1 (record top { slot = place_ahead r.0 top.slot i }) frames u (Leaf (get_or leaves i 0))
       at_leaf = leaf_at fits come_at p (placed_then next_behind l i low)
 
       pub read_at : Sure j (λ s. (key : Key) × (value : ℕ) × IsRead s (since k) (get_or leaves i 0) key value)
-      read_at c lawful recalls = placed_read (seen c j) (since k) top.number (place_ahead r.0 top.at i) (get_or leaves i 0) (placed_then next_behind l i low c lawful recalls)
+      read_at c lawful recalls = placed_read (seen c j) (since k) top.number (place_ahead r.0 top.slot i) (get_or leaves i 0) (placed_then next_behind l i low c lawful recalls)
 
       -- It is taken,
       pub run_on : {v : Tally} → Sure j (λ s. (key : Key) × (value : ℕ) × IsRead s (since k) (get_or leaves i 0) key value × IsInRange r.1 key × IsOneMore u key value v) → u.size ≢ r.1.limit → v.size ≡ u.size + 1 →

@@ -19,7 +19,7 @@ use Rattle.rowex_reading.specs.Seen.{seen, since}
 use Rattle.version_laws.specs.Directions.{IsAnswer, IsLawfulBy}
 use Rattle.rowex_scanning.specs.Scanning.{HasScanned, HasTaken}
 use Rattle.rowex_scanning.specs.Tallies.{tally_of_pairs, values_taken}
-use Rattle.version_laws.specs.declared.direction.Direction.{Direction}
+use Rattle.packed_pairs.specs.declared.direction.Direction.{Direction}
 use Rattle.rowex_reading.proofs.Seeing.{seen_told, seen_steady}
 use Rattle.rowex_reading.proofs.Later.{event_recalls}
 

@@ -33,7 +33,7 @@ use Rattle.version_laws.proofs.Starts.{at_beyond, at_on_way, fit_sole, scan_star
 use Rattle.version_laws.proofs.Walk.{scan_skipped, stack_place}
 use Rattle.rowex_reading.specs.Possible.{IsPossible}
 use Rattle.rowex_table.specs.Made.{IsLater}
-use Rattle.versions.specs.declared.Rec.TheVariants.{Leaf as a_leaf}
+use Rattle.record_words.specs.declared.records.Rec.TheVariants.{Leaf as a_leaf}
 use Rattle.rowex_reading.specs.Seen.{seen, since, IsAtRoot, Sure}
 use Rattle.rowex_reading.proofs.Seeing.{read_stable, seen_steady, since_later, sure_later}
 use Rattle.rowex_reading.proofs.Shapes.{same_shape}
@@ -46,8 +46,8 @@ use Rattle.rowex_scanning.specs.Scanning.{ArePastKey, AreInside, IsBound, IsReac
 use Rattle.rowex_scanning.specs.Tallies.{IsNone, Tally, tally_of_number}
 use Rattle.rowex_scanning.specs.declared.start.SearchEnd.{SearchEnd}
 use Rattle.rowex_scanning.specs.Starts.{IsSearchEnd, IsBegun, IsFirst, IsParting, IsStart}
-use Rattle.version_laws.specs.declared.direction.Direction.{Direction}
-use Rattle.version_laws.specs.declared.direction.Direction.TheVariants.{Upwards, Downwards}
+use Rattle.packed_pairs.specs.declared.direction.Direction.{Direction}
+use Rattle.packed_pairs.specs.declared.direction.Direction.TheVariants.{Upwards, Downwards}
 use Rattle.rowex_scanning.specs.declared.start.Start.{Start}
 use Rattle.rowex_scanning.proofs.Walking.{beyond_append, walk_before, IsAtEntry, tallied_none, walk_tallied}
 
@@ -104,7 +104,7 @@ module _ (layout : Layout) (k : Known) (m : ℕ) (key : Key) (way : List PathNod
   node i h = w.nodes i (step i h).0 (step i h).1
 
   abbrev stage : (i : ℕ) → i < length way → Stage
-  stage i h = record { number = (step i h).0.number; height = (step i h).0.height; shape = (node i h).2.forks; place = (step i h).0.at }
+  stage i h = record { number = (step i h).0.number; height = (step i h).0.height; shape = (node i h).2.forks; place = (step i h).0.slot }
 
   pub down : {n : ℕ} → n < length way → n ≤ length way
   down h = omega (arith, h)
@@ -117,8 +117,8 @@ module _ (layout : Layout) (k : Known) (m : ℕ) (key : Key) (way : List PathNod
   frame_is : (i : ℕ) (h : i < length way) → frame (stage i h) ≡ (step i h).0
   frame_is i h =
       let s = (step i h).0 in
-      ap (λ z. let x : PathNode = record { number = s.number; height = s.height; first_position = z; count = size (node i h).2.forks; at = s.at } in x) (sym (node i h).2.first) ∙
-      ap (λ z. let x : PathNode = record { number = s.number; height = s.height; first_position = s.first_position; count = z; at = s.at } in x) (sym (node i h).2.count)
+      ap (λ z. let x : PathNode = record { number = s.number; height = s.height; first_position = z; count = size (node i h).2.forks; slot = s.slot } in x) (sym (node i h).2.first) ∙
+      ap (λ z. let x : PathNode = record { number = s.number; height = s.height; first_position = s.first_position; count = z; slot = s.slot } in x) (sym (node i h).2.count)
 
   frames_are : (n : ℕ) (h : n ≤ length way) → take n way ≡ frames_of (stages n h)
   frames_are zero h = refl
@@ -188,9 +188,9 @@ module _ (layout : Layout) (k : Known) (m : ℕ) (key : Key) (way : List PathNod
       go (f ∷ fs) at = beyond_append d m key (frames_of fs) (frame f) (go fs (λ c lawful known. (at c lawful known).1)) (λ c lawful known. at_beyond d (seen c k) m f.number f.place key (at c lawful known).0)
 
   -- the step of a start is the way's
-  of_step : (i : ℕ) (h : i < length way) (place : ℕ) (top : PathNode) → top ≡ record (step i h).0 { at = place } → (s : PathNode) → slice_get way i ≡ Some s → top ≡ record s { at = top.at }
+  of_step : (i : ℕ) (h : i < length way) (place : ℕ) (top : PathNode) → top ≡ record (step i h).0 { slot = place } → (s : PathNode) → slice_get way i ≡ Some s → top ≡ record s { slot = top.slot }
   of_step i h place top is s there =
-      is ∙ (ap (λ (z : PathNode). let x : PathNode = record z { at = place } in x) (some_injective (sym (step i h).1 ∙ there)) ∙ ap (λ z. let x : PathNode = record s { at = z } in x) (sym (ap (λ (z : PathNode). z.at) is)))
+      is ∙ (ap (λ (z : PathNode). let x : PathNode = record z { slot = place } in x) (some_injective (sym (step i h).1 ∙ there)) ∙ ap (λ z. let x : PathNode = record s { slot = z } in x) (sym (ap (λ (z : PathNode). z.slot) is)))
 
   -- If it may stand at a node's place, it may so at the nodes' above.
   at_above : (i : ℕ) (h : i < length way) → StandsAt i h → Sure k (λ s. AreAt s m key (stages (suc i) h))
@@ -198,11 +198,11 @@ module _ (layout : Layout) (k : Known) (m : ℕ) (key : Key) (way : List PathNod
 
   -- ---- the walk from a node on
   begins : (i : ℕ) (h : i < length way) (g : Range) → g.from ≡ key → (place : ℕ) → place ≤ size (stage i h).shape → Sure k (λ s. IsScanBy Upwards s m g (record (stage i h) { place = place } ∷ stages i (down h)) []) →
-      (top : PathNode) → top ≡ record (step i h).0 { at = place } → IsWalk k m (Upwards, g) top (take i way) (tally_of_number 0)
+      (top : PathNode) → top ≡ record (step i h).0 { slot = place } → IsWalk k m (Upwards, g) top (take i way) (tally_of_number 0)
   begins i h g from place fits scan top is = record {
     lowest = record (stage i h) { place = place };
     others = stages i (down h);
-    top_is = is ∙ ap (λ (z : PathNode). let x : PathNode = record z { at = place } in x) (sym (frame_is i h));
+    top_is = is ∙ ap (λ (z : PathNode). let x : PathNode = record z { slot = place } in x) (sym (frame_is i h));
     frames_are = frames_are i (down h);
     room = (node i h).2.room;
     fits = fits;
@@ -222,13 +222,13 @@ module _ (layout : Layout) (k : Known) (m : ℕ) (key : Key) (way : List PathNod
         (at_on_way Upwards (seen c k) m (steady c lawful known) g.from (stages i (down h)) (subst (λ z. AreAt (seen c k) m z (stages i (down h))) (sym from) (above c lawful known)))
         (λ j z lt at. subst (IsBefore z) (sym from) (may_stand_in_order (seen c k) m (steady c lawful known) (stage i h).number j (stage i h).place lt z key at (stands c lawful known)))
 
-    bound_behind : (top : PathNode) → top ≡ record (step i h).0 { at = suc (step i h).0.at } → IsBound Upwards k m key top (take i way)
+    bound_behind : (top : PathNode) → top ≡ record (step i h).0 { slot = suc (step i h).0.slot } → IsBound Upwards k m key top (take i way)
     bound_behind top is = record {
-      there = λ c lawful known. subst (λ (z : PathNode). IsPastKey Upwards (seen c k) m key z.number z.at) (sym is) (at_beyond Upwards (seen c k) m (stage i h).number (stage i h).place key (stands c lawful known));
+      there = λ c lawful known. subst (λ (z : PathNode). IsPastKey Upwards (seen c k) m key z.number z.slot) (sym is) (at_beyond Upwards (seen c k) m (stage i h).number (stage i h).place key (stands c lawful known));
       above = are_beyond Upwards i (down h) above;
     }
 
-    beneath : Sure k (λ s. IsPastKey Downwards s m key (step i h).0.number (step i h).0.at)
+    beneath : Sure k (λ s. IsPastKey Downwards s m key (step i h).0.number (step i h).0.slot)
     beneath c lawful known = at_beyond Downwards (seen c k) m (stage i h).number (stage i h).place key (stands c lawful known)
 
     -- the leaf comes first
@@ -240,40 +240,40 @@ module _ (layout : Layout) (k : Known) (m : ℕ) (key : Key) (way : List PathNod
           record {
             found = leaf_key;
             value = value;
-            inside = subst (λ z. (step i h).0.at < z) (sym (node i h).2.count) (place_below i h);
+            inside = subst (λ z. (step i h).0.slot < z) (sym (node i h).2.count) (place_below i h);
             placed = placed_end i h last;
             read = w.found_at.1;
             reached = le;
-            bound = bound_behind (record (step i h).0 { at = suc (step i h).0.at }) refl;
+            bound = bound_behind (record (step i h).0 { slot = suc (step i h).0.slot }) refl;
           },
           λ g from. begins i h g from (stage i h).place (let low = place_below i h in omega (arith, low)) (scan_at g from) (step i h).0 refl,
         );
       };
-      of_way = of_step i h (step i h).0.at top is;
+      of_way = of_step i h (step i h).0.slot top is;
       left = are_beyond Downwards i (down h) above;
-      side = inl (subst (λ (z : PathNode). Sure k (λ s. IsPastKey Downwards s m key z.number z.at)) (sym is) beneath);
+      side = inl (subst (λ (z : PathNode). Sure k (λ s. IsPastKey Downwards s m key z.number z.slot)) (sym is) beneath);
     }
 
     -- or it is below the key, and the scan starts behind it
-    pub starts_behind_leaf : IsBefore leaf_key key → (top : PathNode) → top ≡ record (step i h).0 { at = suc (step i h).0.at } → IsParting k m key way number (record { level = i; top = top; leaf = false })
+    pub starts_behind_leaf : IsBefore leaf_key key → (top : PathNode) → top ≡ record (step i h).0 { slot = suc (step i h).0.slot } → IsParting k m key way number (record { level = i; top = top; leaf = false })
     starts_behind_leaf low top is = record {
       upwards = record {
         within = h;
         begun = (
           bound_behind top is,
-          λ g from. begins i h g from (suc (step i h).0.at) (place_below i h) (λ c lawful known.
+          λ g from. begins i h g from (suc (step i h).0.slot) (place_below i h) (λ c lawful known.
               scan_skipped (seen c k) m g (steady c lawful known) (stage i h) (stages i (down h)) [] number leaf_key value (placed_end i h last c lawful known) (w.found_at.1 c lawful known)
               Upwards (scan_at g from c lawful known) (subst (IsBefore leaf_key) (sym from) low)) top is,
         );
       };
-      of_way = of_step i h (suc (step i h).0.at) top is;
+      of_way = of_step i h (suc (step i h).0.slot) top is;
       left = are_beyond Downwards i (down h) above;
       side = inr (record {
         apart = refl;
         last = last;
         step = (step i h).0;
         there = (step i h).1;
-        behind = ap (λ (z : PathNode). z.at) is;
+        behind = ap (λ (z : PathNode). z.slot) is;
         found = leaf_key;
         value = value;
         read = w.found_at.1;
@@ -300,13 +300,13 @@ module _ (layout : Layout) (k : Known) (m : ℕ) (key : Key) (way : List PathNod
         (placed_next i h o c lawful known) ((node (suc i) o).2.shaped c lawful known) (leaf_fits c lawful known (suc i) o) (λ q lt. sym (agree q (omega (arith, lt, low))))
 
     pub starts_among : (i : ℕ) (h : i < length way) → 2 ≤ size (subtrie_affected d key (stage i h).shape) → Sure k (λ s. AreAt s m key (stages i (down h))) →
-        (top : PathNode) → top ≡ record (step i h).0 { at = start_place d key (stage i h).shape } → IsParting k m key way number (record { level = i; top = top; leaf = false })
+        (top : PathNode) → top ≡ record (step i h).0 { slot = start_place d key (stage i h).shape } → IsParting k m key way number (record { level = i; top = top; leaf = false })
     starts_among i h two at top is = record {
       upwards = record {
         within = h;
         begun = (
           record {
-            there = λ c lawful known. subst (λ (z : PathNode). IsPastKey Upwards (seen c k) m key z.number z.at) (sym is)
+            there = λ c lawful known. subst (λ (z : PathNode). IsPastKey Upwards (seen c k) m key z.number z.slot) (sym is)
                 (sides_beyond Upwards (seen c k) m (stage i h).number (stage i h).shape ((node i h).2.shaped c lawful known) key leaf_key d agree (fits_at i h c lawful known) ne two);
             above = are_beyond Upwards i (down h) at;
           },
@@ -319,7 +319,7 @@ module _ (layout : Layout) (k : Known) (m : ℕ) (key : Key) (way : List PathNod
       };
       of_way = of_step i h (start_place d key (stage i h).shape) top is;
       left = are_beyond Downwards i (down h) at;
-      side = inl (λ c lawful known. subst (λ (z : PathNode). IsPastKey Downwards (seen c k) m key z.number z.at) (sym is)
+      side = inl (λ c lawful known. subst (λ (z : PathNode). IsPastKey Downwards (seen c k) m key z.number z.slot) (sym is)
           (sides_beyond Downwards (seen c k) m (stage i h).number (stage i h).shape ((node i h).2.shaped c lawful known) key leaf_key d agree (fits_at i h c lawful known) ne two));
     }
       where
@@ -336,7 +336,7 @@ module _ (layout : Layout) (k : Known) (m : ℕ) (key : Key) (way : List PathNod
 
   -- ---- where it differs
   module _ (d : ℕ) (differs : differ ≡ Some d) (level : ℕ) (is : IsLevel way d level) (s : PathNode) (there : slice_get way level ≡ Some s) (x : Subtrie) (shapes : Sure k (λ p. IsShaped p m s.number x))
-      (first last : ℕ) (from : affected_first d s.at x ≡ first) (upto : affected_count d s.at x + first ≡ last + 1) where
+      (first last : ℕ) (from : affected_first d s.slot x ≡ first) (upto : affected_count d s.slot x + first ≡ last + 1) where
     apart : AgreeBelow d key leaf_key × (bit key d ≢ bit leaf_key d)
     apart = subst (IsMismatch key leaf_key) differs w.found_at.2
 
@@ -346,14 +346,14 @@ module _ (layout : Layout) (k : Known) (m : ℕ) (key : Key) (way : List PathNod
     shape_is : (h : level < length way) → (stage level h).shape ≡ x
     shape_is h = same_shape layout k m s.number (stage level h).shape x possible w.since (subst (λ (z : PathNode). Sure k (λ p. IsShaped p m z.number (stage level h).shape)) (step_is h) (node level h).2.shaped) shapes
 
-    spot_is : (h : level < length way) → s.at ≡ spot key x
-    spot_is h = ap (λ (z : PathNode). z.at) (sym (step_is h)) ∙ (place_is level h ∙ ap (spot key) (shape_is h))
+    spot_is : (h : level < length way) → s.slot ≡ spot key x
+    spot_is h = ap (λ (z : PathNode). z.slot) (sym (step_is h)) ∙ (place_is level h ∙ ap (spot key) (shape_is h))
 
     low_is : (h : level < length way) → affected_from d key (stage level h).shape ≡ first
     low_is h = ap (affected_from d key) (shape_is h) ∙ (sym (key_first d key x) ∙ (ap (λ i. affected_first d i x) (sym (spot_is h)) ∙ from))
 
     count_is : (h : level < length way) → size (subtrie_affected d key (stage level h).shape) + first ≡ last + 1
-    count_is h = let e : affected_count d s.at x ≡ size (subtrie_affected d key (stage level h).shape) =
+    count_is h = let e : affected_count d s.slot x ≡ size (subtrie_affected d key (stage level h).shape) =
         ap (λ i. affected_count d i x) (spot_is h) ∙ ((key_part key d x).count ∙ ap (λ y. size (subtrie_affected d key y)) (sym (shape_is h))) in omega (arith, e, upto)
 
     -- the nodes above one whose first fork is before d
@@ -365,7 +365,7 @@ module _ (layout : Layout) (k : Known) (m : ℕ) (key : Key) (way : List PathNod
     alone h le = stands_alone d apart.0 apart.1 level h (let n = count_is h in let p = size_pos (subtrie_affected d key (stage level h).shape) in omega (arith, n, p, le))
 
     abbrev Starts : Bool → ℕ → ℕ → ℕ → Type 0
-    Starts u i low high = (top t : PathNode) → slice_get way i ≡ Some t → top ≡ record t { at = if u then high + 1 else low } → IsParting k m key way number (record { level = i; top = top; leaf = (if u then false else nat_eq low high) })
+    Starts u i low high = (top t : PathNode) → slice_get way i ≡ Some t → top ≡ record t { slot = if u then high + 1 else low } → IsParting k m key way number (record { level = i; top = top; leaf = (if u then false else nat_eq low high) })
 
     leaf_is : {i : ℕ} {top : PathNode} {a b : Bool} → a ≡ b → IsParting k m key way number (record { level = i; top = top; leaf = a }) → IsParting k m key way number (record { level = i; top = top; leaf = b })
     leaf_is {i} {top} e = subst (λ z. IsParting k m key way number (record { level = i; top = top; leaf = z })) e
@@ -380,8 +380,8 @@ module _ (layout : Layout) (k : Known) (m : ℕ) (key : Key) (way : List PathNod
         let n = count_is h in let f = low_is h in
         leaf_is (no_leaf u first last lt)
         (starts_among d apart.0 apart.1 level h (omega (arith, n, lt)) (are_above level h (λ o. subst (λ z. z < d) (ap (λ (z : PathNode). z.first_position) (sym (step_is h)) ∙ (node level h).2.first) (is.low o s there)))
-        top (top_is ∙ (ap (λ (z : PathNode). let y : PathNode = record z { at = if u then last + 1 else first } in y) (some_injective (sym at ∙ (step level h).1)) ∙
-        ap (λ z. let y : PathNode = record (step level h).0 { at = z } in y) (place_now u b f n))))
+        top (top_is ∙ (ap (λ (z : PathNode). let y : PathNode = record z { slot = if u then last + 1 else first } in y) (some_injective (sym at ∙ (step level h).1)) ∙
+        ap (λ z. let y : PathNode = record (step level h).0 { slot = z } in y) (place_now u b f n))))
       where
         place_now : (u : Bool) → bit key d ≡ u → affected_from d key (stage level h).shape ≡ first → size (subtrie_affected d key (stage level h).shape) + first ≡ last + 1 →
             (if u then last + 1 else first) ≡ start_place d key (stage level h).shape
@@ -398,8 +398,8 @@ module _ (layout : Layout) (k : Known) (m : ℕ) (key : Key) (way : List PathNod
         let whole = whole_from d key forks two high in
         leaf_is (no_leaf u 0 (count - 1) (omega (arith, two, count_eq)))
         (starts_among d apart.0 apart.1 (suc level) o (subst (λ y. 2 ≤ size y) (sym whole.1) two) (at_above level (down o) (alone (down o) le)) top
-        (top_is ∙ (ap (λ (z : PathNode). let y : PathNode = record z { at = if u then count - 1 + 1 else 0 } in y) (some_injective (sym at ∙ (step (suc level) o).1)) ∙
-        ap (λ z. let y : PathNode = record (step (suc level) o).0 { at = z } in y) (place_now u b whole.0 (ap size whole.1) two))))
+        (top_is ∙ (ap (λ (z : PathNode). let y : PathNode = record z { slot = if u then count - 1 + 1 else 0 } in y) (some_injective (sym at ∙ (step (suc level) o).1)) ∙
+        ap (λ z. let y : PathNode = record (step (suc level) o).0 { slot = z } in y) (place_now u b whole.0 (ap size whole.1) two))))
       where
         place_now : (u : Bool) → bit key d ≡ u → affected_from d key (stage (suc level) o).shape ≡ 0 → size (subtrie_affected d key (stage (suc level) o).shape) ≡ size (stage (suc level) o).shape →
             2 ≤ size (stage (suc level) o).shape → (if u then count - 1 + 1 else 0) ≡ start_place d key (stage (suc level) o).shape
@@ -410,29 +410,29 @@ module _ (layout : Layout) (k : Known) (m : ℕ) (key : Key) (way : List PathNod
     one_leaf : (u : Bool) → bit key d ≡ u → (h : level < length way) → last ≤ first → level + 1 ≡ length way → Starts u level first last
     one_leaf u b h le end top t at top_is = go u b top_is
       where
-        around : (first ≤ s.at) × (s.at ≤ first) × (first ≡ last)
+        around : (first ≤ s.slot) × (s.slot ≤ first) × (first ≡ last)
         around =
-            let a = part_around d key (stage level h).shape in let f = low_is h in let n = count_is h in let p = place_is level h in let e = ap (λ (z : PathNode). z.at) (step_is h) in
+            let a = part_around d key (stage level h).shape in let f = low_is h in let n = count_is h in let p = place_is level h in let e = ap (λ (z : PathNode). z.slot) (step_is h) in
             (omega (arith, a.0, f, p, e), omega (arith, a.1, f, n, p, e, le), let q = size_pos (subtrie_affected d key (stage level h).shape) in omega (arith, n, le, q))
 
         is_step : t ≡ (step level h).0
         is_step = some_injective (sym at ∙ (step level h).1)
 
-        at_is : (step level h).0.at ≡ first
-        at_is = let e = ap (λ (z : PathNode). z.at) (step_is h) in let a = around.0 in let b = around.1 in omega (arith, e, a, b)
+        at_is : (step level h).0.slot ≡ first
+        at_is = let e = ap (λ (z : PathNode). z.slot) (step_is h) in let a = around.0 in let b = around.1 in omega (arith, e, a, b)
 
         other : (u : Bool) → bit key d ≡ u → (o : Bool) → bit leaf_key d ≡ o → u ≢ o
         other u e o f same = apart.1 (e ∙ (same ∙ sym f))
 
-        go : (u : Bool) → bit key d ≡ u → top ≡ record t { at = if u then last + 1 else first } → IsParting k m key way number (record { level = level; top = top; leaf = (if u then false else nat_eq first last) })
+        go : (u : Bool) → bit key d ≡ u → top ≡ record t { slot = if u then last + 1 else first } → IsParting k m key way number (record { level = level; top = top; leaf = (if u then false else nat_eq first last) })
         go true b e = starts_behind_leaf level h end (alone h le) (d, ((λ q lt. sym (apart.0 q lt)), is_false (bit leaf_key d) refl, b)) top
-            (e ∙ (ap (λ (z : PathNode). let y : PathNode = record z { at = last + 1 } in y) is_step ∙ ap (λ z. let y : PathNode = record (step level h).0 { at = z } in y) (let g = at_is in let f = around.2 in omega (arith, g, f))))
+            (e ∙ (ap (λ (z : PathNode). let y : PathNode = record z { slot = last + 1 } in y) is_step ∙ ap (λ z. let y : PathNode = record (step level h).0 { slot = z } in y) (let g = at_is in let f = around.2 in omega (arith, g, f))))
           where
             is_false : (o : Bool) → bit leaf_key d ≡ o → bit leaf_key d ≡ false
             is_false false f = f
             is_false true f = absurd (other true b true f refl)
         go false b e = leaf_is (sym (eq-eqb first last around.2)) (starts_at_leaf level h end (alone h le) (inr (d, (apart.0, b, is_true (bit leaf_key d) refl))) top
-            (e ∙ (ap (λ (z : PathNode). let y : PathNode = record z { at = first } in y) is_step ∙ ap (λ z. let y : PathNode = record (step level h).0 { at = z } in y) (sym at_is))))
+            (e ∙ (ap (λ (z : PathNode). let y : PathNode = record z { slot = first } in y) is_step ∙ ap (λ z. let y : PathNode = record (step level h).0 { slot = z } in y) (sym at_is))))
           where
             is_true : (o : Bool) → bit leaf_key d ≡ o → bit leaf_key d ≡ true
             is_true true f = f
@@ -470,7 +470,7 @@ module _ (layout : Layout) (k : Known) (m : ℕ) (key : Key) (way : List PathNod
 module _ (layout : Layout) (k j : Known) (m : ℕ) (key : Key) (way : List PathNode) (number value : ℕ) (differ : Option ℕ) (w : IsWayOf layout k m key way (Leaf number value differ)) (possible : IsPossible layout j)
     (later : IsLater k j) (d : ℕ) (differs : differ ≡ Some d) (level : ℕ) (is : IsLevel way d level) (s : PathNode) (there : slice_get way level ≡ Some s) (forks : Subtrie)
     (shapes : Sure j (λ p. IsShaped p m s.number forks)) (first last : ℕ)
-    (from : affected_first d s.at forks ≡ first) (upto : affected_count d s.at forks + first ≡ last + 1) (c : Choice) (chosen : IsChosen way level first last c) where
+    (from : affected_first d s.slot forks ≡ first) (upto : affected_count d s.slot forks + first ≡ last + 1) (c : Choice) (chosen : IsChosen way level first last c) where
   then_found : IsWayOf layout j m key way (Leaf number value differ)
   then_found = way_later layout k j m key way (Leaf number value differ) later w
 
@@ -481,17 +481,17 @@ module _ (layout : Layout) (k j : Known) (m : ℕ) (key : Key) (way : List PathN
 
   chosen_fits : (c.level < length way) × (c.last ≤ 31)
   chosen_fits = chosen_low layout j m key way number value differ then_found possible d differs level is s there forks shapes first last from upto c chosen
-      (let low = affected_low d s.at first last forks from upto in let r = room in omega (arith, low, r))
+      (let low = affected_low d s.slot first last forks from upto in let r = room in omega (arith, low, r))
 
   abbrev StartsThere : Type 0
   StartsThere = (u : Bool) → bit_of key d ≡ u → (t : PathNode) → slice_get way c.level ≡ Some t → (place : ℕ) → place ≡ (if u then c.last + 1 else c.first) → (comes : Bool) →
-      comes ≡ (if u then false else nat_eq c.first c.last) → IsParting j m key way number (record { level = c.level; top = record t { at = place }; leaf = comes })
+      comes ≡ (if u then false else nat_eq c.first c.last) → IsParting j m key way number (record { level = c.level; top = record t { slot = place }; leaf = comes })
 
   started : StartsThere
   started u b t at place place_eq comes comes_eq =
-      subst (λ z. IsParting j m key way number (record { level = c.level; top = record t { at = place }; leaf = z })) (sym comes_eq)
-      (starts_apart layout j m key way number value differ then_found possible d differs level is s there forks shapes first last from upto u b c chosen (record t { at = place }) t at
-      (ap (λ z. let y : PathNode = record t { at = z } in y) place_eq))
+      subst (λ z. IsParting j m key way number (record { level = c.level; top = record t { slot = place }; leaf = z })) (sym comes_eq)
+      (starts_apart layout j m key way number value differ then_found possible d differs level is s there forks shapes first last from upto u b c chosen (record t { slot = place }) t at
+      (ap (λ z. let y : PathNode = record t { slot = z } in y) place_eq))
 
   -- the choice is of a place in a node of the way, and there the scan starts
   pub chosen_starts : (c.level < length way) × (c.last ≤ 31) × StartsThere
@@ -536,7 +536,7 @@ pub record HasBegun (d : Direction) (layout : Layout) (k : Known) (m : ℕ) (g :
   -- the leaf of the search may come first,
   pub entry : start.leaf ≡ true → IsAtEntry d k m g start.top frames t (LeafEntry number)
   pub reached : start.leaf ≡ true → IsReached d layout k m (first_key d g) number
-  pub behind : start.leaf ≡ true → IsBound d k m (first_key d g) (record start.top { at = gap_behind d start.top.at }) frames
+  pub behind : start.leaf ≡ true → IsBound d k m (first_key d g) (record start.top { slot = gap_behind d start.top.slot }) frames
   -- or the walk is at a gap
   pub walk : start.leaf ≡ false → IsWalk k m (d, g) start.top frames t
   pub bound : start.leaf ≡ false → IsBound d k m (first_key d g) start.top frames
@@ -546,7 +546,7 @@ pub begun : {d : Direction} {layout : Layout} {j k : Known} {m : ℕ} {way steps
     IsSearchEnd layout j m (first_key d g) way found → steps ≡ way → ((n : ℕ) → IsSearchEnd layout j n (first_key d g) steps found → IsStart d k n (first_key d g) steps found.number start) → frames ≡ take start.level way → IsNone t →
     HasBegun d layout k m g found.number start frames t
 begun {d} {layout} {j} {k} {m} {way} {steps} {frames} {start} {t} found g w same starts left none = record {
-  entry = λ is. record { walk = walk_before start.top (there (record start.top { at = gap_before d start.top.at }) ((first is).1 g refl)) (first is).0.inside refl; placed = (first is).0.placed };
+  entry = λ is. record { walk = walk_before start.top (there (record start.top { slot = gap_before d start.top.slot }) ((first is).1 g refl)) (first is).0.inside refl; placed = (first is).0.placed };
   reached = λ is. first_reached layout m (first_key d g) found.number (first is).0 ((first is).1 g refl).pinned;
   behind = λ is. (first is).0.bound;
   walk = λ is. there start.top ((begins is).1 g refl);

@@ -23,7 +23,7 @@ use Rattle.rowex_scanning.proofs.Walking.{beyond_parts, walk_before, walk_fits, 
 use Rattle.rowex_scanning.specs.Scanning.{ArePastKey, IsBound, IsWalk, frame, frames_of}
 use Rattle.rowex_scanning.specs.Starts.{IsBegun, IsFirst, IsParting, IsStart, IsWalkFrom}
 use Rattle.rowex_scanning.specs.Tallies.{tally_of_number}
-use Rattle.version_laws.specs.declared.direction.Direction.TheVariants.{Upwards, Downwards}
+use Rattle.packed_pairs.specs.declared.direction.Direction.TheVariants.{Upwards, Downwards}
 use Rattle.rowex_scanning.specs.declared.start.Start.{Start}
 use Rattle.rowex_table.specs.Made.{IsLater}
 use Rattle.version_laws.proofs.Starts.{beyond_further, same_past, scan_started, IsWayEarlier}
@@ -41,12 +41,12 @@ above_earlier {k} m key (f ∷ fs) pinned over c lawful known =
     (o.1 c lawful known (seen c k) (same_past (seen c k)) (seen_steady lawful known pinned), above_earlier m key fs pinned o.0 c lawful known)
 
 -- the walk downwards at a place from which on all is above the key
-walk_at : {k : Known} {m : ℕ} {key : Key} {top : PathNode} {frames : List PathNode} → IsWalkFrom Upwards k m key top frames → (place : ℕ) → place ≤ top.count → IsBound Upwards k m key (record top { at = place }) frames →
-    IsWalkFrom Downwards k m key (record top { at = place }) frames
+walk_at : {k : Known} {m : ℕ} {key : Key} {top : PathNode} {frames : List PathNode} → IsWalkFrom Upwards k m key top frames → (place : ℕ) → place ≤ top.count → IsBound Upwards k m key (record top { slot = place }) frames →
+    IsWalkFrom Downwards k m key (record top { slot = place }) frames
 walk_at {k} {m} {key} {top} {frames} walks place fits bound g is = record {
   lowest = record w.lowest { place = place };
   others = w.others;
-  top_is = ap (λ (z : PathNode). let x : PathNode = record z { at = place } in x) w.top_is;
+  top_is = ap (λ (z : PathNode). let x : PathNode = record z { slot = place } in x) w.top_is;
   frames_are = w.frames_are;
   room = w.room;
   fits = subst (λ (z : PathNode). place ≤ z.count) w.top_is fits;
@@ -79,11 +79,11 @@ module _ (layout : Layout) (k j : Known) (m : ℕ) (key : Key) (way : List PathN
   at_level : start.level + 1 ≡ length way → slice_get way start.level ≡ Some lowest
   at_level e = subst (λ i. slice_get way i ≡ Some lowest) (let n : length way - 1 ≡ start.level = omega (arith, e) in n) there
 
-  beneath_there : start.leaf ≡ false → (start.level + 1 ≡ length way → lowest.at + 1 ≡ start.top.at → ⊥) → Sure j (λ p. IsPastKey Downwards p m key start.top.number start.top.at)
+  beneath_there : start.leaf ≡ false → (start.level + 1 ≡ length way → lowest.slot + 1 ≡ start.top.slot → ⊥) → Sure j (λ p. IsPastKey Downwards p m key start.top.number start.top.slot)
   beneath_there apart not_behind = ⊎_elim (λ low. low)
-      (λ b. absurd (not_behind b.last (let e = b.behind ∙ ap (λ (z : PathNode). suc z.at) (some_injective (sym b.there ∙ at_level b.last)) in omega (arith, e)))) s.side
+      (λ b. absurd (not_behind b.last (let e = b.behind ∙ ap (λ (z : PathNode). suc z.slot) (some_injective (sym b.there ∙ at_level b.last)) in omega (arith, e)))) s.side
 
-  beneath_first : start.leaf ≡ true → Sure j (λ p. IsPastKey Downwards p m key start.top.number start.top.at)
+  beneath_first : start.leaf ≡ true → Sure j (λ p. IsPastKey Downwards p m key start.top.number start.top.slot)
   beneath_first is = ⊎_elim (λ low. low) (λ b. absurd (false≢true (sym b.apart ∙ is))) s.side
 
   first : start.leaf ≡ true → IsBegun Upwards j m key number (take start.level way) (record { level = 0; top = start.top; leaf = true })
@@ -106,7 +106,7 @@ module _ (layout : Layout) (k j : Known) (m : ℕ) (key : Key) (way : List PathN
         reached = inl (sym (subst (IsMismatch key w.found_at.0) none w.found_at.2));
         bound = record { there = beneath_first is; above = s.left };
       },
-      walk_at (first is).1 (suc start.top.at) (first is).0.inside (first is).0.bound,
+      walk_at (first is).1 (suc start.top.slot) (first is).0.inside (first is).0.bound,
     );
   }
 
@@ -116,7 +116,7 @@ module _ (layout : Layout) (k j : Known) (m : ℕ) (key : Key) (way : List PathN
     within = s.upwards.within;
     begun = subst (λ z. IsBegun Downwards j m key number (take start.level way) (record { level = 0; top = start.top; leaf = z })) (sym apart_is) (
       record { there = beneath_first is; above = s.left },
-      λ g upto. skipped g upto (walk_before start.top (walk_at (first is).1 (suc start.top.at) f.inside f.bound g upto) f.inside refl),
+      λ g upto. skipped g upto (walk_before start.top (walk_at (first is).1 (suc start.top.slot) f.inside f.bound g upto) f.inside refl),
     );
   }
     where
@@ -147,13 +147,13 @@ module _ (layout : Layout) (k j : Known) (m : ℕ) (key : Key) (way : List PathN
               taken,
               tallied,
               scan_skipped (seen c j) m g (seen_steady lawful known pinned) n.stands.stage n.stands.others taken number f.found f.value
-                  (subst (λ (z : PathNode). IsPlaced (seen c j) m z.number z.at (Leaf number)) n.stands.at_is (f.placed c lawful known)) (f.read c lawful known) Downwards s
+                  (subst (λ (z : PathNode). IsPlaced (seen c j) m z.number z.slot (Leaf number)) n.stands.at_is (f.placed c lawful known)) (f.read c lawful known) Downwards s
                   (subst (λ z. IsBefore z f.found) (sym upto) (high c lawful known)),
             );
       }
 
   -- The leaf stands just left of where the scan upwards starts: it comes first.
-  pub turns_behind : start.leaf ≡ false → start.level + 1 ≡ length way → lowest.at + 1 ≡ start.top.at → (top : PathNode) → top ≡ record start.top { at = lowest.at } → (comes : Bool) → comes ≡ true →
+  pub turns_behind : start.leaf ≡ false → start.level + 1 ≡ length way → lowest.slot + 1 ≡ start.top.slot → (top : PathNode) → top ≡ record start.top { slot = lowest.slot } → (comes : Bool) → comes ≡ true →
       IsStart Downwards j m key way number (record { level = start.level; top = top; leaf = comes })
   turns_behind is last next_to top top_is comes first_is = record {
     within = s.upwards.within;
@@ -167,20 +167,20 @@ module _ (layout : Layout) (k j : Known) (m : ℕ) (key : Key) (way : List PathN
         reached = inr found_low;
         bound = record { there = below_place; above = s.left };
       },
-      walk_at (gap is).1 (suc lowest.at) fits bound_next_to,
+      walk_at (gap is).1 (suc lowest.slot) fits bound_next_to,
     ));
   }
     where
       number_is : start.top.number ≡ lowest.number
       number_is = ap (λ (z : PathNode). z.number) (s.of_way lowest (at_level last))
 
-      place_is : start.top.at ≡ suc lowest.at
+      place_is : start.top.slot ≡ suc lowest.slot
       place_is = omega (arith, next_to)
 
-      fits : lowest.at < start.top.count
+      fits : lowest.slot < start.top.count
       fits = let low = walk_fits ((gap is).1 (record { from = key; upto = key; limit = 0 }) refl) in omega (arith, low, next_to)
 
-      bound_next_to : IsBound Upwards j m key (record start.top { at = suc lowest.at }) (take start.level way)
+      bound_next_to : IsBound Upwards j m key (record start.top { slot = suc lowest.slot }) (take start.level way)
       bound_next_to = record { there = subst (λ n. Sure j (λ p. IsPastKey Upwards p m key start.top.number n)) place_is (gap is).0.there; above = (gap is).0.above }
 
       node : (e : Entry) × (named way (FoundLeaf number value differ) (start.level + 1) ≡ Some e) × IsWayNode layout k m key lowest e
@@ -189,17 +189,17 @@ module _ (layout : Layout) (k j : Known) (m : ℕ) (key : Key) (way : List PathN
       is_leaf : node.0 ≡ Leaf number
       is_leaf = some_injective (sym node.1 ∙ (ap (named way (FoundLeaf number value differ)) last ∙ named_end way (FoundLeaf number value differ) (length way) (le_refl (length way))))
 
-      placed_low : Sure j (λ p. IsPlaced p m lowest.number lowest.at (Leaf number))
-      placed_low = sure_later {P = λ p. IsPlaced p m lowest.number lowest.at (Leaf number)} (placed_stable m lowest.number lowest.at (Leaf number)) l
-          (subst (λ e. Sure k (λ p. IsPlaced p m lowest.number lowest.at e)) is_leaf node.2.placed)
+      placed_low : Sure j (λ p. IsPlaced p m lowest.number lowest.slot (Leaf number))
+      placed_low = sure_later {P = λ p. IsPlaced p m lowest.number lowest.slot (Leaf number)} (placed_stable m lowest.number lowest.slot (Leaf number)) l
+          (subst (λ e. Sure k (λ p. IsPlaced p m lowest.number lowest.slot e)) is_leaf node.2.placed)
 
-      placed : Sure j (λ p. IsPlaced p m start.top.number lowest.at (Leaf number))
-      placed = subst (λ n. Sure j (λ p. IsPlaced p m n lowest.at (Leaf number))) (sym number_is) placed_low
+      placed : Sure j (λ p. IsPlaced p m start.top.number lowest.slot (Leaf number))
+      placed = subst (λ n. Sure j (λ p. IsPlaced p m n lowest.slot (Leaf number))) (sym number_is) placed_low
 
-      below_place : Sure j (λ p. IsPastKey Downwards p m key start.top.number lowest.at)
+      below_place : Sure j (λ p. IsPastKey Downwards p m key start.top.number lowest.slot)
       below_place = ⊎_elim
-          (λ low c lawful known. beyond_further Downwards (seen c j) m start.top.number start.top.at lowest.at key (λ i lt. omega (arith, next_to, lt)) (low c lawful known))
-          (λ b. subst (λ n. Sure j (λ p. IsPastKey Downwards p m key n lowest.at)) (sym number_is) (subst (λ (z : PathNode). Sure j (λ p. IsPastKey Downwards p m key z.number z.at)) (some_injective (sym b.there ∙ at_level last)) b.beneath))
+          (λ low c lawful known. beyond_further Downwards (seen c j) m start.top.number start.top.slot lowest.slot key (λ i lt. omega (arith, next_to, lt)) (low c lawful known))
+          (λ b. subst (λ n. Sure j (λ p. IsPastKey Downwards p m key n lowest.slot)) (sym number_is) (subst (λ (z : PathNode). Sure j (λ p. IsPastKey Downwards p m key z.number z.slot)) (some_injective (sym b.there ∙ at_level last)) b.beneath))
           s.side
 
       now : Recalls possible.core j
@@ -210,17 +210,17 @@ module _ (layout : Layout) (k j : Known) (m : ℕ) (key : Key) (way : List PathN
 
       found_low : IsBefore w.found_at.0 key
       found_low = ⊎_elim
-          (λ low. low possible.core possible.lawful now (seen possible.core j) (same_past (seen possible.core j)) fixed_then lowest.at w.found_at.0 (omega (arith, next_to))
-          (leaf_may_stand (seen possible.core j) m fixed_then start.top.number lowest.at number w.found_at.0 value (placed possible.core possible.lawful now) (found_read possible.core possible.lawful now)))
+          (λ low. low possible.core possible.lawful now (seen possible.core j) (same_past (seen possible.core j)) fixed_then lowest.slot w.found_at.0 (omega (arith, next_to))
+          (leaf_may_stand (seen possible.core j) m fixed_then start.top.number lowest.slot number w.found_at.0 value (placed possible.core possible.lawful now) (found_read possible.core possible.lawful now)))
           (λ b. subst (λ z. IsBefore z key) (read_same (seen possible.core j) m fixed_then number b.found w.found_at.0 b.value value (b.read possible.core possible.lawful now) (found_read possible.core possible.lawful now)) b.low)
           s.side
 
   -- Else the scan downwards starts at the same place.
-  pub turns_there : start.leaf ≡ false → (start.level + 1 ≡ length way → lowest.at + 1 ≡ start.top.at → ⊥) → (comes : Bool) → comes ≡ false → IsStart Downwards j m key way number (record { level = start.level; top = start.top; leaf = comes })
+  pub turns_there : start.leaf ≡ false → (start.level + 1 ≡ length way → lowest.slot + 1 ≡ start.top.slot → ⊥) → (comes : Bool) → comes ≡ false → IsStart Downwards j m key way number (record { level = start.level; top = start.top; leaf = comes })
   turns_there is not_behind comes apart_is = record {
     within = s.upwards.within;
     begun = subst (λ z. IsBegun Downwards j m key number (take start.level way) (record { level = 0; top = start.top; leaf = z })) (sym apart_is) (
       record { there = beneath_there is not_behind; above = s.left },
-      walk_at (gap is).1 start.top.at (walk_fits ((gap is).1 (record { from = key; upto = key; limit = 0 }) refl)) (gap is).0,
+      walk_at (gap is).1 start.top.slot (walk_fits ((gap is).1 (record { from = key; upto = key; limit = 0 }) refl)) (gap is).0,
     );
   }

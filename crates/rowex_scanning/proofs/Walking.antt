@@ -51,30 +51,30 @@ use Rattle.rowex_scanning.specs.declared.ahead.Ahead.{Ahead}
 use Rattle.version_laws.specs.Directions.{IsAnswer, IsPastKey, IsEarlier, IsNoLater, IsScanBy, first_gap, first_key, gap_after, gap_before, gap_behind, last_key, place_ahead, to_come}
 use Rattle.rowex_scanning.specs.Scanning.{ArePastKey, AreInside, HasTaken, IsBound, IsEntered, IsLeafTaken, IsPairTaken, IsReached, IsWalk, frame, frames_of}
 use Rattle.rowex_scanning.specs.Tallies.{AreTallied, IsKept, IsNone, IsOneMore, IsTalliedScan, Tally, tally_of_number}
-use Rattle.version_laws.specs.declared.direction.Direction.{Direction}
-use Rattle.version_laws.specs.declared.direction.Direction.TheVariants.{Upwards, Downwards}
-use Rattle.rowex_scanning.specs.declared.scanning.Verdict.{Verdict}
-use Rattle.rowex_scanning.specs.declared.scanning.Verdict.TheVariants.{Further, Past as IsPast, Full}
+use Rattle.packed_pairs.specs.declared.direction.Direction.{Direction}
+use Rattle.packed_pairs.specs.declared.direction.Direction.TheVariants.{Upwards, Downwards}
+use Rattle.rowex_scanning.specs.declared.scan.Verdict.{Verdict}
+use Rattle.rowex_scanning.specs.declared.scan.Verdict.TheVariants.{Further, Past as IsPast, Full}
 use Rattle.rowex_scanning.proofs.Directed.{before_fits, behind_fits, come_after, come_behind, come_first, come_most, first_fits, gap_before_place, place_inside, out_first, out_last}
 
 -- What a walk has still to do, at most: its measure.
 abbrev pub rest_of_frames : Direction → List PathNode → ℕ
 rest_of_frames d [] = 0
-rest_of_frames d (x ∷ xs) = to_come d x.count (gap_behind d x.at) * 34 ^ x.height + 1 + rest_of_frames d xs
+rest_of_frames d (x ∷ xs) = to_come d x.count (gap_behind d x.slot) * 34 ^ x.height + 1 + rest_of_frames d xs
 
 abbrev pub rest_of : Direction → PathNode → List PathNode → ℕ
-rest_of d top frames = to_come d top.count top.at * 34 ^ top.height + 1 + rest_of_frames d frames
+rest_of d top frames = to_come d top.count top.slot * 34 ^ top.height + 1 + rest_of_frames d frames
 
 -- How many entries of the nodes on a way have yet to be passed until each has passed two.
 abbrev pub entries_until_two : Direction → List PathNode → ℕ
 entries_until_two d [] = 0
-entries_until_two d (x ∷ xs) = (2 - (x.count - to_come d x.count (gap_before d x.at))) + entries_until_two d xs
+entries_until_two d (x ∷ xs) = (2 - (x.count - to_come d x.count (gap_before d x.slot))) + entries_until_two d xs
 
 -- So many loads, of which so many are of entries, are paid for: 26 for each entry, and 8 for each of so many pairs; and there are two
 -- entries for each pair, and one for each node of the way beyond what it has yet to pass, over those of the longest way.
 abbrev pub IsPaid : Direction → ℕ → ℕ → ℕ → PathNode → List PathNode → Type 0
 IsPaid d loads entries pairs top frames =
-    (loads ≤ 26 * entries + 8 * pairs) × (entries + suc (length frames) ≤ 9 * MAX_BYTES + 2 * pairs + ((2 - (top.count - to_come d top.count top.at)) + entries_until_two d frames))
+    (loads ≤ 26 * entries + 8 * pairs) × (entries + suc (length frames) ≤ 9 * MAX_BYTES + 2 * pairs + ((2 - (top.count - to_come d top.count top.slot)) + entries_until_two d frames))
 
 -- Keys
 
@@ -154,7 +154,7 @@ length_frames (f ∷ fs) = let e = length-append (frames_of fs) (frame f ∷ [])
 
 -- The measure
 
-rest_append : (d : Direction) (xs : List PathNode) (x : PathNode) → rest_of_frames d (xs ++ x ∷ []) ≡ to_come d x.count (gap_behind d x.at) * 34 ^ x.height + 1 + rest_of_frames d xs
+rest_append : (d : Direction) (xs : List PathNode) (x : PathNode) → rest_of_frames d (xs ++ x ∷ []) ≡ to_come d x.count (gap_behind d x.slot) * 34 ^ x.height + 1 + rest_of_frames d xs
 rest_append d [] x = omega arith
 rest_append d (y ∷ xs) x = let e = rest_append d xs x in omega (arith, e)
 
@@ -168,16 +168,16 @@ suc_times : (n x : ℕ) → suc n * x ≡ x + n * x
 suc_times n x = omega arith
 
 -- A node that is entered has 32 entries at most, and is lower.
-pub push_less : (d : Direction) (at : PathNode) (frames : List PathNode) (into : PathNode) (more : List PathNode) → at.at < at.count → into.height < at.height → into.count ≤ 32 → into.at ≡ first_gap d into.count → more ≡ frames ++ at ∷ [] →
-    rest_of d into more < rest_of d (record at { at = gap_before d at.at }) frames
+pub push_less : (d : Direction) (at : PathNode) (frames : List PathNode) (into : PathNode) (more : List PathNode) → at.slot < at.count → into.height < at.height → into.count ≤ 32 → into.slot ≡ first_gap d into.count → more ≡ frames ++ at ∷ [] →
+    rest_of d into more < rest_of d (record at { slot = gap_before d at.slot }) frames
 push_less d at frames into more inside low few first e =
-    let whole : to_come d into.count into.at ≡ into.count = ap (to_come d into.count) first ∙ come_first d into.count in
+    let whole : to_come d into.count into.slot ≡ into.count = ap (to_come d into.count) first ∙ come_first d into.count in
     let most : into.count * 34 ^ into.height ≤ 32 * 34 ^ into.height = mul-le-mul_right (34 ^ into.height) few in
     let wide = power_step into.height at.height low in
     let one = one_power into.height in
     let rest = ap (rest_of_frames d) e ∙ rest_append d frames at in
-    less (34 ^ into.height) (34 ^ at.height) (to_come d into.count into.at) into.count (to_come d at.count (gap_before d at.at)) (to_come d at.count (gap_behind d at.at)) (rest_of_frames d more) (rest_of_frames d frames)
-    whole most wide one rest (come_behind d at.at at.count inside)
+    less (34 ^ into.height) (34 ^ at.height) (to_come d into.count into.slot) into.count (to_come d at.count (gap_before d at.slot)) (to_come d at.count (gap_behind d at.slot)) (rest_of_frames d more) (rest_of_frames d frames)
+    whole most wide one rest (come_behind d at.slot at.count inside)
   where
     less : (x y come count t p after rest : ℕ) → come ≡ count → count * x ≤ 32 * x → x * 34 ≤ y → 1 ≤ x → after ≡ p * y + 1 + rest → t ≡ suc p → come * x + 1 + after < t * y + 1 + rest
     less x y come count t p after rest whole most wide one e f =
@@ -186,15 +186,15 @@ push_less d at frames into more inside low few first e =
         omega (arith, product, same, most, wide, one, e)
 
 -- So many entries further is less by as many at least.
-pub after_less : (d : Direction) (top : PathNode) (frames : List PathNode) (count : ℕ) → count ≤ to_come d top.count top.at → rest_of d (record top { at = gap_after d top.at count }) frames + count ≤ rest_of d top frames
-after_less d top frames count come = less (34 ^ top.height) (to_come d top.count top.at) (to_come d top.count (gap_after d top.at count)) (rest_of_frames d frames) (one_power top.height) (come_after d top.count top.at count) come
+pub after_less : (d : Direction) (top : PathNode) (frames : List PathNode) (count : ℕ) → count ≤ to_come d top.count top.slot → rest_of d (record top { slot = gap_after d top.slot count }) frames + count ≤ rest_of d top frames
+after_less d top frames count come = less (34 ^ top.height) (to_come d top.count top.slot) (to_come d top.count (gap_after d top.slot count)) (rest_of_frames d frames) (one_power top.height) (come_after d top.count top.slot count) come
   where
     less : (y t p rest : ℕ) → 1 ≤ y → p ≡ t - count → count ≤ t → p * y + 1 + rest + count ≤ t * y + 1 + rest
     less y t p rest one f within =
         let parts : t * y ≡ p * y + count * y = ap (λ z. z * y) (let e : t ≡ p + count = omega (arith, f, within) in e) ∙ add-mul p count y in
         let most : 1 * count ≤ y * count = mul-le-mul_right count one in omega (arith, parts, most)
 
-pub pop_less : (d : Direction) (top : PathNode) (frames : List PathNode) (lower : PathNode) (rest : List PathNode) → frames ≡ rest ++ lower ∷ [] → rest_of d (record lower { at = gap_behind d lower.at }) rest < rest_of d top frames
+pub pop_less : (d : Direction) (top : PathNode) (frames : List PathNode) (lower : PathNode) (rest : List PathNode) → frames ≡ rest ++ lower ∷ [] → rest_of d (record lower { slot = gap_behind d lower.slot }) rest < rest_of d top frames
 pop_less d top frames lower rest e = let after = ap (rest_of_frames d) e ∙ rest_append d rest lower in omega (arith, after)
 
 -- The walk
@@ -210,13 +210,13 @@ module _ {d : Direction} {k : Known} {m : ℕ} {g : Range} {top : PathNode} {fra
     λ c lawful known. stack_shape (seen c k) m w.lowest w.others (walk_stack c lawful known),
   )
 
-  pub walk_fits : top.at ≤ top.count
-  walk_fits = subst (λ (z : PathNode). z.at ≤ z.count) (sym w.top_is) w.fits
+  pub walk_fits : top.slot ≤ top.count
+  walk_fits = subst (λ (z : PathNode). z.slot ≤ z.count) (sym w.top_is) w.fits
 
   -- there are entries at the places that come next
   pub walk_places : HasPlaces d k m top
   walk_places i low =
-      shape_place walk_shape (subst (λ z. place_ahead d top.at i < z) (ap (λ (z : PathNode). z.count) w.top_is) (place_inside d top.count top.at i walk_fits low))
+      shape_place walk_shape (subst (λ z. place_ahead d top.slot i < z) (ap (λ (z : PathNode). z.count) w.top_is) (place_inside d top.count top.slot i walk_fits low))
 
 -- after more loads
 pub walk_later : {d : Direction} {k j : Known} {m : ℕ} {g : Range} {top : PathNode} {frames : List PathNode} {t : Tally} → IsLater k j → IsWalk k m (d, g) top frames t → IsWalk j m (d, g) top frames t
@@ -281,43 +281,43 @@ pub record IsBeforeEntry (d : Direction) (k : Known) (m : ℕ) (g : Range) (at :
   pub stands : IsStanding k m at frames
   pub scan : Sure k (λ s. IsTalliedScan d s m g (before d stands.stage ∷ stands.others) t)
 
-pub walk_before : {d : Direction} {k : Known} {m : ℕ} {g : Range} {frames : List PathNode} {t : Tally} (at : PathNode) {top : PathNode} → IsWalk k m (d, g) top frames t → at.at < at.count → top ≡ record at { at = gap_before d at.at } →
+pub walk_before : {d : Direction} {k : Known} {m : ℕ} {g : Range} {frames : List PathNode} {t : Tally} (at : PathNode) {top : PathNode} → IsWalk k m (d, g) top frames t → at.slot < at.count → top ≡ record at { slot = gap_before d at.slot } →
     IsBeforeEntry d k m g at frames t
 walk_before {d} {k} {m} {g} {t = t} at w inside is = record {
   stands = record {
-    stage = record w.lowest { place = at.at };
+    stage = record w.lowest { place = at.slot };
     others = w.others;
-    at_is = ap (λ (z : PathNode). let x : PathNode = record z { at = at.at } in x) (sym is ∙ w.top_is);
+    at_is = ap (λ (z : PathNode). let x : PathNode = record z { slot = at.slot } in x) (sym is ∙ w.top_is);
     frames_are = w.frames_are;
     room = w.room;
-    low = subst (λ z. at.at < z) (ap (λ (z : PathNode). z.count) (sym is ∙ w.top_is)) inside;
+    low = subst (λ z. at.slot < z) (ap (λ (z : PathNode). z.count) (sym is ∙ w.top_is)) inside;
     inside = w.inside;
     pinned = w.pinned;
   };
   scan = λ c lawful known. subst (λ n. IsTalliedScan d (seen c k) m g (record w.lowest { place = n } ∷ w.others) t) place_is (w.scan c lawful known);
 }
   where
-    place_is : w.lowest.place ≡ gap_before d at.at
-    place_is = ap (λ (z : PathNode). z.at) (sym w.top_is ∙ is)
+    place_is : w.lowest.place ≡ gap_before d at.slot
+    place_is = ap (λ (z : PathNode). z.slot) (sym w.top_is ∙ is)
 
 -- Before the entry that comes behind so many others.
-pub walk_at_place : {d : Direction} {k : Known} {m : ℕ} {g : Range} {top : PathNode} {frames : List PathNode} {t : Tally} (i : ℕ) → top.at ≤ top.count → i < to_come d top.count top.at →
-    IsWalk k m (d, g) (record top { at = gap_after d top.at i }) frames t → IsBeforeEntry d k m g (record top { at = place_ahead d top.at i }) frames t
+pub walk_at_place : {d : Direction} {k : Known} {m : ℕ} {g : Range} {top : PathNode} {frames : List PathNode} {t : Tally} (i : ℕ) → top.slot ≤ top.count → i < to_come d top.count top.slot →
+    IsWalk k m (d, g) (record top { slot = gap_after d top.slot i }) frames t → IsBeforeEntry d k m g (record top { slot = place_ahead d top.slot i }) frames t
 walk_at_place {d} {top = top} i fits come w =
-    walk_before (record top { at = place_ahead d top.at i }) w (place_inside d top.count top.at i fits come) (ap (λ z. let x : PathNode = record top { at = z } in x) (gap_before_place d top.count top.at i come))
+    walk_before (record top { slot = place_ahead d top.slot i }) w (place_inside d top.count top.slot i fits come) (ap (λ z. let x : PathNode = record top { slot = z } in x) (gap_before_place d top.count top.slot i come))
 
 -- what the pass knows of the node
 module _ {d : Direction} {k : Known} {m : ℕ} {g : Range} {at : PathNode} {frames : List PathNode} {t : Tally} (w : IsBeforeEntry d k m g at frames t) where
-  pub entry_inside : at.at < at.count
-  entry_inside = subst (λ (z : PathNode). z.at < z.count) (sym w.stands.at_is) w.stands.low
+  pub entry_inside : at.slot < at.count
+  entry_inside = subst (λ (z : PathNode). z.slot < z.count) (sym w.stands.at_is) w.stands.low
 
-  pub entry_low : at.at < 32
-  entry_low = subst (λ (z : PathNode). z.at < 32) (sym w.stands.at_is) (let low = w.stands.low in let room = w.stands.room in omega (arith, low, room))
+  pub entry_low : at.slot < 32
+  entry_low = subst (λ (z : PathNode). z.slot < 32) (sym w.stands.at_is) (let low = w.stands.low in let room = w.stands.room in omega (arith, low, room))
 
 -- Where a walk is, and the entry that the pass knows at its place.
 pub record IsAtEntry (d : Direction) (k : Known) (m : ℕ) (g : Range) (at : PathNode) (frames : List PathNode) (t : Tally) (e : Entry) : Type 0 where
   pub walk : IsBeforeEntry d k m g at frames t
-  pub placed : Sure k (λ s. IsPlaced s m at.number at.at e)
+  pub placed : Sure k (λ s. IsPlaced s m at.number at.slot e)
 
 -- the scan's invariant after more loads
 entry_scan : {d : Direction} {k j : Known} {m : ℕ} {g : Range} {at : PathNode} {frames : List PathNode} {t : Tally} → (w : IsBeforeEntry d k m g at frames t) → IsLater k j →
@@ -327,7 +327,7 @@ entry_scan {d} {k} {j} {m} {g} w l c lawful recalls =
 
 module _ {d : Direction} {k : Known} {m : ℕ} {g : Range} {at : PathNode} {frames : List PathNode} {t : Tally} {e : Entry} (a : IsAtEntry d k m g at frames t e) where
   pub entry_led : IsLedTo k m e
-  entry_led = placed_led at.number at.at e a.walk.stands.pinned a.placed
+  entry_led = placed_led at.number at.slot e a.walk.stands.pinned a.placed
 
   module _ {j : Known} (l : IsLater k j) where
     steady : (c : Core) → IsLawful c → Recalls c j → IsSteady (seen c j) m
@@ -335,7 +335,7 @@ module _ {d : Direction} {k : Known} {m : ℕ} {g : Range} {at : PathNode} {fram
 
     -- the entry, by the frame
     there : Sure j (λ s. IsPlaced s m a.walk.stands.stage.number a.walk.stands.stage.place e)
-    there = sure_later (placed_stable m a.walk.stands.stage.number a.walk.stands.stage.place e) l (subst (λ (z : PathNode). Sure k (λ s. IsPlaced s m z.number z.at e)) a.walk.stands.at_is a.placed)
+    there = sure_later (placed_stable m a.walk.stands.stage.number a.walk.stands.stage.place e) l (subst (λ (z : PathNode). Sure k (λ s. IsPlaced s m z.number z.slot e)) a.walk.stands.at_is a.placed)
 
 -- At a node, which was entered.
 module _ {d : Direction} {k j : Known} {m : ℕ} {g : Range} {at : PathNode} {frames : List PathNode} {t : Tally} {number height : ℕ} (a : IsAtEntry d k m g at frames t (Node number height)) (l : IsLater k j) {into : PathNode}
@@ -358,19 +358,19 @@ module _ {d : Direction} {k j : Known} {m : ℕ} {g : Range} {at : PathNode} {fr
         );
   }
 
-  pub walk_push_less : height < at.height → rest_of d into more < rest_of d (record at { at = gap_before d at.at }) frames
+  pub walk_push_less : height < at.height → rest_of d into more < rest_of d (record at { slot = gap_before d at.slot }) frames
   walk_push_less falls =
       push_less d at frames into more (entry_inside a.walk) (subst (λ z. z < at.height) (sym (ap (λ (z : PathNode). z.height) e.top_is)) falls) (subst (λ z. z ≤ 32) (sym (ap (λ (z : PathNode). z.count) e.top_is)) e.room)
-      (ap (λ (z : PathNode). z.at) e.top_is ∙ ap (first_gap d) (sym (ap (λ (z : PathNode). z.count) e.top_is))) q
+      (ap (λ (z : PathNode). z.slot) e.top_is ∙ ap (first_gap d) (sym (ap (λ (z : PathNode). z.count) e.top_is))) q
 
 -- At a leaf, of which the pass is sure that it had a key and a value.
 module _ {d : Direction} {k j : Known} {m : ℕ} {g : Range} {at : PathNode} {frames : List PathNode} {t : Tally} {number : ℕ} (a : IsAtEntry d k m g at frames t (Leaf number)) (l : IsLater k j) (u : Tally) where
   -- They belonged to the range, and there was room: one pair more.
-  pub walk_on : Sure j (λ s. (key : Key) × (value : ℕ) × IsRead s m number key value × IsInRange g key × IsOneMore t key value u) → t.size ≢ g.limit → IsWalk j m (d, g) (record at { at = gap_behind d at.at }) frames u
+  pub walk_on : Sure j (λ s. (key : Key) × (value : ℕ) × IsRead s m number key value × IsInRange g key × IsOneMore t key value u) → t.size ≢ g.limit → IsWalk j m (d, g) (record at { slot = gap_behind d at.slot }) frames u
   walk_on had room = record {
     lowest = behind d a.walk.stands.stage;
     others = a.walk.stands.others;
-    top_is = ap (λ (z : PathNode). let x : PathNode = record z { at = gap_behind d z.at } in x) a.walk.stands.at_is;
+    top_is = ap (λ (z : PathNode). let x : PathNode = record z { slot = gap_behind d z.slot } in x) a.walk.stands.at_is;
     frames_are = a.walk.stands.frames_are;
     room = a.walk.stands.room;
     fits = behind_fits d a.walk.stands.stage.place (size a.walk.stands.stage.shape) a.walk.stands.low;
@@ -420,7 +420,7 @@ module _ {d : Direction} {k j : Known} {m : ℕ} {g : Range} {at : PathNode} {fr
   taken_as : {v : Verdict} → verdict ≡ v → IsPairTaken (d, g) t p.key p.value u v
   taken_as e = subst (λ z. IsPairTaken (d, g) t p.key p.value u z) e p.taken
 
-  pub walk_further : verdict ≡ Further → IsWalk j m (d, g) (record at { at = gap_behind d at.at }) frames u
+  pub walk_further : verdict ≡ Further → IsWalk j m (d, g) (record at { slot = gap_behind d at.slot }) frames u
   walk_further is = let (within, room, more) = taken_as is in walk_on a l u (λ c lawful recalls. (p.key, p.value, read c lawful recalls, within, more)) room
 
   pub taken_more : verdict ≡ Further → u.size ≡ t.size + 1
@@ -451,24 +451,24 @@ module _ {d : Direction} {k : Known} {m : ℕ} {g : Range} {top : PathNode} {fra
           let x = last_is rest (frames_of fs) lower (frame f) (sym e ∙ (w.frames_are ∙ ap frames_of q)) in
           record { stage = f; stages = fs; others = q; below_is = x.1; rest_are = x.0 }
 
-  pub walk_inside : (lower : PathNode) (rest : List PathNode) → frames ≡ rest ++ lower ∷ [] → (lower.at < lower.count) × (lower.at < 32)
+  pub walk_inside : (lower : PathNode) (rest : List PathNode) → frames ≡ rest ++ lower ∷ [] → (lower.slot < lower.count) × (lower.slot < 32)
   walk_inside lower rest e =
       let b = below lower rest e in
       let i : AreInside (b.stage ∷ b.stages) = subst AreInside b.others w.inside in
-      subst (λ (z : PathNode). (z.at < z.count) × (z.at < 32)) (sym b.below_is) (i.0, let x = i.0 in let y = i.1 in omega (arith, x, y))
+      subst (λ (z : PathNode). (z.slot < z.count) × (z.slot < 32)) (sym b.below_is) (i.0, let x = i.0 in let y = i.1 in omega (arith, x, y))
 
-  module _ (done : to_come d top.count top.at ≡ 0) where
+  module _ (done : to_come d top.count top.slot ≡ 0) where
     place_done : to_come d (size w.lowest.shape) w.lowest.place ≡ 0
-    place_done = subst (λ (z : PathNode). to_come d z.count z.at ≡ 0) w.top_is done
+    place_done = subst (λ (z : PathNode). to_come d z.count z.slot ≡ 0) w.top_is done
 
-    pub walk_pop : (lower : PathNode) (rest : List PathNode) → frames ≡ rest ++ lower ∷ [] → IsWalk k m (d, g) (record lower { at = gap_behind d lower.at }) rest t
+    pub walk_pop : (lower : PathNode) (rest : List PathNode) → frames ≡ rest ++ lower ∷ [] → IsWalk k m (d, g) (record lower { slot = gap_behind d lower.slot }) rest t
     walk_pop lower rest e =
         let b = below lower rest e in
         let i : AreInside (b.stage ∷ b.stages) = subst AreInside b.others w.inside in
         record {
           lowest = behind d b.stage;
           others = b.stages;
-          top_is = ap (λ (z : PathNode). let x : PathNode = record z { at = gap_behind d z.at } in x) b.below_is;
+          top_is = ap (λ (z : PathNode). let x : PathNode = record z { slot = gap_behind d z.slot } in x) b.below_is;
           frames_are = b.rest_are;
           room = i.1;
           fits = behind_fits d b.stage.place (size b.stage.shape) i.0;
@@ -525,7 +525,7 @@ module _ {layout : Layout} {d : Direction} {k : Known} {m : ℕ} {g : Range} {to
 
 -- The loads of a walk
 
-spare_append : (d : Direction) (xs : List PathNode) (x : PathNode) → entries_until_two d (xs ++ x ∷ []) ≡ (2 - (x.count - to_come d x.count (gap_before d x.at))) + entries_until_two d xs
+spare_append : (d : Direction) (xs : List PathNode) (x : PathNode) → entries_until_two d (xs ++ x ∷ []) ≡ (2 - (x.count - to_come d x.count (gap_before d x.slot))) + entries_until_two d xs
 spare_append d [] x = refl
 spare_append d (y ∷ xs) x = let e = spare_append d xs x in omega (arith, e)
 
@@ -537,43 +537,43 @@ pub paid_first : (d : Direction) (pairs : ℕ) (top : PathNode) (frames : List P
 paid_first d pairs top frames short = (omega arith, omega (arith, short))
 
 -- at a node that stands at a place of the topmost one
-pub paid_push : (d : Direction) (loads entries head pairs : ℕ) (at : PathNode) (frames : List PathNode) (into : PathNode) (more : List PathNode) → IsPaid d loads entries pairs (record at { at = gap_before d at.at }) frames → head ≤ 26 →
-    into.at ≡ first_gap d into.count → more ≡ frames ++ at ∷ [] → IsPaid d (loads + head) (entries + 1) pairs into more
+pub paid_push : (d : Direction) (loads entries head pairs : ℕ) (at : PathNode) (frames : List PathNode) (into : PathNode) (more : List PathNode) → IsPaid d loads entries pairs (record at { slot = gap_before d at.slot }) frames → head ≤ 26 →
+    into.slot ≡ first_gap d into.count → more ≡ frames ++ at ∷ [] → IsPaid d (loads + head) (entries + 1) pairs into more
 paid_push d loads entries head pairs at frames into more (low, paid) few first e =
     let n = ap length e ∙ length-append frames (at ∷ []) in let spare = ap (entries_until_two d) e ∙ spare_append d frames at in
-    let whole : to_come d into.count into.at ≡ into.count = ap (to_come d into.count) first ∙ come_first d into.count in
+    let whole : to_come d into.count into.slot ≡ into.count = ap (to_come d into.count) first ∙ come_first d into.count in
     (omega (arith, low, few), omega (arith, paid, n, spare, whole))
 
-pub paid_pop : (d : Direction) (loads entries pairs : ℕ) (top : PathNode) (frames : List PathNode) (lower : PathNode) (rest : List PathNode) → IsPaid d loads entries pairs top frames → to_come d top.count top.at ≡ 0 → 2 ≤ top.count →
-    frames ≡ rest ++ lower ∷ [] → lower.at < lower.count → IsPaid d loads entries pairs (record lower { at = gap_behind d lower.at }) rest
+pub paid_pop : (d : Direction) (loads entries pairs : ℕ) (top : PathNode) (frames : List PathNode) (lower : PathNode) (rest : List PathNode) → IsPaid d loads entries pairs top frames → to_come d top.count top.slot ≡ 0 → 2 ≤ top.count →
+    frames ≡ rest ++ lower ∷ [] → lower.slot < lower.count → IsPaid d loads entries pairs (record lower { slot = gap_behind d lower.slot }) rest
 paid_pop d loads entries pairs top frames lower rest (low, paid) done several e inside =
     let n = ap length e ∙ length-append rest (lower ∷ []) in let spare = ap (entries_until_two d) e ∙ spare_append d rest lower in
-    let one = come_behind d lower.at lower.count inside in let most = come_most d lower.count (gap_before d lower.at) (before_fits d lower.at lower.count inside) in
+    let one = come_behind d lower.slot lower.count inside in let most = come_most d lower.count (gap_before d lower.slot) (before_fits d lower.slot lower.count inside) in
     (low, omega (arith, paid, done, several, n, spare, one, most))
 
 -- behind so many leaves, of which each takes a load of its entry, a touch and the loads of its words
-pub paid_leaves : (d : Direction) (loads entries leaves pairs more count : ℕ) (top : PathNode) (frames : List PathNode) → IsPaid d loads entries pairs top frames → leaves ≤ 34 * count → more ≡ pairs + count → top.at ≤ top.count →
-    count ≤ to_come d top.count top.at → IsPaid d (loads + leaves) (entries + count) more (record top { at = gap_after d top.at count }) frames
+pub paid_leaves : (d : Direction) (loads entries leaves pairs more count : ℕ) (top : PathNode) (frames : List PathNode) → IsPaid d loads entries pairs top frames → leaves ≤ 34 * count → more ≡ pairs + count → top.slot ≤ top.count →
+    count ≤ to_come d top.count top.slot → IsPaid d (loads + leaves) (entries + count) more (record top { slot = gap_after d top.slot count }) frames
 paid_leaves d loads entries leaves pairs more count top frames (low, paid) few is fits come =
-    let after = come_after d top.count top.at count in let most = come_most d top.count top.at fits in (omega (arith, low, few, is), omega (arith, paid, is, after, most, come))
+    let after = come_after d top.count top.slot count in let most = come_most d top.count top.slot fits in (omega (arith, low, few, is), omega (arith, paid, is, after, most, come))
 
 -- where no node was looked at behind them,
 pub paid_ahead : (d : Direction) (loads entries pairs more looks leaves : ℕ) (top : PathNode) (frames : List PathNode) (ahead : Ahead) → IsPaid d loads entries pairs top frames → ahead.node ≡ None → looks ≤ entries_ahead ahead + ahead.count →
-    leaves ≤ LEAF_FIELDS * ahead.count → more ≡ pairs + ahead.count → top.at ≤ top.count → ahead.count ≤ to_come d top.count top.at →
-    IsPaid d (loads + (looks + leaves)) (entries + (entries_ahead ahead + 0)) more (record top { at = gap_after d top.at ahead.count }) frames
+    leaves ≤ LEAF_FIELDS * ahead.count → more ≡ pairs + ahead.count → top.slot ≤ top.count → ahead.count ≤ to_come d top.count top.slot →
+    IsPaid d (loads + (looks + leaves)) (entries + (entries_ahead ahead + 0)) more (record top { slot = gap_after d top.slot ahead.count }) frames
 paid_ahead d loads entries pairs more looks leaves top frames ahead paid none few less is fits come =
     let alone : length (option_to_list ahead.node) ≡ 0 = ap (λ z. length (option_to_list z)) none in
     let (low, spare) = paid_leaves d loads entries (looks + leaves) pairs more ahead.count top frames paid (omega (arith, few, less, alone)) is fits come in (omega (arith, low, alone), omega (arith, spare, alone))
 
 -- and where the walk goes on to one
 pub paid_child : (d : Direction) (loads entries pairs more looks leaves head number : ℕ) (top : PathNode) (frames : List PathNode) (ahead : Ahead) (into : PathNode) (way : List PathNode) → IsPaid d loads entries pairs top frames →
-    ahead.node ≡ Some number → looks ≤ entries_ahead ahead + ahead.count → leaves ≤ LEAF_FIELDS * ahead.count → head ≤ HEAD_WORDS → more ≡ pairs + ahead.count → top.at ≤ top.count → ahead.count < to_come d top.count top.at →
-    into.at ≡ first_gap d into.count → way ≡ frames ++ record top { at = place_ahead d top.at ahead.count } ∷ [] → IsPaid d (loads + (looks + (leaves + head))) (entries + (entries_ahead ahead + 0)) more into way
+    ahead.node ≡ Some number → looks ≤ entries_ahead ahead + ahead.count → leaves ≤ LEAF_FIELDS * ahead.count → head ≤ HEAD_WORDS → more ≡ pairs + ahead.count → top.slot ≤ top.count → ahead.count < to_come d top.count top.slot →
+    into.slot ≡ first_gap d into.count → way ≡ frames ++ record top { slot = place_ahead d top.slot ahead.count } ∷ [] → IsPaid d (loads + (looks + (leaves + head))) (entries + (entries_ahead ahead + 0)) more into way
 paid_child d loads entries pairs more looks leaves head number top frames ahead into way paid some few less small is fits come first e =
     let one : length (option_to_list ahead.node) ≡ 1 = ap (λ z. length (option_to_list z)) some in
     let behind = paid_leaves d loads entries (34 * ahead.count) pairs more ahead.count top frames paid (omega arith) is fits (omega (arith, come)) in
-    let at_node = subst (λ z. IsPaid d (loads + 34 * ahead.count) (entries + ahead.count) more (let x : PathNode = record top { at = z } in x) frames) (gap_before_place d top.count top.at ahead.count come) behind in
-    let (low, spare) = paid_push d (loads + 34 * ahead.count) (entries + ahead.count) 26 more (record top { at = place_ahead d top.at ahead.count }) frames into way at_node (omega arith) first e in
+    let at_node = subst (λ z. IsPaid d (loads + 34 * ahead.count) (entries + ahead.count) more (let x : PathNode = record top { slot = z } in x) frames) (gap_before_place d top.count top.slot ahead.count come) behind in
+    let (low, spare) = paid_push d (loads + 34 * ahead.count) (entries + ahead.count) 26 more (record top { slot = place_ahead d top.slot ahead.count }) frames into way at_node (omega arith) first e in
     (omega (arith, low, few, less, small, one), omega (arith, spare, one))
 
 -- So many entries were loaded, and no more of leaves than the limit asks for and one; and some of these were touched and read. The walk
@@ -630,22 +630,22 @@ module _ (d : Direction) (m : ℕ) (key : Key) where
   beyond_stable : (r gap : ℕ) → IsStable (λ s. IsPastKey d s m key r gap)
   beyond_stable r gap a b grown h = beyond_grown d a b grown m r gap key h
 
-  pub beyond_append : {k : Known} (xs : List PathNode) (x : PathNode) → ArePastKey d k m key xs → Sure k (λ s. IsPastKey d s m key x.number (gap_behind d x.at)) → ArePastKey d k m key (xs ++ x ∷ [])
+  pub beyond_append : {k : Known} (xs : List PathNode) (x : PathNode) → ArePastKey d k m key xs → Sure k (λ s. IsPastKey d s m key x.number (gap_behind d x.slot)) → ArePastKey d k m key (xs ++ x ∷ [])
   beyond_append [] x beyond last = (last, tt)
   beyond_append (y ∷ xs) x (first, beyond) last = (first, beyond_append xs x beyond last)
 
-  pub beyond_parts : {k : Known} (xs : List PathNode) (x : PathNode) → ArePastKey d k m key (xs ++ x ∷ []) → ArePastKey d k m key xs × Sure k (λ s. IsPastKey d s m key x.number (gap_behind d x.at))
+  pub beyond_parts : {k : Known} (xs : List PathNode) (x : PathNode) → ArePastKey d k m key (xs ++ x ∷ []) → ArePastKey d k m key xs × Sure k (λ s. IsPastKey d s m key x.number (gap_behind d x.slot))
   beyond_parts [] x (last, beyond) = (tt, last)
   beyond_parts (y ∷ xs) x (first, beyond) = let o = beyond_parts xs x beyond in ((first, o.0), o.1)
 
   are_beyond_later : {k j : Known} → IsLater k j → (xs : List PathNode) → ArePastKey d k m key xs → ArePastKey d j m key xs
   are_beyond_later l [] beyond = tt
   are_beyond_later l (x ∷ xs) (first, beyond) =
-      (sure_later {P = λ s. IsPastKey d s m key x.number (gap_behind d x.at)} (beyond_stable x.number (gap_behind d x.at)) l first, are_beyond_later l xs beyond)
+      (sure_later {P = λ s. IsPastKey d s m key x.number (gap_behind d x.slot)} (beyond_stable x.number (gap_behind d x.slot)) l first, are_beyond_later l xs beyond)
 
   pub bound_later : {k j : Known} {top : PathNode} {frames : List PathNode} → IsLater k j → IsBound d k m key top frames → IsBound d j m key top frames
   bound_later {top = top} {frames = frames} l f = record {
-    there = sure_later {P = λ s. IsPastKey d s m key top.number top.at} (beyond_stable top.number top.at) l f.there;
+    there = sure_later {P = λ s. IsPastKey d s m key top.number top.slot} (beyond_stable top.number top.slot) l f.there;
     above = are_beyond_later l frames f.above;
   }
 
@@ -653,41 +653,41 @@ module _ (d : Direction) (m : ℕ) (key : Key) where
   bound_since {k} {top} {frames} e = subst (λ z. IsBound d k z key top frames) (sym e)
 
   -- before the entry at a place
-  module _ {k : Known} (at : PathNode) {frames : List PathNode} (f : IsBound d k m key (record at { at = gap_before d at.at }) frames) where
-    bound_behind : Sure k (λ s. IsPastKey d s m key at.number (gap_behind d at.at))
-    bound_behind c lawful known = beyond_behind d (seen c k) m at.number at.at key (f.there c lawful known)
+  module _ {k : Known} (at : PathNode) {frames : List PathNode} (f : IsBound d k m key (record at { slot = gap_before d at.slot }) frames) where
+    bound_behind : Sure k (λ s. IsPastKey d s m key at.number (gap_behind d at.slot))
+    bound_behind c lawful known = beyond_behind d (seen c k) m at.number at.slot key (f.there c lawful known)
 
-    pub bound_next : IsBound d k m key (record at { at = gap_behind d at.at }) frames
+    pub bound_next : IsBound d k m key (record at { slot = gap_behind d at.slot }) frames
     bound_next = record { there = bound_behind; above = f.above }
 
-    pub bound_push : (number height : ℕ) → Sure k (λ s. IsPlaced s m at.number at.at (Node number height)) → (into : PathNode) → into.number ≡ number → into.at ≡ first_gap d into.count → (more : List PathNode) →
+    pub bound_push : (number height : ℕ) → Sure k (λ s. IsPlaced s m at.number at.slot (Node number height)) → (into : PathNode) → into.number ≡ number → into.slot ≡ first_gap d into.count → (more : List PathNode) →
         more ≡ frames ++ at ∷ [] → IsBound d k m key into more
     bound_push number height placed into same first more e = record {
-      there = λ c lawful known. subst (λ n. IsPastKey d (seen c k) m key n into.at) (sym same) (subst (λ n. IsPastKey d (seen c k) m key number n) (sym first)
-          (beyond_in_child d (seen c k) m at.number at.at number height into.count key (placed c lawful known) (f.there c lawful known)));
+      there = λ c lawful known. subst (λ n. IsPastKey d (seen c k) m key n into.slot) (sym same) (subst (λ n. IsPastKey d (seen c k) m key number n) (sym first)
+          (beyond_in_child d (seen c k) m at.number at.slot number height into.count key (placed c lawful known) (f.there c lawful known)));
       above = subst (ArePastKey d k m key) (sym e) (beyond_append frames at f.above bound_behind);
     }
 
     -- a leaf that stands there
-    pub bound_leaf : {layout : Layout} (number : ℕ) → IsPinnedSince k m → Sure k (λ s. IsPlaced s m at.number at.at (Leaf number)) → IsReached d layout k m key number
+    pub bound_leaf : {layout : Layout} (number : ℕ) → IsPinnedSince k m → Sure k (λ s. IsPlaced s m at.number at.slot (Leaf number)) → IsReached d layout k m key number
     bound_leaf number pinned placed j l possible z value read =
         let c = possible.core in let r = recalls c j possible.knows in
         let steady = seen_steady possible.lawful r (since_later l pinned) in
-        let placed_then = sure_later (placed_stable m at.number at.at (Leaf number)) l placed in
-        no_later d z (beyond_at_place d (seen c k) m at.number at.at key z (f.there c possible.lawful (recalls_before l r)) (seen c j) (seen_grown c l) steady
-        (leaf_may_stand (seen c j) m steady at.number at.at number z value (placed_then c possible.lawful r) (read c possible.lawful r)))
+        let placed_then = sure_later (placed_stable m at.number at.slot (Leaf number)) l placed in
+        no_later d z (beyond_at_place d (seen c k) m at.number at.slot key z (f.there c possible.lawful (recalls_before l r)) (seen c j) (seen_grown c l) steady
+        (leaf_may_stand (seen c j) m steady at.number at.slot number z value (placed_then c possible.lawful r) (read c possible.lawful r)))
       where
         no_later : (d : Direction) (z : Key) → IsEarlier d key z → IsNoLater d key z
         no_later Upwards z low = inr low
         no_later Downwards z high = inr high
 
-  pub bound_pop : {k : Known} {top : PathNode} {frames : List PathNode} → IsBound d k m key top frames → (lower : PathNode) (rest : List PathNode) → frames ≡ rest ++ lower ∷ [] → IsBound d k m key (record lower { at = gap_behind d lower.at }) rest
+  pub bound_pop : {k : Known} {top : PathNode} {frames : List PathNode} → IsBound d k m key top frames → (lower : PathNode) (rest : List PathNode) → frames ≡ rest ++ lower ∷ [] → IsBound d k m key (record lower { slot = gap_behind d lower.slot }) rest
   bound_pop {k} f lower rest e = let o = beyond_parts rest lower (subst (ArePastKey d k m key) e f.above) in record { there = o.1; above = o.0 }
 
 -- What a step of a walk leaves
 
-pub entered_first : {d : Direction} {k : Known} {m n h : ℕ} {top : PathNode} → IsEntered d k m n h top → top.at ≡ first_gap d top.count
-entered_first {d} e = subst (λ (z : PathNode). z.at ≡ first_gap d z.count) (sym e.top_is) refl
+pub entered_first : {d : Direction} {k : Known} {m n h : ℕ} {top : PathNode} → IsEntered d k m n h top → top.slot ≡ first_gap d top.count
+entered_first {d} e = subst (λ (z : PathNode). z.slot ≡ first_gap d z.count) (sym e.top_is) refl
 
 pub entered_number : {d : Direction} {k : Known} {m n h : ℕ} {top : PathNode} → IsEntered d k m n h top → top.number ≡ n
 entered_number e = ap (λ (z : PathNode). z.number) e.top_is

@@ -11,13 +11,13 @@ use Rattle.version_laws.specs.Directions.{IsEarlier, IsNoLater, IsPastKey, first
 use Rattle.rowex_scanning.specs.Scanning.{HasTaken, IsBound, IsBoundWalk, IsWalk, Request}
 use Rattle.rowex_scanning.specs.Tallies.{Tally}
 use Rattle.rowex_scanning.specs.declared.ahead.Ahead.{Ahead}
-use Rattle.version_laws.specs.declared.direction.Direction.{Direction}
-use Rattle.rowex_scanning.specs.declared.scanning.Verdict.{Verdict}
-use Rattle.rowex_scanning.specs.declared.scanning.Verdict.TheVariants.{Further, Past as IsPast, Full}
+use Rattle.packed_pairs.specs.declared.direction.Direction.{Direction}
+use Rattle.rowex_scanning.specs.declared.scan.Verdict.{Verdict}
+use Rattle.rowex_scanning.specs.declared.scan.Verdict.TheVariants.{Further, Past as IsPast, Full}
 
 -- the node has entries at all places that are to come
 abbrev pub HasPlaces : Direction → Known → ℕ → PathNode → Type 0
-HasPlaces d k m top = (i : ℕ) → i < to_come d top.count top.at → HasPlace k m top.number top.height (place_ahead d top.at i)
+HasPlaces d k m top = (i : ℕ) → i < to_come d top.count top.slot → HasPlace k m top.number top.height (place_ahead d top.slot i)
 
 -- how many entries were looked at
 abbrev pub entries_ahead : Ahead → ℕ
@@ -25,22 +25,22 @@ entries_ahead a = a.count + length (option_to_list a.node)
 
 -- the pass is sure that these leaves stood at the next places, in this order,
 abbrev pub AreAhead : Direction → Known → ℕ → PathNode → ℕ → List ℕ → Type 0
-AreAhead d k m top count leaves = (i : ℕ) → i < count → Sure k (λ s. IsPlaced s m top.number (place_ahead d top.at i) (Leaf (slice_index leaves i)))
+AreAhead d k m top count leaves = (i : ℕ) → i < count → Sure k (λ s. IsPlaced s m top.number (place_ahead d top.slot i) (Leaf (slice_index leaves i)))
 
 -- and this node, which is lower, behind so many of them
 abbrev pub IsNodeAhead : Direction → Known → ℕ → PathNode → ℕ → ℕ → Type 0
-IsNodeAhead d k m top count n = (h : ℕ) × (h < top.height) × Sure k (λ s. IsPlaced s m top.number (place_ahead d top.at count) (Node n h))
+IsNodeAhead d k m top count n = (h : ℕ) × (h < top.height) × Sure k (λ s. IsPlaced s m top.number (place_ahead d top.slot count) (Node n h))
 
--- The entries at the next places were those of the first of these leaves, and then of this node, if there is one.
-pub record HasSeenAhead (d : Direction) (k : Known) (m : ℕ) (top : PathNode) (leaves : List ℕ) (a : Ahead) : Type 0 where
-  pub first : AreAhead d k m top a.count leaves
+-- The entries at the next places were those of the first leaves, so many, and then of the node, if there is one.
+pub record HasSeenAhead (d : Direction) (k : Known) (m : ℕ) (top : PathNode) (a : Ahead) : Type 0 where
+  pub first : AreAhead d k m top a.count a.leaves
   pub node : IfSome a.node (IsNodeAhead d k m top a.count)
 
 -- From a gap of this node, with so many pairs, the walk has passed so many leaves: it stands behind them, with their pairs.
 pub record HavePassed (k : Known) (m : ℕ) (r : Request) (frames : List PathNode) (top : PathNode) (size count : ℕ) (t : Tally) : Type 0 where
   pub more : t.size ≡ size + count
-  pub walk : IsWalk k m r (record top { at = gap_after r.0 top.at count }) frames t
-  pub bound : IsBound r.0 k m (first_key r.0 r.1) (record top { at = gap_after r.0 top.at count }) frames
+  pub walk : IsWalk k m r (record top { slot = gap_after r.0 top.slot count }) frames t
+  pub bound : IsBound r.0 k m (first_key r.0 r.1) (record top { slot = gap_after r.0 top.slot count }) frames
 
 -- What became of a scan at some leaves: it has passed all of them; or it has ended at one, and there is a further key or not.
 abbrev pub AreTaken : Type 0 → (Bool → Type 0) → Verdict → Type 0
@@ -52,7 +52,7 @@ AreTaken Passed Ended Full = Ended true
 pub record AreNext (k : Known) (r : Request) (top : PathNode) (frames : List PathNode) (t : Tally) (leaves : List ℕ) : Type 0 where
   pub bound : IsBoundWalk k (since k) r top frames t
   pub ahead : AreAhead r.0 k (since k) top (length leaves) leaves
-  pub come : length leaves ≤ to_come r.0 top.count top.at
+  pub come : length leaves ≤ to_come r.0 top.count top.slot
 
 -- What became of these leaves on each way on which they came next, since the last load of the root.
 abbrev pub AreTakenOnWays : Known → Known → Request → Tally → List ℕ → Tally → Verdict → Type 0
@@ -63,9 +63,9 @@ AreTakenOnWays k j r t leaves u verdict =
 -- These leaves come next at a gap of this node, and what stands behind it comes later than the range's first key.
 pub record AreBehindGap (k : Known) (r : Request) (top : PathNode) (leaves : List ℕ) : Type 0 where
   pub pinned : IsPinnedSince k (since k)
-  pub there : Sure k (λ s. IsPastKey r.0 s (since k) (first_key r.0 r.1) top.number top.at)
+  pub there : Sure k (λ s. IsPastKey r.0 s (since k) (first_key r.0 r.1) top.number top.slot)
   pub ahead : AreAhead r.0 k (since k) top (length leaves) leaves
-  pub come : length leaves ≤ to_come r.0 top.count top.at
+  pub come : length leaves ≤ to_come r.0 top.count top.slot
 
 -- the pass is sure that the keys of the first of these leaves belong to the range, whatever they are,
 abbrev pub AreWithin : Known → ℕ → Range → List ℕ → ℕ → Type 0

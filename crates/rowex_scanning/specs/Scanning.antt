@@ -13,11 +13,11 @@ use Rattle.rowex_table.specs.Made.{IsLater}
 use Rattle.rowex_reading.specs.Possible.{IsPossible}
 use Rattle.rowex_reading.specs.Seen.{IsLedTo, Sure, since}
 use Rattle.version_laws.specs.Directions.{IsAnswer, IsPastKey, IsEarlier, IsNoLater, first_gap, first_key, gap_behind, last_key}
-use Rattle.version_laws.specs.declared.direction.Direction.{Direction}
-use Rattle.rowex_scanning.specs.Tallies.{AreTallied, IsKept, IsOneMore, IsTalliedScan, Tally, tally_of_pairs}
-use Rattle.rowex_scanning.specs.declared.scanning.Range.{Range as Asked}
-use Rattle.rowex_scanning.specs.declared.scanning.Verdict.{Verdict}
-use Rattle.rowex_scanning.specs.declared.scanning.Verdict.TheVariants.{Further, Past as IsPast, Full}
+use Rattle.packed_pairs.specs.declared.direction.Direction.{Direction}
+use Rattle.rowex_scanning.specs.Tallies.{AreTallied, IsKept, IsOneMore, IsTalliedScan, Tally}
+use Rattle.rowex_scanning.specs.declared.scan.Range.{Range as Asked}
+use Rattle.rowex_scanning.specs.declared.scan.Verdict.{Verdict}
+use Rattle.rowex_scanning.specs.declared.scan.Verdict.TheVariants.{Further, Past as IsPast, Full}
 
 abbrev pub asked_range : Asked → Range
 asked_range r = record { from = r.from.now; upto = r.upto.now; limit = r.limit }
@@ -89,7 +89,7 @@ IsReached d layout k m first number =
 
 -- a node on the way of a walk, without its forks
 abbrev pub frame : Stage → PathNode
-frame f = record { number = f.number; height = f.height; first_position = first_position f.shape; count = size f.shape; at = f.place }
+frame f = record { number = f.number; height = f.height; first_position = first_position f.shape; count = size f.shape; slot = f.place }
 
 -- the way, from the root on
 abbrev pub frames_of : List Stage → List PathNode
@@ -123,11 +123,11 @@ pub record IsWalk (k : Known) (m : ℕ) (r : Request) (top : PathNode) (frames :
 -- The pass is sure that all keys that stand behind the places of these frames come later than this one,
 abbrev pub ArePastKey : Direction → Known → ℕ → Key → List PathNode → Type 0
 ArePastKey d k m key [] = Unit {0}
-ArePastKey d k m key (f ∷ fs) = Sure k (λ s. IsPastKey d s m key f.number (gap_behind d f.at)) × ArePastKey d k m key fs
+ArePastKey d k m key (f ∷ fs) = Sure k (λ s. IsPastKey d s m key f.number (gap_behind d f.slot)) × ArePastKey d k m key fs
 
 -- and those behind the gap of the topmost frame.
 pub record IsBound (d : Direction) (k : Known) (m : ℕ) (key : Key) (top : PathNode) (frames : List PathNode) : Type 0 where
-  pub there : Sure k (λ s. IsPastKey d s m key top.number top.at)
+  pub there : Sure k (λ s. IsPastKey d s m key top.number top.slot)
   pub above : ArePastKey d k m key frames
 
 -- The walk is at a gap of this node on this way, with such pairs so far; and what stands behind it comes later than the range's first key.

@@ -1,5 +1,5 @@
 -- Where a scan starts.
-use Rattle.std.specs.Prelude.{◌≡◌, ◌⊎◌, ℕ, suc, ◌+◌, ◌<◌, List, [], length, take, slice_get, MatchBool, Some, false}
+use Rattle.std.specs.Prelude.{◌≡◌, ◌⊎◌, ℕ, suc, ◌+◌, ◌<◌, List, length, take, slice_get, MatchBool, Some, false}
 use Rattle.compound_node.specs.declared.entries.Entry.TheVariants.{Leaf}
 use Rattle.insert_cases.specs.declared.choice.PathNode.{PathNode}
 use Rattle.tries.specs.Keys.{Key, IsBefore}
@@ -9,8 +9,8 @@ use Rattle.rowex_reading.specs.Seen.{Sure}
 use Rattle.version_laws.specs.Directions.{IsNoLater, IsPastKey, first_key, gap_before, gap_behind}
 use Rattle.rowex_scanning.specs.Scanning.{ArePastKey, IsBound, IsWalk}
 use Rattle.rowex_scanning.specs.Tallies.{tally_of_number}
-use Rattle.version_laws.specs.declared.direction.Direction.{Direction}
-use Rattle.version_laws.specs.declared.direction.Direction.TheVariants.{Upwards, Downwards}
+use Rattle.packed_pairs.specs.declared.direction.Direction.{Direction}
+use Rattle.packed_pairs.specs.declared.direction.Direction.TheVariants.{Upwards, Downwards}
 use Rattle.record_words.specs.declared.layout.Layout.{Layout}
 use Rattle.rowex_reading.specs.Ways.{IsWayOf}
 use Rattle.rowex_reading.specs.declared.descent.Found.TheVariants.{Leaf as FoundLeaf}
@@ -26,11 +26,11 @@ IsSearchEnd layout k m key way found = (0 < length way) × (value : ℕ) × IsWa
 pub record IsFirst (d : Direction) (k : Known) (m : ℕ) (key : Key) (number : ℕ) (top : PathNode) (frames : List PathNode) : Type 0 where
   pub found : Key
   pub value : ℕ
-  pub inside : top.at < top.count
-  pub placed : Sure k (λ s. IsPlaced s m top.number top.at (Leaf number))
+  pub inside : top.slot < top.count
+  pub placed : Sure k (λ s. IsPlaced s m top.number top.slot (Leaf number))
   pub read : Sure k (λ s. IsRead s m number found value)
   pub reached : IsNoLater d key found
-  pub bound : IsBound d k m key (record top { at = gap_behind d top.at }) frames
+  pub bound : IsBound d k m key (record top { slot = gap_behind d top.slot }) frames
 
 -- the walk of any scan that starts at the key, with no pairs so far
 abbrev pub IsWalkFrom : Direction → Known → ℕ → Key → PathNode → List PathNode → Type 0
@@ -39,7 +39,7 @@ IsWalkFrom d k m key top frames = (g : Range) → first_key d g ≡ key → IsWa
 -- The scan starts before the leaf at which the search has ended, or at a gap.
 abbrev pub IsBegun : Direction → Known → ℕ → Key → ℕ → List PathNode → Start → Type 0
 IsBegun d k m key number frames start = MatchBool start.leaf
-    (IsFirst d k m key number start.top frames × IsWalkFrom d k m key (record start.top { at = gap_before d start.top.at }) frames)
+    (IsFirst d k m key number start.top frames × IsWalkFrom d k m key (record start.top { slot = gap_before d start.top.slot }) frames)
     (IsBound d k m key start.top frames × IsWalkFrom d k m key start.top frames)
 
 -- Where a scan from the key starts on the way of the key's search, which has ended at this leaf.
@@ -53,16 +53,16 @@ pub record IsBehindLeaf (k : Known) (m : ℕ) (key : Key) (way : List PathNode) 
   pub last : start.level + 1 ≡ length way
   pub step : PathNode
   pub there : slice_get way start.level ≡ Some step
-  pub behind : start.top.at ≡ suc step.at
+  pub behind : start.top.slot ≡ suc step.slot
   pub found : Key
   pub value : ℕ
   pub read : Sure k (λ s. IsRead s m number found value)
   pub low : IsBefore found key
-  pub beneath : Sure k (λ s. IsPastKey Downwards s m key step.number step.at)
+  pub beneath : Sure k (λ s. IsPastKey Downwards s m key step.number step.slot)
 
 -- Where a scan upwards starts, and what stands left of there: all of it is below the key, or the leaf is between.
 pub record IsParting (k : Known) (m : ℕ) (key : Key) (way : List PathNode) (number : ℕ) (start : Start) : Type 0 where
   pub upwards : IsStart Upwards k m key way number start
-  pub of_way : (s : PathNode) → slice_get way start.level ≡ Some s → start.top ≡ record s { at = start.top.at }
+  pub of_way : (s : PathNode) → slice_get way start.level ≡ Some s → start.top ≡ record s { slot = start.top.slot }
   pub left : ArePastKey Downwards k m key (take start.level way)
-  pub side : Sure k (λ s. IsPastKey Downwards s m key start.top.number start.top.at) ⊎ IsBehindLeaf k m key way number start
+  pub side : Sure k (λ s. IsPastKey Downwards s m key start.top.number start.top.slot) ⊎ IsBehindLeaf k m key way number start

@@ -4,7 +4,7 @@ use Rattle.tries.specs.Keys.{Key}
 use Rattle.versions.specs.State.{Past}
 use Rattle.version_laws.specs.Scan.{Pair, Range, Frame as Stage, in_order_taken}
 use Rattle.version_laws.specs.Directions.{IsScanBy}
-use Rattle.version_laws.specs.declared.direction.Direction.{Direction}
+use Rattle.packed_pairs.specs.declared.direction.Direction.{Direction}
 
 -- How many pairs were taken, and what is said of them; the newest one stands first.
 pub record Tally : Type 1 where

@@ -5,17 +5,17 @@ ghost use Rattle.rowex_reading.specs.Reads.{IsReader, Reads};
 ghost use Rattle.rowex_scanning.specs.Ahead.{HasPlaces, HasSeenAhead, entries_ahead};
 ghost use Rattle.rowex_core.specs.Cores.{HasRecord};
 ghost use Rattle.version_laws.specs.Directions.{to_come as to_come_of};
-ghost use Rattle.versions.specs.declared.Rec.TheVariants.{Leaf as a_leaf};
+ghost use Rattle.record_words.specs.declared.records.Rec.TheVariants.{Leaf as a_leaf};
 
 use crate::direction::{entries_to_come, slot_ahead};
-use crate::scanning::Scan;
-use crate::sinks::Tallies;
+use crate::scan::Scan;
+use crate::tallies::Tallies;
 use compound_node::Entry;
 use insert_cases::PathNode;
 use record_words::{Origins, VALUE_OFFSET};
 use rowex_core::{Gate, Rec};
 use rowex_reading::load_entry;
-use rowex_table::{HotTable, NodeAt, TableSeat};
+use rowex_table::{HotTable, RecordAt, TableSeat};
 
 /// How many slots of a node a walk looks at together, at most.
 pub(crate) const MOST_AHEAD: u8 = 16;
@@ -29,7 +29,9 @@ const LEAST_PAIRS: usize = 4;
 /// What comes next in a node.
 #[derive(Clone, Copy)]
 pub(crate) struct Ahead {
-    /// How many leaves come first.
+    /// The numbers of the leaves that come first, and 0 behind them.
+    pub leaves: [u32; MOST_AHEAD as usize],
+    /// How many these are.
     pub count: u8,
     /// The node behind them, if it was looked at.
     pub node: Option<u32>,
@@ -54,9 +56,9 @@ fn most_slots(limit: usize, taken: usize) -> u8
     }
 }
 
-/// Loads the entries in the next slots of the node `top`, up to the first that leads to a node. It looks at [`most_slots`] slots, or
-/// fewer if fewer are to come. The leaves' numbers go to the first of `leaves`. Returns how many leaves these are, and that node, if there is
-/// one. `sink` has the pairs so far.
+/// Loads the entries in the next slots of the node `top`, in the scan's direction, up to the first that leads to a node. It looks at
+/// [`most_slots`] slots, or fewer if fewer are to come, but one at least. The leaves' numbers go to the first of `leaves`. Returns how many
+/// leaves these are, and that node, if there is one. `sink` has the pairs so far.
 #[inline(always)]
 pub(crate) fn load_entries_ahead<G: Gate, S: Tallies>(
     scan: &Scan,
@@ -64,36 +66,34 @@ pub(crate) fn load_entries_ahead<G: Gate, S: Tallies>(
     gate: &mut G,
     top: &PathNode,
     sink: &S,
-    leaves: &mut [u32; MOST_AHEAD as usize],
 ) -> Ahead
     requires reader { IsReader scan.now.table.now seat.old }
     requires origins { scan.now.origins.now.layout ≡ scan.now.table.now.layout }
-    requires fits { top.now.at ≤ top.now.count }
-    requires come { 0 < to_come_of scan.now.range.now.direction top.now.count top.now.at }
+    requires fits { top.now.slot ≤ top.now.count }
+    requires come { 0 < to_come_of scan.now.range.now.direction top.now.count top.now.slot }
     requires limit { (S.tally sink.now).size ≤ scan.now.range.now.limit }
     requires places { (m : ℕ) × HasPlaces scan.now.range.now.direction seat.old.known m top.now }
     ensures reads { (n : ℕ) × (n ≤ entries_ahead result + result.count) ×
         Reads scan.now.table.now G.becomes (entries_ahead result) n (seat.old, gate.old) (seat.new, gate.new) }
     ensures some { 0 < entries_ahead result }
-    ensures come { entries_ahead result ≤ to_come_of scan.now.range.now.direction top.now.count top.now.at }
-    ensures most { result.count ≤ MOST_AHEAD }
+    ensures come { entries_ahead result ≤ to_come_of scan.now.range.now.direction top.now.count top.now.slot }
+    ensures most { (result.count ≤ MOST_AHEAD) × (length result.leaves ≡ MOST_AHEAD) }
     ensures few { (S.tally sink.now).size + entries_ahead result ≤ scan.now.range.now.limit + 1 }
     ensures ahead { (m : ℕ) → HasPlaces scan.now.range.now.direction seat.old.known m top.now →
-        HasSeenAhead scan.now.range.now.direction seat.new.known m top.now leaves.new result }
+        HasSeenAhead scan.now.range.now.direction seat.new.known m top.now result }
 {
     let count = entries_to_come(scan.range.direction, top).min(most_slots(
         scan.range.limit,
         sink.size(),
     ));
-    let node = NodeAt {
-        number: top.number,
-        start: scan.origins.start_of_node(top.number),
-    };
+    let node = RecordAt::find(scan.origins, Rec::Node(top.number));
+    let mut leaves = [0; MOST_AHEAD as usize];
     for index in 0..count {
-        let place = slot_ahead(scan.range.direction, *top, index);
-        match load_entry(scan.table, seat, gate, node, place) {
+        let slot = slot_ahead(scan.range.direction, *top, index);
+        match load_entry(scan.table, seat, gate, node, slot) {
             Entry::Node { number, .. } => {
                 return Ahead {
+                    leaves,
                     count: index,
                     node: Some(number),
                 };
@@ -103,7 +103,11 @@ pub(crate) fn load_entries_ahead<G: Gate, S: Tallies>(
             }
         }
     }
-    Ahead { count, node: None }
+    Ahead {
+        leaves,
+        count,
+        node: None,
+    }
 }
 
 /// Asks for the cache lines of `leaves`, which are read next, so that they come side by side.
@@ -132,8 +136,8 @@ fn touch_leaf(table: &HotTable, origins: &Origins, number: u32)
     requires range { HasRecord table.now.layout (a_leaf number) }
     requires origins { origins.now.layout ≡ table.now.layout }
 {
-    let (rec, start) = (Rec::Leaf(number), origins.start_of_leaf(number));
+    let leaf = RecordAt::find(origins, Rec::Leaf(number));
     let last = origins.layout.leaf_size(number) - 1;
-    table.touch(rec, start, VALUE_OFFSET);
-    table.touch(rec, start, last as u8);
+    table.touch(leaf, VALUE_OFFSET);
+    table.touch(leaf, last as u8);
 }

@@ -14,14 +14,16 @@ ghost use Rattle.rowex_scanning.specs.Scanning.{HasTaken, asked_range, request_o
 ghost use Rattle.rowex_scanning.specs.Tallies.{tally_of_number};
 ghost use Rattle.rowex_table.specs.Seats.{IsSeatOf};
 
-use crate::scanning::{Range, Scan, Verdict, is_past_range, walk_root};
-use crate::sinks::{Sink, Tallies};
+use crate::scan::{Range, Scan, Verdict, is_past_range};
+use crate::scanning::walk_root;
+use crate::sinks::Sink;
+use crate::tallies::Tallies;
 use arrayvec::ArrayVec;
 use insert_cases::PathNode;
 use key_bits::MAX_BYTES;
-use rowex_core::Gate;
+use rowex_core::{Gate, Rec};
 use rowex_reading::{MOST_NODES, load_leaf};
-use rowex_table::{HotTable, LeafAt, TableSeat};
+use rowex_table::{HotTable, RecordAt, TableSeat};
 use std::alloc::AllocError;
 
 /// How many pairs a walk has taken, and nothing else of them.
@@ -164,8 +166,7 @@ fn is_leaf_past<G: Gate>(
     ensures past { IsTrue result → (m : ℕ) → IsLedTo seat.old.known m (LeafEntry number) → IsLeafPast seat.new.known m (request_of scan.now.range.now) number }
     ensures not_past { result ≡ false → (m : ℕ) → IsLedTo seat.old.known m (LeafEntry number) → IsLeafNotPast seat.new.known m (request_of scan.now.range.now) number }
 {
-    let start = scan.origins.start_of_leaf(number);
-    let leaf = LeafAt { number, start };
+    let leaf = RecordAt::find(scan.origins, Rec::Leaf(number));
     let (length, _) = load_leaf(scan.table, seat, gate, leaf, places);
     is_past_range(scan.range, &places[..length])
 }

@@ -8,55 +8,55 @@ ghost use Rattle.version_laws.specs.Directions.{IsEarlier, IsNoLater};
 ghost use Rattle.version_laws.specs.Directions.{gap_behind as gap_behind_of, first_gap as first_gap_of, gap_after as gap_after_of, place_ahead as place_ahead_of, to_come as to_come_of};
 
 use insert_cases::PathNode;
-use version_laws::Direction;
+use packed_pairs::Direction;
 
-/// How many entries are to come in the node `top`, for a walk in the direction `direction` that stands at its gap `top.at`.
+/// How many entries are to come in the node `top`, for a walk in the direction `direction` that stands at its gap `top.slot`.
 #[inline(always)]
 pub(crate) fn entries_to_come(direction: Direction, top: &PathNode) -> u8
-    requires { top.now.at ≤ top.now.count }
-    ensures { result ≡ to_come_of direction top.now.count top.now.at }
+    requires { top.now.slot ≤ top.now.count }
+    ensures { result ≡ to_come_of direction top.now.count top.now.slot }
 {
     match direction {
-        Direction::Upwards => top.count - top.at,
-        Direction::Downwards => top.at,
+        Direction::Upwards => top.count - top.slot,
+        Direction::Downwards => top.slot,
     }
 }
 
 /// The gap at which a walk in the direction `direction` stands in the node `top` after the next `entries` entries.
 #[inline(always)]
 pub(crate) fn gap_after_entries(direction: Direction, top: PathNode, entries: u8) -> u8
-    requires fits { top.at ≤ top.count }
-    requires come { entries ≤ to_come_of direction top.count top.at }
-    ensures { result ≡ gap_after_of direction top.at entries }
+    requires fits { top.slot ≤ top.count }
+    requires come { entries ≤ to_come_of direction top.count top.slot }
+    ensures { result ≡ gap_after_of direction top.slot entries }
 {
     match direction {
-        Direction::Upwards => top.at + entries,
-        Direction::Downwards => top.at - entries,
+        Direction::Upwards => top.slot + entries,
+        Direction::Downwards => top.slot - entries,
     }
 }
 
 /// The slot in the node `top` of the entry that comes after the next `entries` ones, for a walk in the direction `direction`.
 #[inline(always)]
 pub(crate) fn slot_ahead(direction: Direction, top: PathNode, entries: u8) -> u8
-    requires fits { top.at ≤ top.count }
-    requires come { entries < to_come_of direction top.count top.at }
-    ensures { result ≡ place_ahead_of direction top.at entries }
+    requires fits { top.slot ≤ top.count }
+    requires come { entries < to_come_of direction top.count top.slot }
+    ensures { result ≡ place_ahead_of direction top.slot entries }
 {
     match direction {
-        Direction::Upwards => top.at + entries,
-        Direction::Downwards => top.at - entries - 1,
+        Direction::Upwards => top.slot + entries,
+        Direction::Downwards => top.slot - entries - 1,
     }
 }
 
-/// The gap at which a walk in the direction `direction` stands after the entry in slot `place`.
+/// The gap at which a walk in the direction `direction` stands after the entry in `slot`.
 #[inline(always)]
-pub(crate) fn gap_behind_slot(direction: Direction, place: u8) -> u8
-    requires { place < 32 }
-    ensures { result ≡ gap_behind_of direction place }
+pub(crate) fn gap_behind_slot(direction: Direction, slot: u8) -> u8
+    requires { slot < 32 }
+    ensures { result ≡ gap_behind_of direction slot }
 {
     match direction {
-        Direction::Upwards => place + 1,
-        Direction::Downwards => place,
+        Direction::Upwards => slot + 1,
+        Direction::Downwards => slot,
     }
 }
 

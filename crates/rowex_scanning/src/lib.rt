@@ -5,10 +5,14 @@
 mod ahead;
 mod counting;
 mod direction;
+mod scan;
 mod scanning;
 mod sinks;
 mod start;
+mod taking;
+mod tallies;
 
 pub use counting::count_root;
-pub use scanning::{Range, scan_root, scan_values};
-pub use version_laws::Direction;
+pub use packed_pairs::Direction;
+pub use scan::Range;
+pub use scanning::{scan_root, scan_values};

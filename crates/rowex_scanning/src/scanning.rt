@@ -1,75 +1,37 @@
 //! The walk of a scan: the pairs of a range of keys, in the order of its direction, as a pinned pass reads them.
 
-ghost use Rattle.std.specs.Prelude.{◌≡◌, ◌≢◌, ◌≤◌, ◌<◌, ◌+◌, ◌*◌, ℕ, [], IfOk, IsSome, IsTrue, List, OnErr, false, length, take};
+ghost use Rattle.std.specs.Prelude.{◌≡◌, ◌≤◌, ◌+◌, ℕ, IfOk, IsSome, OnErr, false, length};
 ghost use Rattle.compound_node.specs.declared.entries.Entry.TheVariants.{Leaf as LeafEntry, Node as NodeEntry};
 ghost use Rattle.key_bits.specs.Key.{IsKey};
 ghost use Rattle.key_bits.specs.declared.TheConstants.{MAX_BYTES};
 ghost use Rattle.record_words.specs.declared.TheConstants.{HEAD_WORDS, LEAF_FIELDS};
-ghost use Rattle.record_words.specs.Leaf.{key_word};
 ghost use Rattle.rowex_table.specs.Seats.{IsSeatOf};
 ghost use Rattle.rowex_reading.specs.Reads.{IsReader, Reads};
 ghost use Rattle.rowex_reading.specs.Seen.{IsAtRoot, IsLedTo, since};
 ghost use Rattle.insert_cases.specs.declared.choice.PathNode.{PathNode};
-ghost use Rattle.rowex_scanning.specs.Ahead.{AreNext, AreTakenOnWays};
 ghost use Rattle.rowex_scanning.specs.Starts.{IsSearchEnd};
 ghost use Rattle.rowex_scanning.specs.Counts.{Scans, Walks, scan_loads};
-ghost use Rattle.version_laws.specs.Directions.{IsEarlier, IsNoLater};
 ghost use Rattle.rowex_scanning.specs.Scanning.{HasScanned, HasScannedPart, HasTaken, HasTakenPart};
-ghost use Rattle.rowex_scanning.specs.Scanning.{IsEntered, IsLeafRefused, IsLeafTaken, IsPairRefused, IsPairTaken, IsReached, IsWalkAlong, asked_range, first_key_of, last_key_of, request_of};
+ghost use Rattle.rowex_scanning.specs.Scanning.{IsEntered, IsWalkAlong, asked_range, first_key_of, request_of};
 ghost use Rattle.rowex_scanning.specs.Tallies.{IsNone, tally_of_values};
 
-use crate::ahead::{MOST_AHEAD, load_entries_ahead, touch_leaves};
+use crate::ahead::load_entries_ahead;
 use crate::direction::{
     entries_to_come, first_gap, gap_after_entries, gap_behind_slot, is_earlier_key, is_key_before,
     slot_ahead,
 };
-use crate::sinks::{Sink, Tallies};
+use crate::scan::{Range, Scan, Verdict, first_key};
+use crate::sinks::Sink;
 use crate::start::{SearchEnd, find_start};
+use crate::taking::{take_leaf, take_pair_in_range};
 use arrayvec::ArrayVec;
 use insert_cases::PathNode;
-use key_bits::{Key, MAX_BYTES};
-use packed_pairs::Pairs;
-use record_words::{Origins, key_word_at};
+use key_bits::MAX_BYTES;
+use packed_pairs::{Direction, Pairs};
 use rowex_core::{Gate, Rec};
 use rowex_reading::{Found, MOST_NODES, load_leaf, load_path_node, load_root, search_way};
-use rowex_table::{HotTable, LeafAt, TableSeat};
+use rowex_table::{HotTable, RecordAt, TableSeat};
 use std::alloc::AllocError;
-use version_laws::Direction;
-
-/// What a scan asks for.
-#[derive(Drop)]
-pub struct Range<'a> {
-    /// The first key of the range, which belongs to it.
-    pub from: &'a Key,
-    /// The last key of the range, which belongs to it. Where it is before the first one, the range is empty.
-    pub upto: &'a Key,
-    /// Whether the scan goes from the first key upwards, or from the last one downwards.
-    pub direction: Direction,
-    /// How many pairs the scan gives at most.
-    pub limit: usize,
-}
-
-/// What the walk of a scan reads, and what it asks for.
-#[derive(Drop)]
-pub(crate) struct Scan<'a> {
-    /// The table that it reads.
-    pub table: &'a HotTable,
-    /// Where the table's records begin.
-    pub origins: &'a Origins,
-    /// The range of keys.
-    pub range: &'a Range<'a>,
-}
-
-/// What becomes of a scan at a pair.
-#[derive(Clone, Copy)]
-pub(crate) enum Verdict {
-    /// The scan goes on.
-    Further,
-    /// The key is past the range.
-    Past,
-    /// The pair belongs to the range, and the limit is reached.
-    Full,
-}
 
 /// Lists the first pairs of `range` in its direction, `range.limit` at most, in place of those in `pairs`. Returns whether there is a
 /// further one.
@@ -150,15 +112,15 @@ pub(crate) fn walk_root<G: Gate, S: Sink>(
             mismatch,
             ..
         } => {
+            let origins = table.origins();
+            let scan = Scan {
+                table,
+                origins: &origins,
+                range,
+            };
             if way.len() == 0 {
-                scan_leaf(table, seat, gate, range, number, sink)
+                scan_leaf(&scan, seat, gate, number, sink)
             } else {
-                let origins = table.origins();
-                let scan = Scan {
-                    table,
-                    origins: &origins,
-                    range,
-                };
                 let found = SearchEnd { number, mismatch };
                 scan_node(&scan, seat, gate, way, found, sink)
             }
@@ -166,40 +128,29 @@ pub(crate) fn walk_root<G: Gate, S: Sink>(
     }
 }
 
-/// The key of `range` that comes first in its direction: `range.from` upwards, `range.upto` downwards.
-#[inline(always)]
-pub(crate) fn first_key<'a>(range: &'a Range) -> &'a Key
-    ensures { result.now ≡ first_key_of range.now }
-{
-    match range.direction {
-        Direction::Upwards => range.from,
-        Direction::Downwards => range.upto,
-    }
-}
-
-/// Scans from a root that is leaf `number`: gives its pair to `sink`, if it belongs to `range` and the limit leaves room. Returns whether
+/// Scans from a root that is leaf `number`: gives its pair to `sink`, if it belongs to the range and the limit leaves room. Returns whether
 /// it belongs there and has no room. An error if memory is refused.
 #[inline(always)]
 fn scan_leaf<G: Gate, S: Sink>(
-    table: &HotTable,
+    scan: &Scan,
     seat: &mut TableSeat,
     gate: &mut G,
-    range: &Range,
     number: u32,
     sink: &mut S,
 ) -> Result<bool, AllocError>
-    requires reader { IsReader table.now seat.old }
+    requires reader { IsReader scan.now.table.now seat.old }
+    requires origins { scan.now.origins.now.layout ≡ scan.now.table.now.layout }
     requires root { IsAtRoot seat.old.known (LeafEntry number) }
     requires empty { IsNone (S.tally sink.old) }
-    ensures reads { (n : ℕ) × (n ≤ LEAF_FIELDS) × Reads table.now G.becomes 0 n (seat.old, gate.old) (seat.new, gate.new) }
-    ensures scanned { IfOk result (HasTaken range.now.direction seat.new.known (asked_range range.now) (S.tally sink.new)) }
-    ensures part { OnErr result (HasTakenPart range.now.direction seat.new.known (asked_range range.now) (S.tally sink.new)) }
+    ensures reads { (n : ℕ) × (n ≤ LEAF_FIELDS) × Reads scan.now.table.now G.becomes 0 n (seat.old, gate.old) (seat.new, gate.new) }
+    ensures scanned { IfOk result (HasTaken scan.now.range.now.direction seat.new.known (asked_range scan.now.range.now) (S.tally sink.new)) }
+    ensures part { OnErr result (HasTakenPart scan.now.range.now.direction seat.new.known (asked_range scan.now.range.now) (S.tally sink.new)) }
     ensures refused { OnErr result S.may_refuse }
 {
-    let start = table.start_of(Rec::Leaf(number));
+    let range = scan.range;
     let mut places = [0; MAX_BYTES];
-    let leaf = LeafAt { number, start };
-    let (length, value) = load_leaf(table, seat, gate, leaf, &mut places);
+    let leaf = RecordAt::find(scan.origins, Rec::Leaf(number));
+    let (length, value) = load_leaf(scan.table, seat, gate, leaf, &mut places);
     if is_earlier_key(
         range.direction,
         &places[..length],
@@ -237,30 +188,29 @@ fn scan_node<G: Gate, S: Sink>(
     let start = find_start(scan, seat, gate, way, found);
     let mut top = start.top;
     way.truncate(start.level);
-    let places = &mut [0; MAX_BYTES];
     if start.leaf {
+        let places = &mut [0; MAX_BYTES];
         match take_leaf(scan, seat, gate, found.number, places, sink)? {
-            Verdict::Further => top.at = gap_behind_slot(direction, top.at),
+            Verdict::Further => top.slot = gap_behind_slot(direction, top.slot),
             Verdict::Past => return Ok(false),
             Verdict::Full => return Ok(true),
         }
     }
     way.push(top);
-    walk_slots(scan, seat, gate, way, places, sink)
+    walk_slots(scan, seat, gate, way, sink)
 }
 
-/// Walks over the slots of the last node of `way`, from its gap `at` on, and of the nodes above it, in the scan's direction. Gives the
+/// Walks over the slots of the last node of `way`, from the gap in its `slot` on, and of the nodes above it, in the scan's direction. Gives the
 /// pairs of the range to `sink`, and returns whether there is a further one. An error if memory is refused.
 ///
-/// It looks at several slots together, so that it doesn't wait for each leaf alone. The bytes of each key go to the same `places`,
-/// whatever stands there.
+/// It looks at several slots together, so that it doesn't wait for each leaf alone. The bytes of each key go to the same places, whatever
+/// stands there.
 #[inline(always)]
 fn walk_slots<G: Gate, S: Sink>(
     scan: &Scan,
     seat: &mut TableSeat,
     gate: &mut G,
     way: &mut ArrayVec<PathNode, MOST_NODES>,
-    places: &mut [u8; MAX_BYTES],
     sink: &mut S,
 ) -> Result<bool, AllocError>
     requires reader { IsReader scan.now.table.now seat.old }
@@ -272,14 +222,14 @@ fn walk_slots<G: Gate, S: Sink>(
     ensures refused { OnErr result S.may_refuse }
 {
     let direction = scan.range.direction;
-    let mut leaves = [0; MOST_AHEAD as usize];
+    let places = &mut [0; MAX_BYTES];
     let Some(mut top) = way.pop() else {
         return Ok(false);
     };
     loop {
         if entries_to_come(direction, &top) > 0 {
-            let ahead = load_entries_ahead(scan, seat, gate, &top, sink, &mut leaves);
-            let next = &leaves[..ahead.count as usize];
+            let ahead = load_entries_ahead(scan, seat, gate, &top, sink);
+            let next = &ahead.leaves[..ahead.count as usize];
             match sink.take_leaves(scan, seat, gate, next, places)? {
                 Verdict::Further => (),
                 Verdict::Past => return Ok(false),
@@ -287,49 +237,20 @@ fn walk_slots<G: Gate, S: Sink>(
             }
             match ahead.node {
                 Some(number) => {
-                    top.at = slot_ahead(direction, top, ahead.count);
+                    top.slot = slot_ahead(direction, top, ahead.count);
                     way.push(top);
                     top = enter_node_at_gap(scan.table, seat, gate, direction, number);
                 }
-                None => top.at = gap_after_entries(direction, top, ahead.count),
+                None => top.slot = gap_after_entries(direction, top, ahead.count),
             }
         } else {
             let Some(above) = way.pop() else {
                 return Ok(false);
             };
             top = above;
-            top.at = gap_behind_slot(direction, above.at);
+            top.slot = gap_behind_slot(direction, above.slot);
         }
     }
-}
-
-/// Takes the pairs of `leaves` one by one, as [`Sink::take_leaves`] says. It touches them before.
-#[inline(always)]
-pub(crate) fn take_each_leaf<G: Gate, S: Tallies>(
-    scan: &Scan,
-    seat: &mut TableSeat,
-    gate: &mut G,
-    leaves: &[u32],
-    places: &mut [u8; MAX_BYTES],
-    sink: &mut S,
-) -> Result<Verdict, AllocError>
-    requires reader { IsReader scan.now.table.now seat.old }
-    requires origins { scan.now.origins.now.layout ≡ scan.now.table.now.layout }
-    requires next { (top : PathNode) × (frames : List PathNode) × AreNext seat.old.known (request_of scan.now.range.now) top frames (S.tally sink.old) leaves.now }
-    ensures reads { (n : ℕ) × (n ≤ LEAF_FIELDS * length leaves.now) × Reads scan.now.table.now G.becomes 0 n (seat.old, gate.old) (seat.new, gate.new) }
-    ensures taken { IfOk result (AreTakenOnWays seat.old.known seat.new.known (request_of scan.now.range.now) (S.tally sink.old) leaves.now (S.tally sink.new)) }
-    ensures part { OnErr result (HasTakenPart scan.now.range.now.direction seat.new.known (asked_range scan.now.range.now) (S.tally sink.new)) }
-    ensures refused { OnErr result S.may_refuse }
-{
-    touch_leaves(scan, leaves);
-    for index in 0..leaves.len() {
-        match take_leaf(scan, seat, gate, leaves[index], places, sink)? {
-            Verdict::Further => (),
-            Verdict::Past => return Ok(Verdict::Past),
-            Verdict::Full => return Ok(Verdict::Full),
-        }
-    }
-    Ok(Verdict::Further)
 }
 
 /// Loads the head of node `number`. Returns the node of a walk that stands at the gap before its first entry in the direction `direction`.
@@ -346,99 +267,6 @@ fn enter_node_at_gap<G: Gate>(
     ensures entered { (m h : ℕ) → IsLedTo seat.old.known m (NodeEntry number h) → IsEntered direction seat.new.known m number h result }
 {
     let mut step = load_path_node(table, seat, gate, number);
-    step.at = first_gap(direction, step.count);
+    step.slot = first_gap(direction, step.count);
     step
-}
-
-/// Loads leaf `number`, whose key does not come before `scan.range`, and gives its pair to `sink`, as [`take_pair_in_range`] does. Returns
-/// what becomes of the scan. An error if memory is refused. `places` is room for the key's bytes.
-///
-/// Keys of eight bytes are common: what is compiled for them alone has each as a number.
-#[inline(always)]
-fn take_leaf<G: Gate, S: Tallies>(
-    scan: &Scan,
-    seat: &mut TableSeat,
-    gate: &mut G,
-    number: u32,
-    places: &mut [u8; MAX_BYTES],
-    sink: &mut S,
-) -> Result<Verdict, AllocError>
-    requires reader { IsReader scan.now.table.now seat.old }
-    requires origins { scan.now.origins.now.layout ≡ scan.now.table.now.layout }
-    requires leaf { (m : ℕ) × IsLedTo seat.old.known m (LeafEntry number) ×
-        IsReached scan.now.range.now.direction scan.now.table.now.layout seat.old.known m (first_key_of scan.now.range.now) number }
-    requires few { (S.tally sink.old).size ≤ scan.now.range.now.limit }
-    ensures reads { (n : ℕ) × (n ≤ LEAF_FIELDS) × Reads scan.now.table.now G.becomes 0 n (seat.old, gate.old) (seat.new, gate.new) }
-    ensures taken { IfOk result (IsLeafTaken seat.old.known seat.new.known (request_of scan.now.range.now) number (S.tally sink.old) (S.tally sink.new)) }
-    ensures refused { OnErr result (IsLeafRefused seat.old.known seat.new.known (asked_range scan.now.range.now) number (S.tally sink.old) (S.tally sink.new)) }
-    ensures may { OnErr result S.may_refuse }
-{
-    let start = scan.origins.start_of_leaf(number);
-    let leaf = LeafAt { number, start };
-    let (length, value) = load_leaf(scan.table, seat, gate, leaf, places);
-    if length == 8 {
-        return take_pair_in_range(sink, scan.range, places, 8, value);
-    }
-    take_pair_in_range(sink, scan.range, places, length, value)
-}
-
-/// Gives the pair of `value` and of the key in the first `length` bytes of `places` to `sink`, and returns `Further`. Gives none and returns
-/// `Past` where the key is past `range`, or `Full` where it is of the range and the limit is reached. An error, and none given, if memory
-/// is refused. The key does not come before the range. Inline, so that the key's bytes go at once from where they were read to their place
-/// among the pairs.
-#[inline(always)]
-fn take_pair_in_range<S: Tallies>(
-    sink: &mut S,
-    range: &Range,
-    places: &[u8; MAX_BYTES],
-    length: usize,
-    value: u64,
-) -> Result<Verdict, AllocError>
-    requires key { IsKey (take length places.now) }
-    requires fits { length ≤ MAX_BYTES }
-    requires reached { IsNoLater range.now.direction (first_key_of range.now) (take length places.now) }
-    requires few { (S.tally sink.old).size ≤ range.now.limit }
-    ensures taken { IfOk result (IsPairTaken (request_of range.now) (S.tally sink.old) (take length places.now) value (S.tally sink.new)) }
-    ensures refused { OnErr result (IsPairRefused (asked_range range.now) (S.tally sink.old) (take length places.now) (S.tally sink.new)) }
-    ensures may { OnErr result S.may_refuse }
-{
-    if is_past_range(range, &places[..length]) {
-        return Ok(Verdict::Past);
-    }
-    if sink.size() == range.limit {
-        return Ok(Verdict::Full);
-    }
-    sink.take_pair(places, length, value)?;
-    Ok(Verdict::Further)
-}
-
-/// Whether the key with the bytes `key` is past the last key of `range` in its direction. In a scan upwards two numbers of eight bytes
-/// mostly tell that it is not.
-#[inline(always)]
-pub(crate) fn is_past_range(range: &Range, key: &[u8]) -> bool
-    requires key { IsKey key.now }
-    ensures past { IsTrue result → IsEarlier range.now.direction (last_key_of range.now) key.now }
-    ensures inside { result ≡ false → IsNoLater range.now.direction key.now (last_key_of range.now) }
-{
-    match range.direction {
-        Direction::Upwards => {
-            let upto = range.upto.as_bytes();
-            if key.len() >= 8 && first_word(key) < key_word_at(range.upto, 0) {
-                return false;
-            }
-            is_key_before(upto, key)
-        }
-        Direction::Downwards => is_key_before(key, range.from.as_bytes()),
-    }
-}
-
-/// The first eight bytes of `key` as a number, of which the first byte is the highest. The key has at least eight.
-#[inline(always)]
-fn first_word(key: &[u8]) -> u64
-    requires { 8 ≤ length key.now }
-    ensures { result ≡ key_word key.now 0 }
-{
-    let mut eight = [0; 8];
-    eight.copy_from_slice(&key[..8]);
-    u64::from_be_bytes(eight)
 }

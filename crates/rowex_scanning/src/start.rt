@@ -6,13 +6,12 @@ ghost use Rattle.rowex_reading.specs.Reads.{IsReader, Reads};
 ghost use Rattle.rowex_scanning.specs.Scanning.{first_key_of};
 ghost use Rattle.rowex_scanning.specs.Starts.{IsSearchEnd, IsParting, IsStart};
 
-use crate::scanning::{Scan, first_key};
+use crate::scan::{Scan, first_key};
 use insert_cases::{PathNode, choose_case, last_level_before};
-use key_bits::Key;
+use packed_pairs::Direction;
 use rowex_core::Gate;
 use rowex_reading::find_affected;
-use rowex_table::{HotTable, TableSeat};
-use version_laws::Direction;
+use rowex_table::TableSeat;
 
 /// Where a scan starts on the way of the search for its first key.
 #[derive(Clone, Copy)]
@@ -53,16 +52,15 @@ pub(crate) fn find_start<G: Gate>(
     ensures start { (m : ℕ) → IsSearchEnd scan.now.table.now.layout seat.old.known m (first_key_of scan.now.range.now) way.now found →
         IsStart scan.now.range.now.direction seat.new.known m (first_key_of scan.now.range.now) way.now found.number result }
 {
-    let key = first_key(scan.range);
-    let mut start = find_start_of_upward_scan(scan.table, seat, gate, way, key, found);
+    let mut start = find_start_of_upward_scan(scan, seat, gate, way, found);
     match scan.range.direction {
         Direction::Upwards => start,
         Direction::Downwards => {
             let lowest = way[way.len() - 1];
             if start.leaf {
                 start.leaf = found.mismatch.is_none();
-            } else if start.level + 1 == way.len() && lowest.at + 1 == start.top.at {
-                start.top.at = lowest.at;
+            } else if start.level + 1 == way.len() && lowest.slot + 1 == start.top.slot {
+                start.top.slot = lowest.slot;
                 start.leaf = true;
             }
             start
@@ -70,24 +68,23 @@ pub(crate) fn find_start<G: Gate>(
     }
 }
 
-/// Finds where a scan upwards from `key` starts on `way`, the way of the key's search, which ended at `found`. If that leaf has the key,
-/// the scan starts there.
+/// Finds where a scan upwards from the first key of `scan` starts on `way`, the way of that key's search, which ended at `found`. If that
+/// leaf has the key, the scan starts there.
 ///
-/// Else the leaf's key first differs from `key` at `found.mismatch`, and so do the keys of all entries that this position affects. All
-/// other keys part from `key` before it. So the scan starts at the first affected entry, or behind the last if `key` has a 1 there.
+/// Else the leaf's key first differs from it at `found.mismatch`, and so do the keys of all entries that this position affects. All other
+/// keys part from it before that position. So the scan starts at the first affected entry, or behind the last if the key has a 1 there.
 fn find_start_of_upward_scan<G: Gate>(
-    table: &HotTable,
+    scan: &Scan,
     seat: &mut TableSeat,
     gate: &mut G,
     way: &[PathNode],
-    key: &Key,
     found: SearchEnd,
 ) -> Start
-    requires reader { IsReader table.now seat.old }
-    requires way { (m : ℕ) × IsSearchEnd table.now.layout seat.old.known m key.now way.now found }
-    ensures reads { (n : ℕ) × (n ≤ HEAD_WORDS) × Reads table.now G.becomes 0 n (seat.old, gate.old) (seat.new, gate.new) }
-    ensures start { (m : ℕ) → IsSearchEnd table.now.layout seat.old.known m key.now way.now found →
-        IsParting seat.new.known m key.now way.now found.number result }
+    requires reader { IsReader scan.now.table.now seat.old }
+    requires way { (m : ℕ) × IsSearchEnd scan.now.table.now.layout seat.old.known m (first_key_of scan.now.range.now) way.now found }
+    ensures reads { (n : ℕ) × (n ≤ HEAD_WORDS) × Reads scan.now.table.now G.becomes 0 n (seat.old, gate.old) (seat.new, gate.new) }
+    ensures start { (m : ℕ) → IsSearchEnd scan.now.table.now.layout seat.old.known m (first_key_of scan.now.range.now) way.now found →
+        IsParting seat.new.known m (first_key_of scan.now.range.now) way.now found.number result }
 {
     let lowest = way.len() - 1;
     let Some(position) = found.mismatch else {
@@ -97,13 +94,12 @@ fn find_start_of_upward_scan<G: Gate>(
             leaf: true,
         };
     };
-    let below = key.bit(position);
+    let below = first_key(scan.range).bit(position);
     let level = last_level_before(way, position);
-    let step = way[level];
-    let (first, last) = find_affected(table, seat, gate, step.number, step.at, position);
+    let (first, last) = find_affected(scan.table, seat, gate, way[level], position);
     let part = choose_case(way, level, first, last);
     let mut top = way[part.level];
-    top.at = if below { part.last + 1 } else { part.first };
+    top.slot = if below { part.last + 1 } else { part.first };
     Start {
         level: part.level,
         top,

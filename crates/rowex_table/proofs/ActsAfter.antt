@@ -5,8 +5,8 @@ use Rattle.finite_map.specs.declared.Change.{Change}
 use Rattle.finite_map.specs.declared.Note.{Note}
 use Rattle.finite_map.specs.Fronts.{map_of, Fits}
 use Rattle.record_words.specs.declared.layout.Layout.{Layout}
-use Rattle.versions.specs.declared.Rec.{Rec}
-use Rattle.versions.specs.declared.Rec.TheVariants.{Node as a_node}
+use Rattle.record_words.specs.declared.records.Rec.{Rec}
+use Rattle.record_words.specs.declared.records.Rec.TheVariants.{Node as a_node}
 use Rattle.versions.specs.declared.Round.{Round}
 use Rattle.versions.specs.State.{IsLived}
 use Rattle.versions.specs.Core.{InTree, life_of}

@@ -9,8 +9,8 @@ use Rattle.finite_map.specs.declared.Note.{Note}
 use Rattle.finite_map.specs.Fronts.{OthersGoOn}
 use Rattle.record_words.specs.declared.layout.Layout.{Layout}
 use Rattle.record_words.specs.State.{state_word}
-use Rattle.versions.specs.declared.Rec.{Rec}
-use Rattle.versions.specs.declared.Rec.TheVariants.{Node as a_node}
+use Rattle.record_words.specs.declared.records.Rec.{Rec}
+use Rattle.record_words.specs.declared.records.Rec.TheVariants.{Node as a_node}
 use Rattle.versions.specs.declared.Pin.{Pin}
 use Rattle.versions.specs.State.{Past}
 use Rattle.versions.specs.Core.{Fate, InTree}

@@ -11,3 +11,4 @@ pub mod ActsLeave
 pub mod Seeing
 pub mod Linking
 pub mod Touched
+pub mod Located

@@ -4,8 +4,8 @@ use Rattle.record_words.specs.Layout.{word_count}
 use Rattle.record_words.specs.declared.layout.Layout.{Layout}
 use Rattle.record_words.specs.declared.layout.Location.TheVariants.{NodeWord, LeafWord}
 use Rattle.rowex_core.specs.Cores.{HasWord}
-use Rattle.versions.specs.declared.Rec.{Rec}
-use Rattle.versions.specs.declared.Rec.TheVariants.{Node as a_node, Leaf as a_leaf}
+use Rattle.record_words.specs.declared.records.Rec.{Rec}
+use Rattle.record_words.specs.declared.records.Rec.TheVariants.{Node as a_node, Leaf as a_leaf}
 use Rattle.rowex_table.specs.Rule.{IsStartOf}
 use Rattle.rowex_table.proofs.Keeping.{in_words}
 

@@ -10,7 +10,8 @@ use Rattle.record_words.specs.declared.TheConstants.{MAX_ENTRIES}
 use Rattle.record_words.specs.declared.layout.Layout.{Layout}
 use Rattle.record_words.specs.declared.layout.Location.{Location}
 use Rattle.record_words.specs.Layout.{address, IsInTable}
-use Rattle.versions.specs.declared.Rec.{Rec}
+use Rattle.record_words.specs.declared.records.Rec.{Rec}
+use Rattle.record_words.specs.declared.records.Rec.TheVariants.{Node as a_node, Leaf as a_leaf}
 use Rattle.rowex_core.specs.declared.event.Act.{Act}
 use Rattle.rowex_core.specs.declared.event.Act.TheVariants.{Claim, LoadRef, LoadFixed, Lock, LoadEpoch, Advance, LoadPin, LoadState, GiveBack, Load}
 use Rattle.rowex_core.specs.declared.event.Spot.{Spot}
@@ -24,6 +25,7 @@ use Rattle.versions.specs.Told.{added_notes, items_of}
 use Rattle.rowex_core.specs.Knowing.{Knows, Knowing, IsViewOf, IsEvent, learned}
 use Rattle.rowex_core.specs.Opening.{opening}
 use Rattle.rowex_core.specs.Runs.{EventsLead}
+use Rattle.rowex_table.specs.declared.record_steps.RecordAt.{RecordAt}
 use Rattle.rowex_table.specs.declared.traces.Trace.{Trace}
 use Rattle.rowex_table.specs.declared.traces.TracedView.{TracedView}
 use Rattle.rowex_table.specs.declared.traces.TracedView.TheVariants.{Spent, Dealer, Founder, Pass, Pair, Witness, Follower}
@@ -116,6 +118,18 @@ IsAddressOf layout location word = (word ≡ address layout location) × IsInTab
 -- the record is one of the table's, and begins at this word
 abbrev pub IsStartOf : Layout → Rec → ℕ → Type 0
 IsStartOf layout r word = HasRecord layout r × (word ≡ address layout (word_of r 0))
+
+-- the record's number among those of its kind
+abbrev pub record_number : Rec → ℕ
+record_number (a_node n) = n
+record_number (a_leaf l) = l
+
+-- It is a node's record, of the table, and begins at this word; or a leaf's.
+abbrev pub IsNodeRecordAt : Layout → RecordAt → Type 0
+IsNodeRecordAt layout at = (at.rec ≡ a_node (record_number at.rec)) × IsStartOf layout (a_node (record_number at.rec)) at.start
+
+abbrev pub IsLeafRecordAt : Layout → RecordAt → Type 0
+IsLeafRecordAt layout at = (at.rec ≡ a_leaf (record_number at.rec)) × IsStartOf layout (a_leaf (record_number at.rec)) at.start
 
 -- Events
 

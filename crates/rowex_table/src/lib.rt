@@ -14,7 +14,7 @@ mod steps;
 mod table;
 mod traces;
 
-pub use record_steps::{LeafAt, NodeAt, RecordAt};
+pub use record_steps::RecordAt;
 pub use stamping::TableStamp;
 pub use table::{HotTable, TableSeat};
 pub use traces::{Trace, TracedView};

@@ -14,9 +14,9 @@ pub(crate) fn spot_location(spot: Spot) -> Location
 {
     match spot {
         Spot::Root => Location::Root,
-        Spot::Slot { node, entry } => Location::NodeWord {
+        Spot::Slot { node, slot } => Location::NodeWord {
             node,
-            offset: FIRST_ENTRY as u8 + entry,
+            offset: FIRST_ENTRY as u8 + slot,
         },
         Spot::Value { leaf } => Location::LeafWord {
             leaf,

@@ -4,53 +4,50 @@ ghost use Rattle.std.specs.Prelude.{◌≡◌, ◌<◌, ◌+◌, ◌*◌, ◌^�
 ghost use Rattle.rowex_core.specs.declared.event.Act.TheVariants.{Claim, Fill, Ready, Release, LoadFixed, Mark, LoadState, GiveBack};
 ghost use Rattle.rowex_core.specs.Cores.{HasRecord, HasWord};
 ghost use Rattle.rowex_core.specs.Events.{IsOffset, IsFixedOffset};
-ghost use Rattle.rowex_table.specs.Rule.{IsStartOf, MayStep};
+ghost use Rattle.rowex_table.specs.Rule.{IsStartOf, MayStep, record_number};
 ghost use Rattle.rowex_table.specs.Runs.{Steps};
 ghost use Rattle.rowex_table.specs.Seats.{IsSeatOf};
 
 use crate::steps::Exchange;
 use crate::table::{HotTable, TableSeat};
-use record_words::{EPOCHS, Tag, obsolete_word, pack_state};
+use record_words::{EPOCHS, Origins, Tag, obsolete_word, pack_state};
 use rowex_core::{Act, Gate, Rec};
 use std::marker::Brand;
 
-/// A record of a table, with the number of its first word there.
+/// A record of a table, with the number of its first word there, found once for several steps.
 #[derive(Clone, Copy)]
 pub struct RecordAt {
     pub rec: Rec,
     pub start: usize,
 }
 
-/// A node's record.
-#[derive(Clone, Copy)]
-pub struct NodeAt {
-    /// The record's number.
-    pub number: u32,
-    /// The word of the table at which the record begins, found once for several loads.
-    pub start: usize,
-}
+impl RecordAt {
+    /// `rec` with the number of its first word, in a table that has these `origins`.
+    #[inline(always)]
+    pub fn find(origins: &Origins, rec: Rec) -> RecordAt
+        requires { HasRecord origins.now.layout rec }
+        ensures rec { result.rec ≡ rec }
+        ensures start { IsStartOf origins.now.layout rec result.start }
+    {
+        let start = match rec {
+            Rec::Node(number) => origins.start_of_node(number),
+            Rec::Leaf(number) => origins.start_of_leaf(number),
+        };
+        RecordAt { rec, start }
+    }
 
-/// A leaf's record.
-#[derive(Clone, Copy)]
-pub struct LeafAt {
-    /// The record's number.
-    pub number: u32,
-    /// The word of the table at which the record begins.
-    pub start: usize,
+    /// The record's number among those of its kind.
+    #[inline(always)]
+    pub fn number(self) -> u32
+        ensures { result ≡ record_number self.rec }
+    {
+        match self.rec {
+            Rec::Node(number) | Rec::Leaf(number) => number,
+        }
+    }
 }
 
 impl HotTable {
-    /// The number of the first word of `rec` in the table.
-    pub fn start_of(&self, rec: Rec) -> usize
-        requires { HasRecord self.now.layout rec }
-        ensures { IsStartOf self.now.layout rec result }
-    {
-        match rec {
-            Rec::Node(number) => self.origins.start_of_node(number),
-            Rec::Leaf(number) => self.origins.start_of_leaf(number),
-        }
-    }
-
     /// `rec` with the number of its first word, for several steps on it.
     #[inline(always)]
     pub fn locate(&self, rec: Rec) -> RecordAt
@@ -58,8 +55,7 @@ impl HotTable {
         ensures rec { result.rec ≡ rec }
         ensures start { IsStartOf self.now.layout rec result.start }
     {
-        let start = self.start_of(rec);
-        RecordAt { rec, start }
+        RecordAt::find(&self.origins, rec)
     }
 
     /// Claims `rec` if it is free; else its state stays. Returns the state word that it found: 0 exactly if this step claimed `rec`.
@@ -84,17 +80,8 @@ impl HotTable {
         self.compare_exchange_at::<Brand, G>(seat, gate, act, at.start, Exchange { expected, new })
     }
 
-    /// Stores `word` at `offset` of `rec`, which the pass holds. `offset` is that of a word of `rec`, and not 0, where the state stands.
-    pub fn fill<G: Gate>(&self, seat: &mut TableSeat, gate: &mut G, rec: Rec, offset: u8, word: u64)
-        requires own { IsSeatOf self.now seat.old }
-        requires range { HasRecord self.now.layout rec × IsOffset rec offset × HasWord self.now.layout rec offset }
-        requires may { MayStep self.now.layout (λ _. Fill rec offset word) seat.old.known }
-        ensures { Steps self.now G.becomes (Fill rec offset word) (seat.old, gate.old) (seat.new, gate.new) }
-    {
-        self.fill_at(seat, gate, self.locate(rec), offset, word);
-    }
-
-    /// Stores `word` at `offset` of the record `at`, which the pass holds. `offset` is as for `fill`.
+    /// Stores `word` at `offset` of the record `at`, which the pass holds. `offset` is that of a word of the record, and not 0, where the
+    /// state stands.
     #[inline(always)]
     pub fn fill_at<G: Gate>(
         &self,
@@ -122,7 +109,7 @@ impl HotTable {
         requires may { MayStep self.now.layout (λ _. Ready rec) seat.old.known }
         ensures { Steps self.now G.becomes (Ready rec) (seat.old, gate.old) (seat.new, gate.new) }
     {
-        let (act, state) = (Act::Ready { rec }, self.start_of(rec));
+        let (act, state) = (Act::Ready { rec }, self.locate(rec).start);
         self.store_word_at::<Brand, G>(seat, gate, act, state, pack_state(Tag::Live));
     }
 
@@ -133,7 +120,7 @@ impl HotTable {
         requires may { MayStep self.now.layout (λ _. Release rec) seat.old.known }
         ensures { Steps self.now G.becomes (Release rec) (seat.old, gate.old) (seat.new, gate.new) }
     {
-        let (act, state) = (Act::Release { rec }, self.start_of(rec));
+        let (act, state) = (Act::Release { rec }, self.locate(rec).start);
         self.store_word_at::<Brand, G>(seat, gate, act, state, pack_state(Tag::Free));
     }
 
@@ -149,38 +136,36 @@ impl HotTable {
         requires range { HasRecord self.now.layout rec × IsFixedOffset rec offset × HasWord self.now.layout rec offset }
         ensures { Steps self.now G.becomes (LoadFixed rec offset result) (seat.old, gate.old) (seat.new, gate.new) }
     {
-        self.load_fixed_at(seat, gate, rec, self.start_of(rec), offset)
+        self.load_fixed_at(seat, gate, self.locate(rec), offset)
     }
 
-    /// Loads the word at `offset` of `rec`, which is neither its state nor an entry, and returns it. `start` is the number of the first
-    /// word of `rec`.
+    /// Loads the word at `offset` of the record `at`, which is neither its state nor an entry, and returns it.
     #[inline(always)]
     pub fn load_fixed_at<G: Gate>(
         &self,
         seat: &mut TableSeat,
         gate: &mut G,
-        rec: Rec,
-        start: usize,
+        at: RecordAt,
         offset: u8,
     ) -> u64
         requires own { IsSeatOf self.now seat.old }
-        requires range { HasRecord self.now.layout rec × IsFixedOffset rec offset × HasWord self.now.layout rec offset }
-        requires start { IsStartOf self.now.layout rec start }
-        ensures { Steps self.now G.becomes (LoadFixed rec offset result) (seat.old, gate.old) (seat.new, gate.new) }
+        requires range { IsFixedOffset at.rec offset × HasWord self.now.layout at.rec offset }
+        requires start { IsStartOf self.now.layout at.rec at.start }
+        ensures { Steps self.now G.becomes (LoadFixed at.rec offset result) (seat.old, gate.old) (seat.new, gate.new) }
     {
-        let word = 0;
+        let (rec, word) = (at.rec, 0);
         let act = Act::LoadFixed { rec, offset, word };
-        self.load_word_at::<Brand, G>(seat, gate, act, start + offset as usize)
+        self.load_word_at::<Brand, G>(seat, gate, act, at.start + offset as usize)
     }
 
-    /// Loads the word at `offset` of `rec` and ignores it, so that its cache line is on its way when it is needed. This is no step: no gate is
-    /// told of it, and no pass knows it. `start` is the number of the first word of `rec`.
+    /// Loads the word at `offset` of the record `at` and ignores it, so that its cache line is on its way when it is needed. This is no step: no
+    /// gate is told of it, and no pass knows it.
     #[inline(always)]
-    pub fn touch(&self, rec: Rec, start: usize, offset: u8)
-        requires start { IsStartOf self.now.layout rec start }
-        requires range { HasWord self.now.layout rec offset }
+    pub fn touch(&self, at: RecordAt, offset: u8)
+        requires start { IsStartOf self.now.layout at.rec at.start }
+        requires range { HasWord self.now.layout at.rec offset }
     {
-        self.table.shared.peek(start + offset as usize);
+        self.table.shared.peek(at.start + offset as usize);
     }
 
     /// Makes `rec` obsolete in `epoch`. The pass has unlinked `rec`, and then loaded this epoch, and none since.
@@ -190,7 +175,7 @@ impl HotTable {
         requires may { MayStep self.now.layout (λ _. Mark rec epoch) seat.old.known }
         ensures { Steps self.now G.becomes (Mark rec epoch) (seat.old, gate.old) (seat.new, gate.new) }
     {
-        let (act, state) = (Act::Mark { rec, epoch }, self.start_of(rec));
+        let (act, state) = (Act::Mark { rec, epoch }, self.locate(rec).start);
         self.store_word_at::<Brand, G>(seat, gate, act, state, obsolete_word(epoch));
     }
 
@@ -246,6 +231,7 @@ impl HotTable {
         requires may { MayStep self.now.layout (λ found. GiveBack at.rec epoch found) seat.old.known }
         ensures { Steps self.now G.becomes (GiveBack at.rec epoch result) (seat.old, gate.old) (seat.new, gate.new) }
     {
+        // What the step finds comes in the place of this 0.
         let (rec, found) = (at.rec, 0);
         let act = Act::GiveBack { rec, epoch, found };
         let (expected, new) = (obsolete_word(epoch), pack_state(Tag::Free));

@@ -2,16 +2,17 @@
 
 ghost use Rattle.std.specs.Prelude.{◌≡◌, ◌<◌, ◌+◌, ◌*◌, ◌^◌, ℕ, List};
 ghost use Rattle.record_words.specs.Layout.{IsInTable};
+ghost use Rattle.record_words.specs.declared.TheConstants.{MAX_ENTRIES};
 ghost use Rattle.rowex_core.specs.declared.event.Act.TheVariants.{LoadRef, Lock, Unlock, Publish};
-ghost use Rattle.versions.specs.declared.Rec.TheVariants.{Node as a_node, Leaf as a_leaf};
 ghost use Rattle.rowex_core.specs.declared.event.Spot.TheVariants.{Slot, Value};
 ghost use Rattle.rowex_core.specs.Events.{target_word};
-ghost use Rattle.rowex_table.specs.Rule.{HasSpot, IsStartOf, MayStep};
+ghost use Rattle.rowex_table.specs.Rule.{HasSpot, IsLeafRecordAt, IsNodeRecordAt, MayStep, record_number};
 ghost use Rattle.rowex_table.specs.Rights.{MayLock};
 ghost use Rattle.rowex_table.specs.Runs.{Steps};
 ghost use Rattle.rowex_table.specs.Seats.{IsSeatOf};
 
 use crate::locations::{lock_location, spot_location};
+use crate::record_steps::RecordAt;
 use crate::steps::Exchange;
 use crate::table::{HotTable, TableSeat};
 use record_words::{FIRST_ENTRY, Tag, VALUE_OFFSET, pack_state};
@@ -29,42 +30,39 @@ impl HotTable {
         self.load_word_at::<Brand, G>(seat, gate, Act::LoadRef { spot, word: 0 }, entry)
     }
 
-    /// Loads the word of the entry in slot `entry`, 0 to 31, of node `node`, whose record begins at word `start`, and returns it.
+    /// Loads the word of the entry in slot `slot`, 0 to 31, of the node's record `node`, and returns it.
     #[inline(always)]
     pub fn load_slot_at<G: Gate>(
         &self,
         seat: &mut TableSeat,
         gate: &mut G,
-        node: u32,
-        start: usize,
-        entry: u8,
+        node: RecordAt,
+        slot: u8,
     ) -> u64
         requires own { IsSeatOf self.now seat.old }
-        requires range { HasSpot self.now.layout (Slot node entry) }
-        requires start { IsStartOf self.now.layout (a_node node) start }
-        ensures { Steps self.now G.becomes (LoadRef (Slot node entry) result) (seat.old, gate.old) (seat.new, gate.new) }
+        requires node { IsNodeRecordAt self.now.layout node }
+        requires slot { slot < MAX_ENTRIES }
+        ensures { Steps self.now G.becomes (LoadRef (Slot (record_number node.rec) slot) result) (seat.old, gate.old) (seat.new, gate.new) }
     {
-        let spot = Spot::Slot { node, entry };
-        let address = start + FIRST_ENTRY + entry as usize;
+        let spot = Spot::Slot {
+            node: node.number(),
+            slot,
+        };
+        let address = node.start + FIRST_ENTRY + slot as usize;
         self.load_word_at::<Brand, G>(seat, gate, Act::LoadRef { spot, word: 0 }, address)
     }
 
-    /// Loads the value of leaf `leaf`, whose record begins at word `start`, and returns it.
+    /// Loads the value in the leaf's record `leaf`, and returns it.
     #[inline(always)]
-    pub fn load_value_at<G: Gate>(
-        &self,
-        seat: &mut TableSeat,
-        gate: &mut G,
-        leaf: u32,
-        start: usize,
-    ) -> u64
+    pub fn load_value_at<G: Gate>(&self, seat: &mut TableSeat, gate: &mut G, leaf: RecordAt) -> u64
         requires own { IsSeatOf self.now seat.old }
-        requires range { HasSpot self.now.layout (Value leaf) }
-        requires start { IsStartOf self.now.layout (a_leaf leaf) start }
-        ensures { Steps self.now G.becomes (LoadRef (Value leaf) result) (seat.old, gate.old) (seat.new, gate.new) }
+        requires leaf { IsLeafRecordAt self.now.layout leaf }
+        ensures { Steps self.now G.becomes (LoadRef (Value (record_number leaf.rec)) result) (seat.old, gate.old) (seat.new, gate.new) }
     {
-        let spot = Spot::Value { leaf };
-        let address = start + VALUE_OFFSET as usize;
+        let spot = Spot::Value {
+            leaf: leaf.number(),
+        };
+        let address = leaf.start + VALUE_OFFSET as usize;
         self.load_word_at::<Brand, G>(seat, gate, Act::LoadRef { spot, word: 0 }, address)
     }
 

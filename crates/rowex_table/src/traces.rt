@@ -10,7 +10,7 @@ use rowex_core::Known;
 use std::marker::Model;
 use versions::Listed;
 
-/// A list of steps. Its type names no lifetime, and so neither does that of a pass.
+/// A list of events. Its type names no lifetime, and so neither does that of a pass.
 pub struct ListedSteps {
     ghost events: { List Event },
 }
@@ -23,9 +23,10 @@ impl Model for ListedSteps {
     ghost also_owns = { λ _. ftrue };
 }
 
-/// The steps of which a pass knows.
+/// The events of which a pass knows.
 pub struct Trace {
-    /// Atomic steps of all passes, from the first on a new table up to the last of which this pass knows.
+    /// What all passes did, from the first event on a new table up to the last of which this pass knows. A bulk load, if one made the
+    /// table, comes first; all others are atomic steps.
     pub events: ListedSteps,
     /// How often the pass has made a stamp, has followed one, or has met another pass. None of these is a step.
     pub asides: u64,

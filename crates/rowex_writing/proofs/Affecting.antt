@@ -95,11 +95,11 @@ are_affected layout k m key way (Leaf n v (Some p)) w = ⊎_elim some none (case
 -- by the forks that were loaded at the level
 pub affected_there : (layout : Layout) (k j : Known) (m : ℕ) (key : Key) (way : List PathNode) (n v p first last level : ℕ) (s : PathNode) (x : Subtrie) → IsPossible layout j → IsLater k j →
     IsWayOf layout k m key way (Leaf n v (Some p)) → IsLevel way p level → slice_get way level ≡ Some s → Sure j (λ past. IsShaped past m s.number x) →
-    affected_first p s.at x ≡ first → affected_count p s.at x + first ≡ last + 1 → AreAffected j m key way (Leaf n v (Some p)) first last
+    affected_first p s.slot x ≡ first → affected_count p s.slot x + first ≡ last + 1 → AreAffected j m key way (Leaf n v (Some p)) first last
 affected_there layout k j m key way n v p first last level s x possible later w is at shapes from upto =
     let node = (w.nodes level s at).2 in
     let same : node.forks ≡ x = same_shape layout j m s.number node.forks x possible (since_later later w.since) (sure_later (shaped_stable m s.number node.forks) later node.shaped) shapes in
-    let place : s.at ≡ spot key x = node.at ∙ ap (spot key) same in
+    let place : s.slot ≡ spot key x = node.at ∙ ap (spot key) same in
     at_level j m key way n v p first last level s x is at shapes (record {
       from = subst (λ z. affected_first p z x ≡ first) place from;
       upto = subst (λ z. affected_count p z x + first ≡ last + 1) place upto;
@@ -112,7 +112,7 @@ module _ (layout : Layout) (k j : Known) (m : ℕ) (key : Key) (way : List PathN
 
   pub beside_planned : (found : Found) (plan : Plan) (p first last level : ℕ) (s : PathNode) (x : Subtrie) → DiffersAt found p → IsPossible layout j → IsLater k j →
       IsWayOf layout k m key way found → IsLevel way p level → slice_get way level ≡ Some s → Sure j (λ past. IsShaped past m s.number x) →
-      affected_first p s.at x ≡ first → affected_count p s.at x + first ≡ last + 1 → IsPlan way first last aim found plan → IsPlanned j m key way aim found plan
+      affected_first p s.slot x ≡ first → affected_count p s.slot x + first ≡ last + 1 → IsPlan way first last aim found plan → IsPlanned j m key way aim found plan
   beside_planned found plan p first last level s x (n, v, differs) possible later w is at shapes from upto planned = (
     first,
     last,

@@ -18,7 +18,7 @@ use Rattle.tries.proofs.Building.{size-piece}
 use Rattle.tries.proofs.Places.{spot_below}
 use Rattle.tries.proofs.Spots.{sibling_spot}
 use Rattle.versions.specs.Heap.{NodeWords}
-use Rattle.versions.specs.declared.Rec.TheVariants.{Node as a_node}
+use Rattle.record_words.specs.declared.records.Rec.TheVariants.{Node as a_node}
 use Rattle.versions.proofs.Members.{all_of}
 use Rattle.rowex_core.specs.Cores.{IsWhole}
 use Rattle.rowex_core.specs.Reading.{IsPacked, node_words_of}
@@ -97,7 +97,7 @@ module _ (table : TableView) (a : SeatView) (job : Job) (takes : TakesOn table a
     abbrev shown : Subtrie
     shown = (node_words_of words).subtrie
 
-    pub upper_shows : spot job.key.now shown ≡ (upper job).at
+    pub upper_shows : spot job.key.now shown ≡ (upper job).slot
     upper_shows =
         let (e, is, node) = way_now.nodes (job.span.end - 1) (upper job) (upper_at table job t) in (way_node_locked table.layout a.known t.since job.key.now (upper job) e words takes.2 way_now.since node h).at
 
@@ -107,19 +107,19 @@ module _ (table : TableView) (a : SeatView) (job : Job) (takes : TakesOn table a
         let same = (way_node_locked table.layout a.known t.since job.key.now (upper job) e words takes.2 way_now.since node h).forks_are in
         ((way_now.since, node.seen), λ c law known. (node.forks, node.shaped c law known, subst (λ n. place < n) (shape_size shown node.forks same) low))
 
-    pub upper_within : (view : NodeView) → IsNodeOf words view → (upper job).at < length view.entries
+    pub upper_within : (view : NodeView) → IsNodeOf words view → (upper job).slot < length view.entries
     upper_within view node =
-        let low : (upper job).at < size (piece view) = subst (λ i. i < size (piece view)) (sym (ap (λ (z : NodeWords). spot job.key.now z.subtrie) node.shows) ∙ upper_shows) (spot_below job.key.now (piece view)) in
+        let low : (upper job).slot < size (piece view) = subst (λ i. i < size (piece view)) (sym (ap (λ (z : NodeWords). spot job.key.now z.subtrie) node.shows) ∙ upper_shows) (spot_below job.key.now (piece view)) in
         omega (arith, low, size-piece view node.has.lawful)
 
-    module _ (view : NodeView) (node : IsNodeOf words view) (place column : ℕ) (forks : IsBesideIn view (upper job).at (Some (place, column))) where
+    module _ (view : NodeView) (node : IsNodeOf words view) (place column : ℕ) (forks : IsBesideIn view (upper job).slot (Some (place, column))) where
       pub column_few : column < 31
       column_few = omega (arith, forks.in_range, node.has.lawful.positions.few)
 
       pub forks_shown : beside (spot job.key.now shown) shown ≡ Some (place, get_or view.columns column 0)
       forks_shown =
           let sub : shown ≡ piece view = ap (λ (z : NodeWords). z.subtrie) node.shows in
-          ap (λ i. beside i shown) upper_shows ∙ (ap (beside (upper job).at) sub ∙ sym forks.is)
+          ap (λ i. beside i shown) upper_shows ∙ (ap (beside (upper job).slot) sub ∙ sym forks.is)
 
       pub place_shown : place < size shown
       place_shown = (beside_elsewhere (spot job.key.now shown) place (get_or view.columns column 0) shown (spot_below job.key.now shown) forks_shown).0
@@ -130,7 +130,7 @@ module _ (table : TableView) (a : SeatView) (job : Job) (takes : TakesOn table a
           (sym (place_is shown place) ∙ (ap (λ (b : Bool). if b then Some (entry_at shown place) else None) (lt-ltb place (size shown) place_shown) ∙ ap Some (sym entry)))
 
       pub found_beside : (number height position : ℕ) → position ≡ position_at view.columns column → Node number height ≡ entry_at shown place →
-          IsNeighbour a.known job (record { place = place; position = position; number = number })
+          IsNeighbour a.known job (record { slot = place; position = position; number = number })
       found_beside number height position at entry =
           let is : get_or view.columns column 0 ≡ position = sym (at ∙ get_or_default view.columns column 65535 0 forks.in_range) in
           record {

@@ -16,7 +16,7 @@ use Rattle.insert_cases.proofs.Choosing.{some_injective, some_at}
 use Rattle.versions.specs.Heap.{NodeWords}
 use Rattle.versions.specs.Frames.{IsGrown}
 use Rattle.versions.specs.State.{Past}
-use Rattle.versions.specs.declared.Rec.TheVariants.{Node as a_node}
+use Rattle.record_words.specs.declared.records.Rec.TheVariants.{Node as a_node}
 use Rattle.versions.proofs.Members.{all_of}
 use Rattle.node_tries.proofs.Paths.{size_pos}
 use Rattle.node_tries.specs.Piece.{Place, Fork, size}
@@ -57,13 +57,13 @@ use Rattle.rowex_reading.specs.Ways.{IsWayNode, IsWayOf, end_of, named}
 use Rattle.rowex_reading.proofs.Ways.{named_at, named_end}
 use Rattle.rowex_writing.specs.declared.plan.Aim.{Aim}
 use Rattle.rowex_writing.specs.declared.plan.Aim.TheVariants.{Insert, Upsert, Remove}
-use Rattle.rowex_writing.specs.declared.plan.Deed.TheVariants.{Grow, PushDown, Put, Take, Value}
+use Rattle.rowex_writing.specs.declared.plan.Deed.TheVariants.{Empty, Grow, PushDown, Put, Take, TakeTop, Value}
 use Rattle.rowex_reading.specs.declared.descent.Found.{Found}
 use Rattle.rowex_reading.specs.declared.descent.Found.TheVariants.{Nothing, Leaf}
 use Rattle.rowex_writing.specs.declared.plan.Plan.{Plan}
 use Rattle.rowex_writing.specs.declared.plan.Plan.TheVariants.{Answer, Change}
 use Rattle.rowex_writing.specs.declared.plan.Span.{Span}
-use Rattle.rowex_writing.proofs.Planning.{chosen_within, same_span}
+use Rattle.rowex_writing.proofs.Planning.{chosen_within, same_span, takes_too}
 use Rattle.rowex_writing.proofs.Above.{locked_at, holds_above}
 use Rattle.rowex_writing.proofs.Shapes.{IsStepOf, locked_shape, shape_affects, way_node_locked}
 use Rattle.rowex_writing.proofs.Staging.{stage_of_held}
@@ -149,6 +149,8 @@ IsGrowOf position (Change span (Put)) = ⊥
 IsGrowOf position (Change span (Value)) = ⊥
 IsGrowOf position (Change span (PushDown p)) = ⊥
 IsGrowOf position (Change span (Take)) = ⊥
+IsGrowOf position (Change span (TakeTop)) = ⊥
+IsGrowOf position (Change span (Empty)) = ⊥
 
 module _ (k : Known) (m : ℕ) (key : Key) (way : List PathNode) (len end position : ℕ) where
   abbrev plan : Plan
@@ -196,7 +198,7 @@ module _ (k : Known) (m : ℕ) (key : Key) (way : List PathNode) (len end positi
   grow_plan Remove Nothing (low, high, is, affected) = absurd (no_other _ is (λ z. z))
   grow_plan Insert (Leaf n v None) (low, high, is, affected) = absurd (no_other _ is (λ z. z))
   grow_plan Upsert (Leaf n v None) (low, high, is, affected) = absurd (no_other _ is (λ z. z))
-  grow_plan Remove (Leaf n v None) (low, high, is, affected) = absurd (no_other _ is (λ z. z))
+  grow_plan Remove (Leaf n v None) (low, high, is, affected) = absurd (takes_too way is)
   grow_plan Remove (Leaf n v (Some p)) (low, high, is, affected) = absurd (no_other _ is (λ z. z))
   grow_plan Insert (Leaf n v (Some p)) (low, high, is, affected) = new_leaf n v p low high is affected
   grow_plan Upsert (Leaf n v (Some p)) (low, high, is, affected) = new_leaf n v p low high is affected
@@ -267,9 +269,9 @@ module _ (layout : Layout) (k : Known) (m : ℕ) (key : Key) (number value p : �
   goes_down r a [] nodes e is on = subst (λ z. IsSure k (λ s. IsOnWay s m r a z)) (sym (some_injective is)) on
   goes_down r a (s ∷ way) nodes e is on =
       let (next, named_is, node) = nodes 0 s refl in
-      let placed : IsSure k (λ z. IsPlaced z m s.number s.at next) = seen_is_sure k (λ z. IsPlaced z m s.number s.at next) (λ x y g. placed_grown x y g m s.number s.at next) node.placed in
+      let placed : IsSure k (λ z. IsPlaced z m s.number s.slot next) = seen_is_sure k (λ z. IsPlaced z m s.number s.slot next) (λ x y g. placed_grown x y g m s.number s.slot next) node.placed in
       goes_down r a way (rest_of s way nodes) next named_is
-      (descent_goes_on k m r a s.number s.height s.at next since (subst (λ z. IsSure k (λ s. IsOnWay s m r a z)) (sym (some_injective is)) on) placed)
+      (descent_goes_on k m r a s.number s.height s.slot next since (subst (λ z. IsSure k (λ s. IsOnWay s m r a z)) (sym (some_injective is)) on) placed)
 
   -- from what the way names at a level
   pub way_from : (way : List PathNode) → AreWay way → (i : ℕ) (e : Entry) → named way found i ≡ Some e → IsSure k (λ s. IsWayFrom s m l e)
@@ -374,7 +376,7 @@ module _ (layout : Layout) (k : Known) (m : ℕ) (key : Key) (way : List PathNod
   ]
 
   -- where the key's search leads in the chosen node, as it did before
-  pub leads_at : (s : PathNode) → slice_get way top ≡ Some s → (words : List ℕ) → HasLocked k s.number words → spot key (node_words_of words).subtrie ≡ s.at
+  pub leads_at : (s : PathNode) → slice_get way top ≡ Some s → (words : List ℕ) → HasLocked k s.number words → spot key (node_words_of words).subtrie ≡ s.slot
   leads_at s at words h = let (e, is, node) = w.nodes top s at in (way_node_locked layout k m key s e words possible w.since node h).at
 
   -- above the chosen node the insertion affects no more than the place on the way

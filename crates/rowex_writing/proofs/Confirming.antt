@@ -16,7 +16,7 @@ use Rattle.tries.proofs.Places.{seek_spot, spot_below}
 use Rattle.versions.specs.Heap.{Heap, NodeWords}
 use Rattle.versions.specs.State.{IsTop}
 use Rattle.versions.specs.declared.Pin.{Pin}
-use Rattle.versions.specs.declared.Rec.TheVariants.{Node as a_node}
+use Rattle.record_words.specs.declared.records.Rec.TheVariants.{Node as a_node}
 use Rattle.versions.specs.Trades.{IsOneOf}
 use Rattle.versions.proofs.Members.{all_of, map_of}
 use Rattle.rowex_core.specs.declared.event.Act.TheVariants.{LoadRef}
@@ -200,7 +200,7 @@ pub none_stand : (layout : Layout) (k : Known) (way : List PathNode) (found : Fo
 none_stand layout k way found span index is m key w i s low high at words h = absurd (omega arith)
 
 pub more_stand : (layout : Layout) (k : Known) (way : List PathNode) (found : Found) (span : Span) (index : ℕ) → IsPossible layout k → StandBelow layout k way found span index →
-    ((s : PathNode) → slice_get way index ≡ Some s → (words : List ℕ) → HasLocked k s.number words → named way found (index + 1) ≡ Some (entry_at (node_words_of words).subtrie s.at)) →
+    ((s : PathNode) → slice_get way index ≡ Some s → (words : List ℕ) → HasLocked k s.number words → named way found (index + 1) ≡ Some (entry_at (node_words_of words).subtrie s.slot)) →
     StandBelow layout k way found span (index + 1)
 more_stand layout k way found span index possible above here m key w i s low high at words h = go (cases_lt i index)
   where
@@ -216,16 +216,16 @@ more_stand layout k way found span index possible above here m key w i s low hig
 -- ---- a step of the way, some loads later
 module _ (layout : Layout) (k j : Known) (m : ℕ) (key : Key) (way : List PathNode) (found : Found) (later : IsLater k j) (w : IsWayOf layout k m key way found) (i : ℕ) (s : PathNode)
     (at : slice_get way i ≡ Some s) where
-  pub step_place : HasPlace j m s.number s.height s.at
+  pub step_place : HasPlace j m s.number s.height s.slot
   step_place =
       let (e, name, is) = w.nodes i s at in
-      let low : s.at < size is.forks = subst (λ n. n < size is.forks) (sym is.at) (spot_below key is.forks) in (
+      let low : s.slot < size is.forks = subst (λ n. n < size is.forks) (sym is.at) (spot_below key is.forks) in (
         (since_later later w.since, sure_later (seen_stable m (Node s.number s.height)) later is.seen),
         λ c law known. (is.forks, sure_later (shaped_stable m s.number is.forks) later is.shaped c law known, low),
       )
 
-  pub step_read : (e : Entry) × (named way found (i + 1) ≡ Some e) × Sure j (λ past. IsPlaced past m s.number s.at e)
-  step_read = let (e, name, is) = w.nodes i s at in (e, name, sure_later (placed_stable m s.number s.at e) later is.placed)
+  pub step_read : (e : Entry) × (named way found (i + 1) ≡ Some e) × Sure j (λ past. IsPlaced past m s.number s.slot e)
+  step_read = let (e, name, is) = w.nodes i s at in (e, name, sure_later (placed_stable m s.number s.slot e) later is.placed)
 
 pub drop_has : {X : Type 0} (xs : List X) (a i : ℕ) (x : X) → a ≤ i → slice_get xs i ≡ Some x → slice_get (drop a xs) (i - a) ≡ Some x
 drop_has xs zero i x low at = let e : i ≡ i - 0 = omega arith in ap (slice_get xs) (sym e) ∙ at

@@ -10,8 +10,8 @@ use Rattle.compound_node.specs.declared.entries.Entry.{Entry}
 use Rattle.compound_node.specs.declared.entries.Entry.TheVariants.{Leaf as LeafEntry, Node}
 use Rattle.insert_cases.specs.declared.choice.PathNode.{PathNode}
 use Rattle.versions.specs.Trades.{IsOneOf, AreApart}
-use Rattle.versions.specs.declared.Rec.{Rec}
-use Rattle.versions.specs.declared.Rec.TheVariants.{Node as a_node}
+use Rattle.record_words.specs.declared.records.Rec.{Rec}
+use Rattle.record_words.specs.declared.records.Rec.TheVariants.{Node as a_node}
 use Rattle.versions.proofs.Members.{map_of, of_append, of_left, of_map, of_right}
 use Rattle.node_tries.specs.Piece.{Place, places}
 use Rattle.record_words.specs.Entry.{HasEntryWord, entry_word}
@@ -231,7 +231,7 @@ full_since layout key a b c made Leaves count missed = λ q low room. (let (step
 
 -- ---- the leaf's record is made
 pub may_grow : (table : TableView) (a b : SeatView) (made : List Rec) (m : ℕ) (job : Job) (aim : Aim) (new : NewLeaf) → HasTakenSpan table a m new.key.now job.way.now job.found job.span →
-    IsPlanned a.known m new.key.now job.way.now aim job.found (change job.span.len job.span.end (Grow new.position)) → ((s : PathNode) → slice_get job.way.now (job.span.len - 1) ≡ Some s → s.at ≡ new.at) → StaysLocked a.known b.known → HasLeafMade table b made (item new.number new.key.now job.value) →
+    IsPlanned a.known m new.key.now job.way.now aim job.found (change job.span.len job.span.end (Grow new.position)) → ((s : PathNode) → slice_get job.way.now (job.span.len - 1) ≡ Some s → s.slot ≡ new.slot) → StaysLocked a.known b.known → HasLeafMade table b made (item new.number new.key.now job.value) →
     MayGrow table b made job new
 may_grow table a b made m job aim new t planned is_took stays made_leaf = record {
   within = (omega (arith, upto, len_is), omega (arith, len_is, within));

@@ -9,8 +9,8 @@ use Rattle.finite_map.specs.Fronts.{OthersGoOn}
 use Rattle.insert_cases.specs.declared.choice.PathNode.{PathNode}
 use Rattle.record_words.specs.declared.layout.Layout.{Layout}
 use Rattle.tries.specs.Keys.{Key}
-use Rattle.versions.specs.declared.Rec.{Rec}
-use Rattle.versions.specs.declared.Rec.TheVariants.{Node as a_node, Leaf as a_leaf}
+use Rattle.record_words.specs.declared.records.Rec.{Rec}
+use Rattle.record_words.specs.declared.records.Rec.TheVariants.{Node as a_node, Leaf as a_leaf}
 use Rattle.versions.specs.Core.{Fate, Free}
 use Rattle.versions.specs.Trades.{IsOneOf, AreApart}
 use Rattle.versions.proofs.Members.{all_of, map_of, of_map, of_append, apart_push}

@@ -12,8 +12,8 @@ use Rattle.tries.specs.Place.{spot, subtrie_without}
 use Rattle.tries.proofs.Spots.{without_spot}
 use Rattle.versions.specs.Heap.{NodeWords}
 use Rattle.versions.specs.Steps.{same_rec}
-use Rattle.versions.specs.declared.Rec.{Rec}
-use Rattle.versions.specs.declared.Rec.TheVariants.{Node as a_node, Leaf as a_leaf}
+use Rattle.record_words.specs.declared.records.Rec.{Rec}
+use Rattle.record_words.specs.declared.records.Rec.TheVariants.{Node as a_node, Leaf as a_leaf}
 use Rattle.versions.proofs.Legal.{same_rec_refl}
 use Rattle.version_laws.specs.Writer.{removed_change}
 use Rattle.rowex_core.specs.Reading.{IsPacked, node_words_of}
@@ -33,7 +33,7 @@ use Rattle.rowex_writing.specs.Changes.{MayPublishOnceReady}
 use Rattle.rowex_writing.specs.Deeds.{MayReplace}
 use Rattle.rowex_writing.specs.Going.{HasLocked, IsNodeOf, WorksOn}
 use Rattle.rowex_writing.specs.Jobs.{HoldsSpan}
-use Rattle.rowex_writing.specs.Merging.{HasClaimed, IsLeft, IsWide, TakesOn, TakesStill, lower}
+use Rattle.rowex_writing.specs.Merging.{HasClaimed, IsLeftOfNode, IsWide, TakesOn, TakesStill, lower}
 use Rattle.rowex_writing.specs.Taking.{HasLeafBelow}
 use Rattle.rowex_writing.specs.declared.job.Job.{Job}
 use Rattle.rowex_reading.specs.Ways.{IsWayOf}
@@ -106,12 +106,12 @@ module _ {G : Type 0} (table : TableView) (becomes : G → Event → G → Type 
       }
 
 -- ---- the words of what is left
-pub left_on : (k j : Known) (job : Job) (left : List ℕ) → j.locks ≡ k.locks → IsLeft k job left → IsLeft j job left
+pub left_on : (k j : Known) (job : Job) (left : List ℕ) → j.locks ≡ k.locks → IsLeftOfNode k job left → IsLeftOfNode j job left
 left_on k j job left same is = record { words = is.words; has = locked_on k j (lower job).number is.words same is.has; built = is.built }
 
 -- so under the wider locks
 module _ (table : TableView) (b : SeatView) (job : Job) (number : ℕ) (w : IsWide table b job number) where
-  pub left_wider : (k : Known) (left : List ℕ) → w.taking.before.known.locks ≡ k.locks → IsLeft k job left → IsLeft b.known job left
+  pub left_wider : (k : Known) (left : List ℕ) → w.taking.before.known.locks ≡ k.locks → IsLeftOfNode k job left → IsLeftOfNode b.known job left
   left_wider k left same is = record {
     words = is.words;
     has = held_wide table b job number w (lower job).number is.words (locked_on k w.taking.before.known (lower job).number is.words same is.has);
@@ -127,19 +127,19 @@ module _ (table : TableView) (b : SeatView) (job : Job) (number : ℕ) (w : IsWi
       (node, λ words k. subst (λ z. IsNodeOf z node) (same_words table.layout b.known (lower job).number low words w.possible h k) is)
 
   -- what is left of it, as a node without an entry
-  module _ (left : List ℕ) (is : IsLeft b.known job left) (node : NodeView) (node_is : (words : List ℕ) → HasLocked b.known (lower job).number words → IsNodeOf words node) where
-    same_left : subtrie_without job.key.now (node_words_of is.words).subtrie ≡ without (lower job).at (piece node)
+  module _ (left : List ℕ) (is : IsLeftOfNode b.known job left) (node : NodeView) (node_is : (words : List ℕ) → HasLocked b.known (lower job).number words → IsNodeOf words node) where
+    same_left : subtrie_without job.key.now (node_words_of is.words).subtrie ≡ without (lower job).slot (piece node)
     same_left =
         let own = node_is is.words is.has in
         let way = way_wide table b job number w in
         let (e, e_is, on) = way.nodes job.span.end (lower job) (lower_at table job w.taking) in
         let leads = (way_node_locked table.layout b.known w.taking.since job.key.now (lower job) e is.words w.possible way.since on is.has).at in
         let sub : (node_words_of is.words).subtrie ≡ piece node = ap (λ (z : NodeWords). z.subtrie) own.shows in
-        let spot_is : spot job.key.now (piece node) ≡ (lower job).at = sym (ap (spot job.key.now) sub) ∙ leads in
+        let spot_is : spot job.key.now (piece node) ≡ (lower job).slot = sym (ap (spot job.key.now) sub) ∙ leads in
         ap (subtrie_without job.key.now) sub ∙ (sym (without_spot job.key.now (piece node)) ∙ ap (λ i. without i (piece node)) spot_is)
 
-    pub left_built : (view : NodeView) → view ≡ is.built.node → IsBuiltFrom view (without (lower job).at (piece node))
-    left_built view same = subst (λ v. IsBuiltFrom v (without (lower job).at (piece node))) (sym same) (subst (IsBuiltFrom is.built.node) same_left is.built.built)
+    pub left_built : (view : NodeView) → view ≡ is.built.node → IsBuiltFrom view (without (lower job).slot (piece node))
+    left_built view same = subst (λ v. IsBuiltFrom v (without (lower job).slot (piece node))) (sym same) (subst (IsBuiltFrom is.built.node) same_left is.built.built)
 
 -- ---- under the locks of the span
 pub still_taking : (table : TableView) (a : SeatView) (job : Job) → TakesOn table a job → TakesStill table a job

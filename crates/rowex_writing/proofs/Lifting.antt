@@ -24,9 +24,9 @@ use Rattle.tries.specs.Place.{spot, with_subtrie}
 use Rattle.tries.specs.Tree.{Subtrie}
 use Rattle.versions.specs.Heap.{NodeWords}
 use Rattle.versions.specs.Trades.{IsOneOf}
-use Rattle.versions.specs.declared.Rec.{Rec}
+use Rattle.record_words.specs.declared.records.Rec.{Rec}
 use Rattle.versions.proofs.Members.{of_right}
-use Rattle.versions.specs.declared.Rec.TheVariants.{Node as a_node}
+use Rattle.record_words.specs.declared.records.Rec.TheVariants.{Node as a_node}
 use Rattle.version_laws.specs.Rise.{Side, body, entry}
 use Rattle.version_laws.specs.Writer.{Newcomer}
 use Rattle.rowex_core.specs.declared.event.Event.{Event}
@@ -182,7 +182,7 @@ module _ {G : Type 0} (table : TableView) (becomes : G → Event → G → Type 
       (risen_subtrie table.layout a.0.known (made_of_leaf b.item b.made_leaf.fresh ∷ []) [] (newcomer_of b) (body number) b.words (subtrie_grown new.position b.item.key (Leaf b.item.number) (piece node))
       b.made_leaf.building.possible b.made_leaf.building.holds b.made_leaf.building.packed low_leaf b.found.locked low_grown)
 
-  low_leads : spot new.key.now (piece node) ≡ new.at
+  low_leads : spot new.key.now (piece node) ≡ new.slot
   low_leads = ap (λ k. spot k (piece node)) b.key_is ∙ (ap (spot b.item.key) (sym low_subtrie) ∙ b.leads)
 
   pub low_takes : {words : List ℕ} → IsNodeOf words node → AwaitsLeaf words node new
@@ -443,22 +443,15 @@ module _ {table : TableView} {a : SeatView} {made : List Rec} {way : List PathNo
 
 -- the end of the way up
 module _ {table : TableView} {a : SeatView} {made : List Rec} {way : List PathNode} {rise : Rise} (up : Rises table a made way rise) where
-  pub last : (get_or way rise.level no_step).number ≡ up.step.number
-  last = ap (λ (z : PathNode). z.number) (get_or_from_slice_get way rise.level up.step no_step up.at)
-
-  abbrev pub rising_on_at_end : IsRisenAt table a made (get_or way rise.level no_step).number rise.risen
-  rising_on_at_end = risen_as table a made up.step.number (get_or way rise.level no_step).number rise.risen rise.risen (sym last) refl up.here
-
   pub settled_at_end : (c : SeatView) (after : List Rec) (answer : Option Entry) → rise.level ≡ rise.end →
-      MatchOption answer (HasNotMade table c after) (λ e. IsRaising table c after up.here.gone up.here.newcomer (entry (get_or way rise.level no_step).number) (Place e)) →
+      MatchOption answer (HasNotMade table c after) (λ e. IsRaising table c after up.here.gone up.here.newcomer (entry up.step.number) (Place e)) →
       MatchOption answer (HasNotMade table c after) (HasRisenTo table c after way up.here.newcomer rise.end (gone_with_way way rise.end rise.level up.here.gone))
   settled_at_end c after None same given = given
   settled_at_end c after (Some e) same raising =
       let gone : gone_with_way way rise.end rise.level up.here.gone ≡ up.here.gone = ap (λ n. gone_with_way way rise.end n up.here.gone) same ∙ gone_with_no_node way rise.end up.here.gone in (
         up.step,
         ap (slice_get way) (sym same) ∙ up.at,
-        subst (λ n. IsRaising table c after (gone_with_way way rise.end rise.level up.here.gone) up.here.newcomer (entry n) (Place e)) last
-            (subst (λ y. IsRaising table c after y up.here.newcomer (entry (get_or way rise.level no_step).number) (Place e)) (sym gone) raising),
+        subst (λ y. IsRaising table c after y up.here.newcomer (entry up.step.number) (Place e)) (sym gone) raising,
       )
 
 -- nothing has yet
@@ -471,7 +464,7 @@ module _ {table : TableView} {a : SeatView} {made : List Rec} {way : List PathNo
   rises_then then = record { up = then.up; newcomer = then.newcomer ∙ on.newcomer; end = then.end ∙ on.end; gone = then.gone ∙ on.gone }
 
   pub settled_on : (c : SeatView) (after : List Rec) (answer : Option Entry) → next.level ≡ next.end →
-      MatchOption answer (HasNotMade table c after) (λ e. IsRaising table c after on.up.here.gone on.up.here.newcomer (entry (get_or way next.level no_step).number) (Place e)) →
+      MatchOption answer (HasNotMade table c after) (λ e. IsRaising table c after on.up.here.gone on.up.here.newcomer (entry on.up.step.number) (Place e)) →
       MatchOption answer (HasNotMade table c after) (HasRisenTo table c after way before.here.newcomer rise.end (gone_with_way way rise.end rise.level before.here.gone))
   settled_on c after answer same given =
       subst (λ x. MatchOption answer (HasNotMade table c after) (HasRisenTo table c after way x rise.end (gone_with_way way rise.end rise.level before.here.gone))) on.newcomer

@@ -12,7 +12,7 @@ use Rattle.rowex_core.proofs.Reading.{node_is}
 use Rattle.record_words.proofs.Nodes.{length-node_words}
 use Rattle.record_words.proofs.Unused.{zero_in}
 use Rattle.record_words.proofs.Written.{no_entry_word}
-use Rattle.versions.specs.declared.Rec.TheVariants.{Node as a_node}
+use Rattle.record_words.specs.declared.records.Rec.TheVariants.{Node as a_node}
 use Rattle.rowex_core.specs.declared.event.Act.{Act}
 use Rattle.rowex_core.specs.declared.event.Act.TheVariants.{LoadRef, LoadFixed}
 use Rattle.rowex_core.specs.declared.event.Event.{Event}

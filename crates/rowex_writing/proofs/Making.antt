@@ -16,8 +16,8 @@ use Rattle.record_words.specs.declared.TheConstants.{FIRST_ENTRY}
 use Rattle.tries.specs.Content.{Item}
 use Rattle.tries.specs.Tree.{Subtrie}
 use Rattle.versions.specs.Trades.{IsOneOf}
-use Rattle.versions.specs.declared.Rec.{Rec}
-use Rattle.versions.specs.declared.Rec.TheVariants.{Node as a_node, Leaf as a_leaf}
+use Rattle.record_words.specs.declared.records.Rec.{Rec}
+use Rattle.record_words.specs.declared.records.Rec.TheVariants.{Node as a_node, Leaf as a_leaf}
 use Rattle.versions.specs.Steps.{same_rec}
 use Rattle.versions.proofs.Legal.{same_rec_refl}
 use Rattle.versions.proofs.Members.{all_of, of_map, map_of}

@@ -28,8 +28,8 @@ use Rattle.tries.proofs.Places.{spot_below}
 use Rattle.tries.proofs.Spots.{collapsed_spot, without_spot}
 use Rattle.versions.specs.Heap.{NodeWords}
 use Rattle.versions.specs.Trades.{AreApart, IsOneOf}
-use Rattle.versions.specs.declared.Rec.{Rec}
-use Rattle.versions.specs.declared.Rec.TheVariants.{Node as a_node, Leaf as a_leaf}
+use Rattle.record_words.specs.declared.records.Rec.{Rec}
+use Rattle.record_words.specs.declared.records.Rec.TheVariants.{Node as a_node, Leaf as a_leaf}
 use Rattle.versions.proofs.Members.{all_of, map_of, of_map}
 use Rattle.rowex_core.specs.Cores.{HasRecord}
 use Rattle.rowex_core.specs.Having.{AreKept}
@@ -314,7 +314,7 @@ module _ (table : TableView) (b : SeatView) (job : Job) (number : ℕ) (w : IsWi
           let under : (upper job).height < s.height = subst (λ x. height_of x < s.height) entry_is node.below in
           record {
             holds = in_node o i words (subst (λ n. IsOneOf (record { node = n; words = words }) b.known.locks) (sym (number_is ∙ ap (λ (x : PathNode). x.number) (sym same))) has) (some_injective (sym (names words has) ∙ names_upper))
-                (shows.at ∙ (ap (λ (x : PathNode). x.at) same ∙ sym place));
+                (shows.at ∙ (ap (λ (x : PathNode). x.slot) same ∙ sym place));
             fits = λ e low. lower_entry (node_words_of words).fixed.height e (let g = shows.height in omega (arith, low, under, g));
           }
 
@@ -341,7 +341,7 @@ module _ (table : TableView) (b : SeatView) (job : Job) (number : ℕ) (w : IsWi
       let (e, e_is, node) = (way_wide table b job number w).nodes (job.span.end - 1) (upper job) (upper_at table job its) in
       (way_node_locked table.layout b.known its.since job.key.now (upper job) e is.words w.possible (way_wide table b job number w).since node is.has).height
 
-  pub upper_spot : spot job.key.now above.subtrie ≡ (upper job).at
+  pub upper_spot : spot job.key.now above.subtrie ≡ (upper job).slot
   upper_spot =
       let (e, e_is, node) = (way_wide table b job number w).nodes (job.span.end - 1) (upper job) (upper_at table job its) in
       (way_node_locked table.layout b.known its.since job.key.now (upper job) e is.words w.possible (way_wide table b job number w).since node is.has).at
@@ -369,9 +369,9 @@ module _ (table : TableView) (b : SeatView) (job : Job) (number : ℕ) (w : IsWi
         ((omega (arith, built.height_is), omega (arith, joined_low, tall, bound)), joined_low)
 
   -- the fork above the two may be closed by its entry
-  pub closes_fork : (e : Entry) → StandsBelow above.fixed.height e → ClosesFork b.known job.key.now (record { step = upper job; place = x.place; entry = e })
+  pub closes_fork : (e : Entry) → StandsBelow above.fixed.height e → ClosesFork b.known job.key.now (record { step = upper job; slot = x.slot; entry = e })
   closes_fork e stands words h =
-      subst (λ ws. (spot job.key.now (node_words_of ws).subtrie ≡ (upper job).at) × ((position : ℕ) × (beside (upper job).at (node_words_of ws).subtrie ≡ Some (x.place, position))) × StandsBelow (node_words_of ws).fixed.height e)
+      subst (λ ws. (spot job.key.now (node_words_of ws).subtrie ≡ (upper job).slot) × ((position : ℕ) × (beside (upper job).slot (node_words_of ws).subtrie ≡ Some (x.slot, position))) × StandsBelow (node_words_of ws).fixed.height e)
       (same_words table.layout b.known (upper job).number is.words words w.possible is.has h)
       (upper_spot, (x.position, ap (λ i. beside i above.subtrie) (sym upper_spot) ∙ is.forks), stands)
 
@@ -410,14 +410,14 @@ module _ (table : TableView) (b : SeatView) (job : Job) (number : ℕ) (w : IsWi
   -- what a node built of both shows
   pub shown_merged : (leaf : ℕ) (s : AreBeside b.known.locks job.key.now (upper job).number (lower job).number number leaf) → s.position ≡ x.position → (node left other : NodeView) →
       ((words : List ℕ) → HasLocked b.known (lower job).number words → IsNodeOf words node) → ((words : List ℕ) → HasLocked b.known number words → IsNodeOf words other) →
-      piece left ≡ without (lower job).at (piece node) → fork_of (bit job.key.now x.position) x.position (piece left) (piece other) ≡ merged s
+      piece left ≡ without (lower job).slot (piece node) → fork_of (bit job.key.now x.position) x.position (piece left) (piece other) ≡ merged s
   shown_merged leaf s at node left other node_is other_is left_is =
       let own = node_is s.lower s.has_lower in
       let (e, e_is, on) = (way_wide table b job number w).nodes job.span.end (lower job) (lower_at table job its) in
       let leads = (way_node_locked table.layout b.known its.since job.key.now (lower job) e s.lower w.possible (way_wide table b job number w).since on s.has_lower).at in
       let sub : (node_words_of s.lower).subtrie ≡ piece node = ap (λ (z : NodeWords). z.subtrie) own.shows in
       let beside_sub : (node_words_of s.other).subtrie ≡ piece other = ap (λ (z : NodeWords). z.subtrie) (other_is s.other s.has_other).shows in
-      let spot_is : spot job.key.now (piece node) ≡ (lower job).at = sym (ap (spot job.key.now) sub) ∙ leads in
+      let spot_is : spot job.key.now (piece node) ≡ (lower job).slot = sym (ap (spot job.key.now) sub) ∙ leads in
       let rest : piece left ≡ subtrie_without job.key.now (node_words_of s.lower).subtrie =
       left_is ∙ (ap (λ i. without i (piece node)) (sym spot_is) ∙ (without_spot job.key.now (piece node) ∙ ap (subtrie_without job.key.now) (sym sub))) in
       ap (λ q. fork_of (bit job.key.now q) q (piece left) (piece other)) (sym at) ∙
@@ -425,7 +425,7 @@ module _ (table : TableView) (b : SeatView) (job : Job) (number : ℕ) (w : IsWi
 
   -- so its forks rise
   pub joined_rises : (node left other : NodeView) → ((words : List ℕ) → HasLocked b.known (lower job).number words → IsNodeOf words node) → ((words : List ℕ) → HasLocked b.known number words → IsNodeOf words other) →
-      piece left ≡ without (lower job).at (piece node) → RisesFrom 0 (fork_of (bit job.key.now x.position) x.position (piece left) (piece other))
+      piece left ≡ without (lower job).slot (piece node) → RisesFrom 0 (fork_of (bit job.key.now x.position) x.position (piece left) (piece other))
   joined_rises node left other node_is other_is left_is =
       let p = w.possible in
       subst (RisesFrom 0) (sym (shown_merged its.number side (beside_wide table b job number w x same is).1 node left other node_is other_is left_is))
@@ -448,7 +448,7 @@ one_left words own node other at (Many left) x y shows few = absurd (few left re
 one_left words own node other at Same x y shows few = absurd shows
 
 -- the place of the leaf in the lower node
-pub lower_within : (table : TableView) (b : SeatView) (job : Job) (number : ℕ) (w : IsWide table b job number) (node : NodeView) → ((words : List ℕ) → HasLocked b.known (lower job).number words → IsNodeOf words node) → (lower job).at < length node.entries
+pub lower_within : (table : TableView) (b : SeatView) (job : Job) (number : ℕ) (w : IsWide table b job number) (node : NodeView) → ((words : List ℕ) → HasLocked b.known (lower job).number words → IsNodeOf words node) → (lower job).slot < length node.entries
 lower_within table b job number w node node_is =
     let (low, i) = lower_locked table job w.taking in
     let h = held_wide table b job number w (lower job).number low i in
@@ -457,7 +457,7 @@ lower_within table b job number w node node_is =
     let leads = (way_node_locked table.layout b.known w.taking.since job.key.now (lower job) e low w.possible way.since on h).at in
     let own = node_is low h in
     let sub : (node_words_of low).subtrie ≡ piece node = ap (λ (z : NodeWords). z.subtrie) own.shows in
-    let below : (lower job).at < size (piece node) = subst (λ i. i < size (piece node)) (sym (ap (spot job.key.now) sub) ∙ leads) (spot_below job.key.now (piece node)) in
+    let below : (lower job).slot < size (piece node) = subst (λ i. i < size (piece node)) (sym (ap (spot job.key.now) sub) ∙ leads) (spot_below job.key.now (piece node)) in
     omega (arith, below, size-piece node own.has.lawful)
 
 -- ---- what is left of the upper node
@@ -465,22 +465,22 @@ module _ (k : Known) (key : Key) (fork : ClosedFork) (closes : ClosesFork k key 
   sub_is : (node_words_of words).subtrie ≡ piece view
   sub_is = ap (λ (z : NodeWords). z.subtrie) is.shows
 
-  leads_is : spot key (piece view) ≡ fork.step.at
+  leads_is : spot key (piece view) ≡ fork.step.slot
   leads_is = sym (ap (spot key) sub_is) ∙ (closes words h).0
 
-  pub can_close : (loaded : List ℕ) → node_words view ≡ loaded → CanCloseAt loaded view fork.step.at fork.place fork.entry
+  pub can_close : (loaded : List ℕ) → node_words view ≡ loaded → CanCloseAt loaded view fork.step.slot fork.slot fork.entry
   can_close loaded spells =
       let (leads, (position, forks), stands) = closes words h in
       record {
         has = is.has;
         spells = spells;
-        in_range = (let low : fork.step.at < size (piece view) = subst (λ i. i < size (piece view)) leads_is (spot_below key (piece view)) in omega (arith, low, size-piece view is.has.lawful));
+        in_range = (let low : fork.step.slot < size (piece view) = subst (λ i. i < size (piece view)) leads_is (spot_below key (piece view)) in omega (arith, low, size-piece view is.has.lawful));
         position = position;
-        is_beside = ap (beside fork.step.at) (sym sub_is) ∙ forks;
+        is_beside = ap (beside fork.step.slot) (sym sub_is) ∙ forks;
         stands = subst (λ (z : NodeWords). StandsBelow z.fixed.height fork.entry) is.shows stands;
       }
 
-  pub closed_shown : collapsed fork.step.at fork.entry (piece view) ≡ subtrie_collapsed key fork.entry (node_words_of words).subtrie
+  pub closed_shown : collapsed fork.step.slot fork.entry (piece view) ≡ subtrie_collapsed key fork.entry (node_words_of words).subtrie
   closed_shown = ap (λ i. collapsed i fork.entry (piece view)) (sym leads_is) ∙ (collapsed_spot key fork.entry (piece view) ∙ ap (subtrie_collapsed key fork.entry) (sym sub_is))
 
 pub closed_over : (table : TableView) (c : SeatView) (made : List Rec) (news : List Made) (view : NodeView) (shown other : Subtrie) (answer : Option Entry) → shown ≡ other → IsBuiltFrom view shown → HasNodeWords view →
@@ -520,7 +520,7 @@ module _ {G : Type 0} (table : TableView) (becomes : G → Event → G → Type 
 
   -- the fork, and its entry of this height in this record
   abbrev pub fork_at : (n h : ℕ) → ClosedFork
-  fork_at n h = record { step = upper job; place = x.place; entry = Node n h }
+  fork_at n h = record { step = upper job; slot = x.slot; entry = Node n h }
 
   pub closes_for : (n : ℕ) → ClosesFork b.0.known job.key.now (fork_at n view.height)
   closes_for n = closes_fork table b.0 job x.number wide_now x refl beside_now (Node n view.height) (joined_stands table b.0 job x.number wide_now x refl beside_now view merged_for n)
@@ -550,7 +550,7 @@ building_same table a b made news seat possible own was = record { seat = seat; 
 -- ---- the end of a removal
 pub is_taking : (table : TableView) (a : SeatView) (job : Job) → HasTakenPlan table a job Take → 0 < job.span.end → (t : IsTaking table job) × (t.before ≡ a)
 is_taking table a job (m, aim, taken, planned) some =
-    let (number, value, found_is, below) = taken_below table a m job aim taken planned (let w = taken.within.0 in omega (arith, w, some)) in
+    let (number, value, found_is, below) = taken_below table a m job aim Take tt taken planned (let w = taken.within.0 in omega (arith, w, some)) in
     (record { before = a; since = m; number = number; value = value; found = found_is; below = below; some = some }, refl)
 
 -- it goes on once what is left of the lower node is made
@@ -582,7 +582,7 @@ holds_on table becomes a b job deed goes (m, aim, t, planned) = record {
 
 pub building_now : (table : TableView) (b : SeatView) (made : List Rec) (job : Job) (t : IsTaking table job) (raised : Raised) (x : Change) (was : Option ℕ) → MayReplace table b made job raised x was → (news : List Made) × IsBuilding table b made news
 building_now table b made job t raised x was may =
-    let m = may.ends (Slot (upper job).number (upper job).at) (upper job, t.some, upper_at table job t, refl, refl) in (m.news, m.building)
+    let m = may.ends (Slot (upper job).number (upper job).slot) (upper job, t.some, upper_at table job t, refl, refl) in (m.news, m.building)
 
 pub replace_later : (table : TableView) (a b : SeatView) (made after : List Rec) (job : Job) (raised : Raised) (x : Change) (was : Option ℕ) → IsSeatOf table b → IsPossible table.layout b.known → IsLater a.known b.known → HasTheSame a.known b.known →
     after ≡ made → MayReplace table a made job raised x was → MayReplace table b after job raised x was

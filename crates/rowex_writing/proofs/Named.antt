@@ -18,7 +18,7 @@ use Rattle.tries.specs.Tree.{Tree, Holds, Within, leaf}
 use Rattle.tries.proofs.Maps.{value_holds}
 use Rattle.versions.specs.Told.{content}
 use Rattle.versions.specs.Heap.{LeafWords}
-use Rattle.versions.specs.declared.Rec.TheVariants.{Leaf as a_leaf}
+use Rattle.record_words.specs.declared.records.Rec.TheVariants.{Leaf as a_leaf}
 use Rattle.version_laws.proofs.Holding.{newest_tree_if_spot_held, leaf_at}
 use Rattle.rowex_core.specs.declared.event.Act.TheVariants.{LoadRef}
 use Rattle.rowex_core.specs.declared.event.Spot.{Spot}

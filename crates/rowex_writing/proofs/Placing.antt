@@ -24,7 +24,7 @@ use Rattle.tries.specs.Place.{shape}
 use Rattle.tries.specs.Search.{seek}
 use Rattle.tries.specs.Tree.{Subtrie, leaf}
 use Rattle.tries.proofs.Tries.{trie_within}
-use Rattle.versions.specs.declared.Rec.{Rec}
+use Rattle.record_words.specs.declared.records.Rec.{Rec}
 use Rattle.versions.specs.Trades.{IsOneOf}
 use Rattle.version_laws.specs.Scan.{IsRead}
 use Rattle.version_laws.specs.Writer.{added_change, replaced_change}
@@ -50,6 +50,7 @@ use Rattle.publish_laws.proofs.Sure.{seen_is_sure, sure_stays}
 use Rattle.rowex_writing.specs.Building.{HasLeafMade, IsBuilding}
 use Rattle.rowex_writing.specs.Changes.{AreAffected, HasTakenSpan, IsPlanned, IsPutChange, MayPublishOnceReady}
 use Rattle.rowex_writing.specs.Going.{HasLocked}
+use Rattle.rowex_writing.proofs.Planning.{takes_too}
 use Rattle.rowex_writing.specs.Plans.{change, IsCase, IsNewLeafPlan, IsPlan}
 use Rattle.rowex_writing.specs.Putting.{IsSpotAbove}
 use Rattle.rowex_reading.specs.Ways.{IsFoundAt, IsMismatch, IsWayNode, IsWayOf, end_of, named}
@@ -107,7 +108,7 @@ put_at way first last Upsert (Leaf number value (Some p)) len end e = no_put way
 put_at way first last Remove (Leaf number value (Some p)) len end e = cc
 put_at way first last Insert (Leaf number value None) len end e = absurd cc
 put_at way first last Upsert (Leaf number value None) len end e = cc
-put_at way first last Remove (Leaf number value None) len end e = absurd cc
+put_at way first last Remove (Leaf number value None) len end e = absurd (takes_too way e)
 
 pub put_stored : (q number : ℕ) (key : Key) (value : ℕ) (way : List PathNode) (found : Found) (len end : ℕ) → IsPutAt way found len end →
     IsPutChange q key value found (added_change q (item number key value)) None
@@ -147,7 +148,7 @@ last_level : (way : List PathNode) (p level first last : ℕ) (c : Choice) → I
 last_level way p level first last c is chosen down = ⊎_elim (λ several. absurd (by_several several)) (λ single. ⊎_elim (λ more. absurd (by_next single more)) (λ none. by_leaf single none) (cases_lt (level + 1) (length way))) (cases_lt first last)
   where
     d : PathNode
-    d = record { number = 0; height = 0; first_position = 0; count = 0; at = 0 }
+    d = record { number = 0; height = 0; first_position = 0; count = 0; slot = 0 }
 
     by_several : first < last → ⊥
     by_several h =
@@ -202,7 +203,7 @@ pair_at way first last Upsert (Leaf number value (Some p)) len end q e = pair_ne
 pair_at way first last Remove (Leaf number value (Some p)) len end q e = absurd cc
 pair_at way first last Insert (Leaf number value None) len end q e = cc
 pair_at way first last Upsert (Leaf number value None) len end q e = cc
-pair_at way first last Remove (Leaf number value None) len end q e = cc
+pair_at way first last Remove (Leaf number value None) len end q e = absurd (takes_too way e)
 
 pair_spans_at : (way : List PathNode) (p first last len end q : ℕ) → IsPairAt way p first last len end q → (len ≡ end) × (end ≡ length way)
 pair_spans_at [] p first last len end q (a, b, c) = (a ∙ sym b, b)

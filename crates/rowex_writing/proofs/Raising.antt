@@ -19,8 +19,8 @@ use Rattle.tries.specs.Affected.{subtrie_forked, subtrie_grown}
 use Rattle.tries.specs.Keys.{Key, bit}
 use Rattle.tries.specs.Tree.{Subtrie}
 use Rattle.versions.specs.Trades.{IsOneOf}
-use Rattle.versions.specs.declared.Rec.{Rec}
-use Rattle.versions.specs.declared.Rec.TheVariants.{Node as a_node}
+use Rattle.record_words.specs.declared.records.Rec.{Rec}
+use Rattle.record_words.specs.declared.records.Rec.TheVariants.{Node as a_node}
 use Rattle.version_laws.specs.Rise.{body, entry}
 use Rattle.version_laws.specs.Writer.{Newcomer}
 use Rattle.versions.specs.State.{FirstForkIsFrom}

@@ -10,7 +10,7 @@ use Rattle.tries.specs.Keys.{Key}
 use Rattle.tries.specs.Place.{shape, spot}
 use Rattle.tries.specs.Tree.{Subtrie, Tree, Fixed, node, subtrie, first_position}
 use Rattle.tries.proofs.Places.{shape_tips, spot_shape}
-use Rattle.versions.specs.declared.Rec.TheVariants.{Node as a_node}
+use Rattle.record_words.specs.declared.records.Rec.TheVariants.{Node as a_node}
 use Rattle.versions.specs.Heap.{NodeWords}
 use Rattle.versions.specs.State.{Past, Stands, IsSteady}
 use Rattle.versions.proofs.Growth.{in_tree_now}
@@ -100,7 +100,7 @@ pub record IsStepOf (key : Key) (s : PathNode) (forks : Subtrie) (w : NodeWords)
   pub height : w.fixed.height ≡ s.height
   pub count : size w.subtrie ≡ s.count
   pub first : first_position w.subtrie ≡ s.first_position
-  pub at : spot key w.subtrie ≡ s.at
+  pub at : spot key w.subtrie ≡ s.slot
   pub room : size w.subtrie ≤ 32
 
 pub way_node_locked : (layout : Layout) (k : Known) (m : ℕ) (key : Key) (s : PathNode) (e : Entry) (words : List ℕ) → IsPossible layout k → IsPinnedSince k m →

@@ -17,7 +17,7 @@ use Rattle.version_laws.specs.Scan.{IsRead}
 use Rattle.version_laws.proofs.Search.{holds_within}
 use Rattle.versions.specs.State.{IsSteady, Past, Stands}
 use Rattle.versions.specs.Trades.{IsOneOf}
-use Rattle.versions.specs.declared.Rec.TheVariants.{Leaf as a_leaf}
+use Rattle.record_words.specs.declared.records.Rec.TheVariants.{Leaf as a_leaf}
 use Rattle.rowex_core.specs.declared.event.Act.TheVariants.{LoadRef, Publish}
 use Rattle.rowex_core.specs.declared.event.Event.{Event}
 use Rattle.rowex_core.specs.declared.event.Spot.{Spot}
@@ -29,6 +29,7 @@ use Rattle.rowex_core.specs.Knowing.{IsEvent, IsPinnedSince}
 use Rattle.rowex_core.proofs.Owning.{recalls}
 use Rattle.rowex_table.specs.Made.{IsLater, Made, nodes_of}
 use Rattle.rowex_table.specs.Publishes.{HasPublished}
+use Rattle.rowex_table.specs.Rule.{record_number}
 use Rattle.rowex_table.specs.Runs.{Steps, silent}
 use Rattle.rowex_table.specs.Seats.{SeatView, TableView}
 use Rattle.rowex_table.proofs.ActsBefore.{value_loaded}
@@ -69,7 +70,7 @@ use Rattle.rowex_writing.specs.Building.{IsBuilding}
 use Rattle.rowex_writing.specs.declared.job.Raised.{Raised}
 use Rattle.rowex_writing.specs.declared.attempts.TryFault.{TryFault}
 use Rattle.rowex_writing.specs.declared.attempts.TryFault.TheVariants.{Busy, FullNodes, FullLeaves}
-use Rattle.versions.specs.declared.Rec.{Rec}
+use Rattle.record_words.specs.declared.records.Rec.{Rec}
 use Rattle.rowex_writing.specs.Retiring.{IsAnchored}
 use Rattle.rowex_core.specs.Having.{AreKept, LocksJust}
 use Rattle.versions.proofs.Members.{map_of}
@@ -132,6 +133,11 @@ found_loaded {layout} {k} {j} n w e number value is =
     let value_is : w ≡ value = cc in
     subst (λ z. HasLoaded j z value) number_is (subst (HasLoaded j n) value_is here)
 
+-- a load of a located leaf's value, by the leaf's number
+pub of_leaf : {G : Type 0} {table : TableView} {becomes : G → Event → G → Type 0} {r : Rec} {n w : ℕ} {a b : SeatView × G} → r ≡ a_leaf n →
+    Steps table becomes (LoadRef (Value (record_number r)) w) a b → Steps table becomes (LoadRef (Value n) w) a b
+of_leaf {table = table} {becomes = becomes} {w = w} {a = a} {b = b} is steps = subst (λ z. Steps table becomes (LoadRef (Value z) w) a b) (ap record_number is) steps
+
 pub value_reads : {G : Type 0} (table : TableView) (becomes : G → Event → G → Type 0) (n w : ℕ) (a b : SeatView × G) → Steps table becomes (LoadRef (Value n) w) a b → ReadsOn table becomes a b
 value_reads table becomes n w a b s = record {
   goes = record {
@@ -189,7 +195,7 @@ some_spot way end low = go (cases_lt 0 end)
   where
     go : (0 < end) ⊎ (end ≤ 0) → (spot : Spot) × IsSpotAbove way end spot
     go (inr none) = (Root, omega (arith, none))
-    go (inl some) = let s = get_or way (end - 1) no_step in (Slot s.number s.at, (s, some, slice_get-get_or way (end - 1) no_step (omega (arith, some, low)), refl, refl))
+    go (inl some) = let s = get_or way (end - 1) no_step in (Slot s.number s.slot, (s, some, slice_get-get_or way (end - 1) no_step (omega (arith, some, low)), refl, refl))
 
 -- so a change's records are those that the pass has made
 pub replaced_made : (table : TableView) (a : SeatView) (made : List Rec) (job : Job) (raised : Raised) (x : Change) (was : Option ℕ) → job.span.end ≤ length job.way.now → MayReplace table a made job raised x was →

@@ -182,7 +182,7 @@ root_above held key way found end j root top is (locks, anchor) = by_anchor top 
 
 pub step_above : (layout : Layout) (held : List Locked) (key : Key) (way : List PathNode) (found : Found) (end : ℕ) (j : Known) (m : ℕ) (entry : Option Entry) (s : PathNode) → IsPossible layout j → IsWayOf layout j m key way found →
     0 < end → slice_get way (end - 1) ≡ Some s → entry ≡ named way found end → LocksLast s.number held j → j.anchor ≡ None →
-    ((words : List ℕ) → HasLocked j s.number words → entry ≡ Some (entry_at (node_words_of words).subtrie s.at)) → LocksAbove held key way found end j
+    ((words : List ℕ) → HasLocked j s.number words → entry ≡ Some (entry_at (node_words_of words).subtrie s.slot)) → LocksAbove held key way found end j
 step_above layout held key way found end j m entry s possible w low at is last free names = by_node s low at last free (λ words h.
     let (e, name, node) = w.nodes (end - 1) s at in
     let shows = way_node_locked layout j m key s e words possible w.since node h in

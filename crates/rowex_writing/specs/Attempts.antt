@@ -9,7 +9,7 @@ use Rattle.finite_map.specs.Fronts.{BeginsWith, OthersGoOn, map_of}
 use Rattle.finite_map.specs.Maps.{key_of, value_at}
 use Rattle.record_words.specs.declared.layout.Layout.{Layout}
 use Rattle.tries.specs.Keys.{Key}
-use Rattle.versions.specs.declared.Rec.{Rec}
+use Rattle.record_words.specs.declared.records.Rec.{Rec}
 use Rattle.rowex_core.specs.declared.event.Act.{Act}
 use Rattle.rowex_core.specs.declared.event.Act.TheVariants.{LoadRef}
 use Rattle.rowex_core.specs.declared.event.Event.{Event}

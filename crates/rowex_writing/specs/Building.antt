@@ -26,8 +26,8 @@ use Rattle.tries.specs.Place.{spot}
 use Rattle.tries.specs.Tree.{Subtrie}
 use Rattle.version_laws.specs.Rise.{Side, entry}
 use Rattle.version_laws.specs.Writer.{Newcomer}
-use Rattle.versions.specs.declared.Rec.{Rec}
-use Rattle.versions.specs.declared.Rec.TheVariants.{Node as a_node}
+use Rattle.record_words.specs.declared.records.Rec.{Rec}
+use Rattle.record_words.specs.declared.records.Rec.TheVariants.{Node as a_node}
 use Rattle.rowex_core.specs.Cores.{FitsIn}
 use Rattle.rowex_core.specs.Reading.{IsPacked, node_words_of}
 use Rattle.rowex_table.specs.Made.{Made, recs_of, HoldsMade}
@@ -172,7 +172,7 @@ pub record GetsLeaf (table : TableView) (a : SeatView) (made : List Rec) (number
   pub made_leaf : HasLeafMade table a made item
   pub found : HasFoundBelow a.known a.known.locks (record { since = since; item = item; mismatch = new.position; like = like }) number words
   pub part : IsPartSubtrie (subtrie_affected new.position item.key (node_words_of words).subtrie)
-  pub leads : spot item.key (node_words_of words).subtrie ≡ new.at
+  pub leads : spot item.key (node_words_of words).subtrie ≡ new.slot
 
 -- so its newcomer
 abbrev pub newcomer_of : {table : TableView} {a : SeatView} {made : List Rec} {number : ℕ} {new : NewLeaf} → GetsLeaf table a made number new → Newcomer

@@ -1,7 +1,7 @@
 -- Claims of leaf records of one class after the other.
 use Rattle.std.specs.Prelude.{ℕ, ◌<◌, ◌≤◌, List, Option}
-use Rattle.versions.specs.declared.Rec.{Rec}
-use Rattle.versions.specs.declared.Rec.TheVariants.{Leaf as a_leaf}
+use Rattle.record_words.specs.declared.records.Rec.{Rec}
+use Rattle.record_words.specs.declared.records.Rec.TheVariants.{Leaf as a_leaf}
 use Rattle.rowex_core.specs.declared.known.Failed.{Failed}
 use Rattle.rowex_records.specs.Claims.{HasMissedSince}
 

@@ -14,8 +14,8 @@ use Rattle.tries.specs.Place.{spot, subtrie_sibling, subtrie_without}
 use Rattle.tries.specs.Search.{seek}
 use Rattle.tries.specs.Tree.{Subtrie}
 use Rattle.versions.specs.Trades.{IsOneOf}
-use Rattle.versions.specs.declared.Rec.{Rec}
-use Rattle.versions.specs.declared.Rec.TheVariants.{Node as a_node, Leaf as a_leaf}
+use Rattle.record_words.specs.declared.records.Rec.{Rec}
+use Rattle.record_words.specs.declared.records.Rec.TheVariants.{Node as a_node, Leaf as a_leaf}
 use Rattle.rowex_core.specs.Cores.{word_count_of}
 use Rattle.rowex_core.specs.Reading.{node_words_of}
 use Rattle.rowex_core.specs.declared.event.Event.{Event}
@@ -46,7 +46,7 @@ use Rattle.rowex_writing.specs.declared.plan.Span.{Span}
 
 -- what stands past the end of a way
 abbrev pub no_step : PathNode
-no_step = record { number = 0; height = 0; first_position = 0; count = 0; at = 0 }
+no_step = record { number = 0; height = 0; first_position = 0; count = 0; slot = 0 }
 
 -- the last node of a job's way, which loses the leaf, and the one above it
 abbrev pub lower : Job → PathNode
@@ -83,7 +83,7 @@ pub record HasClaimed (table : TableView) (k : Known) (n : ℕ) : Type 0 where
   pub own : k.own ≡ record { rec = a_node n; holding = Held; words = words } ∷ []
 
 -- Without the leaf a node is left of the lower one, by the words under its lock, and these words spell it.
-pub record IsLeft (k : Known) (job : Job) (left : List ℕ) : Type 0 where
+pub record IsLeftOfNode (k : Known) (job : Job) (left : List ℕ) : Type 0 where
   pub words : List ℕ
   pub has : HasLocked k (lower job).number words
   pub built : SpellBuilt left (subtrie_without job.key.now (node_words_of words).subtrie)
@@ -92,14 +92,14 @@ pub record IsLeft (k : Known) (job : Job) (left : List ℕ) : Type 0 where
 pub record IsNeighbour (k : Known) (job : Job) (b : Merge) : Type 0 where
   pub words : List ℕ
   pub has : HasLocked k (upper job).number words
-  pub forks : beside (spot job.key.now (node_words_of words).subtrie) (node_words_of words).subtrie ≡ Some (b.place, b.position)
+  pub forks : beside (spot job.key.now (node_words_of words).subtrie) (node_words_of words).subtrie ≡ Some (b.slot, b.position)
   pub height : ℕ
   pub sibling : subtrie_sibling job.key.now (node_words_of words).subtrie ≡ Some (b.position, Place (Node b.number height))
 
 -- In the locked node of the fork, by its words, the place alone is beside the one that the key's search takes; and the entry can stand in it.
 abbrev pub ClosesFork : Known → Key → ClosedFork → Type 0
-ClosesFork k key fork = (words : List ℕ) → HasLocked k fork.step.number words → (spot key (node_words_of words).subtrie ≡ fork.step.at) ×
-    ((position : ℕ) × (beside fork.step.at (node_words_of words).subtrie ≡ Some (fork.place, position))) × StandsBelow (node_words_of words).fixed.height fork.entry
+ClosesFork k key fork = (words : List ℕ) → HasLocked k fork.step.number words → (spot key (node_words_of words).subtrie ≡ fork.step.slot) ×
+    ((position : ℕ) × (beside fork.step.slot (node_words_of words).subtrie ≡ Some (fork.slot, position))) × StandsBelow (node_words_of words).fixed.height fork.entry
 
 -- the height of the entry's node is one that a word tells
 abbrev pub HasHeight : Entry → Type 0

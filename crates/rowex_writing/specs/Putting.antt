@@ -8,4 +8,4 @@ use Rattle.rowex_core.specs.declared.event.Spot.TheVariants.{Root, Slot, Value}
 abbrev pub IsSpotAbove : List PathNode → ℕ → Spot → Type 0
 IsSpotAbove way end Root = end ≡ 0
 IsSpotAbove way end (Value l) = ⊥
-IsSpotAbove way end (Slot n i) = (s : PathNode) × (0 < end) × (slice_get way (end - 1) ≡ Some s) × (n ≡ s.number) × (i ≡ s.at)
+IsSpotAbove way end (Slot n i) = (s : PathNode) × (0 < end) × (slice_get way (end - 1) ≡ Some s) × (n ≡ s.number) × (i ≡ s.slot)

@@ -33,7 +33,7 @@ subtrie_with_leaf new shown = subtrie_grown new.position new.key.now (Leaf new.n
 -- The words spell this node, in which the search of the leaf's key takes the entry at its place. A tree begins with its subtrie with the leaf.
 pub record AwaitsLeaf (words : List ℕ) (node : NodeView) (new : NewLeaf) : Type 0 where
   pub is : IsNodeOf words node
-  pub leads : spot new.key.now (piece node) ≡ new.at
+  pub leads : spot new.key.now (piece node) ≡ new.slot
   pub tree : IsSubtrieOfTree (subtrie_with_leaf new (piece node))
 
 -- the subtrie with the fork in the place of the entry of its key's search

@@ -4,8 +4,8 @@ use Rattle.finite_map.specs.declared.Call.{Call}
 use Rattle.finite_map.specs.declared.Call.TheVariants.{Remove, RemoveIf}
 use Rattle.record_words.specs.declared.layout.Layout.{Layout}
 use Rattle.versions.specs.Trades.{IsOneOf}
-use Rattle.versions.specs.declared.Rec.{Rec}
-use Rattle.versions.specs.declared.Rec.TheVariants.{Node as a_node}
+use Rattle.record_words.specs.declared.records.Rec.{Rec}
+use Rattle.record_words.specs.declared.records.Rec.TheVariants.{Node as a_node}
 use Rattle.lone_runs.specs.Lone.{HasFree, HasRoom, HasSpare}
 use Rattle.rowex_table.specs.Seats.{SeatView}
 use Rattle.rowex_writing.specs.Deeds.{gone_of_span}

@@ -112,7 +112,7 @@ fn entries_stand<G: Gate>(
     true
 }
 
-/// Returns whether the locked node `step.number` has `entry` in slot `step.at`, by one load.
+/// Returns whether the locked node `step.number` has `entry` in `step.slot`, by one load.
 pub(crate) fn entry_stands<G: Gate>(
     table: &HotTable,
     seat: &mut TableSeat,
@@ -122,18 +122,18 @@ pub(crate) fn entry_stands<G: Gate>(
 ) -> bool
     requires own { IsSeatOf table.now seat.old }
     requires possible { IsPossible table.now.layout seat.old.known }
-    requires place { (m h : ℕ) × HasPlace seat.old.known m step.number h step.at }
+    requires place { (m h : ℕ) × HasPlace seat.old.known m step.number h step.slot }
     requires locked { IsLockedBy seat.old.known step.number }
     ensures reads { ReadsOn table.now G.becomes (seat.old, gate.old) (seat.new, gate.new) }
     ensures possible { IsPossible table.now.layout seat.new.known }
-    ensures same { result ≡ true → (words : List ℕ) → HasLocked seat.old.known step.number words → entry ≡ Some (entry_at (node_words_of words).subtrie step.at) }
-    ensures changed { (m h : ℕ) (e : EntryValue) → HasPlace seat.old.known m step.number h step.at → entry ≡ Some e →
-        Sure seat.old.known (λ past. IsPlaced past m step.number step.at e) → result ≡ false → m < length seat.new.known.front }
+    ensures same { result ≡ true → (words : List ℕ) → HasLocked seat.old.known step.number words → entry ≡ Some (entry_at (node_words_of words).subtrie step.slot) }
+    ensures changed { (m h : ℕ) (e : EntryValue) → HasPlace seat.old.known m step.number h step.slot → entry ≡ Some e →
+        Sure seat.old.known (λ past. IsPlaced past m step.number step.slot e) → result ≡ false → m < length seat.new.known.front }
     ensures few { seat.new.known.steps ≤ seat.old.known.steps + 1 }
 {
     let spot = Spot::Slot {
         node: step.number,
-        entry: step.at,
+        slot: step.slot,
     };
     let word = table.load_ref(seat, gate, spot);
     is_word_of(entry, word)

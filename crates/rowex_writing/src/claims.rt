@@ -3,14 +3,14 @@
 ghost use Rattle.std.specs.Prelude.{◌≡◌, false, true, ◌<◌, ◌≤◌, ◌+◌, ◌-◌, ◌*◌, MatchOption, ◌++◌, ◌∷◌, [], List, ℕ, Contains, length};
 ghost use Rattle.record_words.specs.Layout.{leaf_size};
 ghost use Rattle.record_words.specs.declared.TheConstants.{LEAF_WORDS};
-ghost use Rattle.versions.specs.declared.Rec.TheVariants.{Leaf as a_leaf, Node as a_node};
+ghost use Rattle.record_words.specs.declared.records.Rec.TheVariants.{Leaf as a_leaf, Node as a_node};
 ghost use Rattle.rowex_table.specs.Seats.{IsSeatOf};
 ghost use Rattle.rowex_records.specs.Claims.{AllMissed, AllMissedFrom, HoldsOneMore, IsAnothersTo, IsKindOf, count_of, record_of, HasMissedSince, IsAnothersBut};
 ghost use Rattle.lone_runs.specs.Lone.{HasFree};
 ghost use Rattle.rowex_writing.specs.Spare.{FindsOne};
 ghost use Rattle.rowex_writing.specs.Classes.{AllMissedBetween};
 ghost use Rattle.rowex_writing.specs.Going.{WorksOn};
-ghost use Rattle.versions.specs.declared.Rec.{Rec as Record};
+ghost use Rattle.record_words.specs.declared.records.Rec.{Rec as Record};
 ghost use Rattle.rowex_table.specs.Made.{Made};
 ghost use Rattle.rowex_writing.specs.Building.{IsBuilding};
 ghost use Rattle.rowex_writing.specs.Walks.{HasNoOther, HasWalked, IsClaimWalk, looks_for, looks_unless};
@@ -23,6 +23,7 @@ use rowex_records::{
     RecordKind, claim_by_number, claim_next_record, claim_record, find_free_record,
 };
 use rowex_table::{HotTable, TableSeat};
+use std::ops::Range;
 
 /// Claims a record of `kind` and returns its number, counted from the first of the kind on. `None` if none was free.
 ///
@@ -102,10 +103,10 @@ pub(crate) fn claim_leaf<G: Gate>(
     let layout = table.layout();
     let first = layout.first_leaf_with(words);
     let from = skip_classes(layout, classes, first);
-    if let Some(number) = claim_leaf_between(table, seat, gate, from, layout.leaves, classes) {
+    if let Some(number) = claim_leaf_between(table, seat, gate, from..layout.leaves, classes) {
         return Some(number);
     }
-    let number = claim_leaf_between(table, seat, gate, first, from, classes)?;
+    let number = claim_leaf_between(table, seat, gate, first..from, classes)?;
     Some(number)
 }
 
@@ -127,30 +128,29 @@ fn skip_classes(layout: Layout, classes: &mut [Hint; LEAF_CLASSES], first: u32) 
     from
 }
 
-/// Claims a leaf record from number `from` on and below `upto`, of the smallest class that has one free, and returns its number. `None` if
-/// none was free. By its hint in `classes` a class with none free is to be skipped then. Inline, so that the class of the first is known.
+/// Claims a leaf record with one of `numbers`, of the smallest class that has one free, and returns its number. `None` if none was free.
+/// By its hint in `classes` a class with none free is to be skipped then. Inline, so that the class of the first is known.
 #[inline(always)]
 fn claim_leaf_between<G: Gate>(
     table: &HotTable,
     seat: &mut TableSeat,
     gate: &mut G,
-    from: u32,
-    upto: u32,
+    numbers: Range<u32>,
     classes: &mut [Hint; LEAF_CLASSES],
 ) -> Option<u32>
     requires own { IsSeatOf table.now seat.old }
-    requires range { (from ≤ upto) × (upto ≤ table.now.layout.leaves) }
+    requires range { (numbers.start ≤ numbers.end) × (numbers.end ≤ table.now.layout.leaves) }
     ensures goes { WorksOn table.now G.becomes (seat.old, gate.old) (seat.new, gate.new) }
     ensures claims { MatchOption result
         ((seat.new.known.own ≡ seat.old.known.own) ×
-        AllMissedBetween (IsAnothersTo table.now.layout seat.old.known) from upto seat.new.known.failed seat.old.known.steps)
-        (λ number. (from ≤ number) × (number < upto) × HoldsOneMore (a_leaf number) seat.old.known seat.new.known) }
-    ensures few { seat.new.known.steps ≤ seat.old.known.steps + 4 * (upto - from) }
+        AllMissedBetween (IsAnothersTo table.now.layout seat.old.known) numbers.start numbers.end seat.new.known.failed seat.old.known.steps)
+        (λ number. (numbers.start ≤ number) × (number < numbers.end) × HoldsOneMore (a_leaf number) seat.old.known seat.new.known) }
+    ensures few { seat.new.known.steps ≤ seat.old.known.steps + 4 * (numbers.end - numbers.start) }
 {
     let layout = table.layout();
-    let mut first = from;
-    while first < upto {
-        let end = layout.class_end(first).min(upto);
+    let mut first = numbers.start;
+    while first < numbers.end {
+        let end = layout.class_end(first).min(numbers.end);
         let hint = &mut classes[layout.class_of(first).index()];
         let kind = RecordKind::Leaf { first, end };
         if let Some(number) = claim_by_hint(table, seat, gate, kind, hint) {

@@ -5,12 +5,12 @@ ghost use Rattle.compound_node.specs.Beside.{IsBesideIn};
 ghost use Rattle.compound_node.specs.Nodes.{NodeView};
 ghost use Rattle.record_words.specs.HeadParts.{AreNumbersOf};
 ghost use Rattle.record_words.specs.Packed.{position_at, row_at};
-ghost use Rattle.versions.specs.declared.Rec.TheVariants.{Node as a_node};
+ghost use Rattle.record_words.specs.declared.records.Rec.TheVariants.{Node as a_node};
 ghost use Rattle.tries.specs.Place.{entry_at};
 ghost use Rattle.rowex_core.specs.Reading.{node_words_of};
 ghost use Rattle.rowex_reading.specs.Possible.{IsPossible};
 ghost use Rattle.rowex_reading.specs.Seen.{HasPlace};
-ghost use Rattle.rowex_table.specs.Rule.{IsStartOf};
+ghost use Rattle.rowex_table.specs.Rule.{IsNodeRecordAt, record_number};
 ghost use Rattle.rowex_table.specs.Seats.{IsSeatOf};
 ghost use Rattle.rowex_writing.specs.Going.{ReadsOn, HasLocked, IsLockedBy, HasLockedNode, IsNodeOf};
 ghost use Rattle.rowex_writing.specs.Loads.{AreRead, ReadsEight, ReadsRest};
@@ -21,12 +21,12 @@ use record_words::{
     NARROW_HEAD_WORDS, NODE_FIELDS, read_node, read_numbers, read_some_entry,
 };
 use rowex_core::{Gate, Rec, Spot};
-use rowex_table::{HotTable, NodeAt, TableSeat};
+use rowex_table::{HotTable, RecordAt, TableSeat};
 
 /// A locked node whose words are to be loaded. Its last entry's word is that before index `end`, counted from 0 behind the state.
 #[derive(Clone, Copy)]
 struct NodeLoads {
-    node: NodeAt,
+    node: RecordAt,
     end: usize,
 }
 
@@ -48,8 +48,7 @@ pub(crate) fn load_locked_node_words<G: Gate>(
     ensures node { (view : NodeView) × IsNodeOf words.new view }
     ensures few { seat.new.known.steps ≤ seat.old.known.steps + NODE_FIELDS }
 {
-    let start = table.start_of(Rec::Node(number));
-    let node = NodeAt { number, start };
+    let node = table.locate(Rec::Node(number));
     load_locked_head(table, seat, gate, node, words);
     let end = read_numbers(words[0]).entries_end();
     let loads = NodeLoads { node, end };
@@ -66,13 +65,13 @@ fn load_locked_head<G: Gate>(
     table: &HotTable,
     seat: &mut TableSeat,
     gate: &mut G,
-    node: NodeAt,
+    node: RecordAt,
     words: &mut [u64; NODE_FIELDS],
 )
     requires own { IsSeatOf table.now seat.old }
-    requires start { IsStartOf table.now.layout (a_node node.number) node.start }
+    requires node { IsNodeRecordAt table.now.layout node }
     requires empty { words.old ≡ replicate NODE_FIELDS 0 }
-    ensures { AreRead table.now G.becomes (seat.old, gate.old) (seat.new, gate.new) node.number words.new HEAD_WORDS }
+    ensures { AreRead table.now G.becomes (seat.old, gate.old) (seat.new, gate.new) (record_number node.rec) words.new HEAD_WORDS }
 {
     words[0] = load_locked_word(table, seat, gate, node, 0);
     match read_numbers(words[0]).kind {
@@ -89,14 +88,14 @@ fn load_rest_of_head<G: Gate>(
     table: &HotTable,
     seat: &mut TableSeat,
     gate: &mut G,
-    node: NodeAt,
+    node: RecordAt,
     words: &mut [u64; NODE_FIELDS],
     size: usize,
 )
     requires own { IsSeatOf table.now seat.old }
-    requires start { IsStartOf table.now.layout (a_node node.number) node.start }
+    requires node { IsNodeRecordAt table.now.layout node }
     requires size { (1 ≤ size) × (size ≤ HEAD_WORDS) }
-    ensures { ReadsRest table.now G.becomes node.number size ((seat.old, gate.old), words.old) ((seat.new, gate.new), words.new) }
+    ensures { ReadsRest table.now G.becomes (record_number node.rec) size ((seat.old, gate.old), words.old) ((seat.new, gate.new), words.new) }
 {
     for index in 1..size {
         words[index] = load_locked_word(table, seat, gate, node, index);
@@ -112,67 +111,66 @@ fn load_numbers<G: Gate>(
     table: &HotTable,
     seat: &mut TableSeat,
     gate: &mut G,
-    node: NodeAt,
+    node: RecordAt,
 ) -> HeadNumbers
     requires own { IsSeatOf table.now seat.old }
-    requires start { IsStartOf table.now.layout (a_node node.number) node.start }
+    requires node { IsNodeRecordAt table.now.layout node }
     ensures own { IsSeatOf table.now seat.new }
     ensures reads { ReadsOn table.now G.becomes (seat.old, gate.old) (seat.new, gate.new) }
-    ensures numbers { (view : NodeView) → HasLockedNode seat.old.known node.number view → AreNumbersOf result view }
+    ensures numbers { (view : NodeView) → HasLockedNode seat.old.known (record_number node.rec) view → AreNumbersOf result view }
     ensures few { seat.new.known.steps ≤ seat.old.known.steps + 1 }
 {
     read_numbers(load_locked_word(table, seat, gate, node, 0))
 }
 
-/// Loads the row of slot `at` of the locked node `node`, whose head has `numbers`; 4,294,967,295 for an unused slot, and past the last one.
+/// Loads the row of `slot` of the locked node `node`, whose head has `numbers`; 4,294,967,295 for an unused slot, and past the last one.
 #[inline(always)]
 fn load_row<G: Gate>(
     table: &HotTable,
     seat: &mut TableSeat,
     gate: &mut G,
-    node: NodeAt,
+    node: RecordAt,
     numbers: HeadNumbers,
-    at: u8,
+    slot: u8,
 ) -> u32
     requires own { IsSeatOf table.now seat.old }
-    requires start { IsStartOf table.now.layout (a_node node.number) node.start }
+    requires node { IsNodeRecordAt table.now.layout node }
     ensures own { IsSeatOf table.now seat.new }
     ensures reads { ReadsOn table.now G.becomes (seat.old, gate.old) (seat.new, gate.new) }
-    ensures row { (view : NodeView) → HasLockedNode seat.old.known node.number view → AreNumbersOf numbers view → result ≡ row_at view.rows at }
+    ensures row { (view : NodeView) → HasLockedNode seat.old.known (record_number node.rec) view → AreNumbersOf numbers view → result ≡ row_at view.rows slot }
     ensures few { seat.new.known.steps ≤ seat.old.known.steps + 1 }
 {
-    if at as usize >= MAX_ENTRIES {
+    if slot as usize >= MAX_ENTRIES {
         return u32::MAX;
     }
-    let index = numbers.index_of_row(at);
+    let index = numbers.index_of_row(slot);
     let word = load_locked_word(table, seat, gate, node, index);
-    numbers.row_of(word, at)
+    numbers.row_of(word, slot)
 }
 
-/// Returns the slot beside slot `at` of the locked node `number`, and the column of the fork between the two. `None` if the other side
-/// of the last fork on the path to `at` has several slots. The numbers and at most four rows are loaded.
+/// Returns the slot beside `slot` of the locked node `number`, and the column of the fork between the two. `None` if the other side
+/// of the last fork on the path to `slot` has several slots. The numbers and at most four rows are loaded.
 pub(crate) fn load_sibling<G: Gate>(
     table: &HotTable,
     seat: &mut TableSeat,
     gate: &mut G,
     number: u32,
-    at: u8,
+    slot: u8,
 ) -> Option<(u8, u8)>
     requires own { IsSeatOf table.now seat.old }
     requires range { number < table.now.layout.nodes }
-    requires place { at < 32 }
+    requires place { slot < 32 }
     ensures reads { ReadsOn table.now G.becomes (seat.old, gate.old) (seat.new, gate.new) }
-    ensures beside { (node : NodeView) → HasLockedNode seat.old.known number node → at < length node.entries → IsBesideIn node at result }
+    ensures beside { (node : NodeView) → HasLockedNode seat.old.known number node → slot < length node.entries → IsBesideIn node slot result }
     ensures few { seat.new.known.steps ≤ seat.old.known.steps + 5 }
 {
-    let start = table.start_of(Rec::Node(number));
-    let node = NodeAt { number, start };
+    let node = table.locate(Rec::Node(number));
     let numbers = load_numbers(table, seat, gate, node);
-    let before = load_row(table, seat, gate, node, numbers, at.saturating_sub(1));
-    let own = load_row(table, seat, gate, node, numbers, at);
-    let after = load_row(table, seat, gate, node, numbers, at + 1);
-    let second = load_row(table, seat, gate, node, numbers, at + 2);
-    find_sibling(at, before, own, after, second)
+    let before = load_row(table, seat, gate, node, numbers, slot.saturating_sub(1));
+    let own = load_row(table, seat, gate, node, numbers, slot);
+    let after = load_row(table, seat, gate, node, numbers, slot + 1);
+    let second = load_row(table, seat, gate, node, numbers, slot + 2);
+    find_sibling(slot, before, own, after, second)
 }
 
 /// Loads the position of column `column` of the locked node `number`, and returns it; 65,535 if the node has no such column.
@@ -190,8 +188,7 @@ pub(crate) fn load_position<G: Gate>(
     ensures position { (node : NodeView) → HasLockedNode seat.old.known number node → result ≡ position_at node.columns column }
     ensures few { seat.new.known.steps ≤ seat.old.known.steps + 3 }
 {
-    let start = table.start_of(Rec::Node(number));
-    let node = NodeAt { number, start };
+    let node = table.locate(Rec::Node(number));
     let numbers = load_numbers(table, seat, gate, node);
     let index = numbers.index_of_position(column);
     let word = load_locked_word(table, seat, gate, node, index);
@@ -200,26 +197,23 @@ pub(crate) fn load_position<G: Gate>(
     numbers.position_of(word, masks, column)
 }
 
-/// Loads the entry in slot `place` of the locked node `number`, which has that slot.
+/// Loads the entry in `slot` of the locked node `number`, which has that slot.
 pub(crate) fn load_locked_entry<G: Gate>(
     table: &HotTable,
     seat: &mut TableSeat,
     gate: &mut G,
     number: u32,
-    place: u8,
+    slot: u8,
 ) -> Entry
     requires own { IsSeatOf table.now seat.old }
     requires possible { IsPossible table.now.layout seat.old.known }
-    requires place { (m h : ℕ) × HasPlace seat.old.known m number h place }
+    requires place { (m h : ℕ) × HasPlace seat.old.known m number h slot }
     requires locked { IsLockedBy seat.old.known number }
     ensures reads { ReadsOn table.now G.becomes (seat.old, gate.old) (seat.new, gate.new) }
-    ensures entry { (words : List ℕ) → HasLocked seat.old.known number words → result ≡ entry_at (node_words_of words).subtrie place }
+    ensures entry { (words : List ℕ) → HasLocked seat.old.known number words → result ≡ entry_at (node_words_of words).subtrie slot }
     ensures few { seat.new.known.steps ≤ seat.old.known.steps + 1 }
 {
-    let spot = Spot::Slot {
-        node: number,
-        entry: place,
-    };
+    let spot = Spot::Slot { node: number, slot };
     read_some_entry(table.load_ref(seat, gate, spot))
 }
 
@@ -235,7 +229,7 @@ fn load_eight_words<G: Gate>(
     first: usize,
 )
     requires own { IsSeatOf table.now seat.old }
-    requires start { IsStartOf table.now.layout (a_node loads.node.number) loads.node.start }
+    requires node { IsNodeRecordAt table.now.layout loads.node }
     requires range { first + 8 ≤ NODE_FIELDS }
     ensures own { IsSeatOf table.now seat.new }
     ensures reads { ReadsEight table.now G.becomes loads first ((seat.old, gate.old), words.old) ((seat.new, gate.new), words.new) }
@@ -274,22 +268,22 @@ fn load_locked_word<G: Gate>(
     table: &HotTable,
     seat: &mut TableSeat,
     gate: &mut G,
-    node: NodeAt,
+    node: RecordAt,
     index: usize,
 ) -> u64
     requires own { IsSeatOf table.now seat.old }
-    requires start { IsStartOf table.now.layout (a_node node.number) node.start }
+    requires node { IsNodeRecordAt table.now.layout node }
     requires index { index < NODE_FIELDS }
     ensures reads { ReadsOn table.now G.becomes (seat.old, gate.old) (seat.new, gate.new) }
-    ensures word { (words : List ℕ) → HasLocked seat.old.known node.number words → result ≡ get_or words index 0 }
-    ensures spelled { (words : List ℕ) → HasLocked seat.old.known node.number words → (view : NodeView) × IsNodeOf words view }
+    ensures word { (words : List ℕ) → HasLocked seat.old.known (record_number node.rec) words → result ≡ get_or words index 0 }
+    ensures spelled { (words : List ℕ) → HasLocked seat.old.known (record_number node.rec) words → (view : NodeView) × IsNodeOf words view }
     ensures few { seat.new.known.steps ≤ seat.old.known.steps + 1 }
 {
     if index < HEAD_WORDS {
         let offset = index as u8 + FIELDS_OFFSET;
-        table.load_fixed_at(seat, gate, Rec::Node(node.number), node.start, offset)
+        table.load_fixed_at(seat, gate, node, offset)
     } else {
-        let entry = (index - HEAD_WORDS) as u8;
-        table.load_slot_at(seat, gate, node.number, node.start, entry)
+        let slot = (index - HEAD_WORDS) as u8;
+        table.load_slot_at(seat, gate, node, slot)
     }
 }

@@ -19,7 +19,7 @@ ghost use Rattle.rowex_writing.specs.Building.{IsBuilding};
 ghost use Rattle.rowex_writing.specs.Changes.{HasRun};
 ghost use Rattle.rowex_writing.specs.Going.{HasLocked, HasLockedNode, IsLockedBy, ReadsOn, WorksOn};
 ghost use Rattle.rowex_writing.specs.Locks.{span_numbers};
-ghost use Rattle.rowex_writing.specs.Merging.{AreNoNode, ClosesFork, HasClaimed, HasHeight, HasListed, IsLeft, IsNeighbour, IsWide, MayMergeInto, TakesOn, TriesFew, lower, upper};
+ghost use Rattle.rowex_writing.specs.Merging.{AreNoNode, ClosesFork, HasClaimed, HasHeight, HasListed, IsLeftOfNode, IsNeighbour, IsWide, MayMergeInto, TakesOn, TriesFew, lower, upper};
 ghost use Rattle.rowex_writing.specs.declared.plan.Deed.TheVariants.{Take};
 
 use crate::building::make_node_from_words;
@@ -29,7 +29,8 @@ use crate::kept::Build;
 use crate::locked::{
     load_locked_entry, load_locked_node_words, load_position, load_sibling, read_locked_node,
 };
-use crate::publishing::{Store, publish_entry, spot_above};
+use crate::publishing::{publish_entry, spot_above};
+use crate::store::Store;
 use crate::valuing::is_unchanged;
 use crate::widening::{lock_for_merge, unlock_for_merge};
 use compound_node::{Entry, Node};
@@ -46,7 +47,7 @@ struct ClosedFork {
     /// The node, and a slot below the fork.
     step: PathNode,
     /// The slot that stands alone on the fork's other side.
-    place: u8,
+    slot: u8,
     /// The entry that takes the fork's place.
     entry: Entry,
 }
@@ -67,7 +68,7 @@ pub(crate) fn try_merge<G: Gate>(
     requires takes { TakesOn table.now seat.old job.now }
     requires beside { IsNeighbour seat.old.known job.now merge.now }
     requires claimed { HasClaimed table.now seat.old.known left.now.number }
-    requires left { IsLeft seat.old.known job.now left.now.words }
+    requires left { IsLeftOfNode seat.old.known job.now left.now.words }
     ensures tries { TriesFew table.now G.becomes (span_numbers job.now.way.now job.now.span) build.old.left_nodes 53 (seat.old, gate.old) (seat.new, gate.new) }
     ensures done { result ≡ true → HasDoneDeed seat.old.known seat.new.known Take job.now.key.now job.now.value job.now.found }
     ensures later { result ≡ false → IsLater seat.old.known seat.new.known × IsSeatOf table.now seat.new × IsPossible table.now.layout seat.new.known }
@@ -104,11 +105,10 @@ pub(crate) fn find_merge<G: Gate>(
     if low.count > 31 {
         return None;
     }
-    let Some((place, column)) = load_sibling(table, seat, gate, above.number, above.at) else {
+    let Some((slot, column)) = load_sibling(table, seat, gate, above.number, above.slot) else {
         return None;
     };
-    let Entry::Node { number, .. } = load_locked_entry(table, seat, gate, above.number, place)
-    else {
+    let Entry::Node { number, .. } = load_locked_entry(table, seat, gate, above.number, slot) else {
         return None;
     };
     let word = table.load_fixed(seat, gate, Rec::Node(number), NUMBERS_OFFSET);
@@ -117,7 +117,7 @@ pub(crate) fn find_merge<G: Gate>(
     }
     let position = load_position(table, seat, gate, above.number, column);
     Some(Merge {
-        place,
+        slot,
         position,
         number,
     })
@@ -137,7 +137,7 @@ fn merge_under_locks<G: Gate>(
     requires wide { IsWide table.now seat.old job.now merge.now.number }
     requires beside { IsNeighbour seat.old.known job.now merge.now }
     requires claimed { HasClaimed table.now seat.old.known left.now.number }
-    requires left { IsLeft seat.old.known job.now left.now.words }
+    requires left { IsLeftOfNode seat.old.known job.now left.now.words }
     requires loaded { HasLoadedFound seat.old.known job.now.found }
     ensures run { HasRun table.now G.becomes (seat.old, gate.old) (seat.new, gate.new) }
     ensures done { result ≡ true → HasDoneDeed seat.old.known seat.new.known Take job.now.key.now job.now.value job.now.found }
@@ -171,7 +171,7 @@ fn make_merge_records<G: Gate>(
     requires wide { IsWide table.now seat.old job.now merge.now.number }
     requires beside { IsNeighbour seat.old.known job.now merge.now }
     requires claimed { HasClaimed table.now seat.old.known left.now.number }
-    requires left { IsLeft seat.old.known job.now left.now.words }
+    requires left { IsLeftOfNode seat.old.known job.now left.now.words }
     ensures goes { WorksOn table.now G.becomes (seat.old, gate.old) (seat.new, gate.new) }
     ensures may { IfSome result (λ e. MayMergeInto table.now seat.new build.new.made.items job.now merge.now.number e) }
     ensures same { result ≡ None → HasClaimed table.now seat.new.known left.now.number }
@@ -183,7 +183,7 @@ fn make_merge_records<G: Gate>(
     build.made.push(Rec::Node(left.number));
     let fork = ClosedFork {
         step: job.way[job.span.end - 1],
-        place: merge.place,
+        slot: merge.slot,
         entry: Entry::Node {
             number: left.number,
             height: joined.height(),
@@ -206,12 +206,12 @@ fn merge_siblings<G: Gate>(
 ) -> Option<Node>
     requires wide { IsWide table.now seat.old job.now merge.now.number }
     requires beside { IsNeighbour seat.old.known job.now merge.now }
-    requires left { IsLeft seat.old.known job.now left.now }
+    requires left { IsLeftOfNode seat.old.known job.now left.now }
     ensures reads { ReadsOn table.now G.becomes (seat.old, gate.old) (seat.new, gate.new) }
     ensures joined { (leaf : ℕ) (b : AreBeside seat.old.known.locks job.now.key.now (upper job.now).number (lower job.now).number merge.now.number leaf) →
         b.position ≡ merge.now.position → IfSome result (λ node. IsBuiltFrom node (merged b)) }
     ensures none { result ≡ None → (node other : NodeView) → HasLockedNode seat.old.known (lower job.now).number node →
-        HasLockedNode seat.old.known merge.now.number other → AreNoNode (without (lower job.now).at (piece node)) (piece other) }
+        HasLockedNode seat.old.known merge.now.number other → AreNoNode (without (lower job.now).slot (piece node)) (piece other) }
     ensures few { seat.new.known.steps ≤ seat.old.known.steps + 114 }
 {
     let other = read_locked_node(table, seat, gate, merge.number);
@@ -261,7 +261,7 @@ fn raise_closed_fork<G: Gate>(
 {
     let mut words = [0; NODE_FIELDS];
     load_locked_node_words(table, seat, gate, fork.step.number, &mut words);
-    if let Some(entry) = close_fork(&mut words, fork.step.at, fork.place, fork.entry) {
+    if let Some(entry) = close_fork(&mut words, fork.step.slot, fork.slot, fork.entry) {
         return Some(entry);
     }
     make_node_from_words(table, seat, gate, build, &words)
@@ -289,9 +289,9 @@ fn publish_merge<G: Gate>(
     let store = Store {
         spot: spot_above(job.way, end),
         entry: Some(entry),
+        kept: &job.way[end.saturating_sub(1)..end],
     };
-    let kept = &job.way[end.saturating_sub(1)..end];
-    publish_entry(table, seat, gate, build, store, kept);
+    publish_entry(table, seat, gate, build, &store);
 }
 
 /// Lists in `build.gone` the records that a merge unlinks: those of both nodes of the span, sibling `number`, and the leaf.

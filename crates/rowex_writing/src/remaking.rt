@@ -15,26 +15,26 @@ use insert_cases::{grow_full, pull_up_full, put_fork};
 use key_bits::Key;
 
 /// A new leaf for a node, in the leaf record `number`. It goes beside the entries that `position` affects, at which its key first differs
-/// from theirs. One of these is the entry at `at`, to which the search for its key leads.
+/// from theirs. One of these is the entry in `slot`, to which the search for its key leads.
 #[derive(Drop)]
 pub(crate) struct NewLeaf<'a> {
     pub key: &'a Key,
     pub number: u32,
     pub position: u16,
-    pub at: u8,
+    pub slot: u8,
 }
 
-/// Puts the leaf `new` into `node`, which has fewer than 32 entries. In it the search for `new.key` takes slot `new.at`. It gets no higher.
+/// Puts the leaf `new` into `node`, which has fewer than 32 entries. In it the search for `new.key` takes `new.slot`. It gets no higher.
 pub(crate) fn add_leaf(node: &mut Node, new: &NewLeaf<'_>)
     requires room { length node.old.entries < 32 }
-    requires leads { spot new.now.key.now (piece node.old) ≡ new.now.at }
+    requires leads { spot new.now.key.now (piece node.old) ≡ new.now.slot }
     requires tree { IsSubtrieOfTree (subtrie_with_leaf new.now (piece node.old)) }
     ensures shows { IsBuiltFrom node.new (subtrie_with_leaf new.now (piece node.old)) }
     ensures low { node.new.height ≤ node.old.height }
 {
     prove!(node.count() < 32);
     let bit = new.key.bit(new.position);
-    let (first, last) = node.affected(new.at, new.position);
+    let (first, last) = node.affected(new.slot, new.position);
     node.add_entry(first, last, new.position, bit, Entry::Leaf(new.number));
 }
 
@@ -42,7 +42,7 @@ pub(crate) fn add_leaf(node: &mut Node, new: &NewLeaf<'_>)
 /// `new.position` is before the first fork of `node`.
 pub(crate) fn cut_with_leaf(node: &Node, new: &NewLeaf<'_>) -> Cut
     requires full { length node.now.entries ≡ 32 }
-    requires leads { spot new.now.key.now (piece node.now) ≡ new.now.at }
+    requires leads { spot new.now.key.now (piece node.now) ≡ new.now.slot }
     requires tree { IsSubtrieOfTree (subtrie_with_leaf new.now (piece node.now)) }
     ensures shows { IsCutOf node.now result (subtrie_with_leaf new.now (piece node.now)) }
     ensures same { IsTrue (keeps_side result) ↔ AtRootFork (λ p zero one. new.now.position < p) (piece node.now) }
@@ -50,7 +50,7 @@ pub(crate) fn cut_with_leaf(node: &Node, new: &NewLeaf<'_>) -> Cut
 {
     prove!(node.count() == 32);
     let bit = new.key.bit(new.position);
-    let (first, last) = node.affected(new.at, new.position);
+    let (first, last) = node.affected(new.slot, new.position);
     grow_full(
         node,
         first,
@@ -81,8 +81,8 @@ pub(crate) fn add_fork(node: &mut Node, fork: &Fork<'_>)
     ensures low { node.new.height ≤ node.old.height }
 {
     prove!(node.count() < 32);
-    let at = node.search(fork.key);
-    put_fork(node, at, fork.position, fork.zero, fork.one);
+    let slot = node.search(fork.key);
+    put_fork(node, slot, fork.position, fork.zero, fork.one);
 }
 
 /// The two sides of the first fork that the full node `node` has with `fork`. This takes the place of the entry to which the search for
@@ -97,8 +97,8 @@ pub(crate) fn cut_with_fork(node: &Node, fork: &Fork<'_>) -> Cut
     ensures low { AreNoHigher node.now.height result }
 {
     prove!(node.count() == 32);
-    let at = node.search(fork.key);
-    pull_up_full(node, at, fork.position, fork.zero, fork.one)
+    let slot = node.search(fork.key);
+    pull_up_full(node, slot, fork.position, fork.zero, fork.one)
 }
 
 /// A node of the entry `old` and the leaf in record `leaf`, with a fork at `position`. The leaf is on the side of the bit that `key` has

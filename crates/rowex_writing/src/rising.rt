@@ -17,7 +17,7 @@ ghost use Rattle.tries.specs.Keys.{Key as KeyValue};
 ghost use Rattle.tries.specs.Place.{subtrie_without};
 ghost use Rattle.insert_cases.specs.Risen.{subtrie_of};
 ghost use Rattle.insert_cases.specs.declared.raising.Risen.TheVariants.{Split};
-ghost use Rattle.versions.specs.declared.Rec.TheVariants.{Node as a_node};
+ghost use Rattle.record_words.specs.declared.records.Rec.TheVariants.{Node as a_node};
 ghost use Rattle.rowex_core.specs.Reading.{node_words_of};
 ghost use Rattle.version_laws.specs.Rise.{entry};
 ghost use Rattle.rowex_writing.specs.Counts.{level_steps, node_steps};
@@ -74,8 +74,8 @@ pub(crate) struct LoadedNode {
     pub words: [u64; NODE_FIELDS],
 }
 
-/// Makes what [`make_risen_with_leaf`] makes, from a value of the node, whatever entries that has. `None` if no node record was free: one
-/// that was made by then stays in `build.made`.
+/// Does what [`make_risen_with_leaf`] does, for any node, by way of a `Node` made of its words. `None` if no node record was free: one that
+/// was made by then stays in `build.made`.
 fn make_risen_with_leaf_by_value<G: Gate>(
     table: &HotTable,
     seat: &mut TableSeat,
@@ -172,21 +172,20 @@ fn is_whole_node(half: &Half) -> bool
     }
 }
 
-/// The one entry for `risen`, which takes the place of the locked node `number`. It is the entry itself, or that of a new node of two for a
-/// fork. `None` if no node record was free. Inline, since mostly it is the entry already.
+/// The one entry for `risen`, which takes the place of a locked node. It is the entry itself, or that of a new node of two for a fork.
+/// `None` if no node record was free. Inline, since mostly it is the entry already.
 #[inline(always)]
 fn make_one_entry<G: Gate>(
     table: &HotTable,
     seat: &mut TableSeat,
     gate: &mut G,
     build: &mut Build,
-    number: u32,
     risen: Risen,
 ) -> Option<Entry>
-    requires risen { IsRisenAt table.now seat.old build.old.made.items number risen }
+    requires risen { (number : ℕ) × IsRisenAt table.now seat.old build.old.made.items number risen }
     requires room { length build.old.made.items < MOST_MADE }
     ensures makes { Makes 1 node_steps table.now G.becomes ((seat.old, gate.old), build.old) ((seat.new, gate.new), build.new) result }
-    ensures made { (b : IsRisenAt table.now seat.old build.old.made.items number risen) → MatchOption result
+    ensures made { (number : ℕ) (b : IsRisenAt table.now seat.old build.old.made.items number risen) → MatchOption result
         (HasNotMade table.now seat.new build.new.made.items)
         (λ e. IsRaising table.now seat.new build.new.made.items b.gone b.newcomer (entry number) (At e)) }
     ensures low { (height : ℕ) → IsLowRisen height risen → IfSome result (IsAtMostOneHigher height risen) }
@@ -269,7 +268,7 @@ fn raise_to_end<G: Gate>(
             risen,
         };
     }
-    make_one_entry(table, seat, gate, build, way[rise.level].number, rise.risen)
+    make_one_entry(table, seat, gate, build, rise.risen)
 }
 
 /// The one entry that takes the place of the topmost node of `job`'s span, when the lowest gets the leaf `new`. The flag tells whether
@@ -327,15 +326,15 @@ pub(crate) fn load_without_leaf<G: Gate>(
     requires own { IsSeatOf table.now seat.old }
     requires range { step.number < table.now.layout.nodes }
     requires locked { IsLockedBy seat.old.known step.number }
-    requires place { (key : KeyValue) × LeadsLocked seat.old.known step.number key step.at }
+    requires place { (key : KeyValue) × LeadsLocked seat.old.known step.number key step.slot }
     requires empty { words.old ≡ replicate NODE_FIELDS 0 }
     ensures reads { ReadsOn table.now G.becomes (seat.old, gate.old) (seat.new, gate.new) }
-    ensures left { (key : KeyValue) (shown : List ℕ) → LeadsLocked seat.old.known step.number key step.at → HasLocked seat.old.known step.number shown →
+    ensures left { (key : KeyValue) (shown : List ℕ) → LeadsLocked seat.old.known step.number key step.slot → HasLocked seat.old.known step.number shown →
         SpellLeft words.new result (subtrie_without key (node_words_of shown).subtrie) }
     ensures few { seat.new.known.steps ≤ seat.old.known.steps + NODE_FIELDS }
 {
     load_locked_node_words(table, seat, gate, step.number, words);
-    drop_entry(words, step.at)
+    drop_entry(words, step.slot)
 }
 
 /// The entry for what is left of the locked node of `step` without the leaf in its slot, to which some key's search leads. It is that of a
@@ -350,10 +349,10 @@ pub(crate) fn raise_without_leaf<G: Gate>(
     requires building { IsBuilding table.now seat.old build.old.made.items [] }
     requires range { step.number < table.now.layout.nodes }
     requires locked { IsLockedBy seat.old.known step.number }
-    requires place { (key : KeyValue) × LeadsLocked seat.old.known step.number key step.at }
+    requires place { (key : KeyValue) × LeadsLocked seat.old.known step.number key step.slot }
     requires room { length build.old.made.items < MOST_MADE }
     ensures makes { Makes 1 level_steps table.now G.becomes ((seat.old, gate.old), build.old) ((seat.new, gate.new), build.new) result }
-    ensures made { (key : KeyValue) (words : List ℕ) → LeadsLocked seat.old.known step.number key step.at → HasLocked seat.old.known step.number words →
+    ensures made { (key : KeyValue) (words : List ℕ) → LeadsLocked seat.old.known step.number key step.slot → HasLocked seat.old.known step.number words →
         MatchOption result (HasNotMade table.now seat.new build.new.made.items)
         (λ e. (news : List Made) × IsSide (subtrie_without key (node_words_of words).subtrie) e news × IsBuilding table.now seat.new build.new.made.items news) }
     ensures finds { FindsOne table.now.layout build.old.left_nodes seat.old result }

@@ -12,11 +12,11 @@ ghost use Rattle.rowex_writing.specs.Deeds.{CarriesOut, HasNoneFree, MayReplace}
 ghost use Rattle.rowex_writing.specs.Going.{WorksOn};
 ghost use Rattle.rowex_writing.specs.Taking.{HasLeafBelow};
 ghost use Rattle.rowex_writing.specs.Growths.{HasNumber};
-ghost use Rattle.rowex_writing.specs.Merging.{HasClaimed, IsLeft, TakesOn, TakesStill};
+ghost use Rattle.rowex_writing.specs.Merging.{HasClaimed, IsLeftOfNode, TakesOn, TakesStill};
 ghost use Rattle.finite_map.specs.declared.Change.{Change};
 ghost use Rattle.record_words.specs.declared.TheConstants.{NODE_FIELDS};
 ghost use Rattle.rowex_reading.specs.declared.descent.Found.TheVariants.{Leaf as FoundLeaf};
-ghost use Rattle.rowex_writing.specs.declared.plan.Deed.TheVariants.{Take};
+ghost use Rattle.rowex_writing.specs.declared.plan.Deed.TheVariants.{TakeTop};
 
 use crate::claims::claim_node;
 use crate::growing::show_number_fits;
@@ -31,8 +31,8 @@ use rowex_reading::Found;
 use rowex_records::fill_node;
 use rowex_table::{HotTable, TableSeat};
 
-/// Makes what is left of the found leaf's node without the leaf, and returns the entry for that, which is to take the node's place. If the
-/// leaf was the root, the root is to be empty. `Full::Nodes` if no node record was free for what is left.
+/// Makes what is left of the found leaf's node without the leaf, and returns the entry for that, which is to take the node's place.
+/// `Full::Nodes` if no node record was free for what is left.
 pub(crate) fn make_without_leaf<G: Gate>(
     table: &HotTable,
     seat: &mut TableSeat,
@@ -40,11 +40,11 @@ pub(crate) fn make_without_leaf<G: Gate>(
     build: &mut Build,
     job: &Job<'_>,
 ) -> Result<Raised, Full>
-    requires taken { HasTakenPlan table.now seat.old job.now Take }
-    ensures done { CarriesOut table.now G.becomes ((seat.old, gate.old), build.old) ((seat.new, gate.new), build.new) job.now Take result }
+    requires taken { HasTakenPlan table.now seat.old job.now TakeTop }
+    ensures done { CarriesOut table.now G.becomes ((seat.old, gate.old), build.old) ((seat.new, gate.new), build.new) job.now TakeTop result }
     ensures leafless { result ≢ Err Full.Leaves }
-    ensures walk { 0 < job.now.span.len → seat.new.known.steps + 2 * build.new.left_nodes ≤ seat.old.known.steps + 2 * table.now.layout.nodes + level_steps + 1 }
-    ensures lowest { 0 < job.now.span.len → IfOk result (λ raised. raised.low ≡ job.now.span.len) }
+    ensures walk { seat.new.known.steps + 2 * build.new.left_nodes ≤ seat.old.known.steps + 2 * table.now.layout.nodes + level_steps + 1 }
+    ensures lowest { IfOk result (λ raised. raised.low ≡ job.now.span.len) }
     ensures spares { HasSpare table.now.layout seat.old → IfOk result (WillSpareOne table.now.layout seat.new build.new.made.items job.now) }
     ensures finds { HasRoom table.now.layout seat.old → result ≢ Err Full.Nodes }
 {
@@ -52,14 +52,24 @@ pub(crate) fn make_without_leaf<G: Gate>(
     let Found::Leaf { number, .. } = job.found else {
         unreachable!()
     };
-    if job.span.len > 0 {
-        return remake_without_leaf(table, seat, gate, build, job, number);
-    }
-    Ok(Raised {
+    remake_without_leaf(table, seat, gate, build, job, number)
+}
+
+/// What takes the place of the found leaf, which is all of the tree: the root is to be empty. No record is made for that.
+pub(crate) fn empty_root(build: &mut Build, job: &Job<'_>) -> Raised
+    requires found { (leaf value : ℕ) × (job.now.found ≡ FoundLeaf leaf value None) }
+    ensures made { build.new.made.items ≡ [] }
+    ensures same { (leaf value : ℕ) → job.now.found ≡ FoundLeaf leaf value None → result ≡ record { entry = None; low = 0; leaf = Some leaf } }
+{
+    build.made.clear();
+    let Found::Leaf { number, .. } = job.found else {
+        unreachable!()
+    };
+    Raised {
         entry: None,
         low: 0,
         leaf: Some(number),
-    })
+    }
 }
 
 /// Makes what is left of the span's node without leaf `number`, and returns its entry, which is to take the node's place. `Full::Nodes` if
@@ -131,7 +141,7 @@ pub(crate) fn fill_left<G: Gate>(
 ) -> Raised
     requires still { TakesStill table.now seat.old job.now }
     requires claimed { HasClaimed table.now seat.old.known left.now.number }
-    requires left { IsLeft seat.old.known job.now left.now.words }
+    requires left { IsLeftOfNode seat.old.known job.now left.now.words }
     ensures goes { WorksOn table.now G.becomes (seat.old, gate.old) (seat.new, gate.new) }
     ensures may { (x : Change) × (was : Option ℕ) × IsTakeChange seat.old.known.pass job.now.key.now job.now.found x was ×
         MayReplace table.now seat.new build.new.made.items job.now result x was }
@@ -148,7 +158,7 @@ pub(crate) fn fill_left<G: Gate>(
     put_in_place(job, entry)
 }
 
-/// What `entry` has to take the place of, where it is all that is left of the lower node of `job`'s span.
+/// What takes the place of the lower node of `job`'s span, if `entry` is all that is left of it without the leaf that the search found.
 pub(crate) fn put_in_place(job: &Job<'_>, entry: Entry) -> Raised
     requires found { (leaf value : ℕ) × (job.now.found ≡ FoundLeaf leaf value None) }
     ensures same { (leaf value : ℕ) → job.now.found ≡ FoundLeaf leaf value None →

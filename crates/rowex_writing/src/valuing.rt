@@ -45,7 +45,7 @@ pub(crate) fn load_found_again<G: Gate>(
     else {
         return job.found;
     };
-    let value = table.load_value_at(seat, gate, number, table.start_of(Rec::Leaf(number)));
+    let value = table.load_value_at(seat, gate, table.locate(Rec::Leaf(number)));
     Found::Leaf {
         number,
         value,
@@ -74,7 +74,7 @@ pub(crate) fn is_unchanged<G: Gate>(
             number,
             value,
             mismatch: None,
-        } => table.load_value_at(seat, gate, number, table.start_of(Rec::Leaf(number))) == value,
+        } => table.load_value_at(seat, gate, table.locate(Rec::Leaf(number))) == value,
         _ => true,
     }
 }

@@ -131,7 +131,7 @@ fn lock_root<G: Gate>(
     false
 }
 
-/// Locks node `step.number`, and checks that its entry at `step.at` is `entry`. Returns whether it is locked. If the lock is refused, or
+/// Locks node `step.number`, and checks that its entry in `step.slot` is `entry`. Returns whether it is locked. If the lock is refused, or
 /// the entry is another, the locks are as before.
 fn lock_node_with_entry<G: Gate>(
     table: &HotTable,
@@ -143,11 +143,11 @@ fn lock_node_with_entry<G: Gate>(
     requires own { IsSeatOf table.now seat.old }
     requires possible { IsPossible table.now.layout seat.old.known }
     requires range { step.number < table.now.layout.nodes }
-    requires place { (m h : ℕ) × HasPlace seat.old.known m step.number h step.at }
+    requires place { (m h : ℕ) × HasPlace seat.old.known m step.number h step.slot }
     ensures tries { HasTried table.now G.becomes (Target.Node step.number ∷ []) (seat.old, gate.old) (seat.new, gate.new) }
     ensures later { IsLater seat.old.known seat.new.known × (seat.new.known.own ≡ seat.old.known.own) }
     ensures locked { result ≡ true → LocksLast step.number seat.old.known.locks seat.new.known × (seat.new.known.anchor ≡ seat.old.known.anchor) ×
-        ((words : List ℕ) → HasLocked seat.new.known step.number words → entry ≡ Some (entry_at (node_words_of words).subtrie step.at)) }
+        ((words : List ℕ) → HasLocked seat.new.known step.number words → entry ≡ Some (entry_at (node_words_of words).subtrie step.slot)) }
     ensures same { result ≡ false → HasTheSame seat.old.known seat.new.known }
     ensures few { seat.new.known.steps ≤ seat.old.known.steps + 3 }
     ensures spares { KeepsSpare table.now.layout seat.old seat.new }

@@ -93,7 +93,7 @@ fn object_of_record(rec: Rec) -> Object {
 fn object_of_spot(spot: Spot) -> Object {
     match spot {
         Spot::Root => Object::Root,
-        Spot::Slot { node, entry } => Object::Entry(node, entry),
+        Spot::Slot { node, slot } => Object::Entry(node, slot),
         Spot::Value { leaf } => Object::Value(leaf),
     }
 }

@@ -19,7 +19,7 @@ use Rattle.hot_index.specs.Handles.{handle_at}
 use Rattle.hot_index_calls.specs.Passes.{PassView, AreByPasses, IsNewPass}
 use Rattle.hot_index_calls.specs.Traces.{untold}
 use Rattle.hot_scripts.specs.declared.command.Command.{Command}
-use Rattle.script_runs.specs.declared.together.Done.{Done}
+use Rattle.script_runs.specs.declared.answer.Done.{Done}
 use Rattle.hot_scripts.specs.Meaning.{line}
 use Rattle.script_runs.specs.Progress.{AllThree, HasAnsweredLast, HasRunCommands, IsDone, IsNewPassOf, MeetInTurn}
 use Rattle.script_runs.specs.Scripts.{AllFrom, AllTwoFrom, AreAllAnswered, IsLegalRun, LawfulScripts, Ran, by_pass, commands_in, notes_in, sections, text_in}

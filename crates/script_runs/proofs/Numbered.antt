@@ -7,7 +7,7 @@ use Rattle.hot_index_calls.specs.Passes.{PassView, Owns}
 use Rattle.rowex_core.specs.declared.event.Event.{Event}
 use Rattle.rowex_table.specs.Seats.{TableView}
 use Rattle.hot_scripts.specs.declared.command.Command.{Command}
-use Rattle.script_runs.specs.declared.together.Done.{Done}
+use Rattle.script_runs.specs.declared.answer.Done.{Done}
 use Rattle.script_runs.specs.declared.together.Order.{Order}
 use Rattle.script_runs.specs.Progress.{AllThree, AreAt, HasKept, IsDone, IsNewPassOf, IsOrderOf}
 use Rattle.script_runs.specs.Scripts.{AllFrom}

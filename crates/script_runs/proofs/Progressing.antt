@@ -28,8 +28,8 @@ use Rattle.hot_index_calls.proofs.Tracing.{read_told, told_untold}
 use Rattle.hot_scripts.specs.declared.command.Command.{Command}
 use Rattle.hot_scripts.specs.declared.command.Command.TheVariants.{Call as Asks, Scan as Lists}
 use Rattle.hot_scripts.specs.declared.command.Range.{Range}
-use Rattle.script_runs.specs.declared.engine.Answer.{Answer}
-use Rattle.script_runs.specs.declared.engine.Answer.TheVariants.{Reply, Full as Refused}
+use Rattle.script_runs.specs.declared.answer.Answer.{Answer}
+use Rattle.script_runs.specs.declared.answer.Answer.TheVariants.{Reply, Full as Refused}
 use Rattle.hot_scripts.specs.Meaning.{line, scan_lines}
 use Rattle.script_runs.specs.Answers.{Answered, called, refused, listed, answer_text, lines_of_answer, note_of}
 use Rattle.script_runs.specs.Progress.{HasAnsweredCommand, HasRunCommands, answered_as}

@@ -9,8 +9,8 @@ use Rattle.hot_scripts.specs.declared.command.Command.{Command}
 use Rattle.hot_scripts.specs.declared.command.Command.TheVariants.{Call as Asks, Scan as Lists}
 use Rattle.hot_scripts.specs.declared.command.Range.{Range}
 use Rattle.hot_scripts.specs.Meaning.{line, reply_text, scan_lines}
-use Rattle.script_runs.specs.declared.engine.Answer.{Answer}
-use Rattle.script_runs.specs.declared.engine.Answer.TheVariants.{Reply, Full as Refused}
+use Rattle.script_runs.specs.declared.answer.Answer.{Answer}
+use Rattle.script_runs.specs.declared.answer.Answer.TheVariants.{Reply, Full as Refused}
 
 abbrev pub full_text : Full → List ℕ
 full_text Nodes = codes "full nodes"

@@ -10,9 +10,9 @@ use Rattle.hot_index_calls.specs.Traces.{HasTold, untold}
 use Rattle.hot_scripts.specs.declared.command.Command.{Command}
 use Rattle.hot_scripts.specs.Meaning.{line}
 use Rattle.hot_scripts.specs.Parses.{script_commands}
-use Rattle.script_runs.specs.declared.engine.Answer.{Answer}
-use Rattle.script_runs.specs.declared.engine.Answer.TheVariants.{Reply, Full as Refused}
-use Rattle.script_runs.specs.declared.together.Done.{Done}
+use Rattle.script_runs.specs.declared.answer.Answer.{Answer}
+use Rattle.script_runs.specs.declared.answer.Answer.TheVariants.{Reply, Full as Refused}
+use Rattle.script_runs.specs.declared.answer.Done.{Done}
 use Rattle.script_runs.specs.declared.together.Order.{Order}
 use Rattle.script_runs.specs.declared.together.Results.{Results}
 use Rattle.script_runs.specs.Answers.{Answered, called, refused, answered_command, lines_of_answer}

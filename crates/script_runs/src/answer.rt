@@ -1,4 +1,4 @@
-//! The lines of the answers.
+//! The answers to calls and scripts, and their lines.
 
 ghost use Rattle.std.specs.Prelude.{◌≡◌, ◌≤◌, ◌++◌, IfOk, OnOk, codes, flat_map, length, map};
 ghost use Rattle.hot_scripts.specs.declared.script.TheConstants.{MAX_FILES};
@@ -6,12 +6,27 @@ ghost use Rattle.hot_scripts.specs.Meaning.{line};
 ghost use Rattle.script_runs.specs.Answers.{answer_text};
 ghost use Rattle.script_runs.specs.Scripts.{sections};
 
-use crate::engine::Answer;
-use crate::together::Done;
-use hot_index::Full;
+use finite_map::Reply;
+use hot_index::{Full, Handle, Index};
 use hot_scripts::answer::{push_reply, push_section};
 use std::alloc::{AllocError, Global};
 use std::mem;
+
+/// The answer to a call.
+#[derive(Clone, Copy)]
+pub enum Answer {
+    /// The map's reply.
+    Reply(Reply),
+    /// No record of this kind was free for the call, which changed nothing.
+    Full(Full),
+}
+
+/// A script that has run: its handle, and the answers to its commands.
+#[derive(Drop)]
+pub struct Done<'a> {
+    pub handle: Handle<&'a Index>,
+    pub text: Vec<u8>,
+}
 
 /// Adds the line of `answer` to the end of `text`. If memory is refused, an error, and perhaps a part of the line.
 pub fn push_answer(text: &mut Vec<u8>, answer: Answer) -> Result<(), AllocError>

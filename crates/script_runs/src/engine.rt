@@ -7,23 +7,14 @@ ghost use Rattle.hot_index_calls.specs.Traces.{HasTold};
 ghost use Rattle.script_runs.specs.Progress.{HasAnsweredCommand, HasRunCommands, answered_as};
 ghost use Rattle.script_runs.specs.Told.{IsCommandTold};
 
-use crate::answer::push_answer;
+use crate::answer::{Answer, push_answer};
 use crate::callers::Caller;
-use finite_map::{Call, Reply};
-use hot_index::{Full, Gate, Handle, Index, Pairs};
+use finite_map::Call;
+use hot_index::{Gate, Handle, Index, Pairs};
 use hot_scripts::answer::push_scan;
 use hot_scripts::command::{Command, Range};
 use hot_scripts::script::Script;
 use std::alloc::{AllocError, Global};
-
-/// The answer to a call.
-#[derive(Clone, Copy)]
-pub enum Answer {
-    /// The map's reply.
-    Reply(Reply),
-    /// No record of this kind was free for the call, which changed nothing.
-    Full(Full),
-}
 
 /// Makes `call` through `handle` by `caller`, which fits its index, and returns the answer. `gate` is told each of its steps.
 fn make_call<C: Caller, G: Gate>(

@@ -10,7 +10,7 @@ ghost use Rattle.hot_scripts.specs.Parses.{script_commands};
 ghost use Rattle.script_runs.specs.Progress.{AllThree, AreAt, AreReady, HasAnsweredLast, HasKept, HaveAnswered, IsDone, IsOrderOf, MeetInTurn};
 ghost use Rattle.script_runs.specs.Scripts.{AreAllAnswered};
 
-use crate::answer::make_sections;
+use crate::answer::{Done, make_sections};
 use crate::callers::Waits;
 use crate::engine::run_script;
 use crate::indexes::{Records, create_index_for_files};
@@ -21,13 +21,6 @@ use std::alloc::{AllocError, Global};
 use std::snapshot::Snapshot;
 use std::sync::Wait;
 use std::thread::{Promise, PromisedHandle, Scope, Threads, scope, scope_env};
-
-/// A script that has run: its handle, and the answers to its commands.
-#[derive(Drop)]
-pub struct Done<'a> {
-    pub handle: Handle<&'a Index>,
-    pub text: Vec<u8>,
-}
 
 /// What all scripts were answered, and what has become of their gates.
 #[derive(Drop)]

@@ -450,7 +450,7 @@ fn insertions_have_their_cases(rt: HostRuntime) {
             step.height = *height;
             step.first_position = *first_position;
             step.count = *count;
-            step.at = *at;
+            step.slot = *at;
         }
         let way = &steps[..passed.len().min(2)];
         assert!(rt; level < way.len() && last_level_before(way, position) == level);

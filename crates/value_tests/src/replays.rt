@@ -291,7 +291,7 @@ const GIVEN_BACK: [Line; 14] = [
     (0, Step::LoadState(OLD, 0), true),
 ];
 
-const FIRST: Spot = Spot::Slot { node: 1, entry: 0 };
+const FIRST: Spot = Spot::Slot { node: 1, slot: 0 };
 
 // Leaf 3 takes the place of leaf 0 under the lock of its node.
 const REPLACED: [Line; 8] = [
@@ -372,7 +372,7 @@ const NODE_3: u64 = 17_179_869_198;
 
 const NODE_4: u64 = 17_179_869_202;
 
-const SECOND: Spot = Spot::Slot { node: 1, entry: 1 };
+const SECOND: Spot = Spot::Slot { node: 1, slot: 1 };
 
 // A tree of node 0 with ` and a, and node 2 with b and c, below node 1.
 const TWO_LEVELS: [Line; 6] = [

@@ -5,8 +5,8 @@ use Rattle.tries.specs.Content.{Item}
 use Rattle.tries.specs.Changes.{IsAdded}
 use Rattle.versions.specs.Heap.{IsShown}
 use Rattle.versions.specs.State.{Links}
-use Rattle.versions.specs.declared.Rec.{Rec}
-use Rattle.versions.specs.declared.Rec.TheVariants.{Node as a_node}
+use Rattle.record_words.specs.declared.records.Rec.{Rec}
+use Rattle.record_words.specs.declared.records.Rec.TheVariants.{Node as a_node}
 use Rattle.versions.specs.Core.{Ready, BareCore}
 
 -- For the place of `s` the pass has `r`: its words show it, what it links anew is the pass's and ready, and the nodes

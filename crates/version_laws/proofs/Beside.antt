@@ -13,8 +13,8 @@ use Rattle.tries.specs.Place.{fork_of, side_beside, spot, subtrie_collapsed, sub
 use Rattle.versions.specs.Heap.{NodeWords, Heap, IsShown}
 use Rattle.versions.specs.State.{IsLawfulState, Links}
 use Rattle.versions.specs.Core.{BareCore, view}
-use Rattle.versions.specs.declared.Rec.{Rec}
-use Rattle.versions.specs.declared.Rec.TheVariants.{Node as a_node}
+use Rattle.record_words.specs.declared.records.Rec.{Rec}
+use Rattle.record_words.specs.declared.records.Rec.TheVariants.{Node as a_node}
 use Rattle.tries.proofs.Building.{greatest-append, greatest_if_lower, greatest_without}
 use Rattle.tries.proofs.Spots.{without_spot}
 use Rattle.tries.proofs.Tries.{built_within, rises, within_trans}

@@ -7,7 +7,7 @@ use Rattle.node_tries.specs.Piece.{Place}
 use Rattle.tries.specs.Search.{seek, Follows, child, Kin, tips, forks}
 use Rattle.versions.specs.Heap.{NodeWords, LeafWords}
 use Rattle.versions.specs.State.{Life, Out, Linked, Retired, Spans, last_of, IsLived, Stands, IsReach, IsLawfulState, StoodWithKeys}
-use Rattle.versions.specs.declared.Rec.TheVariants.{Node as a_node}
+use Rattle.record_words.specs.declared.records.Rec.TheVariants.{Node as a_node}
 use Rattle.versions.specs.Core.{BareCore, view}
 use Rattle.version_laws.specs.Writer.{BeganAt, IsWayBelow, at_leaf, below}
 use Rattle.tries.proofs.Tries.{built_within, within_trans, subtrie_child, within_child}

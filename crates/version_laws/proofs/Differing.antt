@@ -5,8 +5,8 @@ use Rattle.finite_map.specs.declared.Change.{Change}
 use Rattle.tries.specs.Tree.{Tree, leaf, node, fork, here}
 use Rattle.tries.specs.Content.{Item, items}
 use Rattle.versions.specs.Heap.{Heap}
-use Rattle.versions.specs.declared.Rec.{Rec}
-use Rattle.versions.specs.declared.Rec.TheVariants.{Leaf as a_leaf}
+use Rattle.record_words.specs.declared.records.Rec.{Rec}
+use Rattle.record_words.specs.declared.records.Rec.TheVariants.{Leaf as a_leaf}
 use Rattle.versions.specs.State.{Links, IsLinked, IsLawfulState}
 use Rattle.versions.specs.Told.{items_of}
 use Rattle.versions.specs.Core.{BareCore, view}

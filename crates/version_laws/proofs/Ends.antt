@@ -7,12 +7,12 @@ use Rattle.compound_node.specs.declared.entries.Entry.{Entry}
 use Rattle.compound_node.specs.declared.entries.Entry.TheVariants.{Leaf, Node}
 use Rattle.node_tries.specs.Piece.{Place}
 use Rattle.versions.specs.State.{Past, IsKeptSince, IsSameRecord, IsSteady}
-use Rattle.versions.specs.declared.Rec.TheVariants.{Node as a_node}
+use Rattle.record_words.specs.declared.records.Rec.TheVariants.{Node as a_node}
 use Rattle.compound_node.specs.Nodes.{height_of}
 use Rattle.tries.specs.Place.{entry_at}
 use Rattle.version_laws.specs.Scan.{IsRooted, IsPlaced, IsRead, EntryStoodSince, IsBlank, Frame, IsStack, Range, IsInRange}
 use Rattle.version_laws.specs.Directions.{IsComplete, IsCut}
-use Rattle.version_laws.specs.declared.direction.Direction.{Direction}
+use Rattle.packed_pairs.specs.declared.direction.Direction.{Direction}
 use Rattle.tries.proofs.Tries.{built_within}
 use Rattle.version_laws.proofs.Scans.{node_of, root_had_key, leaf_had_key, read_held, before_most, never_before, place_same}
 use Rattle.version_laws.proofs.Loads.{lower_at, subtrie_at, rooted_seen, placed_seen, fixed_height}

@@ -30,8 +30,8 @@ use Rattle.versions.specs.State.{Past, IsHeldSince, IsKeptSince, IsSteady}
 use Rattle.versions.specs.Told.{content, TellChanges}
 use Rattle.version_laws.specs.Scan.{Pair, Every, IsKeyListed, Range, IsInRange, in_order_taken}
 use Rattle.version_laws.specs.Directions.{IsAnswer, IsEarlier, IsNoLater, IsLawfulBy, AreOrdered, IsComplete, IsReachedBy, IsCut}
-use Rattle.version_laws.specs.declared.direction.Direction.{Direction}
-use Rattle.version_laws.specs.declared.direction.Direction.TheVariants.{Upwards, Downwards}
+use Rattle.packed_pairs.specs.declared.direction.Direction.{Direction}
+use Rattle.packed_pairs.specs.declared.direction.Direction.TheVariants.{Upwards, Downwards}
 use Rattle.version_laws.proofs.Walk.{every_map}
 
 -- The range by bits is the range by bytes.

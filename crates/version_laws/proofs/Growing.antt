@@ -4,8 +4,8 @@ use Rattle.tries.specs.Keys.{Key, bit}
 use Rattle.tries.specs.Tree.{Fixed, Tree, node, fork, Has, IsTrie, IsBuilt, Within, here, inside}
 use Rattle.versions.specs.Heap.{IsShown}
 use Rattle.versions.specs.State.{Links, IsLawfulState}
-use Rattle.versions.specs.declared.Rec.{Rec}
-use Rattle.versions.specs.declared.Rec.TheVariants.{Node as a_node}
+use Rattle.record_words.specs.declared.records.Rec.{Rec}
+use Rattle.record_words.specs.declared.records.Rec.TheVariants.{Node as a_node}
 use Rattle.versions.specs.Core.{Ready, BareCore, view}
 use Rattle.tries.specs.Content.{Item}
 use Rattle.tries.proofs.Changes.{put, IsPathBelow, IsInOwnSubtrie}

@@ -4,8 +4,8 @@ use Rattle.tries.specs.Keys.{Key}
 use Rattle.tries.specs.Tree.{Fixed, Tree, leaf, node, IsBuilt, Within}
 use Rattle.versions.specs.Heap.{IsShown}
 use Rattle.versions.specs.State.{Links}
-use Rattle.versions.specs.declared.Rec.{Rec}
-use Rattle.versions.specs.declared.Rec.TheVariants.{Node as a_node, Leaf as a_leaf}
+use Rattle.record_words.specs.declared.records.Rec.{Rec}
+use Rattle.record_words.specs.declared.records.Rec.TheVariants.{Node as a_node, Leaf as a_leaf}
 use Rattle.versions.specs.Core.{Ready, BareCore}
 use Rattle.tries.specs.Content.{Item}
 use Rattle.tries.specs.Changes.{IsAdded}

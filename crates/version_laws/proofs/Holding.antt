@@ -18,8 +18,8 @@ use Rattle.versions.specs.Heap.{Heap}
 use Rattle.versions.proofs.Heaps.{shown_within}
 use Rattle.versions.specs.State.{IsLawfulState}
 use Rattle.versions.specs.Core.{BareCore, view}
-use Rattle.versions.specs.declared.Rec.{Rec}
-use Rattle.versions.specs.declared.Rec.TheVariants.{Leaf as a_leaf}
+use Rattle.record_words.specs.declared.records.Rec.{Rec}
+use Rattle.record_words.specs.declared.records.Rec.TheVariants.{Leaf as a_leaf}
 use Rattle.versions.specs.Steps.{IsVersionPublish}
 use Rattle.versions.specs.Told.{IsChange}
 use Rattle.versions.specs.Trades.{IsOneOf}

@@ -8,7 +8,7 @@ use Rattle.tries.specs.Tree.{Tree, leaf, node, subtrie, IsTrie, IsBuilt}
 use Rattle.tries.specs.Content.{Item, item}
 use Rattle.tries.specs.Changes.{IsAdded}
 use Rattle.tries.specs.Affected.{subtrie_forked}
-use Rattle.versions.specs.declared.Rec.TheVariants.{Node as a_node, Leaf as a_leaf}
+use Rattle.record_words.specs.declared.records.Rec.TheVariants.{Node as a_node, Leaf as a_leaf}
 use Rattle.version_laws.specs.Writer.{added_change, replaced_change}
 use Rattle.tries.proofs.Tries.{trie_within}
 use Rattle.tries.proofs.Affected.{grown_subtrie, differ_first_through}

@@ -7,7 +7,7 @@ use Rattle.compound_node.specs.declared.entries.Entry.TheVariants.{Node}
 use Rattle.node_tries.specs.Piece.{Place, size}
 use Rattle.versions.specs.Heap.{NodeWords, IsCopied}
 use Rattle.versions.specs.State.{Past, State, Stands, IsSameRecord, IsTop, IsReach, IsLawfulState, last_of}
-use Rattle.versions.specs.declared.Rec.TheVariants.{Node as a_node, Leaf as a_leaf}
+use Rattle.record_words.specs.declared.records.Rec.TheVariants.{Node as a_node, Leaf as a_leaf}
 use Rattle.tries.specs.Place.{entry_at, shape}
 use Rattle.compound_node.specs.Nodes.{height_of}
 use Rattle.version_laws.specs.Scan.{at_place, Stood, IsRooted, IsPlaced, EntryStoodSince}

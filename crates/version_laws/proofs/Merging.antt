@@ -12,8 +12,8 @@ use Rattle.tries.specs.Place.{fork_of, subtrie_collapsed, subtrie_without}
 use Rattle.versions.specs.Heap.{NodeWords, Heap, IsShown}
 use Rattle.versions.specs.State.{IsLawfulState, Links}
 use Rattle.versions.specs.Core.{BareCore, Ready, view}
-use Rattle.versions.specs.declared.Rec.{Rec}
-use Rattle.versions.specs.declared.Rec.TheVariants.{Node as a_node, Leaf as a_leaf}
+use Rattle.record_words.specs.declared.records.Rec.{Rec}
+use Rattle.record_words.specs.declared.records.Rec.TheVariants.{Node as a_node, Leaf as a_leaf}
 use Rattle.versions.specs.Trades.{IsOneOf, AreApart}
 use Rattle.version_laws.specs.Writer.{removed_change}
 use Rattle.version_laws.specs.Rise.{IsNewSubtrie, IsEntryFor, alone, in_node, IsLeafOf, IsBesideNode, subtrie_merged, linked_for_entry}

@@ -5,12 +5,12 @@ use Rattle.compound_node.specs.declared.entries.Entry.{Entry}
 use Rattle.compound_node.specs.declared.entries.Entry.TheVariants.{Node}
 use Rattle.tries.specs.Tree.{Subtrie, Tree}
 use Rattle.versions.specs.State.{Past, IsHeldSince, IsKeptSince}
-use Rattle.versions.specs.declared.Rec.{Rec}
-use Rattle.versions.specs.declared.Rec.TheVariants.{Node as a_node, Leaf as a_leaf}
+use Rattle.record_words.specs.declared.records.Rec.{Rec}
+use Rattle.record_words.specs.declared.records.Rec.TheVariants.{Node as a_node, Leaf as a_leaf}
 use Rattle.versions.specs.Frames.{IsGrown}
 use Rattle.version_laws.specs.Scan.{Stood, IsRooted, IsPlaced, IsShaped, IsRead, MayStandAt, HadKeyBelow, Frame, IsStack, Pair, Range}
 use Rattle.version_laws.specs.Directions.{WasPassedOnWay, HasPassed, ComesOnWay, Comes, IsScanBy}
-use Rattle.version_laws.specs.declared.direction.Direction.{Direction}
+use Rattle.packed_pairs.specs.declared.direction.Direction.{Direction}
 use Rattle.version_laws.proofs.Walk.{every_map}
 use Rattle.versions.proofs.Growth.{stands_grown}
 

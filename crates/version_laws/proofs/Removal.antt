@@ -5,7 +5,7 @@ use Rattle.tries.specs.Keys.{Key}
 use Rattle.tries.specs.Tree.{Fixed, Tree, leaf, node, fork, IsTrie, IsBuilt, Within, here, inside, zero_side, one_side}
 use Rattle.versions.specs.Heap.{IsShown}
 use Rattle.versions.specs.State.{Links, IsLawfulState}
-use Rattle.versions.specs.declared.Rec.TheVariants.{Node as a_node}
+use Rattle.record_words.specs.declared.records.Rec.TheVariants.{Node as a_node}
 use Rattle.versions.specs.Core.{BareCore, view}
 use Rattle.versions.specs.Steps.{IsVersionPublish}
 use Rattle.tries.specs.Content.{Item, items, IsMore, added, item}

@@ -8,8 +8,8 @@ use Rattle.node_tries.specs.Piece.{Place}
 use Rattle.versions.specs.Heap.{NodeWords, LeafWords, Heap, IsShown}
 use Rattle.tries.specs.Place.{Swap, swap, in_zero, in_one}
 use Rattle.versions.specs.State.{IsRecord, Links, Spans, IsLived, IsTop, IsLawfulState}
-use Rattle.versions.specs.declared.Rec.{Rec}
-use Rattle.versions.specs.declared.Rec.TheVariants.{Node as a_node}
+use Rattle.record_words.specs.declared.records.Rec.{Rec}
+use Rattle.record_words.specs.declared.records.Rec.TheVariants.{Node as a_node}
 use Rattle.finite_map.specs.declared.Change.{Change}
 use Rattle.versions.specs.Core.{Fate, Free, Held, Ready, InTree, Unlinked, Marked, life_of, BareCore, view}
 use Rattle.versions.specs.Steps.{at_root, at_slot, IsNextVersion, IsVersionPublish}

@@ -26,9 +26,9 @@ use Rattle.version_laws.proofs.Growing.{growth_around, growth_open, growth_cut, 
 use Rattle.version_laws.proofs.Standing.{entry_node}
 use Rattle.tries.proofs.Adding.{added_in_whole}
 use Rattle.tries.proofs.Spots.{IsSpot, subtrie_spot}
-use Rattle.versions.specs.declared.Rec.TheVariants.{Node as a_node, Leaf as a_leaf}
+use Rattle.record_words.specs.declared.records.Rec.TheVariants.{Node as a_node, Leaf as a_leaf}
 use Rattle.versions.specs.Trades.{IsOneOf}
-use Rattle.versions.specs.declared.Rec.{Rec}
+use Rattle.record_words.specs.declared.records.Rec.{Rec}
 use Rattle.versions.proofs.Members.{of_append, of_left, of_right}
 use Rattle.version_laws.proofs.Trading.{IsTrade, old_now, traded_in_whole, grown_trade, open_trade, around_trade}
 use Rattle.version_laws.proofs.Holding.{is_tip, newest_tree_if_spot_held, node_at, published_at}

@@ -9,7 +9,7 @@ use Rattle.node_tries.proofs.Paths.{size_pos}
 use Rattle.node_tries.specs.Piece.{Place, Fork, size}
 use Rattle.tries.specs.Search.{Follows, child, Kin, tips, forks, between, IsUnder}
 use Rattle.versions.specs.State.{rec_of, IsRecord, Past, Stands, IsHeldSince, IsKeptSince, WasAbsentSince, IsLed, IsSteady}
-use Rattle.versions.specs.declared.Rec.TheVariants.{Node as a_node, Leaf as a_leaf}
+use Rattle.record_words.specs.declared.records.Rec.TheVariants.{Node as a_node, Leaf as a_leaf}
 use Rattle.tries.specs.Place.{spot, shape}
 use Rattle.version_laws.specs.Scan.{at_place, AgreeUpToPlace, Stood, IsRooted, IsPlaced, IsShaped, IsRead, MayStandAt, HadKeyBelow}
 use Rattle.tries.proofs.Tries.{has_first, has_within, within_trans, trie_within, built_within, rises, has_if_follows, follows_if_has, follows_kin, descend, has_child, has_under, under_below, between_low, between_mid, between_high, parting, kin_tips}

@@ -7,8 +7,8 @@ use Rattle.compound_node.specs.declared.entries.Entry.TheVariants.{Leaf}
 use Rattle.tries.specs.Search.{Follows}
 use Rattle.versions.specs.Heap.{LeafWords, IsCopied}
 use Rattle.versions.specs.State.{Spans, last_of, State, Stands, IsSameRecord, IsTop, IsReach, IsLawfulState, WasAbsentSince, IsLed, IsHeldSince}
-use Rattle.versions.specs.declared.Rec.{Rec}
-use Rattle.versions.specs.declared.Rec.TheVariants.{Leaf as a_leaf}
+use Rattle.record_words.specs.declared.records.Rec.{Rec}
+use Rattle.record_words.specs.declared.records.Rec.TheVariants.{Leaf as a_leaf}
 use Rattle.tries.proofs.Tries.{same_key}
 use Rattle.versions.proofs.States.{spans_last, spans_ended}
 use Rattle.versions.proofs.Heaps.{leaf_number}

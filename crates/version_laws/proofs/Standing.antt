@@ -7,7 +7,7 @@ use Rattle.node_tries.specs.Piece.{Place}
 use Rattle.tries.specs.Search.{child, seek}
 use Rattle.versions.specs.Heap.{NodeWords, LeafWords, IsShown}
 use Rattle.versions.specs.State.{IsLawfulState, IsTop}
-use Rattle.versions.specs.declared.Rec.TheVariants.{Node as a_node}
+use Rattle.record_words.specs.declared.records.Rec.TheVariants.{Node as a_node}
 use Rattle.versions.specs.Core.{InTree, BareCore, view}
 use Rattle.tries.proofs.Tries.{within_trans, subtrie_child, within_child}
 use Rattle.versions.proofs.Heaps.{shown_within}

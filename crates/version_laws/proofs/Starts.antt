@@ -13,11 +13,11 @@ use Rattle.tries.proofs.Places.{spot_below, spot_shape, shape_tips}
 use Rattle.tries.proofs.Tries.{has_under, under_below, kin_tips}
 use Rattle.versions.specs.Frames.{IsGrown}
 use Rattle.versions.specs.State.{Past, IsKeptSince, IsSteady}
-use Rattle.versions.specs.declared.Rec.TheVariants.{Node as a_node}
+use Rattle.record_words.specs.declared.records.Rec.TheVariants.{Node as a_node}
 use Rattle.version_laws.specs.Scan.{AgreeUpToPlace, IsPlaced, IsShaped, MayStandAt, HadKeyBelow, Frame, IsStack, Range, IsInRange}
 use Rattle.version_laws.specs.Directions.{gap_before, gap_behind, first_gap, first_key, IsEarlier, IsNoLater, IsToCome, WasPassed, ComesOnWay, IsScanBy, IsPastKey}
-use Rattle.version_laws.specs.declared.direction.Direction.{Direction}
-use Rattle.version_laws.specs.declared.direction.Direction.TheVariants.{Upwards, Downwards}
+use Rattle.packed_pairs.specs.declared.direction.Direction.{Direction}
+use Rattle.packed_pairs.specs.declared.direction.Direction.TheVariants.{Upwards, Downwards}
 use Rattle.version_laws.proofs.Persist.{may_stand_grown, placed_grown, shaped_grown}
 use Rattle.version_laws.proofs.Scans.{may_stand_at_child_place, had_key_may_stand, child_had_key, root_had_key, shaped, stood_kin, stood_trie}
 use Rattle.version_laws.proofs.Walk.{come_before, come_earlier, come_further, from_first, may_stand_earlier, never_earlier, passed_behind, passed_or_comes, stack_shape}

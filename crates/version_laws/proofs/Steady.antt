@@ -4,7 +4,7 @@ use Rattle.tries.specs.Keys.{Key}
 use Rattle.tries.specs.Tree.{Subtrie}
 use Rattle.versions.specs.Heap.{NodeWords}
 use Rattle.versions.specs.State.{Past, IsLawfulState}
-use Rattle.versions.specs.declared.Rec.TheVariants.{Node as a_node}
+use Rattle.record_words.specs.declared.records.Rec.TheVariants.{Node as a_node}
 use Rattle.versions.specs.Core.{BareCore, pin_version, view}
 use Rattle.versions.specs.declared.Pin.{Pin}
 use Rattle.versions.specs.Frames.{IsGrown}

@@ -11,8 +11,8 @@ use Rattle.tries.specs.Place.{subtrie_without}
 use Rattle.versions.specs.Heap.{NodeWords, Heap, IsShown}
 use Rattle.versions.specs.State.{IsLawfulState, Links}
 use Rattle.versions.specs.Core.{BareCore, Ready, InTree, view}
-use Rattle.versions.specs.declared.Rec.{Rec}
-use Rattle.versions.specs.declared.Rec.TheVariants.{Node as a_node, Leaf as a_leaf}
+use Rattle.record_words.specs.declared.records.Rec.{Rec}
+use Rattle.record_words.specs.declared.records.Rec.TheVariants.{Node as a_node, Leaf as a_leaf}
 use Rattle.version_laws.specs.Writer.{removed_change}
 use Rattle.version_laws.specs.Rise.{IsNewSubtrie, IsEntryFor, alone, in_node, IsLeafOf, linked_for_entry}
 use Rattle.tries.proofs.Tries.{trie_within, built_within, within_trans}

@@ -7,8 +7,8 @@ use Rattle.tries.proofs.Places.{grown}
 use Rattle.tries.proofs.Tries.{built_within}
 use Rattle.versions.specs.Heap.{Heap, IsShown}
 use Rattle.versions.specs.State.{Links, IsLawfulState}
-use Rattle.versions.specs.declared.Rec.{Rec}
-use Rattle.versions.specs.declared.Rec.TheVariants.{Node as a_node, Leaf as a_leaf}
+use Rattle.record_words.specs.declared.records.Rec.{Rec}
+use Rattle.record_words.specs.declared.records.Rec.TheVariants.{Node as a_node, Leaf as a_leaf}
 use Rattle.versions.proofs.Stored.{not_above, not_beside}
 use Rattle.versions.proofs.Heaps.{shown_within}
 use Rattle.version_laws.proofs.Replaced.{linked_after_put, linked_before_put, links_new, links_old, linked_fate}

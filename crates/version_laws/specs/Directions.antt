@@ -8,10 +8,10 @@ use Rattle.tries.specs.Keys.{Key, IsAtMost, IsBefore}
 use Rattle.tries.specs.Place.{spot}
 use Rattle.versions.specs.Frames.{IsGrown}
 use Rattle.versions.specs.State.{Past, IsHeldSince, IsKeptSince, IsSteady}
-use Rattle.versions.specs.declared.Rec.TheVariants.{Node as a_node}
+use Rattle.record_words.specs.declared.records.Rec.TheVariants.{Node as a_node}
 use Rattle.version_laws.specs.Scan.{MayStandAt, HadKeyBelow, Frame, IsStack, Pair, Every, IsKeyListed, Range, IsInRange}
-use Rattle.version_laws.specs.declared.direction.Direction.{Direction}
-use Rattle.version_laws.specs.declared.direction.Direction.TheVariants.{Upwards, Downwards}
+use Rattle.packed_pairs.specs.declared.direction.Direction.{Direction}
+use Rattle.packed_pairs.specs.declared.direction.Direction.TheVariants.{Upwards, Downwards}
 
 -- Places. A walk stands at a gap between the entries of a node, before the first or behind the last: gap i is left of place i.
 

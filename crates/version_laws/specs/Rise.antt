@@ -9,8 +9,8 @@ use Rattle.tries.specs.Search.{seek}
 use Rattle.tries.specs.Place.{fork_of, subtrie_sibling, subtrie_without, with_subtrie}
 use Rattle.tries.specs.Affected.{subtrie_affected, subtrie_forked, subtrie_grown, IsPartSubtrie, IsLowerSubtrie, IsTipSubtrie}
 use Rattle.versions.specs.State.{FirstForkIsFrom}
-use Rattle.versions.specs.declared.Rec.{Rec}
-use Rattle.versions.specs.declared.Rec.TheVariants.{Node as a_node, Leaf as a_leaf}
+use Rattle.record_words.specs.declared.records.Rec.{Rec}
+use Rattle.record_words.specs.declared.records.Rec.TheVariants.{Node as a_node, Leaf as a_leaf}
 use Rattle.versions.specs.Core.{Ready, BareCore}
 use Rattle.version_laws.specs.Writer.{IsFoundBelow, Newcomer}
 use Rattle.version_laws.specs.Spots.{IsLockedNode, AffectsOne}

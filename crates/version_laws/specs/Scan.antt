@@ -7,8 +7,8 @@ use Rattle.compound_node.specs.declared.entries.Entry.TheVariants.{Node}
 use Rattle.node_tries.specs.Piece.{Place, Fork, size}
 use Rattle.tries.specs.Search.{IsUnder}
 use Rattle.versions.specs.State.{rec_of, Past, Stands}
-use Rattle.versions.specs.declared.Rec.{Rec}
-use Rattle.versions.specs.declared.Rec.TheVariants.{Node as a_node, Leaf as a_leaf}
+use Rattle.record_words.specs.declared.records.Rec.{Rec}
+use Rattle.record_words.specs.declared.records.Rec.TheVariants.{Node as a_node, Leaf as a_leaf}
 use Rattle.tries.specs.Place.{shape}
 
 -- What stands at a place of a body.

@@ -9,7 +9,7 @@ use Rattle.compound_node.specs.declared.entries.Entry.{Entry}
 use Rattle.compound_node.specs.declared.entries.Entry.TheVariants.{Leaf, Node}
 use Rattle.node_tries.specs.Piece.{Place}
 use Rattle.versions.specs.Heap.{Heap}
-use Rattle.versions.specs.declared.Rec.TheVariants.{Node as a_node}
+use Rattle.record_words.specs.declared.records.Rec.TheVariants.{Node as a_node}
 use Rattle.versions.specs.Core.{InTree, BareCore}
 use Rattle.version_laws.specs.Writer.{IsSubtrieStored}
 

@@ -13,8 +13,8 @@ use Rattle.tries.specs.Place.{subtrie_collapsed, subtrie_without, spot, entry_at
 use Rattle.tries.specs.Affected.{subtrie_forked, FirstForkIsBefore}
 use Rattle.versions.specs.Heap.{Heap}
 use Rattle.versions.specs.State.{State, Past, IsLawfulState, IsReach, IsSteady, IsLed, WasAbsentSince, IsHeldSince}
-use Rattle.versions.specs.declared.Rec.{Rec}
-use Rattle.versions.specs.declared.Rec.TheVariants.{Node as a_node, Leaf as a_leaf}
+use Rattle.record_words.specs.declared.records.Rec.{Rec}
+use Rattle.record_words.specs.declared.records.Rec.TheVariants.{Node as a_node, Leaf as a_leaf}
 use Rattle.versions.specs.Trades.{HasTraded}
 use Rattle.versions.specs.Core.{BareCore, view}
 use Rattle.versions.specs.declared.Pin.{Pin}
@@ -25,7 +25,7 @@ use Rattle.version_laws.specs.Spots.{HoldsSpot, IsLowAt, AffectsSpotAloneInCore,
 use Rattle.version_laws.specs.Rise.{IsNewSubtrie, IsEntryFor, IsUpper, IsLeafOf, IsBesideNode, subtrie_merged, entry, IsRise, linked_for_entry, linked_by_rise, unlinked_by_rise}
 use Rattle.version_laws.specs.Scan.{Pair, Range, in_order_taken, IsRooted, IsPlaced, IsShaped, IsRead, EntryStoodSince}
 use Rattle.version_laws.specs.Directions.{IsAnswer, IsLawfulBy}
-use Rattle.version_laws.specs.declared.direction.Direction.{Direction}
+use Rattle.packed_pairs.specs.declared.direction.Direction.{Direction}
 use Rattle.compound_node.specs.Nodes.{height_of}
 use Rattle.versions.specs.Frames.{IsGrown}
 

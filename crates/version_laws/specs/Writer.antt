@@ -7,7 +7,7 @@ use Rattle.tries.specs.Search.{seek}
 use Rattle.compound_node.specs.declared.entries.Entry.TheVariants.{Leaf, Node}
 use Rattle.versions.specs.Heap.{Heap}
 use Rattle.versions.specs.State.{IsReach, Past, Stands, StoodWithKeys}
-use Rattle.versions.specs.declared.Rec.TheVariants.{Node as a_node, Leaf as a_leaf}
+use Rattle.record_words.specs.declared.records.Rec.TheVariants.{Node as a_node, Leaf as a_leaf}
 use Rattle.versions.specs.Core.{Ready, BareCore, view}
 use Rattle.tries.specs.Content.{Item}
 pub use Rattle.versions.specs.Told.{added_change, replaced_change, removed_change}

@@ -12,8 +12,8 @@ use Rattle.versions.specs.State.{Links, IsLived, Spans, Stands}
 use Rattle.versions.specs.Steps.{IsLawfulCore}
 use Rattle.versions.specs.Told.{content}
 use Rattle.versions.specs.Trades.{IsOneOf, AreApart}
-use Rattle.versions.specs.declared.Rec.{Rec}
-use Rattle.versions.specs.declared.Rec.TheVariants.{Node as a_node}
+use Rattle.record_words.specs.declared.records.Rec.{Rec}
+use Rattle.record_words.specs.declared.records.Rec.TheVariants.{Node as a_node}
 use Rattle.versions.proofs.Members.{of_append, of_left, of_right, all_of}
 use Rattle.versions.proofs.Publish.{within_links}
 

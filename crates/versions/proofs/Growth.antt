@@ -5,8 +5,8 @@ use Rattle.compound_node.specs.declared.entries.Entry.{Entry}
 use Rattle.tries.specs.Tree.{Tree, leaf, node, fork, subtrie}
 use Rattle.versions.specs.Heap.{NodeWords, IsCopied}
 use Rattle.versions.specs.State.{rec_of, Spans, last_of, IsLived, Past, Stands, IsLawfulState, StoodWithKeys}
-use Rattle.versions.specs.declared.Rec.{Rec}
-use Rattle.versions.specs.declared.Rec.TheVariants.{Node as a_node, Leaf as a_leaf}
+use Rattle.record_words.specs.declared.records.Rec.{Rec}
+use Rattle.record_words.specs.declared.records.Rec.TheVariants.{Node as a_node, Leaf as a_leaf}
 use Rattle.versions.specs.Frames.{IsGrown}
 use Rattle.versions.specs.Core.{has_seen, InTree, Marked, life_of, BareCore, pin_version, view, IsPaced}
 use Rattle.versions.specs.declared.Pin.{Pin}

@@ -8,7 +8,7 @@ use Rattle.tries.specs.Search.{Kin, tips, forks}
 use Rattle.tries.proofs.Tries.{has_within}
 use Rattle.versions.specs.Heap.{NodeWords, LeafWords, Heap, IsCopied, IsShown, IsNear}
 use Rattle.tries.specs.Place.{Swap, in_zero, in_one}
-use Rattle.versions.specs.declared.Rec.TheVariants.{Node as a_node, Leaf as a_leaf}
+use Rattle.record_words.specs.declared.records.Rec.TheVariants.{Node as a_node, Leaf as a_leaf}
 
 pub node_number : {n o : ℕ} → a_node n ≡ a_node o → n ≡ o
 node_number e = cc

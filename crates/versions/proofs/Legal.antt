@@ -5,8 +5,8 @@ use Rattle.compound_node.specs.declared.entries.Entry.{Entry}
 use Rattle.tries.specs.Tree.{Tree, leaf, node, fork}
 use Rattle.versions.specs.Heap.{Heap}
 use Rattle.versions.specs.State.{Out, Links, IsLinked, IsLawfulState}
-use Rattle.versions.specs.declared.Rec.{Rec}
-use Rattle.versions.specs.declared.Rec.TheVariants.{Node as a_node, Leaf as a_leaf}
+use Rattle.record_words.specs.declared.records.Rec.{Rec}
+use Rattle.record_words.specs.declared.records.Rec.TheVariants.{Node as a_node, Leaf as a_leaf}
 use Rattle.finite_map.specs.declared.Change.{Change}
 use Rattle.versions.specs.Core.{has_seen, Fate, Free, Held, Ready, InTree, Unlinked, Marked, life_of, BareCore, pin_version, view, IsPaced}
 use Rattle.versions.specs.declared.Pin.{Pin}

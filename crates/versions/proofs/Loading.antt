@@ -21,7 +21,7 @@ use Rattle.tries.proofs.Maps.{AreKeys, are_keys, more_inserts, more_was_absent}
 use Rattle.tries.proofs.Places.{more_after}
 use Rattle.tries.proofs.Reading.{some_injective as some_same}
 use Rattle.tries.proofs.Tries.{trie_within, built_within}
-use Rattle.versions.specs.declared.Rec.{Rec}
+use Rattle.record_words.specs.declared.records.Rec.{Rec}
 use Rattle.versions.specs.Heap.{Heap, IsCopied, IsShown}
 use Rattle.versions.specs.State.{Past, State, Life, Linked, Spans, last_of, Stands, IsSameRecord, IsTop, IsReach, IsLived, IsLinked, IsLawfulState}
 use Rattle.versions.specs.Core.{Fate, Free, InTree, life_of, view}

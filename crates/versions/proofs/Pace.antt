@@ -4,7 +4,7 @@ use Rattle.std.proofs.lemmas.Bool.{eqb-true, cases_Bool, false≢true}
 use Rattle.compound_node.specs.declared.entries.Entry.{Entry}
 use Rattle.tries.specs.Tree.{Tree}
 use Rattle.versions.specs.State.{Spans, IsLived, IsLawfulState, Stands}
-use Rattle.versions.specs.declared.Rec.{Rec}
+use Rattle.record_words.specs.declared.records.Rec.{Rec}
 use Rattle.finite_map.specs.declared.Change.{Change}
 use Rattle.versions.specs.Core.{has_seen, pin_version, Fate, Free, Held, Ready, InTree, Unlinked, Marked, life_of, BareCore, view, IsPaced}
 use Rattle.versions.specs.declared.Pin.{Pin}

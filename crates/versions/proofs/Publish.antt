@@ -5,8 +5,8 @@ use Rattle.compound_node.specs.declared.entries.Entry.{Entry}
 use Rattle.tries.specs.Tree.{Tree, leaf, node, fork, IsTrie, IsBuilt, Within, here, inside, zero_side, one_side}
 use Rattle.versions.specs.Heap.{NodeWords, LeafWords, Heap, IsCopied, IsShown, IsNear}
 use Rattle.versions.specs.State.{IsRecord, Links, Life, Out, Linked, Retired, Spans, last_of, State, Stands, IsSameRecord, IsTop, IsReach, IsLawfulState, IsLived, with_version, IsLinked}
-use Rattle.versions.specs.declared.Rec.{Rec}
-use Rattle.versions.specs.declared.Rec.TheVariants.{Node as a_node, Leaf as a_leaf}
+use Rattle.record_words.specs.declared.records.Rec.{Rec}
+use Rattle.record_words.specs.declared.records.Rec.TheVariants.{Node as a_node, Leaf as a_leaf}
 use Rattle.tries.proofs.Tries.{trie_within, built_within}
 use Rattle.versions.proofs.States.{same_trans, spans_last, spans_ended}
 use Rattle.versions.proofs.Heaps.{shown_within, copied_if_shown, kin_step, near_subtrie, near_refl, node_number, leaf_number}

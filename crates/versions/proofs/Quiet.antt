@@ -4,8 +4,8 @@ use Rattle.compound_node.specs.declared.entries.Entry.{Entry}
 use Rattle.tries.specs.Tree.{Tree, leaf, node, fork, subtrie}
 use Rattle.versions.specs.Heap.{Heap, IsCopied, IsShown}
 use Rattle.versions.specs.State.{IsRecord, Links, Life, Out, Spans, last_of, State, Stands, IsSameRecord, IsTop, IsReach, IsLawfulState, IsLived}
-use Rattle.versions.specs.declared.Rec.{Rec}
-use Rattle.versions.specs.declared.Rec.TheVariants.{Node as a_node, Leaf as a_leaf}
+use Rattle.record_words.specs.declared.records.Rec.{Rec}
+use Rattle.record_words.specs.declared.records.Rec.TheVariants.{Node as a_node, Leaf as a_leaf}
 use Rattle.versions.proofs.Publish.{links_within}
 use Rattle.versions.proofs.Growth.{IsUnlinkedSince}
 use Rattle.versions.proofs.Heaps.{determined}

@@ -6,8 +6,8 @@ use Rattle.tries.specs.Tree.{Fixed, Tree, leaf, node, fork, subtrie, Has, IsTrie
 use Rattle.tries.specs.Content.{Item, item, items, IsExchange, exchanged}
 use Rattle.tries.proofs.Contents.{put_exchange}
 use Rattle.node_tries.specs.Piece.{Fork}
-use Rattle.versions.specs.declared.Rec.{Rec}
-use Rattle.versions.specs.declared.Rec.TheVariants.{Node as a_node, Leaf as a_leaf}
+use Rattle.record_words.specs.declared.records.Rec.{Rec}
+use Rattle.record_words.specs.declared.records.Rec.TheVariants.{Node as a_node, Leaf as a_leaf}
 use Rattle.versions.specs.Heap.{NodeWords, LeafWords, Heap, IsShown}
 use Rattle.versions.specs.State.{Links}
 use Rattle.versions.proofs.Heaps.{leaf_number}

@@ -8,8 +8,8 @@ use Rattle.node_tries.specs.Piece.{Place}
 use Rattle.tries.specs.Search.{Follows, child, seek, between, IsUnder}
 use Rattle.versions.specs.Heap.{NodeWords, IsCopied}
 use Rattle.versions.specs.State.{rec_of, IsRecord, Life, Out, Linked, Retired, Spans, last_of, State, Stands, IsSameRecord, IsReach, IsLawfulState, WasAbsentSince, IsLed, IsLived, IsSteady}
-use Rattle.versions.specs.declared.Rec.{Rec}
-use Rattle.versions.specs.declared.Rec.TheVariants.{Node as a_node}
+use Rattle.record_words.specs.declared.records.Rec.{Rec}
+use Rattle.record_words.specs.declared.records.Rec.TheVariants.{Node as a_node}
 use Rattle.tries.proofs.Tries.{within_trans, trie_within, built_within, descend, within_child, subtrie_child, follows_kin, kin_trans, kin_sym, parting}
 use Rattle.tries.proofs.Reading.{some_injective as some_same}
 use Rattle.versions.proofs.Heaps.{node_number}

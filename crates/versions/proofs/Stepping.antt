@@ -6,8 +6,8 @@ use Rattle.compound_node.specs.declared.entries.Entry.{Entry}
 use Rattle.tries.specs.Tree.{Tree}
 use Rattle.versions.specs.Heap.{Heap}
 use Rattle.versions.specs.State.{Out, IsLinked, Stands, IsSameRecord}
-use Rattle.versions.specs.declared.Rec.{Rec}
-use Rattle.versions.specs.declared.Rec.TheVariants.{Node as a_node, Leaf as a_leaf}
+use Rattle.record_words.specs.declared.records.Rec.{Rec}
+use Rattle.record_words.specs.declared.records.Rec.TheVariants.{Node as a_node, Leaf as a_leaf}
 use Rattle.versions.specs.Core.{Fate, Free, Held, Ready, InTree, Unlinked, Marked, life_of, BareCore, view, pin_version}
 use Rattle.versions.specs.declared.Pin.{Pin}
 use Rattle.versions.specs.Steps.{bare_opening, same_rec, with_fate, is_linked, next_fate, IsVersionPublish, with_lock, unlocked, after_mark, FillsOnly, IsLockable, IsLawfulCore, IsCoreStep, claims, fills, readies, releases, locks_anchor, unlocks_anchor, locks, unlocks, publishes, marks, loads_epoch, advances, pins, unpins, loads_pin, gives_back}

@@ -6,7 +6,7 @@ use Rattle.compound_node.specs.declared.entries.Entry.TheVariants.{Leaf, Node}
 use Rattle.node_tries.specs.Piece.{Place}
 use Rattle.versions.specs.Heap.{NodeWords, Heap, IsShown}
 use Rattle.versions.specs.State.{IsRecord, Links, Out, IsLawfulState}
-use Rattle.versions.specs.declared.Rec.TheVariants.{Node as a_node}
+use Rattle.record_words.specs.declared.records.Rec.TheVariants.{Node as a_node}
 use Rattle.tries.proofs.Changes.{put}
 use Rattle.tries.proofs.Tries.{has_first, has_within}
 use Rattle.versions.proofs.Heaps.{shown_within, determined, leaf_node, leaf_number, node_leaf, node_number}
@@ -14,7 +14,7 @@ use Rattle.versions.proofs.Publish.{links_within}
 use Rattle.versions.proofs.Quiet.{shown_if_same_words}
 use Rattle.tries.specs.Content.{first}
 use Rattle.tries.proofs.Puts.{subtrie_put}
-use Rattle.versions.specs.declared.Rec.{Rec}
+use Rattle.record_words.specs.declared.records.Rec.{Rec}
 
 -- Two trees of one record, shown by the same words, are the same.
 same_tree : (m : Heap) (i : Rec) (u v : Tree) → IsRecord i u → IsRecord i v → IsShown m u → IsShown m v → u ≡ v

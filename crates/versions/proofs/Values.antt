@@ -10,8 +10,8 @@ use Rattle.tries.specs.Content.{item}
 use Rattle.tries.specs.Place.{entry_at}
 use Rattle.tries.specs.Tree.{Tree, leaf, node, fork, subtrie, IsTrie, IsBuilt}
 use Rattle.tries.proofs.Reading.{some_injective as some_same}
-use Rattle.versions.specs.declared.Rec.{Rec}
-use Rattle.versions.specs.declared.Rec.TheVariants.{Node as a_node, Leaf as a_leaf}
+use Rattle.record_words.specs.declared.records.Rec.{Rec}
+use Rattle.record_words.specs.declared.records.Rec.TheVariants.{Node as a_node, Leaf as a_leaf}
 use Rattle.versions.specs.Heap.{NodeWords, LeafWords, Heap, IsShown}
 use Rattle.versions.specs.State.{Links, IsLinked, IsTop, IsLawfulState, Spans, IsLived}
 use Rattle.versions.specs.Core.{BareCore, view, Fate, Free, Held, Ready, InTree, Unlinked, Marked, life_of}

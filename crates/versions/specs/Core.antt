@@ -6,7 +6,7 @@ use Rattle.finite_map.specs.declared.Change.{Change}
 use Rattle.compound_node.specs.declared.entries.Entry.{Entry}
 use Rattle.versions.specs.Heap.{Heap}
 use Rattle.versions.specs.State.{Life, Out, Linked, Retired, Past, State}
-use Rattle.versions.specs.declared.Rec.{Rec}
+use Rattle.record_words.specs.declared.records.Rec.{Rec}
 
 -- What has become of a record; a pass is named where the record is its own.
 pub data Fate : Type 0 where

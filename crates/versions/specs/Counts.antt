@@ -4,7 +4,7 @@ use Rattle.finite_map.specs.Fronts.{map_of}
 use Rattle.versions.specs.Core.{InTree, BareCore}
 use Rattle.versions.specs.Steps.{IsLawfulCore}
 use Rattle.versions.specs.Trades.{AreApart}
-use Rattle.versions.specs.declared.Rec.TheVariants.{Node as a_node}
+use Rattle.record_words.specs.declared.records.Rec.TheVariants.{Node as a_node}
 
 -- The node records in the tree, each listed once, are fewer than the keys of the map; where that has none there is none.
 abbrev pub NodesInTreeAreFewer : Type 0

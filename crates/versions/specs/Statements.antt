@@ -6,7 +6,7 @@ use Rattle.compound_node.specs.declared.entries.Entry.TheVariants.{Node}
 use Rattle.tries.specs.Search.{seek, between, IsUnder}
 use Rattle.versions.specs.Heap.{Heap}
 use Rattle.versions.specs.State.{Spans, State, Stands, IsSameRecord, IsLawfulState, IsReach, IsLed}
-use Rattle.versions.specs.declared.Rec.{Rec}
+use Rattle.record_words.specs.declared.records.Rec.{Rec}
 use Rattle.versions.specs.Core.{BareCore, Free, Held}
 use Rattle.versions.specs.declared.Pin.{Pin}
 use Rattle.finite_map.specs.Maps.{IsRising}

@@ -7,8 +7,8 @@ use Rattle.tries.specs.Place.{entry_at}
 use Rattle.tries.specs.Tree.{Tree, leaf, node, fork, IsTrie, IsBuilt}
 use Rattle.versions.specs.Heap.{Heap, IsNear}
 use Rattle.versions.specs.State.{IsLinked, IsTop, with_version, IsLawfulState}
-use Rattle.versions.specs.declared.Rec.{Rec}
-use Rattle.versions.specs.declared.Rec.TheVariants.{Node as a_node, Leaf as a_leaf}
+use Rattle.record_words.specs.declared.records.Rec.{Rec}
+use Rattle.record_words.specs.declared.records.Rec.TheVariants.{Node as a_node, Leaf as a_leaf}
 use Rattle.finite_map.specs.declared.Change.{Change}
 use Rattle.versions.specs.Told.{IsChange, TellChanges}
 use Rattle.versions.specs.Core.{Fate, Free, Held, Ready, InTree, Unlinked, Marked, has_seen, view, IsPaced, Shared, BareCore}

@@ -2,7 +2,7 @@
 use Rattle.std.specs.Prelude.{◌≡◌, ◌⊎◌, List, [], ◌∷◌, Option}
 use Rattle.tries.specs.Tree.{Tree}
 use Rattle.versions.specs.State.{IsLinked}
-use Rattle.versions.specs.declared.Rec.{Rec}
+use Rattle.record_words.specs.declared.records.Rec.{Rec}
 
 -- one of the list
 abbrev pub IsOneOf : {X : Type 0} → X → List X → Type 0

@@ -21,24 +21,6 @@ impl<T> Model for Listed<T> {
     ghost view = { λ listed. manually_drop_value listed.list };
 }
 
-/// A record of the table, by its number. Nodes and leaves are numbered from 0, each kind by itself.
-#[derive(Clone, Copy)]
-pub enum Rec {
-    Node(u32),
-    Leaf(u32),
-}
-
-impl Default for Rec {
-    ghost use Rattle.std.specs.Prelude.{◌≡◌};
-
-    /// The first node, which stands in unused places of a list.
-    fn default() -> Rec
-        ensures { result ≡ Rec.Node 0 }
-    {
-        Rec::Node(0)
-    }
-}
-
 /// A pin: `word` is the epoch in it, `version` the newest version when it was set, `floor` the epoch then. No value of it is made.
 pub struct Pin {
     pub word: u64,

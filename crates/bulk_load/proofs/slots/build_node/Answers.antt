@@ -1,34 +1,42 @@
--- Each slot goes to the end of the node.
-use Rattle.std.proofs.Common.{◌≡◌, ◌+◌, ◌-◌, length, get_or, ap, sym, ◌∙◌, arith}
-use Rattle.bulk_load.specs.Slots.{slot}
-use Rattle.compound_node.specs.declared.entries.Entry.TheVariants.{Leaf}
-use Rattle.compound_node.specs.Nodes.{piece}
-use Rattle.node_tries.specs.Growth.{affected_first, affected_count}
-use Rattle.bulk_load.proofs.Climbing.{started, next_affects, goes_on, arrived}
+-- The columns, rows and entries show the piece of the slots.
+use Rattle.std.proofs.Common.{arith, length, refl, subst, sym, ◌∙◌, ◌≡◌}
+use Rattle.std.proofs.lemmas.List.{length-map}
+use Rattle.bulk_load.proofs.Building.{built, front_rows, node_of_slots}
+use Rattle.bulk_load.specs.Slots.{entries_in_slots}
+use Rattle.bulk_load.specs.declared.slots.Slot.{Slot}
+use Rattle.compound_node.specs.Nodes.{IsBuiltFrom}
 use Rattle.bulk_load.proofs.slots.build_node.Goals as goal
-use Rattle.bulk_load.proofs.slots.build_node.Goals.{After-affected-first}
 
-pub loop-i-init : goal.loop-i-init
-loop-i-init c = λ p x a. started (slot 0 (Leaf 0)) c.args.slots.now c.pair-node.result p x a c.requires.few.0 c.pair-node.ensures
+pub of-head-requires : goal.of-head-requires
+of-head-requires c =
+    let slots = c.args.slots.now in
+    let cs = c.collect_columns-columns.result in
+    let (p, x, are) = c.requires.shown in
+    let long = length-map slots (λ (s : Slot). s.entry) in
+    let front = front_rows cs slots (length (entries_in_slots slots)) (omega arith) long in
+    let b = built cs slots c.requires.few.0 c.requires.few.1 c.requires.each c.collect_columns-columns.ensures.columns c.collect_columns-columns.ensures.positions p x are in (
+      entries_in_slots slots,
+      long,
+      record {
+        padded = rw (c.make_rows-rows.ensures, front) refl;
+        lawful = rw (c.height_over-height.ensures, c.make_rows-rows.ensures, front) b.lawful;
+      },
+    )
 
-from : (c : After-affected-first) → affected_first (get_or c.args.slots.now c.loop-i.i (slot 0 (Leaf 0))).fork (length c.loop-i.node.entries - 1) (piece c.loop-i.node) ≡ c.affected-first.result.0
-from c = ap (λ n. affected_first (get_or c.args.slots.now c.loop-i.i (slot 0 (Leaf 0))).fork (n - 1) (piece c.loop-i.node)) (sym c.count.ensures.count) ∙ c.affected-first.ensures.from
-
-upto : (c : After-affected-first) → affected_count (get_or c.args.slots.now c.loop-i.i (slot 0 (Leaf 0))).fork (length c.loop-i.node.entries - 1) (piece c.loop-i.node) + c.affected-first.result.0 ≡ c.affected-first.result.1 + 1
-upto c = ap (λ n. affected_count (get_or c.args.slots.now c.loop-i.i (slot 0 (Leaf 0))).fork (n - 1) (piece c.loop-i.node) + c.affected-first.result.0) (sym c.count.ensures.count) ∙ c.affected-first.ensures.upto
-
-pub add_entry-requires-clause-range : goal.add_entry-requires-clause-range
-add_entry-requires-clause-range c =
-    let (p, x, a) = c.requires.shown in let d = (goal.at.add_entry-requires-clause-range c).After-affected-first in
-    (next_affects (slot 0 (Leaf 0)) c.loop-i.i c.args.slots.now c.loop-i.node x c.affected-first.result.0 c.affected-first.result.1 (omega arith) (c.loop-i.invariant p x a)
-    (omega (arith, c.count.ensures.lawful.several)) (from d) (upto d)).0
-
-pub loop-i-preserved : goal.loop-i-preserved
-loop-i-preserved c = λ p x a.
-    let w = c.loop-i.invariant p x a in let d = (goal.at.loop-i-preserved c).After-affected-first in
-    goes_on (slot 0 (Leaf 0)) c.loop-i.i c.args.slots.now c.loop-i.node c.add_entry.new.self x c.affected-first.result.0 (omega arith) w
-    (next_affects (slot 0 (Leaf 0)) c.loop-i.i c.args.slots.now c.loop-i.node x c.affected-first.result.0 c.affected-first.result.1 (omega arith) w
-    (omega (arith, c.count.ensures.lawful.several)) (from d) (upto d)).1 c.add_entry.ensures
+pub of-requires : goal.of-requires
+of-requires c =
+    let slots = c.args.slots.now in
+    let cs = c.collect_columns-columns.result in
+    let (p, x, are) = c.requires.shown in
+    let front = front_rows cs slots (length slots) (omega arith) refl in
+    let b = built cs slots c.requires.few.0 c.requires.few.1 c.requires.each c.collect_columns-columns.ensures.columns c.collect_columns-columns.ensures.positions p x are in
+    rw (c.of-head.ensures, c.list_entries.ensures, c.height_over-height.ensures, c.make_rows-rows.ensures, front) b.lawful
 
 pub returns : goal.returns
-returns c = λ p x a. arrived c.loop-i.i c.args.slots.now c.loop-i.node x (omega arith) (c.loop-i.invariant p x a)
+returns c = λ p x are.
+    let slots = c.args.slots.now in
+    let cs = c.collect_columns-columns.result in
+    let front = front_rows cs slots (length slots) (omega arith) refl in
+    let is : c.of.result ≡ node_of_slots cs slots = c.of.ensures ∙ (rw (c.of-head.ensures, c.list_entries.ensures, c.height_over-height.ensures, c.make_rows-rows.ensures, front) refl) in
+    subst (λ node. IsBuiltFrom node x) (sym is)
+    (built cs slots c.requires.few.0 c.requires.few.1 c.requires.each c.collect_columns-columns.ensures.columns c.collect_columns-columns.ensures.positions p x are)

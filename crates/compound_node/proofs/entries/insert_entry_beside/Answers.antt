@@ -9,8 +9,8 @@ pub returns : goal.returns
 returns c =
     let end : c.args.first + (c.args.last + 1 - c.args.first) ≡ c.args.last + 1 = omega (arith, c.requires.range) in
     elim c.if-bit.branch [
-      | then-bit w ↦ rw w.if-bit.true (c.insert.ensures.items ∙ ap (λ k. insert c.args.entries.now.items k c.args.entry) (w.at-is ∙ sym end)
+      | then-bit w ↦ rw w.if-bit.true (c.insert.ensures.items ∙ ap (λ k. insert c.args.entries.now.items k c.args.entry) (w.slot-is ∙ sym end)
           ∙ put-behind c.args.first (c.args.last + 1 - c.args.first) c.args.entry c.args.entries.now.items)
-      | else-bit w ↦ rw w.if-bit.false (c.insert.ensures.items ∙ ap (λ k. insert c.args.entries.now.items k c.args.entry) w.at-is
+      | else-bit w ↦ rw w.if-bit.false (c.insert.ensures.items ∙ ap (λ k. insert c.args.entries.now.items k c.args.entry) w.slot-is
           ∙ put-before c.args.first (c.args.last + 1 - c.args.first) c.args.entry c.args.entries.now.items)
     ]

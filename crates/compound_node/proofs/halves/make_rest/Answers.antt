@@ -15,15 +15,15 @@ without_row-rest_rows-requires-clause-ladder c = (shown-sparse_keys c.args.colum
 
 pub make_half-requires-clause-children : goal.make_half-requires-clause-children
 make_half-requires-clause-children c = subst (All IsEntry) (sym c.list_entries_without-rest_entries.ensures)
-    (All-append IsEntry (take c.args.at c.args.entries.now) (drop (suc c.args.at) c.args.entries.now) (All-take IsEntry c.args.at c.args.entries.now c.requires.fit.children)
-    (All-drop IsEntry (suc c.args.at) c.args.entries.now c.requires.fit.children))
+    (All-append IsEntry (take c.args.slot c.args.entries.now) (drop (suc c.args.slot) c.args.entries.now) (All-take IsEntry c.args.slot c.args.entries.now c.requires.fit.children)
+    (All-drop IsEntry (suc c.args.slot) c.args.entries.now c.requires.fit.children))
 
 pub make_half-requires-clause-covers : goal.make_half-requires-clause-covers
 make_half-requires-clause-covers c = rw (c.without_row-rest_rows.ensures, c.list_entries_without-rest_entries.ensures)
-    (covers_self (Leaf 0) _ _ _ _ (covers_without c.args.columns.now c.args.rows.now c.args.entries.now _ c.args.at c.requires.fit.shows c.requires.fit.several c.requires.in_range))
+    (covers_self (Leaf 0) _ _ _ _ (covers_without c.args.columns.now c.args.rows.now c.args.entries.now _ c.args.slot c.requires.fit.shows c.requires.fit.several c.requires.in_range))
 
 pub returns : goal.returns
 returns c = subst (HalfShows c.make_half.result)
     (rw (c.without_row-rest_rows.ensures, c.list_entries_without-rest_entries.ensures)
-    (piece_of_covered (Leaf 0) _ _ _ _ (covers_without c.args.columns.now c.args.rows.now c.args.entries.now _ c.args.at c.requires.fit.shows c.requires.fit.several c.requires.in_range)))
+    (piece_of_covered (Leaf 0) _ _ _ _ (covers_without c.args.columns.now c.args.rows.now c.args.entries.now _ c.args.slot c.requires.fit.shows c.requires.fit.several c.requires.in_range)))
     c.make_half.ensures

@@ -8,5 +8,5 @@ use Rattle.compound_node.proofs.rows.close_column_of_rows.Goals as goal
 pub loop-row-preserved : goal.loop-row-preserved
 loop-row-preserved c =
     ap (set c.loop-row.rows c.loop-row.row-index) c.close_column.ensures
-    ∙ map_over_more (closed_row c.args.j) c.args.rows.now c.loop-row.rows c.loop-row.row-index (get_or c.loop-row.rows c.loop-row.row-index 0) (omega arith) c.loop-row.invariant
+    ∙ map_over_more (closed_row c.args.column) c.args.rows.now c.loop-row.rows c.loop-row.row-index (get_or c.loop-row.rows c.loop-row.row-index 0) (omega arith) c.loop-row.invariant
     (get_or_default c.loop-row.rows c.loop-row.row-index 0 _ (omega arith))

@@ -3,4 +3,4 @@ use Rattle.compound_node.proofs.Shifting.{row_put}
 use Rattle.compound_node.proofs.rows.insert_row.Goals as goal
 
 pub returns : goal.returns
-returns c = row_put c.args.rows c.fits-rows.0 c.args.at c.args.row c.requires
+returns c = row_put c.args.rows c.fits-rows.0 c.args.slot c.args.row c.requires

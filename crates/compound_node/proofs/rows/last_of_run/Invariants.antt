@@ -4,4 +4,4 @@ use Rattle.partial_keys.specs.Runs.{agree_in}
 use Rattle.compound_node.proofs.rows.last_of_run.Given as goal
 
 abbrev pub invariant-loop-i : goal.invariant-loop-i
-invariant-loop-i l = (k : ℕ) → l.found < k → k < l.i → agree_in l.columns (get_or l.rows k 0) (get_or l.rows l.found 0) ≡ true
+invariant-loop-i l = (k : ℕ) → l.slot < k → k < l.i → agree_in l.columns (get_or l.rows k 0) (get_or l.rows l.slot 0) ≡ true

@@ -3,4 +3,4 @@ use Rattle.compound_node.proofs.Spreading.{spread_is}
 use Rattle.compound_node.proofs.rows.spread_row.Goals as goal
 
 pub returns : goal.returns
-returns c = spread_is c.args.row c.args.j c.ranges.row.fits c.requires
+returns c = spread_is c.args.row c.args.column c.ranges.row.fits c.requires

@@ -4,4 +4,4 @@ use Rattle.partial_keys.specs.Spread.{spread_row}
 use Rattle.compound_node.proofs.rows.spread_rows.Given as goal
 
 abbrev pub invariant-loop-i : goal.invariant-loop-i
-invariant-loop-i l = l.rows ≡ map (spread_row l.j) (take l.i l.initial.rows) ++ drop l.i l.initial.rows
+invariant-loop-i l = l.rows ≡ map (spread_row l.column) (take l.i l.initial.rows) ++ drop l.i l.initial.rows

@@ -5,8 +5,8 @@ use Rattle.partial_keys.proofs.Closing.{squeezed_from}
 use Rattle.partial_keys.specs.Squeezed.{IsRowOver}
 use Rattle.compound_node.proofs.rows.squeeze_lanes.Given as goal
 
-abbrev pub invariant-loop-j : goal.invariant-loop-j
-invariant-loop-j l = record {
+abbrev pub invariant-loop-column : goal.invariant-loop-column
+invariant-loop-column l = record {
   whole : length l.left ≡ 32;
-  each : (n : ℕ) → All (IsRowOver l.fn.columns) (take n l.fn.rows) → take n l.left ≡ map (squeezed_from l.fn.used l.j) (take n l.fn.rows);
+  each : (n : ℕ) → All (IsRowOver l.fn.columns) (take n l.fn.rows) → take n l.left ≡ map (squeezed_from l.fn.used l.column) (take n l.fn.rows);
 }

@@ -1,6 +1,6 @@
 -- The records of the classes below the number have been visited.
 use Rattle.std.specs.Prelude.{◌≡◌, ◌≤◌, ◌-◌}
-use Rattle.versions.specs.declared.Rec.TheVariants.{Leaf as a_leaf}
+use Rattle.record_words.specs.declared.records.Rec.TheVariants.{Leaf as a_leaf}
 use Rattle.epochs.specs.Rounds.{VisitsAll}
 use Rattle.epochs.proofs.collection.visit_leaf_records.Given as goal
 

@@ -1,6 +1,6 @@
 -- The records below the number have been visited.
 use Rattle.std.specs.Prelude.{◌≡◌, ◌≤◌}
-use Rattle.versions.specs.declared.Rec.TheVariants.{Node as a_node}
+use Rattle.record_words.specs.declared.records.Rec.TheVariants.{Node as a_node}
 use Rattle.epochs.specs.Rounds.{VisitsAll}
 use Rattle.epochs.proofs.collection.visit_node_records.Given as goal
 

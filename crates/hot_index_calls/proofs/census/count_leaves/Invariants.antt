@@ -1,6 +1,6 @@
 -- The records below the number have been counted.
 use Rattle.std.specs.Prelude.{◌≡◌}
-use Rattle.versions.specs.declared.Rec.TheVariants.{Leaf as a_leaf}
+use Rattle.record_words.specs.declared.records.Rec.TheVariants.{Leaf as a_leaf}
 use Rattle.hot_index_calls.specs.Census.{CountsFrom}
 use Rattle.hot_index_calls.proofs.census.count_leaves.Given as goal
 

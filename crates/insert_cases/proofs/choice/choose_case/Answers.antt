@@ -6,7 +6,7 @@ use Rattle.insert_cases.proofs.Choosing.{chosen, chosen_several, chosen_next, ch
 use Rattle.insert_cases.proofs.choice.choose_case.Goals as goal
 
 no_step : PathNode
-no_step = record { number = 0; height = 0; first_position = 0; count = 0; at = 0 }
+no_step = record { number = 0; height = 0; first_position = 0; count = 0; slot = 0 }
 
 pub returns-then-first-last-clause-affected : goal.returns-then-first-last-clause-affected
 unfolding no_step

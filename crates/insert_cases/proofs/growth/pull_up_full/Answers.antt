@@ -13,22 +13,22 @@ fork_half-requires-clause-room c =
     let k = cut_is c.cut-root.result (piece c.args.node.now) c.cut-root.ensures in
     omega (arith, ap size k.whole, size-piece c.args.node.now c.count.ensures.lawful, c.count.ensures.lawful.room, size_pos (half_piece c.cut-root.result.one))
 
-pub fork_half-requires-else-at-count-clause-room : goal.fork_half-requires-else-at-count-clause-room
-fork_half-requires-else-at-count-clause-room c =
+pub fork_half-requires-else-slot-count-clause-room : goal.fork_half-requires-else-slot-count-clause-room
+fork_half-requires-else-slot-count-clause-room c =
     let k = cut_is c.cut-root.result (piece c.args.node.now) c.cut-root.ensures in
     omega (arith, ap size k.whole, size-piece c.args.node.now c.count.ensures.lawful, c.count.ensures.lawful.room, size_pos (half_piece c.cut-root.result.zero))
 
-pub fork_half-requires-else-at-count-clause-place : goal.fork_half-requires-else-at-count-clause-place
-fork_half-requires-else-at-count-clause-place c =
+pub fork_half-requires-else-slot-count-clause-place : goal.fork_half-requires-else-slot-count-clause-place
+fork_half-requires-else-slot-count-clause-place c =
     let k = cut_is c.cut-root.result (piece c.args.node.now) c.cut-root.ensures in
     omega (arith, ap size k.whole, size-piece c.args.node.now c.count.ensures.lawful, c.half_count-count.ensures, c.requires.place)
 
-pub returns-then-at-count-clause-same : goal.returns-then-at-count-clause-same
-returns-then-at-count-clause-same c =
+pub returns-then-slot-count-clause-same : goal.returns-then-slot-count-clause-same
+returns-then-slot-count-clause-same c =
     let k = cut_is c.cut-root.result (piece c.args.node.now) c.cut-root.ensures in
     half_anew c.cut-root.result.one (half_piece c.cut-root.result.one) k.one
 
-pub returns-else-at-count-clause-same : goal.returns-else-at-count-clause-same
-returns-else-at-count-clause-same c =
+pub returns-else-slot-count-clause-same : goal.returns-else-slot-count-clause-same
+returns-else-slot-count-clause-same c =
     let k = cut_is c.cut-root.result (piece c.args.node.now) c.cut-root.ensures in
     ap (λ b. b || false) (half_anew c.cut-root.result.zero (half_piece c.cut-root.result.zero) k.zero)

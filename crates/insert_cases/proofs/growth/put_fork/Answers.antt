@@ -52,52 +52,52 @@ set_entry-requires-clause-stands c = (tt, height_positive c.args.node.now c.coun
 
 pub add_entry-requires-clause-room : goal.add_entry-requires-clause-room
 add_entry-requires-clause-room c =
-    let e = same_length c.args.node.now c.set_entry.new.self c.args.at c.count.ensures.lawful c.set_entry.ensures.lawful c.set_entry.ensures.piece in omega (arith, c.requires.room)
+    let e = same_length c.args.node.now c.set_entry.new.self c.args.slot c.count.ensures.lawful c.set_entry.ensures.lawful c.set_entry.ensures.piece in omega (arith, c.requires.room)
 
 pub add_entry-requires-clause-range : goal.add_entry-requires-clause-range
 add_entry-requires-clause-range c =
-    alone c.args.node.now c.set_entry.new.self c.args.at c.count.ensures.lawful c.set_entry.ensures.lawful c.set_entry.ensures.piece c.args.position c.requires.place c.requires.path
+    alone c.args.node.now c.set_entry.new.self c.args.slot c.count.ensures.lawful c.set_entry.ensures.lawful c.set_entry.ensures.piece c.args.position c.requires.place c.requires.path
 
 pub set_entry-requires-then-height-clause-in_range : goal.set_entry-requires-then-height-clause-in_range
 set_entry-requires-then-height-clause-in_range c =
-    let e = longer c.args.node.now c.set_entry.new.self c.args.at c.count.ensures.lawful c.set_entry.ensures.lawful c.set_entry.ensures.piece
+    let e = longer c.args.node.now c.set_entry.new.self c.args.slot c.count.ensures.lawful c.set_entry.ensures.lawful c.set_entry.ensures.piece
     c.args.position true c.args.one c.args.zero c.add_entry.new.self c.add_entry.ensures in omega (arith, c.requires.place)
 
 pub set_entry-requires-then-height-clause-stands : goal.set_entry-requires-then-height-clause-stands
 set_entry-requires-then-height-clause-stands c = (
   c.requires.zero,
-  taller c.args.node.now c.set_entry.new.self c.args.at c.count.ensures.lawful c.set_entry.ensures.lawful c.set_entry.ensures.piece
+  taller c.args.node.now c.set_entry.new.self c.args.slot c.count.ensures.lawful c.set_entry.ensures.lawful c.set_entry.ensures.piece
       c.args.position true c.args.one c.args.zero c.add_entry.new.self c.add_entry.ensures (omega arith),
 )
 
 pub add_entry-requires-else-height-clause-room : goal.add_entry-requires-else-height-clause-room
 add_entry-requires-else-height-clause-room c =
-    let e = same_length c.args.node.now c.set_entry.new.self c.args.at c.count.ensures.lawful c.set_entry.ensures.lawful c.set_entry.ensures.piece in omega (arith, c.requires.room)
+    let e = same_length c.args.node.now c.set_entry.new.self c.args.slot c.count.ensures.lawful c.set_entry.ensures.lawful c.set_entry.ensures.piece in omega (arith, c.requires.room)
 
 pub add_entry-requires-else-height-clause-range : goal.add_entry-requires-else-height-clause-range
 add_entry-requires-else-height-clause-range c =
-    alone c.args.node.now c.set_entry.new.self c.args.at c.count.ensures.lawful c.set_entry.ensures.lawful c.set_entry.ensures.piece c.args.position c.requires.place c.requires.path
+    alone c.args.node.now c.set_entry.new.self c.args.slot c.count.ensures.lawful c.set_entry.ensures.lawful c.set_entry.ensures.piece c.args.position c.requires.place c.requires.path
 
 pub set_entry-requires-else-height-clause-in_range : goal.set_entry-requires-else-height-clause-in_range
 set_entry-requires-else-height-clause-in_range c =
-    let e = longer c.args.node.now c.set_entry.new.self c.args.at c.count.ensures.lawful c.set_entry.ensures.lawful c.set_entry.ensures.piece
+    let e = longer c.args.node.now c.set_entry.new.self c.args.slot c.count.ensures.lawful c.set_entry.ensures.lawful c.set_entry.ensures.piece
     c.args.position false c.args.zero c.args.one c.add_entry-else-height.new.self c.add_entry-else-height.ensures in omega (arith, c.requires.place)
 
 pub set_entry-requires-else-height-clause-stands : goal.set_entry-requires-else-height-clause-stands
 set_entry-requires-else-height-clause-stands c = (
   c.requires.one,
-  taller c.args.node.now c.set_entry.new.self c.args.at c.count.ensures.lawful c.set_entry.ensures.lawful c.set_entry.ensures.piece
+  taller c.args.node.now c.set_entry.new.self c.args.slot c.count.ensures.lawful c.set_entry.ensures.lawful c.set_entry.ensures.piece
       c.args.position false c.args.zero c.args.one c.add_entry-else-height.new.self c.add_entry-else-height.ensures (omega arith),
 )
 
 pub returns-then-height : goal.returns-then-height
 returns-then-height c =
-    whole c.args.node.now c.set_entry.new.self c.args.at c.count.ensures.lawful c.set_entry.ensures.lawful c.set_entry.ensures.piece
+    whole c.args.node.now c.set_entry.new.self c.args.slot c.count.ensures.lawful c.set_entry.ensures.lawful c.set_entry.ensures.piece
     c.args.position true c.args.one c.args.zero c.add_entry.new.self c.add_entry.ensures
     c.set_entry-then-height.new.self c.set_entry-then-height.ensures.lawful c.set_entry-then-height.ensures.piece (ap (λ (n : NodeView). n.height) c.set_entry-then-height.ensures.fields) (omega arith) c.requires.place c.requires.path
 
 pub returns-else-height : goal.returns-else-height
 returns-else-height c =
-    whole c.args.node.now c.set_entry.new.self c.args.at c.count.ensures.lawful c.set_entry.ensures.lawful c.set_entry.ensures.piece
+    whole c.args.node.now c.set_entry.new.self c.args.slot c.count.ensures.lawful c.set_entry.ensures.lawful c.set_entry.ensures.piece
     c.args.position false c.args.zero c.args.one c.add_entry-else-height.new.self c.add_entry-else-height.ensures
     c.set_entry-else-height.new.self c.set_entry-else-height.ensures.lawful c.set_entry-else-height.ensures.piece (ap (λ (n : NodeView). n.height) c.set_entry-else-height.ensures.fields) (omega arith) c.requires.place c.requires.path

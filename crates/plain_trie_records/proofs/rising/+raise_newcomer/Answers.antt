@@ -47,10 +47,10 @@ module _ (t : ℕ) (c : After-affected-first t) (leaves : List LeafRecord) (valu
   here = node_here stands
 
   from : affected_first c.args.position (spot c.args.key.now (subtrie here.body)) (subtrie here.body) ≡ c.affected-first.result.0
-  from = here_from here c.index-node.result.now c.index-node.ensures c.search-at.result c.affected-first.result.0 c.search-at.ensures.leads c.affected-first.ensures.from
+  from = here_from here c.index-node.result.now c.index-node.ensures c.search-slot.result c.affected-first.result.0 c.search-slot.ensures.leads c.affected-first.ensures.from
 
   upto : affected_count c.args.position (spot c.args.key.now (subtrie here.body)) (subtrie here.body) + c.affected-first.result.0 ≡ c.affected-first.result.1 + 1
-  upto = here_upto here c.index-node.result.now c.index-node.ensures c.search-at.result c.affected-first.result.0 c.affected-first.result.1 c.search-at.ensures.leads c.affected-first.ensures.upto
+  upto = here_upto here c.index-node.result.now c.index-node.ensures c.search-slot.result c.affected-first.result.0 c.affected-first.result.1 c.search-slot.ensures.leads c.affected-first.ensures.upto
 
   read : c.index-node.result.now ≡ here.shown.0.view
   read = read_at c.args.nodes.now.items c.in-Node.number here.shown.0.view c.index-node.result.now here.shown.0.at c.index-node.ensures
@@ -156,7 +156,7 @@ raise_newcomer-risen-requires t c =
     let q = c.requires.place in
     let i = addable_to c.in-Node.is q.3 in
     let u = node_here i in
-    let is = here_entry u c.index-node.result.now c.index-node.ensures c.search-at.result c.entry-child.result c.count.ensures.lawful c.search-at.ensures.leads c.entry-child.ensures.entry in
+    let is = here_entry u c.index-node.result.now c.index-node.ensures c.search-slot.result c.entry-child.result c.count.ensures.lawful c.search-slot.ensures.leads c.entry-child.ensures.entry in
     let low = child_low u c.entry-child.result is in
     let high = ap height_of c.in-Node.is in
     (omega (arith, c.decreases), ((q.0, q.1, child c.args.key.now u.body, child_addable i u c.entry-child.result is), (c.requires.position, (omega (arith, c.requires.room), omega (arith, c.requires.small)))))
@@ -172,15 +172,15 @@ few_of first last h takes e f = (
 lifts : (t : ℕ) (c : After-raise_newcomer-risen t) (leaves : List LeafRecord) (value : ℕ) (s : Tree) →
     IsAddable c.args.nodes.now.items leaves (item c.args.leaf c.args.key.now value) c.args.position c.args.entry s → (low : ℕ) → low ≡ height_of c.entry-child.result →
     (y : Fixed) × (b : Tree) × (s ≡ node c.in-Node.number y b) × IsLifting (records c.args.nodes.now.items leaves) c.raise_newcomer-risen.new.nodes.items (item c.args.leaf c.args.key.now value) c.args.position
-    (level c.in-Node.number c.in-Node.height c.search-at.result low) y b (subtrie_of c.raise_newcomer-risen.result)
+    (level c.in-Node.number c.in-Node.height c.search-slot.result low) y b (subtrie_of c.raise_newcomer-risen.result)
 lifts t c leaves value s a low is_low =
     let i = addable_to c.in-Node.is a in
     let u = node_here i in
     let v = c.index-node.result.now in
-    let at = c.search-at.result in
+    let at = c.search-slot.result in
     let first = c.affected-first.result.0 in
     let last = c.affected-first.result.1 in
-    let leads = c.search-at.ensures.leads in
+    let leads = c.search-slot.ensures.leads in
     let from = here_from u v c.index-node.ensures at first leads c.affected-first.ensures.from in
     let upto = here_upto u v c.index-node.ensures at first last leads c.affected-first.ensures.upto in
     let is = here_entry u v c.index-node.ensures at c.entry-child.result c.count.ensures.lawful leads c.entry-child.ensures.entry in
@@ -202,13 +202,13 @@ lift_risen-requires-clause-place t c =
 pub lift_risen-requires-clause-room : goal.lift_risen-requires-clause-room
 lift_risen-requires-clause-room t c =
     let u = node_here (addable_to c.in-Node.is c.requires.place.3) in
-    let is = here_entry u c.index-node.result.now c.index-node.ensures c.search-at.result c.entry-child.result c.count.ensures.lawful c.search-at.ensures.leads c.entry-child.ensures.entry in
+    let is = here_entry u c.index-node.result.now c.index-node.ensures c.search-slot.result c.entry-child.result c.count.ensures.lawful c.search-slot.ensures.leads c.entry-child.ensures.entry in
     omega (arith, child_low u c.entry-child.result is, ap height_of c.in-Node.is, c.requires.room, c.raise_newcomer-risen.ensures.len, c.raise_newcomer-risen.ensures.capacity)
 
 pub lift_risen-requires-clause-small : goal.lift_risen-requires-clause-small
 lift_risen-requires-clause-small t c =
     let u = node_here (addable_to c.in-Node.is c.requires.place.3) in
-    let is = here_entry u c.index-node.result.now c.index-node.ensures c.search-at.result c.entry-child.result c.count.ensures.lawful c.search-at.ensures.leads c.entry-child.ensures.entry in
+    let is = here_entry u c.index-node.result.now c.index-node.ensures c.search-slot.result c.entry-child.result c.count.ensures.lawful c.search-slot.ensures.leads c.entry-child.ensures.entry in
     omega (arith, child_low u c.entry-child.result is, ap height_of c.in-Node.is, c.requires.small, c.raise_newcomer-risen.ensures.len)
 
 pub returns-in-Leaf-clause-raised : goal.returns-in-Leaf-clause-raised
@@ -241,7 +241,7 @@ returns-else-node_takes_leaf-clause-heights t c =
 pub returns-else-node_takes_leaf-clause-len : goal.returns-else-node_takes_leaf-clause-len
 returns-else-node_takes_leaf-clause-len t c =
     let u = node_here (addable_to c.in-Node.is c.requires.place.3) in
-    let is = here_entry u c.index-node.result.now c.index-node.ensures c.search-at.result c.entry-child.result c.count.ensures.lawful c.search-at.ensures.leads c.entry-child.ensures.entry in
+    let is = here_entry u c.index-node.result.now c.index-node.ensures c.search-slot.result c.entry-child.result c.count.ensures.lawful c.search-slot.ensures.leads c.entry-child.ensures.entry in
     omega (arith, child_low u c.entry-child.result is, ap height_of c.in-Node.is, c.raise_newcomer-risen.ensures.len, c.lift_risen.ensures.len)
 
 -- ---- the case
@@ -268,7 +268,7 @@ returns-else-node_takes_leaf-clause-case t c = λ leaves value s a.
     let u = node_here i in
     let v = c.index-node.result.now in
     let e = c.entry-child.result in
-    let at = c.search-at.result in
+    let at = c.search-slot.result in
     let first = c.affected-first.result.0 in
     let last = c.affected-first.result.1 in
     let ns = c.args.nodes.now.items in
@@ -278,7 +278,7 @@ returns-else-node_takes_leaf-clause-case t c = λ leaves value s a.
     let k = c.args.key.now in
     let p = c.args.position in
     let l = c.args.leaf in
-    let leads = c.search-at.ensures.leads in
+    let leads = c.search-slot.ensures.leads in
     let from = here_from u v c.index-node.ensures at first leads c.affected-first.ensures.from in
     let upto = here_upto u v c.index-node.ensures at first last leads c.affected-first.ensures.upto in
     let is = here_entry u v c.index-node.ensures at e c.count.ensures.lawful leads c.entry-child.ensures.entry in
@@ -305,7 +305,7 @@ returns-else-node_takes_leaf-clause-case t c = λ leaves value s a.
           let r = c.raise_newcomer-risen.ensures.low zero_high in
           let high : 1 < c.in-Node.height = omega (arith, here_positive u, tall) in
           let far : c.height.result + 1 < c.in-Node.height = omega (arith, c.height.ensures) in
-          let within = (c.affected-first.ensures.range at (omega (arith, c.search-at.ensures.in_range))).0 (λ j g h. refl) in
+          let within = (c.affected-first.ensures.range at (omega (arith, c.search-slot.ensures.in_range))).0 (λ j g h. refl) in
           let first_is : at ≡ first = omega (arith, within.0, within.1, few) in
           let put : IsPutBetween ms us n at view (subtrie_forked r.1 p (Leaf l) (Place e)) =
           forked_between ms us n at view c.raise_newcomer-risen.result p l e r.1 r.2 (λ z o f. c.lift_risen.ensures.between view p z o still f far) in

@@ -31,7 +31,7 @@ returns-in-Whole-clause-raised c = λ ns leaves x p y b i.
     (λ old at. rw c.in-Whole.is (c.replace_entry.ensures.shows old at))
 
 pub returns-in-Whole-clause-takes : goal.returns-in-Whole-clause-takes
-returns-in-Whole-clause-takes c = λ old at. rw c.in-Whole.is (_, c.replace_entry.ensures.fields old at, (inr (c.args.at, c.in-Whole.entry, refl), refl))
+returns-in-Whole-clause-takes c = λ old at. rw c.in-Whole.is (_, c.replace_entry.ensures.fields old at, (inr (c.args.slot, c.in-Whole.entry, refl), refl))
 
 -- ---- a fork that goes into the node
 pub index-node-requires : goal.index-node-requires
@@ -49,7 +49,7 @@ pub pull_up-grown-requires-clause-path : goal.pull_up-grown-requires-clause-path
 pull_up-grown-requires-clause-path c =
     let i = c.requires.place.6 in
     let same : c.index-node.result.now ≡ i.shown.0.view = read_at c.args.nodes.now.items c.args.number i.shown.0.view c.index-node.result.now (old_at i) c.index-node.ensures in
-    subst (λ (w : NodeView). IsAbovePath c.in-Split.position c.args.at (piece w)) (sym same) (above_path i c.in-Split.position c.in-Split.zero c.in-Split.one (ap subtrie_of c.in-Split.is))
+    subst (λ (w : NodeView). IsAbovePath c.in-Split.position c.args.slot (piece w)) (sym same) (above_path i c.in-Split.position c.in-Split.zero c.in-Split.one (ap subtrie_of c.in-Split.is))
 
 pub pull_up-grown-requires-clause-position : goal.pull_up-grown-requires-clause-position
 pull_up-grown-requires-clause-position c =
@@ -81,9 +81,9 @@ returns-then-is_pull_up-clause-heights c =
     let z = c.in-Split.zero in
     let o = c.in-Split.one in
     let same : c.index-node.result.now ≡ old = read_at c.args.nodes.now.items c.args.number old c.index-node.result.now (old_at i) c.index-node.ensures in
-    let shows : GrownShows old c.pull_up-grown.result (grafted c.args.at (Fork q (Place z) (Place o)) (piece old)) = rw same at c.pull_up-grown.ensures.shows in
+    let shows : GrownShows old c.pull_up-grown.result (grafted c.args.slot (Fork q (Place z) (Place o)) (piece old)) = rw same at c.pull_up-grown.ensures.shows in
     c.store_grown.ensures.heights old _ (old_at i) shows
-    (pull_steady old (subst IsLawfulNode same c.count.ensures.lawful) q c.args.at z o (above_path i q z o (ap subtrie_of c.in-Split.is)) c.pull_up-grown.result shows)
+    (pull_steady old (subst IsLawfulNode same c.count.ensures.lawful) q c.args.slot z o (above_path i q z o (ap subtrie_of c.in-Split.is)) c.pull_up-grown.result shows)
 
 pub returns-then-is_pull_up-clause-takes : goal.returns-then-is_pull_up-clause-takes
 returns-then-is_pull_up-clause-takes c = λ old at.
@@ -92,13 +92,13 @@ returns-then-is_pull_up-clause-takes c = λ old at.
     let q = c.in-Split.position in
     let z = c.in-Split.zero in
     let o = c.in-Split.one in
-    let P = grafted c.args.at (Fork q (Place z) (Place o)) (piece old) in
+    let P = grafted c.args.slot (Fork q (Place z) (Place o)) (piece old) in
     let same : c.index-node.result.now ≡ old = read_at c.args.nodes.now.items c.args.number old c.index-node.result.now at c.index-node.ensures in
     let lawful = subst IsLawfulNode same c.count.ensures.lawful in
     let high : old.height ≡ c.args.height = ap (λ (w : NodeView). w.height) (some_injective (sym at ∙ old_at i)) ∙ old_high i in
-    let big : 2 < size P = omega (arith, size-grafted q z o c.args.at (piece old), size-piece old lawful, lawful.several) in
+    let big : 2 < size P = omega (arith, size-grafted q z o c.args.slot (piece old), size-piece old lawful, lawful.several) in
     let s = c.store_grown.ensures.does old P at (rw same at c.pull_up-grown.ensures.shows) big in
-    let f = takes_fork old s.0 q z o c.args.at (is_whole g) _ (rw same at c.pull_up-grown.ensures.whole) c.store_grown.ensures.up s.2 in
+    let f = takes_fork old s.0 q z o c.args.slot (is_whole g) _ (rw same at c.pull_up-grown.ensures.whole) c.store_grown.ensures.up s.2 in
     rw c.in-Split.is (s.0, s.1, (λ e. f, λ ne. absurd (ne (high ∙ c.if-is_pull_up.ensures.0 refl))))
 
 -- ---- or into a new one between
@@ -150,7 +150,7 @@ returns-else-is_pull_up-clause-between c = λ old p zero one at is far.
       view = new.view;
       built = subst (IsBuiltFrom new.view) shown new.built;
       after = c.replace_entry-in-Split.ensures.fields old still ∙
-          ap (λ e. Some (let w : NodeView = record old { entries = slice_set old.entries c.args.at e } in w)) new.is;
+          ap (λ e. Some (let w : NodeView = record old { entries = slice_set old.entries c.args.slot e } in w)) new.is;
     }
 
 pub returns-else-is_pull_up-clause-takes : goal.returns-else-is_pull_up-clause-takes
@@ -160,4 +160,4 @@ returns-else-is_pull_up-clause-takes c = λ old at.
     let us = c.push_pair-entry.new.nodes.items in
     let high : old.height ≡ c.args.height = ap (λ (v : NodeView). v.height) (some_injective (sym at ∙ old_at i)) ∙ old_high i in
     let still : slice_get us c.args.number ≡ Some old = ap (λ (vs : List NodeView). slice_get vs c.args.number) c.push_pair-entry.ensures.new.added ∙ push_old ms _ c.args.number old at in
-    rw c.in-Split.is (_, c.replace_entry-in-Split.ensures.fields old still, (λ e. absurd (false≢true (c.if-is_pull_up.ensures.1 (sym high ∙ e))), λ f. ((_, _, ap (λ e. let w : NodeView = record old { entries = slice_set old.entries c.args.at e } in w) c.push_pair-entry.ensures.new.is), refl)))
+    rw c.in-Split.is (_, c.replace_entry-in-Split.ensures.fields old still, (λ e. absurd (false≢true (c.if-is_pull_up.ensures.1 (sym high ∙ e))), λ f. ((_, _, ap (λ e. let w : NodeView = record old { entries = slice_set old.entries c.args.slot e } in w) c.push_pair-entry.ensures.new.is), refl)))

@@ -40,8 +40,8 @@ returns-clause-shows c = λ old at.
     let stands : slice_get c.put_node.new.nodes.items c.args.number ≡ Some w =
     rw c.put_node.ensures.nodes (set_same c.args.nodes.now.items c.args.number w (slice_get_within c.args.nodes.now.items c.args.number old at)) in
     let high : w.height ≡ old.height = ap (λ (u : NodeView). u.height) c.replace-node.ensures.fields ∙ ap (λ (u : NodeView). u.height) same in
-    let shows : piece w ≡ replaced c.args.at c.args.entry (piece old) = c.replace-node.ensures.piece ∙ ap (λ (u : NodeView). replaced c.args.at c.args.entry (piece u)) same in
-    rw c.put_node.ensures.entry (replaced_named c.put_node.new.nodes.items c.args.number c.args.at c.args.entry old w stands c.replace-node.ensures.lawful high shows)
+    let shows : piece w ≡ replaced c.args.slot c.args.entry (piece old) = c.replace-node.ensures.piece ∙ ap (λ (u : NodeView). replaced c.args.slot c.args.entry (piece u)) same in
+    rw c.put_node.ensures.entry (replaced_named c.put_node.new.nodes.items c.args.number c.args.slot c.args.entry old w stands c.replace-node.ensures.lawful high shows)
 
 pub returns-clause-others : goal.returns-clause-others
 returns-clause-others c = λ m v ne at. rw c.put_node.ensures.nodes (set_other c.args.nodes.now.items c.args.number m c.replace-node.result v ne at)
@@ -51,12 +51,12 @@ returns-clause-heights c =
     let o = c.requires in
     let v = c.index-node.result.now in
     let same : v ≡ o.0 = read_at c.args.nodes.now.items c.args.number o.0 v o.1 c.index-node.ensures in
-    rw c.put_node.ensures.nodes (heights_set c.args.nodes.now.items c.args.number v c.replace-node.result (o.1 ∙ ap Some (sym same)) (inl (inr (c.args.at, c.args.entry, c.replace-node.ensures.fields))))
+    rw c.put_node.ensures.nodes (heights_set c.args.nodes.now.items c.args.number v c.replace-node.result (o.1 ∙ ap Some (sym same)) (inl (inr (c.args.slot, c.args.entry, c.replace-node.ensures.fields))))
 
 pub returns-clause-fields : goal.returns-clause-fields
 returns-clause-fields c = λ old at.
     let v = c.index-node.result.now in
     let same : v ≡ old = read_at c.args.nodes.now.items c.args.number old v at c.index-node.ensures in
-    let is : c.replace-node.result ≡ record old { entries = slice_set old.entries c.args.at c.args.entry } =
-    c.replace-node.ensures.fields ∙ ap (λ (u : NodeView). let w : NodeView = record u { entries = slice_set u.entries c.args.at c.args.entry } in w) same in
+    let is : c.replace-node.result ≡ record old { entries = slice_set old.entries c.args.slot c.args.entry } =
+    c.replace-node.ensures.fields ∙ ap (λ (u : NodeView). let w : NodeView = record u { entries = slice_set u.entries c.args.slot c.args.entry } in w) same in
     rw c.put_node.ensures.nodes (set_same c.args.nodes.now.items c.args.number c.replace-node.result (slice_get_within c.args.nodes.now.items c.args.number old at) ∙ ap Some is)

@@ -57,59 +57,59 @@ index-node-requires t c =
     let (u, e, i) = c.requires.shown in
     omega (arith, node_within c.args.nodes.now.items c.args.leaves.now.items c.in-Node.number c.in-Node.height u (at_entry u c.args.entry (Node c.in-Node.number c.in-Node.height) e c.in-Node.is) i, c.args.nodes.now.ok.0)
 
-pub loop-place-init : goal.loop-place-init
-loop-place-init t c u m e i s = subst (λ (z : Map). IsScanOf z c.args.range.from.now c.args.range.upto.now c.args.range.limit c.args.scan.now) (sym (append-nil m)) s
+pub loop-slot-init : goal.loop-slot-init
+loop-slot-init t c u m e i s = subst (λ (z : Map). IsScanOf z c.args.range.from.now c.args.range.upto.now c.args.range.limit c.args.scan.now) (sym (append-nil m)) s
 
 here : (t : ℕ) (c : After-entry t) (u : Tree) → subtrie u ≡ Place c.args.entry → ShowsSound c.args.nodes.now.items c.args.leaves.now.items u →
     IsNodeAt c.args.nodes.now.items c.args.leaves.now.items c.in-Node.number c.in-Node.height u c.index-node.result.now
 here t c u e i =
     node_at c.args.nodes.now.items c.args.leaves.now.items c.in-Node.number c.in-Node.height u (at_entry u c.args.entry (Node c.in-Node.number c.in-Node.height) e c.in-Node.is) i
-    c.index-node.result.now c.index-node.ensures c.count-place-end.ensures.lawful
+    c.index-node.result.now c.index-node.ensures c.count-slot-end.ensures.lawful
 
-within : (t : ℕ) (c : After-entry t) (u : Tree) → subtrie u ≡ Place c.args.entry → ShowsSound c.args.nodes.now.items c.args.leaves.now.items u → c.loop-place.place < length (below u)
-within t c u e i = omega (arith, (here t c u e i).count, slice_get_within c.index-node.result.now.entries c.loop-place.place c.entry.result c.entry.ensures.entry)
+within : (t : ℕ) (c : After-entry t) (u : Tree) → subtrie u ≡ Place c.args.entry → ShowsSound c.args.nodes.now.items c.args.leaves.now.items u → c.loop-slot.slot < length (below u)
+within t c u e i = omega (arith, (here t c u e i).count, slice_get_within c.index-node.result.now.entries c.loop-slot.slot c.entry.result c.entry.ensures.entry)
 
 pub scan_below-requires : goal.scan_below-requires
 scan_below-requires t c =
     let (u, e, i) = c.requires.shown in
     let n = here t (goal.at.scan_below-requires t c).After-entry u e i in
-    let p = n.part c.loop-place.place c.entry.result c.entry.ensures.entry in
-    (omega (arith, c.decreases, ap height_of c.in-Node.is, n.high, c.entry.ensures.stands.1), (get_or (below u) c.loop-place.place no_tree, p.0, p.1))
+    let p = n.part c.loop-slot.slot c.entry.result c.entry.ensures.entry in
+    (omega (arith, c.decreases, ap height_of c.in-Node.is, n.high, c.entry.ensures.stands.1), (get_or (below u) c.loop-slot.slot no_tree, p.0, p.1))
 
 pub returns-in_err-scan_below-in-Node : goal.returns-in_err-scan_below-in-Node
 returns-in_err-scan_below-in-Node t c = record {
   scan = λ u m e i s.
       let d = (goal.at.returns-in_err-scan_below-in-Node t c).After-entry in
       let n = here t d u e i in
-      let j = c.loop-place.place in
+      let j = c.loop-slot.slot in
       let ts = below u in
       let p = n.part j c.entry.result c.entry.ensures.entry in
       let r = c.args.range in
       let before : Map = m ++ pairs (items_of_all (take j ts)) in
-      let h = c.in_err-scan_below-in-Node.ensures.scan (get_or ts j no_tree) before p.0 p.1 (c.loop-place.invariant u m e i s) in
+      let h = c.in_err-scan_below-in-Node.ensures.scan (get_or ts j no_tree) before p.0 p.1 (c.loop-slot.invariant u m e i s) in
       let more = some_more r.from.now r.upto.now r.limit (before ++ pairs (items (get_or ts j no_tree))) (pairs (items_of_all (drop (j + 1) ts))) h in
       let whole : (before ++ pairs (items (get_or ts j no_tree))) ++ pairs (items_of_all (drop (j + 1) ts)) ≡ m ++ pairs (items u) =
       ap (λ z. z ++ pairs (items_of_all (drop (j + 1) ts))) (step m ts j (within t d u e i)) ∙ (rest m ts (j + 1) ∙ ap (λ z. m ++ pairs z) (sym n.all)) in
       rw (err_from_is_err_and c.from_residual.result c.from_residual.ensures.1).1 (subst (λ (z : Map). take r.limit (range_of z r.from.now r.upto.now) ≢ []) whole more);
 }
 
-pub loop-place-preserved : goal.loop-place-preserved
-loop-place-preserved t c u m e i s =
-    let d = (goal.at.loop-place-preserved t c).After-entry in
+pub loop-slot-preserved : goal.loop-slot-preserved
+loop-slot-preserved t c u m e i s =
+    let d = (goal.at.loop-slot-preserved t c).After-entry in
     let n = here t d u e i in
-    let j = c.loop-place.place in
+    let j = c.loop-slot.slot in
     let p = n.part j c.entry.result c.entry.ensures.entry in
     let r = c.args.range in
     subst (λ (z : Map). IsScanOf z r.from.now r.upto.now r.limit c.scan_below.new.scan) (step m (below u) j (within t d u e i))
-    (c.in_ok-scan_below-in-Node.ensures.scan (get_or (below u) j no_tree) (m ++ pairs (items_of_all (take j (below u)))) p.0 p.1 (c.loop-place.invariant u m e i s))
+    (c.in_ok-scan_below-in-Node.ensures.scan (get_or (below u) j no_tree) (m ++ pairs (items_of_all (take j (below u)))) p.0 p.1 (c.loop-slot.invariant u m e i s))
 
-pub returns-after-loop-place : goal.returns-after-loop-place
-returns-after-loop-place t c = record {
+pub returns-after-loop-slot : goal.returns-after-loop-slot
+returns-after-loop-slot t c = record {
   scan = λ u m e i s.
       let r = c.args.range in
       let n =
       node_at c.args.nodes.now.items c.args.leaves.now.items c.in-Node.number c.in-Node.height u (at_entry u c.args.entry (Node c.in-Node.number c.in-Node.height) e c.in-Node.is) i
-      c.index-node.result.now c.index-node.ensures c.count-place-end.ensures.lawful in
-      let all : items_of_all (take c.loop-place.place (below u)) ≡ items u = ap items_of_all (take_all c.loop-place.place (below u) (omega (arith, n.count, c.count-place-end.ensures.count))) ∙ sym n.all in
-      subst (λ (z : Map). IsScanOf z r.from.now r.upto.now r.limit c.loop-place.scan) (ap (λ z. m ++ pairs z) all) (c.loop-place.invariant u m e i s);
+      c.index-node.result.now c.index-node.ensures c.count-slot-end.ensures.lawful in
+      let all : items_of_all (take c.loop-slot.slot (below u)) ≡ items u = ap items_of_all (take_all c.loop-slot.slot (below u) (omega (arith, n.count, c.count-slot-end.ensures.count))) ∙ sym n.all in
+      subst (λ (z : Map). IsScanOf z r.from.now r.upto.now r.limit c.loop-slot.scan) (ap (λ z. m ++ pairs z) all) (c.loop-slot.invariant u m e i s);
 }

@@ -14,7 +14,7 @@ use Rattle.plain_trie_records.proofs.scanning.+scan_below.Given as goal
 abbrev pub decreases-scan_below : goal.decreases-scan_below
 decreases-scan_below l = height_of l.entry
 
-abbrev pub invariant-loop-place : goal.invariant-loop-place
-invariant-loop-place l =
+abbrev pub invariant-loop-slot : goal.invariant-loop-slot
+invariant-loop-slot l =
     (t : Tree) (m : Map) → subtrie t ≡ Place l.fn.entry → ShowsSound l.nodes.items l.leaves.items t → IsScanOf m l.range.from.now l.range.upto.now l.range.limit l.fn.scan →
-    IsScanOf (m ++ pairs (items_of_all (take l.place (below t)))) l.range.from.now l.range.upto.now l.range.limit l.scan
+    IsScanOf (m ++ pairs (items_of_all (take l.slot (below t)))) l.range.from.now l.range.upto.now l.range.limit l.scan

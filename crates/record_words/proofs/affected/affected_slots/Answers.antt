@@ -22,7 +22,7 @@ module _ (c : After-min-end) (node : NodeView) (lawful : IsLawfulNode node) (sam
   n = c.count_below.result
 
   abbrev row : ℕ
-  row = get_or node.rows c.args.found 0
+  row = get_or node.rows c.args.slot 0
 
   below : n ≡ front_below c.args.position node.columns
   below = c.count_below.ensures ∙ columns_below node lawful c.args.position c.positions_in-positions.result c.ranges.position.fits (c.positions_in-positions.ensures node lawful same)
@@ -30,11 +30,11 @@ module _ (c : After-min-end) (node : NodeView) (lawful : IsLawfulNode node) (sam
   few : n ≤ 31
   few = omega (arith, below, few_below node lawful c.args.position)
 
-  here : c.args.found < length node.entries
+  here : c.args.slot < length node.entries
   here = c.requires.in_range node lawful same
 
   row_is : c.row_in-row.result ≡ row
-  row_is = c.row_in-row.ensures node lawful same ∙ get_or_default node.rows c.args.found 4294967295 0 (omega (arith, here, same_count node lawful))
+  row_is = c.row_in-row.ensures node lawful same ∙ get_or_default node.rows c.args.slot 4294967295 0 (omega (arith, here, same_count node lawful))
 
   rest_is : (2 ^ 32 - 1) / 2 ^ n ≡ 2 ^ (32 - n) - 1
   rest_is = ones_shr 32 n (omega (arith, few))
@@ -42,7 +42,7 @@ module _ (c : After-min-end) (node : NodeView) (lawful : IsLawfulNode node) (sam
   least_is : bit_and c.row_in-row.result (2 ^ 32 - 1 - (2 ^ 32 - 1) / 2 ^ n) ≡ row / 2 ^ (32 - n) * 2 ^ (32 - n)
   least_is =
       ap₂ bit_and row_is (let some = pow_pos (32 - n) in omega (arith, rest_is, some))
-      ∙ and_high_mask 32 (32 - n) (omega arith) row (row-lt node lawful c.args.found)
+      ∙ and_high_mask 32 (32 - n) (omega arith) row (row-lt node lawful c.args.slot)
 
   most_is : bit_or c.row_in-row.result ((2 ^ 32 - 1) / 2 ^ n) + 1 ≡ row / 2 ^ (32 - n) * 2 ^ (32 - n) + 2 ^ (32 - n)
   most_is =
@@ -64,10 +64,10 @@ module _ (c : After-min-end) (node : NodeView) (lawful : IsLawfulNode node) (sam
       (c.read_numbers.ensures.parts.0 ∙ count_read node lawful c.args.words.now same)
 
   some : 1 ≤ c.min-end.result
-  some = end_some node lawful c.args.position c.args.found n c.count_rows_below-first.result c.min-end.result here below first_is end_is
+  some = end_some node lawful c.args.position c.args.slot n c.count_rows_below-first.result c.min-end.result here below first_is end_is
 
-  affected : (affected_first c.args.position c.args.found (piece node) ≡ c.count_rows_below-first.result) × (affected_count c.args.position c.args.found (piece node) + c.count_rows_below-first.result ≡ c.min-end.result - 1 + 1)
-  affected = affected_by_counts node lawful c.args.position c.args.found n c.count_rows_below-first.result c.min-end.result here below first_is end_is
+  affected : (affected_first c.args.position c.args.slot (piece node) ≡ c.count_rows_below-first.result) × (affected_count c.args.position c.args.slot (piece node) + c.count_rows_below-first.result ≡ c.min-end.result - 1 + 1)
+  affected = affected_by_counts node lawful c.args.position c.args.slot n c.count_rows_below-first.result c.min-end.result here below first_is end_is
 
 pub overflow_shr-rest : goal.overflow_shr-rest
 overflow_shr-rest c =

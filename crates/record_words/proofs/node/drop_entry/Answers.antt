@@ -59,11 +59,11 @@ module _ (words : List ℕ) (numbers : HeadNumbers) (tells : (node : NodeView) �
           built = built;
         }
 
-pub overflow_sub-at : goal.overflow_sub-at
-overflow_sub-at c = omega (arith, here c.args.words.now c.read_numbers-numbers.result c.read_numbers-numbers.ensures.node c.args.at c.requires, c.if-numbers-eq2.true)
+pub overflow_sub-slot : goal.overflow_sub-slot
+overflow_sub-slot c = omega (arith, here c.args.words.now c.read_numbers-numbers.result c.read_numbers-numbers.ensures.node c.args.slot c.requires, c.if-numbers-eq2.true)
 
 pub remove_element-requires-clause-in_range : goal.remove_element-requires-clause-in_range
-remove_element-requires-clause-in_range c = omega (arith, here c.args.words.now c.read_numbers-numbers.result c.read_numbers-numbers.ensures.node c.args.at c.requires)
+remove_element-requires-clause-in_range c = omega (arith, here c.args.words.now c.read_numbers-numbers.result c.read_numbers-numbers.ensures.node c.args.slot c.requires)
 
 pub remove_element-requires-clause-room : goal.remove_element-requires-clause-room
 remove_element-requires-clause-room c =
@@ -75,47 +75,47 @@ pub read_some_entry-requires : goal.read_some_entry-requires
 read_some_entry-requires c =
     let (node, has, same, inside) = c.requires in
     let two : length node.entries ≡ 2 = omega (arith, (told c.args.words.now c.read_numbers-numbers.result c.read_numbers-numbers.ensures.node node has same).count_is, c.if-numbers-eq2.true) in
-    let at : 25 + (1 - c.args.at) ≡ 26 - c.args.at = omega (arith, inside, two) in
-    let spelled = entry_spelled node c.args.words.now (1 - c.args.at) has same (omega (arith, two)) in
-    (get_or node.entries (1 - c.args.at) (Leaf 0), spelled.0, spelled.1 ∙ ap (λ k. get_or c.args.words.now k 0) at)
+    let at : 25 + (1 - c.args.slot) ≡ 26 - c.args.slot = omega (arith, inside, two) in
+    let spelled = entry_spelled node c.args.words.now (1 - c.args.slot) has same (omega (arith, two)) in
+    (get_or node.entries (1 - c.args.slot) (Leaf 0), spelled.0, spelled.1 ∙ ap (λ k. get_or c.args.words.now k 0) at)
 
 pub returns-then-numbers-eq2 : goal.returns-then-numbers-eq2
 returns-then-numbers-eq2 c = λ node has same.
     let two : length node.entries ≡ 2 = omega (arith, (told c.args.words.now c.read_numbers-numbers.result c.read_numbers-numbers.ensures.node node has same).count_is, c.if-numbers-eq2.true) in
-    let low : c.args.at < 2 = omega (arith, here c.args.words.now c.read_numbers-numbers.result c.read_numbers-numbers.ensures.node c.args.at c.requires, c.if-numbers-eq2.true) in
-    let at : 25 + (1 - c.args.at) ≡ 26 - c.args.at = omega (arith, low) in
-    let spelled = entry_spelled node c.args.words.now (1 - c.args.at) has same (omega (arith, two)) in
-    let read : c.read_some_entry.result ≡ get_or node.entries (1 - c.args.at) (Leaf 0) =
-    c.read_some_entry.ensures.only (get_or node.entries (1 - c.args.at) (Leaf 0)) spelled.0 (spelled.1 ∙ ap (λ k. get_or c.args.words.now k 0) at) in
-    other_left node has c.args.at c.read_some_entry.result low two read
+    let low : c.args.slot < 2 = omega (arith, here c.args.words.now c.read_numbers-numbers.result c.read_numbers-numbers.ensures.node c.args.slot c.requires, c.if-numbers-eq2.true) in
+    let at : 25 + (1 - c.args.slot) ≡ 26 - c.args.slot = omega (arith, low) in
+    let spelled = entry_spelled node c.args.words.now (1 - c.args.slot) has same (omega (arith, two)) in
+    let read : c.read_some_entry.result ≡ get_or node.entries (1 - c.args.slot) (Leaf 0) =
+    c.read_some_entry.ensures.only (get_or node.entries (1 - c.args.slot) (Leaf 0)) spelled.0 (spelled.1 ∙ ap (λ k. get_or c.args.words.now k 0) at) in
+    other_left node has c.args.slot c.read_some_entry.result low two read
 
 pub height_over-height-requires : goal.height_over-height-requires
 height_over-height-requires c =
     let (node, has, same, inside) = c.requires in
-    (remove node.entries c.args.at, still_spelled c.args.words.now c.read_numbers-numbers.result c.read_numbers-numbers.ensures.node c.args.at c.remove_element.new.items c.remove_element.ensures node has same inside)
+    (remove node.entries c.args.slot, still_spelled c.args.words.now c.read_numbers-numbers.result c.read_numbers-numbers.ensures.node c.args.slot c.remove_element.new.items c.remove_element.ensures node has same inside)
 
 pub drop_row-requires-clause-dropping : goal.drop_row-requires-clause-dropping
 drop_row-requires-clause-dropping c =
     let (node, has, same, inside) = c.requires in
-    (node, can_drop c.args.words.now c.read_numbers-numbers.result c.read_numbers-numbers.ensures.node c.args.at c.remove_element.new.items c.remove_element.ensures node has same inside c.if-numbers-eq2.false)
+    (node, can_drop c.args.words.now c.read_numbers-numbers.result c.read_numbers-numbers.ensures.node c.args.slot c.remove_element.new.items c.remove_element.ensures node has same inside c.if-numbers-eq2.false)
 
 pub drop_row-requires-clause-height : goal.drop_row-requires-clause-height
 drop_row-requires-clause-height c =
     let (node, has, same, inside) = c.requires in
     omega (
       arith,
-      c.height_over-height.ensures (remove node.entries c.args.at)
-          (still_spelled c.args.words.now c.read_numbers-numbers.result c.read_numbers-numbers.ensures.node c.args.at c.remove_element.new.items c.remove_element.ensures node has same inside),
+      c.height_over-height.ensures (remove node.entries c.args.slot)
+          (still_spelled c.args.words.now c.read_numbers-numbers.result c.read_numbers-numbers.ensures.node c.args.slot c.remove_element.new.items c.remove_element.ensures node has same inside),
     )
 
 pub returns : goal.returns
 returns c = λ node has same.
-    let low = here c.args.words.now c.read_numbers-numbers.result c.read_numbers-numbers.ensures.node c.args.at c.requires in
-    let inside : c.args.at < length node.entries = omega (arith, low, (told c.args.words.now c.read_numbers-numbers.result c.read_numbers-numbers.ensures.node node has same).count_is) in
-    let tall = c.height_over-height.ensures (remove node.entries c.args.at)
-    (still_spelled c.args.words.now c.read_numbers-numbers.result c.read_numbers-numbers.ensures.node c.args.at c.remove_element.new.items c.remove_element.ensures node has same inside) in
-    left_spelled c.args.words.now c.read_numbers-numbers.result c.read_numbers-numbers.ensures.node c.args.at c.remove_element.new.items c.remove_element.ensures node has same inside c.height_over-height.result c.drop_row.new.words
-    (c.drop_row.ensures node (can_drop c.args.words.now c.read_numbers-numbers.result c.read_numbers-numbers.ensures.node c.args.at c.remove_element.new.items c.remove_element.ensures node has same inside c.if-numbers-eq2.false)) tall
+    let low = here c.args.words.now c.read_numbers-numbers.result c.read_numbers-numbers.ensures.node c.args.slot c.requires in
+    let inside : c.args.slot < length node.entries = omega (arith, low, (told c.args.words.now c.read_numbers-numbers.result c.read_numbers-numbers.ensures.node node has same).count_is) in
+    let tall = c.height_over-height.ensures (remove node.entries c.args.slot)
+    (still_spelled c.args.words.now c.read_numbers-numbers.result c.read_numbers-numbers.ensures.node c.args.slot c.remove_element.new.items c.remove_element.ensures node has same inside) in
+    left_spelled c.args.words.now c.read_numbers-numbers.result c.read_numbers-numbers.ensures.node c.args.slot c.remove_element.new.items c.remove_element.ensures node has same inside c.height_over-height.result c.drop_row.new.words
+    (c.drop_row.ensures node (can_drop c.args.words.now c.read_numbers-numbers.result c.read_numbers-numbers.ensures.node c.args.slot c.remove_element.new.items c.remove_element.ensures node has same inside c.if-numbers-eq2.false)) tall
 
 pub slice_bounds-height_over-end : goal.slice_bounds-height_over-end
 slice_bounds-height_over-end c =

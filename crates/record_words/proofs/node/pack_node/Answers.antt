@@ -6,31 +6,31 @@ use Rattle.record_words.proofs.Unused.{zero_in}
 use Rattle.record_words.proofs.Written.{one_more, all_so_far, head_so_far, no_entry_word, entries_fit}
 use Rattle.record_words.proofs.node.pack_node.Goals as goal
 
-pub loop-i-init : goal.loop-i-init
-loop-i-init c =
+pub loop-slot-init : goal.loop-slot-init
+loop-slot-init c =
     let node = c.args.node.now in (
       head_so_far node c.put_head.new.words (c.put_head.ensures ∙ ap (λ head. head_words head ++ drop 25 (replicate 57 0)) c.as_head.ensures),
       λ k none. absurd (omega arith),
     )
 
-pub loop-i-preserved : goal.loop-i-preserved
-loop-i-preserved c =
+pub loop-slot-preserved : goal.loop-slot-preserved
+loop-slot-preserved c =
     let node = c.args.node.now in
-    let few = c.count-i-end.ensures.lawful.room in
-    let counted = c.count-i-end.ensures.count in (
-      one_more _ _ c.loop-i.words (25 + c.loop-i.i) _ c.entry_word_at.result c.loop-i.invariant.0 (omega arith) (omega arith)
-          (c.entry_word_at.ensures.word ∙ sym (node_words-entry node c.loop-i.i (omega arith))),
-      below_more _ c.loop-i.i c.loop-i.invariant.1 c.entry_word_at.ensures.fits,
+    let few = c.count-slot-end.ensures.lawful.room in
+    let counted = c.count-slot-end.ensures.count in (
+      one_more _ _ c.loop-slot.words (25 + c.loop-slot.slot) _ c.entry_word_at.result c.loop-slot.invariant.0 (omega arith) (omega arith)
+          (c.entry_word_at.ensures.word ∙ sym (node_words-entry node c.loop-slot.slot (omega arith))),
+      below_more _ c.loop-slot.slot c.loop-slot.invariant.1 c.entry_word_at.ensures.fits,
     )
 
 pub returns-clause-words : goal.returns-clause-words
 returns-clause-words c =
     let node = c.args.node.now in
-    all_so_far _ _ c.loop-i.words (25 + c.loop-i.i) c.loop-i.invariant.0 (length-node_words node)
-    (λ k past inside. no_entry_word node c.loop-i.i k (omega (arith, c.count-i-end.ensures.count)) past inside ∙ sym (zero_in 57 k))
+    all_so_far _ _ c.loop-slot.words (25 + c.loop-slot.slot) c.loop-slot.invariant.0 (length-node_words node)
+    (λ k past inside. no_entry_word node c.loop-slot.slot k (omega (arith, c.count-slot-end.ensures.count)) past inside ∙ sym (zero_in 57 k))
 
 pub returns-clause-fits : goal.returns-clause-fits
 returns-clause-fits c = record {
-  lawful = c.count-i-end.ensures.lawful;
-  entries = entries_fit c.args.node.now.entries c.loop-i.i c.count-i-end.ensures.lawful.room (omega (arith, c.count-i-end.ensures.count)) c.loop-i.invariant.1;
+  lawful = c.count-slot-end.ensures.lawful;
+  entries = entries_fit c.args.node.now.entries c.loop-slot.slot c.count-slot-end.ensures.lawful.room (omega (arith, c.count-slot-end.ensures.count)) c.loop-slot.invariant.1;
 }

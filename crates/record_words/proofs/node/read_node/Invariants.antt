@@ -4,5 +4,5 @@ use Rattle.compound_node.specs.Nodes.{NodeView}
 use Rattle.record_words.specs.Node.{HasNodeWords, node_words}
 use Rattle.record_words.proofs.node.read_node.Given as goal
 
-abbrev pub invariant-loop-i : goal.invariant-loop-i
-invariant-loop-i l = (node : NodeView) → HasNodeWords node → node_words node ≡ l.words → l.entries.items ≡ take l.i node.entries
+abbrev pub invariant-loop-slot : goal.invariant-loop-slot
+invariant-loop-slot l = (node : NodeView) → HasNodeWords node → node_words node ≡ l.words → l.entries.items ≡ take l.slot node.entries

@@ -2,7 +2,7 @@
 use Rattle.std.proofs.Common.{ℕ, ◌-◌, List, length, take, drop, map, sym, ◌∙◌, ap, subst, ◌≡◌, arith}
 use Rattle.std.proofs.lemmas.List.{length-map, drop-map, take_rest}
 use Rattle.replay_trees.specs.Versions.{read_item}
-use Rattle.replay_trees.specs.declared.trees.Item.{Item}
+use Rattle.replay_trees.specs.declared.linked.Item.{Item}
 use Rattle.rowex_core.specs.Events.{AreSame}
 use Rattle.replay_trees.specs.Changed.{BeginApart, IsFoundChange}
 use Rattle.replay_trees.proofs.Between.{found_from, apart_from}

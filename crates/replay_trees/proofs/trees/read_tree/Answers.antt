@@ -1,7 +1,7 @@
 -- What was read from the root is told exactly of a lawful version.
 use Rattle.std.proofs.Common.{Some, None, refl, subst, sym}
 use Rattle.node_tries.specs.Piece.{Place}
-use Rattle.replay_trees.specs.declared.trees.Linked.{Linked}
+use Rattle.replay_trees.specs.declared.linked.Linked.{Linked}
 use Rattle.replay_trees.specs.Versions.{IsReadVersion, Table}
 use Rattle.replay_trees.specs.Parts.{IsTreeRead, ShowsPart}
 use Rattle.replay_trees.proofs.Tops.{IsEmpty, empty_read, top_read, top_none}

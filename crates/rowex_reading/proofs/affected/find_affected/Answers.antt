@@ -20,8 +20,8 @@ affected_slots-requires-clause-spelling g c = let (m, h, has) = c.requires.place
 pub affected_slots-requires-clause-in_range : goal.affected_slots-requires-clause-in_range
 affected_slots-requires-clause-in_range g c = λ node lawful same.
     let (m, h, has) = c.requires.place in let e = c.load_head_words-words.ensures in let are = e.words m h has.0 in
-    let here : HasPlace c.load_head_words-words.new.seat.known m c.args.number h c.args.found = (led_on m (Node c.args.number h) e.reads.2 has.0, sure_later {P = λ s. HasMorePlaces s m c.args.number c.args.found} (room_stable m c.args.number c.args.found) (reads_later e.reads.2) has.1) in
-    let inside = place_inside _ _ m c.args.number h c.args.found _ (reader_then c.requires.reader e.reads.2).1 here are.seen.shaped in
+    let here : HasPlace c.load_head_words-words.new.seat.known m c.args.step.number h c.args.step.slot = (led_on m (Node c.args.step.number h) e.reads.2 has.0, sure_later {P = λ s. HasMorePlaces s m c.args.step.number c.args.step.slot} (room_stable m c.args.step.number c.args.step.slot) (reads_later e.reads.2) has.1) in
+    let inside = place_inside _ _ m c.args.step.number h c.args.step.slot _ (reader_then c.requires.reader e.reads.2).1 here are.seen.shaped in
     let heads = same_head (node_of are.head (leaves (length are.head.rows))) node are.seen.lawful lawful (are.words_are ∙ sym same) in
     omega (arith, inside, rows_are are.head are.seen.lawful, ap (λ (v : HeadView). length v.rows) heads, same_count node lawful)
 

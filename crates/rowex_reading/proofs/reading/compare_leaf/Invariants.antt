@@ -1,9 +1,10 @@
 -- The words so far are those of the key.
 use Rattle.std.proofs.Common.{◌≡◌, ◌+◌, ◌-◌, ◌≤◌, length}
-use Rattle.versions.specs.declared.Rec.TheVariants.{Leaf as a_leaf}
+use Rattle.record_words.specs.declared.records.Rec.TheVariants.{Leaf as a_leaf}
 use Rattle.record_words.specs.declared.TheConstants.{LEAF_FIELDS}
 use Rattle.record_words.specs.Layout.{leaf_size}
 use Rattle.record_words.specs.Leaf.{words_of_key}
+use Rattle.rowex_table.specs.Rule.{record_number}
 use Rattle.rowex_reading.specs.Reads.{IsReader, Reads}
 use Rattle.rowex_reading.proofs.Valuing.{words_with}
 use Rattle.rowex_reading.proofs.Wording.{IsKeyWord}
@@ -15,7 +16,7 @@ invariant-loop-index g l = record {
   reader : IsReader l.table l.seat;
   end_is : l.end ≡ 2 + words_of_key (length l.key);
   fits : l.end ≤ LEAF_FIELDS;
-  room : l.end + 1 ≤ leaf_size l.table.layout l.leaf.number;
+  room : l.end + 1 ≤ leaf_size l.table.layout (record_number l.leaf.rec);
   reads : Reads l.table g.G.Gate.becomes 0 (l.index - 1) (l.fn.seat, l.fn.gate) (l.seat, l.gate);
-  loaded : AreLoaded l.fn.seat.known l.seat.known (a_leaf l.leaf.number) 0 (IsKeyWord l.index) (words_with l.key);
+  loaded : AreLoaded l.fn.seat.known l.seat.known (a_leaf (record_number l.leaf.rec)) 0 (IsKeyWord l.index) (words_with l.key);
 }

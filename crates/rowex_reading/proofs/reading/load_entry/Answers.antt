@@ -2,6 +2,7 @@
 use Rattle.std.proofs.Common.{Some, refl}
 use Rattle.rowex_core.specs.declared.event.Act.TheVariants.{LoadRef}
 use Rattle.rowex_core.specs.declared.event.Spot.TheVariants.{Slot}
+use Rattle.rowex_table.specs.Rule.{record_number}
 use Rattle.rowex_reading.proofs.Led.{reads_one}
 use Rattle.rowex_reading.proofs.Placing.{is_entry, slot_spelled, slot_some, slot_placed, slot_lower, some_spelled}
 use Rattle.rowex_reading.proofs.reading.load_entry.Goals as goal
@@ -9,8 +10,8 @@ use Rattle.rowex_reading.proofs.reading.load_entry.Goals as goal
 pub load_slot_at-word-requires : goal.load_slot_at-word-requires
 load_slot_at-word-requires g c = let s = c.requires.place in record {
   own = c.requires.reader.0;
-  range = is_entry c.args.table.now.layout c.args.seat.now.known s.0 c.args.node.number s.1 c.args.place c.requires.reader.1 s.2;
-  start = c.requires.start;
+  node = c.requires.node;
+  slot = (is_entry c.args.table.now.layout c.args.seat.now.known s.0 (record_number c.args.node.rec) s.1 c.args.slot c.requires.reader.1 s.2).1;
 }
 
 -- it is the word of some entry
@@ -21,7 +22,7 @@ read_some_entry-requires g c =
     some_spelled o.0 (slot_some _ _ _ _ _ _ e s.0 s.1 s.2 o.0 o.1 o.2) o.1 o.2
 
 pub returns-clause-reads : goal.returns-clause-reads
-returns-clause-reads g c = reads_one (LoadRef (Slot c.args.node.number c.args.place) c.load_slot_at-word.result) tt c.load_slot_at-word.ensures
+returns-clause-reads g c = reads_one (LoadRef (Slot (record_number c.args.node.rec) c.args.slot) c.load_slot_at-word.result) tt c.load_slot_at-word.ensures
 
 pub returns-clause-entry : goal.returns-clause-entry
 returns-clause-entry g c = λ m h has.

@@ -2,10 +2,11 @@
 use Rattle.std.proofs.Common.{◌+◌, ◌<◌, ◌∙◌, arith, length, refl, subst}
 use Rattle.std.proofs.lemmas.List.{length-set}
 use Rattle.compound_node.specs.declared.entries.Entry.TheVariants.{Node}
-use Rattle.versions.specs.declared.Rec.TheVariants.{Node as a_node}
+use Rattle.record_words.specs.declared.records.Rec.TheVariants.{Node as a_node}
 use Rattle.rowex_core.specs.declared.event.Act.TheVariants.{LoadFixed}
+use Rattle.rowex_table.specs.Rule.{record_number}
 use Rattle.rowex_reading.specs.Reads.{Reads}
-use Rattle.rowex_reading.proofs.Led.{reader_then, reads_none, reads_one, reads_trans}
+use Rattle.rowex_reading.proofs.Led.{of_kind, reader_then, reads_none, reads_one, reads_trans}
 use Rattle.rowex_reading.proofs.Wording.{fewer_loaded, led_stood, next_loaded, none_loaded}
 use Rattle.rowex_reading.proofs.reading.load_head_part.Goals as goal
 
@@ -14,18 +15,25 @@ loop-index-init g c = record {
   reader = c.requires.reader;
   long = refl;
   reads = reads_none (c.args.seat.now, c.args.gate.now);
-  loaded = none_loaded c.args.seat.now.known (a_node c.args.node.number) c.args.first _;
+  loaded = none_loaded c.args.seat.now.known (a_node (record_number c.args.node.rec)) c.args.first _;
+}
+
+pub load_fixed_at-requires : goal.load_fixed_at-requires
+load_fixed_at-requires g c = let i = c.loop-index.invariant in record {
+  own = i.reader.0;
+  range = rw c.requires.node.0 ((omega arith, omega (arith, c.requires.range, i.long, c.loop-index-test.true)), omega (arith, c.requires.range, i.long, c.loop-index-test.true));
+  start = rw c.requires.node.0 c.requires.node.1;
 }
 
 pub loop-index-preserved : goal.loop-index-preserved
 loop-index-preserved g c =
-    let l = c.requires.led in let i = c.loop-index.invariant in let e = c.load_fixed_at.ensures in
-    let one = reads_one (LoadFixed (a_node c.args.node.number) (c.args.first + c.loop-index.index + 1) c.load_fixed_at.result) tt e in
+    let l = c.requires.led in let i = c.loop-index.invariant in let e = (of_kind c.requires.node.0 c.load_fixed_at.ensures) in
+    let one = reads_one (LoadFixed (a_node (record_number c.args.node.rec)) (c.args.first + c.loop-index.index + 1) c.load_fixed_at.result) tt e in
     record {
       reader = reader_then i.reader one;
       long = length-set c.loop-index.words c.loop-index.index c.load_fixed_at.result ∙ i.long;
       reads = reads_trans i.reads one;
-      loaded = next_loaded _ _ _ _ (a_node c.args.node.number) c.args.first _ _ c.loop-index.words i.loaded (omega (arith, i.long, c.loop-index-test.true)) e.event l.0 (led_stood c.args.seat.now.known l.0 (Node c.args.node.number l.1) l.2);
+      loaded = next_loaded _ _ _ _ (a_node (record_number c.args.node.rec)) c.args.first _ _ c.loop-index.words i.loaded (omega (arith, i.long, c.loop-index-test.true)) e.event l.0 (led_stood c.args.seat.now.known l.0 (Node (record_number c.args.node.rec) l.1) l.2);
     }
 
 pub returns-clause-reads : goal.returns-clause-reads
@@ -35,4 +43,4 @@ returns-clause-reads g c =
 pub returns-clause-loaded : goal.returns-clause-loaded
 returns-clause-loaded g c =
     let i = c.loop-index.invariant in
-    fewer_loaded _ _ (a_node c.args.node.number) c.args.first (λ o. o < c.loop-index.index) (λ o. o < length c.loop-index.words) c.loop-index.words (λ o low. omega (arith, low, i.long, c.loop-index-test.false)) i.loaded
+    fewer_loaded _ _ (a_node (record_number c.args.node.rec)) c.args.first (λ o. o < c.loop-index.index) (λ o. o < length c.loop-index.words) c.loop-index.words (λ o low. omega (arith, low, i.long, c.loop-index-test.false)) i.loaded

@@ -1,6 +1,7 @@
 -- The words so far are loaded.
 use Rattle.std.proofs.Common.{◌≡◌, ◌<◌, length}
-use Rattle.versions.specs.declared.Rec.TheVariants.{Node as a_node}
+use Rattle.record_words.specs.declared.records.Rec.TheVariants.{Node as a_node}
+use Rattle.rowex_table.specs.Rule.{record_number}
 use Rattle.rowex_reading.specs.Reads.{IsReader, Reads}
 use Rattle.rowex_reading.specs.Seen.{AreLoaded}
 use Rattle.rowex_reading.proofs.reading.load_head_part.Given as goal
@@ -10,5 +11,5 @@ invariant-loop-index g l = record {
   reader : IsReader l.table l.seat;
   long : length l.words ≡ length l.fn.words;
   reads : Reads l.table g.G.Gate.becomes 0 l.index (l.fn.seat, l.fn.gate) (l.seat, l.gate);
-  loaded : AreLoaded l.fn.seat.known l.seat.known (a_node l.fn.node.number) l.first (λ o. o < l.index) l.words;
+  loaded : AreLoaded l.fn.seat.known l.seat.known (a_node (record_number l.fn.node.rec)) l.first (λ o. o < l.index) l.words;
 }

@@ -4,6 +4,7 @@ use Rattle.key_bits.specs.declared.TheConstants.{MAX_BYTES}
 use Rattle.record_words.specs.declared.TheConstants.{LEAF_FIELDS}
 use Rattle.record_words.specs.Layout.{leaf_size}
 use Rattle.record_words.specs.Leaf.{words_of_key}
+use Rattle.rowex_table.specs.Rule.{record_number}
 use Rattle.rowex_reading.specs.Reads.{IsReader, Reads}
 use Rattle.rowex_reading.proofs.Leafing.{AreSoFar}
 use Rattle.rowex_reading.proofs.Fronting.{front}
@@ -14,11 +15,11 @@ invariant-loop-index g l = record {
   reader : IsReader l.table l.seat;
   used_is : l.used ≡ 2 + words_of_key l.length;
   fits : l.used ≤ LEAF_FIELDS;
-  room : l.used + 1 ≤ leaf_size l.table.layout l.fn.leaf.number;
+  room : l.used + 1 ≤ leaf_size l.table.layout (record_number l.fn.leaf.rec);
   reads : Reads l.table g.G.Gate.becomes 0 l.index (l.fn.seat, l.fn.gate) (l.seat, l.gate);
   long : length l.places ≡ MAX_BYTES;
   small : (b : ℕ) → get_or (front l.index l.places) b 0 < 256;
-  so_far : AreSoFar l.fn.seat.known l.seat.known l.fn.leaf.number l.index l.value l.length (front l.index l.places);
+  so_far : AreSoFar l.fn.seat.known l.seat.known (record_number l.fn.leaf.rec) l.index l.value l.length (front l.index l.places);
   zeros : l.fn.places ≡ replicate MAX_BYTES 0 →
-      AreSoFar l.fn.seat.known l.seat.known l.fn.leaf.number l.index l.value l.length l.places × ((b : ℕ) → get_or l.places b 0 < 256);
+      AreSoFar l.fn.seat.known l.seat.known (record_number l.fn.leaf.rec) l.index l.value l.length l.places × ((b : ℕ) → get_or l.places b 0 < 256);
 }

@@ -4,6 +4,7 @@ use Rattle.std.proofs.lemmas.List.{get_or_append_left}
 use Rattle.compound_node.specs.declared.entries.Entry.TheVariants.{Node}
 use Rattle.record_words.specs.Kinds.{kind_in, mask_index}
 use Rattle.record_words.specs.declared.kind.Kind.TheVariants.{Middle, Narrow, Wide}
+use Rattle.rowex_table.specs.Rule.{record_number}
 use Rattle.rowex_reading.specs.Seen.{AreHeadWords, IsLedTo}
 use Rattle.rowex_reading.specs.Ways.{step_at}
 use Rattle.rowex_reading.proofs.Led.{led_on, reader_then, reads_trans}
@@ -17,7 +18,7 @@ pub load_head_part-requires-in-Narrow-clause-reader : goal.load_head_part-requir
 load_head_part-requires-in-Narrow-clause-reader g c = reader_then c.requires.reader c.load_head_part.ensures.reads
 
 pub load_head_part-requires-in-Narrow-clause-led : goal.load_head_part-requires-in-Narrow-clause-led
-load_head_part-requires-in-Narrow-clause-led g c = let (m, h, led) = c.requires.led in (m, h, led_on m (Node c.args.node.number h) c.load_head_part.ensures.reads led)
+load_head_part-requires-in-Narrow-clause-led g c = let (m, h, led) = c.requires.led in (m, h, led_on m (Node (record_number c.args.node.rec) h) c.load_head_part.ensures.reads led)
 
 module _ (g : given.Over) (c : After-load_head_part-in-Narrow g) where
   narrow_is : kind_in (get_or c.load_head_part.new.words 0 0) ≡ Narrow
@@ -26,16 +27,16 @@ module _ (g : given.Over) (c : After-load_head_part-in-Narrow g) where
   narrow_size : length (begun c.load_head_part.new.words c.load_head_part-in-Narrow.new.words) ≡ 7
   narrow_size = begun_long c.load_head_part.new.words c.load_head_part-in-Narrow.new.words ∙ ap (λ n. 1 + n) c.load_head_part-in-Narrow.ensures.long
 
-  narrow_words_are : (m h : ℕ) → IsLedTo c.args.seat.now.known m (Node c.args.node.number h) →
-      AreHeadWords c.load_head_part-in-Narrow.new.seat.known m c.args.node.number h (begun c.load_head_part.new.words c.load_head_part-in-Narrow.new.words ++ replicate 18 (2 ^ 64 - 1))
+  narrow_words_are : (m h : ℕ) → IsLedTo c.args.seat.now.known m (Node (record_number c.args.node.rec) h) →
+      AreHeadWords c.load_head_part-in-Narrow.new.seat.known m (record_number c.args.node.rec) h (begun c.load_head_part.new.words c.load_head_part-in-Narrow.new.words ++ replicate 18 (2 ^ 64 - 1))
   narrow_words_are m h led =
       let e = c.load_head_part.ensures in let f = c.load_head_part-in-Narrow.ensures in
-      near_read _ _ _ _ c.args.node.number Narrow c.load_head_part.new.words c.load_head_part-in-Narrow.new.words (reader_then (reader_then c.requires.reader e.reads) f.reads).1 e.loaded f.loaded narrow_is e.long
+      near_read _ _ _ _ (record_number c.args.node.rec) Narrow c.load_head_part.new.words c.load_head_part-in-Narrow.new.words (reader_then (reader_then c.requires.reader e.reads) f.reads).1 e.loaded f.loaded narrow_is e.long
       (ap (λ n. 1 + n) f.long) m h led
 
-pub search_narrow-at-requires : goal.search_narrow-at-requires
-search_narrow-at-requires g c =
-    let d = (goal.at.search_narrow-at-requires g c).After-load_head_part-in-Narrow in
+pub search_narrow-slot-requires : goal.search_narrow-slot-requires
+search_narrow-slot-requires g c =
+    let d = (goal.at.search_narrow-slot-requires g c).After-load_head_part-in-Narrow in
     let (m, h, led) = c.requires.led in
     part_spelled Narrow (begun c.load_head_part.new.words c.load_head_part-in-Narrow.new.words) (narrow_is g d) (narrow_size g d) (narrow_words_are g d m h led)
 
@@ -53,8 +54,8 @@ returns-in-Narrow-clause-step g c = λ m h led.
       step_spelled (part ++ replicate 18 (2 ^ 64 - 1)) are numbers c.read_numbers-numbers.ensures.node _
           (ap (λ i. get_or part i 0) c.index_of_first_position.ensures ∙ (sym (get_or_append_left part (replicate 18 (2 ^ 64 - 1)) 0 2 (omega (arith, narrow_size g d)))
           ∙ ap (λ kind. get_or (part ++ replicate 18 (2 ^ 64 - 1)) (mask_index kind 0) 0) (sym c.in-Narrow.is)))
-          c.path_node.result c.args.node.number c.search_narrow-at.result c.path_node.ensures.same c.path_node.ensures.node
-          ∙ ap (step_at are.head c.args.node.number) (part_spot Narrow part (narrow_is g d) (narrow_size g d) are c.args.key.now c.search_narrow-at.result c.search_narrow-at.ensures),
+          c.path_node.result (record_number c.args.node.rec) c.search_narrow-slot.result (rw c.number-number.ensures at c.path_node.ensures.same) c.path_node.ensures.node
+          ∙ ap (step_at are.head (record_number c.args.node.rec)) (part_spot Narrow part (narrow_is g d) (narrow_size g d) are c.args.key.now c.search_narrow-slot.result c.search_narrow-slot.ensures),
     )
 
 -- ---- a middle head
@@ -62,7 +63,7 @@ pub load_head_part-requires-in-Middle-clause-reader : goal.load_head_part-requir
 load_head_part-requires-in-Middle-clause-reader g c = reader_then c.requires.reader c.load_head_part.ensures.reads
 
 pub load_head_part-requires-in-Middle-clause-led : goal.load_head_part-requires-in-Middle-clause-led
-load_head_part-requires-in-Middle-clause-led g c = let (m, h, led) = c.requires.led in (m, h, led_on m (Node c.args.node.number h) c.load_head_part.ensures.reads led)
+load_head_part-requires-in-Middle-clause-led g c = let (m, h, led) = c.requires.led in (m, h, led_on m (Node (record_number c.args.node.rec) h) c.load_head_part.ensures.reads led)
 
 module _ (g : given.Over) (c : After-load_head_part-in-Middle g) where
   middle_is : kind_in (get_or c.load_head_part.new.words 0 0) ≡ Middle
@@ -71,16 +72,16 @@ module _ (g : given.Over) (c : After-load_head_part-in-Middle g) where
   middle_size : length (begun c.load_head_part.new.words c.load_head_part-in-Middle.new.words) ≡ 13
   middle_size = begun_long c.load_head_part.new.words c.load_head_part-in-Middle.new.words ∙ ap (λ n. 1 + n) c.load_head_part-in-Middle.ensures.long
 
-  middle_words_are : (m h : ℕ) → IsLedTo c.args.seat.now.known m (Node c.args.node.number h) →
-      AreHeadWords c.load_head_part-in-Middle.new.seat.known m c.args.node.number h (begun c.load_head_part.new.words c.load_head_part-in-Middle.new.words ++ replicate 12 (2 ^ 64 - 1))
+  middle_words_are : (m h : ℕ) → IsLedTo c.args.seat.now.known m (Node (record_number c.args.node.rec) h) →
+      AreHeadWords c.load_head_part-in-Middle.new.seat.known m (record_number c.args.node.rec) h (begun c.load_head_part.new.words c.load_head_part-in-Middle.new.words ++ replicate 12 (2 ^ 64 - 1))
   middle_words_are m h led =
       let e = c.load_head_part.ensures in let f = c.load_head_part-in-Middle.ensures in
-      near_read _ _ _ _ c.args.node.number Middle c.load_head_part.new.words c.load_head_part-in-Middle.new.words (reader_then (reader_then c.requires.reader e.reads) f.reads).1 e.loaded f.loaded middle_is e.long
+      near_read _ _ _ _ (record_number c.args.node.rec) Middle c.load_head_part.new.words c.load_head_part-in-Middle.new.words (reader_then (reader_then c.requires.reader e.reads) f.reads).1 e.loaded f.loaded middle_is e.long
       (ap (λ n. 1 + n) f.long) m h led
 
-pub search_middle-at-requires : goal.search_middle-at-requires
-search_middle-at-requires g c =
-    let d = (goal.at.search_middle-at-requires g c).After-load_head_part-in-Middle in
+pub search_middle-slot-requires : goal.search_middle-slot-requires
+search_middle-slot-requires g c =
+    let d = (goal.at.search_middle-slot-requires g c).After-load_head_part-in-Middle in
     let (m, h, led) = c.requires.led in
     part_spelled Middle (begun c.load_head_part.new.words c.load_head_part-in-Middle.new.words) (middle_is g d) (middle_size g d) (middle_words_are g d m h led)
 
@@ -98,8 +99,8 @@ returns-in-Middle-clause-step g c = λ m h led.
       step_spelled (part ++ replicate 12 (2 ^ 64 - 1)) are numbers c.read_numbers-numbers.ensures.node _
           (ap (λ i. get_or part i 0) c.index_of_first_position-in-Middle.ensures ∙ (sym (get_or_append_left part (replicate 12 (2 ^ 64 - 1)) 0 4 (omega (arith, middle_size g d)))
           ∙ ap (λ kind. get_or (part ++ replicate 12 (2 ^ 64 - 1)) (mask_index kind 0) 0) (sym c.in-Middle.is)))
-          c.path_node-in-Middle.result c.args.node.number c.search_middle-at.result c.path_node-in-Middle.ensures.same c.path_node-in-Middle.ensures.node
-          ∙ ap (step_at are.head c.args.node.number) (part_spot Middle part (middle_is g d) (middle_size g d) are c.args.key.now c.search_middle-at.result c.search_middle-at.ensures),
+          c.path_node-in-Middle.result (record_number c.args.node.rec) c.search_middle-slot.result (rw c.number-number.ensures at c.path_node-in-Middle.ensures.same) c.path_node-in-Middle.ensures.node
+          ∙ ap (step_at are.head (record_number c.args.node.rec)) (part_spot Middle part (middle_is g d) (middle_size g d) are c.args.key.now c.search_middle-slot.result c.search_middle-slot.ensures),
     )
 
 -- ---- a wide head
@@ -107,13 +108,13 @@ pub load_head_part-requires-in-Wide-clause-reader : goal.load_head_part-requires
 load_head_part-requires-in-Wide-clause-reader g c = reader_then c.requires.reader c.load_head_part.ensures.reads
 
 pub load_head_part-requires-in-Wide-clause-led : goal.load_head_part-requires-in-Wide-clause-led
-load_head_part-requires-in-Wide-clause-led g c = let (m, h, led) = c.requires.led in (m, h, led_on m (Node c.args.node.number h) c.load_head_part.ensures.reads led)
+load_head_part-requires-in-Wide-clause-led g c = let (m, h, led) = c.requires.led in (m, h, led_on m (Node (record_number c.args.node.rec) h) c.load_head_part.ensures.reads led)
 
 pub extract_dense_key-dense-requires : goal.extract_dense_key-dense-requires
 extract_dense_key-dense-requires g c =
     let (m, h, led) = c.requires.led in
     let e = c.load_head_part.ensures in let f = c.load_head_part-in-Wide.ensures in
-    front_spelled _ _ _ c.args.node.number (begun c.load_head_part.new.words c.load_head_part-in-Wide.new.words) (reader_then (reader_then c.requires.reader e.reads) f.reads).1
+    front_spelled _ _ _ (record_number c.args.node.rec) (begun c.load_head_part.new.words c.load_head_part-in-Wide.new.words) (reader_then (reader_then c.requires.reader e.reads) f.reads).1
     (begun_loaded c.load_head_part.new.words c.load_head_part-in-Wide.new.words e.long e.loaded f.loaded)
     (begun_long c.load_head_part.new.words c.load_head_part-in-Wide.new.words ∙ ap (λ n. 1 + n) f.long) (sym c.read_numbers-numbers.ensures.parts.3 ∙ c.in-Wide.is) m h led
 
@@ -123,7 +124,7 @@ load_head_part-requires-in-Wide-2-clause-reader g c = reader_then (reader_then c
 pub load_head_part-requires-in-Wide-2-clause-led : goal.load_head_part-requires-in-Wide-2-clause-led
 load_head_part-requires-in-Wide-2-clause-led g c =
     let (m, h, led) = c.requires.led in
-    (m, h, led_on m (Node c.args.node.number h) (reads_trans c.load_head_part.ensures.reads c.load_head_part-in-Wide.ensures.reads) led)
+    (m, h, led_on m (Node (record_number c.args.node.rec) h) (reads_trans c.load_head_part.ensures.reads c.load_head_part-in-Wide.ensures.reads) led)
 
 module _ (g : given.Over) (c : After-load_head_part-in-Wide-2 g) where
   wide_is : kind_in (get_or c.load_head_part.new.words 0 0) ≡ Wide
@@ -132,17 +133,17 @@ module _ (g : given.Over) (c : After-load_head_part-in-Wide-2 g) where
   front_size : length (begun c.load_head_part.new.words c.load_head_part-in-Wide.new.words) ≡ 9
   front_size = begun_long c.load_head_part.new.words c.load_head_part-in-Wide.new.words ∙ ap (λ n. 1 + n) c.load_head_part-in-Wide.ensures.long
 
-  wide_words_are : (m h : ℕ) → IsLedTo c.args.seat.now.known m (Node c.args.node.number h) →
-      AreHeadWords c.load_head_part-in-Wide-2.new.seat.known m c.args.node.number h ((begun c.load_head_part.new.words c.load_head_part-in-Wide.new.words ++ c.load_head_part-in-Wide-2.new.words) ++ [])
+  wide_words_are : (m h : ℕ) → IsLedTo c.args.seat.now.known m (Node (record_number c.args.node.rec) h) →
+      AreHeadWords c.load_head_part-in-Wide-2.new.seat.known m (record_number c.args.node.rec) h ((begun c.load_head_part.new.words c.load_head_part-in-Wide.new.words ++ c.load_head_part-in-Wide-2.new.words) ++ [])
   wide_words_are m h led =
       let e = c.load_head_part.ensures in let f = c.load_head_part-in-Wide.ensures in let b = c.load_head_part-in-Wide-2.ensures in
-      wide_read _ _ _ _ c.args.node.number (begun c.load_head_part.new.words c.load_head_part-in-Wide.new.words) c.load_head_part-in-Wide-2.new.words
+      wide_read _ _ _ _ (record_number c.args.node.rec) (begun c.load_head_part.new.words c.load_head_part-in-Wide.new.words) c.load_head_part-in-Wide-2.new.words
       (reader_then (reader_then (reader_then c.requires.reader e.reads) f.reads) b.reads).1
       (begun_loaded c.load_head_part.new.words c.load_head_part-in-Wide.new.words e.long e.loaded f.loaded) b.loaded wide_is front_size b.long m h led
 
-pub search_row_words-at-requires : goal.search_row_words-at-requires
-search_row_words-at-requires g c =
-    let d = (goal.at.search_row_words-at-requires g c).After-load_head_part-in-Wide-2 in
+pub search_row_words-slot-requires : goal.search_row_words-slot-requires
+search_row_words-slot-requires g c =
+    let d = (goal.at.search_row_words-slot-requires g c).After-load_head_part-in-Wide-2 in
     let (m, h, led) = c.requires.led in
     back_spelled (begun c.load_head_part.new.words c.load_head_part-in-Wide.new.words) c.load_head_part-in-Wide-2.new.words (wide_is g d) (front_size g d) c.load_head_part-in-Wide-2.ensures.long
     (wide_words_are g d m h led)
@@ -163,7 +164,7 @@ returns-in-Wide-clause-step g c = λ m h led.
           (ap (λ i. get_or front i 0) c.index_of_first_position-in-Wide.ensures ∙ (sym (get_or_append_left front back 0 1 (omega (arith, front_size g d)))
           ∙ (sym (get_or_append_left (front ++ back) [] 0 1 (omega (arith, front_size g d, length-append front back)))
           ∙ ap (λ kind. get_or ((front ++ back) ++ []) (mask_index kind 0) 0) (sym c.in-Wide.is))))
-          c.path_node-in-Wide.result c.args.node.number c.search_row_words-at.result c.path_node-in-Wide.ensures.same c.path_node-in-Wide.ensures.node
-          ∙ ap (step_at are.head c.args.node.number)
-          (wide_spot front back (wide_is g d) (front_size g d) c.load_head_part-in-Wide-2.ensures.long are c.args.key.now c.extract_dense_key-dense.result c.search_row_words-at.result c.extract_dense_key-dense.ensures c.search_row_words-at.ensures),
+          c.path_node-in-Wide.result (record_number c.args.node.rec) c.search_row_words-slot.result (rw c.number-number.ensures at c.path_node-in-Wide.ensures.same) c.path_node-in-Wide.ensures.node
+          ∙ ap (step_at are.head (record_number c.args.node.rec))
+          (wide_spot front back (wide_is g d) (front_size g d) c.load_head_part-in-Wide-2.ensures.long are c.args.key.now c.extract_dense_key-dense.result c.search_row_words-slot.result c.extract_dense_key-dense.ensures c.search_row_words-slot.ensures),
     )

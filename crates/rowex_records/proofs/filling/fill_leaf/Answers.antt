@@ -1,20 +1,21 @@
 -- The value, the length, and one more word of the key: these are the leaf's words up to the end of its key.
 use Rattle.std.proofs.Common.{rules, arith, subst, length, ap, ◌≡◌, ◌+◌, ◌-◌}
-use Rattle.versions.specs.declared.Rec.TheVariants.{Leaf as a_leaf}
+use Rattle.record_words.specs.declared.records.Rec.TheVariants.{Leaf as a_leaf}
 use Rattle.record_words.specs.Leaf.{leaf_words, words_for}
 use Rattle.rowex_records.specs.Records.{SetsSome}
+use Rattle.rowex_records.proofs.Named.{claimed_at, sets_of}
 use Rattle.rowex_records.proofs.SetAll.{set_claimed, sets_leaf_head, sets_leaf_more, sets_count, sets_leaf}
 use Rattle.rowex_records.proofs.filling.fill_leaf.Goals as goal
 
 pub store_word_if_changed-requires-clause-held : goal.store_word_if_changed-requires-clause-held
-store_word_if_changed-requires-clause-held g c = set_claimed _ _ (a_leaf c.args.number) 1 _ _ _ c.store_word.ensures c.requires.held
+store_word_if_changed-requires-clause-held g c = set_claimed _ _ c.locate-leaf.result.rec 1 _ _ _ c.store_word.ensures (claimed_at c.locate-leaf.ensures.rec c.args.seat.now.known c.requires.held)
 
 pub loop-index-init : goal.loop-index-init
-loop-index-init g c = sets_leaf_head _ _ c.args.number _ (c.args.key.now, c.args.value) _ _ _ c.requires.held (search rules) c.store_word.ensures c.store_word_if_changed.ensures
+loop-index-init g c = sets_leaf_head _ _ c.args.number _ (c.args.key.now, c.args.value) _ _ _ c.requires.held (search rules) (sets_of c.locate-leaf.ensures.rec c.store_word.ensures) (sets_of c.locate-leaf.ensures.rec c.store_word_if_changed.ensures)
 
 pub loop-index-preserved : goal.loop-index-preserved
 loop-index-preserved g c =
-    sets_leaf_more _ _ c.args.number c.loop-index.index _ (c.args.key.now, c.args.value) _ _ _ (search rules) c.key_word_at-word.ensures c.loop-index.invariant c.store_word-in-loop-index.ensures
+    sets_leaf_more _ _ c.args.number c.loop-index.index _ (c.args.key.now, c.args.value) _ _ _ (search rules) c.key_word_at-word.ensures c.loop-index.invariant (sets_of c.locate-leaf.ensures.rec c.store_word-in-loop-index.ensures)
 
 pub returns-clause-fills : goal.returns-clause-fills
 returns-clause-fills g c =

@@ -1,6 +1,6 @@
 -- The words stand up to those with the bytes of the key before the index.
 use Rattle.std.proofs.Common.{◌+◌}
-use Rattle.versions.specs.declared.Rec.TheVariants.{Leaf}
+use Rattle.record_words.specs.declared.records.Rec.TheVariants.{Leaf}
 use Rattle.record_words.specs.Leaf.{leaf_words}
 use Rattle.rowex_records.specs.Records.{SetsSome}
 use Rattle.rowex_records.proofs.filling.fill_leaf.Given as goal

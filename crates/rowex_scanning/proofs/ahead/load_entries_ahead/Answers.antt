@@ -1,39 +1,46 @@
 -- No entry, and one more: it leads to a leaf or to a node.
-use Rattle.std.proofs.Common.{ℕ, ◌+◌, ◌∙◌, arith}
+use Rattle.std.proofs.Common.{ℕ, ◌+◌, ◌∙◌, arith, rules}
 use Rattle.std.proofs.lemmas.List.{length-set}
 use Rattle.compound_node.specs.declared.entries.Entry.TheVariants.{Leaf, Node}
 use Rattle.rowex_reading.specs.Seen.{HasPlace}
 use Rattle.rowex_reading.proofs.Led.{reader_then, reads_later, reads_none, reads_trans}
+use Rattle.rowex_reading.proofs.Naming.{entry_told, node_place}
 use Rattle.rowex_scanning.specs.Ahead.{HasPlaces}
 use Rattle.version_laws.specs.Directions.{place_ahead}
-use Rattle.rowex_scanning.proofs.Begins.{node_begins}
+use Rattle.rowex_scanning.proofs.Begins.{node_begins, node_there}
 use Rattle.rowex_scanning.proofs.Passing.{ahead_later, ahead_more, loaded_at, places_later}
 use Rattle.rowex_scanning.proofs.ahead.load_entries_ahead.Given as given
 use Rattle.rowex_scanning.proofs.ahead.load_entries_ahead.Goals as goal
-use Rattle.rowex_scanning.proofs.ahead.load_entries_ahead.Goals.{After-slot_ahead-place}
+use Rattle.rowex_scanning.proofs.ahead.load_entries_ahead.Goals.{After-slot_ahead-slot}
 
 -- the node has an entry at the place
-has_place : (g : given.Over) (c : After-slot_ahead-place g) (m : ℕ) → HasPlaces c.args.scan.now.range.now.direction c.args.seat.now.known m c.args.top.now →
-    HasPlace c.loop-index.seat.known m c.args.top.now.number c.args.top.now.height (place_ahead c.args.scan.now.range.now.direction c.args.top.now.at c.loop-index.index)
+has_place : (g : given.Over) (c : After-slot_ahead-slot g) (m : ℕ) → HasPlaces c.args.scan.now.range.now.direction c.args.seat.now.known m c.args.top.now →
+    HasPlace c.loop-index.seat.known m c.args.top.now.number c.args.top.now.height (place_ahead c.args.scan.now.range.now.direction c.args.top.now.slot c.loop-index.index)
 has_place g c m has = places_later c.args.scan.now.range.now.direction m c.args.top.now (reads_later c.loop-index.invariant.reads.2) has c.loop-index.index (omega (arith, c.loop-index-test.true, c.min-count.ensures, c.entries_to_come.ensures))
 
 pub loop-index-init : goal.loop-index-init
 loop-index-init g c = record {
   reader = c.requires.reader;
   reads = (0, omega arith, reads_none (c.args.seat.now, c.args.gate.now));
-  long = c.told-leaves;
+  long = search rules;
   ahead = λ m has i low. absurd (omega (arith, low));
 }
 
 pub load_entry-requires-clause-place : goal.load_entry-requires-clause-place
-load_entry-requires-clause-place g c =
-    (c.requires.places.0, c.args.top.now.height, rw c.slot_ahead-place.ensures (has_place g (goal.at.load_entry-requires-clause-place g c).After-slot_ahead-place c.requires.places.0 c.requires.places.1))
+load_entry-requires-clause-place g c = (
+  c.requires.places.0,
+  c.args.top.now.height,
+  node_place c.args.top.now.number c.find-node.result.rec c.find-node.ensures.rec c.loop-index.seat.known c.requires.places.0 c.args.top.now.height c.slot_ahead-slot.result
+      (rw c.slot_ahead-slot.ensures (has_place g (goal.at.load_entry-requires-clause-place g c).After-slot_ahead-slot c.requires.places.0 c.requires.places.1)),
+)
 
-pub load_entry-requires-clause-start : goal.load_entry-requires-clause-start
-load_entry-requires-clause-start g c =
+pub find-node-requires : goal.find-node-requires
+find-node-requires g c =
     let (m, has) = c.requires.places in let top = c.args.top.now in
-    node_begins c.args.scan.now.table.now.layout c.args.scan.now.origins.now.layout c.args.seat.now.known m top.number top.height (place_ahead c.args.scan.now.range.now.direction top.at 0) c.start_of_node.result c.requires.reader.1 (has 0 c.requires.come) c.requires.origins
-    c.start_of_node.ensures
+    node_there c.args.scan.now.table.now.layout c.args.scan.now.origins.now.layout c.requires.origins c.args.seat.now.known m top.number top.height (place_ahead c.args.scan.now.range.now.direction top.slot 0) c.requires.reader.1 (has 0 c.requires.come)
+
+pub load_entry-requires-clause-node : goal.load_entry-requires-clause-node
+load_entry-requires-clause-node g c = node_begins c.args.scan.now.table.now.layout c.args.scan.now.origins.now.layout c.requires.origins c.args.top.now.number c.find-node.result c.find-node.ensures.rec c.find-node.ensures.start
 
 pub returns-in-Node-clause-reads : goal.returns-in-Node-clause-reads
 returns-in-Node-clause-reads g c = let (n, few, reads) = c.loop-index.invariant.reads in (n + 1, omega (arith, few), reads_trans reads c.load_entry.ensures.reads)
@@ -41,8 +48,8 @@ returns-in-Node-clause-reads g c = let (n, few, reads) = c.loop-index.invariant.
 pub returns-in-Node-clause-ahead : goal.returns-in-Node-clause-ahead
 returns-in-Node-clause-ahead g c = λ m has.
     let d = c.args.scan.now.range.now.direction in let top = c.args.top.now in let later = reads_later c.load_entry.ensures.reads in
-    let place = has_place g (goal.at.returns-in-Node-clause-ahead g c).After-slot_ahead-place m has in
-    let (lower, placed) = loaded_at d m top c.loop-index.index c.slot_ahead-place.result (Node c.in-Node.number c.in-Node.height) c.slot_ahead-place.ensures place c.in-Node.ensures.entry in
+    let place = has_place g (goal.at.returns-in-Node-clause-ahead g c).After-slot_ahead-slot m has in
+    let (lower, placed) = loaded_at d m top c.loop-index.index c.slot_ahead-slot.result (Node c.in-Node.number c.in-Node.height) c.slot_ahead-slot.ensures place (entry_told c.args.top.now.number c.find-node.result.rec c.find-node.ensures.rec c.loop-index.seat.known c.load_entry.new.seat.known c.slot_ahead-slot.result (Node c.in-Node.number c.in-Node.height) c.in-Node.ensures.entry) in
     record { first = ahead_later d m top later c.loop-index.index c.loop-index.leaves (c.loop-index.invariant.ahead m has); node = (c.in-Node.height, lower, placed) }
 
 pub loop-index-preserved : goal.loop-index-preserved
@@ -53,7 +60,7 @@ loop-index-preserved g c =
       reads = (n + 1, omega (arith, few), reads_trans before loaded);
       long = length-set c.loop-index.leaves c.loop-index.index c.in-Leaf.number ∙ i.long;
       ahead = λ m has.
-          let place = has_place g (goal.at.loop-index-preserved g c).After-slot_ahead-place m has in
-          let placed = (loaded_at d m top c.loop-index.index c.slot_ahead-place.result (Leaf c.in-Leaf.number) c.slot_ahead-place.ensures place c.in-Leaf.ensures.entry).1 in
+          let place = has_place g (goal.at.loop-index-preserved g c).After-slot_ahead-slot m has in
+          let placed = (loaded_at d m top c.loop-index.index c.slot_ahead-slot.result (Leaf c.in-Leaf.number) c.slot_ahead-slot.ensures place (entry_told c.args.top.now.number c.find-node.result.rec c.find-node.ensures.rec c.loop-index.seat.known c.load_entry.new.seat.known c.slot_ahead-slot.result (Leaf c.in-Leaf.number) c.in-Leaf.ensures.entry)).1 in
           ahead_more d m top c.loop-index.index c.loop-index.leaves c.in-Leaf.number (ahead_later d m top (reads_later loaded) c.loop-index.index c.loop-index.leaves (i.ahead m has)) (omega (arith, i.long, c.loop-index-test.true, c.min-count.ensures, c.most_slots.ensures.most)) placed;
     }

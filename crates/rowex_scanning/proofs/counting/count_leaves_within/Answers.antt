@@ -1,6 +1,5 @@
 -- The last leaf tells of all; else the leaves between one that is not past the range and one that is are halved.
-use Rattle.std.proofs.Common.{◌≡◌, ℕ, ◌+◌, ◌-◌, ◌*◌, ◌/◌, ◌<◌, ◌≤◌, arith, length, subst, get_or, sym, ⊎_elim, inl, inr}
-use Rattle.std.proofs.lemmas.Bool.{cases_lt}
+use Rattle.std.proofs.Common.{◌≡◌, ℕ, ◌+◌, ◌-◌, ◌*◌, ◌/◌, ◌<◌, ◌≤◌, arith, length, subst, get_or, sym}
 use Rattle.record_words.specs.declared.TheConstants.{LEAF_FIELDS}
 use Rattle.rowex_reading.specs.Seen.{since}
 use Rattle.rowex_reading.proofs.Led.{reader_then, reads_later, reads_trans}

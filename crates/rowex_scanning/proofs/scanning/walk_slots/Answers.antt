@@ -23,38 +23,38 @@ same : (g : given.Over) (c : After-load_entries_ahead-ahead g) → since c.load_
 same g c = same_since (reads_trans c.loop-seat.invariant.reads.3 c.load_entries_ahead-ahead.ensures.reads.2)
 
 -- So many leaves were seen, which come next.
-long : (g : given.Over) (c : After-load_entries_ahead-ahead g) → length (take c.load_entries_ahead-ahead.result.count c.load_entries_ahead-ahead.new.leaves) ≡ c.load_entries_ahead-ahead.result.count
+long : (g : given.Over) (c : After-load_entries_ahead-ahead g) → length (take c.load_entries_ahead-ahead.result.count c.load_entries_ahead-ahead.result.leaves) ≡ c.load_entries_ahead-ahead.result.count
 long g c =
-    let most = c.load_entries_ahead-ahead.ensures.most in let room = c.load_entries_ahead-ahead.array_long in
-    length-take-le c.load_entries_ahead-ahead.result.count c.load_entries_ahead-ahead.new.leaves (omega (arith, most, room))
+    let (most, room) = c.load_entries_ahead-ahead.ensures.most in
+    length-take-le c.load_entries_ahead-ahead.result.count c.load_entries_ahead-ahead.result.leaves (omega (arith, most, room))
 
 next : (g : given.Over) (c : After-load_entries_ahead-ahead g) →
-    AreNext c.load_entries_ahead-ahead.new.seat.known (request_of c.args.scan.now.range.now) c.loop-seat.top c.loop-seat.way.items (g.S.Tallies.tally c.loop-seat.sink) (take c.load_entries_ahead-ahead.result.count c.load_entries_ahead-ahead.new.leaves)
+    AreNext c.load_entries_ahead-ahead.new.seat.known (request_of c.args.scan.now.range.now) c.loop-seat.top c.loop-seat.way.items (g.S.Tallies.tally c.loop-seat.sink) (take c.load_entries_ahead-ahead.result.count c.load_entries_ahead-ahead.result.leaves)
 next g c =
     let i = c.loop-seat.invariant in let e = c.load_entries_ahead-ahead.ensures in let later = reads_later e.reads.2 in let m = since c.args.seat.now.known in
-    let d = c.args.scan.now.range.now.direction in let key = first_key d (asked_range c.args.scan.now.range.now) in let leaves = take c.load_entries_ahead-ahead.result.count c.load_entries_ahead-ahead.new.leaves in
-    let most = e.most in let room = c.load_entries_ahead-ahead.array_long in let come = e.come in let n = long g c in
+    let d = c.args.scan.now.range.now.direction in let key = first_key d (asked_range c.args.scan.now.range.now) in let leaves = take c.load_entries_ahead-ahead.result.count c.load_entries_ahead-ahead.result.leaves in
+    let (most, room) = e.most in let come = e.come in let n = long g c in
     record {
       bound = (walk_since (same g c) (walk_later later i.walk), bound_since d m key (same g c) (bound_later d m key later i.bound));
       ahead = subst (λ z. AreAhead d c.load_entries_ahead-ahead.new.seat.known z c.loop-seat.top (length leaves) leaves) (sym (same g c))
-          (ahead_first d m c.loop-seat.top c.load_entries_ahead-ahead.result.count c.load_entries_ahead-ahead.new.leaves (omega (arith, most, room)) (e.ahead m (walk_places i.walk)).first);
+          (ahead_first d m c.loop-seat.top c.load_entries_ahead-ahead.result.count c.load_entries_ahead-ahead.result.leaves (omega (arith, most, room)) (e.ahead m (walk_places i.walk)).first);
       come = omega (arith, come, n);
     }
 
 -- All leaves were passed.
-passed : (g : given.Over) (c : In-Further g) → length (take c.load_entries_ahead-ahead.result.count c.load_entries_ahead-ahead.new.leaves) ≡ c.load_entries_ahead-ahead.result.count →
-    AreNext c.load_entries_ahead-ahead.new.seat.known (request_of c.args.scan.now.range.now) c.loop-seat.top c.loop-seat.way.items (g.S.Tallies.tally c.loop-seat.sink) (take c.load_entries_ahead-ahead.result.count c.load_entries_ahead-ahead.new.leaves) →
+passed : (g : given.Over) (c : In-Further g) → length (take c.load_entries_ahead-ahead.result.count c.load_entries_ahead-ahead.result.leaves) ≡ c.load_entries_ahead-ahead.result.count →
+    AreNext c.load_entries_ahead-ahead.new.seat.known (request_of c.args.scan.now.range.now) c.loop-seat.top c.loop-seat.way.items (g.S.Tallies.tally c.loop-seat.sink) (take c.load_entries_ahead-ahead.result.count c.load_entries_ahead-ahead.result.leaves) →
     HavePassed c.take_leaves.new.seat.known (since c.args.seat.now.known) (request_of c.args.scan.now.range.now) c.loop-seat.way.items c.loop-seat.top (g.S.Tallies.tally c.loop-seat.sink).size c.load_entries_ahead-ahead.result.count (g.S.Tallies.tally c.take_leaves.new.self)
 passed g c n next =
     let r = request_of c.args.scan.now.range.now in let top = c.loop-seat.top in let frames = c.loop-seat.way.items in
-    let count = length (take c.load_entries_ahead-ahead.result.count c.load_entries_ahead-ahead.new.leaves) in let k = c.take_leaves.new.seat.known in let size = (g.S.Tallies.tally c.loop-seat.sink).size in let t = g.S.Tallies.tally c.take_leaves.new.self in
+    let count = length (take c.load_entries_ahead-ahead.result.count c.load_entries_ahead-ahead.result.leaves) in let k = c.take_leaves.new.seat.known in let size = (g.S.Tallies.tally c.loop-seat.sink).size in let t = g.S.Tallies.tally c.take_leaves.new.self in
     let p = taken_all (HavePassed k (since c.load_entries_ahead-ahead.new.seat.known) r frames top size count t) (HasTaken r.0 k r.1 t)
     (c.in_ok-take_leaves.ensures.taken top frames next) c.in-Further.is in
     subst (λ z. HavePassed k (since c.args.seat.now.known) r frames top size z t) n
     (subst (λ z. HavePassed k z r frames top size count t) (same_since (reads_trans c.loop-seat.invariant.reads.3 c.load_entries_ahead-ahead.ensures.reads.2)) p)
 
 -- The loads so far, where the scan ends at a leaf.
-paid : (g : given.Over) (c : After-take_leaves g) → length (take c.load_entries_ahead-ahead.result.count c.load_entries_ahead-ahead.new.leaves) ≡ c.load_entries_ahead-ahead.result.count →
+paid : (g : given.Over) (c : After-take_leaves g) → length (take c.load_entries_ahead-ahead.result.count c.load_entries_ahead-ahead.result.leaves) ≡ c.load_entries_ahead-ahead.result.count →
     Walks c.args.scan.now.table.now g.G.Gate.becomes 0 c.args.scan.now.range.now.limit (c.args.seat.now, c.args.gate.now) (c.take_leaves.new.seat, c.take_leaves.new.gate)
 paid g c n =
     let i = c.loop-seat.invariant in let e = c.load_entries_ahead-ahead.ensures in let (t, few, reads) = c.take_leaves.ensures.reads in
@@ -67,13 +67,13 @@ node_ahead g c =
     node_later d m top (reads_later c.take_leaves.ensures.reads.2) ahead.count c.in-Some-node.number
     (subst (λ z. IfSome z (IsNodeAhead d c.load_entries_ahead-ahead.new.seat.known m top ahead.count)) c.in-Some-node.is (c.load_entries_ahead-ahead.ensures.ahead m (walk_places c.loop-seat.invariant.walk)).node)
 
-inside : (g : given.Over) (c : In-Some-node g) → c.load_entries_ahead-ahead.result.count < to_come c.args.scan.now.range.now.direction c.loop-seat.top.count c.loop-seat.top.at
+inside : (g : given.Over) (c : In-Some-node g) → c.load_entries_ahead-ahead.result.count < to_come c.args.scan.now.range.now.direction c.loop-seat.top.count c.loop-seat.top.slot
 inside g c = let come = c.load_entries_ahead-ahead.ensures.come in let one : length (option_to_list c.load_entries_ahead-ahead.result.node) ≡ 1 = ap (λ z. length (option_to_list z)) c.in-Some-node.is in omega (arith, one, come)
 
 -- which is pushed.
 pushed : (g : given.Over) (c : After-push g) →
-    c.push.new.self.items ≡ c.loop-seat.way.items ++ (record c.loop-seat.top { at = place_ahead c.args.scan.now.range.now.direction c.loop-seat.top.at c.load_entries_ahead-ahead.result.count }) ∷ []
-pushed g c = c.push.ensures.items ∙ ap (λ z. c.loop-seat.way.items ++ (let x : PathNode = record c.loop-seat.top { at = z } in x) ∷ []) c.slot_ahead.ensures
+    c.push.new.self.items ≡ c.loop-seat.way.items ++ (record c.loop-seat.top { slot = place_ahead c.args.scan.now.range.now.direction c.loop-seat.top.slot c.load_entries_ahead-ahead.result.count }) ∷ []
+pushed g c = c.push.ensures.items ∙ ap (λ z. c.loop-seat.way.items ++ (let x : PathNode = record c.loop-seat.top { slot = z } in x) ∷ []) c.slot_ahead.ensures
 
 pub loop-seat-init : goal.loop-seat-init
 loop-seat-init g c =
@@ -135,7 +135,7 @@ loop-seat-smaller-in-Some-node g c =
     let within = inside g at.In-Some-node in let ahead = node_ahead g at.In-Some-node in
     let a = node_at (walk_fits c.loop-seat.invariant.walk) within (passed g at.In-Further (long g here) (next g here)) ahead in
     let less = walk_push_less a (reads_later e.reads.2) (e.entered (since c.args.seat.now.known) ahead.0 (entry_led a)) (pushed g at.After-push) ahead.1 in
-    let there = subst (λ z. rest_of d c.enter_node_at_gap-top.result c.push.new.self.items < rest_of d (record top { at = z }) c.loop-seat.way.items) (sym (gap_before_place d top.count top.at count within)) less in
+    let there = subst (λ z. rest_of d c.enter_node_at_gap-top.result c.push.new.self.items < rest_of d (record top { slot = z }) c.loop-seat.way.items) (sym (gap_before_place d top.count top.slot count within)) less in
     let before = after_less d top c.loop-seat.way.items count (omega (arith, within)) in omega (arith, there, before)
 
 pub loop-seat-preserved-in-Some-node : goal.loop-seat-preserved-in-Some-node
@@ -147,8 +147,8 @@ loop-seat-preserved-in-Some-node g c =
     let n = long g here in let later = reads_later e.reads.2 in
     let fits = walk_fits i.walk in let within = inside g at.In-Some-node in let p = passed g at.In-Further n (next g here) in let ahead = node_ahead g at.In-Some-node in
     let a = node_at fits within p ahead in let entered = e.entered m ahead.0 (entry_led a) in let there = pushed g at.After-push in
-    let placed = sure_later (placed_stable m top.number (place_ahead d top.at count) (Node c.in-Some-node.number ahead.0)) later ahead.2 in
-    let bound = subst (λ z. IsBound d c.enter_node_at_gap-top.new.seat.known m key (record top { at = z }) c.loop-seat.way.items) (gap_before_place d top.count top.at count within) (bound_later d m key later p.bound) in
+    let placed = sure_later (placed_stable m top.number (place_ahead d top.slot count) (Node c.in-Some-node.number ahead.0)) later ahead.2 in
+    let bound = subst (λ z. IsBound d c.enter_node_at_gap-top.new.seat.known m key (record top { slot = z }) c.loop-seat.way.items) (gap_before_place d top.count top.slot count within) (bound_later d m key later p.bound) in
     record {
       reader = reader_then (reader_then (reader_then i.reader look.2) take.2) e.reads.2;
       reads = (
@@ -159,7 +159,7 @@ loop-seat-preserved-in-Some-node g c =
         reads_trans i.reads.3 (reads_trans look.2 (reads_trans take.2 e.reads.2)),
       );
       walk = walk_push a later entered there;
-      bound = bound_push d m key (record top { at = place_ahead d top.at count }) bound c.in-Some-node.number ahead.0 placed c.enter_node_at_gap-top.result (entered_number entered) (entered_first entered) c.push.new.self.items there;
+      bound = bound_push d m key (record top { slot = place_ahead d top.slot count }) bound c.in-Some-node.number ahead.0 placed c.enter_node_at_gap-top.result (entered_number entered) (entered_first entered) c.push.new.self.items there;
     }
 
 pub loop-seat-smaller-in-None : goal.loop-seat-smaller-in-None
@@ -197,7 +197,7 @@ loop-seat-smaller g c = rw c.gap_behind_slot.ensures (pop_less c.args.scan.now.r
 pub loop-seat-preserved : goal.loop-seat-preserved
 loop-seat-preserved g c =
     let i = c.loop-seat.invariant in let d = c.args.scan.now.range.now.direction in let e = c.in-Some-pop.ensures.items in
-    let done : to_come d c.loop-seat.top.count c.loop-seat.top.at ≡ 0 = omega (arith, c.if-entries_to_come-gt0.false, c.entries_to_come.ensures) in
+    let done : to_come d c.loop-seat.top.count c.loop-seat.top.slot ≡ 0 = omega (arith, c.if-entries_to_come-gt0.false, c.entries_to_come.ensures) in
     rw c.gap_behind_slot.ensures (record {
       reader = i.reader;
       reads = (

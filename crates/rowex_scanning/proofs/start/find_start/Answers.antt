@@ -9,8 +9,8 @@ use Rattle.tries.proofs.Places.{spot_below}
 use Rattle.rowex_reading.proofs.Led.{reader_then, reads_later}
 use Rattle.rowex_scanning.specs.Scanning.{first_key_of}
 use Rattle.rowex_scanning.specs.Starts.{IsSearchEnd, IsParting, IsStart}
-use Rattle.version_laws.specs.declared.direction.Direction.{Direction}
-use Rattle.version_laws.specs.declared.direction.Direction.TheVariants.{Downwards}
+use Rattle.packed_pairs.specs.declared.direction.Direction.{Direction}
+use Rattle.packed_pairs.specs.declared.direction.Direction.TheVariants.{Downwards}
 use Rattle.rowex_scanning.specs.declared.start.Start.{Start}
 use Rattle.rowex_scanning.proofs.Turning.{turns_before, turns_behind, turns_same, turns_there}
 use Rattle.rowex_scanning.proofs.start.find_start.Given as given
@@ -32,12 +32,7 @@ in_direction {k = k} {m = m} {key = key} {way = way} {number = number} {start = 
 -- where the scan upwards starts
 parting : (g : given.Over) (c : After-find_start_of_upward_scan-start g) (m : ℕ) → IsSearchEnd c.args.scan.now.table.now.layout c.args.seat.now.known m (first_key_of c.args.scan.now.range.now) c.args.way.now c.args.found →
     IsParting c.find_start_of_upward_scan-start.new.seat.known m (first_key_of c.args.scan.now.range.now) c.args.way.now c.args.found.number c.find_start_of_upward_scan-start.result
-parting g c m e = subst (λ z. IsParting c.find_start_of_upward_scan-start.new.seat.known m z c.args.way.now c.args.found.number c.find_start_of_upward_scan-start.result) c.first_key-key.ensures
-    (c.find_start_of_upward_scan-start.ensures.start m (subst (λ z. IsSearchEnd c.args.scan.now.table.now.layout c.args.seat.now.known m z c.args.way.now c.args.found) (sym c.first_key-key.ensures) e))
-
-pub find_start_of_upward_scan-start-requires-clause-way : goal.find_start_of_upward_scan-start-requires-clause-way
-find_start_of_upward_scan-start-requires-clause-way g c =
-    let (m, e) = c.requires.way in (m, subst (λ z. IsSearchEnd c.args.scan.now.table.now.layout c.args.seat.now.known m z c.args.way.now c.args.found) (sym c.first_key-key.ensures) e)
+parting g c m e = c.find_start_of_upward_scan-start.ensures.start m e
 
 pub returns-in-Upwards-clause-start : goal.returns-in-Upwards-clause-start
 returns-in-Upwards-clause-start g c = λ m e. in_direction c.in-Upwards.is (parting g (goal.at.returns-in-Upwards-clause-start g c).After-find_start_of_upward_scan-start m e).upwards
@@ -49,13 +44,13 @@ overflow_add-start g c =
 pub overflow_add-lowest : goal.overflow_add-lowest
 overflow_add-lowest g c =
     let (m, e) = c.requires.way in let (some, v, w) = e in
-    let node = (w.nodes (length c.args.way.now - 1) _ (slice_get-get_or c.args.way.now (length c.args.way.now - 1) (record { number = 0; height = 0; first_position = 0; count = 0; at = 0 }) (omega (arith, some)))).2 in
+    let node = (w.nodes (length c.args.way.now - 1) _ (slice_get-get_or c.args.way.now (length c.args.way.now - 1) (record { number = 0; height = 0; first_position = 0; count = 0; slot = 0 }) (omega (arith, some)))).2 in
     let at = node.at in let room = node.room in let low = spot_below (first_key_of c.args.scan.now.range.now) node.forks in omega (arith, at, room, low)
 
 pub returns-then-start-clause-start : goal.returns-then-start-clause-start
 returns-then-start-clause-start g c = λ m e. let (some, v, w) = e in in_direction c.in-Downwards.is (
     let r = c.find_start_of_upward_scan-start.ensures.reads.2 in let s = parting g (goal.at.returns-then-start-clause-start g c).After-find_start_of_upward_scan-start m e in
-    let there = slice_get-get_or c.args.way.now (length c.args.way.now - 1) (record { number = 0; height = 0; first_position = 0; count = 0; at = 0 }) (omega (arith, some)) in
+    let there = slice_get-get_or c.args.way.now (length c.args.way.now - 1) (record { number = 0; height = 0; first_position = 0; count = 0; slot = 0 }) (omega (arith, some)) in
     let possible = (reader_then c.requires.reader r).1 in
     elim c.args.found.mismatch as (λ (z : Option ℕ). c.args.found.mismatch ≡ z → IsStart Downwards c.find_start_of_upward_scan-start.new.seat.known m (first_key_of c.args.scan.now.range.now) c.args.way.now c.args.found.number (record { level = c.find_start_of_upward_scan-start.result.level; top = c.find_start_of_upward_scan-start.result.top; leaf = c.is_none.result })) [
       | None ↦ λ none. turns_same c.args.scan.now.table.now.layout c.args.seat.now.known c.find_start_of_upward_scan-start.new.seat.known m (first_key_of c.args.scan.now.range.now) c.args.way.now c.args.found.number v c.args.found.mismatch w (reads_later r) possible c.find_start_of_upward_scan-start.result s _ there c.if-start.true none c.is_none.result (is_true c.is_none.result (subst (λ (z : Option ℕ). is_some z ≡ not c.is_none.result) none c.is_none.ensures))

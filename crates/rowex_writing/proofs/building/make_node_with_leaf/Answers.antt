@@ -13,8 +13,8 @@ use Rattle.rowex_writing.proofs.Remade.{fits_leaf, growing_leaf, just_affected, 
 use Rattle.rowex_writing.proofs.building.make_node_with_leaf.Goals as goal
 
 -- the affected entries, which the words of the head tell
-affects : (words : List ℕ) (node : NodeView) (new : NewLeaf) (first last : ℕ) → AwaitsLeaf words node new → InNodesOf (take 25 words) (λ v. affected_first new.position new.at (piece v) ≡ first) →
-    InNodesOf (take 25 words) (λ v. affected_count new.position new.at (piece v) + first ≡ last + 1) → AffectsJust new.key.now new.position first last (piece node)
+affects : (words : List ℕ) (node : NodeView) (new : NewLeaf) (first last : ℕ) → AwaitsLeaf words node new → InNodesOf (take 25 words) (λ v. affected_first new.position new.slot (piece v) ≡ first) →
+    InNodesOf (take 25 words) (λ v. affected_count new.position new.slot (piece v) + first ≡ last + 1) → AffectsJust new.key.now new.position first last (piece node)
 affects words node new first last takes from upto =
     let head = head_part node words takes.is.spells in just_affected takes.leads (from node takes.is.has.lawful head) (upto node takes.is.has.lawful head)
 

@@ -12,7 +12,7 @@ use Rattle.rowex_writing.proofs.Locking.{locked_on, reads_none, reads_more, seat
 use Rattle.rowex_writing.proofs.checking.entries_stand.Goals as goal
 
 abbrev no_step : PathNode
-no_step = record { number = 0; height = 0; first_position = 0; count = 0; at = 0 }
+no_step = record { number = 0; height = 0; first_position = 0; count = 0; slot = 0 }
 
 there : (way : List PathNode) (i len : ℕ) (d : PathNode) → i < len → len ≤ length way → slice_get way i ≡ Some (get_or way i d)
 there way i len d low high = slice_get-get_or way i d (omega arith)
@@ -72,7 +72,7 @@ loop-index-preserved g c =
           (λ s at words h.
           let same : get_or c.args.job.now.way.now c.loop-index.index no_step ≡ s = get_or_from_slice_get c.args.job.now.way.now c.loop-index.index s no_step at in
           let locked = locked_on c.args.seat.now.known c.loop-index.seat.known s.number words i.reads.goes.stays.1 h in
-          sym c.naming_entry-entry.ensures ∙ subst (λ (z : PathNode). HasLocked c.loop-index.seat.known z.number words → c.naming_entry-entry.result ≡ Some (entry_at (node_words_of words).subtrie z.at)) same
+          sym c.naming_entry-entry.ensures ∙ subst (λ (z : PathNode). HasLocked c.loop-index.seat.known z.number words → c.naming_entry-entry.result ≡ Some (entry_at (node_words_of words).subtrie z.slot)) same
           (e.same c.if-not-entry_stands.false words) locked);
     }
 

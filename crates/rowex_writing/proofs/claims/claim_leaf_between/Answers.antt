@@ -1,6 +1,6 @@
 -- No class yet; one more in which no record is free; and one in which one is.
 use Rattle.std.proofs.Common.{◌+◌, arith, refl, ◌∙◌}
-use Rattle.versions.specs.declared.Rec.TheVariants.{Leaf as a_leaf}
+use Rattle.record_words.specs.declared.records.Rec.TheVariants.{Leaf as a_leaf}
 use Rattle.rowex_records.specs.Claims.{IsAnothersTo}
 use Rattle.rowex_records.proofs.Claimed.{missed_before, more_since}
 use Rattle.rowex_writing.proofs.Classes.{missed_more}
@@ -24,7 +24,7 @@ loop-first-preserved g c =
       within = (omega (arith, i.within.0, c.class_end.ensures.upto.0, c.loop-first-test.true, c.min-end.ensures), omega (arith, c.min-end.ensures));
       goes = goes_more table g.G.Gate.becomes _ _ _ i.goes goes;
       own = c.in_default.ensures.claims.0 ∙ i.own;
-      missed = missed_more table g.G.Gate.becomes (IsAnothersTo table.layout c.args.seat.now.known) c.args.from c.loop-first.first c.min-end.result c.args.seat.now.known.steps (c.loop-first.seat, c.loop-first.gate) (c.claim_by_hint.new.seat, c.claim_by_hint.new.gate)
+      missed = missed_more table g.G.Gate.becomes (IsAnothersTo table.layout c.args.seat.now.known) c.args.numbers.start c.loop-first.first c.min-end.result c.args.seat.now.known.steps (c.loop-first.seat, c.loop-first.gate) (c.claim_by_hint.new.seat, c.claim_by_hint.new.gate)
           i.later goes i.missed (λ q low. missed_before table.layout c.args.seat.now.known c.loop-first.seat.known c.claim_by_hint.new.seat.known.failed (a_leaf (c.loop-first.first + q)) c.loop-first.seat.known.steps
           i.goes.stays.0.pass i.own i.goes.stays.1 (c.in_default.ensures.claims.1 q low));
       count = omega (arith, i.within.0, i.count, c.claim_by_hint.ensures.few, c.class_end.ensures.upto.0, c.loop-first-test.true, c.min-end.ensures);

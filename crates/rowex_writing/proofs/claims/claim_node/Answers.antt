@@ -1,6 +1,6 @@
 -- A record is claimed; or none was free, and those that are made are looked at.
 use Rattle.std.proofs.Common.{ℕ, Option, sym, subst, Contains}
-use Rattle.versions.specs.declared.Rec.{Rec as Record}
+use Rattle.record_words.specs.declared.records.Rec.{Rec as Record}
 use Rattle.rowex_records.specs.Claims.{HasMissedSince, IsAnothersBut}
 use Rattle.rowex_records.proofs.Claimed.{missed_earlier}
 use Rattle.rowex_writing.specs.Building.{IsBuilding}

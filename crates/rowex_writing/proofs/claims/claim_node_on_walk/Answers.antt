@@ -2,7 +2,7 @@
 use Rattle.rowex_writing.proofs.Spare.{goes_room, walk_finds}
 use Rattle.std.proofs.Common.{◌∙◌, arith}
 use Rattle.std.proofs.lemmas.List.Elements.{Contains-append_left}
-use Rattle.versions.specs.declared.Rec.TheVariants.{Node as a_node}
+use Rattle.record_words.specs.declared.records.Rec.TheVariants.{Node as a_node}
 use Rattle.rowex_records.proofs.Claimed.{claims_holds, more_since}
 use Rattle.rowex_writing.proofs.Counting.{claims_count, none_count}
 use Rattle.rowex_writing.proofs.Locking.{goes_more, seat_of}

@@ -1,8 +1,8 @@
 -- The last spare one, the walk, and those that are made.
 use Rattle.rowex_writing.proofs.Spare.{free_found}
 use Rattle.std.proofs.Common.{ℕ, Option, ap, refl, sym, subst, ◌∙◌, arith, Contains, length}
-use Rattle.versions.specs.declared.Rec.{Rec as Record}
-use Rattle.versions.specs.declared.Rec.TheVariants.{Node as a_node}
+use Rattle.record_words.specs.declared.records.Rec.{Rec as Record}
+use Rattle.record_words.specs.declared.records.Rec.TheVariants.{Node as a_node}
 use Rattle.rowex_records.specs.Claims.{HasMissedSince, IsAnothersBut}
 use Rattle.rowex_records.proofs.Claimed.{missed_earlier}
 use Rattle.rowex_writing.specs.Building.{IsBuilding}

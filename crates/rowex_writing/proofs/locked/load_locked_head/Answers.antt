@@ -1,6 +1,7 @@
 -- The first word, and those behind it.
 use Rattle.std.proofs.Common.{◌∙◌, ap, arith, set, subst, sym}
 use Rattle.record_words.specs.Kinds.{head_size}
+use Rattle.rowex_table.specs.Rule.{record_number}
 use Rattle.rowex_writing.specs.Loads.{AreRead}
 use Rattle.rowex_writing.proofs.Locking.{none_read, one_read, seat_of}
 use Rattle.rowex_writing.proofs.locked.load_locked_head.Given as given
@@ -8,12 +9,12 @@ use Rattle.rowex_writing.proofs.locked.load_locked_head.Goals as goal
 use Rattle.rowex_writing.proofs.locked.load_locked_head.Goals.{After-read_numbers}
 
 module _ (g : given.Over) (c : After-read_numbers g) where
-  first : AreRead c.args.table.now g.G.Gate.becomes (c.args.seat.now, c.args.gate.now) (c.load_locked_word.new.seat, c.load_locked_word.new.gate) c.args.node.number (set c.args.words.now 0 c.load_locked_word.result) 1
+  first : AreRead c.args.table.now g.G.Gate.becomes (c.args.seat.now, c.args.gate.now) (c.load_locked_word.new.seat, c.load_locked_word.new.gate) (record_number c.args.node.rec) (set c.args.words.now 0 c.load_locked_word.result) 1
   first =
       let e = c.load_locked_word.ensures in
-      one_read c.args.table.now g.G.Gate.becomes (c.args.seat.now, c.args.gate.now) (c.args.seat.now, c.args.gate.now) (c.load_locked_word.new.seat, c.load_locked_word.new.gate) c.args.node.number c.args.words.now 0 c.load_locked_word.result
-      (subst (λ ws. AreRead c.args.table.now g.G.Gate.becomes (c.args.seat.now, c.args.gate.now) (c.args.seat.now, c.args.gate.now) c.args.node.number ws 0) (sym c.requires.empty)
-      (none_read c.args.table.now g.G.Gate.becomes (c.args.seat.now, c.args.gate.now) c.args.node.number c.requires.own))
+      one_read c.args.table.now g.G.Gate.becomes (c.args.seat.now, c.args.gate.now) (c.args.seat.now, c.args.gate.now) (c.load_locked_word.new.seat, c.load_locked_word.new.gate) (record_number c.args.node.rec) c.args.words.now 0 c.load_locked_word.result
+      (subst (λ ws. AreRead c.args.table.now g.G.Gate.becomes (c.args.seat.now, c.args.gate.now) (c.args.seat.now, c.args.gate.now) (record_number c.args.node.rec) ws 0) (sym c.requires.empty)
+      (none_read c.args.table.now g.G.Gate.becomes (c.args.seat.now, c.args.gate.now) (record_number c.args.node.rec) c.requires.own))
       (omega arith) e.reads e.word e.spelled e.few
 
 pub load_rest_of_head-requires-clause-own : goal.load_rest_of_head-requires-clause-own

@@ -1,7 +1,8 @@
 -- All words, of the head and then of entries.
 use Rattle.std.proofs.Common.{◌≡◌, ◌≤◌, ◌+◌, ◌%◌, ap, get_or, inl, length, refl, sym, ◌∙◌, subst, arith, ⊎_elim}
 use Rattle.record_words.proofs.Spelled.{entries_counted}
-use Rattle.rowex_writing.specs.Going.{IsNodeOf}
+use Rattle.rowex_table.specs.Rule.{record_number}
+use Rattle.rowex_writing.specs.Going.{HasLocked, IsNodeOf}
 use Rattle.rowex_writing.specs.Loads.{AreThose}
 use Rattle.rowex_writing.proofs.Locking.{all_read}
 use Rattle.rowex_writing.proofs.locked.load_locked_node_words.Goals as goal
@@ -9,18 +10,20 @@ use Rattle.rowex_writing.proofs.locked.load_locked_node_words.Goals as goal
 -- The words of the head have been loaded, and then those of entries.
 pub returns-clause-words : goal.returns-clause-words
 returns-clause-words g c = λ words h.
+    let there = subst (λ q. HasLocked c.args.seat.now.known q words) (sym (ap record_number c.locate-node.ensures.rec)) h in
     let head = c.load_locked_head.ensures in
-    let first : AreThose c.load_locked_head.new.words words 25 = head.those words h in
+    let first : AreThose c.load_locked_head.new.words words 25 = head.those words there in
     let (view, is) = first.spelled (omega arith) in
     let told : get_or c.load_locked_head.new.words 0 0 % 256 ≡ length view.entries = ap (λ z. z % 256) (first.each 0 (omega arith)) ∙ entries_counted view words is.has is.spells in
     let (n, read, high, upto) = c.load_eight_words-4.ensures.reads _ (c.load_eight_words-3.ensures.reads _ (c.load_eight_words-2.ensures.reads _ (c.load_eight_words.ensures.reads _ (25, head, omega arith, inl refl)))) in
     let past : 25 + get_or c.load_locked_head.new.words 0 0 % 256 ≤ n = ⊎_elim (λ (all : n ≡ 57). omega (arith, all, told, is.has.lawful.room)) (λ past. omega (arith, past, c.entries_end-end.ensures, c.read_numbers.ensures.parts.0)) upto in
-    all_read c.args.table.now g.G.Gate.becomes (c.args.seat.now, c.args.gate.now) (c.load_eight_words-4.new.seat, c.load_eight_words-4.new.gate) c.args.number c.load_eight_words-4.new.words n read words view h is (omega (arith, told, past))
+    all_read c.args.table.now g.G.Gate.becomes (c.args.seat.now, c.args.gate.now) (c.load_eight_words-4.new.seat, c.load_eight_words-4.new.gate) (record_number c.locate-node.result.rec) c.load_eight_words-4.new.words n read words view there is (omega (arith, told, past))
 
 pub returns-clause-node : goal.returns-clause-node
 returns-clause-node g c =
     let (words, h) = c.requires.locked in
-    let (view, is) = (c.load_locked_head.ensures.those words h).spelled (omega arith) in
+    let there = subst (λ q. HasLocked c.args.seat.now.known q words) (sym (ap record_number c.locate-node.ensures.rec)) h in
+    let (view, is) = (c.load_locked_head.ensures.those words there).spelled (omega arith) in
     (view, subst (λ ws. IsNodeOf ws view) (sym (returns-clause-words g c words h)) is)
 
 pub returns-clause-reads : goal.returns-clause-reads

@@ -7,22 +7,22 @@ use Rattle.rowex_writing.proofs.Heading.{head_word, row_within}
 use Rattle.rowex_writing.proofs.Locking.{reads_none, seat_of}
 use Rattle.rowex_writing.proofs.locked.load_row.Goals as goal
 
-pub returns-then-at-ge-MAX_ENTRIES : goal.returns-then-at-ge-MAX_ENTRIES
-returns-then-at-ge-MAX_ENTRIES g c = record {
+pub returns-then-slot-ge-MAX_ENTRIES : goal.returns-then-slot-ge-MAX_ENTRIES
+returns-then-slot-ge-MAX_ENTRIES g c = record {
   own = c.requires.own;
   reads = reads_none c.args.table.now g.G.Gate.becomes (c.args.seat.now, c.args.gate.now);
-  row = λ view (words, h, is) told. sym (get_or_past view.rows c.args.at 4294967295 (omega (arith, c.if-at-ge-MAX_ENTRIES.true, same_count view is.has.lawful, is.has.lawful.room)));
+  row = λ view (words, h, is) told. sym (get_or_past view.rows c.args.slot 4294967295 (omega (arith, c.if-slot-ge-MAX_ENTRIES.true, same_count view is.has.lawful, is.has.lawful.room)));
   few = omega arith;
 }
 
 pub load_locked_word-word-requires-clause-index : goal.load_locked_word-word-requires-clause-index
 load_locked_word-word-requires-clause-index g c =
-    let within = row_within c.args.numbers.kind c.args.at (omega (arith, c.if-at-ge-MAX_ENTRIES.false)) in omega (arith, c.index_of_row-index.ensures, within)
+    let within = row_within c.args.numbers.kind c.args.slot (omega (arith, c.if-slot-ge-MAX_ENTRIES.false)) in omega (arith, c.index_of_row-index.ensures, within)
 
 pub returns-clause-own : goal.returns-clause-own
 returns-clause-own g c = seat_of c.args.table.now g.G.Gate.becomes (c.args.seat.now, c.args.gate.now) (c.load_locked_word-word.new.seat, c.load_locked_word-word.new.gate) c.load_locked_word-word.ensures.reads.goes c.requires.own
 
 pub returns-clause-row : goal.returns-clause-row
 returns-clause-row g c = λ view (words, h, is) told.
-    c.row_of.ensures view is.has.lawful told (head_word view words is (rows_from c.args.numbers.kind + c.args.at / rows_a_word c.args.numbers.kind) (row_within c.args.numbers.kind c.args.at (omega (arith, c.if-at-ge-MAX_ENTRIES.false)))
+    c.row_of.ensures view is.has.lawful told (head_word view words is (rows_from c.args.numbers.kind + c.args.slot / rows_a_word c.args.numbers.kind) (row_within c.args.numbers.kind c.args.slot (omega (arith, c.if-slot-ge-MAX_ENTRIES.false)))
     ∙ (ap (λ i. get_or words i 0) (sym c.index_of_row-index.ensures) ∙ sym (c.load_locked_word-word.ensures.word words h)))

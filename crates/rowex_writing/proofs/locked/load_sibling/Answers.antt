@@ -1,5 +1,7 @@
 -- The rows round the place tell it.
-use Rattle.std.proofs.Common.{◌∙◌, ap, get_or}
+use Rattle.std.proofs.Common.{◌∙◌, ap, get_or, subst, sym}
+use Rattle.rowex_table.specs.Rule.{record_number}
+use Rattle.rowex_writing.specs.Going.{HasLocked}
 use Rattle.rowex_writing.proofs.Locking.{locked_on, reads_more}
 use Rattle.rowex_writing.proofs.locked.load_sibling.Goals as goal
 
@@ -15,9 +17,10 @@ returns-clause-reads g c =
 
 pub returns-clause-beside : goal.returns-clause-beside
 returns-clause-beside g c = λ node (words, h, is) inside.
-    let n = c.args.number in
-    let told = c.load_numbers-numbers.ensures.numbers node (words, h, is) in
-    let before = locked_on c.args.seat.now.known c.load_numbers-numbers.new.seat.known n words c.load_numbers-numbers.ensures.reads.goes.stays.1 h in
+    let n = record_number c.locate-node.result.rec in
+    let there = subst (λ q. HasLocked c.args.seat.now.known q words) (sym (ap record_number c.locate-node.ensures.rec)) h in
+    let told = c.load_numbers-numbers.ensures.numbers node (words, there, is) in
+    let before = locked_on c.args.seat.now.known c.load_numbers-numbers.new.seat.known n words c.load_numbers-numbers.ensures.reads.goes.stays.1 there in
     let own = locked_on c.load_numbers-numbers.new.seat.known c.load_row-before.new.seat.known n words c.load_row-before.ensures.reads.goes.stays.1 before in
     let after = locked_on c.load_row-before.new.seat.known c.load_row-own.new.seat.known n words c.load_row-own.ensures.reads.goes.stays.1 own in
     let second = locked_on c.load_row-own.new.seat.known c.load_row-after.new.seat.known n words c.load_row-after.ensures.reads.goes.stays.1 after in

@@ -42,7 +42,7 @@ loop-index-init g c = record {
 
 -- the node of the way at an index, to which the pass was led
 abbrev no_step : PathNode
-no_step = record { number = 0; height = 0; first_position = 0; count = 0; at = 0 }
+no_step = record { number = 0; height = 0; first_position = 0; count = 0; slot = 0 }
 
 pub lock_node-requires-clause-range : goal.lock_node-requires-clause-range
 lock_node-requires-clause-range g c =

@@ -35,7 +35,7 @@ load_locked_entry-requires-clause-place g c =
     let there = locked_on c.args.seat.now.known c.load_sibling.new.seat.known (upper c.args.job.now).number words c.load_sibling.ensures.reads.goes.stays.1 h in (
       _,
       (upper c.args.job.now).height,
-      upper_place c.args.table.now c.load_sibling.new.seat c.args.job.now now words there c.in-Some.place (place_shown c.args.table.now c.args.seat.now c.args.job.now c.requires.takes words h view node c.in-Some.place c.in-Some.column forks),
+      upper_place c.args.table.now c.load_sibling.new.seat c.args.job.now now words there c.in-Some.slot (place_shown c.args.table.now c.args.seat.now c.args.job.now c.requires.takes words h view node c.in-Some.slot c.in-Some.column forks),
     )
 
 pub load_locked_entry-requires-clause-locked : goal.load_locked_entry-requires-clause-locked
@@ -58,7 +58,7 @@ load_fixed-word-requires-clause-range g c =
     let forks = c.in-Some.ensures.beside view (words, h, node) (upper_within c.args.table.now c.args.seat.now c.args.job.now c.requires.takes words h view node) in
     let there = locked_on c.args.seat.now.known c.load_sibling.new.seat.known (upper c.args.job.now).number words c.load_sibling.ensures.reads.goes.stays.1 h in
     let p = c.requires.takes.2 in
-    let is = sibling_is c.args.table.now c.args.seat.now c.args.job.now c.requires.takes words h view node c.in-Some.place c.in-Some.column forks c.in-Node.number c.in-Node.height (c.in-Node.ensures.entry words there) in
+    let is = sibling_is c.args.table.now c.args.seat.now c.args.job.now c.requires.takes words h view node c.in-Some.slot c.in-Some.column forks c.in-Node.number c.in-Node.height (c.in-Node.ensures.entry words there) in
     let low : c.in-Node.number < c.args.table.now.layout.nodes = beside_in_table c.args.table.now.layout c.args.seat.now.known p.core p.lawful p.layout_is p.knows c.args.job.now.key.now (upper c.args.job.now).number c.in-Node.number _ c.in-Node.height words h is in
     search (rules, low)
 
@@ -82,7 +82,7 @@ load_position-position-requires-clause-column g c =
     let (words, h) = upper_held c.args.table.now c.args.seat.now c.args.job.now c.requires.takes in
     let (view, node) = locked_node c.args.table.now.layout c.args.seat.now.known (upper c.args.job.now).number words c.requires.takes.2 h in
     let forks = c.in-Some.ensures.beside view (words, h, node) (upper_within c.args.table.now c.args.seat.now c.args.job.now c.requires.takes words h view node) in
-    column_few c.args.table.now c.args.seat.now c.args.job.now c.requires.takes words h view node c.in-Some.place c.in-Some.column forks
+    column_few c.args.table.now c.args.seat.now c.args.job.now c.requires.takes words h view node c.in-Some.slot c.in-Some.column forks
 
 pub returns-clause-reads : goal.returns-clause-reads
 returns-clause-reads g c =
@@ -100,5 +100,5 @@ returns-clause-beside g c =
     (reads_fixed c.args.table.now g.G.Gate.becomes c.in-Node.number 1 c.load_fixed-word.result (c.load_locked_entry.new.seat, c.load_locked_entry.new.gate) (c.load_fixed-word.new.seat, c.load_fixed-word.new.gate) c.load_fixed-word.ensures)).goes.stays.1 in
     let then = locked_on c.args.seat.now.known c.load_fixed-word.new.seat.known (upper c.args.job.now).number words upto h in
     beside_on c.args.seat.now.known c.load_position-position.new.seat.known c.args.job.now _ (c.load_position-position.ensures.reads.goes.stays.1 ∙ upto)
-    (found_beside c.args.table.now c.args.seat.now c.args.job.now c.requires.takes words h view node c.in-Some.place c.in-Some.column forks c.in-Node.number c.in-Node.height c.load_position-position.result
+    (found_beside c.args.table.now c.args.seat.now c.args.job.now c.requires.takes words h view node c.in-Some.slot c.in-Some.column forks c.in-Node.number c.in-Node.height c.load_position-position.result
     (c.load_position-position.ensures.position view (words, then, node)) (c.in-Node.ensures.entry words there))

@@ -1,7 +1,7 @@
 -- The node of both in the record that is claimed, and what is left of the upper one.
 use Rattle.std.proofs.Common.{◌∷◌, [], ◌++◌, ap, arith, length, refl, subst, sym, ◌∙◌}
 use Rattle.compound_node.specs.declared.entries.Entry.TheVariants.{Node}
-use Rattle.versions.specs.declared.Rec.TheVariants.{Node as a_node}
+use Rattle.record_words.specs.declared.records.Rec.TheVariants.{Node as a_node}
 use Rattle.publish_laws.specs.Rises.{made_of_node}
 use Rattle.rowex_writing.specs.Building.{IsBuilding}
 use Rattle.rowex_writing.specs.Merging.{ClosesFork, upper}
@@ -53,7 +53,7 @@ raise_closed_fork-requires-clause-closes g c =
     let goes = goes_more c.args.table.now g.G.Gate.becomes (c.args.seat.now, c.args.gate.now) (c.merge_siblings.new.seat, c.merge_siblings.new.gate) (c.fill_node.new.seat, c.fill_node.new.gate) c.merge_siblings.ensures.reads.goes
     (set_all_on c.args.table.now g.G.Gate.becomes _ _ _ _ c.fill_node.ensures.fills) in (
       c.args.job.now.key.now,
-      subst (λ h. ClosesFork c.fill_node.new.seat.known c.args.job.now.key.now (record { step = upper c.args.job.now; place = c.args.merge.now.place; entry = Node c.args.left.now.number h })) (sym c.height.ensures)
+      subst (λ h. ClosesFork c.fill_node.new.seat.known c.args.job.now.key.now (record { step = upper c.args.job.now; slot = c.args.merge.now.slot; entry = Node c.args.left.now.number h })) (sym c.height.ensures)
           (closes_for c.args.table.now g.G.Gate.becomes (c.args.seat.now, c.args.gate.now) (c.fill_node.new.seat, c.fill_node.new.gate) c.args.job.now c.args.merge.now goes c.requires.wide c.requires.beside c.in_ok-joined.joined c.in_ok-joined.ensures.joined c.args.left.now.number),
     )
 

@@ -27,7 +27,7 @@ returns-then-count-gt32-clause-none g c = λ e node other (words, h, is) (also, 
     let left = c.requires.left.built in
     let same = c.read_node-left.ensures.only left.node left.has left.spells in
     let node_is : (ws : List ℕ) → HasLocked c.args.seat.now.known (lower c.args.job.now).number ws → IsNodeOf ws node = λ ws i. subst (λ z. IsNodeOf z node) (same_words c.args.table.now.layout c.args.seat.now.known (lower c.args.job.now).number words ws c.requires.wide.possible h i) is in
-    too_many words also node node c.read_locked_node-other.result other c.read_node-left.result (lower c.args.job.now).at is is (c.read_locked_node-other.ensures.node also k) there
+    too_many words also node node c.read_locked_node-other.result other c.read_node-left.result (lower c.args.job.now).slot is is (c.read_locked_node-other.ensures.node also k) there
     (left_built c.args.table.now c.args.seat.now c.args.job.now c.args.merge.now.number c.requires.wide c.args.left.now c.requires.left node node_is c.read_node-left.result same) (omega arith)
 
 pub merge_sides-requires-clause-after : goal.merge_sides-requires-clause-after

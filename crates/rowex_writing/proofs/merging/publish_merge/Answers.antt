@@ -1,6 +1,6 @@
 -- What is stored above the upper node.
 use Rattle.rowex_writing.specs.Merging.{upper}
-use Rattle.versions.specs.declared.Rec.TheVariants.{Node as a_node}
+use Rattle.record_words.specs.declared.records.Rec.TheVariants.{Node as a_node}
 use Rattle.versions.specs.Trades.{IsOneOf}
 use Rattle.rowex_writing.specs.Spare.{by_gone}
 use Rattle.std.proofs.Common.{◌-◌, length, ap, arith, inl, refl, subst, sym}

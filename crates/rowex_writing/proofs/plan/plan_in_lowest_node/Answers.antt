@@ -7,7 +7,7 @@ use Rattle.rowex_writing.proofs.Planning.{low_full, low_room}
 use Rattle.rowex_writing.proofs.plan.plan_in_lowest_node.Goals as goal
 
 no_step : PathNode
-no_step = record { number = 0; height = 0; first_position = 0; count = 0; at = 0 }
+no_step = record { number = 0; height = 0; first_position = 0; count = 0; slot = 0 }
 
 here : (way : List PathNode) (level : ℕ) → level + 1 ≡ length way → slice_get way level ≡ Some (get_or way level no_step)
 here way level last = slice_get-get_or way level no_step (omega arith)

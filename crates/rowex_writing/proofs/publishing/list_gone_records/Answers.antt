@@ -2,8 +2,8 @@
 use Rattle.std.proofs.Common.{◌≡◌, ◌∙◌, ◌++◌, ◌∷◌, [], ◌+◌, ◌<◌, ◌≤◌, ℕ, List, ap, get_or, length, map, sym, take}
 use Rattle.std.proofs.lemmas.List.{append-nil, map_more, take_all}
 use Rattle.insert_cases.specs.declared.choice.PathNode.{PathNode}
-use Rattle.versions.specs.declared.Rec.{Rec}
-use Rattle.versions.specs.declared.Rec.TheVariants.{Node as a_node, Leaf as a_leaf}
+use Rattle.record_words.specs.declared.records.Rec.{Rec}
+use Rattle.record_words.specs.declared.records.Rec.TheVariants.{Node as a_node, Leaf as a_leaf}
 use Rattle.rowex_writing.specs.Deeds.{leaf_gone}
 use Rattle.rowex_writing.proofs.publishing.list_gone_records.Goals as goal
 

@@ -5,7 +5,7 @@ use Rattle.std.proofs.lemmas.Bool.{cases_lt, false≢true}
 use Rattle.std.proofs.lemmas.List.{get_or-take, take-take, take_all}
 use Rattle.std.proofs.lemmas.Option.{get_or_from_slice_get}
 use Rattle.rowex_writing.proofs.Locking.{goes_none, seat_of}
-use Rattle.versions.specs.declared.Rec.{Rec}
+use Rattle.record_words.specs.declared.records.Rec.{Rec}
 use Rattle.rowex_core.specs.Cores.{FitsIn, HasRecord}
 use Rattle.rowex_writing.proofs.Readying.{AreReadied, none_readied, next_rights, readied_goes, readied_more, all_readied}
 use Rattle.rowex_table.proofs.Running.{does_count}

@@ -24,11 +24,11 @@ drop_entry-requires g c =
     let (key, leads) = c.requires.place in
     let (words, h) = c.requires.locked in
     let shown = words_shown c.args.seat.now.known c.args.step.number c.load_locked_node_words.ensures.words view is words h in
-    (view, is.has, is.spells, subst (λ i. i < length view.entries) (leads_there key c.args.step.at view shown (leads words h)) (subst (λ n. spot key (piece view) < n) (size-piece view is.has.lawful) (spot_below key (piece view))))
+    (view, is.has, is.spells, subst (λ i. i < length view.entries) (leads_there key c.args.step.slot view shown (leads words h)) (subst (λ n. spot key (piece view) < n) (size-piece view is.has.lawful) (spot_below key (piece view))))
 
 pub returns-clause-left : goal.returns-clause-left
 returns-clause-left g c = λ key words leads h.
     let (view, is) = c.load_locked_node_words.ensures.node in
     let shown = words_shown c.args.seat.now.known c.args.step.number c.load_locked_node_words.ensures.words view is words h in
     subst (λ (y : Subtrie). SpellLeft c.drop_entry.new.words c.drop_entry.result (subtrie_without key y)) (sym (ap (λ (z : NodeWords). z.subtrie) shown.shows))
-    (left_subtrie key view c.args.step.at c.drop_entry.new.words c.drop_entry.result (leads_there key c.args.step.at view shown (leads words h)) (c.drop_entry.ensures view is.has is.spells))
+    (left_subtrie key view c.args.step.slot c.drop_entry.new.words c.drop_entry.result (leads_there key c.args.step.slot view shown (leads words h)) (c.drop_entry.ensures view is.has is.spells))

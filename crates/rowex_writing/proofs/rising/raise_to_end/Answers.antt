@@ -1,13 +1,12 @@
 -- One level up, and at the end one entry.
 use Rattle.std.proofs.Common.{◌≡◌, ap, sym, subst, ◌∙◌, arith, refl, rules}
 use Rattle.std.specs.Prelude.{slice_get}
-use Rattle.std.proofs.lemmas.Option.{slice_get_within}
 use Rattle.insert_cases.specs.declared.choice.PathNode.{PathNode}
 use Rattle.insert_cases.proofs.Choosing.{some_injective}
 use Rattle.versions.specs.Trades.{IsOneOf}
 use Rattle.rowex_core.specs.Reading.{node_words_of}
 use Rattle.rowex_writing.specs.Going.{HasLocked}
-use Rattle.rowex_writing.proofs.Lifting.{fits_above, rises_here, rises_then, rising_on_at_end, settled_on, up_below, up_on, up_there, up_within}
+use Rattle.rowex_writing.proofs.Lifting.{fits_above, rises_here, rises_then, settled_on, up_below, up_on, up_there, up_within}
 use Rattle.rowex_writing.proofs.Walked.{makes_as, makes_failed, makes_none, makes_then}
 use Rattle.rowex_writing.proofs.rising.raise_to_end.Goals as goal
 
@@ -60,17 +59,8 @@ loop-rise-preserved g c =
     }
 
 -- ---- and at the end
-pub bounds-way-rise : goal.bounds-way-rise
-bounds-way-rise g c =
-    let u = (c.loop-rise.invariant.on c.requires.up).up in slice_get_within c.args.way.now c.loop-rise.rise.level u.step u.at
-
-pub offset_bounds-way-rise : goal.offset_bounds-way-rise
-offset_bounds-way-rise g c =
-    let u = (c.loop-rise.invariant.on c.requires.up).up in
-    let h = slice_get_within c.args.way.now c.loop-rise.rise.level u.step u.at in search (rules, h)
-
 pub make_one_entry-requires-clause-risen : goal.make_one_entry-requires-clause-risen
-make_one_entry-requires-clause-risen g c = rising_on_at_end (c.loop-rise.invariant.on c.requires.up).up
+make_one_entry-requires-clause-risen g c = let up = (c.loop-rise.invariant.on c.requires.up).up in (up.step.number, up.here)
 
 pub make_one_entry-requires-clause-room : goal.make_one_entry-requires-clause-room
 make_one_entry-requires-clause-room g c =
@@ -88,7 +78,7 @@ returns-clause-made g c = λ b.
     let on = c.loop-rise.invariant.on b in
     let upto = on.up.upto in
     settled_on on c.make_one_entry.new.seat c.make_one_entry.new.build.made.items c.make_one_entry.result (omega (arith, upto, c.loop-rise-test.false))
-    (c.make_one_entry.ensures.made (rising_on_at_end on.up))
+    (c.make_one_entry.ensures.made on.up.step.number on.up.here)
 
 pub returns-clause-low : goal.returns-clause-low
 returns-clause-low g c = λ s words at h.

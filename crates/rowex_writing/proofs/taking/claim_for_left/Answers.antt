@@ -1,7 +1,7 @@
 -- The walk begins, and what it claims is all that the pass has.
 use Rattle.std.proofs.Common.{◌≡◌, ◌∷◌, [], ap, arith, length, refl, subst, sym, ◌∙◌}
 use Rattle.record_words.specs.declared.layout.Layout.{Layout}
-use Rattle.versions.specs.declared.Rec.TheVariants.{Node as a_node}
+use Rattle.record_words.specs.declared.records.Rec.TheVariants.{Node as a_node}
 use Rattle.rowex_core.specs.declared.known.Holding.TheVariants.{Held}
 use Rattle.rowex_writing.specs.Building.{IsBuilding}
 use Rattle.rowex_writing.specs.Walks.{nodes_among}

@@ -4,7 +4,7 @@ use Rattle.compound_node.specs.declared.entries.Entry.TheVariants.{Node}
 use Rattle.record_words.proofs.Growing.{first_told}
 use Rattle.tries.specs.Content.{item}
 use Rattle.tries.specs.Place.{subtrie_without}
-use Rattle.versions.specs.declared.Rec.TheVariants.{Node as a_node}
+use Rattle.record_words.specs.declared.records.Rec.TheVariants.{Node as a_node}
 use Rattle.version_laws.specs.Writer.{removed_change}
 use Rattle.rowex_core.specs.Reading.{node_words_of}
 use Rattle.publish_laws.specs.Rises.{IsSide, anew, made_of_node}

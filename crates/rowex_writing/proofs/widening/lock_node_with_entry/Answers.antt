@@ -12,7 +12,7 @@ use Rattle.rowex_writing.proofs.widening.lock_node_with_entry.Goals as goal
 
 pub lock_node-requires-clause-may : goal.lock_node-requires-clause-may
 lock_node-requires-clause-may g c =
-    let (m, h, has) = c.requires.place in led_may_lock c.args.table.now.layout c.args.seat.now.known m c.args.step.number h has.0.0 (place_led c.args.seat.now.known m c.args.step.number h c.args.step.at has)
+    let (m, h, has) = c.requires.place in led_may_lock c.args.table.now.layout c.args.seat.now.known m c.args.step.number h has.0.0 (place_led c.args.seat.now.known m c.args.step.number h c.args.step.slot has)
 
 pub returns-then-not-lock_node-clause-tries : goal.returns-then-not-lock_node-clause-tries
 returns-then-not-lock_node-clause-tries g c = works_run c.args.table.now g.G.Gate.becomes (c.args.seat.now, c.args.gate.now) (c.lock_node.new.seat, c.lock_node.new.gate) c.lock_node.ensures.tries
@@ -34,7 +34,7 @@ entry_stands-requires-clause-possible g c =
 pub entry_stands-requires-clause-place : goal.entry_stands-requires-clause-place
 entry_stands-requires-clause-place g c =
     let (m, h, has) = c.requires.place in
-    (m, h, place_later c.args.seat.now.known c.lock_node.new.seat.known m c.args.step.number h c.args.step.at (works_later c.args.table.now g.G.Gate.becomes (c.args.seat.now, c.args.gate.now) (c.lock_node.new.seat, c.lock_node.new.gate) c.lock_node.ensures.tries) has)
+    (m, h, place_later c.args.seat.now.known c.lock_node.new.seat.known m c.args.step.number h c.args.step.slot (works_later c.args.table.now g.G.Gate.becomes (c.args.seat.now, c.args.gate.now) (c.lock_node.new.seat, c.lock_node.new.gate) c.lock_node.ensures.tries) has)
 
 pub entry_stands-requires-clause-locked : goal.entry_stands-requires-clause-locked
 entry_stands-requires-clause-locked g c =

@@ -2,7 +2,7 @@
 use Rattle.std.proofs.Common.{◌++◌, List, map}
 use Rattle.std.specs.List.{AllZip}
 use Rattle.std.specs.Vec.Iter.{into_iter_items}
-use Rattle.script_runs.specs.declared.together.Done.{Done}
+use Rattle.script_runs.specs.declared.answer.Done.{Done}
 use Rattle.script_runs.specs.Progress.{HasKept}
 use Rattle.script_runs.proofs.together.join_files.Given as goal
 

@@ -3,7 +3,7 @@ use Rattle.std.proofs.Common.{◌≡◌, ◌+◌, ◌<◌, ◌≤◌, [], ◌∷
 use Rattle.std.proofs.lemmas.List.{drop-set-lt, drop_all, drop_more, take_all, take_more_set}
 use Rattle.std.proofs.lemmas.List.Elements.{All-get_or, All-set}
 use Rattle.hot_index_calls.specs.Answers.{HaveMet}
-use Rattle.script_runs.specs.declared.together.Done.{Done}
+use Rattle.script_runs.specs.declared.answer.Done.{Done}
 use Rattle.script_runs.specs.Progress.{MeetInTurn}
 use Rattle.script_runs.proofs.together.meet_all_passes.Goals as goal
 

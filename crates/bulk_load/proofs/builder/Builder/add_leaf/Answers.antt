@@ -6,7 +6,7 @@ use Rattle.compound_node.specs.declared.entries.Entry.TheVariants.{Leaf}
 use Rattle.tries.specs.Content.{item}
 use Rattle.tries.specs.Keys.{IsParted}
 use Rattle.tries.specs.Tree.{leaf, fork}
-use Rattle.versions.specs.declared.Rec.TheVariants.{Leaf as a_leaf}
+use Rattle.record_words.specs.declared.records.Rec.TheVariants.{Leaf as a_leaf}
 use Rattle.bulk_load.specs.declared.builder.Part.{Part}
 use Rattle.bulk_load.specs.Loading.{IsStackOf, greatest_key}
 use Rattle.bulk_load.specs.Slots.{slot}

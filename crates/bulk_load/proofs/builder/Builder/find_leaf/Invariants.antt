@@ -3,7 +3,7 @@ use Rattle.std.proofs.Common.{◌≡◌, ℕ, ◌<◌, get_or}
 use Rattle.record_words.specs.declared.state.Tag.TheVariants.{Free}
 use Rattle.record_words.specs.Layout.{leaf_size}
 use Rattle.record_words.specs.State.{state_word}
-use Rattle.versions.specs.declared.Rec.TheVariants.{Leaf as a_leaf}
+use Rattle.record_words.specs.declared.records.Rec.TheVariants.{Leaf as a_leaf}
 use Rattle.bulk_load.specs.Tables.{leaf_class, state_in}
 use Rattle.bulk_load.proofs.builder.Builder.find_leaf.Given as goal
 

@@ -2,7 +2,7 @@
 use Rattle.std.proofs.Common.{inl, refl, rules}
 use Rattle.bulk_load.proofs.Cursors.{first_cursors}
 use Rattle.bulk_load.proofs.Opening.{first_free, holds_none}
-use Rattle.versions.specs.declared.Rec.TheVariants.{Leaf as a_leaf}
+use Rattle.record_words.specs.declared.records.Rec.TheVariants.{Leaf as a_leaf}
 use Rattle.bulk_load.proofs.builder.Builder.new.Goals as goal
 
 pub returns : goal.returns

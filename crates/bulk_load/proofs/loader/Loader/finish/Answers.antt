@@ -1,6 +1,6 @@
 -- The words are those of a load of the leaves that the builder had.
 use Rattle.std.proofs.Common.{◌≡◌, ◌<◌, ℕ, subst}
-use Rattle.versions.specs.declared.Rec.TheVariants.{Node as a_node}
+use Rattle.record_words.specs.declared.records.Rec.TheVariants.{Node as a_node}
 use Rattle.versions.specs.State.{IsLinked}
 use Rattle.versions.specs.Told.{items_of}
 use Rattle.rowex_core.specs.Events.{IsLoad, after, loaded_tree}

@@ -22,11 +22,11 @@ overflow_cast-result-2 c =
     record { fits = omega (arith, rows, c.last_of_run.ensures.in_range, length-leaves c.self.inside.count, room) }
 
 -- what the calls answered, in each node of the head
-range : (c : After-last_of_run) (node : NodeView) → IsLawfulNode node → head_of node ≡ c.args.self.now → IsRange node c.args.position c.args.found c.first_of_run.result c.last_of_run.result
-range c = range_of_head c.args.self.now c.args.position c.args.found c.count_columns_below-columns.result c.first_of_run.result c.last_of_run.result c.requires
+range : (c : After-last_of_run) (node : NodeView) → IsLawfulNode node → head_of node ≡ c.args.self.now → IsRange node c.args.position c.args.slot c.first_of_run.result c.last_of_run.result
+range c = range_of_head c.args.self.now c.args.position c.args.slot c.count_columns_below-columns.result c.first_of_run.result c.last_of_run.result c.requires
     (c.count_columns_below-columns.ensures.value ∙ ap (λ (h : HeadView). front_below c.args.position h.columns) c.self.view_is)
-    (subst (λ rows. IsRunStart rows c.count_columns_below-columns.result c.args.found c.first_of_run.result) c.rows-rows.ensures c.first_of_run.ensures)
-    (subst (λ rows. IsRunEnd rows c.count_columns_below-columns.result c.args.found c.last_of_run.result) c.rows-rows.ensures c.last_of_run.ensures)
+    (subst (λ rows. IsRunStart rows c.count_columns_below-columns.result c.args.slot c.first_of_run.result) c.rows-rows.ensures c.first_of_run.ensures)
+    (subst (λ rows. IsRunEnd rows c.count_columns_below-columns.result c.args.slot c.last_of_run.result) c.rows-rows.ensures c.last_of_run.ensures)
 
 pub returns-clause-range : goal.returns-clause-range
 returns-clause-range c = λ node lawful same. (range c node lawful same).range

@@ -1,6 +1,6 @@
 -- The value is stored where what names the leaf is locked.
 use Rattle.std.proofs.Common.{◌≡◌, refl, sym, set}
-use Rattle.versions.specs.declared.Rec.TheVariants.{Leaf as a_leaf}
+use Rattle.record_words.specs.declared.records.Rec.TheVariants.{Leaf as a_leaf}
 use Rattle.rowex_replay_state.specs.contracts.state.State.{the_view}
 use Rattle.rowex_replay_state.specs.Records.{with_words_in}
 use Rattle.rowex_replay_state.proofs.Valued.{not_named, not_there, value_steps}

@@ -5,4 +5,4 @@ use Rattle.rowex_table.specs.Seats.{TableView}
 use Rattle.rowex_table.proofs.table.HotTable.touch.Goals as goal
 
 pub peek-requires : goal.peek-requires
-peek-requires c = record_in_words _ _ _ c.args.rec _ _ c.self.invariant.0 (ap (λ (z : TableView). z.layout) c.self.view_is) c.requires.start c.requires.range
+peek-requires c = record_in_words _ _ _ c.args.at.rec _ _ c.self.invariant.0 (ap (λ (z : TableView). z.layout) c.self.view_is) c.requires.start c.requires.range

@@ -1,0 +1,9 @@
+//! What a list keeps of a pair beside the bytes of its key.
+
+/// How many bytes the key of a pair has, and its value. The fields have the order of C's.
+#[repr(C)]
+#[derive(Clone, Copy, Drop)]
+pub struct Head {
+    pub count: u8,
+    pub value: u64,
+}

@@ -1,0 +1,30 @@
+-- The key is past the range, or belongs to it, from its first key on.
+use Rattle.std.proofs.Common.{refl, sym, ◌∙◌}
+use Rattle.std.proofs.lemmas.Result.{err_from_is_err_and}
+use Rattle.rowex_scanning.specs.Scanning.{asked_range}
+use Rattle.rowex_scanning.proofs.Directed.{in_range}
+use Rattle.rowex_scanning.proofs.taking.take_pair_in_range.Goals as goal
+
+pub returns-then-is_past_range-clause-taken : goal.returns-then-is_past_range-clause-taken
+returns-then-is_past_range-clause-taken g c = (c.is_past_range.ensures.past c.if-is_past_range.true, (refl, λ taken said. said))
+
+pub returns-then-size-range-clause-taken : goal.returns-then-size-range-clause-taken
+returns-then-size-range-clause-taken g c = (
+  in_range c.args.range.now.direction (asked_range c.args.range.now) _ c.requires.reached (c.is_past_range.ensures.inside c.if-is_past_range.false),
+  sym c.size.ensures ∙ c.if-size-range.true,
+  (refl, λ taken said. said),
+)
+
+pub returns-in_err-take_pair-clause-refused : goal.returns-in_err-take_pair-clause-refused
+returns-in_err-take_pair-clause-refused g c = rw (err_from_is_err_and c.from_residual.result c.from_residual.ensures.1).1 (
+  in_range c.args.range.now.direction (asked_range c.args.range.now) _ c.requires.reached (c.is_past_range.ensures.inside c.if-is_past_range.false),
+  (λ e. c.if-size-range.false (c.size.ensures ∙ e)),
+  c.in_err-take_pair.ensures.err,
+)
+
+pub returns-clause-taken : goal.returns-clause-taken
+returns-clause-taken g c = (
+  in_range c.args.range.now.direction (asked_range c.args.range.now) _ c.requires.reached (c.is_past_range.ensures.inside c.if-is_past_range.false),
+  (λ e. c.if-size-range.false (c.size.ensures ∙ e)),
+  c.in_ok-take_pair.ensures.ok,
+)

@@ -1,0 +1,112 @@
+//! How the leaves that come next on a walk are read, and their pairs taken.
+
+ghost use Rattle.std.specs.Prelude.{◌≡◌, ◌≤◌, ◌*◌, ℕ, IfOk, List, OnErr, length, take};
+ghost use Rattle.compound_node.specs.declared.entries.Entry.TheVariants.{Leaf as LeafEntry};
+ghost use Rattle.insert_cases.specs.declared.choice.PathNode.{PathNode};
+ghost use Rattle.key_bits.specs.Key.{IsKey};
+ghost use Rattle.key_bits.specs.declared.TheConstants.{MAX_BYTES};
+ghost use Rattle.record_words.specs.declared.TheConstants.{LEAF_FIELDS};
+ghost use Rattle.rowex_reading.specs.Reads.{IsReader, Reads};
+ghost use Rattle.rowex_reading.specs.Seen.{IsLedTo};
+ghost use Rattle.rowex_scanning.specs.Ahead.{AreNext, AreTakenOnWays};
+ghost use Rattle.rowex_scanning.specs.Scanning.{HasTakenPart, IsLeafRefused, IsLeafTaken, IsPairRefused, IsPairTaken, IsReached, asked_range, first_key_of, request_of};
+ghost use Rattle.version_laws.specs.Directions.{IsNoLater};
+
+use crate::ahead::touch_leaves;
+use crate::scan::{Range, Scan, Verdict, is_past_range};
+use crate::tallies::Tallies;
+use key_bits::MAX_BYTES;
+use rowex_core::{Gate, Rec};
+use rowex_reading::load_leaf;
+use rowex_table::{RecordAt, TableSeat};
+use std::alloc::AllocError;
+
+/// Takes the pairs of `leaves` one by one, as `Sink::take_leaves` says. It touches them before.
+#[inline(always)]
+pub(crate) fn take_each_leaf<G: Gate, S: Tallies>(
+    scan: &Scan,
+    seat: &mut TableSeat,
+    gate: &mut G,
+    leaves: &[u32],
+    places: &mut [u8; MAX_BYTES],
+    sink: &mut S,
+) -> Result<Verdict, AllocError>
+    requires reader { IsReader scan.now.table.now seat.old }
+    requires origins { scan.now.origins.now.layout ≡ scan.now.table.now.layout }
+    requires next { (top : PathNode) × (frames : List PathNode) × AreNext seat.old.known (request_of scan.now.range.now) top frames (S.tally sink.old) leaves.now }
+    ensures reads { (n : ℕ) × (n ≤ LEAF_FIELDS * length leaves.now) × Reads scan.now.table.now G.becomes 0 n (seat.old, gate.old) (seat.new, gate.new) }
+    ensures taken { IfOk result (AreTakenOnWays seat.old.known seat.new.known (request_of scan.now.range.now) (S.tally sink.old) leaves.now (S.tally sink.new)) }
+    ensures part { OnErr result (HasTakenPart scan.now.range.now.direction seat.new.known (asked_range scan.now.range.now) (S.tally sink.new)) }
+    ensures refused { OnErr result S.may_refuse }
+{
+    touch_leaves(scan, leaves);
+    for index in 0..leaves.len() {
+        match take_leaf(scan, seat, gate, leaves[index], places, sink)? {
+            Verdict::Further => (),
+            Verdict::Past => return Ok(Verdict::Past),
+            Verdict::Full => return Ok(Verdict::Full),
+        }
+    }
+    Ok(Verdict::Further)
+}
+
+/// Loads leaf `number`, whose key does not come before `scan.range`, and gives its pair to `sink`, as [`take_pair_in_range`] does. Returns
+/// what becomes of the scan. An error if memory is refused. `places` is room for the key's bytes.
+///
+/// Keys of eight bytes are common: what is compiled for them alone has each as a number.
+#[inline(always)]
+pub(crate) fn take_leaf<G: Gate, S: Tallies>(
+    scan: &Scan,
+    seat: &mut TableSeat,
+    gate: &mut G,
+    number: u32,
+    places: &mut [u8; MAX_BYTES],
+    sink: &mut S,
+) -> Result<Verdict, AllocError>
+    requires reader { IsReader scan.now.table.now seat.old }
+    requires origins { scan.now.origins.now.layout ≡ scan.now.table.now.layout }
+    requires leaf { (m : ℕ) × IsLedTo seat.old.known m (LeafEntry number) ×
+        IsReached scan.now.range.now.direction scan.now.table.now.layout seat.old.known m (first_key_of scan.now.range.now) number }
+    requires few { (S.tally sink.old).size ≤ scan.now.range.now.limit }
+    ensures reads { (n : ℕ) × (n ≤ LEAF_FIELDS) × Reads scan.now.table.now G.becomes 0 n (seat.old, gate.old) (seat.new, gate.new) }
+    ensures taken { IfOk result (IsLeafTaken seat.old.known seat.new.known (request_of scan.now.range.now) number (S.tally sink.old) (S.tally sink.new)) }
+    ensures refused { OnErr result (IsLeafRefused seat.old.known seat.new.known (asked_range scan.now.range.now) number (S.tally sink.old) (S.tally sink.new)) }
+    ensures may { OnErr result S.may_refuse }
+{
+    let leaf = RecordAt::find(scan.origins, Rec::Leaf(number));
+    let (length, value) = load_leaf(scan.table, seat, gate, leaf, places);
+    if length == 8 {
+        return take_pair_in_range(sink, scan.range, places, 8, value);
+    }
+    take_pair_in_range(sink, scan.range, places, length, value)
+}
+
+/// Gives the pair of `value` and of the key in the first `length` bytes of `places` to `sink`, and returns `Further`. Gives none and returns
+/// `Past` where the key is past `range`, or `Full` where it is of the range and the limit is reached. An error, and none given, if memory
+/// is refused. The key does not come before the range. Inline, so that the key's bytes go at once from where they were read to their place
+/// among the pairs.
+#[inline(always)]
+pub(crate) fn take_pair_in_range<S: Tallies>(
+    sink: &mut S,
+    range: &Range,
+    places: &[u8; MAX_BYTES],
+    length: usize,
+    value: u64,
+) -> Result<Verdict, AllocError>
+    requires key { IsKey (take length places.now) }
+    requires fits { length ≤ MAX_BYTES }
+    requires reached { IsNoLater range.now.direction (first_key_of range.now) (take length places.now) }
+    requires few { (S.tally sink.old).size ≤ range.now.limit }
+    ensures taken { IfOk result (IsPairTaken (request_of range.now) (S.tally sink.old) (take length places.now) value (S.tally sink.new)) }
+    ensures refused { OnErr result (IsPairRefused (asked_range range.now) (S.tally sink.old) (take length places.now) (S.tally sink.new)) }
+    ensures may { OnErr result S.may_refuse }
+{
+    if is_past_range(range, &places[..length]) {
+        return Ok(Verdict::Past);
+    }
+    if sink.size() == range.limit {
+        return Ok(Verdict::Full);
+    }
+    sink.take_pair(places, length, value)?;
+    Ok(Verdict::Further)
+}
