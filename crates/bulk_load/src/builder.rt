@@ -6,7 +6,7 @@ ghost use Rattle.record_words.specs.declared.state.Tag.TheVariants.{Free as Free
 ghost use Rattle.record_words.specs.declared.TheConstants.{LEAF_CLASSES};
 ghost use Rattle.record_words.specs.State.{state_word};
 ghost use Rattle.std.specs.Prelude.{ℕ, ◌≡◌, ◌≢◌, ◌↔◌, ◌+◌, ◌≤◌, ◌<◌, ◌++◌, ◌∷◌, [], if◌then◌else◌, get_or, Err, IfOk, IfSome, IsNone, IsTrue, List, OnOk, OnErr, Option as Maybe, Some, length};
-ghost use Rattle.std.specs.Vec.{vec_len, vec_capacity};
+ghost use Rattle.std.specs.Vec.{vec_len};
 ghost use Rattle.bulk_load.specs.Finished.{IsFinished};
 ghost use Rattle.bulk_load.specs.Loading.{CanJoin, CanPart, HasCursors, HasNodesFor, HasSameFields, HasSpace, EndsInLeaf, IsAlone, IsJoined, IsLoading, IsPiece, IsNextLeaf, IsStackOf, IsTreeOf, KeepsLeaves, KeepsNodes, MayTakeNext, StandsFor};
 ghost use Rattle.bulk_load.specs.Stacks.{LeftPiece, whole_of, with_right};

@@ -1,6 +1,6 @@
 //! The words of a node record.
 
-ghost use Rattle.std.specs.Prelude.{ℕ, ◌≡◌, ◌↔◌, ◌+◌, ◌<◌, ◌≤◌, ◌/◌, ◌%◌, ◌++◌, ◌-◌, ◌⊎◌, ◌≢◌, IsTrue, List, drop, false, length, map, slice_get, slice_index, take};
+ghost use Rattle.std.specs.Prelude.{ℕ, ◌≡◌, ◌↔◌, ◌+◌, ◌<◌, ◌≤◌, ◌++◌, ◌-◌, ◌⊎◌, ◌≢◌, IsTrue, List, drop, false, length, map, slice_get, slice_index, take};
 ghost use Rattle.compound_node.specs.Forking.{forked_head};
 ghost use Rattle.compound_node.specs.Nodes.{NodeView, greatest_height, head_of, piece};
 ghost use Rattle.compound_node.specs.declared.entries.Entry.TheVariants.{Leaf as LeafEntry};

@@ -1,6 +1,6 @@
 //! Searching in the words of a head as they were loaded.
 
-ghost use Rattle.std.specs.Prelude.{◌≡◌, ◌+◌, ◌-◌, ◌*◌, ◌/◌, ◌%◌, ◌^◌, ◌<◌, ◌≤◌, ◌++◌, Bool, ℕ, length, replicate, slice_index};
+ghost use Rattle.std.specs.Prelude.{◌≡◌, ◌-◌, ◌*◌, ◌/◌, ◌%◌, ◌^◌, ◌<◌, ◌≤◌, ◌++◌, Bool, ℕ, length, replicate, slice_index};
 ghost use lib.Count.{count_leading_zeros};
 ghost use lib.Lanes.{digits_l, number_l};
 ghost use Rattle.compound_node.specs.Nodes.{piece};

@@ -5,7 +5,6 @@ ghost use Rattle.compound_node.specs.Beside.{IsBesideIn};
 ghost use Rattle.compound_node.specs.Nodes.{NodeView};
 ghost use Rattle.record_words.specs.HeadParts.{AreNumbersOf};
 ghost use Rattle.record_words.specs.Packed.{position_at, row_at};
-ghost use Rattle.record_words.specs.declared.records.Rec.TheVariants.{Node as a_node};
 ghost use Rattle.tries.specs.Place.{entry_at};
 ghost use Rattle.rowex_core.specs.Reading.{node_words_of};
 ghost use Rattle.rowex_reading.specs.Possible.{IsPossible};

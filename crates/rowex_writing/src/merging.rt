@@ -1,6 +1,6 @@
 //! The end of a removal by a merge: what is left of the leaf's node, and its sibling, become one node.
 
-ghost use Rattle.std.specs.Prelude.{◌≡◌, ◌≢◌, ◌<◌, ◌≤◌, ◌+◌, ◌-◌, ◌*◌, ◌++◌, ◌∷◌, [], ℕ, List, IfSome, MatchOption, None, false, true, length};
+ghost use Rattle.std.specs.Prelude.{◌≡◌, ◌<◌, ◌≤◌, ◌+◌, ◌-◌, ◌*◌, ◌++◌, ℕ, List, IfSome, None, false, true, length};
 ghost use Rattle.compound_node.specs.Nodes.{IsBuiltFrom, NodeView, piece};
 ghost use Rattle.node_tries.specs.Changes.{without};
 ghost use Rattle.node_tries.specs.Piece.{RisesFrom};
