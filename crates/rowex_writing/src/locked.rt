@@ -122,7 +122,8 @@ fn load_numbers<G: Gate>(
     read_numbers(load_locked_word(table, seat, gate, node, 0))
 }
 
-/// Loads the row of `slot` of the locked node `node`, whose head has `numbers`; 4,294,967,295 for an unused slot, and past the last one.
+/// Loads the row of `slot` of the locked node `node`, whose head has `numbers`, and returns it. It is 4,294,967,295 for an unused slot.
+/// A slot from `MAX_ENTRIES` on is unused, too, and nothing is loaded for it.
 #[inline(always)]
 fn load_row<G: Gate>(
     table: &HotTable,
