@@ -213,7 +213,7 @@ impl Builder {
     {
         for class in 0..LEAF_CLASSES {
             let number = self.leaves[class];
-            if self.is_free(class, number) && self.layout.leaf_size(number) >= words {
+            if self.layout.leaf_size(number) >= words && self.is_free(class, number) {
                 return Some(number);
             }
         }

@@ -288,9 +288,9 @@ fn publish_merge<G: Gate>(
     let store = Store {
         spot: spot_above(job.way, end),
         entry: Some(entry),
+        kept: &job.way[end.saturating_sub(1)..end],
     };
-    let kept = &job.way[end.saturating_sub(1)..end];
-    publish_entry(table, seat, gate, build, store, kept);
+    publish_entry(table, seat, gate, build, &store);
 }
 
 /// Lists in `build.gone` the records that a merge unlinks: those of both nodes of the span, sibling `number`, and the leaf.

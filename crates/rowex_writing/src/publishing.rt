@@ -88,49 +88,46 @@ pub(crate) fn publish_change<G: Gate>(
     let store = Store {
         spot: spot_above(way, span.end),
         entry: raised.entry,
+        kept: kept.as_slice(),
     };
-    publish_entry(table, seat, gate, build, store, kept.as_slice());
+    publish_entry(table, seat, gate, build, &store);
 }
 
 /// The one store of a change.
 #[derive(Clone, Copy)]
-pub(crate) struct Store {
+pub(crate) struct Store<'a> {
     /// The spot whose word is stored.
     pub spot: Spot,
     /// The entry that is named there; `None` for an empty root.
     pub entry: Option<Entry>,
+    /// The locked nodes that stay. They are unlocked afterwards, the first one first.
+    pub kept: &'a [PathNode],
 }
 
 /// Makes the one store of a change. It makes the records in `build.made` ready, stores the word of `store.entry`, and marks the records in
-/// `build.gone`, which the store unlinks. Then it unlocks the nodes `kept`, the first one first, and the anchor, if the root is stored.
+/// `build.gone`, which the store unlinks. Then it unlocks the nodes `store.kept`, and the anchor, if the root is stored.
 pub(crate) fn publish_entry<G: Gate>(
     table: &HotTable,
     seat: &mut TableSeat,
     gate: &mut G,
     build: &mut Build,
-    store: Store,
-    kept: &[PathNode],
+    store: &Store<'_>,
 )
-    requires may { (x : Change) × (was : Option ℕ) × MayStore table.now seat.old build.old kept.now store x was }
+    requires may { (x : Change) × (was : Option ℕ) × MayStore table.now seat.old build.old store.now.kept.now store.now.spot store.now.entry x was }
     ensures run { HasRun table.now G.becomes (seat.old, gate.old) (seat.new, gate.new) }
-    ensures changed { (x : Change) (was : Option ℕ) → MayStore table.now seat.old build.old kept.now store x was → HasChanged seat.old.known seat.new.known x was }
-    ensures few { seat.new.known.steps ≤ seat.old.known.steps + length build.old.made.items + length build.old.gone.items + length kept.now + 3 }
+    ensures changed { (x : Change) (was : Option ℕ) → MayStore table.now seat.old build.old store.now.kept.now store.now.spot store.now.entry x was →
+        HasChanged seat.old.known seat.new.known x was }
+    ensures few { seat.new.known.steps ≤
+        seat.old.known.steps + length build.old.made.items + length build.old.gone.items + length store.now.kept.now + 3 }
     ensures spares { WillSpare table.now.layout seat.old build.old.made.items build.old.gone.items → HasSpare table.now.layout seat.new }
 {
     ready_records(table, seat, gate, &mut build.made);
     table.publish(seat, gate, store.spot, stored_word(store.entry));
-    retire_records(
-        table,
-        seat,
-        gate,
-        build.gone.as_slice(),
-        kept,
-        is_root(store.spot),
-    );
+    retire_records(table, seat, gate, build.gone.as_slice(), store);
 }
 
 /// Whether `spot` is the root.
-fn is_root(spot: Spot) -> bool
+pub(crate) fn is_root(spot: Spot) -> bool
     ensures { result ≡ is_the_root spot }
 {
     match spot {

@@ -50,7 +50,7 @@ pub publish_change-requires : goal.publish_change-requires
 publish_change-requires g c =
     let (x, was, is, may) = c.in-Ok.ensures.done.raised in
     record {
-      held = holds_on c.args.table.now g.G.Gate.becomes (c.args.seat.now, c.args.gate.now) (c.carry_out_deed.new.seat, c.carry_out_deed.new.gate) c.args.job.now c.args.deed c.carry_out_deed.ensures.done.goes c.requires.taken;
+      held = holds_on c.args.table.now g.G.Gate.becomes (c.args.seat.now, c.args.gate.now) (c.carry_out_deed.new.seat, c.carry_out_deed.new.gate) c.args.job.now c.args.job.now.deed c.carry_out_deed.ensures.done.goes c.requires.taken;
       may = (x, was, may);
       loaded = loaded_on c.args.seat.now.known c.carry_out_deed.new.seat.known c.args.job.now.found c.carry_out_deed.ensures.done.goes.stays.3 c.requires.loaded;
     }
@@ -59,7 +59,7 @@ pub returns-in-Ok-clause-run : goal.returns-in-Ok-clause-run
 returns-in-Ok-clause-run g c =
     let (x, was, is, may) = c.in-Ok.ensures.done.raised in
     let (m, aim, taken, planned) = c.requires.taken in
-    let spared = loads_spared c.args.seat.now.known m c.args.job.now.key.now c.args.job.now.way.now aim c.args.job.now.found c.args.job.now.span c.args.deed planned in
+    let spared = loads_spared c.args.seat.now.known m c.args.job.now.key.now c.args.job.now.way.now aim c.args.job.now.found c.args.job.now.span c.args.job.now.deed planned in
     inl (
       runs_trans c.args.table.now g.G.Gate.becomes (c.args.seat.now, c.args.gate.now) (c.carry_out_deed.new.seat, c.carry_out_deed.new.gate) (c.publish_change.new.seat, c.publish_change.new.gate)
           (goes_run c.args.table.now g.G.Gate.becomes (c.args.seat.now, c.args.gate.now) (c.carry_out_deed.new.seat, c.carry_out_deed.new.gate) c.carry_out_deed.ensures.done.goes) c.publish_change.ensures.run,
@@ -73,14 +73,14 @@ returns-in-Ok-clause-done g c = λ ok.
 
 pub undo_change-requires : goal.undo_change-requires
 undo_change-requires g c = record {
-  held = holds_on c.args.table.now g.G.Gate.becomes (c.args.seat.now, c.args.gate.now) (c.carry_out_deed.new.seat, c.carry_out_deed.new.gate) c.args.job.now c.args.deed c.carry_out_deed.ensures.done.goes c.requires.taken;
+  held = holds_on c.args.table.now g.G.Gate.becomes (c.args.seat.now, c.args.gate.now) (c.carry_out_deed.new.seat, c.carry_out_deed.new.gate) c.args.job.now c.args.job.now.deed c.carry_out_deed.ensures.done.goes c.requires.taken;
   made = c.in-Err.ensures.done.full.not_made;
 }
 
 pub returns-in-Err-clause-run : goal.returns-in-Err-clause-run
 returns-in-Err-clause-run g c =
     let (m, aim, taken, planned) = c.requires.taken in
-    let spared = loads_spared c.args.seat.now.known m c.args.job.now.key.now c.args.job.now.way.now aim c.args.job.now.found c.args.job.now.span c.args.deed planned in
+    let spared = loads_spared c.args.seat.now.known m c.args.job.now.key.now c.args.job.now.way.now aim c.args.job.now.found c.args.job.now.span c.args.job.now.deed planned in
     inl (
       runs_trans c.args.table.now g.G.Gate.becomes (c.args.seat.now, c.args.gate.now) (c.carry_out_deed.new.seat, c.carry_out_deed.new.gate) (c.undo_change.new.seat, c.undo_change.new.gate)
           (goes_run c.args.table.now g.G.Gate.becomes (c.args.seat.now, c.args.gate.now) (c.carry_out_deed.new.seat, c.carry_out_deed.new.gate) c.carry_out_deed.ensures.done.goes)
