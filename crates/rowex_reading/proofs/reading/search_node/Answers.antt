@@ -34,7 +34,7 @@ load_head_part-requires-in-1-clause-led g c = let (m, h, led) = c.requires.led i
 
 module _ (g : given.Over) (c : After-load_head_part-in-1 g) where
   narrow_is : kind_in (get_or c.load_head_part.new.words 0 0) ≡ Narrow
-  narrow_is = narrow_by (get_or c.load_head_part.new.words 0 0) c.in-1.is
+  narrow_is = narrow_by (get_or c.load_head_part.new.words 0 0) (sym c.kind_number.ensures ∙ c.in-1.is)
 
   narrow_size : length (begun c.load_head_part.new.words c.load_head_part-in-1.new.words) ≡ 7
   narrow_size = begun_long c.load_head_part.new.words c.load_head_part-in-1.new.words ∙ ap (λ n. 1 + n) c.load_head_part-in-1.ensures.long
@@ -79,7 +79,7 @@ load_head_part-requires-in-2-clause-led g c = let (m, h, led) = c.requires.led i
 
 module _ (g : given.Over) (c : After-load_head_part-in-2 g) where
   middle_is : kind_in (get_or c.load_head_part.new.words 0 0) ≡ Middle
-  middle_is = middle_by (get_or c.load_head_part.new.words 0 0) c.in-2.is
+  middle_is = middle_by (get_or c.load_head_part.new.words 0 0) (sym c.kind_number.ensures ∙ c.in-2.is)
 
   middle_size : length (begun c.load_head_part.new.words c.load_head_part-in-2.new.words) ≡ 13
   middle_size = begun_long c.load_head_part.new.words c.load_head_part-in-2.new.words ∙ ap (λ n. 1 + n) c.load_head_part-in-2.ensures.long
