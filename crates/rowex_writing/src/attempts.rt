@@ -19,6 +19,7 @@ ghost use Rattle.rowex_writing.specs.Building.{HasNotMade};
 ghost use Rattle.rowex_writing.specs.Changes.{HasChanged, HasPlanned, HasRun, HasTakenPlan, HasTakenSpan, HasTriedOnce};
 ghost use Rattle.rowex_writing.specs.Merging.{ChangesOn, EndsChange, HasClaimed, IsLeftOfNode, TakesOn, TriesFew};
 ghost use Rattle.rowex_writing.specs.declared.plan.Deed.TheVariants.{Take};
+ghost use Rattle.rowex_writing.specs.Plans.{TakesLeaf};
 ghost use Rattle.rowex_writing.specs.Jobs.{HoldsSpan, IsJobFrom, IsWithinWay};
 ghost use Rattle.rowex_writing.specs.Locks.{HasMadeNoChange, HasMetLock, TriesNodesBy, Works, locks_of, span_numbers};
 ghost use Rattle.rowex_writing.specs.Counts.{change_steps, held_loads, most_locks, most_steps_of, span_steps, value_steps};
@@ -152,9 +153,9 @@ fn try_plan<G: Gate>(
     ensures later { IfErr result (λ fault. IsLater seat.old.known seat.new.known) }
     ensures whole { job.now.deed ≡ Deed.Value → IfErr result (λ fault. fault ≡ TryFault.Busy) }
     ensures short { job.now.deed ≡ Deed.Value → seat.new.known.steps ≤ seat.old.known.steps + value_steps }
-    ensures leafless { job.now.deed ≡ Deed.Take → result ≢ Err TryFault.FullLeaves }
+    ensures leafless { TakesLeaf job.now.deed → result ≢ Err TryFault.FullLeaves }
     ensures spares { KeepsSpare table.now.layout seat.old seat.new }
-    ensures finds { job.now.deed ≡ Deed.Take → HasRoom table.now.layout seat.old → result ≢ Err TryFault.FullNodes }
+    ensures finds { TakesLeaf job.now.deed → HasRoom table.now.layout seat.old → result ≢ Err TryFault.FullNodes }
 {
     if !lock_and_check_span(table, seat, gate, job) {
         return Err(TryFault::Busy);
@@ -195,16 +196,16 @@ fn change_span<G: Gate>(
     ensures failed { IfErr result (HasFailed table.now.layout job.now seat.old.known seat.new.known build.new.made.items) }
     ensures whole { job.now.deed ≡ Deed.Value → result ≡ Ok tt }
     ensures short { job.now.deed ≡ Deed.Value → seat.new.known.steps ≤ seat.old.known.steps + 2 + locks_of job.now.span }
-    ensures leafless { job.now.deed ≡ Deed.Take → result ≢ Err TryFault.FullLeaves }
+    ensures leafless { TakesLeaf job.now.deed → result ≢ Err TryFault.FullLeaves }
     ensures spares { KeepsSpare table.now.layout seat.old seat.new }
-    ensures finds { job.now.deed ≡ Deed.Take → HasRoom table.now.layout seat.old → result ≢ Err TryFault.FullNodes }
+    ensures finds { TakesLeaf job.now.deed → HasRoom table.now.layout seat.old → result ≢ Err TryFault.FullNodes }
 {
     match job.deed {
         Deed::Value => {
             store_value(table, seat, gate, job);
             Ok(())
         }
-        Deed::Take if job.span.end > 0 => make_removal(table, seat, gate, build, job),
+        Deed::Take => make_removal(table, seat, gate, build, job),
         _ => match carry_out_deed(table, seat, gate, build, job) {
             Ok(raised) => {
                 publish_change(table, seat, gate, build, job, raised);
@@ -276,12 +277,12 @@ fn end_removal<G: Gate>(
         HasFailed table.now.layout job.now seat.old.known seat.new.known build.new.made.items fault) }
     ensures spares { KeepsSpare table.now.layout seat.old seat.new }
 {
-    let Some(merge) = find_merge(table, seat, gate, job) else {
+    let Some(merge) = find_merge(table, seat, gate, job, left) else {
         let raised = fill_left(table, seat, gate, build, job, left);
         publish_change(table, seat, gate, build, job, raised);
         return Ok(());
     };
-    if try_merge(table, seat, gate, build, job, &merge, left) {
+    if try_merge(table, seat, gate, build, job, &merge) {
         return Ok(());
     }
     let raised = fill_left(table, seat, gate, build, job, left);

@@ -1,10 +1,11 @@
 //! What is done under the locks of a span: records are made for what comes in the place of its nodes, and none of them is linked yet.
 
-ghost use Rattle.std.specs.Prelude.{◌≡◌, ◌≢◌, Err, IfOk};
+ghost use Rattle.std.specs.Prelude.{◌≢◌, Err, IfOk};
 ghost use Rattle.lone_runs.specs.Lone.{HasRoom, HasSpare};
 ghost use Rattle.rowex_writing.specs.Spare.{WillSpareOne};
 ghost use Rattle.rowex_writing.specs.Changes.{HasTakenPlan};
 ghost use Rattle.rowex_writing.specs.Deeds.{CarriesOut};
+ghost use Rattle.rowex_writing.specs.Plans.{TakesLeaf};
 ghost use Rattle.rowex_writing.specs.declared.plan.Deed.TheVariants.{Put, PushDown};
 
 use crate::building::{make_leaf, make_node};
@@ -14,7 +15,7 @@ use crate::job::{Job, Raised};
 use crate::kept::Build;
 use crate::plan::{Deed, Full};
 use crate::remaking::pair_with_leaf;
-use crate::taking::make_without_leaf;
+use crate::taking::{empty_root, make_without_leaf};
 use compound_node::Entry;
 use rowex_core::Gate;
 use rowex_reading::Found;
@@ -30,19 +31,20 @@ pub(crate) fn carry_out_deed<G: Gate>(
     job: &Job<'_>,
 ) -> Result<Raised, Full>
     requires taken { HasTakenPlan table.now seat.old job.now job.now.deed }
-    requires makes { job.now.deed ≢ Deed.Value }
+    requires makes { (job.now.deed ≢ Deed.Value) × (job.now.deed ≢ Deed.Take) }
     ensures done { CarriesOut table.now G.becomes ((seat.old, gate.old), build.old) ((seat.new, gate.new), build.new) job.now job.now.deed result }
-    ensures leafless { job.now.deed ≡ Deed.Take → result ≢ Err Full.Leaves }
+    ensures leafless { TakesLeaf job.now.deed → result ≢ Err Full.Leaves }
     ensures kind { job.now.deed ≢ Deed.Value }
     ensures spares { HasSpare table.now.layout seat.old → IfOk result (WillSpareOne table.now.layout seat.new build.new.made.items job.now) }
-    ensures finds { job.now.deed ≡ Deed.Take → HasRoom table.now.layout seat.old → result ≢ Err Full.Nodes }
+    ensures finds { TakesLeaf job.now.deed → HasRoom table.now.layout seat.old → result ≢ Err Full.Nodes }
 {
     match job.deed {
         Deed::Put => put_new_leaf(table, seat, gate, build, job),
         Deed::PushDown { position } => push_leaf_down(table, seat, gate, build, job, position),
         Deed::Grow { position } => grow_node(table, seat, gate, build, job, position),
-        Deed::Take => make_without_leaf(table, seat, gate, build, job),
-        Deed::Value => unreachable!(),
+        Deed::TakeTop => make_without_leaf(table, seat, gate, build, job),
+        Deed::Empty => Ok(empty_root(build, job)),
+        Deed::Take | Deed::Value => unreachable!(),
     }
 }
 

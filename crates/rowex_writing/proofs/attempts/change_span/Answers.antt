@@ -1,15 +1,17 @@
 -- A new value, a removal, or what the deed has made is published; or all is given back.
 use Rattle.rowex_writing.proofs.Spare.{goes_spare, works_spare}
-use Rattle.std.proofs.Common.{◌<◌, inl, inr, sym, ap, subst, arith, ◌≡◌, ◌∙◌, Err}
+use Rattle.std.proofs.Common.{inl, inr, sym, ap, subst, arith, ◌≡◌, ◌∙◌, Err}
 use Rattle.rowex_writing.specs.Attempts.{HasDoneDeed}
 use Rattle.rowex_writing.specs.Changes.{HasTakenPlan}
 use Rattle.rowex_writing.specs.Counts.{held_loads}
 use Rattle.rowex_writing.specs.Locks.{span_numbers}
 use Rattle.rowex_writing.specs.Merging.{ChangesOn}
+use Rattle.rowex_writing.specs.Plans.{TakesLeaf}
 use Rattle.rowex_writing.proofs.Attempting.{loads_spared, leaves_refused, nodes_refused}
 use Rattle.rowex_writing.proofs.Growths.{no_room}
 use Rattle.rowex_writing.proofs.Keeping.{changed_since}
 use Rattle.rowex_writing.proofs.Merged.{holds_on, is_taking}
+use Rattle.rowex_writing.proofs.Removing.{take_above}
 use Rattle.rowex_writing.proofs.Runs.{goes_run, runs_trans, works_run}
 use Rattle.rowex_writing.proofs.Named.{loaded_on}
 use Rattle.rowex_writing.proofs.Valued.{full_failed, held_few}
@@ -30,10 +32,14 @@ returns-in-Value-clause-done g c = λ ok.
 pub make_removal-requires-clause-taken : goal.make_removal-requires-clause-taken
 make_removal-requires-clause-taken g c = subst (HasTakenPlan c.args.table.now c.args.seat.now c.args.job.now) c.in-Take.is c.requires.taken
 
+pub make_removal-requires-clause-some : goal.make_removal-requires-clause-some
+make_removal-requires-clause-some g c = let (m, aim, taken, planned) = c.requires.taken in take_above c.args.seat.now.known m c.args.job.now aim c.args.job.now.deed (subst TakesLeaf (sym c.in-Take.is) tt) planned c.in-Take.is
+
 pub returns-in-Take-clause-run : goal.returns-in-Take-clause-run
 returns-in-Take-clause-run g c =
     let taken = subst (HasTakenPlan c.args.table.now c.args.seat.now c.args.job.now) c.in-Take.is c.requires.taken in
-    let some : 0 < c.args.job.now.span.end = omega arith in
+    let (m, aim, span, planned) = c.requires.taken in
+    let some = take_above c.args.seat.now.known m c.args.job.now aim c.args.job.now.deed (subst TakesLeaf (sym c.in-Take.is) tt) planned c.in-Take.is in
     let (t, same) = is_taking c.args.table.now c.args.seat.now c.args.job.now taken some in
     inr (
       some,
