@@ -7,9 +7,9 @@ ghost use Rattle.record_words.specs.declared.kind.Kind.TheVariants.{Middle, Narr
 ghost use Rattle.record_words.specs.Node.{InNodesOf};
 ghost use Rattle.partial_keys.specs.Columns.{with_free};
 
-use crate::HEAD_WORDS;
 use crate::kind::Kind;
 use crate::search::positions_in;
+use crate::{HEAD_WORDS, MIDDLE_KIND, NARROW_KIND};
 use partial_keys::Columns;
 use std::simd::prelude::*;
 
@@ -34,8 +34,8 @@ pub(crate) fn word_of_numbers(count: u8, columns: &Columns, height: u16, kind: K
     let first = (columns.first() as u64 / 9) << 32;
     match kind {
         Kind::Wide => numbers,
-        Kind::Narrow => numbers + first + (1 << 40),
-        Kind::Middle => numbers + first + (2 << 40),
+        Kind::Narrow => numbers + first + (NARROW_KIND << 40),
+        Kind::Middle => numbers + first + (MIDDLE_KIND << 40),
     }
 }
 

@@ -25,7 +25,7 @@ use rowex_core::{Gate, Rec};
 use rowex_table::{HotTable, RecordAt, TableSeat};
 use std::ops::Range;
 
-/// The word at `offset` of the record `at`.
+/// The word at `offset` of the record `at`, counted in words from 0 at its state.
 #[derive(Clone, Copy)]
 struct WordAt {
     at: RecordAt,
