@@ -18,7 +18,7 @@ ghost use Rattle.hot_c.specs.Statuses.{value_after};
 use crate::pairs::Order;
 use crate::refusals::tell_refusal;
 use crate::status::write_reply;
-use hot_index::{Call, ClosedHandle, Handle, Index, Reply, ShowsIndex, Stamp};
+use hot_index::{Call, ClosedHandle, Handle, Index, Reply, Stamp};
 use key_bits::Key;
 use packed_pairs::Pairs;
 use std::alloc::{AllocError, Global};

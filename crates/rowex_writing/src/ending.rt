@@ -11,7 +11,7 @@ ghost use Rattle.rowex_writing.specs.Retiring.{AreInTable, HasJustPublished, Has
 
 use crate::job::Job;
 use crate::locks::unlock_nodes;
-use crate::publishing::{Store, is_root};
+use crate::store::{Store, is_root};
 use insert_cases::PathNode;
 use rowex_core::{Gate, Rec, Target};
 use rowex_records::give_up_records;

@@ -5,7 +5,6 @@ ghost use Rattle.compound_node.specs.Beside.{IsBesideIn};
 ghost use Rattle.compound_node.specs.Nodes.{NodeView};
 ghost use Rattle.record_words.specs.HeadParts.{AreNumbersOf};
 ghost use Rattle.record_words.specs.Packed.{position_at, row_at};
-ghost use Rattle.record_words.specs.declared.records.Rec.TheVariants.{Node as a_node};
 ghost use Rattle.tries.specs.Place.{entry_at};
 ghost use Rattle.rowex_core.specs.Reading.{node_words_of};
 ghost use Rattle.rowex_reading.specs.Possible.{IsPossible};
@@ -123,7 +122,8 @@ fn load_numbers<G: Gate>(
     read_numbers(load_locked_word(table, seat, gate, node, 0))
 }
 
-/// Loads the row of `slot` of the locked node of `loads`; 4,294,967,295 for an unused slot, and past the last one.
+/// Loads the row of `slot` of the locked node of `loads`, and returns it. It is 4,294,967,295 for an unused slot. A slot from `MAX_ENTRIES` on
+/// is unused, too, and nothing is loaded for it.
 #[inline(always)]
 fn load_row<G: Gate>(
     table: &HotTable,

@@ -1,6 +1,6 @@
 //! The end of a removal by a merge: what is left of the leaf's node, and its sibling, become one node.
 
-ghost use Rattle.std.specs.Prelude.{◌≡◌, ◌≢◌, ◌<◌, ◌≤◌, ◌+◌, ◌-◌, ◌*◌, ◌++◌, ◌∷◌, [], ℕ, List, IfSome, MatchOption, None, false, true, length};
+ghost use Rattle.std.specs.Prelude.{◌≡◌, ◌<◌, ◌≤◌, ◌+◌, ◌-◌, ◌*◌, ◌++◌, ℕ, List, IfSome, None, false, true, length};
 ghost use Rattle.compound_node.specs.Nodes.{IsBuiltFrom, NodeView, piece};
 ghost use Rattle.node_tries.specs.Changes.{without};
 ghost use Rattle.node_tries.specs.Piece.{RisesFrom};
@@ -29,7 +29,8 @@ use crate::kept::Build;
 use crate::locked::{
     load_locked_entry, load_locked_node_words, load_position, load_sibling, read_locked_node,
 };
-use crate::publishing::{Store, publish_entry, spot_above};
+use crate::publishing::{publish_entry, spot_above};
+use crate::store::Store;
 use crate::valuing::is_unchanged;
 use crate::widening::{lock_for_merge, unlock_for_merge};
 use compound_node::{Entry, Node};

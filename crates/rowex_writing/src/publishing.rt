@@ -1,6 +1,6 @@
 //! The last part of each change: its records are made ready, and one store makes it visible. What it leaves comes after.
 
-ghost use Rattle.std.specs.Prelude.{◌≡◌, ℕ, List, [], ◌++◌, Option, MatchOption, ◌<◌, ◌≤◌, ◌+◌, ◌-◌, length, map, slice_range};
+ghost use Rattle.std.specs.Prelude.{◌≡◌, ℕ, List, ◌++◌, Option, ◌<◌, ◌≤◌, ◌+◌, ◌-◌, length, map, slice_range};
 ghost use Rattle.finite_map.specs.declared.Change.{Change};
 ghost use Rattle.insert_cases.specs.declared.choice.PathNode.{PathNode as PathNodeView};
 ghost use Rattle.record_words.specs.Entry.{HasEntryWord, entry_word};
@@ -13,7 +13,7 @@ ghost use Rattle.rowex_writing.specs.Spare.{WillSpare, WillSpareOne};
 ghost use Rattle.rowex_writing.specs.Attempts.{HasLoadedFound};
 ghost use Rattle.rowex_writing.specs.Building.{IsBuilding};
 ghost use Rattle.rowex_writing.specs.Changes.{HasChanged, HasRun};
-ghost use Rattle.rowex_writing.specs.Retiring.{MayStore, is_root as is_the_root};
+ghost use Rattle.rowex_writing.specs.Retiring.{MayStore};
 ghost use Rattle.rowex_writing.specs.Deeds.{MayReplace, leaf_gone};
 ghost use Rattle.rowex_writing.specs.Going.{WorksOn};
 ghost use Rattle.rowex_writing.specs.Jobs.{HoldsSpan};
@@ -24,6 +24,7 @@ use crate::ending::retire_records;
 use crate::job::{Job, Raised};
 use crate::kept::{Build, MOST_MADE};
 use crate::plan::Span;
+use crate::store::Store;
 use arrayvec::ArrayVec;
 use compound_node::Entry;
 use insert_cases::PathNode;
@@ -93,17 +94,6 @@ pub(crate) fn publish_change<G: Gate>(
     publish_entry(table, seat, gate, build, &store);
 }
 
-/// The one store of a change.
-#[derive(Clone, Copy)]
-pub(crate) struct Store<'a> {
-    /// The spot whose word is stored.
-    pub spot: Spot,
-    /// The entry that is named there; `None` for an empty root.
-    pub entry: Option<Entry>,
-    /// The locked nodes that stay. They are unlocked afterwards, the first one first.
-    pub kept: &'a [PathNode],
-}
-
 /// Makes the one store of a change. It makes the records in `build.made` ready, stores the word of `store.entry`, and marks the records in
 /// `build.gone`, which the store unlinks. Then it unlocks the nodes `store.kept`, and the anchor, if the root is stored.
 pub(crate) fn publish_entry<G: Gate>(
@@ -124,16 +114,6 @@ pub(crate) fn publish_entry<G: Gate>(
     ready_records(table, seat, gate, &mut build.made);
     table.publish(seat, gate, store.spot, stored_word(store.entry));
     retire_records(table, seat, gate, build.gone.as_slice(), store);
-}
-
-/// Whether `spot` is the root.
-pub(crate) fn is_root(spot: Spot) -> bool
-    ensures { result ≡ is_the_root spot }
-{
-    match spot {
-        Spot::Root => true,
-        Spot::Slot { .. } | Spot::Value { .. } => false,
-    }
 }
 
 /// Sets `build.gone` to the records that a change unlinks: those of the nodes of `steps`, and leaf record `leaf`, if there is one.

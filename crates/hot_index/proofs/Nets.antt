@@ -11,7 +11,7 @@ use Rattle.finite_map.specs.declared.Change.{Change}
 use Rattle.finite_map.specs.declared.Note.{Note}
 use Rattle.finite_map.specs.Maps.{Map, key_of, step_where, step_if, value_at, with_value, without}
 use Rattle.finite_map.specs.Calls.{change_of, changes_of}
-use Rattle.key_counts.specs.Counts.{MayReply, IsDifference, IsNet, net_of, puts, takes}
+use Rattle.hot_index.specs.KeyCounts.{MayReply, IsDifference, IsNet, net_of, puts, takes}
 
 pub differences_add : (x y u v m n : ℕ) → IsDifference x y m → IsDifference u v n → IsDifference (x + u) (y + v) ((m + n) % 2 ^ 64)
 differences_add x y u v m n (a, b, e) (c, d, f) =

@@ -1,9 +1,9 @@
 -- One call more.
 use Rattle.std.proofs.Common.{◌+◌, ◌%◌, ◌^◌, ◌++◌, ◌∷◌, [], sym, subst}
 use Rattle.finite_map.specs.Calls.{changes_of}
-use Rattle.key_counts.specs.Counts.{IsNet}
-use Rattle.key_counts.proofs.Nets.{noted, one_more}
-use Rattle.key_counts.proofs.KeyCount.note.Goals as goal
+use Rattle.hot_index.specs.KeyCounts.{IsNet}
+use Rattle.hot_index.proofs.Nets.{noted, one_more}
+use Rattle.hot_index.proofs.key_counts.KeyCount.note.Goals as goal
 
 pub returns : goal.returns
 returns c = λ q place notes call is count. let keys = c.args.self.now.keys in let reply = c.args.reply in

@@ -1,9 +1,9 @@
 -- The total is that of the counts of the passes below.
 use Rattle.std.proofs.Common.{◌<◌, ◌^◌, List}
 use Rattle.finite_map.specs.declared.Change.{Change}
-use Rattle.key_counts.specs.Counts.{AreCounts, IsDifference, puts, takes}
-use Rattle.key_counts.proofs.Sizes.{of_below}
-use Rattle.key_counts.proofs.total.Given as goal
+use Rattle.hot_index.specs.KeyCounts.{AreCounts, IsDifference, puts, takes}
+use Rattle.hot_index.proofs.Sizes.{of_below}
+use Rattle.hot_index.proofs.key_counts.total.Given as goal
 
 abbrev pub invariant-loop-place : goal.invariant-loop-place
 invariant-loop-place l = record {

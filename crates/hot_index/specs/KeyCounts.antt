@@ -10,7 +10,7 @@ use Rattle.finite_map.specs.declared.Note.{Note}
 use Rattle.finite_map.specs.Maps.{Map, reply_of}
 use Rattle.finite_map.specs.Fronts.{LegalFront}
 use Rattle.finite_map.specs.Calls.{LegalCalls, changes_of}
-use Rattle.key_counts.specs.declared.KeyCount.{KeyCount}
+use Rattle.hot_index.specs.declared.key_counts.KeyCount.{KeyCount}
 
 -- how many keys a change of this kind puts in, and how many it takes out
 abbrev pub puts_of : Kind → ℕ

@@ -18,9 +18,9 @@ use Rattle.finite_map.specs.Maps.{Map, IsRising, key_order, value_at, with_value
 use Rattle.finite_map.specs.Fronts.{FitsKind, LegalFrom, LegalFront, changed, changed_by, map_of}
 use Rattle.finite_map.specs.Calls.{own_changes}
 use Rattle.finite_map.proofs.Held.{with_value-rising, without-rising}
-use Rattle.key_counts.specs.declared.KeyCount.{KeyCount}
-use Rattle.key_counts.specs.Counts.{AreCounts, IsDifference, IsNet, puts, puts_of, takes, takes_of}
-use Rattle.key_counts.proofs.Nets.{differences_add}
+use Rattle.hot_index.specs.declared.key_counts.KeyCount.{KeyCount}
+use Rattle.hot_index.specs.KeyCounts.{AreCounts, IsDifference, IsNet, puts, puts_of, takes, takes_of}
+use Rattle.hot_index.proofs.Nets.{differences_add}
 
 abbrev one : ℕ → ℕ
 one x = 1

@@ -1,7 +1,7 @@
 -- No count yet, one more, and all.
 use Rattle.std.proofs.Common.{rules, arith}
-use Rattle.key_counts.proofs.Sizes.{all_below, none_below, one_more_below}
-use Rattle.key_counts.proofs.total.Goals as goal
+use Rattle.hot_index.proofs.Sizes.{all_below, none_below, one_more_below}
+use Rattle.hot_index.proofs.key_counts.total.Goals as goal
 
 pub loop-place-init : goal.loop-place-init
 loop-place-init c = record { bound = omega arith; told = λ front are. none_below front }

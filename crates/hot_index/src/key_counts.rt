@@ -1,10 +1,9 @@
 //! How many keys a map has that passes share: by a count for each pass, which its own calls keep, and no other pass writes.
-#![tactic(auto)]
 
 ghost use Rattle.std.specs.Prelude.{◌≡◌, ◌<◌, ◌^◌, [], ℕ, List, length};
 ghost use Rattle.finite_map.specs.declared.Change.{Change};
 ghost use Rattle.finite_map.specs.Fronts.{map_of};
-ghost use Rattle.key_counts.specs.Counts.{AreCounts, CountsAnswer, CountsReply, IsCountOf, net_of};
+ghost use Rattle.hot_index.specs.KeyCounts.{AreCounts, CountsAnswer, CountsReply, IsCountOf, net_of};
 
 use finite_map::Reply;
 
