@@ -1,13 +1,12 @@
 -- The fields of a record that was written.
-use Rattle.std.proofs.Common.{◌≡◌, ℕ, ◌+◌, ◌<◌, ◌≤◌, List, get_or, length, nat_lt, if◌then◌else◌, sym, ap, ◌∙◌, arith}
+use Rattle.std.proofs.Common.{◌≡◌, ℕ, ◌+◌, ◌<◌, ◌≤◌, List, get_or, length, nat_lt, set, subst, if◌then◌else◌, sym, ap, ◌∙◌, arith}
 use Rattle.std.proofs.lemmas.Bool.{lt-ltb}
-use Rattle.std.proofs.lemmas.List.{ext_get_or}
+use Rattle.std.proofs.lemmas.List.{ext_get_or, get_or-set_other, get_or-set_same, length-set}
 use Rattle.std.proofs.lemmas.List.FromFn.{get_or-map-range_with_len, length-map-range_with_len}
 use Rattle.record_words.specs.declared.TheConstants.{NODE_FIELDS, LEAF_FIELDS}
 use Rattle.record_words.specs.declared.layout.Layout.{Layout}
 use Rattle.record_words.specs.Layout.{node_start, leaf_start, leaf_size}
-use Rattle.record_words.specs.Leaf.{HasLeafWords, leaf_words, up_to_key, words_for}
-use Rattle.record_words.proofs.Leaves.{IsLeafOf, leaf_words_parts}
+use Rattle.record_words.specs.Leaf.{HasLeafWords, key_word, leaf_words, up_to_key, words_for, words_of_key}
 use Rattle.record_words.proofs.UpToKey.{spells_up_to_key}
 use Rattle.record_words.specs.declared.records.Rec.TheVariants.{Node as a_node, Leaf as a_leaf}
 use Rattle.rowex_core.specs.Cores.{fields_in}
@@ -37,17 +36,28 @@ node_fields_are layout table n words long each =
     ext_get_or 0 (fields_in layout table (a_node n)) words (node_fields_long layout table n ∙ sym long)
     (λ i h. let low : i < NODE_FIELDS = omega (arith, h, node_fields_long layout table n) in node_field layout table n i low ∙ each i (omega (arith, low, long)))
 
--- a key's words have the room that it needs
-pub leaf_fields_are : (layout : Layout) (table : List ℕ) (n : ℕ) (leaf : List ℕ × ℕ) (words : List ℕ) → HasLeafWords leaf → words_for (length leaf.0) ≤ leaf_size layout n →
-    words ≡ leaf_words leaf → ((i : ℕ) → i + 1 < words_for (length leaf.0) → get_or table (leaf_start layout n + (1 + i)) 0 ≡ get_or words i 0) →
-    leaf_words leaf ≡ up_to_key (fields_in layout table (a_leaf n))
-leaf_fields_are layout table n leaf words has room same each = spells_up_to_key leaf (fields_in layout table (a_leaf n))
-    (at 0 (omega arith) (omega arith) ∙ parts.value) (at 1 (omega arith) (omega arith) ∙ parts.size)
-    (λ j used few. at (2 + j) (omega (arith, used)) (omega (arith, few)) ∙ parts.bytes j few)
+-- a leaf's words that were written, where they have room
+pub leaf_fields_are : (layout : Layout) (old new : List ℕ) (n start count state : ℕ) (leaf : List ℕ × ℕ) → HasLeafWords leaf → words_for (length leaf.0) ≤ leaf_size layout n →
+    start ≡ leaf_start layout n → start + 3 ≤ length old → count ≡ length leaf.0 →
+    ((k : ℕ) → k < start + 3 → get_or new k 0 ≡ get_or (set (set (set old start state) (start + 1) leaf.1) (start + 2) count) k 0) →
+    ((j : ℕ) → j < words_of_key count → get_or new (start + 3 + j) 0 ≡ key_word leaf.0 j) → leaf_words leaf ≡ up_to_key (fields_in layout new (a_leaf n))
+leaf_fields_are layout old new n start count state leaf has room is inside counted before key = spells_up_to_key leaf (fields_in layout new (a_leaf n))
+    (at 0 (omega arith) (omega arith) ∙ value) (at 1 (omega arith) (omega arith) ∙ size)
+    (λ j used few. at (2 + j) (omega (arith, used)) (omega (arith, few)) ∙ (ap (λ k. get_or new k 0) (omega arith) ∙ key j (subst (λ m. j < words_of_key m) (sym counted) used)))
   where
-    parts : IsLeafOf leaf words
-    parts = leaf_words_parts leaf words same
+    at : (i : ℕ) → i + 1 < words_for (length leaf.0) → i < 32 → get_or (fields_in layout new (a_leaf n)) i 0 ≡ get_or new (start + (1 + i)) 0
+    at i used few = leaf_field layout new n i few ∙
+        (ap (λ b. if b then get_or new (leaf_start layout n + (1 + i)) 0 else 0) (lt-ltb (1 + i) (leaf_size layout n) (omega (arith, used, room))) ∙ ap (λ s. get_or new (s + (1 + i)) 0) (sym is))
 
-    at : (i : ℕ) → i + 1 < words_for (length leaf.0) → i < 32 → get_or (fields_in layout table (a_leaf n)) i 0 ≡ get_or words i 0
-    at i used few = leaf_field layout table n i few ∙
-        (ap (λ b. if b then get_or table (leaf_start layout n + (1 + i)) 0 else 0) (lt-ltb (1 + i) (leaf_size layout n) (omega (arith, used, room))) ∙ each i used)
+    value : get_or new (start + (1 + 0)) 0 ≡ leaf.1
+    value =
+        before (start + 1) (omega arith)
+        ∙ get_or-set_other (set (set old start state) (start + 1) leaf.1) (start + 2) (start + 1) count 0 (λ e. absurd (omega (arith, e)))
+        ∙ get_or-set_same (set old start state) (start + 1) leaf.1 0 (omega (arith, length-set old start state, inside))
+
+    size : get_or new (start + (1 + 1)) 0 ≡ length leaf.0
+    size =
+        before (start + 2) (omega arith)
+        ∙ get_or-set_same (set (set old start state) (start + 1) leaf.1) (start + 2) count 0
+        (omega (arith, length-set (set old start state) (start + 1) leaf.1, length-set old start state, inside))
+        ∙ counted

@@ -3,10 +3,10 @@
 ghost use Rattle.std.specs.Prelude.{ℕ, ◌≡◌, ◌⊎◌, ◌+◌, ◌<◌, ◌≤◌, ◌^◌, get_or, length, set};
 ghost use Rattle.bulk_load.specs.Tables.{IsPut};
 ghost use Rattle.rowex_core.specs.Cores.{fields_in};
-ghost use Rattle.record_words.specs.declared.TheConstants.{ROOT_WORD};
+ghost use Rattle.record_words.specs.declared.TheConstants.{KEY_WORDS, ROOT_WORD};
 ghost use Rattle.record_words.specs.Entry.{HasEntryWord, entry_word};
 ghost use Rattle.record_words.specs.Layout.{leaf_size, word_count};
-ghost use Rattle.record_words.specs.Leaf.{HasLeafWords, leaf_words, up_to_key, words_for};
+ghost use Rattle.record_words.specs.Leaf.{HasLeafWords, key_word, leaf_words, up_to_key, words_for};
 ghost use Rattle.record_words.specs.Node.{HasNodeWords, node_words};
 ghost use Rattle.record_words.specs.State.{state_word};
 ghost use Rattle.record_words.specs.declared.state.Tag.TheVariants.{Live as LiveTag};
@@ -15,8 +15,8 @@ ghost use Rattle.record_words.specs.declared.records.Rec.TheVariants.{Leaf as a_
 use compound_node::{Entry, Node};
 use key_bits::Key;
 use record_words::{
-    Layout, NODE_FIELDS, ROOT_WORD, Tag, count_leaf_words, pack_entry, pack_leaf, pack_node,
-    pack_state,
+    KEY_OFFSET, LENGTH_OFFSET, Layout, NODE_FIELDS, ROOT_WORD, Tag, VALUE_OFFSET, count_key_words,
+    key_word_at, pack_entry, pack_node, pack_state,
 };
 
 /// Writes the first `count` of `fields` to `words` from `start + 1` on, and the state of a live record to `start`.
@@ -52,12 +52,26 @@ pub(crate) fn put_leaf(words: &mut [u64], layout: &Layout, number: u32, key: &Ke
     ensures fields { leaf_words (key.now, value) ≡ up_to_key (fields_in layout.now words.new (a_leaf number)) }
     ensures fits { HasLeafWords (key.now, value) }
 {
-    put_record(
-        words,
-        layout.leaf(number),
-        &pack_leaf(key, value),
-        count_leaf_words(key) - 1,
-    );
+    let start = layout.leaf(number);
+    let length = key.as_bytes().len() as u64;
+    words[start] = pack_state(Tag::Live);
+    words[start + VALUE_OFFSET as usize] = value;
+    words[start + LENGTH_OFFSET as usize] = length;
+    let count = count_key_words(length);
+    put_key(words, start + KEY_OFFSET as usize, key, count);
+}
+
+/// Writes the first `count` words of `key` to `words` from `start` on.
+fn put_key(words: &mut [u64], start: usize, key: &Key, count: usize)
+    requires room { start + count ≤ length words.old }
+    requires few { count ≤ KEY_WORDS }
+    ensures size { length words.new ≡ length words.old }
+    ensures key { (i : ℕ) → i < count → get_or words.new (start + i) 0 ≡ key_word key.now i }
+    ensures others { (k : ℕ) → (k < start) ⊎ (start + count ≤ k) → get_or words.new k 0 ≡ get_or words.old k 0 }
+{
+    for j in 0..count {
+        words[start + j] = key_word_at(key, j);
+    }
 }
 
 /// Writes `entry` as that of the root.

@@ -1,6 +1,6 @@
 //! Rounds of collection: records that no pinned pass can reach are given back.
 
-ghost use Rattle.std.specs.Prelude.{◌≡◌, ◌≢◌, ℕ, ◌+◌, ◌^◌, ◌<◌, ◌≤◌, List, None, true, false, length, min, if◌then◌else◌, IfSome, MatchOption};
+ghost use Rattle.std.specs.Prelude.{◌≡◌, ◌≢◌, ℕ, ◌+◌, ◌^◌, ◌<◌, ◌≤◌, None, true, false, min, if◌then◌else◌, IfSome, MatchOption};
 ghost use Rattle.record_words.specs.declared.state.Tag.TheVariants.{Free as FreeTag, Obsolete};
 ghost use Rattle.record_words.specs.Layout.{leaf_size};
 ghost use Rattle.record_words.specs.State.{state_word};
@@ -303,7 +303,9 @@ fn visit_limbo<G: Gate>(
 {
     let count = limbo.count().min(MOST_VISITED);
     for index in 0..count {
-        if !visit_waiting_record(table, seat, gate, limbo, bound, index) {
+        let rec = limbo.waiting_record(index);
+        let seen = visit_if_there(table, seat, gate, rec, bound);
+        if !limbo.take_visit(rec, seen) {
             limbo.drop_oldest_records(index);
             return;
         }
@@ -311,27 +313,23 @@ fn visit_limbo<G: Gate>(
     limbo.drop_oldest_records(count);
 }
 
-/// Visits the record that waits at `index` in `limbo`, counted from 0 at the oldest. Returns whether it is to leave the list: not if it has
-/// to wait. One that the table hasn't is to leave it, too, without a visit. `bound` is the round's. One given back is added to `limbo.given`.
-fn visit_waiting_record<G: Gate>(
+/// Visits `rec`, and returns what the visit came to. If the table has no such record, this is no visit, and `Other`. `bound` is the round's.
+fn visit_if_there<G: Gate>(
     table: &HotTable,
     seat: &mut TableSeat,
     gate: &mut G,
-    limbo: &mut Limbo,
+    rec: Rec,
     bound: u64,
-    index: usize,
-) -> bool
+) -> Visited
     requires own { IsSeatOf table.now seat.old }
     requires bound { HasBound table.now.layout.passes bound seat.old.known }
     ensures same { (seat.new.known.pin ≡ seat.old.known.pin) × (seat.new.known.round ≡ seat.old.known.round) }
     ensures steps { VisitsSome table.now G.becomes bound 1 (seat.old, gate.old) (seat.new, gate.new) }
 {
-    let rec = limbo.waiting_record(index);
     if !has_record(table.layout(), rec) {
-        return true;
+        return Visited::Other;
     }
-    let seen = visit_record(table, seat, gate, table.locate(rec), bound);
-    limbo.take_visit(rec, seen)
+    visit_record(table, seat, gate, table.locate(rec), bound)
 }
 
 /// Whether a table of `layout` has the record `rec`.

@@ -11,8 +11,8 @@ use Rattle.finite_map.specs.declared.Reply.{Reply}
 use Rattle.finite_map.specs.Calls.{LegalCalls, StandsIn, change_of, changes_of}
 use Rattle.finite_map.specs.Fronts.{map_of}
 use Rattle.finite_map.proofs.Legal.{change_of-quiet, legal_longer}
-use Rattle.key_counts.specs.Counts.{CountsAnswer, CountsReply, IsCountOf, IsNet, MayReply}
-use Rattle.key_counts.specs.declared.KeyCount.{KeyCount}
+use Rattle.hot_index.specs.KeyCounts.{CountsAnswer, CountsReply, IsCountOf, IsNet, MayReply}
+use Rattle.hot_index.specs.declared.key_counts.KeyCount.{KeyCount}
 use Rattle.record_words.specs.declared.layout.Layout.{Layout}
 use Rattle.rowex_table.specs.Seats.{SeatView, TableView}
 use Rattle.rowex_writing.specs.declared.attempts.TryFault.{TryFault}

@@ -1,4 +1,6 @@
 -- The lemmas of the crate.
+pub mod Nets
+pub mod Sizes
 pub mod Counted
 pub mod ManyNoted
 pub mod Found

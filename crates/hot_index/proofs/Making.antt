@@ -9,8 +9,8 @@ use Rattle.hot_index.specs.Kept.{HasOneKept, kept_stock, with_one_kept}
 use Rattle.std.specs.List.{slice_get}
 use mathlib.Core.Option.{some}
 use lib.ListN.{get_elem?}
-use Rattle.key_counts.specs.Counts.{IsCountOf}
-use Rattle.key_counts.specs.declared.KeyCount.{KeyCount}
+use Rattle.hot_index.specs.KeyCounts.{IsCountOf}
+use Rattle.hot_index.specs.declared.key_counts.KeyCount.{KeyCount}
 use Rattle.rowex_core.specs.declared.known.Known.{Known}
 use Rattle.rowex_table.specs.Rule.{opening_of}
 use Rattle.rowex_table.specs.Seats.{TableView, SeatView, IsNewSeatOf}

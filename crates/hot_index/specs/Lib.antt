@@ -1,4 +1,5 @@
 -- The definitions of the crate.
+pub mod KeyCounts
 pub mod Passes
 pub mod Ranges
 pub mod Cursors

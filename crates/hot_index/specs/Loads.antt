@@ -16,8 +16,8 @@ use Rattle.tries.specs.Keys.{Key}
 use Rattle.record_words.specs.declared.records.Rec.TheVariants.{Node as a_node}
 use Rattle.versions.specs.State.{IsLinked}
 use Rattle.versions.specs.Told.{added_notes}
-use Rattle.key_counts.specs.Counts.{IsCountOf}
-use Rattle.key_counts.specs.declared.KeyCount.{KeyCount}
+use Rattle.hot_index.specs.KeyCounts.{IsCountOf}
+use Rattle.hot_index.specs.declared.key_counts.KeyCount.{KeyCount}
 use Rattle.rowex_core.specs.Events.{IsLoad, loaded_tree}
 use Rattle.rowex_table.specs.Seats.{IsLoaderSeat, TableView}
 use Rattle.lone_runs.specs.Lone.{HasSpare}

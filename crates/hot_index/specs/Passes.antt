@@ -1,7 +1,7 @@
 -- What is true of a pass between two calls.
 use Rattle.std.specs.Prelude.{◌≡◌, All, List, [], ◌∷◌}
-use Rattle.key_counts.specs.Counts.{IsCountOf}
-use Rattle.key_counts.specs.declared.KeyCount.{KeyCount}
+use Rattle.hot_index.specs.KeyCounts.{IsCountOf}
+use Rattle.hot_index.specs.declared.key_counts.KeyCount.{KeyCount}
 use Rattle.rowex_core.specs.declared.known.Known.{Known}
 use Rattle.rowex_table.specs.Seats.{SeatView}
 use Rattle.hot_index_calls.specs.Passes.{IsSettled}

@@ -8,8 +8,8 @@ use Rattle.finite_map.specs.declared.Reply.{Reply}
 use Rattle.finite_map.specs.Calls.{LegalCalls, place_after}
 use Rattle.finite_map.specs.Fronts.{BeginsWith, LegalFront, OthersGoOn, map_of}
 use Rattle.finite_map.specs.Maps.{key_of, value_at}
-use Rattle.key_counts.specs.Counts.{AreCounts, IsCountOf}
-use Rattle.key_counts.specs.declared.KeyCount.{KeyCount}
+use Rattle.hot_index.specs.KeyCounts.{AreCounts, IsCountOf}
+use Rattle.hot_index.specs.declared.key_counts.KeyCount.{KeyCount}
 use Rattle.record_words.specs.declared.layout.Layout.{Layout}
 use Rattle.record_words.specs.Leaf.{words_for}
 use Rattle.versions.specs.Trades.{AreApart, IsOneOf}

@@ -2,14 +2,14 @@
 
 ghost use Rattle.std.specs.Prelude.{◌≡◌, IfErr, IfOk};
 ghost use Rattle.finite_map.specs.Calls.{LegalCalls};
-ghost use Rattle.key_counts.specs.Counts.{IsCountOf};
+ghost use Rattle.hot_index.specs.KeyCounts.{IsCountOf};
 ghost use Rattle.hot_index_calls.specs.Passes.{Owns};
 ghost use Rattle.hot_index.specs.Handles.{handle_at};
 
 use crate::handle::{Handle, ShowsIndex};
 use crate::index::{Index, Pass};
+use crate::key_counts::KeyCount;
 use hot_index_calls::new_scratch;
-use key_counts::KeyCount;
 use rowex_table::TableSeat;
 use std::alloc::{AllocFailed, Global};
 use std::marker::Model;

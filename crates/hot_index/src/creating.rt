@@ -10,7 +10,7 @@ ghost use Rattle.hot_index.specs.Passes.{AreSettled};
 
 use crate::closed::ClosedPass;
 use crate::index::{Index, Pass};
-use key_counts::KeyCount;
+use crate::key_counts::KeyCount;
 use record_words::{Layout, LayoutFault, Stock};
 use rowex_table::{HotTable, TableSeat};
 use std::alloc::{AllocError, Global};

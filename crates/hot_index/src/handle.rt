@@ -4,7 +4,7 @@ ghost use Rattle.std.specs.Prelude.{◌-◌, ◌^◌, ◌≡◌, ◌≢◌, [], 
 ghost use Rattle.finite_map.specs.declared.Call.TheVariants.{Add, Exchange, Get, Insert, Remove, RemoveIf, Upsert};
 ghost use Rattle.finite_map.specs.Calls.{LegalCalls};
 ghost use Rattle.finite_map.specs.Reverse.{IsLawfulReverseScan};
-ghost use Rattle.key_counts.specs.Counts.{IsCountOf};
+ghost use Rattle.hot_index.specs.KeyCounts.{IsCountOf};
 ghost use Rattle.rowex_table.specs.Seats.{IsShownAll};
 ghost use Rattle.rowex_writing.specs.declared.attempts.TryFault.TheVariants.{Busy};
 ghost use Rattle.hot_index_calls.specs.Answers.{HaveMet, IsNoted, IsUnnoted, MayRefuse, got, range_from};
@@ -24,11 +24,11 @@ ghost use Rattle.hot_index_calls.specs.Traces.{HasCollected, HasGot, HasMade, Ha
 ghost use Rattle.key_ranges.specs.Ranges.{last_with};
 
 use crate::index::{Index, Pass};
+use crate::key_counts::KeyCount;
 use epochs::Given;
 use finite_map::{Call, Reply, Scan};
 use hot_index_calls::{RecordCounts, Refusal};
 use key_bits::Key;
-use key_counts::KeyCount;
 use packed_pairs::Pairs;
 use rowex_writing::{Full, TryFault};
 use std::alloc::{AllocError, Global};

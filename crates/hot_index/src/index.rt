@@ -3,7 +3,7 @@
 ghost use Rattle.std.specs.Prelude.{◌≡◌, ◌≢◌, Err, length};
 ghost use Rattle.finite_map.specs.declared.Call.TheVariants.{Get, Insert, Remove, Upsert};
 ghost use Rattle.finite_map.specs.Calls.{LegalCalls};
-ghost use Rattle.key_counts.specs.Counts.{IsCountOf};
+ghost use Rattle.hot_index.specs.KeyCounts.{IsCountOf};
 ghost use Rattle.rowex_table.specs.Seats.{IsShownAll};
 ghost use Rattle.rowex_writing.specs.Attempts.{IsLeafless};
 ghost use Rattle.rowex_writing.specs.declared.attempts.TryFault.TheVariants.{FullLeaves};
@@ -19,14 +19,14 @@ ghost use Rattle.hot_index_calls.specs.Rooms.{LeavesRoom};
 ghost use Rattle.hot_index_calls.specs.Traces.{HasCollected, HasGot, HasMade, HasTold, untold};
 ghost use Rattle.hot_index.specs.Stamps.{HasSeenMore};
 
-use epochs::{Given, collect_round, pin, unpin};
+use crate::key_counts::KeyCount;
+use epochs::{Given, collect_round, pin};
 use finite_map::{Call, Reply};
 use hot_index_calls::{
     RecordCounts, Refusal, Scratch, count_records, end_get, end_gets, retry_change, try_and_count,
     try_change,
 };
 use key_bits::Key;
-use key_counts::KeyCount;
 use rowex_core::{Gate, NoGate};
 use rowex_reading::{look_up, look_up_all};
 use rowex_table::{HotTable, TableSeat};

@@ -42,6 +42,7 @@ mod cursor;
 mod expecting;
 mod handle;
 mod index;
+mod key_counts;
 pub mod laws;
 mod loading;
 mod range_counts;

@@ -30,6 +30,14 @@ struct Span {
     size: usize,
 }
 
+/// Which records of a kind are tried: `most` of them, from number `from` on, and from 0 on after the last. `most` is no more than the kind
+/// has.
+#[derive(Clone, Copy)]
+struct Turn {
+    from: u32,
+    most: u32,
+}
+
 impl RecordKind {
     /// The record of this kind with the number `number`, counted from 0 at the first. A kind of leaf records must have that number.
     fn record_at(self, number: u32) -> Rec
@@ -139,28 +147,28 @@ pub fn claim_next_record<G: Gate>(
     ensures held { IfSome result (λ number. (number < count_of kind table.now.layout) × IsClaimed seat.new.known (record_of kind number)) }
 {
     let most = kind.count(table.layout()).min(*left);
-    let (claimed, tried) = claim_and_count_tries(table, seat, gate, kind, from, most);
+    let (claimed, tried) = claim_and_count_tries(table, seat, gate, kind, Turn { from, most });
     *left -= tried;
     claimed
 }
 
-/// Claims the first record of `kind` that it finds free, of the next `most` from number `from` on. Returns its number, or `None` if none
-/// of them was free, and how many it tried. `most` is no more than the kind has. Inline, since mostly the first one is free.
+/// Claims the first record of `kind` that it finds free, of those of `turn`. Returns its number, or `None` if none of them was free, and
+/// how many it tried. Inline, since mostly the first one is free.
 #[inline(always)]
 fn claim_and_count_tries<G: Gate>(
     table: &HotTable,
     seat: &mut TableSeat,
     gate: &mut G,
     kind: RecordKind,
-    from: u32,
-    most: u32,
+    turn: Turn,
 ) -> (Option<u32>, u32)
     requires own { IsSeatOf table.now seat.old }
     requires kind { IsKindOf kind table.now.layout }
-    requires few { most ≤ count_of kind table.now.layout }
-    ensures few { result.1 ≤ most }
-    ensures tries { TriesSome table.now G.becomes kind (begin_of (count_of kind table.now.layout) from) most result (seat.old, gate.old) (seat.new, gate.new) }
+    requires few { turn.most ≤ count_of kind table.now.layout }
+    ensures few { result.1 ≤ turn.most }
+    ensures tries { TriesSome table.now G.becomes kind (begin_of (count_of kind table.now.layout) turn.from) turn.most result (seat.old, gate.old) (seat.new, gate.new) }
 {
+    let Turn { from, most } = turn;
     if most == 0 {
         return (None, 0);
     }
@@ -169,27 +177,27 @@ fn claim_and_count_tries<G: Gate>(
     if try_claim_record(table, seat, gate, at) {
         return (Some(begin), 1);
     }
-    claim_record_behind(table, seat, gate, kind, begin, most)
+    claim_record_behind(table, seat, gate, kind, Turn { from: begin, most })
 }
 
-/// Claims the first record of `kind` that it finds free behind number `begin`, which was tried and not free. It tries fewer than
-/// `most` others. Returns the record's number, or `None` if none was free, and how many were tried, `begin` counted.
+/// Claims the first record of `kind` that it finds free, of those of `turn` but the first, which was tried and not free. Returns the
+/// record's number, or `None` if none was free, and how many were tried, the first counted.
 fn claim_record_behind<G: Gate>(
     table: &HotTable,
     seat: &mut TableSeat,
     gate: &mut G,
     kind: RecordKind,
-    begin: u32,
-    most: u32,
+    turn: Turn,
 ) -> (Option<u32>, u32)
     requires own { IsSeatOf table.now seat.old }
     requires kind { IsKindOf kind table.now.layout }
-    requires low { begin < count_of kind table.now.layout }
-    requires some { 1 ≤ most }
-    requires few { most ≤ count_of kind table.now.layout }
-    ensures few { result.1 ≤ most }
-    ensures tries { GoesOnBehind table.now G.becomes kind begin most result (seat.old, gate.old) (seat.new, gate.new) }
+    requires low { turn.from < count_of kind table.now.layout }
+    requires some { 1 ≤ turn.most }
+    requires few { turn.most ≤ count_of kind table.now.layout }
+    ensures few { result.1 ≤ turn.most }
+    ensures tries { GoesOnBehind table.now G.becomes kind turn.from turn.most result (seat.old, gate.old) (seat.new, gate.new) }
 {
+    let Turn { from: begin, most } = turn;
     let layout = table.layout();
     let all = kind.count(layout);
     let mut number = number_or_zero(begin + 1, all);

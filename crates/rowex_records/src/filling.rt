@@ -1,6 +1,6 @@
 //! Records filled with the words of a leaf or of a node, and made ready.
 
-ghost use Rattle.std.specs.Prelude.{◌≡◌, ◌≢◌, ◌<◌, ◌≤◌, ◌+◌, ◌-◌, ◌*◌, ℕ, List, length};
+ghost use Rattle.std.specs.Prelude.{◌≡◌, ◌<◌, ◌≤◌, ◌+◌, ◌-◌, ◌*◌, ℕ, List, length};
 ghost use Rattle.record_words.specs.declared.records.Rec.TheVariants.{Node as a_node, Leaf as a_leaf};
 ghost use Rattle.record_words.specs.Layout.{leaf_size};
 ghost use Rattle.record_words.specs.Leaf.{leaf_words, words_for};
@@ -25,6 +25,13 @@ use rowex_core::{Gate, Rec};
 use rowex_table::{HotTable, RecordAt, TableSeat};
 use std::ops::Range;
 
+/// The word at `offset` of the record `at`, counted in words from 0 at its state.
+#[derive(Clone, Copy)]
+struct WordAt {
+    at: RecordAt,
+    offset: u8,
+}
+
 /// Fills the claimed leaf record `number`, which has room for `key`, with `value` and with the words of `key` up to its end.
 ///
 /// Each word is stored in one step. The key's length alone is loaded first, and stored only if another stands there. The words behind the
@@ -48,11 +55,14 @@ pub fn fill_leaf<G: Gate>(
 {
     let length = key.as_bytes().len() as u64;
     let leaf = table.locate(Rec::Leaf(number));
-    store_word(table, seat, gate, leaf, VALUE_OFFSET, value);
-    store_word_if_changed(table, seat, gate, leaf, LENGTH_OFFSET, length);
+    let offset = VALUE_OFFSET;
+    store_word(table, seat, gate, WordAt { at: leaf, offset }, value);
+    let offset = LENGTH_OFFSET;
+    store_word_if_changed(table, seat, gate, WordAt { at: leaf, offset }, length);
     for index in 0..count_key_words(length) {
         let word = key_word_at(key, index);
-        store_word(table, seat, gate, leaf, index as u8 + KEY_OFFSET, word);
+        let offset = index as u8 + KEY_OFFSET;
+        store_word(table, seat, gate, WordAt { at: leaf, offset }, word);
     }
 }
 
@@ -77,7 +87,8 @@ pub fn fill_node<G: Gate>(
     let node = table.locate(Rec::Node(number));
     let (columns, rows) = used_ends(words);
     let leads = read_numbers(words[0]).entries_end();
-    store_word(table, seat, gate, node, NUMBERS_OFFSET, words[0]);
+    let offset = NUMBERS_OFFSET;
+    store_word(table, seat, gate, WordAt { at: node, offset }, words[0]);
     set_eight_words(table, seat, gate, node, words, FIRST_POSITIONS..columns);
     set_eight_words(table, seat, gate, node, words, FIRST_ROWS..rows);
     set_eight_words(table, seat, gate, node, words, FIRST_ROWS + 8..rows);
@@ -87,8 +98,8 @@ pub fn fill_node<G: Gate>(
     set_eight_words(table, seat, gate, node, words, HEAD_WORDS + 24..leads);
 }
 
-/// The index behind the last word with columns in which the node of `words` has something, and that behind the last such word with rows. In a
-/// near head the columns fill all their words, and the two are the same. A word of rows that is all ones counts to those with nothing.
+/// The index behind the last word with columns in which the node of `words` has something, and that behind the last such word with rows.
+/// In a near head the columns fill all their words, and the two are the same. A word of rows that is all ones counts to those with nothing.
 #[inline(always)]
 fn used_ends(words: &[u64; NODE_FIELDS]) -> (usize, usize)
     requires { IsSpelling HasNodeWords node_words words.now }
@@ -108,9 +119,9 @@ fn used_ends(words: &[u64; NODE_FIELDS]) -> (usize, usize)
     }
 }
 
-/// Fills eight words of the claimed node record `node`, with those of `words` from index `used.start` on. The node has something in those
-/// before `used.end`: these are stored. The others are loaded, and stored only where another stands. If the node has something in all
-/// eight, no index is compared with `used.end`. Inline, so that offsets are constants.
+/// Fills eight words of the claimed node record `node`, with those of `words` from index `used.start` on, counted from 0 behind the state.
+/// The node has something in those before index `used.end`: these are stored. Each other one is loaded, and stored only where another
+/// stands. If the node has something in all eight, no index is compared with `used.end`. Inline, so that offsets are constants.
 #[inline(always)]
 fn set_eight_words<G: Gate>(
     table: &HotTable,
@@ -131,7 +142,7 @@ fn set_eight_words<G: Gate>(
         for place in 0..8 {
             let index = used.start + place;
             let offset = index as u8 + FIELDS_OFFSET;
-            store_word(table, seat, gate, node, offset, words[index]);
+            store_word(table, seat, gate, WordAt { at: node, offset }, words[index]);
         }
         return;
     }
@@ -139,71 +150,65 @@ fn set_eight_words<G: Gate>(
         let index = used.start + place;
         let offset = index as u8 + FIELDS_OFFSET;
         if index < used.end {
-            store_word(table, seat, gate, node, offset, words[index]);
+            store_word(table, seat, gate, WordAt { at: node, offset }, words[index]);
         } else {
-            store_word_if_changed(table, seat, gate, node, offset, unused_node_word(offset));
+            let unused = unused_node_word(offset);
+            store_word_if_changed(table, seat, gate, WordAt { at: node, offset }, unused);
         }
     }
 }
 
-/// Stores `word` at `offset` of the claimed record `at`. Words that often stand there already go to [`store_word_if_changed`] instead.
+/// Stores `word` at `place`, of a claimed record. Words that often stand there already go to [`store_word_if_changed`] instead.
 #[inline(always)]
 fn store_word<G: Gate>(
     table: &HotTable,
     seat: &mut TableSeat,
     gate: &mut G,
-    at: RecordAt,
-    offset: u8,
+    place: WordAt,
     word: u64,
 )
     requires own { IsSeatOf table.now seat.old }
-    requires start { IsStartOf table.now.layout at.rec at.start }
-    requires held { IsClaimed seat.old.known at.rec }
-    requires range { IsOffset at.rec offset × HasWord table.now.layout at.rec offset }
-    requires stored { ¬ (IsLookedAt at.rec offset word) }
-    ensures { Sets table.now G.becomes at.rec offset word (seat.old, gate.old) (seat.new, gate.new) }
+    requires start { IsStartOf table.now.layout place.at.rec place.at.start }
+    requires held { IsClaimed seat.old.known place.at.rec }
+    requires range { IsOffset place.at.rec place.offset × HasWord table.now.layout place.at.rec place.offset }
+    requires stored { ¬ (IsLookedAt place.at.rec place.offset word) }
+    ensures { Sets table.now G.becomes place.at.rec place.offset word (seat.old, gate.old) (seat.new, gate.new) }
 {
-    table.fill_at(seat, gate, at, offset, word);
+    table.fill_at(seat, gate, place.at, place.offset, word);
 }
 
-/// Makes the word at `offset` of the claimed record `at` be `word`: a key's length, or a word in which a node has nothing. It is loaded
-/// first, and stored only if another stands there, since the record's last leaf or node often had the same.
+/// Makes the word at `place`, of a claimed record, be `word`: a key's length, or a word in which a node has nothing. It is loaded first, and
+/// stored only if another stands there, since the record's last leaf or node often had the same.
 #[inline(always)]
 fn store_word_if_changed<G: Gate>(
     table: &HotTable,
     seat: &mut TableSeat,
     gate: &mut G,
-    at: RecordAt,
-    offset: u8,
+    place: WordAt,
     word: u64,
 )
     requires own { IsSeatOf table.now seat.old }
-    requires start { IsStartOf table.now.layout at.rec at.start }
-    requires held { IsClaimed seat.old.known at.rec }
-    requires range { IsOffset at.rec offset × HasWord table.now.layout at.rec offset }
-    requires looked { IsLookedAt at.rec offset word }
-    ensures { Sets table.now G.becomes at.rec offset word (seat.old, gate.old) (seat.new, gate.new) }
+    requires start { IsStartOf table.now.layout place.at.rec place.at.start }
+    requires held { IsClaimed seat.old.known place.at.rec }
+    requires range { IsOffset place.at.rec place.offset × HasWord table.now.layout place.at.rec place.offset }
+    requires looked { IsLookedAt place.at.rec place.offset word }
+    ensures { Sets table.now G.becomes place.at.rec place.offset word (seat.old, gate.old) (seat.new, gate.new) }
 {
-    if load_word(table, seat, gate, at, offset) != word {
-        table.fill_at(seat, gate, at, offset, word);
+    if load_word(table, seat, gate, place) != word {
+        table.fill_at(seat, gate, place.at, place.offset, word);
     }
 }
 
-/// Loads the word at `offset` of the record `at`, which is neither its state nor a leaf's value, and returns it.
+/// Loads the word at `place`, which is neither a record's state nor a leaf's value, and returns it.
 #[inline(always)]
-fn load_word<G: Gate>(
-    table: &HotTable,
-    seat: &mut TableSeat,
-    gate: &mut G,
-    at: RecordAt,
-    offset: u8,
-) -> u64
+fn load_word<G: Gate>(table: &HotTable, seat: &mut TableSeat, gate: &mut G, place: WordAt) -> u64
     requires own { IsSeatOf table.now seat.old }
-    requires start { IsStartOf table.now.layout at.rec at.start }
-    requires range { IsOffset at.rec offset × HasWord table.now.layout at.rec offset }
-    requires behind { IsBehindValue at.rec offset }
-    ensures { Steps table.now G.becomes (load_of_word at.rec offset result) (seat.old, gate.old) (seat.new, gate.new) }
+    requires start { IsStartOf table.now.layout place.at.rec place.at.start }
+    requires range { IsOffset place.at.rec place.offset × HasWord table.now.layout place.at.rec place.offset }
+    requires behind { IsBehindValue place.at.rec place.offset }
+    ensures { Steps table.now G.becomes (load_of_word place.at.rec place.offset result) (seat.old, gate.old) (seat.new, gate.new) }
 {
+    let WordAt { at, offset } = place;
     match at.rec {
         Rec::Node(_) if offset as usize >= FIRST_ENTRY => {
             let slot = offset - FIRST_ENTRY as u8;

@@ -31,9 +31,9 @@ AreAhead d k m top count leaves = (i : ℕ) → i < count → Sure k (λ s. IsPl
 abbrev pub IsNodeAhead : Direction → Known → ℕ → PathNode → ℕ → ℕ → Type 0
 IsNodeAhead d k m top count n = (h : ℕ) × (h < top.height) × Sure k (λ s. IsPlaced s m top.number (place_ahead d top.slot count) (Node n h))
 
--- The entries at the next places were those of the first of these leaves, and then of this node, if there is one.
-pub record HasSeenAhead (d : Direction) (k : Known) (m : ℕ) (top : PathNode) (leaves : List ℕ) (a : Ahead) : Type 0 where
-  pub first : AreAhead d k m top a.count leaves
+-- The entries at the next places were those of the first leaves, so many, and then of the node, if there is one.
+pub record HasSeenAhead (d : Direction) (k : Known) (m : ℕ) (top : PathNode) (a : Ahead) : Type 0 where
+  pub first : AreAhead d k m top a.count a.leaves
   pub node : IfSome a.node (IsNodeAhead d k m top a.count)
 
 -- From a gap of this node, with so many pairs, the walk has passed so many leaves: it stands behind them, with their pairs.

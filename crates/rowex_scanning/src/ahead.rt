@@ -29,7 +29,9 @@ const LEAST_PAIRS: usize = 4;
 /// What comes next in a node.
 #[derive(Clone, Copy)]
 pub(crate) struct Ahead {
-    /// How many leaves come first.
+    /// The numbers of the leaves that come first, and 0 behind them.
+    pub leaves: [u32; MOST_AHEAD as usize],
+    /// How many these are.
     pub count: u8,
     /// The node behind them, if it was looked at.
     pub node: Option<u32>,
@@ -64,7 +66,6 @@ pub(crate) fn load_entries_ahead<G: Gate, S: Tallies>(
     gate: &mut G,
     top: &PathNode,
     sink: &S,
-    leaves: &mut [u32; MOST_AHEAD as usize],
 ) -> Ahead
     requires reader { IsReader scan.now.table.now seat.old }
     requires origins { scan.now.origins.now.layout ≡ scan.now.table.now.layout }
@@ -76,21 +77,23 @@ pub(crate) fn load_entries_ahead<G: Gate, S: Tallies>(
         Reads scan.now.table.now G.becomes (entries_ahead result) n (seat.old, gate.old) (seat.new, gate.new) }
     ensures some { 0 < entries_ahead result }
     ensures come { entries_ahead result ≤ to_come_of scan.now.range.now.direction top.now.count top.now.slot }
-    ensures most { result.count ≤ MOST_AHEAD }
+    ensures most { (result.count ≤ MOST_AHEAD) × (length result.leaves ≡ MOST_AHEAD) }
     ensures few { (S.tally sink.now).size + entries_ahead result ≤ scan.now.range.now.limit + 1 }
     ensures ahead { (m : ℕ) → HasPlaces scan.now.range.now.direction seat.old.known m top.now →
-        HasSeenAhead scan.now.range.now.direction seat.new.known m top.now leaves.new result }
+        HasSeenAhead scan.now.range.now.direction seat.new.known m top.now result }
 {
     let count = entries_to_come(scan.range.direction, top).min(most_slots(
         scan.range.limit,
         sink.size(),
     ));
     let node = RecordAt::find(scan.origins, Rec::Node(top.number));
+    let mut leaves = [0; MOST_AHEAD as usize];
     for index in 0..count {
         let slot = slot_ahead(scan.range.direction, *top, index);
         match load_entry(scan.table, seat, gate, node, slot) {
             Entry::Node { number, .. } => {
                 return Ahead {
+                    leaves,
                     count: index,
                     node: Some(number),
                 };
@@ -100,7 +103,11 @@ pub(crate) fn load_entries_ahead<G: Gate, S: Tallies>(
             }
         }
     }
-    Ahead { count, node: None }
+    Ahead {
+        leaves,
+        count,
+        node: None,
+    }
 }
 
 /// Asks for the cache lines of `leaves`, which are read next, so that they come side by side.

@@ -15,7 +15,7 @@ ghost use Rattle.rowex_scanning.specs.Scanning.{HasScanned, HasScannedPart, HasT
 ghost use Rattle.rowex_scanning.specs.Scanning.{IsEntered, IsWalkAlong, asked_range, first_key_of, request_of};
 ghost use Rattle.rowex_scanning.specs.Tallies.{IsNone, tally_of_values};
 
-use crate::ahead::{MOST_AHEAD, load_entries_ahead};
+use crate::ahead::load_entries_ahead;
 use crate::direction::{
     entries_to_come, first_gap, gap_after_entries, gap_behind_slot, is_earlier_key, is_key_before,
     slot_ahead,
@@ -188,8 +188,8 @@ fn scan_node<G: Gate, S: Sink>(
     let start = find_start(scan, seat, gate, way, found);
     let mut top = start.top;
     way.truncate(start.level);
-    let places = &mut [0; MAX_BYTES];
     if start.leaf {
+        let places = &mut [0; MAX_BYTES];
         match take_leaf(scan, seat, gate, found.number, places, sink)? {
             Verdict::Further => top.slot = gap_behind_slot(direction, top.slot),
             Verdict::Past => return Ok(false),
@@ -197,21 +197,20 @@ fn scan_node<G: Gate, S: Sink>(
         }
     }
     way.push(top);
-    walk_slots(scan, seat, gate, way, places, sink)
+    walk_slots(scan, seat, gate, way, sink)
 }
 
 /// Walks over the slots of the last node of `way`, from the gap in its `slot` on, and of the nodes above it, in the scan's direction. Gives the
 /// pairs of the range to `sink`, and returns whether there is a further one. An error if memory is refused.
 ///
-/// It looks at several slots together, so that it doesn't wait for each leaf alone. The bytes of each key go to the same `places`,
-/// whatever stands there.
+/// It looks at several slots together, so that it doesn't wait for each leaf alone. The bytes of each key go to the same places, whatever
+/// stands there.
 #[inline(always)]
 fn walk_slots<G: Gate, S: Sink>(
     scan: &Scan,
     seat: &mut TableSeat,
     gate: &mut G,
     way: &mut ArrayVec<PathNode, MOST_NODES>,
-    places: &mut [u8; MAX_BYTES],
     sink: &mut S,
 ) -> Result<bool, AllocError>
     requires reader { IsReader scan.now.table.now seat.old }
@@ -223,14 +222,14 @@ fn walk_slots<G: Gate, S: Sink>(
     ensures refused { OnErr result S.may_refuse }
 {
     let direction = scan.range.direction;
-    let mut leaves = [0; MOST_AHEAD as usize];
+    let places = &mut [0; MAX_BYTES];
     let Some(mut top) = way.pop() else {
         return Ok(false);
     };
     loop {
         if entries_to_come(direction, &top) > 0 {
-            let ahead = load_entries_ahead(scan, seat, gate, &top, sink, &mut leaves);
-            let next = &leaves[..ahead.count as usize];
+            let ahead = load_entries_ahead(scan, seat, gate, &top, sink);
+            let next = &ahead.leaves[..ahead.count as usize];
             match sink.take_leaves(scan, seat, gate, next, places)? {
                 Verdict::Further => (),
                 Verdict::Past => return Ok(false),

@@ -43,7 +43,8 @@ use Rattle.rowex_writing.specs.Attempts.{HasAnswered, HasDoneDeed, HasLoadedRoot
 use Rattle.rowex_writing.specs.Changes.{AreAffected, HasChanged, HasNoRoom, HasRun, IsFull, IsPlanned}
 use Rattle.rowex_writing.specs.Locks.{HasMetLock, locks_of}
 use Rattle.rowex_writing.specs.Walks.{nodes_among}
-use Rattle.rowex_writing.specs.Plans.{change, IsCase, IsNewLeafPlan}
+use Rattle.rowex_writing.proofs.Planning.{taking_takes}
+use Rattle.rowex_writing.specs.Plans.{change, IsCase, IsNewLeafPlan, TakesLeaf, removal_deed}
 use Rattle.rowex_reading.specs.Ways.{IsWayOf, value_of}
 use Rattle.rowex_writing.specs.declared.plan.Aim.{Aim}
 use Rattle.rowex_writing.specs.declared.plan.Aim.TheVariants.{Insert as ToInsert, Upsert as ToUpsert, Remove as ToRemove}
@@ -225,6 +226,11 @@ module _ (i j : Known) (key : Key) (value : ℕ) (found : Found) where
   done_by : (span : Span) (deed other : Deed) (len end : ℕ) → a_change span deed ≡ change len end other → HasDoneDeed i j deed key value found → HasDoneDeed i j other key value found
   done_by span deed other len end e done = subst (λ d. HasDoneDeed i j d key value found) (ap deed_in e) done
 
+  take_done : (way : List PathNode) → HasDoneDeed i j (removal_deed way) key value found → HasDoneDeed i j Take key value found
+  take_done [] done = done
+  take_done (step ∷ []) done = done
+  take_done (step ∷ next ∷ way) done = done
+
   new_done : (way : List PathNode) (p first last : ℕ) (span : Span) (deed : Deed) → IsNewLeafPlan way p first last (a_change span deed) → HasDoneDeed i j deed key value found →
       HasDoneDeed i j Put key value found
   new_done [] p first last span deed e done = done_by span deed (PushDown p) 0 0 e done
@@ -246,7 +252,7 @@ plan_does i j k m key value way ToInsert (Leaf n v None) span deed (first, last,
 plan_does i j k m key value way ToUpsert (Leaf n v None) span deed (first, last, is, affected) done = done_by i j key value (Leaf n v None) span deed ValueDeed _ _ is done
 plan_does i j k m key value way ToRemove Nothing span deed (first, last, is, affected) done = no_answer _ span deed (sym is)
 plan_does i j k m key value way ToRemove (Leaf n v (Some p)) span deed (first, last, is, affected) done = no_answer _ span deed (sym is)
-plan_does i j k m key value way ToRemove (Leaf n v None) span deed (first, last, is, affected) done = done_by i j key value (Leaf n v None) span deed Take _ _ is done
+plan_does i j k m key value way ToRemove (Leaf n v None) span deed (first, last, is, affected) done = take_done i j key value (Leaf n v None) way (done_by i j key value (Leaf n v None) span deed (removal_deed way) _ _ is done)
 
 -- and so the one that the call asked for
 module _ (q : ℕ) (x : Change) (was : Option ℕ) where
@@ -285,14 +291,14 @@ module _ (q : ℕ) (x : Change) (was : Option ℕ) where
       let (x_is, was_is) = aim_met (λ a. IsMade q key 0 a (Some held) x was) expected (Some held) ToRemove aim e made in
       is_change_of (RemoveIf key expected) (Some held) TakenAway held (expected_effect (effect_of (RemoveIf key expected)) (nat_eq held expected) ToRemove aim held _ e) x_is was_is
 
-takes : (k : Known) (m : ℕ) (key : Key) (way : List PathNode) (found : Found) (span : Span) (deed : Deed) → IsPlanned k m key way ToRemove found (a_change span deed) → deed ≡ Take
+takes : (k : Known) (m : ℕ) (key : Key) (way : List PathNode) (found : Found) (span : Span) (deed : Deed) → IsPlanned k m key way ToRemove found (a_change span deed) → TakesLeaf deed
 takes k m key way Nothing span deed (first, last, is, affected) = no_answer _ span deed (sym is)
 takes k m key way (Leaf n v (Some p)) span deed (first, last, is, affected) = no_answer _ span deed (sym is)
-takes k m key way (Leaf n v None) span deed (first, last, is, affected) = ap deed_in is
+takes k m key way (Leaf n v None) span deed (first, last, is, affected) = subst TakesLeaf (sym (ap deed_in is)) (taking_takes way)
 
 -- a removal that changes the map takes a leaf away
 pub removal_takes : (k : Known) (m : ℕ) (key : Key) (way : List PathNode) (aim : Aim) (found : Found) (plan : Plan) (span : Span) (deed : Deed) → aim ≡ ToRemove →
-    plan ≡ a_change span deed → IsPlanned k m key way aim found plan → deed ≡ Take
+    plan ≡ a_change span deed → IsPlanned k m key way aim found plan → TakesLeaf deed
 removal_takes k m key way aim found plan span deed e is planned =
     takes k m key way found span deed (subst (λ a. IsPlanned k m key way a found (a_change span deed)) e (subst (IsPlanned k m key way aim found) is planned))
 
@@ -423,6 +429,11 @@ pub found_for_key : (found : Found) (n v o w : ℕ) (mismatch : Option ℕ) → 
 found_for_key found n v o w mismatch a b =
     let both : Leaf n v mismatch ≡ Leaf o w None = sym b ∙ a in let none : mismatch ≡ None = cc in b ∙ ap (λ z. Leaf n v z) none
 
+taking_spares : (way : List PathNode) → 3 ≤ spare_steps (removal_deed way)
+taking_spares [] = omega arith
+taking_spares (step ∷ []) = omega arith
+taking_spares (step ∷ next ∷ way) = omega arith
+
 -- a deed that makes a leaf's record loads no value, and one that takes a leaf away spares its steps
 pub loads_spared : (k : Known) (m : ℕ) (key : Key) (way : List PathNode) (aim : Aim) (found : Found) (span : Span) (deed : Deed) → IsPlanned k m key way aim found (a_change span deed) →
     3 * held_loads found ≤ spare_steps deed
@@ -430,7 +441,7 @@ loads_spared k m key way aim Nothing span deed planned = omega arith
 loads_spared k m key way aim (Leaf n v (Some p)) span deed planned = omega arith
 loads_spared k m key way ToInsert (Leaf n v None) span deed (first, last, is, affected) = no_answer _ span deed (sym is)
 loads_spared k m key way ToUpsert (Leaf n v None) span deed (first, last, is, affected) = subst (λ d. 3 ≤ spare_steps d) (sym (ap deed_in is)) (omega arith)
-loads_spared k m key way ToRemove (Leaf n v None) span deed (first, last, is, affected) = subst (λ d. 3 ≤ spare_steps d) (sym (ap deed_in is)) (omega arith)
+loads_spared k m key way ToRemove (Leaf n v None) span deed (first, last, is, affected) = subst (λ d. 3 ≤ spare_steps d) (sym (ap deed_in is)) (taking_spares way)
 
 -- the value deed is done to a leaf that was found for the key
 pub value_found : (k : Known) (m : ℕ) (key : Key) (way : List PathNode) (aim : Aim) (found : Found) (span : Span) → IsPlanned k m key way aim found (a_change span ValueDeed) →
@@ -443,7 +454,7 @@ value_found k m key way ToUpsert (Leaf n v (Some p)) span (first, last, is, affe
 value_found k m key way ToRemove (Leaf n v (Some p)) span (first, last, is, affected) = no_answer _ span ValueDeed (sym is)
 value_found k m key way ToInsert (Leaf n v None) span (first, last, is, affected) = no_answer _ span ValueDeed (sym is)
 value_found k m key way ToUpsert (Leaf n v None) span (first, last, is, affected) = (n, v, refl, ap (λ (s : Span). s.len) (ap span_in is), ap (λ (s : Span). s.end) (ap span_in is))
-value_found k m key way ToRemove (Leaf n v None) span (first, last, is, affected) = absurd (cc)
+value_found k m key way ToRemove (Leaf n v None) span (first, last, is, affected) = absurd (subst TakesLeaf (sym (ap deed_in is)) (taking_takes way))
 
 -- a change to a leaf that was found for the key has a span to the end of the way
 pub plan_reaches : (k : Known) (m : ℕ) (key : Key) (way : List PathNode) (aim : Aim) (found : Found) (span : Span) (deed : Deed) → IsPlanned k m key way aim found (a_change span deed) →

@@ -57,13 +57,13 @@ use Rattle.rowex_reading.specs.Ways.{IsWayNode, IsWayOf, end_of, named}
 use Rattle.rowex_reading.proofs.Ways.{named_at, named_end}
 use Rattle.rowex_writing.specs.declared.plan.Aim.{Aim}
 use Rattle.rowex_writing.specs.declared.plan.Aim.TheVariants.{Insert, Upsert, Remove}
-use Rattle.rowex_writing.specs.declared.plan.Deed.TheVariants.{Grow, PushDown, Put, Take, Value}
+use Rattle.rowex_writing.specs.declared.plan.Deed.TheVariants.{Empty, Grow, PushDown, Put, Take, TakeTop, Value}
 use Rattle.rowex_reading.specs.declared.descent.Found.{Found}
 use Rattle.rowex_reading.specs.declared.descent.Found.TheVariants.{Nothing, Leaf}
 use Rattle.rowex_writing.specs.declared.plan.Plan.{Plan}
 use Rattle.rowex_writing.specs.declared.plan.Plan.TheVariants.{Answer, Change}
 use Rattle.rowex_writing.specs.declared.plan.Span.{Span}
-use Rattle.rowex_writing.proofs.Planning.{chosen_within, same_span}
+use Rattle.rowex_writing.proofs.Planning.{chosen_within, same_span, takes_too}
 use Rattle.rowex_writing.proofs.Above.{locked_at, holds_above}
 use Rattle.rowex_writing.proofs.Shapes.{IsStepOf, locked_shape, shape_affects, way_node_locked}
 use Rattle.rowex_writing.proofs.Staging.{stage_of_held}
@@ -149,6 +149,8 @@ IsGrowOf position (Change span (Put)) = ⊥
 IsGrowOf position (Change span (Value)) = ⊥
 IsGrowOf position (Change span (PushDown p)) = ⊥
 IsGrowOf position (Change span (Take)) = ⊥
+IsGrowOf position (Change span (TakeTop)) = ⊥
+IsGrowOf position (Change span (Empty)) = ⊥
 
 module _ (k : Known) (m : ℕ) (key : Key) (way : List PathNode) (len end position : ℕ) where
   abbrev plan : Plan
@@ -196,7 +198,7 @@ module _ (k : Known) (m : ℕ) (key : Key) (way : List PathNode) (len end positi
   grow_plan Remove Nothing (low, high, is, affected) = absurd (no_other _ is (λ z. z))
   grow_plan Insert (Leaf n v None) (low, high, is, affected) = absurd (no_other _ is (λ z. z))
   grow_plan Upsert (Leaf n v None) (low, high, is, affected) = absurd (no_other _ is (λ z. z))
-  grow_plan Remove (Leaf n v None) (low, high, is, affected) = absurd (no_other _ is (λ z. z))
+  grow_plan Remove (Leaf n v None) (low, high, is, affected) = absurd (takes_too way is)
   grow_plan Remove (Leaf n v (Some p)) (low, high, is, affected) = absurd (no_other _ is (λ z. z))
   grow_plan Insert (Leaf n v (Some p)) (low, high, is, affected) = new_leaf n v p low high is affected
   grow_plan Upsert (Leaf n v (Some p)) (low, high, is, affected) = new_leaf n v p low high is affected

@@ -550,7 +550,7 @@ building_same table a b made news seat possible own was = record { seat = seat; 
 -- ---- the end of a removal
 pub is_taking : (table : TableView) (a : SeatView) (job : Job) → HasTakenPlan table a job Take → 0 < job.span.end → (t : IsTaking table job) × (t.before ≡ a)
 is_taking table a job (m, aim, taken, planned) some =
-    let (number, value, found_is, below) = taken_below table a m job aim taken planned (let w = taken.within.0 in omega (arith, w, some)) in
+    let (number, value, found_is, below) = taken_below table a m job aim Take tt taken planned (let w = taken.within.0 in omega (arith, w, some)) in
     (record { before = a; since = m; number = number; value = value; found = found_is; below = below; some = some }, refl)
 
 -- it goes on once what is left of the lower node is made

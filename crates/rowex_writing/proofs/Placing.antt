@@ -50,6 +50,7 @@ use Rattle.publish_laws.proofs.Sure.{seen_is_sure, sure_stays}
 use Rattle.rowex_writing.specs.Building.{HasLeafMade, IsBuilding}
 use Rattle.rowex_writing.specs.Changes.{AreAffected, HasTakenSpan, IsPlanned, IsPutChange, MayPublishOnceReady}
 use Rattle.rowex_writing.specs.Going.{HasLocked}
+use Rattle.rowex_writing.proofs.Planning.{takes_too}
 use Rattle.rowex_writing.specs.Plans.{change, IsCase, IsNewLeafPlan, IsPlan}
 use Rattle.rowex_writing.specs.Putting.{IsSpotAbove}
 use Rattle.rowex_reading.specs.Ways.{IsFoundAt, IsMismatch, IsWayNode, IsWayOf, end_of, named}
@@ -107,7 +108,7 @@ put_at way first last Upsert (Leaf number value (Some p)) len end e = no_put way
 put_at way first last Remove (Leaf number value (Some p)) len end e = cc
 put_at way first last Insert (Leaf number value None) len end e = absurd cc
 put_at way first last Upsert (Leaf number value None) len end e = cc
-put_at way first last Remove (Leaf number value None) len end e = absurd cc
+put_at way first last Remove (Leaf number value None) len end e = absurd (takes_too way e)
 
 pub put_stored : (q number : ℕ) (key : Key) (value : ℕ) (way : List PathNode) (found : Found) (len end : ℕ) → IsPutAt way found len end →
     IsPutChange q key value found (added_change q (item number key value)) None
@@ -202,7 +203,7 @@ pair_at way first last Upsert (Leaf number value (Some p)) len end q e = pair_ne
 pair_at way first last Remove (Leaf number value (Some p)) len end q e = absurd cc
 pair_at way first last Insert (Leaf number value None) len end q e = cc
 pair_at way first last Upsert (Leaf number value None) len end q e = cc
-pair_at way first last Remove (Leaf number value None) len end q e = cc
+pair_at way first last Remove (Leaf number value None) len end q e = absurd (takes_too way e)
 
 pair_spans_at : (way : List PathNode) (p first last len end q : ℕ) → IsPairAt way p first last len end q → (len ≡ end) × (end ≡ length way)
 pair_spans_at [] p first last len end q (a, b, c) = (a ∙ sym b, b)

@@ -10,11 +10,11 @@ use Rattle.insert_cases.specs.declared.choice.PathNode.{PathNode}
 use Rattle.insert_cases.specs.Levels.{IsChainEnd, IsChosen, IsLevel}
 use Rattle.insert_cases.specs.Ways.{case_of}
 use Rattle.insert_cases.proofs.Choosing.{some_at, some_injective}
-use Rattle.rowex_writing.specs.Plans.{change, LiesOnWay, IsCase, IsBeside, IsNewLeafPlan, IsPlan}
+use Rattle.rowex_writing.specs.Plans.{change, LiesOnWay, IsCase, IsBeside, IsNewLeafPlan, IsPlan, TakesLeaf, removal_deed}
 use Rattle.rowex_writing.specs.declared.plan.Aim.{Aim}
 use Rattle.rowex_writing.specs.declared.plan.Aim.TheVariants.{Insert, Upsert, Remove}
 use Rattle.rowex_writing.specs.declared.plan.Deed.{Deed}
-use Rattle.rowex_writing.specs.declared.plan.Deed.TheVariants.{Grow}
+use Rattle.rowex_writing.specs.declared.plan.Deed.TheVariants.{Empty, Grow, Put, Take, TakeTop}
 use Rattle.rowex_reading.specs.declared.descent.Found.{Found}
 use Rattle.rowex_reading.specs.declared.descent.Found.TheVariants.{Nothing, Leaf}
 use Rattle.rowex_writing.specs.declared.plan.Plan.{Plan}
@@ -113,3 +113,50 @@ end_of (Change span deed) = span.end
 
 pub same_span : {l e m f : ℕ} {d o : Deed} → change l e d ≡ change m f o → (l ≡ m) × (e ≡ f)
 same_span is = (ap len_of is, ap end_of is)
+
+abbrev deed_of : Plan → Deed
+deed_of (Answer reply) = Put
+deed_of (Change span deed) = deed
+
+pub same_deed : {l e m f : ℕ} {d o : Deed} → change l e d ≡ change m f o → d ≡ o
+same_deed is = ap deed_of is
+
+-- ---- a removal
+pub taking_takes : (way : List PathNode) → TakesLeaf (removal_deed way)
+taking_takes [] = tt
+taking_takes (step ∷ []) = tt
+taking_takes (step ∷ next ∷ way) = tt
+
+-- no other deed is one
+pub takes_too : {l e m f : ℕ} {d : Deed} (way : List PathNode) → change l e d ≡ change m f (removal_deed way) → TakesLeaf d
+takes_too way is = subst TakesLeaf (sym (ap deed_of is)) (taking_takes way)
+
+-- each is that of a way with so many nodes
+pub taking_below : (way : List PathNode) → 1 < length way → removal_deed way ≡ Take
+taking_below [] some = absurd (omega (arith, some))
+taking_below (step ∷ []) some = absurd (omega (arith, some))
+taking_below (step ∷ next ∷ way) some = refl
+
+pub taking_top : (way : List PathNode) → length way ≡ 1 → removal_deed way ≡ TakeTop
+taking_top [] one = absurd (omega (arith, one))
+taking_top (step ∷ []) one = refl
+taking_top (step ∷ next ∷ way) one = absurd (omega (arith, one))
+
+pub taking_none : (way : List PathNode) → length way ≡ 0 → removal_deed way ≡ Empty
+taking_none [] none = refl
+taking_none (step ∷ way) none = absurd (omega (arith, none))
+
+pub below_taking : (way : List PathNode) → Take ≡ removal_deed way → 1 < length way
+below_taking [] is = absurd cc
+below_taking (step ∷ []) is = absurd cc
+below_taking (step ∷ next ∷ way) is = omega arith
+
+pub top_taking : (way : List PathNode) → TakeTop ≡ removal_deed way → length way ≡ 1
+top_taking [] is = absurd cc
+top_taking (step ∷ []) is = refl
+top_taking (step ∷ next ∷ way) is = absurd cc
+
+pub none_taking : (way : List PathNode) → Empty ≡ removal_deed way → length way ≡ 0
+none_taking [] is = refl
+none_taking (step ∷ []) is = absurd cc
+none_taking (step ∷ next ∷ way) is = absurd cc

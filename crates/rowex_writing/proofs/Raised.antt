@@ -35,7 +35,7 @@ use Rattle.rowex_writing.specs.Going.{WorksOn}
 use Rattle.rowex_writing.specs.declared.kept.Build.{Build}
 use Rattle.rowex_writing.specs.declared.job.Job.{Job}
 use Rattle.rowex_writing.specs.declared.plan.Deed.{Deed}
-use Rattle.rowex_writing.specs.declared.plan.Deed.TheVariants.{Grow, Take}
+use Rattle.rowex_writing.specs.declared.plan.Deed.TheVariants.{Grow, TakeTop}
 use Rattle.rowex_writing.specs.declared.plan.Full.{Full}
 use Rattle.rowex_writing.specs.declared.plan.Full.TheVariants.{Nodes, Leaves}
 use Rattle.rowex_writing.specs.Locks.{AreNodes, HasLockedSpan, numbers_of}
@@ -121,7 +121,7 @@ grown_raised table a m b made job position leaf (Ok raised) later stored may = (
 grown_raised table a m b made job position leaf (Err full) later stored may = tt
 
 pub taken_raised : (table : TableView) (a : Known) (b : SeatView) (made : List Rec) (job : Job) (number value : ℕ) (r : Result Raised Full) → job.found ≡ Leaf number value None →
-    IfOk r (λ raised. MayReplace table b made job raised (removed_change a.pass (item number job.key.now value)) (Some value)) → IfOk r (HasRaised table a b made job Take)
+    IfOk r (λ raised. MayReplace table b made job raised (removed_change a.pass (item number job.key.now value)) (Some value)) → IfOk r (HasRaised table a b made job TakeTop)
 taken_raised table a b made job number value (Ok raised) is may = (
   removed_change a.pass (item number job.key.now value),
   Some value,

@@ -43,10 +43,11 @@ use Rattle.publish_laws.proofs.Replacing.{leaf_stays, remove, remove_the_last}
 use Rattle.publish_laws.proofs.Sure.{seen_is_sure, sure_stays}
 use Rattle.rowex_writing.specs.Building.{IsBuilding}
 use Rattle.rowex_writing.specs.Changes.{HasTakenSpan, IsPlanned, MayPublishOnceReady, KnowsWas}
-use Rattle.rowex_writing.specs.Plans.{change, IsCase, IsNewLeafPlan, IsPlan}
+use Rattle.rowex_writing.specs.Plans.{change, IsCase, IsNewLeafPlan, IsPlan, TakesLeaf, removal_deed}
 use Rattle.rowex_writing.specs.declared.plan.Aim.{Aim}
 use Rattle.rowex_writing.specs.declared.plan.Aim.TheVariants.{Insert, Upsert, Remove}
-use Rattle.rowex_writing.specs.declared.plan.Deed.TheVariants.{Grow, PushDown, Put, Take, Value as ValueDeed}
+use Rattle.rowex_writing.specs.declared.plan.Deed.{Deed}
+use Rattle.rowex_writing.specs.declared.plan.Deed.TheVariants.{Empty, Take, TakeTop}
 use Rattle.rowex_writing.specs.declared.plan.Plan.{Plan}
 use Rattle.rowex_writing.specs.declared.plan.Plan.TheVariants.{Answer, Change}
 use Rattle.insert_cases.specs.declared.choice.Case.{Case}
@@ -64,7 +65,7 @@ use Rattle.rowex_reading.specs.declared.descent.Found.TheVariants.{Nothing, Leaf
 use Rattle.rowex_writing.specs.declared.job.Job.{Job}
 use Rattle.rowex_writing.proofs.Above.{locked_at, holds_above}
 use Rattle.rowex_writing.proofs.Beside.{locked_node}
-use Rattle.rowex_writing.proofs.Planning.{same_span}
+use Rattle.rowex_writing.proofs.Planning.{below_taking, none_taking, same_deed, same_span, top_taking}
 use Rattle.rowex_writing.proofs.Shapes.{way_node_locked}
 use Rattle.rowex_writing.proofs.Spans.{slice_more, slice_none}
 use Rattle.tries.specs.Content.{item}
@@ -114,19 +115,16 @@ low_step table a m job number value b = slice_get-get_or job.way.now job.span.en
 -- a plan by which a leaf goes
 abbrev IsTakePlan : Plan → Type 0
 IsTakePlan (Answer reply) = ⊥
-IsTakePlan (Change span (Put)) = ⊥
-IsTakePlan (Change span (ValueDeed)) = ⊥
-IsTakePlan (Change span (PushDown p)) = ⊥
-IsTakePlan (Change span (Grow p)) = ⊥
-IsTakePlan (Change span (Take)) = Unit {0}
+IsTakePlan (Change span deed) = TakesLeaf deed
 
 -- the span of such a plan is the last node of the way, and the found leaf has the key
-pub record IsTakeOf (way : List PathNode) (found : Found) (len end : ℕ) : Type 0 where
+pub record IsTakeOf (way : List PathNode) (found : Found) (len end : ℕ) (deed : Deed) : Type 0 where
   pub number : ℕ
   pub value : ℕ
   pub found_is : found ≡ Leaf number value None
   pub len_is : len ≡ length way
   pub end_is : end ≡ length way - 1
+  pub deed_is : deed ≡ removal_deed way
 
 no_take : (plan other : Plan) → plan ≡ other → IsTakePlan plan → (IsTakePlan other → ⊥) → ⊥
 no_take plan other is takes never = never (subst IsTakePlan is takes)
@@ -140,21 +138,21 @@ new_takes : (way : List PathNode) (p first last : ℕ) (plan : Plan) → IsNewLe
 new_takes [] p first last plan is take = no_take plan _ is take (λ z. z)
 new_takes (s ∷ way) p first last plan is take = let beside = is.2 in case_takes (s ∷ way) p beside.0 beside.0.case plan beside.2 take
 
-plan_takes : (way : List PathNode) (first last : ℕ) (aim : Aim) (found : Found) (len end : ℕ) → IsPlan way first last aim found (change len end Take) → IsTakeOf way found len end
-plan_takes way first last Insert Nothing len end is = absurd (no_take (change len end Take) _ is tt (λ z. z))
-plan_takes way first last Upsert Nothing len end is = absurd (no_take (change len end Take) _ is tt (λ z. z))
-plan_takes way first last Insert (Leaf n v (Some p)) len end is = absurd (new_takes way p first last (change len end Take) is tt)
-plan_takes way first last Upsert (Leaf n v (Some p)) len end is = absurd (new_takes way p first last (change len end Take) is tt)
-plan_takes way first last Insert (Leaf n v None) len end is = absurd (no_take (change len end Take) _ is tt (λ z. z))
-plan_takes way first last Upsert (Leaf n v None) len end is = absurd (no_take (change len end Take) _ is tt (λ z. z))
-plan_takes way first last Remove Nothing len end is = absurd (no_take (change len end Take) _ is tt (λ z. z))
-plan_takes way first last Remove (Leaf n v (Some p)) len end is = absurd (no_take (change len end Take) _ is tt (λ z. z))
-plan_takes way first last Remove (Leaf n v None) len end is = record { number = n; value = v; found_is = refl; len_is = (same_span is).0; end_is = (same_span is).1 }
+plan_takes : (way : List PathNode) (first last : ℕ) (aim : Aim) (found : Found) (len end : ℕ) (deed : Deed) → TakesLeaf deed → IsPlan way first last aim found (change len end deed) → IsTakeOf way found len end deed
+plan_takes way first last Insert Nothing len end deed takes is = absurd (no_take (change len end deed) _ is takes (λ z. z))
+plan_takes way first last Upsert Nothing len end deed takes is = absurd (no_take (change len end deed) _ is takes (λ z. z))
+plan_takes way first last Insert (Leaf n v (Some p)) len end deed takes is = absurd (new_takes way p first last (change len end deed) is takes)
+plan_takes way first last Upsert (Leaf n v (Some p)) len end deed takes is = absurd (new_takes way p first last (change len end deed) is takes)
+plan_takes way first last Insert (Leaf n v None) len end deed takes is = absurd (no_take (change len end deed) _ is takes (λ z. z))
+plan_takes way first last Upsert (Leaf n v None) len end deed takes is = absurd (no_take (change len end deed) _ is takes (λ z. z))
+plan_takes way first last Remove Nothing len end deed takes is = absurd (no_take (change len end deed) _ is takes (λ z. z))
+plan_takes way first last Remove (Leaf n v (Some p)) len end deed takes is = absurd (no_take (change len end deed) _ is takes (λ z. z))
+plan_takes way first last Remove (Leaf n v None) len end deed takes is = record { number = n; value = v; found_is = refl; len_is = (same_span is).0; end_is = (same_span is).1; deed_is = same_deed is }
 
-module _ (table : TableView) (a : SeatView) (m : ℕ) (job : Job) (aim : Aim) (taken : HasTakenSpan table a m job.key.now job.way.now job.found job.span)
-    (planned : IsPlanned a.known m job.key.now job.way.now aim job.found (change job.span.len job.span.end Take)) (number value : ℕ) (mismatch : Option ℕ) (is_leaf : job.found ≡ Leaf number value mismatch) where
-  the_plan : IsTakeOf job.way.now job.found job.span.len job.span.end
-  the_plan = let (first, last, is, affected) = planned in plan_takes job.way.now first last aim job.found job.span.len job.span.end is
+module _ (table : TableView) (a : SeatView) (m : ℕ) (job : Job) (aim : Aim) (deed : Deed) (takes : TakesLeaf deed) (taken : HasTakenSpan table a m job.key.now job.way.now job.found job.span)
+    (planned : IsPlanned a.known m job.key.now job.way.now aim job.found (change job.span.len job.span.end deed)) (number value : ℕ) (mismatch : Option ℕ) (is_leaf : job.found ≡ Leaf number value mismatch) where
+  the_plan : IsTakeOf job.way.now job.found job.span.len job.span.end deed
+  the_plan = let (first, last, is, affected) = planned in plan_takes job.way.now first last aim job.found job.span.len job.span.end deed takes is
 
   pub found_key : job.found ≡ Leaf number value None
   found_key =
@@ -197,12 +195,29 @@ module _ (table : TableView) (a : SeatView) (m : ℕ) (job : Job) (aim : Aim) (t
       )
 
 -- so on a way with a node, whatever the search found
-pub taken_below : (table : TableView) (a : SeatView) (m : ℕ) (job : Job) (aim : Aim) → HasTakenSpan table a m job.key.now job.way.now job.found job.span → IsPlanned a.known m job.key.now job.way.now aim job.found (change job.span.len job.span.end Take) → 0 < job.span.len →
+pub taken_below : (table : TableView) (a : SeatView) (m : ℕ) (job : Job) (aim : Aim) (deed : Deed) → TakesLeaf deed → HasTakenSpan table a m job.key.now job.way.now job.found job.span → IsPlanned a.known m job.key.now job.way.now aim job.found (change job.span.len job.span.end deed) → 0 < job.span.len →
     (number : ℕ) × (value : ℕ) × (job.found ≡ Leaf number value None) × HasLeafBelow table a m job number value
-taken_below table a m job aim taken planned some =
+taken_below table a m job aim deed takes taken planned some =
     let (first, last, is, affected) = planned in
-    let p = plan_takes job.way.now first last aim job.found job.span.len job.span.end is in
-    (p.number, p.value, p.found_is, take_below table a m job aim taken planned p.number p.value None p.found_is some)
+    let p = plan_takes job.way.now first last aim job.found job.span.len job.span.end deed takes is in
+    (p.number, p.value, p.found_is, take_below table a m job aim deed takes taken planned p.number p.value None p.found_is some)
+
+-- by its deed the way has several nodes, one, or none
+module _ (k : Known) (m : ℕ) (job : Job) (aim : Aim) (deed : Deed) (takes : TakesLeaf deed) (planned : IsPlanned k m job.key.now job.way.now aim job.found (change job.span.len job.span.end deed)) where
+  of_plan : IsTakeOf job.way.now job.found job.span.len job.span.end deed
+  of_plan = let (first, last, is, affected) = planned in plan_takes job.way.now first last aim job.found job.span.len job.span.end deed takes is
+
+  pub found_leaf : (number : ℕ) × (value : ℕ) × (job.found ≡ Leaf number value None)
+  found_leaf = (of_plan.number, of_plan.value, of_plan.found_is)
+
+  pub take_above : deed ≡ Take → 0 < job.span.end
+  take_above e = let n = below_taking job.way.now (sym e ∙ of_plan.deed_is) in let same = of_plan.end_is in omega (arith, n, same)
+
+  pub take_top : deed ≡ TakeTop → 0 < job.span.len
+  take_top e = let n = top_taking job.way.now (sym e ∙ of_plan.deed_is) in let same = of_plan.len_is in omega (arith, n, same)
+
+  pub take_all : deed ≡ Empty → job.span.len ≤ 0
+  take_all e = let n = none_taking job.way.now (sym e ∙ of_plan.deed_is) in let same = of_plan.len_is in omega (arith, n, same)
 
 -- ---- entries
 -- a node's height is at least 1

@@ -42,7 +42,7 @@ use Rattle.rowex_reading.specs.Ways.{IsWayOf, named}
 use Rattle.rowex_writing.specs.declared.plan.Aim.{Aim}
 use Rattle.rowex_writing.specs.declared.job.Job.{Job}
 use Rattle.rowex_writing.specs.declared.plan.Deed.{Deed}
-use Rattle.rowex_writing.specs.declared.plan.Deed.TheVariants.{Take}
+use Rattle.rowex_writing.specs.declared.plan.Deed.TheVariants.{Empty, Take, TakeTop}
 use Rattle.rowex_reading.specs.declared.descent.Found.{Found}
 use Rattle.rowex_reading.specs.declared.descent.Found.TheVariants.{Leaf}
 use Rattle.rowex_writing.specs.declared.plan.Full.{Full}
@@ -168,4 +168,6 @@ IsTakeChange q key found x was = ⊥
 -- the change of a deed: the key gets the value, or is taken away
 abbrev pub IsDeedChange : ℕ → Deed → Key → ℕ → Found → Change → Option ℕ → Type 0
 IsDeedChange q Take key value found x was = IsTakeChange q key found x was
+IsDeedChange q TakeTop key value found x was = IsTakeChange q key found x was
+IsDeedChange q Empty key value found x was = IsTakeChange q key found x was
 IsDeedChange q deed key value found x was = IsPutChange q key value found x was

@@ -8,7 +8,7 @@ use Rattle.record_words.specs.declared.layout.Layout.{Layout}
 use Rattle.rowex_reading.specs.declared.descent.Found.{Found}
 use Rattle.rowex_reading.specs.declared.descent.Found.TheVariants.{Leaf}
 use Rattle.rowex_writing.specs.declared.plan.Deed.{Deed}
-use Rattle.rowex_writing.specs.declared.plan.Deed.TheVariants.{Take, Value}
+use Rattle.rowex_writing.specs.declared.plan.Deed.TheVariants.{Empty, Take, TakeTop, Value}
 
 -- the nodes of the longest way
 abbrev pub most_nodes : ℕ
@@ -57,6 +57,8 @@ deed_steps layout locks (Err full) = leaf_steps layout + levels_steps layout loc
 -- what it leaves of these: one that takes a leaf away, or gives it another value, makes no leaf's record
 abbrev pub spare_steps : Deed → ℕ
 spare_steps Take = 3
+spare_steps TakeTop = 3
+spare_steps Empty = 3
 spare_steps Value = 3
 spare_steps deed = 0
 

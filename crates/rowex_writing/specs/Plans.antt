@@ -9,7 +9,7 @@ use Rattle.insert_cases.specs.Levels.{IsLevel, IsChosen, IsChainEnd}
 use Rattle.rowex_writing.specs.declared.plan.Aim.{Aim}
 use Rattle.rowex_writing.specs.declared.plan.Aim.TheVariants.{Insert, Upsert, Remove}
 use Rattle.rowex_writing.specs.declared.plan.Deed.{Deed}
-use Rattle.rowex_writing.specs.declared.plan.Deed.TheVariants.{Put, PushDown, Grow, Take, Value}
+use Rattle.rowex_writing.specs.declared.plan.Deed.TheVariants.{Put, PushDown, Grow, Take, TakeTop, Empty, Value}
 use Rattle.rowex_reading.specs.declared.descent.Found.{Found}
 use Rattle.rowex_reading.specs.declared.descent.Found.TheVariants.{Nothing, Leaf}
 use Rattle.rowex_writing.specs.declared.plan.Outline.{Outline}
@@ -20,6 +20,20 @@ use Rattle.rowex_writing.specs.declared.plan.Plan.TheVariants.{Answer, Change}
 -- the nodes of the way from `end` on, before `len`, are remade
 abbrev pub change : ℕ → ℕ → Deed → Plan
 change len end deed = Change (record { len = len; end = end }) deed
+
+-- ---- a removal
+-- its deed, on this way
+abbrev pub removal_deed : List PathNode → Deed
+removal_deed [] = Empty
+removal_deed (step ∷ []) = TakeTop
+removal_deed (step ∷ next ∷ way) = Take
+
+-- the found leaf goes
+abbrev pub TakesLeaf : Deed → Type 0
+TakesLeaf Take = Unit {0}
+TakesLeaf TakeTop = Unit {0}
+TakesLeaf Empty = Unit {0}
+TakesLeaf deed = ⊥
 
 -- ---- a new leaf beside affected entries
 -- what is done at the chosen node
@@ -52,7 +66,7 @@ IsPlan way first last Upsert (Leaf number value None) plan = plan ≡ change (le
 -- a removal
 IsPlan way first last Remove Nothing plan = plan ≡ Answer Absent
 IsPlan way first last Remove (Leaf number value (Some position)) plan = plan ≡ Answer Absent
-IsPlan way first last Remove (Leaf number value None) plan = plan ≡ change (length way) (length way - 1) Take
+IsPlan way first last Remove (Leaf number value None) plan = plan ≡ change (length way) (length way - 1) (removal_deed way)
 
 -- ---- before the affected entries are known
 -- a new leaf's plan needs them where the way has nodes

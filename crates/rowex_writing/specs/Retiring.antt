@@ -5,6 +5,7 @@ use Rattle.record_words.specs.declared.layout.Layout.{Layout}
 use Rattle.record_words.specs.declared.records.Rec.{Rec}
 use Rattle.versions.specs.Trades.{AreApart}
 use Rattle.insert_cases.specs.declared.choice.PathNode.{PathNode}
+use Rattle.compound_node.specs.declared.entries.Entry.{Entry}
 use Rattle.record_words.specs.Entry.{entry_word}
 use Rattle.rowex_core.specs.declared.event.Spot.{Spot}
 use Rattle.rowex_core.specs.declared.event.Spot.TheVariants.{Root, Slot, Value}
@@ -18,7 +19,6 @@ use Rattle.rowex_table.specs.Seats.{TableView, SeatView}
 use Rattle.rowex_writing.specs.Changes.{KnowsWas, MayPublishOnceReady}
 use Rattle.rowex_writing.specs.Locks.{AreNodes, numbers_of}
 use Rattle.rowex_writing.specs.declared.kept.Build.{Build}
-use Rattle.rowex_writing.specs.declared.publishing.Store.{Store}
 use Rattle.rowex_core.specs.Events.{IsOfEntry}
 
 -- the records are the table's
@@ -52,13 +52,13 @@ is_root (Value l) = false
 
 -- Once its records are ready, the pass may publish the change x by this store. The records that are listed for it go. Of the nodes that
 -- the pass has locked just these are kept, each listed once, and the anchor is locked just where the root is stored.
-pub record MayStore (table : TableView) (a : SeatView) (build : Build) (kept : List PathNode) (store : Store) (x : Change) (was : Option ℕ) : Type 0 where
-  pub ready : MayPublishOnceReady table a build.made.items store.spot (entry_word store.entry) x was build.gone.items
-  pub of_entry : IsOfEntry store.spot
+pub record MayStore (table : TableView) (a : SeatView) (build : Build) (kept : List PathNode) (spot : Spot) (entry : Option Entry) (x : Change) (was : Option ℕ) : Type 0 where
+  pub ready : MayPublishOnceReady table a build.made.items spot (entry_word entry) x was build.gone.items
+  pub of_entry : IsOfEntry spot
   pub told : KnowsWas a.known build.gone.items was
-  pub there : HasSpot table.layout store.spot
+  pub there : HasSpot table.layout spot
   pub records : AreInTable table.layout build.gone.items
   pub nodes : AreNodes table.layout kept
   pub keeps : AreKept (nodes_of a.known.locks) build.gone.items (numbers_of kept)
   pub apart : AreApart (numbers_of kept)
-  pub anchored : IsAnchored (is_root store.spot) a.known
+  pub anchored : IsAnchored (is_root spot) a.known

@@ -19,6 +19,7 @@ ghost use Rattle.rowex_writing.specs.Building.{HasNotMade};
 ghost use Rattle.rowex_writing.specs.Changes.{HasChanged, HasPlanned, HasRun, HasTakenPlan, HasTakenSpan, HasTriedOnce};
 ghost use Rattle.rowex_writing.specs.Merging.{ChangesOn, EndsChange, HasClaimed, IsLeftOfNode, TakesOn, TriesFew};
 ghost use Rattle.rowex_writing.specs.declared.plan.Deed.TheVariants.{Take};
+ghost use Rattle.rowex_writing.specs.Plans.{TakesLeaf};
 ghost use Rattle.rowex_writing.specs.Jobs.{HoldsSpan, IsJobFrom, IsWithinWay};
 ghost use Rattle.rowex_writing.specs.Locks.{HasMadeNoChange, HasMetLock, TriesNodesBy, Works, locks_of, span_numbers};
 ghost use Rattle.rowex_writing.specs.Counts.{change_steps, held_loads, most_locks, most_steps_of, span_steps, value_steps};
@@ -112,8 +113,9 @@ pub fn attempt<G: Gate>(
                 value: new_value(call, held),
                 found,
                 span,
+                deed,
             };
-            match try_plan(table, seat, gate, build, &job, call, deed) {
+            match try_plan(table, seat, gate, build, &job, call) {
                 Ok(now) => Ok(call.reply(found_value(now))),
                 Err(fault) => Err(fault),
             }
@@ -121,8 +123,8 @@ pub fn attempt<G: Gate>(
     }
 }
 
-/// Makes the change `deed` that is planned for the span of `job`, and returns what the search found, with the value that the key had at the
-/// change. If `call` has nothing to change at the value that the key has under the locks, nothing is changed, and that is returned.
+/// Makes the change that is planned in `job`, and returns what the search found, with the value that the key had at the change. If `call`
+/// has nothing to change at the value that the key has under the locks, nothing is changed, and that is returned.
 ///
 /// If another pass is at work there, or no record is free, nothing is changed, and the fault tells which. Before and after the pass has no
 /// record and no lock.
@@ -133,12 +135,11 @@ fn try_plan<G: Gate>(
     build: &mut Build,
     job: &Job<'_>,
     call: &Call,
-    deed: Deed,
 ) -> Result<Found, TryFault>
     requires own { IsSeatOf table.now seat.old }
     requires possible { IsPossible table.now.layout seat.old.known }
     requires within { IsWithinWay job.now }
-    requires planned { HasPlanned table.now.layout seat.old.known job.now deed }
+    requires planned { HasPlanned table.now.layout seat.old.known job.now job.now.deed }
     requires aims { IsSome (the_aim call.now (the_value job.now.found)) }
     requires rest { IsAtRest seat.old.known }
     requires quiet { HasMadeNoChange seat.old.known }
@@ -146,15 +147,15 @@ fn try_plan<G: Gate>(
         (0 < locks) × (locks ≤ most_locks) × (seat.new.known.steps + HEAD_WORDS ≤ seat.old.known.steps + span_steps locks + change_steps table.now.layout locks) }
     ensures rest { IsAtRest seat.new.known }
     ensures done { IfOk result (λ now. HasFoundOther seat.old.known seat.new.known call.now job.now.key.now now ⊎ (IsFoundAgain call.now job.now.found now ×
-        HasDoneDeed seat.old.known seat.new.known deed job.now.key.now (the_value_in call.now (the_value now)) now)) }
+        HasDoneDeed seat.old.known seat.new.known job.now.deed job.now.key.now (the_value_in call.now (the_value now)) now)) }
     ensures refused { IfErr result (λ fault. (k : Known) → HasLoadedRoot k seat.old.known → IsLater k seat.old.known →
         HasRefused table.now.layout job.now.key.now k seat.new.known build.new.made.items fault) }
     ensures later { IfErr result (λ fault. IsLater seat.old.known seat.new.known) }
-    ensures whole { deed ≡ Deed.Value → IfErr result (λ fault. fault ≡ TryFault.Busy) }
-    ensures short { deed ≡ Deed.Value → seat.new.known.steps ≤ seat.old.known.steps + value_steps }
-    ensures leafless { deed ≡ Deed.Take → result ≢ Err TryFault.FullLeaves }
+    ensures whole { job.now.deed ≡ Deed.Value → IfErr result (λ fault. fault ≡ TryFault.Busy) }
+    ensures short { job.now.deed ≡ Deed.Value → seat.new.known.steps ≤ seat.old.known.steps + value_steps }
+    ensures leafless { TakesLeaf job.now.deed → result ≢ Err TryFault.FullLeaves }
     ensures spares { KeepsSpare table.now.layout seat.old seat.new }
-    ensures finds { deed ≡ Deed.Take → HasRoom table.now.layout seat.old → result ≢ Err TryFault.FullNodes }
+    ensures finds { TakesLeaf job.now.deed → HasRoom table.now.layout seat.old → result ≢ Err TryFault.FullNodes }
 {
     if !lock_and_check_span(table, seat, gate, job) {
         return Err(TryFault::Busy);
@@ -171,14 +172,15 @@ fn try_plan<G: Gate>(
         value: new_value(call, held),
         found,
         span: job.span,
+        deed: job.deed,
     };
-    match change_span(table, seat, gate, build, &job, deed) {
+    match change_span(table, seat, gate, build, &job) {
         Ok(()) => Ok(found),
         Err(fault) => Err(fault),
     }
 }
 
-/// Makes the change `deed` of a plan whose nodes are locked and checked. If it takes a leaf out of a node that has one above it on the way,
+/// Makes the change of `job`, whose nodes are locked and checked. If it takes a leaf out of a node that has one above it on the way,
 /// [`make_removal`] makes it. If it can't be made, it is undone, and the fault tells why. All is unlocked then.
 fn change_span<G: Gate>(
     table: &HotTable,
@@ -186,26 +188,25 @@ fn change_span<G: Gate>(
     gate: &mut G,
     build: &mut Build,
     job: &Job<'_>,
-    deed: Deed,
 ) -> Result<(), TryFault>
-    requires taken { HasTakenPlan table.now seat.old job.now deed }
+    requires taken { HasTakenPlan table.now seat.old job.now job.now.deed }
     requires loaded { HasLoadedFound seat.old.known job.now.found }
     ensures run { EndsChange table.now G.becomes job.now (held_loads job.now.found) (seat.old, gate.old) (seat.new, gate.new) }
-    ensures done { result ≡ Ok tt → HasDoneDeed seat.old.known seat.new.known deed job.now.key.now job.now.value job.now.found }
+    ensures done { result ≡ Ok tt → HasDoneDeed seat.old.known seat.new.known job.now.deed job.now.key.now job.now.value job.now.found }
     ensures failed { IfErr result (HasFailed table.now.layout job.now seat.old.known seat.new.known build.new.made.items) }
-    ensures whole { deed ≡ Deed.Value → result ≡ Ok tt }
-    ensures short { deed ≡ Deed.Value → seat.new.known.steps ≤ seat.old.known.steps + 2 + locks_of job.now.span }
-    ensures leafless { deed ≡ Deed.Take → result ≢ Err TryFault.FullLeaves }
+    ensures whole { job.now.deed ≡ Deed.Value → result ≡ Ok tt }
+    ensures short { job.now.deed ≡ Deed.Value → seat.new.known.steps ≤ seat.old.known.steps + 2 + locks_of job.now.span }
+    ensures leafless { TakesLeaf job.now.deed → result ≢ Err TryFault.FullLeaves }
     ensures spares { KeepsSpare table.now.layout seat.old seat.new }
-    ensures finds { deed ≡ Deed.Take → HasRoom table.now.layout seat.old → result ≢ Err TryFault.FullNodes }
+    ensures finds { TakesLeaf job.now.deed → HasRoom table.now.layout seat.old → result ≢ Err TryFault.FullNodes }
 {
-    match deed {
+    match job.deed {
         Deed::Value => {
             store_value(table, seat, gate, job);
             Ok(())
         }
-        Deed::Take if job.span.end > 0 => make_removal(table, seat, gate, build, job),
-        _ => match carry_out_deed(table, seat, gate, build, job, deed) {
+        Deed::Take => make_removal(table, seat, gate, build, job),
+        _ => match carry_out_deed(table, seat, gate, build, job) {
             Ok(raised) => {
                 publish_change(table, seat, gate, build, job, raised);
                 Ok(())
@@ -276,12 +277,12 @@ fn end_removal<G: Gate>(
         HasFailed table.now.layout job.now seat.old.known seat.new.known build.new.made.items fault) }
     ensures spares { KeepsSpare table.now.layout seat.old seat.new }
 {
-    let Some(merge) = find_merge(table, seat, gate, job) else {
+    let Some(merge) = find_merge(table, seat, gate, job, left) else {
         let raised = fill_left(table, seat, gate, build, job, left);
         publish_change(table, seat, gate, build, job, raised);
         return Ok(());
     };
-    if try_merge(table, seat, gate, build, job, &merge, left) {
+    if try_merge(table, seat, gate, build, job, &merge) {
         return Ok(());
     }
     let raised = fill_left(table, seat, gate, build, job, left);

@@ -1,6 +1,6 @@
 //! Records that a change makes: of the new leaf, of one node, or of both halves of a cut.
 
-ghost use Rattle.std.specs.Prelude.{◌≡◌, ◌<◌, ◌≤◌, ◌+◌, ◌-◌, ◌*◌, ◌++◌, ◌∷◌, [], List, ℕ, length, MatchOption, None, Some};
+ghost use Rattle.std.specs.Prelude.{◌≡◌, ◌<◌, ◌≤◌, ◌+◌, ◌*◌, ◌++◌, ◌∷◌, [], List, ℕ, length, MatchOption, None, Some};
 ghost use Rattle.key_bits.specs.Key.{IsKey};
 ghost use Rattle.record_words.specs.Node.{CanTakeLeaf, HasNodeWords, node_words};
 ghost use Rattle.record_words.specs.Reading.{IsSpelling};
@@ -21,11 +21,11 @@ ghost use Rattle.tries.specs.Content.{item};
 ghost use Rattle.rowex_writing.specs.Walks.{Makes};
 
 use crate::claims::{claim_leaf, claim_node};
+use crate::job::Job;
 use crate::kept::{Build, MOST_MADE};
 use crate::remaking::{NewLeaf, add_leaf};
 use compound_node::{Cut, Entry, Half, Node};
 use insert_cases::Risen;
-use key_bits::Key;
 use record_words::{
     HEAD_WORDS, NODE_FIELDS, affected_slots, count_leaf_words, pack_node, read_numbers,
 };
@@ -33,29 +33,34 @@ use rowex_core::{Gate, Rec};
 use rowex_records::{fill_leaf, fill_node};
 use rowex_table::{HotTable, TableSeat};
 
-/// Makes a record for the new leaf of `key` and `value`, the first record of a change, and returns its number. `build.made` is this record
-/// alone then. `None` if no leaf record with room for `key` was free: `build.made` is empty then.
+/// Makes a record for the leaf of `job.key` and `job.value`, the first record of a change, and returns its number. `build.made` is this
+/// record alone then. `None` if no leaf record with room for the key was free: `build.made` is empty then.
 pub(crate) fn make_leaf<G: Gate>(
     table: &HotTable,
     seat: &mut TableSeat,
     gate: &mut G,
     build: &mut Build,
-    key: &Key,
-    value: u64,
+    job: &Job<'_>,
 ) -> Option<u32>
     requires own { IsSeatOf table.now seat.old }
     requires possible { IsPossible table.now.layout seat.old.known }
     requires none { seat.old.known.own ≡ [] }
-    requires key { IsKey key.now }
+    requires key { IsKey job.now.key.now }
     ensures goes { WorksOn table.now G.becomes (seat.old, gate.old) (seat.new, gate.new) }
     ensures made { MatchOption result
-        (IsBuilding table.now seat.new build.new.made.items [] × LacksLeaves table.now.layout key.now seat.new.known.pass seat.new.known.failed seat.old.known.steps)
-        (λ n. HasLeafMade table.now seat.new build.new.made.items (item n key.now value)) }
+        (IsBuilding table.now seat.new build.new.made.items [] × LacksLeaves table.now.layout job.now.key.now seat.new.known.pass seat.new.known.failed seat.old.known.steps)
+        (λ n. HasLeafMade table.now seat.new build.new.made.items (item n job.now.key.now job.now.value)) }
     ensures few { seat.new.known.steps ≤ seat.old.known.steps + leaf_steps table.now.layout }
 {
     build.made.clear();
-    let number = claim_leaf(table, seat, gate, count_leaf_words(key), &mut build.leaves)?;
-    fill_leaf(table, seat, gate, number, key, value);
+    let number = claim_leaf(
+        table,
+        seat,
+        gate,
+        count_leaf_words(job.key),
+        &mut build.leaves,
+    )?;
+    fill_leaf(table, seat, gate, number, job.key, job.value);
     build.made.push(Rec::Leaf(number));
     Some(number)
 }

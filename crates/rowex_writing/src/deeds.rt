@@ -1,10 +1,11 @@
 //! What is done under the locks of a span: records are made for what comes in the place of its nodes, and none of them is linked yet.
 
-ghost use Rattle.std.specs.Prelude.{◌≡◌, ◌≢◌, Err, IfOk};
+ghost use Rattle.std.specs.Prelude.{◌≢◌, Err, IfOk};
 ghost use Rattle.lone_runs.specs.Lone.{HasRoom, HasSpare};
 ghost use Rattle.rowex_writing.specs.Spare.{WillSpareOne};
 ghost use Rattle.rowex_writing.specs.Changes.{HasTakenPlan};
 ghost use Rattle.rowex_writing.specs.Deeds.{CarriesOut};
+ghost use Rattle.rowex_writing.specs.Plans.{TakesLeaf};
 ghost use Rattle.rowex_writing.specs.declared.plan.Deed.TheVariants.{Put, PushDown};
 
 use crate::building::{make_leaf, make_node};
@@ -14,13 +15,13 @@ use crate::job::{Job, Raised};
 use crate::kept::Build;
 use crate::plan::{Deed, Full};
 use crate::remaking::pair_with_leaf;
-use crate::taking::make_without_leaf;
+use crate::taking::{empty_root, make_without_leaf};
 use compound_node::Entry;
 use rowex_core::Gate;
 use rowex_reading::Found;
 use rowex_table::{HotTable, TableSeat};
 
-/// Makes the records of the change `deed`, which other passes don't see yet. Returns what is to take the place of the nodes of `job.span`,
+/// Makes the records of the change of `job`, which other passes don't see yet. Returns what is to take the place of the nodes of `job.span`,
 /// which are locked and checked. If no record of a kind was free, returns that kind: the records made by then stay in `build.made`.
 pub(crate) fn carry_out_deed<G: Gate>(
     table: &HotTable,
@@ -28,22 +29,22 @@ pub(crate) fn carry_out_deed<G: Gate>(
     gate: &mut G,
     build: &mut Build,
     job: &Job<'_>,
-    deed: Deed,
 ) -> Result<Raised, Full>
-    requires taken { HasTakenPlan table.now seat.old job.now deed }
-    requires makes { deed ≢ Deed.Value }
-    ensures done { CarriesOut table.now G.becomes ((seat.old, gate.old), build.old) ((seat.new, gate.new), build.new) job.now deed result }
-    ensures leafless { deed ≡ Deed.Take → result ≢ Err Full.Leaves }
-    ensures kind { deed ≢ Deed.Value }
+    requires taken { HasTakenPlan table.now seat.old job.now job.now.deed }
+    requires makes { (job.now.deed ≢ Deed.Value) × (job.now.deed ≢ Deed.Take) }
+    ensures done { CarriesOut table.now G.becomes ((seat.old, gate.old), build.old) ((seat.new, gate.new), build.new) job.now job.now.deed result }
+    ensures leafless { TakesLeaf job.now.deed → result ≢ Err Full.Leaves }
+    ensures kind { job.now.deed ≢ Deed.Value }
     ensures spares { HasSpare table.now.layout seat.old → IfOk result (WillSpareOne table.now.layout seat.new build.new.made.items job.now) }
-    ensures finds { deed ≡ Deed.Take → HasRoom table.now.layout seat.old → result ≢ Err Full.Nodes }
+    ensures finds { TakesLeaf job.now.deed → HasRoom table.now.layout seat.old → result ≢ Err Full.Nodes }
 {
-    match deed {
+    match job.deed {
         Deed::Put => put_new_leaf(table, seat, gate, build, job),
         Deed::PushDown { position } => push_leaf_down(table, seat, gate, build, job, position),
         Deed::Grow { position } => grow_node(table, seat, gate, build, job, position),
-        Deed::Take => make_without_leaf(table, seat, gate, build, job),
-        Deed::Value => unreachable!(),
+        Deed::TakeTop => make_without_leaf(table, seat, gate, build, job),
+        Deed::Empty => Ok(empty_root(build, job)),
+        Deed::Take | Deed::Value => unreachable!(),
     }
 }
 
@@ -60,7 +61,7 @@ pub(crate) fn put_new_leaf<G: Gate>(
     ensures kind { result ≢ Err Full.Nodes }
     ensures spares { HasSpare table.now.layout seat.old → IfOk result (WillSpareOne table.now.layout seat.new build.new.made.items job.now) }
 {
-    let Some(number) = make_leaf(table, seat, gate, build, job.key, job.value) else {
+    let Some(number) = make_leaf(table, seat, gate, build, job) else {
         return Err(Full::Leaves);
     };
     Ok(Raised {
@@ -88,7 +89,7 @@ pub(crate) fn push_leaf_down<G: Gate>(
     let Found::Leaf { number: old, .. } = job.found else {
         unreachable!()
     };
-    let Some(leaf) = make_leaf(table, seat, gate, build, job.key, job.value) else {
+    let Some(leaf) = make_leaf(table, seat, gate, build, job) else {
         return Err(Full::Leaves);
     };
     build.nodes.next = build.nodes.stretch.start();

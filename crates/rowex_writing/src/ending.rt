@@ -7,38 +7,39 @@ ghost use Rattle.publish_laws.specs.Ending.{IsAtRest};
 ghost use Rattle.rowex_table.specs.Seats.{IsSeatOf};
 ghost use Rattle.rowex_writing.specs.Jobs.{HoldsSpan};
 ghost use Rattle.rowex_writing.specs.Locks.{AreNodes, HasJustLocked, Works, locks_of, numbers_of};
-ghost use Rattle.rowex_writing.specs.Retiring.{AreInTable, HasJustPublished, HasToMark, IsAnchored, KeepsLocks};
+ghost use Rattle.rowex_writing.specs.Retiring.{AreInTable, HasJustPublished, HasToMark, IsAnchored, KeepsLocks, is_root as is_the_root};
 
 use crate::job::Job;
 use crate::locks::unlock_nodes;
+use crate::store::{Store, is_root};
 use insert_cases::PathNode;
 use rowex_core::{Gate, Rec, Target};
 use rowex_records::give_up_records;
 use rowex_table::{HotTable, TableSeat};
 
-/// Loads the epoch, straight after a publish, and marks with it the records `gone`, which the publish has unlinked. Then it unlocks the
-/// nodes `kept`, the first one first, and the anchor, if `anchor` says that it is locked. The pass has no record and no lock then.
+/// Loads the epoch, straight after the publish of `store`, and marks with it the records `gone`, which that has unlinked. Then it unlocks
+/// the nodes `store.kept`, the first one first, and the anchor, if the root was stored. The pass has no record and no lock then.
 pub(crate) fn retire_records<G: Gate>(
     table: &HotTable,
     seat: &mut TableSeat,
     gate: &mut G,
     gone: &[Rec],
-    kept: &[PathNode],
-    anchor: bool,
+    store: &Store<'_>,
 )
     requires own { IsSeatOf table.now seat.old }
     requires records { AreInTable table.now.layout gone.now }
-    requires nodes { AreNodes table.now.layout kept.now }
-    requires published { HasJustPublished seat.old.known gone.now (numbers_of kept.now) }
-    requires anchored { IsAnchored anchor seat.old.known }
+    requires nodes { AreNodes table.now.layout store.now.kept.now }
+    requires published { HasJustPublished seat.old.known gone.now (numbers_of store.now.kept.now) }
+    requires anchored { IsAnchored (is_the_root store.now.spot) seat.old.known }
     ensures works { Works table.now G.becomes (seat.old, gate.old) (seat.new, gate.new) }
     ensures rest { IsAtRest seat.new.known }
     ensures front { seat.new.known.front ≡ seat.old.known.front }
-    ensures few { seat.new.known.steps ≤ seat.old.known.steps + length gone.now + length kept.now + 2 }
+    ensures few { seat.new.known.steps ≤ seat.old.known.steps + length gone.now + length store.now.kept.now + 2 }
 {
     let epoch = table.load_epoch(seat, gate);
     mark_records(table, seat, gate, gone, epoch);
-    unlock_nodes(table, seat, gate, kept);
+    unlock_nodes(table, seat, gate, store.kept);
+    let anchor = is_root(store.spot);
     if anchor {
         table.unlock(seat, gate, Target::Anchor);
     }

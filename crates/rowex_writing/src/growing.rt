@@ -1,6 +1,6 @@
 //! A node that gets the new leaf, and what rises from it.
 
-ghost use Rattle.std.specs.Prelude.{◌≡◌, ◌≤◌, ◌+◌, ◌<◌, IfErr, IfOk, None};
+ghost use Rattle.std.specs.Prelude.{◌≡◌, ◌≤◌, ◌+◌, IfErr, IfOk, None};
 ghost use Rattle.version_laws.specs.Writer.{added_change};
 ghost use Rattle.tries.specs.Content.{item};
 ghost use Rattle.lone_runs.specs.Lone.{HasFree, HasSpare};
@@ -38,7 +38,7 @@ pub(crate) fn grow_node<G: Gate>(
     ensures done { CarriesOut table.now G.becomes ((seat.old, gate.old), build.old) ((seat.new, gate.new), build.new) job.now (Grow position) result }
     ensures spares { HasSpare table.now.layout seat.old → IfOk result (WillSpareOne table.now.layout seat.new build.new.made.items job.now) }
 {
-    let Some(number) = make_leaf(table, seat, gate, build, job.key, job.value) else {
+    let Some(number) = make_leaf(table, seat, gate, build, job) else {
         return Err(Full::Leaves);
     };
     let new = NewLeaf {

@@ -1,6 +1,6 @@
 //! What an attempt has to do, once it is planned: the change, what comes in the place of its nodes, and what a removal leaves.
 
-use crate::plan::Span;
+use crate::plan::{Deed, Span};
 use compound_node::Entry;
 use insert_cases::PathNode;
 use key_bits::Key;
@@ -8,7 +8,7 @@ use record_words::NODE_FIELDS;
 use rowex_reading::Found;
 
 /// What a change is made by: the way of the search for `key`, what it found, and the value that `key` is to get. `span` says which nodes
-/// of the way get others in their place.
+/// of the way get others in their place, and `deed` what is done at its lower end.
 #[derive(Drop)]
 pub(crate) struct Job<'a> {
     pub way: &'a [PathNode],
@@ -16,6 +16,7 @@ pub(crate) struct Job<'a> {
     pub value: u64,
     pub found: Found,
     pub span: Span,
+    pub deed: Deed,
 }
 
 /// What comes in the place of a span's nodes.
@@ -31,13 +32,15 @@ pub(crate) struct Raised {
 
 /// A merge of a node that loses a leaf, the lower one, with its sibling. Both stand in the upper node.
 #[derive(Clone, Copy)]
-pub(crate) struct Merge {
+pub(crate) struct Merge<'a> {
     /// The sibling's slot in the upper node.
     pub slot: u8,
     /// The position of the fork between the two.
     pub position: u16,
     /// The number of the sibling's record.
     pub number: u32,
+    /// What is left of the lower node.
+    pub left: &'a Left,
 }
 
 /// What is left of a node that loses a leaf, where that is a node, too.

@@ -57,6 +57,7 @@ mod plan;
 mod publishing;
 mod remaking;
 mod rising;
+mod store;
 mod stretch;
 mod taking;
 mod valuing;

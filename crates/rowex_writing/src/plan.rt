@@ -2,7 +2,7 @@
 
 ghost use Rattle.std.specs.Prelude.{◌≡◌, ◌+◌, ◌-◌, ◌<◌, ◌≤◌, ℕ, Some, length, slice_get};
 ghost use Rattle.insert_cases.specs.declared.choice.PathNode.{PathNode as PathNodeView};
-ghost use Rattle.rowex_writing.specs.Plans.{change as a_change, IsOutline, IsBeside, IsBesideFound, LiesOnWay};
+ghost use Rattle.rowex_writing.specs.Plans.{change as a_change, IsOutline, IsBeside, IsBesideFound, LiesOnWay, removal_deed};
 ghost use Rattle.rowex_reading.specs.Possible.{IsPossible};
 ghost use Rattle.rowex_reading.specs.Reads.{ReadsSome};
 ghost use Rattle.rowex_table.specs.Seats.{IsSeatOf};
@@ -57,8 +57,12 @@ pub(crate) enum Deed {
     PushDown { position: u16 },
     /// The lowest node gets the new leaf, beside the entries that `position` affects.
     Grow { position: u16 },
-    /// The lowest node loses the leaf, or the root its only one.
+    /// The lowest node loses the leaf. It has one above it, and may become one node with its sibling.
     Take,
+    /// The only node of the way loses the leaf.
+    TakeTop,
+    /// The root loses its only leaf.
+    Empty,
 }
 
 /// What a call does.
@@ -115,12 +119,23 @@ pub(crate) fn plan_call(way: &[PathNode], aim: Aim, found: Found) -> Outline
         } => match aim {
             Aim::Insert => Outline::Known(Plan::Answer(Reply::Exists(value))),
             Aim::Upsert => Outline::Known(change_plan(way.len(), way.len(), Deed::Value)),
-            Aim::Remove => {
-                let end = way.len().saturating_sub(1);
-                Outline::Known(change_plan(way.len(), end, Deed::Take))
-            }
+            Aim::Remove => Outline::Known(plan_removal(way)),
         },
     }
+}
+
+/// Returns what a removal does whose search went through `way` and found the key.
+fn plan_removal(way: &[PathNode]) -> Plan
+    ensures { result ≡ a_change (length way.now) (length way.now - 1) (removal_deed way.now) }
+{
+    let len = way.len();
+    if len == 0 {
+        return change_plan(0, 0, Deed::Empty);
+    }
+    if len == 1 {
+        return change_plan(1, 0, Deed::TakeTop);
+    }
+    change_plan(len, len - 1, Deed::Take)
 }
 
 /// Returns what a call does whose new leaf's key first differs from that of the found leaf at `position`, as far as `way` tells it.

@@ -1,6 +1,6 @@
 //! The last part of each change: its records are made ready, and one store makes it visible. What it leaves comes after.
 
-ghost use Rattle.std.specs.Prelude.{◌≡◌, ℕ, List, [], ◌++◌, Option, MatchOption, ◌<◌, ◌≤◌, ◌+◌, ◌-◌, length, map, slice_range};
+ghost use Rattle.std.specs.Prelude.{◌≡◌, ℕ, List, ◌++◌, Option, ◌<◌, ◌≤◌, ◌+◌, ◌-◌, length, map, slice_range};
 ghost use Rattle.finite_map.specs.declared.Change.{Change};
 ghost use Rattle.insert_cases.specs.declared.choice.PathNode.{PathNode as PathNodeView};
 ghost use Rattle.record_words.specs.Entry.{HasEntryWord, entry_word};
@@ -13,7 +13,7 @@ ghost use Rattle.rowex_writing.specs.Spare.{WillSpare, WillSpareOne};
 ghost use Rattle.rowex_writing.specs.Attempts.{HasLoadedFound};
 ghost use Rattle.rowex_writing.specs.Building.{IsBuilding};
 ghost use Rattle.rowex_writing.specs.Changes.{HasChanged, HasRun};
-ghost use Rattle.rowex_writing.specs.Retiring.{MayStore, is_root as is_the_root};
+ghost use Rattle.rowex_writing.specs.Retiring.{MayStore};
 ghost use Rattle.rowex_writing.specs.Deeds.{MayReplace, leaf_gone};
 ghost use Rattle.rowex_writing.specs.Going.{WorksOn};
 ghost use Rattle.rowex_writing.specs.Jobs.{HoldsSpan};
@@ -24,6 +24,7 @@ use crate::ending::retire_records;
 use crate::job::{Job, Raised};
 use crate::kept::{Build, MOST_MADE};
 use crate::plan::Span;
+use crate::store::Store;
 use arrayvec::ArrayVec;
 use compound_node::Entry;
 use insert_cases::PathNode;
@@ -88,55 +89,31 @@ pub(crate) fn publish_change<G: Gate>(
     let store = Store {
         spot: spot_above(way, span.end),
         entry: raised.entry,
+        kept: kept.as_slice(),
     };
-    publish_entry(table, seat, gate, build, store, kept.as_slice());
-}
-
-/// The one store of a change.
-#[derive(Clone, Copy)]
-pub(crate) struct Store {
-    /// The spot whose word is stored.
-    pub spot: Spot,
-    /// The entry that is named there; `None` for an empty root.
-    pub entry: Option<Entry>,
+    publish_entry(table, seat, gate, build, &store);
 }
 
 /// Makes the one store of a change. It makes the records in `build.made` ready, stores the word of `store.entry`, and marks the records in
-/// `build.gone`, which the store unlinks. Then it unlocks the nodes `kept`, the first one first, and the anchor, if the root is stored.
+/// `build.gone`, which the store unlinks. Then it unlocks the nodes `store.kept`, and the anchor, if the root is stored.
 pub(crate) fn publish_entry<G: Gate>(
     table: &HotTable,
     seat: &mut TableSeat,
     gate: &mut G,
     build: &mut Build,
-    store: Store,
-    kept: &[PathNode],
+    store: &Store<'_>,
 )
-    requires may { (x : Change) × (was : Option ℕ) × MayStore table.now seat.old build.old kept.now store x was }
+    requires may { (x : Change) × (was : Option ℕ) × MayStore table.now seat.old build.old store.now.kept.now store.now.spot store.now.entry x was }
     ensures run { HasRun table.now G.becomes (seat.old, gate.old) (seat.new, gate.new) }
-    ensures changed { (x : Change) (was : Option ℕ) → MayStore table.now seat.old build.old kept.now store x was → HasChanged seat.old.known seat.new.known x was }
-    ensures few { seat.new.known.steps ≤ seat.old.known.steps + length build.old.made.items + length build.old.gone.items + length kept.now + 3 }
+    ensures changed { (x : Change) (was : Option ℕ) → MayStore table.now seat.old build.old store.now.kept.now store.now.spot store.now.entry x was →
+        HasChanged seat.old.known seat.new.known x was }
+    ensures few { seat.new.known.steps ≤
+        seat.old.known.steps + length build.old.made.items + length build.old.gone.items + length store.now.kept.now + 3 }
     ensures spares { WillSpare table.now.layout seat.old build.old.made.items build.old.gone.items → HasSpare table.now.layout seat.new }
 {
     ready_records(table, seat, gate, &mut build.made);
     table.publish(seat, gate, store.spot, stored_word(store.entry));
-    retire_records(
-        table,
-        seat,
-        gate,
-        build.gone.as_slice(),
-        kept,
-        is_root(store.spot),
-    );
-}
-
-/// Whether `spot` is the root.
-fn is_root(spot: Spot) -> bool
-    ensures { result ≡ is_the_root spot }
-{
-    match spot {
-        Spot::Root => true,
-        Spot::Slot { .. } | Spot::Value { .. } => false,
-    }
+    retire_records(table, seat, gate, build.gone.as_slice(), store);
 }
 
 /// Sets `build.gone` to the records that a change unlinks: those of the nodes of `steps`, and leaf record `leaf`, if there is one.

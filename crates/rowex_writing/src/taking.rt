@@ -1,7 +1,7 @@
 //! The end of a leaf: its node is made anew without it, or the root is empty. A record may be claimed first, and filled when it is known
 //! with what.
 
-ghost use Rattle.std.specs.Prelude.{◌≡◌, ◌≢◌, Err, ◌<◌, ℕ, [], IfErr, IfOk, MatchOption, None, Option, Some, ◌≤◌, ◌+◌, ◌*◌};
+ghost use Rattle.std.specs.Prelude.{◌≡◌, ◌≢◌, Err, ℕ, [], IfErr, IfOk, MatchOption, None, Option, Some, ◌≤◌, ◌+◌, ◌*◌};
 ghost use Rattle.version_laws.specs.Writer.{removed_change};
 ghost use Rattle.tries.specs.Content.{item};
 ghost use Rattle.lone_runs.specs.Lone.{HasRoom, HasSpare};
@@ -16,7 +16,7 @@ ghost use Rattle.rowex_writing.specs.Merging.{HasClaimed, IsLeftOfNode, TakesOn,
 ghost use Rattle.finite_map.specs.declared.Change.{Change};
 ghost use Rattle.record_words.specs.declared.TheConstants.{NODE_FIELDS};
 ghost use Rattle.rowex_reading.specs.declared.descent.Found.TheVariants.{Leaf as FoundLeaf};
-ghost use Rattle.rowex_writing.specs.declared.plan.Deed.TheVariants.{Take};
+ghost use Rattle.rowex_writing.specs.declared.plan.Deed.TheVariants.{TakeTop};
 
 use crate::claims::claim_node;
 use crate::growing::show_number_fits;
@@ -31,8 +31,8 @@ use rowex_reading::Found;
 use rowex_records::fill_node;
 use rowex_table::{HotTable, TableSeat};
 
-/// Makes what is left of the found leaf's node without the leaf, and returns the entry for that, which is to take the node's place. If the
-/// leaf was the root, the root is to be empty. `Full::Nodes` if no node record was free for what is left.
+/// Makes what is left of the found leaf's node without the leaf, and returns the entry for that, which is to take the node's place.
+/// `Full::Nodes` if no node record was free for what is left.
 pub(crate) fn make_without_leaf<G: Gate>(
     table: &HotTable,
     seat: &mut TableSeat,
@@ -40,29 +40,36 @@ pub(crate) fn make_without_leaf<G: Gate>(
     build: &mut Build,
     job: &Job<'_>,
 ) -> Result<Raised, Full>
-    requires taken { HasTakenPlan table.now seat.old job.now Take }
-    ensures done { CarriesOut table.now G.becomes ((seat.old, gate.old), build.old) ((seat.new, gate.new), build.new) job.now Take result }
+    requires taken { HasTakenPlan table.now seat.old job.now TakeTop }
+    ensures done { CarriesOut table.now G.becomes ((seat.old, gate.old), build.old) ((seat.new, gate.new), build.new) job.now TakeTop result }
     ensures leafless { result ≢ Err Full.Leaves }
-    ensures walk { 0 < job.now.span.len → seat.new.known.steps + 2 * build.new.left_nodes ≤ seat.old.known.steps + 2 * table.now.layout.nodes + level_steps + 1 }
-    ensures lowest { 0 < job.now.span.len → IfOk result (λ raised. raised.low ≡ job.now.span.len) }
+    ensures walk { seat.new.known.steps + 2 * build.new.left_nodes ≤ seat.old.known.steps + 2 * table.now.layout.nodes + level_steps + 1 }
+    ensures lowest { IfOk result (λ raised. raised.low ≡ job.now.span.len) }
     ensures spares { HasSpare table.now.layout seat.old → IfOk result (WillSpareOne table.now.layout seat.new build.new.made.items job.now) }
     ensures finds { HasRoom table.now.layout seat.old → result ≢ Err Full.Nodes }
+{
+    build.made.clear();
+    remake_without_leaf(table, seat, gate, build, job)
+}
+
+/// What takes the place of the found leaf, which is all of the tree: the root is to be empty. No record is made for that.
+pub(crate) fn empty_root(build: &mut Build, job: &Job<'_>) -> Raised
+    requires found { (leaf value : ℕ) × (job.now.found ≡ FoundLeaf leaf value None) }
+    ensures made { build.new.made.items ≡ [] }
+    ensures same { (leaf value : ℕ) → job.now.found ≡ FoundLeaf leaf value None → result ≡ record { entry = None; low = 0; leaf = Some leaf } }
 {
     build.made.clear();
     let Found::Leaf { number, .. } = job.found else {
         unreachable!()
     };
-    if job.span.len > 0 {
-        return remake_without_leaf(table, seat, gate, build, job, number);
-    }
-    Ok(Raised {
+    Raised {
         entry: None,
         low: 0,
         leaf: Some(number),
-    })
+    }
 }
 
-/// Makes what is left of the span's node without leaf `number`, and returns its entry, which is to take the node's place. `Full::Nodes` if
+/// Makes what is left of the span's node without the found leaf, and returns its entry, which is to take the node's place. `Full::Nodes` if
 /// no node record was free for it.
 fn remake_without_leaf<G: Gate>(
     table: &HotTable,
@@ -70,12 +77,11 @@ fn remake_without_leaf<G: Gate>(
     gate: &mut G,
     build: &mut Build,
     job: &Job<'_>,
-    number: u32,
 ) -> Result<Raised, Full>
-    requires below { (m : ℕ) × (value : ℕ) × HasLeafBelow table.now seat.old m job.now number value }
+    requires below { (m : ℕ) × (number : ℕ) × (value : ℕ) × HasLeafBelow table.now seat.old m job.now number value }
     requires made { build.old.made.items ≡ [] }
     ensures goes { WorksOn table.now G.becomes (seat.old, gate.old) (seat.new, gate.new) }
-    ensures raised { (m value : ℕ) → HasLeafBelow table.now seat.old m job.now number value →
+    ensures raised { (m number value : ℕ) → HasLeafBelow table.now seat.old m job.now number value →
         IfOk result (λ raised. MayReplace table.now seat.new build.new.made.items job.now raised
         (removed_change seat.old.known.pass (item number job.now.key.now value)) (Some value)) }
     ensures full { IfErr result (λ full. (full ≡ Full.Nodes) × HasNoneFree table.now seat.old.known seat.new build.new.made.items job.now full) }
@@ -89,11 +95,7 @@ fn remake_without_leaf<G: Gate>(
     let Some(entry) = raise_without_leaf(table, seat, gate, build, lowest) else {
         return Err(Full::Nodes);
     };
-    Ok(Raised {
-        entry: Some(entry),
-        low: job.span.len,
-        leaf: Some(number),
-    })
+    Ok(put_in_place(job, entry))
 }
 
 /// Claims a record for what is left of the lower node of `job`'s span, or for the node that this is merged into. Returns its number. `None`

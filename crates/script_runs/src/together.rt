@@ -50,7 +50,7 @@ impl<'a, G: Gate> Promise<Result<(Done<'a>, G), AllocError>> for Order<'a, G> {
 }
 
 /// Makes an index of `records` and runs scripts on it. Those of files, `scripts`, `MAX_FILES` at most, run at the same time, each in a
-/// thread with the gate of its place; `last` runs when they have ended. Returns all answers, and the gates in the order of `scripts`. An
+/// thread with the gate of its place. `last` runs when they have ended. Returns all answers, and the gates in the order of `scripts`. An
 /// error if memory is refused, or a thread can't be started.
 pub fn run_all_scripts<T: AllocGlobal + Threads + Wait + Sync, G: Gate + Send + Drop>(
     rt: &T,
@@ -156,7 +156,8 @@ fn run_files<'a, T: Threads + Wait + Sync, G: Gate + Send + Drop>(
     )
 }
 
-/// Does what `run_files` does, by threads of the scope `threads`.
+/// Runs each of `scripts` as `run_files` does, with its errors. The threads are those of the scope `threads`, and each has the handle and
+/// the gate of its place.
 fn run_files_in_scope<'a: 's, 's, E, T: Threads + Wait + Sync + 's, G: Gate + Send + Drop + 's>(
     threads: &Scope<'s, E>,
     rt: &'s T,

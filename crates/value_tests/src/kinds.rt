@@ -170,6 +170,44 @@ fn expect_searches(rt: &impl Abort, node: &Node) {
     }
 }
 
+/// Columns of a node, a key, and the slot to which a search leads: as many columns as have a 1 before the first with a 0. Behind a key's
+/// end all bits are 0.
+const SEARCHED: [(&[u16], &[u8], u8); 16] = [
+    (&[1, 2, 10, 20, 35, 71, 100, 143], b"", 0),
+    (&[1, 2, 10, 20, 35, 71, 100, 143], b"\xff", 2),
+    (
+        &[1, 2, 10, 20, 35, 71, 100, 143],
+        b"\xff\xff\xff\xfe\xff",
+        4,
+    ),
+    (&[1, 2, 10, 20, 35, 71, 100, 143], &[0xff; 15], 7),
+    (&[1, 2, 10, 20, 35, 71, 100, 143], &[0xff; 16], 8),
+    (&[1, 2, 10, 20, 35, 71, 100, 142, 143], &[0xff; 15], 7),
+    (&[1, 2, 10, 20, 35, 71, 100, 142, 143], &[0xfe; 16], 4),
+    (&[1, 2, 10, 20, 35, 71, 100, 142, 143], &[0xff; 16], 9),
+    (&[1, 144], &[0x80; 16], 1),
+    (&[1, 144], &[0x80; 17], 2),
+    (&[1, 145], &[0x80; 16], 1),
+    (&[1, 145], &[0x80; 17], 2),
+    (&[9, 10], b"\0", 0),
+    (&[9, 10], b"\0\0", 1),
+    (&[9, 10], b"\0\x80", 2),
+    (&[1, 2, 9], b"\xc0\0", 3),
+];
+
+/// Searches of a node and of the words of its head, by keys that end before, in and behind its columns, lead to the expected slot.
+#[test]
+fn keys_lead_to_their_slots(rt: HostRuntime) {
+    for (positions, bytes, want) in SEARCHED {
+        let node = comb_node(&rt, positions);
+        let key = key(&rt, bytes);
+        assert!(rt;
+            search_words(&node, &key) == want && node.search(&key) == want,
+            "slot {want}"
+        );
+    }
+}
+
 /// A head takes the kind of its columns, and searches and readings of its words agree with the node.
 #[test]
 fn heads_take_the_kind_of_their_columns(rt: HostRuntime) {

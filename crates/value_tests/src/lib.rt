@@ -2,9 +2,13 @@
 #![tactic(auto)]
 
 #[cfg(test)]
+mod adding;
+#[cfg(test)]
 mod kinds;
 #[cfg(test)]
 mod layouts;
+#[cfg(test)]
+mod loads;
 #[cfg(test)]
 mod maps;
 #[cfg(test)]

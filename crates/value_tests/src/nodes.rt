@@ -1,9 +1,11 @@
 //! Keys, nodes and their words by value. The keys a, b and c fork at the positions 7 and 8, and d parts from them at 6.
 
-ghost use Rattle.std.specs.Prelude.{◌≡◌, ◌≤◌, length};
+ghost use Rattle.std.specs.Prelude.{◌≡◌, ◌+◌, ◌-◌, length, slice_index};
 ghost use Rattle.compound_node.specs.Nodes.{piece};
 ghost use Rattle.compound_node.specs.declared.entries.Entry.TheVariants.{Leaf as LeafEntry};
 ghost use Rattle.node_tries.specs.Piece.{Fork, Place};
+ghost use Rattle.node_tries.specs.Positions.{AllBelow};
+ghost use Rattle.value_tests.specs.Combs.{comb};
 
 use compound_node::{Entry, Half, Node};
 use insert_cases::{Grown, grow};
@@ -71,26 +73,30 @@ const GATHERED: [(&[u8], &[u16], u32); 7] = [
     (&[1; 40], &[8, 187, 188, 359], 0xb000_0000),
 ];
 
-/// A node with columns at `positions`, each fork on the 1 side of the one before. Each entry is leaf 0. Panics if there is no such node.
+/// The node of leaves 0, 1 and so on, with columns at `positions`, each fork on the 1 side of the one before. Panics unless the positions
+/// rise, are 1 to 31, and are below 65,535.
 pub fn comb_node(rt: &impl Abort, positions: &[u16]) -> Node
-    requires { length positions.now ≤ 31 }
+    ensures shown { piece result ≡ comb 0 positions.now }
+    ensures last { AllBelow (slice_index positions.now (length positions.now - 1) + 1) positions.now }
 {
-    let mut sparse = [u32::MAX; 32];
-    for i in 0..positions.len() + 1 {
-        sparse[i] = !(u32::MAX >> i);
+    if positions.len() == 0 || positions.len() > 31 || positions[0] == u16::MAX {
+        panic!(rt; "no node");
     }
-    let entries = [Entry::Leaf(0); 32];
-    match Node::from_parts(1, positions, &sparse, &entries[..positions.len() + 1]) {
-        Some(node) => node,
-        None => panic!(rt; "no node"),
+    let mut node = Node::pair(positions[0], Entry::Leaf(0), Entry::Leaf(1));
+    for i in 1..positions.len() {
+        if positions[i] <= positions[i - 1] || positions[i] == u16::MAX {
+            panic!(rt; "no node");
+        }
+        let leaf = Entry::Leaf(i as u32 + 1);
+        node.add_entry(i as u8, i as u8, positions[i], true, leaf);
     }
+    node
 }
 
 /// `extract` gathers a key's bits at listed positions, and at a node's columns. The bit at the first one is the highest.
 #[test]
 fn bits_are_gathered_from_the_highest(rt: HostRuntime) {
     for (bytes, positions, want) in GATHERED {
-        assert!(rt; positions.len() <= 31);
         let key = key(&rt, bytes);
         assert!(rt; extract(&key, positions) == want);
         assert!(rt; comb_node(&rt, positions).columns().extract(&key) == want);

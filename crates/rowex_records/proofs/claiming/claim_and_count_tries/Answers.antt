@@ -18,11 +18,11 @@ begin_low g c =
 pub returns-then-try_claim_record-clause-tries : goal.returns-then-try_claim_record-clause-tries
 returns-then-try_claim_record-clause-tries g c =
     let all : c.count.result ≡ count_of c.args.kind c.args.table.now.layout = rw c.layout.ensures at c.count.ensures in
-    tries_first _ _ c.args.kind c.args.from _ c.args.most (begin_low g (goal.at.returns-then-try_claim_record-clause-tries g c).After-number_or_zero-begin) (rw all at c.number_or_zero-begin.ensures.begin) _ _
+    tries_first _ _ c.args.kind c.args.turn.from _ c.args.turn.most (begin_low g (goal.at.returns-then-try_claim_record-clause-tries g c).After-number_or_zero-begin) (rw all at c.number_or_zero-begin.ensures.begin) _ _
     (rw (c.locate-at.ensures.rec, c.record_at.ensures) at (c.try_claim_record.ensures.claimed c.if-try_claim_record.true))
 
 pub returns-clause-tries : goal.returns-clause-tries
 returns-clause-tries g c =
     let all : c.count.result ≡ count_of c.args.kind c.args.table.now.layout = rw c.layout.ensures at c.count.ensures in
-    tries_behind _ _ c.args.kind c.args.from _ c.args.most (begin_low g (goal.at.returns-clause-tries g c).After-number_or_zero-begin) (rw all at c.number_or_zero-begin.ensures.begin) _ _ _ _
+    tries_behind _ _ c.args.kind c.args.turn.from _ c.args.turn.most (begin_low g (goal.at.returns-clause-tries g c).After-number_or_zero-begin) (rw all at c.number_or_zero-begin.ensures.begin) _ _ _ _
     (rw (c.locate-at.ensures.rec, c.record_at.ensures) at (c.try_claim_record.ensures.missed c.if-try_claim_record.false)) c.claim_record_behind.ensures.tries

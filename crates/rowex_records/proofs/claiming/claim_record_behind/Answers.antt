@@ -13,17 +13,17 @@ loop-tried-init g c =
     record {
       own = c.requires.own;
       none = behind_none _ _ c.args.kind _ _;
-      number = rw all at c.number_or_zero-number.ensures.begin ∙ next_turn (count_of c.args.kind c.args.table.now.layout) c.args.begin c.requires.low;
+      number = rw all at c.number_or_zero-number.ensures.begin ∙ next_turn (count_of c.args.kind c.args.table.now.layout) c.args.turn.from c.requires.low;
       low = c.requires.some;
     }
 
 -- a record of the kind is tried next
 tried_low : (g : Over) (c : In-loop-tried g) → c.loop-tried.number < count_of c.args.kind c.args.table.now.layout
-tried_low g c = rw c.loop-tried.invariant.number (turned_low _ c.args.begin c.loop-tried.tried c.requires.low (omega (arith, c.requires.few, c.loop-tried-test.true)))
+tried_low g c = rw c.loop-tried.invariant.number (turned_low _ c.args.turn.from c.loop-tried.tried c.requires.low (omega (arith, c.requires.few, c.loop-tried-test.true)))
 
 pub returns-in-Some-clause-tries : goal.returns-in-Some-clause-tries
 returns-in-Some-clause-tries g c =
-    behind_claims _ _ c.args.kind _ c.loop-tried.tried c.loop-tried.number _ _ _ _ c.requires.low (omega (arith, c.min-count.ensures, c.requires.few, c.loop-tried-test.true)) c.loop-tried.invariant.number c.loop-tried.invariant.none _ c.args.most
+    behind_claims _ _ c.args.kind _ c.loop-tried.tried c.loop-tried.number _ _ _ _ c.requires.low (omega (arith, c.min-count.ensures, c.requires.few, c.loop-tried-test.true)) c.loop-tried.invariant.number c.loop-tried.invariant.none _ c.args.turn.most
     (rw c.span_from-span.ensures.number at c.in-Some.ensures.tries)
 
 pub loop-tried-preserved : goal.loop-tried-preserved
@@ -38,13 +38,13 @@ loop-tried-preserved g c =
       none = behind_span _ _ c.args.kind _ c.loop-tried.tried c.loop-tried.number _ _ _ _ c.requires.low fits c.loop-tried.invariant.number c.loop-tried.invariant.none (rw c.span_from-span.ensures.number at c.in_default.ensures.tries);
       number = rw all at c.number_or_zero-number-in-loop-tried.ensures.begin ∙
           (ap (λ z. begin_of (count_of c.args.kind c.args.table.now.layout) (z + c.min-count.result)) c.loop-tried.invariant.number ∙
-          turned_over (count_of c.args.kind c.args.table.now.layout) c.args.begin c.loop-tried.tried c.min-count.result c.requires.low low fits
+          turned_over (count_of c.args.kind c.args.table.now.layout) c.args.turn.from c.loop-tried.tried c.min-count.result c.requires.low low fits
           (subst (λ z. z + c.min-count.result ≤ count_of c.args.kind c.args.table.now.layout) c.loop-tried.invariant.number few));
       low = omega (arith, c.min-count.ensures, c.loop-tried.invariant.low);
     }
 
 pub returns-clause-tries : goal.returns-clause-tries
 returns-clause-tries g c =
-    let done : c.loop-tried.tried ≡ c.args.most = omega (arith, c.loop-tried.invariant.low, c.loop-tried-test.false) in
-    subst (λ z. GoesOnBehind c.args.table.now g.G.Gate.becomes c.args.kind c.args.begin z (None, z) (c.args.seat.now, c.args.gate.now) (c.loop-tried.seat, c.loop-tried.gate)) done
+    let done : c.loop-tried.tried ≡ c.args.turn.most = omega (arith, c.loop-tried.invariant.low, c.loop-tried-test.false) in
+    subst (λ z. GoesOnBehind c.args.table.now g.G.Gate.becomes c.args.kind c.args.turn.from z (None, z) (c.args.seat.now, c.args.gate.now) (c.loop-tried.seat, c.loop-tried.gate)) done
     c.loop-tried.invariant.none

@@ -16,6 +16,6 @@ loop-place-2-preserved g c =
     let sets : Sets c.args.table.now g.G.Gate.becomes node (at + 1) (get_or c.args.words.now at 0) (c.loop-place-2.seat, c.loop-place-2.gate) (c.if-index-used.seat, c.if-index-used.gate) =
     elim c.if-index-used.branch [
       | then-index-used w ↦ rw (w.seat-is, w.gate-is) w.store_word-then-index-used.ensures
-      | else-index-used w ↦ rw (w.seat-is, w.gate-is, c.requires.have.unused at (omega arith) below (omega (arith, w.if-index-used.false))) (rw w.unused_node_word.ensures at w.store_word_if_changed.ensures)
+      | else-index-used w ↦ rw (w.seat-is, w.gate-is, c.requires.have.unused at (omega arith) below (omega (arith, w.if-index-used.false))) (rw w.unused_node_word-unused.ensures at w.store_word_if_changed.ensures)
     ] in
     more_sets _ _ node _ c.args.used.start c.loop-place-2.place _ _ _ _ c.loop-place-2.invariant refl sets

@@ -1,5 +1,5 @@
 -- No entry, and one more: it leads to a leaf or to a node.
-use Rattle.std.proofs.Common.{ℕ, ◌+◌, ◌∙◌, arith}
+use Rattle.std.proofs.Common.{ℕ, ◌+◌, ◌∙◌, arith, rules}
 use Rattle.std.proofs.lemmas.List.{length-set}
 use Rattle.compound_node.specs.declared.entries.Entry.TheVariants.{Leaf, Node}
 use Rattle.rowex_reading.specs.Seen.{HasPlace}
@@ -22,7 +22,7 @@ pub loop-index-init : goal.loop-index-init
 loop-index-init g c = record {
   reader = c.requires.reader;
   reads = (0, omega arith, reads_none (c.args.seat.now, c.args.gate.now));
-  long = c.told-leaves;
+  long = search rules;
   ahead = λ m has i low. absurd (omega (arith, low));
 }
 

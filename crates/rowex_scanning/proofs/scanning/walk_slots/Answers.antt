@@ -23,38 +23,38 @@ same : (g : given.Over) (c : After-load_entries_ahead-ahead g) → since c.load_
 same g c = same_since (reads_trans c.loop-seat.invariant.reads.3 c.load_entries_ahead-ahead.ensures.reads.2)
 
 -- So many leaves were seen, which come next.
-long : (g : given.Over) (c : After-load_entries_ahead-ahead g) → length (take c.load_entries_ahead-ahead.result.count c.load_entries_ahead-ahead.new.leaves) ≡ c.load_entries_ahead-ahead.result.count
+long : (g : given.Over) (c : After-load_entries_ahead-ahead g) → length (take c.load_entries_ahead-ahead.result.count c.load_entries_ahead-ahead.result.leaves) ≡ c.load_entries_ahead-ahead.result.count
 long g c =
-    let most = c.load_entries_ahead-ahead.ensures.most in let room = c.load_entries_ahead-ahead.array_long in
-    length-take-le c.load_entries_ahead-ahead.result.count c.load_entries_ahead-ahead.new.leaves (omega (arith, most, room))
+    let (most, room) = c.load_entries_ahead-ahead.ensures.most in
+    length-take-le c.load_entries_ahead-ahead.result.count c.load_entries_ahead-ahead.result.leaves (omega (arith, most, room))
 
 next : (g : given.Over) (c : After-load_entries_ahead-ahead g) →
-    AreNext c.load_entries_ahead-ahead.new.seat.known (request_of c.args.scan.now.range.now) c.loop-seat.top c.loop-seat.way.items (g.S.Tallies.tally c.loop-seat.sink) (take c.load_entries_ahead-ahead.result.count c.load_entries_ahead-ahead.new.leaves)
+    AreNext c.load_entries_ahead-ahead.new.seat.known (request_of c.args.scan.now.range.now) c.loop-seat.top c.loop-seat.way.items (g.S.Tallies.tally c.loop-seat.sink) (take c.load_entries_ahead-ahead.result.count c.load_entries_ahead-ahead.result.leaves)
 next g c =
     let i = c.loop-seat.invariant in let e = c.load_entries_ahead-ahead.ensures in let later = reads_later e.reads.2 in let m = since c.args.seat.now.known in
-    let d = c.args.scan.now.range.now.direction in let key = first_key d (asked_range c.args.scan.now.range.now) in let leaves = take c.load_entries_ahead-ahead.result.count c.load_entries_ahead-ahead.new.leaves in
-    let most = e.most in let room = c.load_entries_ahead-ahead.array_long in let come = e.come in let n = long g c in
+    let d = c.args.scan.now.range.now.direction in let key = first_key d (asked_range c.args.scan.now.range.now) in let leaves = take c.load_entries_ahead-ahead.result.count c.load_entries_ahead-ahead.result.leaves in
+    let (most, room) = e.most in let come = e.come in let n = long g c in
     record {
       bound = (walk_since (same g c) (walk_later later i.walk), bound_since d m key (same g c) (bound_later d m key later i.bound));
       ahead = subst (λ z. AreAhead d c.load_entries_ahead-ahead.new.seat.known z c.loop-seat.top (length leaves) leaves) (sym (same g c))
-          (ahead_first d m c.loop-seat.top c.load_entries_ahead-ahead.result.count c.load_entries_ahead-ahead.new.leaves (omega (arith, most, room)) (e.ahead m (walk_places i.walk)).first);
+          (ahead_first d m c.loop-seat.top c.load_entries_ahead-ahead.result.count c.load_entries_ahead-ahead.result.leaves (omega (arith, most, room)) (e.ahead m (walk_places i.walk)).first);
       come = omega (arith, come, n);
     }
 
 -- All leaves were passed.
-passed : (g : given.Over) (c : In-Further g) → length (take c.load_entries_ahead-ahead.result.count c.load_entries_ahead-ahead.new.leaves) ≡ c.load_entries_ahead-ahead.result.count →
-    AreNext c.load_entries_ahead-ahead.new.seat.known (request_of c.args.scan.now.range.now) c.loop-seat.top c.loop-seat.way.items (g.S.Tallies.tally c.loop-seat.sink) (take c.load_entries_ahead-ahead.result.count c.load_entries_ahead-ahead.new.leaves) →
+passed : (g : given.Over) (c : In-Further g) → length (take c.load_entries_ahead-ahead.result.count c.load_entries_ahead-ahead.result.leaves) ≡ c.load_entries_ahead-ahead.result.count →
+    AreNext c.load_entries_ahead-ahead.new.seat.known (request_of c.args.scan.now.range.now) c.loop-seat.top c.loop-seat.way.items (g.S.Tallies.tally c.loop-seat.sink) (take c.load_entries_ahead-ahead.result.count c.load_entries_ahead-ahead.result.leaves) →
     HavePassed c.take_leaves.new.seat.known (since c.args.seat.now.known) (request_of c.args.scan.now.range.now) c.loop-seat.way.items c.loop-seat.top (g.S.Tallies.tally c.loop-seat.sink).size c.load_entries_ahead-ahead.result.count (g.S.Tallies.tally c.take_leaves.new.self)
 passed g c n next =
     let r = request_of c.args.scan.now.range.now in let top = c.loop-seat.top in let frames = c.loop-seat.way.items in
-    let count = length (take c.load_entries_ahead-ahead.result.count c.load_entries_ahead-ahead.new.leaves) in let k = c.take_leaves.new.seat.known in let size = (g.S.Tallies.tally c.loop-seat.sink).size in let t = g.S.Tallies.tally c.take_leaves.new.self in
+    let count = length (take c.load_entries_ahead-ahead.result.count c.load_entries_ahead-ahead.result.leaves) in let k = c.take_leaves.new.seat.known in let size = (g.S.Tallies.tally c.loop-seat.sink).size in let t = g.S.Tallies.tally c.take_leaves.new.self in
     let p = taken_all (HavePassed k (since c.load_entries_ahead-ahead.new.seat.known) r frames top size count t) (HasTaken r.0 k r.1 t)
     (c.in_ok-take_leaves.ensures.taken top frames next) c.in-Further.is in
     subst (λ z. HavePassed k (since c.args.seat.now.known) r frames top size z t) n
     (subst (λ z. HavePassed k z r frames top size count t) (same_since (reads_trans c.loop-seat.invariant.reads.3 c.load_entries_ahead-ahead.ensures.reads.2)) p)
 
 -- The loads so far, where the scan ends at a leaf.
-paid : (g : given.Over) (c : After-take_leaves g) → length (take c.load_entries_ahead-ahead.result.count c.load_entries_ahead-ahead.new.leaves) ≡ c.load_entries_ahead-ahead.result.count →
+paid : (g : given.Over) (c : After-take_leaves g) → length (take c.load_entries_ahead-ahead.result.count c.load_entries_ahead-ahead.result.leaves) ≡ c.load_entries_ahead-ahead.result.count →
     Walks c.args.scan.now.table.now g.G.Gate.becomes 0 c.args.scan.now.range.now.limit (c.args.seat.now, c.args.gate.now) (c.take_leaves.new.seat, c.take_leaves.new.gate)
 paid g c n =
     let i = c.loop-seat.invariant in let e = c.load_entries_ahead-ahead.ensures in let (t, few, reads) = c.take_leaves.ensures.reads in

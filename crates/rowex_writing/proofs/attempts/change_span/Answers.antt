@@ -1,15 +1,17 @@
 -- A new value, a removal, or what the deed has made is published; or all is given back.
 use Rattle.rowex_writing.proofs.Spare.{goes_spare, works_spare}
-use Rattle.std.proofs.Common.{◌<◌, inl, inr, sym, ap, subst, arith, ◌≡◌, ◌∙◌, Err}
+use Rattle.std.proofs.Common.{inl, inr, sym, ap, subst, arith, ◌≡◌, ◌∙◌, Err}
 use Rattle.rowex_writing.specs.Attempts.{HasDoneDeed}
 use Rattle.rowex_writing.specs.Changes.{HasTakenPlan}
 use Rattle.rowex_writing.specs.Counts.{held_loads}
 use Rattle.rowex_writing.specs.Locks.{span_numbers}
 use Rattle.rowex_writing.specs.Merging.{ChangesOn}
+use Rattle.rowex_writing.specs.Plans.{TakesLeaf}
 use Rattle.rowex_writing.proofs.Attempting.{loads_spared, leaves_refused, nodes_refused}
 use Rattle.rowex_writing.proofs.Growths.{no_room}
 use Rattle.rowex_writing.proofs.Keeping.{changed_since}
 use Rattle.rowex_writing.proofs.Merged.{holds_on, is_taking}
+use Rattle.rowex_writing.proofs.Removing.{take_above}
 use Rattle.rowex_writing.proofs.Runs.{goes_run, runs_trans, works_run}
 use Rattle.rowex_writing.proofs.Named.{loaded_on}
 use Rattle.rowex_writing.proofs.Valued.{full_failed, held_few}
@@ -30,10 +32,14 @@ returns-in-Value-clause-done g c = λ ok.
 pub make_removal-requires-clause-taken : goal.make_removal-requires-clause-taken
 make_removal-requires-clause-taken g c = subst (HasTakenPlan c.args.table.now c.args.seat.now c.args.job.now) c.in-Take.is c.requires.taken
 
+pub make_removal-requires-clause-some : goal.make_removal-requires-clause-some
+make_removal-requires-clause-some g c = let (m, aim, taken, planned) = c.requires.taken in take_above c.args.seat.now.known m c.args.job.now aim c.args.job.now.deed (subst TakesLeaf (sym c.in-Take.is) tt) planned c.in-Take.is
+
 pub returns-in-Take-clause-run : goal.returns-in-Take-clause-run
 returns-in-Take-clause-run g c =
     let taken = subst (HasTakenPlan c.args.table.now c.args.seat.now c.args.job.now) c.in-Take.is c.requires.taken in
-    let some : 0 < c.args.job.now.span.end = omega arith in
+    let (m, aim, span, planned) = c.requires.taken in
+    let some = take_above c.args.seat.now.known m c.args.job.now aim c.args.job.now.deed (subst TakesLeaf (sym c.in-Take.is) tt) planned c.in-Take.is in
     let (t, same) = is_taking c.args.table.now c.args.seat.now c.args.job.now taken some in
     inr (
       some,
@@ -50,7 +56,7 @@ pub publish_change-requires : goal.publish_change-requires
 publish_change-requires g c =
     let (x, was, is, may) = c.in-Ok.ensures.done.raised in
     record {
-      held = holds_on c.args.table.now g.G.Gate.becomes (c.args.seat.now, c.args.gate.now) (c.carry_out_deed.new.seat, c.carry_out_deed.new.gate) c.args.job.now c.args.deed c.carry_out_deed.ensures.done.goes c.requires.taken;
+      held = holds_on c.args.table.now g.G.Gate.becomes (c.args.seat.now, c.args.gate.now) (c.carry_out_deed.new.seat, c.carry_out_deed.new.gate) c.args.job.now c.args.job.now.deed c.carry_out_deed.ensures.done.goes c.requires.taken;
       may = (x, was, may);
       loaded = loaded_on c.args.seat.now.known c.carry_out_deed.new.seat.known c.args.job.now.found c.carry_out_deed.ensures.done.goes.stays.3 c.requires.loaded;
     }
@@ -59,7 +65,7 @@ pub returns-in-Ok-clause-run : goal.returns-in-Ok-clause-run
 returns-in-Ok-clause-run g c =
     let (x, was, is, may) = c.in-Ok.ensures.done.raised in
     let (m, aim, taken, planned) = c.requires.taken in
-    let spared = loads_spared c.args.seat.now.known m c.args.job.now.key.now c.args.job.now.way.now aim c.args.job.now.found c.args.job.now.span c.args.deed planned in
+    let spared = loads_spared c.args.seat.now.known m c.args.job.now.key.now c.args.job.now.way.now aim c.args.job.now.found c.args.job.now.span c.args.job.now.deed planned in
     inl (
       runs_trans c.args.table.now g.G.Gate.becomes (c.args.seat.now, c.args.gate.now) (c.carry_out_deed.new.seat, c.carry_out_deed.new.gate) (c.publish_change.new.seat, c.publish_change.new.gate)
           (goes_run c.args.table.now g.G.Gate.becomes (c.args.seat.now, c.args.gate.now) (c.carry_out_deed.new.seat, c.carry_out_deed.new.gate) c.carry_out_deed.ensures.done.goes) c.publish_change.ensures.run,
@@ -73,14 +79,14 @@ returns-in-Ok-clause-done g c = λ ok.
 
 pub undo_change-requires : goal.undo_change-requires
 undo_change-requires g c = record {
-  held = holds_on c.args.table.now g.G.Gate.becomes (c.args.seat.now, c.args.gate.now) (c.carry_out_deed.new.seat, c.carry_out_deed.new.gate) c.args.job.now c.args.deed c.carry_out_deed.ensures.done.goes c.requires.taken;
+  held = holds_on c.args.table.now g.G.Gate.becomes (c.args.seat.now, c.args.gate.now) (c.carry_out_deed.new.seat, c.carry_out_deed.new.gate) c.args.job.now c.args.job.now.deed c.carry_out_deed.ensures.done.goes c.requires.taken;
   made = c.in-Err.ensures.done.full.not_made;
 }
 
 pub returns-in-Err-clause-run : goal.returns-in-Err-clause-run
 returns-in-Err-clause-run g c =
     let (m, aim, taken, planned) = c.requires.taken in
-    let spared = loads_spared c.args.seat.now.known m c.args.job.now.key.now c.args.job.now.way.now aim c.args.job.now.found c.args.job.now.span c.args.deed planned in
+    let spared = loads_spared c.args.seat.now.known m c.args.job.now.key.now c.args.job.now.way.now aim c.args.job.now.found c.args.job.now.span c.args.job.now.deed planned in
     inl (
       runs_trans c.args.table.now g.G.Gate.becomes (c.args.seat.now, c.args.gate.now) (c.carry_out_deed.new.seat, c.carry_out_deed.new.gate) (c.undo_change.new.seat, c.undo_change.new.gate)
           (goes_run c.args.table.now g.G.Gate.becomes (c.args.seat.now, c.args.gate.now) (c.carry_out_deed.new.seat, c.carry_out_deed.new.gate) c.carry_out_deed.ensures.done.goes)

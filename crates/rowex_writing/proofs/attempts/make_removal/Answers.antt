@@ -34,14 +34,14 @@ pub bounds-job-job : goal.bounds-job-job
 bounds-job-job g c =
     let job = c.args.job.now in
     let (m, aim, taken, planned) = c.requires.taken in
-    let (number, value, is, b) = taken_below c.args.table.now c.args.seat.now m job aim taken planned (let w = taken.within.0 in omega (arith, w, c.requires.some)) in
+    let (number, value, is, b) = taken_below c.args.table.now c.args.seat.now m job aim Take tt taken planned (let w = taken.within.0 in omega (arith, w, c.requires.some)) in
     slice_get_within job.way.now job.span.end _ (low_step c.args.table.now c.args.seat.now m job number value b)
 
 pub offset_bounds-job-job : goal.offset_bounds-job-job
 offset_bounds-job-job g c =
     let job = c.args.job.now in
     let (m, aim, taken, planned) = c.requires.taken in
-    let (number, value, is, b) = taken_below c.args.table.now c.args.seat.now m job aim taken planned (let w = taken.within.0 in omega (arith, w, c.requires.some)) in
+    let (number, value, is, b) = taken_below c.args.table.now c.args.seat.now m job aim Take tt taken planned (let w = taken.within.0 in omega (arith, w, c.requires.some)) in
     let h = slice_get_within job.way.now job.span.end _ (low_step c.args.table.now c.args.seat.now m job number value b) in search (rules, h)
 
 pub load_without_leaf-requires-clause-own : goal.load_without_leaf-requires-clause-own
@@ -51,21 +51,21 @@ pub load_without_leaf-requires-clause-range : goal.load_without_leaf-requires-cl
 load_without_leaf-requires-clause-range g c =
     let job = c.args.job.now in
     let (m, aim, taken, planned) = c.requires.taken in
-    let (number, value, is, b) = taken_below c.args.table.now c.args.seat.now m job aim taken planned (let w = taken.within.0 in omega (arith, w, c.requires.some)) in
+    let (number, value, is, b) = taken_below c.args.table.now c.args.seat.now m job aim Take tt taken planned (let w = taken.within.0 in omega (arith, w, c.requires.some)) in
     (b.taken.way_of.nodes job.span.end _ (low_step c.args.table.now c.args.seat.now m job number value b)).2.range
 
 pub load_without_leaf-requires-clause-locked : goal.load_without_leaf-requires-clause-locked
 load_without_leaf-requires-clause-locked g c =
     let job = c.args.job.now in
     let (m, aim, taken, planned) = c.requires.taken in
-    let (number, value, is, b) = taken_below c.args.table.now c.args.seat.now m job aim taken planned (let w = taken.within.0 in omega (arith, w, c.requires.some)) in
+    let (number, value, is, b) = taken_below c.args.table.now c.args.seat.now m job aim Take tt taken planned (let w = taken.within.0 in omega (arith, w, c.requires.some)) in
     lowest_locked c.args.table.now c.args.seat.now m job number value b _ (low_step c.args.table.now c.args.seat.now m job number value b)
 
 pub load_without_leaf-requires-clause-place : goal.load_without_leaf-requires-clause-place
 load_without_leaf-requires-clause-place g c =
     let job = c.args.job.now in
     let (m, aim, taken, planned) = c.requires.taken in
-    let (number, value, is, b) = taken_below c.args.table.now c.args.seat.now m job aim taken planned (let w = taken.within.0 in omega (arith, w, c.requires.some)) in
+    let (number, value, is, b) = taken_below c.args.table.now c.args.seat.now m job aim Take tt taken planned (let w = taken.within.0 in omega (arith, w, c.requires.some)) in
     (job.key.now, lowest_leads c.args.table.now c.args.seat.now m job number value b _ (low_step c.args.table.now c.args.seat.now m job number value b))
 
 -- ---- one entry is left
@@ -79,7 +79,7 @@ publish_change-requires g c =
     let job = c.args.job.now in
     let reads = c.load_without_leaf.ensures.reads in
     let (m, aim, taken, planned) = c.requires.taken in
-    let (number, value, is, b) = taken_below table c.args.seat.now m job aim taken planned (let w = taken.within.0 in omega (arith, w, c.requires.some)) in
+    let (number, value, is, b) = taken_below table c.args.seat.now m job aim Take tt taken planned (let w = taken.within.0 in omega (arith, w, c.requires.some)) in
     let at = low_step table c.args.seat.now m job number value b in
     let (words, h) = lowest_locked table c.args.seat.now m job number value b _ at in
     let left = c.in-Some.ensures.left job.key.now words (lowest_leads table c.args.seat.now m job number value b _ at) h in
@@ -114,7 +114,7 @@ returns-in-Some-clause-done g c = λ ok.
     let job = c.args.job.now in
     let reads = c.load_without_leaf.ensures.reads in
     let (m, aim, taken, planned) = c.requires.taken in
-    let (number, value, is, b) = taken_below table c.args.seat.now m job aim taken planned (let w = taken.within.0 in omega (arith, w, c.requires.some)) in
+    let (number, value, is, b) = taken_below table c.args.seat.now m job aim Take tt taken planned (let w = taken.within.0 in omega (arith, w, c.requires.some)) in
     let at = low_step table c.args.seat.now m job number value b in
     let (words, h) = lowest_locked table c.args.seat.now m job number value b _ at in
     let left = c.in-Some.ensures.left job.key.now words (lowest_leads table c.args.seat.now m job number value b _ at) h in
@@ -200,7 +200,7 @@ pub end_removal-requires-clause-left : goal.end_removal-requires-clause-left
 end_removal-requires-clause-left g c =
     let job = c.args.job.now in
     let (m, aim, taken, planned) = c.requires.taken in
-    let (number, value, is, b) = taken_below c.args.table.now c.args.seat.now m job aim taken planned (let w = taken.within.0 in omega (arith, w, c.requires.some)) in
+    let (number, value, is, b) = taken_below c.args.table.now c.args.seat.now m job aim Take tt taken planned (let w = taken.within.0 in omega (arith, w, c.requires.some)) in
     let at = low_step c.args.table.now c.args.seat.now m job number value b in
     let (words, h) = lowest_locked c.args.table.now c.args.seat.now m job number value b _ at in
     left_on c.load_without_leaf.new.seat.known c.claim_for_left.new.seat.known job _ c.claim_for_left.ensures.goes.stays.1 (record {

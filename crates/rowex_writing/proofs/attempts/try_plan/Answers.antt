@@ -32,7 +32,7 @@ returns-then-not-lock_and_check_span-clause-refused g c k loaded later =
 pub load_found_again-found-requires : goal.load_found_again-found-requires
 load_found_again-found-requires g c =
     let (m, aim, way, planned) = c.requires.planned in
-    record { taken = (c.args.deed, (m, aim, c.lock_and_check_span.ensures.taken c.if-not-lock_and_check_span.false m way, planned_later _ _ _ _ _ _ _ _ c.lock_and_check_span.ensures.later planned)) }
+    record { taken = (c.args.job.now.deed, (m, aim, c.lock_and_check_span.ensures.taken c.if-not-lock_and_check_span.false m way, planned_later _ _ _ _ _ _ _ _ c.lock_and_check_span.ensures.later planned)) }
 
 -- ---- the call has nothing to change then
 pub release_records_and_locks-requires-clause-span : goal.release_records_and_locks-requires-clause-span
@@ -99,8 +99,8 @@ change_span-requires g c =
         m,
         aim,
         again_taken g at m (c.lock_and_check_span.ensures.taken c.if-not-lock_and_check_span.false m way),
-        subst (λ f. IsPlanned c.load_found_again-found.new.seat.known m job.key.now job.way.now aim f (change job.span.len job.span.end c.args.deed)) (sym again)
-            (planned_again c.load_found_again-found.new.seat.known m job.key.now job.way.now aim job.found value job.span c.args.deed (planned_later _ _ _ _ _ _ _ _ later planned)),
+        subst (λ f. IsPlanned c.load_found_again-found.new.seat.known m job.key.now job.way.now aim f (change job.span.len job.span.end c.args.job.now.deed)) (sym again)
+            (planned_again c.load_found_again-found.new.seat.known m job.key.now job.way.now aim job.found value job.span c.args.job.now.deed (planned_later _ _ _ _ _ _ _ _ later planned)),
       );
       loaded = c.load_found_again-found.ensures.loaded;
     }
@@ -126,7 +126,7 @@ returns-in-Ok-clause-done g c =
       (
         x,
         was,
-        subst (λ q. IsDeedChange q c.args.deed job.key.now (value_in c.args.call.now (value_of c.load_found_again-found.result)) c.load_found_again-found.result x was) later.pass (subst (λ v. IsDeedChange c.load_found_again-found.new.seat.known.pass c.args.deed job.key.now v c.load_found_again-found.result x was) value_is is),
+        subst (λ q. IsDeedChange q c.args.job.now.deed job.key.now (value_in c.args.call.now (value_of c.load_found_again-found.result)) c.load_found_again-found.result x was) later.pass (subst (λ v. IsDeedChange c.load_found_again-found.new.seat.known.pass c.args.job.now.deed job.key.now v c.load_found_again-found.result x was) value_is is),
         changed_since c.args.seat.now.known c.load_found_again-found.new.seat.known c.change_span.new.seat.known x was later changed,
       ),
     )
@@ -150,7 +150,7 @@ returns-in-Err-clause-refused g c k loaded later =
     let locked = run_loaded table g.G.Gate.becomes k (c.args.seat.now, c.args.gate.now) (c.lock_and_check_span.new.seat, c.lock_and_check_span.new.gate) loaded c.lock_and_check_span.ensures.run.1.1 in
     let there = run_loaded table g.G.Gate.becomes k (c.lock_and_check_span.new.seat, c.lock_and_check_span.new.gate) (c.load_found_again-found.new.seat, c.load_found_again-found.new.gate) locked
     (goes_run table g.G.Gate.becomes (c.lock_and_check_span.new.seat, c.lock_and_check_span.new.gate) (c.load_found_again-found.new.seat, c.load_found_again-found.new.gate) c.load_found_again-found.ensures.reads.goes) in
-    let now : Job = record { way = c.args.job.now.way; key = c.args.job.now.key; value = c.new_value.result; found = c.load_found_again-found.result; span = c.args.job.now.span } in
+    let now : Job = record { way = c.args.job.now.way; key = c.args.job.now.key; value = c.new_value.result; found = c.load_found_again-found.result; span = c.args.job.now.span; deed = c.args.job.now.deed } in
     refused_failed table.layout now k c.load_found_again-found.new.seat.known _ _ c.in-Err.fault m taken.way_of there
     (later_trans later (later_trans c.lock_and_check_span.ensures.later c.load_found_again-found.ensures.reads.goes.stays.0)) c.in-Err.ensures.failed
 
@@ -160,7 +160,7 @@ returns-in-Err-clause-leafless g c take is = let same : c.in-Err.fault ≡ FullL
 -- ---- what it leaves
 pub returns-in-Err-clause-later : goal.returns-in-Err-clause-later
 returns-in-Err-clause-later g c =
-    let now : Job = record { way = c.args.job.now.way; key = c.args.job.now.key; value = c.new_value.result; found = c.load_found_again-found.result; span = c.args.job.now.span } in
+    let now : Job = record { way = c.args.job.now.way; key = c.args.job.now.key; value = c.new_value.result; found = c.load_found_again-found.result; span = c.args.job.now.span; deed = c.args.job.now.deed } in
     later_trans c.lock_and_check_span.ensures.later (later_trans c.load_found_again-found.ensures.reads.goes.stays.0 (failed_later c.args.table.now.layout now c.load_found_again-found.new.seat.known c.change_span.new.seat.known _ c.in-Err.fault c.in-Err.ensures.failed))
 
 pub returns-in-Err-clause-whole : goal.returns-in-Err-clause-whole
@@ -170,21 +170,21 @@ returns-in-Err-clause-whole g c e = let ok = sym c.in-Err.is ∙ c.change_span.e
 pub returns-then-not-lock_and_check_span-clause-short : goal.returns-then-not-lock_and_check_span-clause-short
 returns-then-not-lock_and_check_span-clause-short g c e =
     let (m, aim, way, planned) = c.requires.planned in
-    let one = one_lock c.args.seat.now.known m c.args.job.now.key.now c.args.job.now.way.now aim c.args.job.now.found c.args.job.now.span c.args.deed planned e in
+    let one = one_lock c.args.seat.now.known m c.args.job.now.key.now c.args.job.now.way.now aim c.args.job.now.found c.args.job.now.span c.args.job.now.deed planned e in
     let (locks, tried, some, upto, each, few) = c.lock_and_check_span.ensures.run in
     omega (arith, one, upto, few)
 
 pub returns-in_default-clause-short : goal.returns-in_default-clause-short
 returns-in_default-clause-short g c e =
     let (m, aim, way, planned) = c.requires.planned in
-    let one = one_lock c.args.seat.now.known m c.args.job.now.key.now c.args.job.now.way.now aim c.args.job.now.found c.args.job.now.span c.args.deed planned e in
+    let one = one_lock c.args.seat.now.known m c.args.job.now.key.now c.args.job.now.way.now aim c.args.job.now.found c.args.job.now.span c.args.job.now.deed planned e in
     let (locks, tried, some, upto, each, few) = c.lock_and_check_span.ensures.run in
     omega (arith, one, upto, few, c.load_found_again-found.ensures.few, held_few c.args.job.now.found, c.release_records_and_locks.ensures.few)
 
 pub returns-in-Ok-clause-short : goal.returns-in-Ok-clause-short
 returns-in-Ok-clause-short g c e =
     let (m, aim, way, planned) = c.requires.planned in
-    let one = one_lock c.args.seat.now.known m c.args.job.now.key.now c.args.job.now.way.now aim c.args.job.now.found c.args.job.now.span c.args.deed planned e in
+    let one = one_lock c.args.seat.now.known m c.args.job.now.key.now c.args.job.now.way.now aim c.args.job.now.found c.args.job.now.span c.args.job.now.deed planned e in
     let (locks, tried, some, upto, each, few) = c.lock_and_check_span.ensures.run in
     omega (arith, one, upto, few, c.load_found_again-found.ensures.few, held_few c.args.job.now.found, c.change_span.ensures.short e)
 

@@ -1,5 +1,5 @@
 -- A claim and its fills are the first record.
-use Rattle.std.proofs.Common.{◌∷◌, [], ◌++◌, subst, sym, ap, ◌∙◌, length, arith}
+use Rattle.std.proofs.Common.{◌∷◌, [], ◌++◌, subst, sym, ap, ◌∙◌, length, arith, rules}
 use Rattle.record_words.specs.declared.records.Rec.TheVariants.{Leaf as a_leaf}
 use Rattle.rowex_records.specs.Claims.{AllMissedFrom, IsAnothersTo}
 use Rattle.rowex_records.proofs.Claimed.{more_is_claimed}
@@ -17,7 +17,7 @@ pub returns-in_err-number-clause-made : goal.returns-in_err-number-clause-made
 returns-in_err-number-clause-made g c = rw c.from_residual.ensures (
   subst (λ z. IsBuilding c.args.table.now c.claim_leaf.new.seat z []) (sym c.clear.ensures) (building_on c.args.table.now g.G.Gate.becomes (c.args.seat.now, c.args.gate.now) (c.claim_leaf.new.seat, c.claim_leaf.new.gate) [] []
       c.claim_leaf.ensures.goes c.in_err-number.ensures.claims.0 (building_none c.args.table.now c.args.seat.now c.requires.own c.requires.possible c.requires.none)),
-  lacks_leaves c.args.table.now.layout c.args.key.now c.args.seat.now.known c.claim_leaf.new.seat.known c.claim_leaf.new.seat.known.failed c.args.seat.now.known.steps c.claim_leaf.ensures.goes.stays.0.pass c.requires.none
+  lacks_leaves c.args.table.now.layout c.args.job.now.key.now c.args.seat.now.known c.claim_leaf.new.seat.known c.claim_leaf.new.seat.known.failed c.args.seat.now.known.steps c.claim_leaf.ensures.goes.stays.0.pass c.requires.none
       (subst (λ w. AllMissedFrom (IsAnothersTo c.args.table.now.layout c.args.seat.now.known) c.args.table.now.layout w c.claim_leaf.new.seat.known.failed c.args.seat.now.known.steps) c.count_leaf_words.ensures.words c.in_err-number.ensures.claims.1),
 )
 
@@ -27,10 +27,10 @@ returns-clause-goes g c =
 
 pub returns-clause-made : goal.returns-clause-made
 returns-clause-made g c =
-    let x = item c.in_ok-number.number c.args.key.now c.args.value in
+    let x = item c.in_ok-number.number c.args.job.now.key.now c.args.job.now.value in
     subst (λ z. HasLeafMade c.args.table.now c.fill_leaf.new.seat z x) (sym (c.push.ensures.items ∙ ap (λ z. z ++ a_leaf x.number ∷ []) c.clear.ensures))
     (building_leaf c.args.table.now g.G.Gate.becomes x (c.args.seat.now, c.args.gate.now) (c.claim_leaf.new.seat, c.claim_leaf.new.gate) (c.fill_leaf.new.seat, c.fill_leaf.new.gate)
-    record { key = c.requires.key; value = c.ranges.value.fits } (omega (arith, c.in_ok-number.ensures.claims.1, c.count_leaf_words.ensures.words)) c.claim_leaf.ensures.goes c.in_ok-number.ensures.claims.2 c.fill_leaf.ensures.fills
+    record { key = c.requires.key; value = search rules } (omega (arith, c.in_ok-number.ensures.claims.1, c.count_leaf_words.ensures.words)) c.claim_leaf.ensures.goes c.in_ok-number.ensures.claims.2 c.fill_leaf.ensures.fills
     (building_none c.args.table.now c.args.seat.now c.requires.own c.requires.possible c.requires.none))
 
 pub fill_leaf-requires-clause-held : goal.fill_leaf-requires-clause-held

@@ -6,6 +6,7 @@ use Rattle.std.proofs.lemmas.Result.{IfErr-weaker}
 use Rattle.insert_cases.specs.declared.choice.PathNode.{PathNode}
 use Rattle.rowex_writing.specs.Merging.{no_step}
 use Rattle.rowex_writing.proofs.Raised.{grown_raised, no_leaf_free, none_free_since}
+use Rattle.rowex_writing.proofs.Bridging.{grow_plan}
 use Rattle.rowex_writing.proofs.Growths.{grown_stored, may_grow}
 use Rattle.rowex_writing.proofs.Locking.{goes_more}
 use Rattle.rowex_writing.proofs.Runs.{goes_run, run_count}
@@ -13,6 +14,12 @@ use Rattle.rowex_writing.proofs.growing.grow_node.Goals as goal
 
 pub returns-in_default : goal.returns-in_default
 returns-in_default g c = record { done = no_leaf_free c.make_leaf.ensures.goes c.in_default.ensures.made c.make_leaf.ensures.few refl; spares = λ was. tt }
+
+pub overflow_sub-new : goal.overflow_sub-new
+overflow_sub-new g c =
+    let job = c.args.job.now in
+    let (m, aim, t, planned) = c.requires.taken in
+    let len = (grow_plan c.args.seat.now.known m job.key.now job.way.now job.span.len job.span.end c.args.position aim job.found planned).len_is in omega (arith, len)
 
 pub grow_with_leaf-requires : goal.grow_with_leaf-requires
 grow_with_leaf-requires g c =

@@ -1,7 +1,7 @@
 -- What the pass keeps is true of the pass that contracts see.
 use Rattle.std.proofs.Common.{subst}
 use Rattle.finite_map.specs.Calls.{LegalCalls}
-use Rattle.key_counts.specs.Counts.{IsCountOf}
+use Rattle.hot_index.specs.KeyCounts.{IsCountOf}
 use Rattle.hot_index_calls.specs.Passes.{PassView}
 use Rattle.hot_index.proofs.index.Pass.count.Goals as goal
 

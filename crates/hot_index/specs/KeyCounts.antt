@@ -1,0 +1,68 @@
+-- How many keys the calls of passes have put in and taken out.
+use Rattle.std.specs.Prelude.{◌≡◌, ℕ, ◌+◌, ◌*◌, ◌-◌, ◌^◌, ◌<◌, List, [], ◌∷◌, ◌++◌, length, slice_get, sum_by, All, Some, Result, MatchResult}
+use Rattle.finite_map.specs.declared.Call.{Call}
+use Rattle.finite_map.specs.declared.Reply.{Reply}
+use Rattle.finite_map.specs.declared.Reply.TheVariants.{Inserted, New, Removed}
+use Rattle.finite_map.specs.declared.Kind.{Kind}
+use Rattle.finite_map.specs.declared.Kind.TheVariants.{Added, Replaced, Removed as TakenAway}
+use Rattle.finite_map.specs.declared.Change.{Change}
+use Rattle.finite_map.specs.declared.Note.{Note}
+use Rattle.finite_map.specs.Maps.{Map, reply_of}
+use Rattle.finite_map.specs.Fronts.{LegalFront}
+use Rattle.finite_map.specs.Calls.{LegalCalls, changes_of}
+use Rattle.hot_index.specs.declared.key_counts.KeyCount.{KeyCount}
+
+-- how many keys a change of this kind puts in, and how many it takes out
+abbrev pub puts_of : Kind → ℕ
+puts_of Added = 1
+puts_of Replaced = 0
+puts_of TakenAway = 0
+
+abbrev pub takes_of : Kind → ℕ
+takes_of Added = 0
+takes_of Replaced = 0
+takes_of TakenAway = 1
+
+abbrev pub puts : Change → ℕ
+puts c = puts_of c.kind
+
+abbrev pub takes : Change → ℕ
+takes c = takes_of c.kind
+
+-- the net is the first number less the second, modulo 2^64
+abbrev pub IsDifference : ℕ → ℕ → ℕ → Type 0
+IsDifference more less net = (a : ℕ) × (b : ℕ) × (net + less + a * 2 ^ 64 ≡ more + b * 2 ^ 64)
+
+-- the net of the keys that changes put in and take out
+abbrev pub IsNet : List Change → ℕ → Type 0
+IsNet changes net = IsDifference (sum_by puts changes) (sum_by takes changes) net
+
+-- the count is the net of the answered calls of pass q
+abbrev pub IsCountOf : ℕ → List Note → KeyCount → Type 0
+IsCountOf q notes count = IsNet (changes_of q notes) count.keys
+
+-- some map answers the call so
+abbrev pub MayReply : Call → Reply → Type 0
+MayReply call reply = (m : Map) × (reply ≡ reply_of m call)
+
+-- the count was that of a pass's calls, and is that of one call more, which had this reply
+abbrev pub CountsReply : Reply → KeyCount → KeyCount → Type 0
+CountsReply reply old new = (q place : ℕ) (notes : List Note) (call : Call) → MayReply call reply → IsCountOf q notes old →
+    IsCountOf q (notes ++ record { place = place; call = call; reply = reply } ∷ []) new
+
+-- the same of an answered call; a refused call leaves the count
+abbrev pub CountsAnswer : {F : Type 0} → Result Reply F → KeyCount → KeyCount → Type 0
+CountsAnswer answer old new = MatchResult answer (λ reply. CountsReply reply old new) (λ fault. new ≡ old)
+
+-- what a call with this reply puts in less what it takes out, modulo 2^64
+abbrev pub net_of : Reply → ℕ
+net_of Inserted = 1
+net_of New = 1
+net_of (Removed held) = 2 ^ 64 - 1
+net_of _ = 0
+
+-- The changes of a front were made by the passes that have these counts: each pass's count is that of its calls, which are legal in it.
+pub record AreCounts (front : List Change) (counts : List KeyCount) : Type 0 where
+  pub legal : LegalFront front
+  pub makers : All (λ c. c.pass < length counts) front
+  pub each : (q : ℕ) (count : KeyCount) → slice_get counts q ≡ Some count → (notes : List Note) × LegalCalls front q notes × IsCountOf q notes count

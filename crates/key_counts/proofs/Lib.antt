@@ -1,3 +1,0 @@
--- The lemmas of the crate.
-pub mod Nets
-pub mod Sizes
