@@ -16,6 +16,15 @@ use hot_scripts::command::{Command, Range};
 use hot_scripts::script::Script;
 use std::alloc::{AllocError, Global};
 
+/// What commands were answered, and room for the pairs of a scan.
+#[derive(Drop)]
+struct Output {
+    /// The lines of the answers so far.
+    text: Vec<u8>,
+    /// Pairs of an earlier scan, which the next one drops.
+    pairs: Pairs,
+}
+
 /// Makes `call` through `handle` by `caller`, which fits its index, and returns the answer. `gate` is told each of its steps.
 fn make_call<C: Caller, G: Gate>(
     caller: &C,
@@ -33,51 +42,49 @@ fn make_call<C: Caller, G: Gate>(
     }
 }
 
-/// Makes a scan of `range` into `pairs`, whose earlier pairs are dropped. `gate` is told each of its steps. The lines of its answer go to
-/// the end of `text`. If memory is refused, an error, and perhaps a part of these.
+/// Makes a scan of `range` into the pairs of `output`, whose earlier pairs are dropped. `gate` is told each of its steps. The lines of its
+/// answer go to the end of the text. If memory is refused, an error, and perhaps a part of these.
 fn run_scan<G: Gate>(
     handle: &mut Handle<&Index>,
     range: &Range,
     gate: &mut G,
-    pairs: &mut Pairs,
-    text: &mut Vec<u8>,
+    output: &mut Output,
 ) -> Result<(), AllocError>
     ensures index { handle.new.index ≡ handle.old.index }
     ensures answered { OnOk result (HasAnsweredCommand handle.old.index G.becomes (handle.old.pass, gate.old) (Command.Scan range.now)
-        (handle.new.pass, gate.new) text.old.items text.new.items) }
+        (handle.new.pass, gate.new) output.old.text.items output.new.text.items) }
 {
     let more = handle.index.scan_into_with(
         &mut handle.pass,
         &range.from,
         &range.upto,
         range.limit,
-        pairs,
+        &mut output.pairs,
         gate,
     )?;
-    push_scan(text, pairs, more)
+    push_scan(&mut output.text, &output.pairs, more)
 }
 
 /// Makes `command` through `handle`, a call by `caller`, which fits its index. `gate` is told each of its steps. The lines of the answer go
-/// to the end of `text`; a scan replaces `pairs`. If memory is refused, an error, and perhaps a part of these.
+/// to the end of the text of `output`; a scan replaces its pairs. If memory is refused, an error, and perhaps a part of these.
 fn run_command<C: Caller, G: Gate>(
     caller: &C,
     handle: &mut Handle<&Index>,
     command: &Command,
     gate: &mut G,
-    pairs: &mut Pairs,
-    text: &mut Vec<u8>,
+    output: &mut Output,
 ) -> Result<(), AllocError>
     requires { C.fits caller.now handle.old.index }
     ensures index { handle.new.index ≡ handle.old.index }
     ensures answered { OnOk result (HasAnsweredCommand handle.old.index G.becomes (handle.old.pass, gate.old) command.now
-        (handle.new.pass, gate.new) text.old.items text.new.items) }
+        (handle.new.pass, gate.new) output.old.text.items output.new.text.items) }
 {
     match command {
         Command::Call(call) => {
             let answer = make_call(caller, handle, call, gate);
-            push_answer(text, answer)
+            push_answer(&mut output.text, answer)
         }
-        Command::Scan(range) => run_scan(handle, range, gate, pairs, text),
+        Command::Scan(range) => run_scan(handle, range, gate, output),
     }
 }
 
@@ -95,11 +102,13 @@ pub fn run_script<C: Caller, G: Gate>(
     ensures ran { IfOk result (λ text. HasRunCommands handle.old.index G.becomes (handle.old.pass, gate.old) (script_commands script.now)
         (handle.new.pass, gate.new) text.items) }
 {
-    let mut text = Vec::new(alloc);
-    let mut pairs = Pairs::new(alloc);
+    let mut output = Output {
+        text: Vec::new(alloc),
+        pairs: Pairs::new(alloc),
+    };
     let mut commands = script.commands();
     while let Some(command) = commands.next_command() {
-        run_command(caller, handle, &command, gate, &mut pairs, &mut text)?;
+        run_command(caller, handle, &command, gate, &mut output)?;
     }
-    Ok(text)
+    Ok(output.text)
 }

@@ -12,4 +12,4 @@ returns-in-Call-clause-answered g c =
     let told = c.make_call-answer.ensures.told.pass in
     rw c.in-Call.is
     (on_ok_weaker c.push_answer.result (λ text. HasAnsweredCommand-call index g.G.Gate.becomes first last c.in-Call.call c.make_call-answer.result told.0
-    c.args.text.now.items c.push_answer.new.text.items told.1 c.make_call-answer.ensures.steps text) c.push_answer.ensures)
+    c.args.output.now.text.items c.push_answer.new.text.items told.1 c.make_call-answer.ensures.steps text) c.push_answer.ensures)

@@ -8,4 +8,4 @@ returns-clause-answered g c =
     let list = c.push_scan.ensures in
     rw (← c.handle.view_is)
     (on_ok_weaker c.push_scan.result
-    (λ text. HasAnsweredCommand-list c.handle.inside.index.now _ c.args.text.now.alloc _ _ c.args.range.now _ list.short c.in_ok-more.more _ _ c.in_ok-more.ensures.ok c.in_ok-more.ensures.read.read text) list.lines)
+    (λ text. HasAnsweredCommand-list c.handle.inside.index.now _ c.args.output.now.text.alloc _ _ c.args.range.now _ list.short c.in_ok-more.more _ _ c.in_ok-more.ensures.ok c.in_ok-more.ensures.read.read text) list.lines)

@@ -10,7 +10,7 @@ abbrev pub invariant-loop-command : goal.invariant-loop-command
 invariant-loop-command g l = record {
   index : l.handle.index ≡ l.fn.handle.index;
   completes : (b : PassView × _) (rest : List ℕ) → HasRunCommands l.fn.handle.index g.G.Gate.becomes (l.handle.pass, l.gate) (commands_left l.commands) b rest
-      → HasRunCommands l.fn.handle.index g.G.Gate.becomes (l.fn.handle.pass, l.fn.gate) (script_commands l.fn.script) b (l.text.items ++ rest);
+      → HasRunCommands l.fn.handle.index g.G.Gate.becomes (l.fn.handle.pass, l.fn.gate) (script_commands l.fn.script) b (l.output.text.items ++ rest);
 }
 
 abbrev pub decreases-loop-command : goal.decreases-loop-command
