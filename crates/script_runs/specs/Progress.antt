@@ -90,14 +90,11 @@ pub record HasAnsweredLast (k : HandleView) (met : List Done) (commands : List C
   pub meet : MeetInTurn k.index after met last again
   pub text_is : text ≡ sections 1 (map (λ d. d.text.items) again) ++ line (codes "last") ++ answers
 
--- The threads of these handles and gates made the commands of these scripts; then the handle's pass met theirs, one after another, and
--- the last script was answered. The gates are those that the threads gave back.
-pub record HaveAnswered {G : Type 0} (becomes : G → Event → G → Type 0) (handles : List (HandleView × G)) (scripts : List (List Command))
-    (commands : List Command) (k : HandleView) (results : Results G) : Type 0 where
-  pub ran : List (Done × G)
+-- The handle's pass met those of scripts that had run, one after another, and the last script was answered. The gates are those of the
+-- scripts that had run.
+pub record HaveAnswered {G : Type 0} (ran : List (Done × G)) (commands : List Command) (k : HandleView) (results : Results G) : Type 0 where
   pub met : List Done
   pub after : PassView
-  pub have_run : AllThree (IsDone becomes) handles scripts ran
   pub gates_are : results.gates.items ≡ map (λ r. r.1) ran
   pub meet : MeetInTurn k.index k.pass (map (λ r. r.0) ran) after met
   pub answered : HasAnsweredLast (handle_at k.index after) met commands (flat_map (λ t. t.items) results.texts.items)

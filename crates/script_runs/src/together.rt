@@ -1,10 +1,8 @@
 //! Scripts that run at the same time: a thread and a handle for each, and the meetings of their passes.
 
-ghost use Rattle.std.specs.Prelude.{◌≡◌, ◌≤◌, All, IfOk, flat_map, length, map};
+ghost use Rattle.std.specs.Prelude.{◌≡◌, ◌≤◌, IfOk, flat_map, length, map};
 ghost use Rattle.std.specs.List.{AllZip, zip};
 ghost use Rattle.hot_index_calls.specs.Answers.{HaveMet};
-ghost use Rattle.hot_index_calls.specs.Passes.{Owns};
-ghost use Rattle.hot_index.specs.Handles.{handle_at};
 ghost use Rattle.hot_scripts.specs.declared.script.TheConstants.{MAX_FILES};
 ghost use Rattle.hot_scripts.specs.Parses.{script_commands};
 ghost use Rattle.script_runs.specs.Progress.{AllThree, AreAt, AreReady, HasAnsweredLast, HasKept, HaveAnswered, IsDone, IsOrderOf, MeetInTurn};
@@ -15,7 +13,7 @@ use crate::callers::Waits;
 use crate::engine::run_script;
 use crate::indexes::{Records, create_index_for_files};
 use core::mem::replace_with;
-use hot_index::{Gate, Handle, Index, NoGate, Pass, handles_of};
+use hot_index::{Gate, Handle, Index, NoGate, handles_of};
 use hot_scripts::script::Script;
 use std::alloc::{AllocError, Global};
 use std::snapshot::Snapshot;
@@ -50,7 +48,7 @@ impl<'a, G: Gate> Promise<Result<(Done<'a>, G), AllocError>> for Order<'a, G> {
 }
 
 /// Makes an index of `records` and runs scripts on it. Those of files, `scripts`, `MAX_FILES` at most, run at the same time, each in a
-/// thread with the gate of its place; `last` runs when they have ended. Returns all answers, and the gates in the order of `scripts`. An
+/// thread with the gate of its place. `last` runs when they have ended. Returns all answers, and the gates in the order of `scripts`. An
 /// error if memory is refused, or a thread can't be started.
 pub fn run_all_scripts<T: AllocGlobal + Threads + Wait + Sync, G: Gate + Send + Drop>(
     rt: &T,
@@ -66,31 +64,27 @@ pub fn run_all_scripts<T: AllocGlobal + Threads + Wait + Sync, G: Gate + Send + 
         (map script_commands scripts.now) (script_commands last.now) (flat_map (λ t. t.items) results.texts.items)) }
 {
     let (index, passes, pass) = create_index_for_files(rt.alloc(), scripts.len() as u32, records)?;
-    run_by_passes(rt, Handle::new(&index, pass), passes, scripts, gates, last)
+    let handles = handles_of(rt.alloc(), &index, passes)?;
+    let ran = run_files(rt, handles, scripts, gates)?;
+    end_run(rt, Handle::new(&index, pass), ran, last)
 }
 
-/// Runs `scripts`, those of files, at the same time, each by the pass and the gate of its place. Then the pass of `handle` meets these,
-/// runs `last`, and meets them again. Returns what `run_all_scripts` does, with its errors.
-fn run_by_passes<'a, T: AllocGlobal + Threads + Wait + Sync, G: Gate + Send + Drop>(
+/// Lets the pass of `handle` meet those of the scripts of `ran`, which ran at the same index, `MAX_FILES` at most. Then it runs `last`, and
+/// meets them again. Returns all answers, and the gates in the order of `ran`; an error if memory is refused.
+fn end_run<'a, T: AllocGlobal + Wait, G: Gate + Drop>(
     rt: &T,
     handle: Handle<&'a Index>,
-    passes: Vec<Pass>,
-    scripts: &[Script],
-    gates: Vec<G>,
+    ran: Vec<(Done<'a>, G)>,
     last: &Script,
 ) -> Result<Results<G>, AllocError>
-    requires owns { All (Owns handle.index) passes.items }
-    requires ready { AreReady passes.items scripts.now gates.items }
-    requires few { length scripts.now ≤ MAX_FILES }
-    ensures { IfOk result (λ results. HaveAnswered G.becomes (zip (map (handle_at handle.entry.index) passes.items) gates.items)
-        (map script_commands scripts.now) (script_commands last.now) handle.entry results) }
+    requires index { AreAt handle.index handle (map (λ r. r.0) ran.items) }
+    requires few { length ran.items ≤ MAX_FILES }
+    ensures { IfOk result (HaveAnswered ran.entry.items (script_commands last.now) handle.entry) }
 {
-    let alloc = rt.alloc();
-    let ended = run_files(rt, alloc, handle.index, passes, scripts, gates)?;
-    let (mut ran, gates) = split_gates(alloc, ended)?;
-    let done: &mut [Done] = &mut ran;
-    let handle = meet_all_passes(handle, done);
-    let texts = run_last_script(rt, alloc, handle, done, last)?;
+    let (mut done, gates) = split_gates(rt.alloc(), ran)?;
+    let met: &mut [Done] = &mut done;
+    let handle = meet_all_passes(handle, met);
+    let texts = run_last_script(rt, handle, met, last)?;
     Ok(Results { texts, gates })
 }
 
@@ -113,9 +107,8 @@ fn split_gates<'a, G: Drop>(
 
 /// Runs `last`, the last script, by `handle`, whose pass has met those of `met` and meets them again. Returns the answers of all as texts
 /// that follow one another; an error if memory is refused.
-fn run_last_script<'a, T: Wait>(
+fn run_last_script<'a, T: AllocGlobal + Wait>(
     rt: &T,
-    alloc: Global,
     handle: Handle<&'a Index>,
     met: &mut [Done<'a>],
     last: &Script,
@@ -126,69 +119,70 @@ fn run_last_script<'a, T: Wait>(
 {
     // The handle is opened: its pass belongs to its index.
     let _pass = &handle.pass;
-    let (done, _gate) = run_file(rt, alloc, handle, last, NoGate)?;
+    let (done, _gate) = run_file(rt, handle, last, NoGate)?;
     meet_all_passes(done.handle, met);
-    make_sections(alloc, met, done.text)
+    make_sections(rt.alloc(), met, done.text)
 }
 
-/// Runs each of `scripts` in a thread with the pass and the gate of its place, all at the same time, and joins them. Returns each gate
+/// Runs each of `scripts` in a thread with the handle and the gate of its place, all at the same time, and joins them. Returns each gate
 /// beside its script, in their order. An error if memory is refused, or a thread can't be started.
-fn run_files<'a, T: Threads + Wait + Sync, G: Gate + Send + Drop>(
+fn run_files<'a, T: AllocGlobal + Threads + Wait + Sync, G: Gate + Send + Drop>(
     rt: &T,
-    alloc: Global,
-    index: &'a Index,
-    passes: Vec<Pass>,
+    handles: Vec<Handle<&'a Index>>,
     scripts: &[Script],
     gates: Vec<G>,
 ) -> Result<Vec<(Done<'a>, G)>, AllocError>
-    requires owns { All (Owns index.now) passes.items }
-    requires ready { AreReady passes.items scripts.now gates.items }
-    ensures { IfOk result (λ done. AllThree (IsDone G.becomes) (zip (map (handle_at index.now) passes.items) gates.items) (map script_commands scripts.now) done.items) }
+    requires ready { AreReady handles.items scripts.now gates.items }
+    ensures { IfOk result (λ done. AllThree (IsDone G.becomes) (zip handles.entry.items gates.items) (map script_commands scripts.now) done.items) }
 {
-    let handles = handles_of(alloc, index, passes)?;
     scope(
         scope_env(),
         rt,
         |threads| -> Result<Vec<(Done, G)>, AllocError>
             requires { AreReady handles.items scripts.now gates.items }
             ensures { IfOk result (λ done. AllThree (IsDone G.becomes) (zip handles.entry.items gates.items) (map script_commands scripts.entry.now) done.items) }
-        { run_files_in_scope(threads, rt, alloc, handles, scripts, gates) },
+        { run_files_in_scope(threads, rt, handles, scripts, gates) },
     )
 }
 
-/// Does what `run_files` does, by threads of the scope `threads`.
-fn run_files_in_scope<'a: 's, 's, E, T: Threads + Wait + Sync + 's, G: Gate + Send + Drop + 's>(
+/// Runs each of `scripts` as `run_files` does, with its errors. The threads are those of the scope `threads`, and each has the handle and
+/// the gate of its place.
+fn run_files_in_scope<'a: 's, 's, E, T, G>(
     threads: &Scope<'s, E>,
     rt: &'s T,
-    alloc: Global,
     handles: Vec<Handle<&'a Index>>,
     scripts: &'s [Script],
     gates: Vec<G>,
 ) -> Result<Vec<(Done<'a>, G)>, AllocError>
+where
+    T: AllocGlobal + Threads + Wait + Sync + 's,
+    G: Gate + Send + Drop + 's,
     requires { AreReady handles.items scripts.now gates.items }
     ensures { IfOk result (λ done. AllThree (IsDone G.becomes) (zip handles.entry.items gates.items) (map script_commands scripts.entry.now) done.items) }
 {
-    let running = start_files(threads, rt, alloc, handles, scripts, gates)?;
-    join_files(rt, alloc, running)
+    let running = start_files(threads, rt, handles, scripts, gates)?;
+    join_files(rt, running)
 }
 
 /// Starts the thread of each of `scripts`, with the handle and the gate of its place. Returns the threads in their order. An error if
 /// memory is refused, or a thread can't be started; those that were started go on.
-fn start_files<'a: 's, 's, E, T: Threads + Wait + Sync + 's, G: Gate + Send + Drop + 's>(
+fn start_files<'a: 's, 's, E, T, G>(
     threads: &Scope<'s, E>,
     rt: &'s T,
-    alloc: Global,
     handles: Vec<Handle<&'a Index>>,
     scripts: &'s [Script],
     gates: Vec<G>,
 ) -> Result<Vec<Running<'a, G>>, AllocError>
+where
+    T: AllocGlobal + Threads + Wait + Sync + 's,
+    G: Gate + Send + Drop + 's,
     requires { AreReady handles.items scripts.now gates.items }
     ensures { IfOk result (λ running. AllThree IsOrderOf (zip handles.entry.items gates.items) (map script_commands scripts.entry.now)
         (map (λ t. t.promise) running.items)) }
 {
     let mut scripts = scripts.iter();
     let mut gates = gates.into_iter();
-    let mut running = Vec::new(alloc);
+    let mut running = Vec::new(rt.alloc());
     for handle in handles {
         let Some(script) = scripts.next() else {
             unreachable!();
@@ -196,20 +190,19 @@ fn start_files<'a: 's, 's, E, T: Threads + Wait + Sync + 's, G: Gate + Send + Dr
         let Some(gate) = gates.next() else {
             unreachable!();
         };
-        running.push(start_file(threads, rt, alloc, handle, script, gate)?)?;
+        running.push(start_file(threads, rt, handle, script, gate)?)?;
     }
     Ok(running)
 }
 
 /// Joins the threads `running`, one after another, and returns what they ran, in their order. An error if memory is refused, here or there.
-fn join_files<'a, T: Threads + Wait, G: Gate + Drop>(
+fn join_files<'a, T: AllocGlobal + Threads + Wait, G: Gate + Drop>(
     rt: &T,
-    alloc: Global,
     running: Vec<Running<'a, G>>,
 ) -> Result<Vec<(Done<'a>, G)>, AllocError>
     ensures { IfOk result (λ done. AllZip (HasKept G.becomes) (map (λ t. t.promise) running.entry.items) done.items) }
 {
-    let mut done = Vec::new(alloc);
+    let mut done = Vec::new(rt.alloc());
     for thread in running {
         done.push(thread.join(rt)?)?;
     }
@@ -217,14 +210,16 @@ fn join_files<'a, T: Threads + Wait, G: Gate + Drop>(
 }
 
 /// Starts a thread that runs `script` by `handle`, whose steps `gate` is told, and returns it. An error if it can't be started.
-fn start_file<'a: 's, 's, E, T: Threads + Wait + Sync + 's, G: Gate + Send + Drop + 's>(
+fn start_file<'a: 's, 's, E, T, G>(
     threads: &Scope<'s, E>,
     rt: &'s T,
-    alloc: Global,
     handle: Handle<&'a Index>,
     script: &'s Script,
     gate: G,
 ) -> Result<Running<'a, G>, AllocError>
+where
+    T: AllocGlobal + Threads + Wait + Sync + 's,
+    G: Gate + Send + Drop + 's,
     ensures { IfOk result (λ thread. IsOrderOf (handle.entry, gate) (script_commands script.entry.now) thread.promise) }
 {
     let order = Order {
@@ -236,16 +231,15 @@ fn start_file<'a: 's, 's, E, T: Threads + Wait + Sync + 's, G: Gate + Send + Dro
         order,
         move || -> Result<(Done, G), AllocError>
             ensures { IfOk result (IsDone G.becomes (handle.entry, gate) (script_commands script.entry.now)) }
-        { run_file(rt, alloc, handle, script, gate) },
+        { run_file(rt, handle, script, gate) },
     )?;
     Ok(thread)
 }
 
 /// Runs `script` by `handle`, whose steps `gate` is told, and waits where another pass is in its way. Returns the handle with the answers,
 /// and the gate. An error if memory is refused.
-fn run_file<'a, T: Wait, G: Gate + Drop>(
+fn run_file<'a, T: AllocGlobal + Wait, G: Gate + Drop>(
     rt: &T,
-    alloc: Global,
     handle: Handle<&'a Index>,
     script: &Script,
     gate: G,
@@ -254,7 +248,7 @@ fn run_file<'a, T: Wait, G: Gate + Drop>(
 {
     let mut handle = handle;
     let mut gate = gate;
-    match run_script(&Waits { rt }, alloc, &mut handle, script, &mut gate) {
+    match run_script(&Waits { rt }, rt.alloc(), &mut handle, script, &mut gate) {
         Ok(text) => Ok((Done { handle, text }, gate)),
         Err(refused) => Err(refused),
     }
