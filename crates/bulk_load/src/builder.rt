@@ -6,7 +6,7 @@ ghost use Rattle.record_words.specs.declared.state.Tag.TheVariants.{Free as Free
 ghost use Rattle.record_words.specs.declared.TheConstants.{LEAF_CLASSES};
 ghost use Rattle.record_words.specs.State.{state_word};
 ghost use Rattle.std.specs.Prelude.{ℕ, ◌≡◌, ◌≢◌, ◌↔◌, ◌+◌, ◌≤◌, ◌<◌, ◌++◌, ◌∷◌, [], if◌then◌else◌, get_or, Err, IfOk, IfSome, IsNone, IsTrue, List, OnOk, OnErr, Option as Maybe, Some, length};
-ghost use Rattle.std.specs.Vec.{vec_len, vec_capacity};
+ghost use Rattle.std.specs.Vec.{vec_len};
 ghost use Rattle.bulk_load.specs.Finished.{IsFinished};
 ghost use Rattle.bulk_load.specs.Loading.{CanJoin, CanPart, HasCursors, HasNodesFor, HasSameFields, HasSpace, EndsInLeaf, IsAlone, IsJoined, IsLoading, IsPiece, IsNextLeaf, IsStackOf, IsTreeOf, KeepsLeaves, KeepsNodes, MayTakeNext, StandsFor};
 ghost use Rattle.bulk_load.specs.Stacks.{LeftPiece, whole_of, with_right};
@@ -129,7 +129,7 @@ impl Builder {
         })
     }
 
-    /// Has room for one slot more, and one piece more. An error if memory is refused.
+    /// Makes room for one slot more, and one piece more. `Memory` if memory is refused.
     pub(crate) fn reserve(&mut self) -> Result<(), LoadFault>
         ensures same { HasSameFields self.old self.new }
         ensures ok { OnOk result (HasSpace self.new) }
@@ -144,7 +144,8 @@ impl Builder {
         Ok(())
     }
 
-    /// Takes `key` with `value` where it belongs.
+    /// Takes `key` with `value` as the last pair so far. `next_leaf` is what `find_next_leaf` returns for `key`. There is room for one slot
+    /// more and one piece more, as `reserve` makes it. The pieces at forks behind the leaf's fork are joined first.
     pub(crate) fn take(&mut self, next_leaf: NextLeaf, key: &Key, value: u64)
         requires next_leaf { IsNextLeaf self.old key.now next_leaf.fork_position next_leaf.record_number }
         requires space { HasSpace self.old }
@@ -156,7 +157,7 @@ impl Builder {
         self.add_leaf(next_leaf.fork_position, next_leaf.record_number, key, value);
     }
 
-    /// Makes one tree of all pieces, and the root's entry leads to it.
+    /// Makes one tree of all pieces, and writes the root: its entry leads to that tree, or to nothing if there is no piece.
     pub(crate) fn close_all(&mut self)
         requires { (xs : List Item) × IsLoading self.old xs }
         ensures finished { (xs : List Item) → IsLoading self.old xs → IsFinished self.old.layout self.new.words.items xs }
@@ -311,8 +312,8 @@ impl Builder {
         };
     }
 
-    /// Closes the piece of `count` slots before the last `behind` ones, if `closes` is true: a node of them is written, and its entry takes
-    /// their place. Returns how many slots the piece has then.
+    /// Closes the piece of `count` slots before the last `behind` ones, if `closes` is true. Then a node of them is written, and its entry
+    /// takes their place. Returns how many slots the piece has then.
     fn close_piece(&mut self, behind: usize, count: usize, closes: bool) -> usize
         requires fits { behind + count ≤ vec_len self.old.slots }
         requires room { IsTrue closes → (2 ≤ count) × (count ≤ 32) × (self.old.nodes < self.old.layout.nodes) }

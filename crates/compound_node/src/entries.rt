@@ -1,7 +1,7 @@
 //! Entries, which are what a node leads to: their heights, and lists of them.
 
 ghost use Rattle.std.specs.List.{All};
-ghost use Rattle.std.specs.Prelude.{◌≡◌, ◌↔◌, ◌+◌, ◌-◌, ◌<◌, ◌≤◌, ◌++◌, IsTrue, length, remove, slice_set};
+ghost use Rattle.std.specs.Prelude.{◌≡◌, ◌↔◌, ◌+◌, ◌-◌, ◌<◌, ◌≤◌, ◌++◌, IsTrue, length, remove};
 ghost use Rattle.arrayvec.specs.ArrayVec.{array_vec_len};
 ghost use Rattle.node_tries.specs.Growth.{edited, forked_places};
 ghost use Rattle.compound_node.specs.Nodes.{IsEntry, StandsBelow, greatest_height, height_of};

@@ -42,8 +42,8 @@ impl Head {
     ghost use Rattle.node_tries.specs.Growth.{affected_count, affected_first};
     ghost use Rattle.node_tries.specs.Piece.{leads_to};
 
-    /// The head of a node of `count` entries with these fields; `None` exactly if no node has them. `sparse` has the rows, and
-    /// 4,294,967,295 at each unused slot.
+    /// The head of a node of `count` entries with these fields; `None` exactly if no node has them. `columns` has the positions of the
+    /// forks, each once, in rising order. `sparse` has the row of each entry at its slot, and 4,294,967,295 at each unused slot.
     pub fn from_parts(count: u8, height: u16, columns: &[u16], sparse: &[u32; 32]) -> Option<Head>
         ensures some { IsSome result ↔ IsHead count height columns.now sparse.now }
         ensures head { IfSome result (λ head. head ≡ record { height = height; columns = columns.now; rows = take count sparse.now }) }
@@ -60,7 +60,8 @@ impl Head {
         }
     }
 
-    /// The head of a node of `count` entries with these fields, which some node has. `sparse` has 4,294,967,295 at each unused slot.
+    /// The head of a node of `count` entries with these fields, which some node has. `sparse` has the row of each entry at its slot, and
+    /// 4,294,967,295 at each unused slot.
     pub fn of(count: u8, height: u16, columns: Columns, sparse: [u32; 32]) -> Head
         requires { IsHead count height columns sparse }
         ensures { result ≡ record { height = height; columns = columns; rows = take count sparse } }

@@ -1,7 +1,7 @@
 //! Rows of 32 bits, HOT's sparse partial keys. The column of the lowest position is the highest bit.
 
 ghost use Rattle.std.specs.List.{All};
-ghost use Rattle.std.specs.Prelude.{ℕ, ◌≡◌, ◌≢◌, ◌+◌, ◌-◌, ◌%◌, ◌^◌, ◌<◌, ◌≤◌, ◌↔◌, ◌++◌, ◌∷◌, IsTrue, bit_and, bit_or, drop, false, insert, length, map, slice_index, take};
+ghost use Rattle.std.specs.Prelude.{ℕ, ◌≡◌, ◌≢◌, ◌+◌, ◌-◌, ◌%◌, ◌^◌, ◌<◌, ◌≤◌, ◌↔◌, ◌++◌, ◌∷◌, IsTrue, bit_and, drop, false, insert, length, map, slice_index, take};
 ghost use Rattle.arrayvec.specs.ArrayVec.{array_vec_len};
 ghost use Rattle.partial_keys.specs.Rows.{with_unused};
 ghost use Rattle.partial_keys.specs.Runs.{agree_in, IsRunStart, IsRunEnd};
@@ -315,8 +315,8 @@ fn first_row_without(rows: u32x32, first: u32, end: u32, bit: u32) -> u32
     lacking.trailing_zeros().min(end)
 }
 
-/// `rows` without row `slot` of the first `count`. Those behind it move down by one; of these, the ones before row `end` lose `bit`. Behind
-/// the rows that are left comes 4,294,967,295.
+/// `rows` without row `slot` of the first `count`. Those behind it move down by one; of these, the ones before row `end` lose `bit`. Each
+/// of the 32 behind the `count - 1` rows that are left is 4,294,967,295.
 #[inline(always)]
 fn lower_rows(rows: u32x32, count: u32, slot: u32, end: u32, bit: u32) -> u32x32
     requires some { 0 < count }
@@ -333,8 +333,8 @@ fn lower_rows(rows: u32x32, count: u32, slot: u32, end: u32, bit: u32) -> u32x32
     indexes.simd_lt(u32x32::splat(slot)).select(rows, left)
 }
 
-/// Takes row `slot` out of the first `count` of `rows`, as `without_row` does. The rows behind the first `count` are 4,294,967,295, and so
-/// is one more then.
+/// `rows` without row `slot`, one of the first `count`, as `without_row` takes it out. The rows behind the first `count` are 4,294,967,295.
+/// The result has one more of these, at its end.
 #[inline(always)]
 pub fn remove_row(rows: u32x32, count: usize, slot: usize) -> u32x32
     requires ladder { IsLadder (take count rows) }
@@ -370,8 +370,8 @@ fn or_lanes(rows: u32x16) -> u32
     lanes[0] | lanes[1] | lanes[2] | lanes[3]
 }
 
-/// Takes out of each of `rows` those of its `columns` columns in which `used` has 0, as `squeeze_rows` does. Rows that have bits behind
-/// their columns mean nothing then.
+/// `rows` without those of their `columns` columns in which `used` has 0, as `squeeze_rows` takes them out. What a row with a bit behind
+/// its columns becomes means nothing.
 #[inline(always)]
 pub fn squeeze_lanes(rows: u32x32, used: u32, columns: u8) -> u32x32
     requires few { columns ≤ 31 }

@@ -1,6 +1,6 @@
 //! What a call says that was refused.
 
-ghost use Rattle.std.specs.Prelude.{◌≤◌, ◌↔◌, IsTrue};
+ghost use Rattle.std.specs.Prelude.{◌↔◌, IsTrue};
 ghost use Rattle.hot_index_calls.specs.Refusals.{OfLeaves};
 ghost use Rattle.hot_c.specs.Refusals.{AreNone, TellsOfLeaves, TellsRefusal};
 

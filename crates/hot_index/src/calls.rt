@@ -21,7 +21,7 @@ impl Index {
     /// Makes `call`, as `get`, `try_insert`, `try_upsert`, `try_exchange`, `try_add`, `try_remove` or `try_remove_if` does.
     ///
     /// The reply to a get is `Value` or `Absent`. The call makes no more steps than `try_insert` may, and is refused for the same
-    /// reasons. But a get is never refused, and a removal never returns `FullLeaves`.
+    /// reasons. But `Get` is never refused, `Exchange` and `Add` only with `Busy`, and a removal never with `FullLeaves`.
     pub fn try_call(&self, pass: &mut Pass, call: &Call) -> Result<Reply, TryFault>
         requires { Owns self.now pass.old }
         ensures own { Owns self.now pass.new }
@@ -75,8 +75,8 @@ impl Index {
     /// Makes `call`, as `get`, `insert`, `upsert`, `exchange`, `add`, `remove` or `remove_if` does. It reports each of its steps to
     /// `gate`.
     ///
-    /// The reply to a get is `Value` or `Absent`. A call is refused for the same reasons as `insert`. But a get is never refused, and a
-    /// removal never returns `Full::Leaves`.
+    /// The reply to a get is `Value` or `Absent`. A call is refused for the same reasons as `insert`. But `Get`, `Exchange` and `Add` are
+    /// never refused, and a removal never returns `Full::Leaves`.
     pub fn call_with<R: Wait, G: Gate>(
         &self,
         rt: &R,

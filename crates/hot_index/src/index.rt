@@ -20,7 +20,7 @@ ghost use Rattle.hot_index_calls.specs.Traces.{HasCollected, HasGot, HasMade, Ha
 ghost use Rattle.hot_index.specs.Stamps.{HasSeenMore};
 
 use crate::key_counts::KeyCount;
-use epochs::{Given, collect_round, pin, unpin};
+use epochs::{Given, collect_round, pin};
 use finite_map::{Call, Reply};
 use hot_index_calls::{
     RecordCounts, Refusal, Scratch, count_records, end_get, end_gets, retry_change, try_and_count,

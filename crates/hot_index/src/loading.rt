@@ -23,7 +23,7 @@ use std::alloc::{AllocError, Global};
 use std::marker::Model;
 
 /// Pairs that become an index. They are pushed in the order of their keys. Each takes a leaf record of the smallest class with room for its
-/// key that has one left, and nodes are made as full as they can be. Contracts see the layout of the index, and the leaf records that were
+/// key that has one left. Nodes are made as full as they can be. Contracts see the layout of the index, and the leaf records that were
 /// taken, each with its pair.
 #[derive(Drop)]
 pub struct Load {
@@ -45,8 +45,8 @@ impl Model for Load {
 }
 
 impl Load {
-    /// Begins an index with `passes` passes (1 to 1,024) and the records of `stock`, with the bounds and the faults of `create_with`. No pair
-    /// has been pushed.
+    /// Begins an index with `passes` passes (1 to 1,024) and the records of `stock`, with the bounds and the faults of `create_with`. No
+    /// pair has been pushed.
     pub fn new(alloc: Global, passes: u32, stock: Stock) -> Result<Load, IndexFault>
         ensures layout { IfOk result (λ load. (load.layout.passes ≡ passes) × HasStock load.layout (kept_stock stock)) }
         ensures none { IfOk result (λ load. load.items ≡ []) }
@@ -78,10 +78,12 @@ impl Load {
         })
     }
 
-    /// Pushes `key` with `value`, behind the pairs that were pushed before. If it is refused, the load stays as it was, and goes on with the next.
+    /// Pushes `key` with `value`, behind the pairs that were pushed before. If it is refused, the load stays as it was, and the next pair
+    /// may be pushed.
     ///
-    /// The fault is `NotRising` if the key isn't above the last one. `LeavesFull` if each leaf record with room for it is taken; `NodesFull` if
-    /// too few node records may be left, which is never so while there are fewer pairs than node records; `Memory` if memory is refused.
+    /// The fault is `NotRising` exactly if the key isn't above the last one. `LeavesFull` if each leaf record with room for it is taken.
+    /// `NodesFull` if too few node records may be left, which is never so while there are fewer pairs than node records. `Memory` if memory
+    /// is refused.
     pub fn push(&mut self, key: &Key, value: u64) -> Result<(), LoadFault>
         ensures taken { OnOk result (HasTakenPair key.now value self.old self.new) }
         ensures refused { OnErr result (self.new ≡ self.old) }
@@ -102,8 +104,8 @@ impl Load {
         self.layout.first_leaf_with(count_leaf_words(key)) < self.layout.leaves
     }
 
-    /// Makes the index of the pairs that were pushed. Returns it with its passes, closed, in their order, from 0 on. Pass 0 has inserted each pair
-    /// in the order of the keys, and its `count` is their number. All others are new. An error if memory is refused.
+    /// Makes the index of the pairs that were pushed. Returns it with its passes, closed, in their order, from 0 on. Pass 0 has inserted
+    /// each pair in the order of the keys, and its `count` is their number. All others are new. An error if memory is refused.
     pub fn finish(self, alloc: Global) -> Result<(Index, Vec<ClosedPass>), AllocError>
         ensures layout { IfOk result (λ made. made.0.layout ≡ self.layout) }
         ensures count { IfOk result (λ made. length made.1.items ≡ self.layout.passes) }

@@ -65,8 +65,8 @@ fn collect_due<G: Gate>(table: &HotTable, seat: &mut TableSeat, gate: &mut G, sc
     }
 }
 
-/// Tries to make the change `call`. If no record was free, it makes a round of collection and tries once more. Returns the reply, or why the
-/// last attempt was refused. If a second attempt could find no record, it does nothing, and the refusal is the first one's.
+/// Tries to make the change `call`. If no record was free, it makes a round of collection and tries once more. Returns the reply, or why
+/// the last attempt was refused. If a second attempt could find no record, it does nothing, and the refusal is the first one's.
 /// `scratch.build.made` lists what it had claimed, if no record was free.
 fn try_twice<G: Gate>(
     table: &HotTable,
@@ -190,8 +190,8 @@ fn pin_and_unpin<G: Gate>(table: &HotTable, seat: &mut TableSeat, gate: &mut G)
     unpin(table, seat, gate);
 }
 
-/// Tries to make the change `call` as [`try_change`] does. If no record was free, it counts all records then, and the refusal says what the
-/// count says. `gate` is told each step. The pass is between two calls, before and after.
+/// Tries to make the change `call` as [`try_change`] does. `Busy` if another pass was in its way. If no record was free, it counts all
+/// records then, and returns `Full` or `HeldBack` by the counts. `gate` is told each step. The pass is between two calls, before and after.
 pub fn try_and_count<G: Gate>(
     table: &HotTable,
     seat: &mut TableSeat,

@@ -17,13 +17,15 @@ use rowex_writing::{Full, TryFault};
 pub enum Refusal {
     /// Another pass was in its way.
     Busy,
-    /// No record of the kind was free, but by the count one may come back: another pass has claimed one, or one is retired, or enough are free.
+    /// No record of the kind was free. But by the count one may come back: another pass has claimed one, or one is retired, or enough are
+    /// free.
     HeldBack(Full),
-    /// No record of the kind was free. By the count fewer are free than the change needs, and none may come back; or the index has one pass.
+    /// No record of the kind was free. By the count fewer are free than the change needs, and none may come back; or the index has one
+    /// pass.
     Full(Full, RecordCounts),
 }
 
-/// What a try is refused with that lacked a record of the kind `lacks`, by `counts`, made after it. It needs `needs` node records, or one
+/// The refusal of a try that lacked a record of the kind `lacks`, by `counts`, made after it. The try needs `needs` node records, or one
 /// leaf record with room for a key of `size` bytes. `passes` is the number of passes of the index.
 pub(crate) fn judge_lack(
     passes: u32,
@@ -53,7 +55,7 @@ pub(crate) fn lack_of(fault: TryFault) -> Option<Full>
     }
 }
 
-/// The kind of record that a call lacks which waits and was refused with `refusal`; `None` if it tries again.
+/// The kind of record that a waiting call lacks, one of whose tries was refused with `refusal`. `None` if the call tries again.
 pub(crate) fn final_refusal(refusal: Refusal) -> Option<Full>
     ensures some { IfSome result (λ full. (counts : CountsView) × (refusal ≡ IsFull full counts)) }
     ensures none { result ≡ None → IsPassing refusal }
@@ -103,7 +105,8 @@ fn are_short(needs: usize, counts: &StateCounts) -> bool
     (counts.free as usize) < needs && counts.held == 0 && counts.obsolete == 0
 }
 
-/// Whether of each class of leaf records with room for a key of `size` bytes none is free, held or obsolete, by `counts`.
+/// Whether of each class of leaf records with room for a key of `size` bytes none is free, held or obsolete, by `counts`. The classes have
+/// room for keys of 8, 24, 56 and 88 bytes, and the last one for each key.
 fn are_leaves_short(size: usize, counts: &RecordCounts) -> bool
     ensures { IsTrue result ↔ OfLeaves (AreShort 1) size counts.now }
 {

@@ -3,8 +3,9 @@
 ghost use Rattle.std.specs.Prelude.{All};
 ghost use Rattle.hot_index_calls.specs.Passes.{Owns};
 
+use crate::loads::{begin_load, finish_load};
 use crate::shared::*;
-use hot_index::{ClosedHandle, ClosedPass, Handle, Index, Key, Reply, Stock, create_closed, total};
+use hot_index::{ClosedPass, Handle, Index, Key, Reply, Stock, create_closed, total};
 use std::alloc::Global;
 use std::process::Abort;
 use std::test::*;
@@ -16,34 +17,6 @@ fn create_closed_passes(rt: &impl Abort, alloc: Global) -> (Index, Vec<ClosedPas
     match create_closed(alloc, 2, Stock::for_keys(8, 240)) {
         Ok(made) => made,
         Err(_) => panic!(rt; "no index"),
-    }
-}
-
-/// Opens the handle `closed`, with buffers of `alloc`. Panics if memory is refused.
-fn open_handle<'a>(
-    rt: &impl Abort,
-    alloc: Global,
-    closed: ClosedHandle<&'a Index>,
-) -> Handle<&'a Index> {
-    match closed.open(alloc) {
-        Ok(handle) => handle,
-        Err(_) => panic!(rt; "no memory"),
-    }
-}
-
-/// Takes the last of `passes` out, and opens a handle of it at `index`. Panics if there is none.
-fn open_last_handle<'a>(
-    rt: &impl Abort,
-    alloc: Global,
-    index: &'a Index,
-    passes: &mut Vec<ClosedPass>,
-) -> Handle<&'a Index>
-    requires { All (Owns index.now) passes.old.items }
-    ensures { All (Owns index.now) passes.new.items }
-{
-    match passes.pop() {
-        Some(pass) => open_handle(rt, alloc, ClosedHandle::new(index, pass)),
-        None => panic!(rt; "no pass"),
     }
 }
 
@@ -87,4 +60,29 @@ fn a_handle_keeps_its_count_while_it_is_closed(rt: HostRuntime) {
     assert!(rt; closed.count().keys == 1);
     let mut first = open_handle(&rt, rt.alloc(), closed);
     remove_both_keys(&rt, &mut first, &mut second, &keys);
+}
+
+/// An index of the two keys, loaded with the values 1 and 2, and its two passes, which are closed.
+fn load_both_keys(rt: &impl Abort, alloc: Global, keys: &(Key, Key)) -> (Index, Vec<ClosedPass>)
+    ensures { All (Owns result.0) result.1.items }
+{
+    let mut load = begin_load(rt, alloc, 2, Stock::for_keys(8, 240));
+    assert!(rt; load.push(&keys.0, 1) == Ok(()));
+    assert!(rt; load.push(&keys.1, 2) == Ok(()));
+    finish_load(rt, alloc, load)
+}
+
+/// The first pass of a load counts both keys when it is opened. It removes one, and counts the other when it is closed. The second pass
+/// counts none. It finds the key that is left once the first handle is dropped.
+#[test]
+fn a_loaded_handle_keeps_its_count_while_it_is_closed(rt: HostRuntime) {
+    let keys = ends(&rt);
+    let (index, mut passes) = load_both_keys(&rt, rt.alloc(), &keys);
+    let mut second = open_last_handle(&rt, rt.alloc(), &index, &mut passes);
+    let mut first = open_last_handle(&rt, rt.alloc(), &index, &mut passes);
+    assert!(rt; first.count().keys == 2 && second.count().keys == 0);
+    assert!(rt; first.try_insert(&keys.0, 3) == Ok(Reply::Exists(1)));
+    assert!(rt; first.try_remove(&keys.1) == Ok(Reply::Removed(2)));
+    assert!(rt; total(&[first.close().count(), second.count()]) == 1);
+    assert!(rt; second.get(&keys.0) == Some(1) && second.get(&keys.1).is_none());
 }

@@ -20,7 +20,7 @@ type Guest<'a> = Handle<&'a Index>;
 
 /// What a call does with its key.
 #[derive(Clone, Copy)]
-enum Deed {
+pub enum Deed {
     Insert,
     Upsert,
     Exchange,
@@ -60,7 +60,7 @@ fn apply_to_map(rt: &impl Abort, map: &mut PlainIndex, deed: Deed, key: &Key) ->
 
 /// Makes the call of `deed` with `key` at the index, and at `map` if it wasn't refused. Asserts that the replies are equal. Returns whether
 /// the call was made.
-fn call_both<R: Abort + Wait>(
+pub fn call_both<R: Abort + Wait>(
     rt: &R,
     guest: &mut Guest,
     map: &mut PlainIndex,
@@ -111,7 +111,7 @@ fn scan_map(rt: &impl Abort, alloc: Global, map: &PlainIndex) -> Result<Scan, Al
 
 /// Asserts that scans of the index and of the map have the same pairs, and that the index counts as many. Each scan is made again where
 /// memory is refused once.
-fn expect_same_pairs(rt: &impl Abort, alloc: Global, guest: &mut Guest, map: &PlainIndex) {
+pub fn expect_same_pairs(rt: &impl Abort, alloc: Global, guest: &mut Guest, map: &PlainIndex) {
     let ours = match scan_all(rt, alloc, guest) {
         Ok(scan) => Ok(scan),
         Err(_) => scan_all(rt, alloc, guest),

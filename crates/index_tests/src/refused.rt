@@ -1,13 +1,15 @@
 //! Tests that pass also where any one allocation is refused: the call that was refused memory says so, and is made again then, and
 //! succeeds. What they share asks again, too.
 
-ghost use Rattle.std.specs.Prelude.{All};
+ghost use Rattle.std.specs.Prelude.{All, IfOk};
 ghost use Rattle.hot_index_calls.specs.Passes.{Owns};
 
 use crate::full::fill_twice;
 use crate::shared::*;
 use finite_map::{Call, Scan};
-use hot_index::{Event, Gate, Handle, Index, Key, Reply};
+use hot_index::{
+    ClosedHandle, ClosedPass, Event, Gate, Handle, Index, Key, Load, LoadFault, Reply, Stock,
+};
 use plain_index::PlainIndex;
 use plain_trie::PlainTrie;
 use record_words::Layout;
@@ -241,4 +243,70 @@ fn a_plain_trie_refused_memory_stays_as_it_was(rt: HostRuntime) {
 #[test]
 fn a_full_index_beside_a_map_refused_memory_can_be_emptied(rt: HostRuntime) {
     assert!(rt; fill_twice(&rt, rt.alloc(), 2) == 32);
+}
+
+/// Pushes `key`. Where memory was refused, the next call takes it.
+fn push_key(rt: &impl Abort, load: &mut Load, key: &Key) {
+    if let Err(fault) = load.push(key, 1) {
+        assert!(rt; fault == LoadFault::Memory);
+        assert!(rt; load.push(key, 1) == Ok(()));
+    }
+}
+
+/// The index of forty pairs, and its pass. An error if memory is refused before the first pair, or behind the last one.
+fn load_keys(rt: &impl Abort, alloc: Global) -> Result<(Index, Vec<ClosedPass>), AllocError>
+    ensures { IfOk result (λ made. All (Owns made.0) made.1.items) }
+{
+    let Ok(mut load) = Load::new(alloc, 1, Stock::for_keys(40, 8)) else {
+        return Err(AllocError);
+    };
+    for byte in 1..=40u8 {
+        push_key(rt, &mut load, &key(rt, &[byte]));
+    }
+    load.finish(alloc)
+}
+
+/// The index of `load_keys`, made again where memory is refused once.
+fn make_loaded_index(rt: &impl Abort, alloc: Global) -> (Index, Vec<ClosedPass>)
+    ensures { All (Owns result.0) result.1.items }
+{
+    if let Ok(made) = load_keys(rt, alloc) {
+        return made;
+    }
+    match load_keys(rt, alloc) {
+        Ok(made) => made,
+        Err(_) => panic!(rt; "no index"),
+    }
+}
+
+/// Takes the last of `passes` out, and opens a handle of it at `index`, again where memory is refused once. Panics if there is none.
+fn open_handle_again<'a>(
+    rt: &impl Abort,
+    alloc: Global,
+    index: &'a Index,
+    passes: &mut Vec<ClosedPass>,
+) -> Guest<'a>
+    requires { All (Owns index.now) passes.old.items }
+{
+    let Some(pass) = passes.pop() else {
+        panic!(rt; "no pass")
+    };
+    match ClosedHandle::new(index, pass).open(alloc) {
+        Ok(handle) => handle,
+        Err(refused) => open_handle(rt, alloc, refused.value),
+    }
+}
+
+/// A push that was refused memory takes nothing, and a second one does; a scan has all forty keys.
+#[test]
+fn a_load_refused_memory_goes_on(rt: HostRuntime) {
+    let (index, mut passes) = make_loaded_index(&rt, rt.alloc());
+    let mut guest = open_handle_again(&rt, rt.alloc(), &index, &mut passes);
+    assert!(rt; guest.count().keys == 40);
+    let ends = ends(&rt);
+    let scan = match guest.scan(rt.alloc(), &ends.0, &ends.1, 100) {
+        Ok(scan) => Ok(scan),
+        Err(_) => guest.scan(rt.alloc(), &ends.0, &ends.1, 100),
+    };
+    expect_whole_scan(&rt, scan, 40);
 }

@@ -3,7 +3,7 @@
 ghost use Rattle.std.specs.Prelude.{All};
 ghost use Rattle.hot_index_calls.specs.Passes.{Owns};
 
-use hot_index::{Index, IndexFault, Key, Pass, create};
+use hot_index::{ClosedHandle, ClosedPass, Handle, Index, IndexFault, Key, Pass, create};
 use std::alloc::Global;
 use std::process::Abort;
 
@@ -72,6 +72,34 @@ pub fn pop_pass(rt: &impl Abort, index: &Index, passes: &mut Vec<Pass>) -> Pass
     let _ = index;
     match passes.pop() {
         Some(pass) => pass,
+        None => panic!(rt; "no pass"),
+    }
+}
+
+/// Opens the handle `closed`, with buffers of `alloc`. Panics if memory is refused.
+pub fn open_handle<'a>(
+    rt: &impl Abort,
+    alloc: Global,
+    closed: ClosedHandle<&'a Index>,
+) -> Handle<&'a Index> {
+    match closed.open(alloc) {
+        Ok(handle) => handle,
+        Err(_) => panic!(rt; "no memory"),
+    }
+}
+
+/// Takes the last of `passes` out, and opens a handle of it at `index`. Panics if there is none.
+pub fn open_last_handle<'a>(
+    rt: &impl Abort,
+    alloc: Global,
+    index: &'a Index,
+    passes: &mut Vec<ClosedPass>,
+) -> Handle<&'a Index>
+    requires { All (Owns index.now) passes.old.items }
+    ensures { All (Owns index.now) passes.new.items }
+{
+    match passes.pop() {
+        Some(pass) => open_handle(rt, alloc, ClosedHandle::new(index, pass)),
         None => panic!(rt; "no pass"),
     }
 }

@@ -138,8 +138,8 @@ impl Key {
     }
 }
 
-/// Writes `bytes` to the front of `array`, which has 0 everywhere. The first 32 bytes of the array are written by one store, if the key has
-/// as many or is one of the common keys of eight bytes: a load of sixteen of them would wait longer for two stores.
+/// Writes `bytes` to the front of `array`, which has 0 everywhere. One store writes the first 32 bytes of the array, if the key has as many
+/// or just eight, as keys commonly have. A load of sixteen of them would wait longer for two stores.
 #[inline(always)]
 fn write_key_bytes(array: &mut [u8; MAX_BYTES], bytes: &[u8])
     requires few { length bytes.now ≤ MAX_BYTES }
@@ -294,7 +294,7 @@ fn count_same_eights(xs: &[u8], ys: &[u8], count: usize) -> usize
     count
 }
 
-/// The eight bytes from byte `8 * j` on as a number, whose highest byte is the first of them.
+/// The eight bytes from byte `8 * j` on as a number, whose highest byte is the first of them. `j` counts groups of eight bytes from 0.
 #[inline(always)]
 fn eight_bytes_at(bytes: &[u8], j: usize) -> u64
     requires { 8 * j + 8 ≤ length bytes.now }
@@ -327,7 +327,8 @@ pub fn extract(key: &Key, positions: &[u16]) -> u32
     bits << (31 - positions.len()) << 1
 }
 
-/// The bit at `position` of the key of `bytes`, as 0 or 1.
+/// The bit at `position` of the key of `bytes`, as 0 or 1. Each byte has nine positions, as `Key::bit` says. Its nine bits are those of
+/// 256 plus the byte, the highest first. Past the last byte each bit is 0.
 fn bit_of_bytes(bytes: &[u8], position: u16) -> u32
     ensures { result ≡ (if bit_of bytes.now position then 1 else 0) }
 {

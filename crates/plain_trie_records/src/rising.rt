@@ -2,20 +2,19 @@
 
 ghost use Rattle.std.specs.Prelude.{◌≡◌, ◌⊎◌, ◌↔◌, ℕ, suc, ◌+◌, ◌^◌, ◌<◌, ◌≤◌, Bool, IsTrue, List, Some, true, slice_get, slice_set};
 ghost use Rattle.std.specs.Vec.{vec_len, vec_capacity};
-ghost use Rattle.node_tries.specs.Growth.{grown, IsAffected};
+ghost use Rattle.node_tries.specs.Growth.{grown};
 ghost use Rattle.node_tries.specs.Piece.{Fork, Place as At, size};
-ghost use Rattle.compound_node.specs.Nodes.{NodeView, piece, IsEntry, IsLawfulNode, StandsBelow, height_of};
+ghost use Rattle.compound_node.specs.Nodes.{NodeView, piece, StandsBelow, height_of};
 ghost use Rattle.compound_node.specs.declared.entries.Entry.{Entry as EntryView};
 ghost use Rattle.tries.specs.Affected.{subtrie_forked};
 ghost use Rattle.tries.specs.Content.{Item, item};
 ghost use Rattle.tries.specs.Tree.{Tree, Fixed, node as tree_node};
-ghost use Rattle.node_tries.specs.Grafts.{grafted, IsAbovePath};
-ghost use Rattle.plain_trie_records.specs.Cases.{AddsByCase, DoesCase, IsLevelDone, IsNewNode, IsPutBetween, TakesFork, is_overflow, is_split};
+ghost use Rattle.node_tries.specs.Grafts.{grafted};
+ghost use Rattle.plain_trie_records.specs.Cases.{AddsByCase, IsLevelDone, IsNewNode, IsPutBetween, is_split};
 ghost use Rattle.plain_trie_records.specs.Heights.{KeepsHeights};
 ghost use Rattle.plain_trie_records.specs.Rising.{IsRaised, IsAddable, IsLifting, level, records};
 ghost use Rattle.insert_cases.specs.Risen.{subtrie_of};
-ghost use Rattle.insert_cases.specs.Ways.{case_of};
-ghost use Rattle.plain_trie_records.specs.Risen.{IsNamed, RisenShows, OthersStay, AllStay};
+ghost use Rattle.plain_trie_records.specs.Risen.{IsNamed, OthersStay, AllStay};
 ghost use Rattle.plain_trie_records.specs.declared.leaf.LeafRecord.{LeafRecord};
 
 use crate::raising::{push_pair, put_node, store_grown};

@@ -7,9 +7,9 @@ ghost use Rattle.record_words.specs.declared.kind.Kind.TheVariants.{Middle, Narr
 ghost use Rattle.record_words.specs.Node.{InNodesOf};
 ghost use Rattle.partial_keys.specs.Columns.{with_free};
 
-use crate::HEAD_WORDS;
 use crate::kind::Kind;
 use crate::search::positions_in;
+use crate::{HEAD_WORDS, MIDDLE_KIND, NARROW_KIND};
 use partial_keys::Columns;
 use std::simd::prelude::*;
 
@@ -23,8 +23,9 @@ pub(crate) fn read_positions(words: &[u64]) -> [u16; 31]
     positions
 }
 
-/// The first word of a head of the kind `kind` over `columns`: in its lowest byte the number of entries, in the next one that of columns, and
-/// above these the height, the first column's byte and the kind. The byte is 0 if the kind is wide.
+/// The first word of a head of the kind `kind` over `columns`. Its lowest byte is the number of entries, `count`, and the next one that of
+/// columns. Bits 16 to 31 have the height. Bits 32 to 39 have the index of the first column's byte, or 0 if the kind is wide. The bits from
+/// 40 on have the kind: 0 for wide, 1 for narrow, 2 for middle.
 pub(crate) fn word_of_numbers(count: u8, columns: &Columns, height: u16, kind: Kind) -> u64
     requires { kind ≡ kind_of columns.now }
     ensures { result ≡ meta_word count (length columns.now) height + kind_part kind columns.now }
@@ -33,12 +34,13 @@ pub(crate) fn word_of_numbers(count: u8, columns: &Columns, height: u16, kind: K
     let first = (columns.first() as u64 / 9) << 32;
     match kind {
         Kind::Wide => numbers,
-        Kind::Narrow => numbers + first + (1 << 40),
-        Kind::Middle => numbers + first + (2 << 40),
+        Kind::Narrow => numbers + first + (NARROW_KIND << 40),
+        Kind::Middle => numbers + first + (MIDDLE_KIND << 40),
     }
 }
 
-/// The word of a wide head with the four positions from `positions[4 * j]` on, the first in its lowest bits; 65,535 stands for one past the last.
+/// Word `j` of the eight words of positions in a wide head, counted from 0. It has the four from `positions[4 * j]` on, in 16 bits each,
+/// the first in its lowest bits. 65,535 stands for one past the last.
 pub(crate) fn word_of_positions(positions: &[u16; 31], j: usize) -> u64
     requires { j < 8 }
     ensures { result ≡ position_word positions.now j }
@@ -50,7 +52,7 @@ pub(crate) fn word_of_positions(positions: &[u16; 31], j: usize) -> u64
     low + (high << 32)
 }
 
-/// The position `positions[at]`; 65,535 past the last.
+/// The position at index `at` of `positions`, from 0; 65,535 past the last.
 fn position_at(positions: &[u16; 31], at: usize) -> u16
     ensures { result ≡ position_at positions.now at }
 {

@@ -24,7 +24,7 @@ pub fn count_leaf_words(key: &Key) -> usize
     KEY_OFFSET as usize + count_key_words(key.as_bytes().len() as u64)
 }
 
-/// The word of the eight bytes of `key` from byte `8 * j` on, the first in its highest bits. Bytes past the key's end are 0.
+/// Word `j` of `key`, counted from 0: its eight bytes from byte `8 * j` on, the first in the highest bits. Bytes past the key's end are 0.
 pub fn key_word_at(key: &Key, j: usize) -> u64
     requires { j < KEY_WORDS }
     ensures { result ≡ key_word key.now j }
@@ -49,7 +49,8 @@ pub fn pack_leaf(key: &Key, value: u64) -> [u64; LEAF_FIELDS]
     words
 }
 
-/// Writes the eight bytes of `word` to `bytes` from byte `8 * j` on, the highest first. All other bytes stay.
+/// Writes `word`, the key's word `j` counted from 0, to `bytes`. Its eight bytes go from byte `8 * j` on, the highest first. All other
+/// bytes stay.
 pub fn write_key_word(bytes: &mut [u8; MAX_BYTES], j: usize, word: u64)
     requires { j < KEY_WORDS }
     ensures written { key_word bytes.new j ≡ word }

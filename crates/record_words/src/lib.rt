@@ -82,7 +82,9 @@ pub use kind::{Kind, kind_of};
 pub use layout::{Layout, LayoutFault, LeafClass, Location, Stock};
 pub use leaf::{count_key_words, count_leaf_words, key_word_at, pack_leaf, write_key_word};
 pub use node::{add_leaf, can_take_leaf, close_fork, drop_entry, pack_head, pack_node, read_node};
-pub use numbers::{HeadNumbers, first_position_of, index_of_first_position, read_numbers};
+pub use numbers::{
+    HeadNumbers, first_position_of, index_of_first_position, kind_number, read_numbers,
+};
 pub use origins::Origins;
 pub use records::Rec;
 pub use search::{extract_dense_key, search_middle, search_narrow, search_row_words};
@@ -161,6 +163,12 @@ pub const ROW_WORDS: usize = HEAD_WORDS - FIRST_ROWS;
 
 /// How many bytes of a key have the bits at near columns.
 pub const WINDOW_BYTES: usize = 16;
+
+/// The number in the first word of a narrow head that tells its kind.
+pub const NARROW_KIND: u64 = 1;
+
+/// The number in the first word of a middle head that tells its kind. A wide head has 0 there.
+pub const MIDDLE_KIND: u64 = 2;
 
 /// How many columns a narrow head has at most.
 pub const NARROW_COLUMNS: usize = 8;

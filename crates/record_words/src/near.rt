@@ -8,7 +8,7 @@ ghost use Rattle.record_words.specs.Kinds.{AreNearLanes, HasNearLanes, distance_
 use key_bits::Key;
 use std::simd::prelude::*;
 
-/// The mask of bit 1 to 8 of the nine bits of a byte; 0 for the first one, which says that there is a byte.
+/// The masks of bits 1 to 8 of the nine bits of a byte. It is 0 for bit 0, which says that there is a byte.
 const MASKS: [u8; 16] = [0, 128, 64, 32, 16, 8, 4, 2, 1, 0, 0, 0, 0, 0, 0, 0];
 
 /// Which of the nine bits has this mask, if it is one of the last four, and else 0.
@@ -50,8 +50,8 @@ fn distances_of(positions: u16x16, first: u16) -> u16x16
         .reverse()
 }
 
-/// The lanes of near columns: of the indexes of their bytes, counted from the first column's, and of the masks of their bits. `positions` are
-/// those of the columns, and 65,535 behind them.
+/// The lanes of near columns: of the indexes of their bytes, counted from the first column's, and of the masks of their bits. `positions`
+/// are those of the columns, and 65,535 behind them.
 #[inline(always)]
 pub(crate) fn near_lanes_of(positions: u16x16) -> (u8x16, u8x16)
     requires { (columns : List ℕ) × HasNearLanes columns × (positions ≡ with_free_to_16 columns) }
@@ -65,8 +65,8 @@ pub(crate) fn near_lanes_of(positions: u16x16) -> (u8x16, u8x16)
     (indexes.cast::<u8>(), masks)
 }
 
-/// The positions of near columns, and 65,535 behind them up to 16. `indexes` and `masks` are their lanes, and byte `first` has the bit at the
-/// first.
+/// The positions of near columns, and 65,535 behind them up to 16. `indexes` and `masks` are their lanes, and the first column's bit is one
+/// of byte `first`.
 #[inline(always)]
 pub(crate) fn near_positions(indexes: u8x16, masks: u8x16, first: u8) -> u16x16
     ensures { (columns : List ℕ) → AreNearLanes columns indexes masks first → result ≡ with_free_to_16 columns }
@@ -84,8 +84,8 @@ pub(crate) fn near_positions(indexes: u8x16, masks: u8x16, first: u8) -> u16x16
         .reverse()
 }
 
-/// The dense key of `key` for near columns, of which `indexes` and `masks` are the lanes; byte `first` has the bit at the first. The sixteen
-/// bytes from there on are read at once. Places behind the key's end are 0, as its bits there.
+/// The dense key of `key` for near columns: the bit of column j is bit 31-j. `indexes` and `masks` are their lanes, and the first column's
+/// bit is one of byte `first`. The sixteen bytes from there on are read at once. Behind the key's end they are 0, as its bits are there.
 #[inline(always)]
 pub(crate) fn extract_near(indexes: u8x16, masks: u8x16, first: u8, key: &Key) -> u32
     requires { (columns : List ℕ) × AreNearLanes columns indexes masks first }

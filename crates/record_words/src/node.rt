@@ -1,6 +1,6 @@
 //! The words of a node record.
 
-ghost use Rattle.std.specs.Prelude.{ℕ, ◌≡◌, ◌↔◌, ◌+◌, ◌<◌, ◌≤◌, ◌/◌, ◌%◌, ◌++◌, ◌-◌, ◌⊎◌, ◌≢◌, IsTrue, List, drop, false, length, map, slice_get, slice_index, take};
+ghost use Rattle.std.specs.Prelude.{ℕ, ◌≡◌, ◌↔◌, ◌+◌, ◌<◌, ◌≤◌, ◌++◌, ◌-◌, ◌⊎◌, ◌≢◌, IsTrue, List, drop, false, length, map, slice_get, slice_index, take};
 ghost use Rattle.compound_node.specs.Forking.{forked_head};
 ghost use Rattle.compound_node.specs.Nodes.{NodeView, greatest_height, head_of, piece};
 ghost use Rattle.compound_node.specs.declared.entries.Entry.TheVariants.{Leaf as LeafEntry};
@@ -89,7 +89,9 @@ fn put_parts(
     put_rows(words, kind, rows);
 }
 
-/// Writes the words of `columns` to `words`, those of a node whose head is of the kind `kind`. All other words stay.
+/// Writes `columns` to their place in `words`, the words of a node, as a head of the kind `kind` has them. A wide head has their positions.
+/// A middle one has the indexes of their bytes in two words, and their masks in two; a narrow one has one word of each. All other words
+/// stay.
 #[inline(always)]
 fn put_columns(words: &mut [u64; NODE_FIELDS], kind: Kind, columns: &Columns)
     requires kind { kind ≡ kind_of columns.now }
@@ -112,7 +114,7 @@ fn put_columns(words: &mut [u64; NODE_FIELDS], kind: Kind, columns: &Columns)
     }
 }
 
-/// Writes the words of `positions` to `words`, those of a node whose head is wide. All other words stay.
+/// Writes `positions`, four in each of eight words, to their place in `words`, those of a node whose head is wide. All other words stay.
 #[inline(always)]
 fn put_positions(words: &mut [u64; NODE_FIELDS], positions: &[u16; 31])
     ensures columns { (j : ℕ) → j < 8 → slice_index words.new (FIRST_POSITIONS + j) ≡ position_word positions.now j }
@@ -133,7 +135,8 @@ fn near_words_of(columns: &Columns) -> (u64x2, u64x2)
     (words_of_bytes(indexes), words_of_bytes(masks))
 }
 
-/// Writes the words of `rows` to `words`, those of a node whose head is of the kind `kind`. All other words stay.
+/// Writes `rows` to their place in `words`, the words of a node, as a head of the kind `kind` has them. A wide head has two rows in each
+/// word. A middle one has the higher halves of four, and a narrow one the highest bytes of eight. All other words stay.
 #[inline(always)]
 fn put_rows(words: &mut [u64; NODE_FIELDS], kind: Kind, rows: u32x32)
     ensures rows { take (head_size kind - rows_from kind) (drop (rows_from kind) words.new) ≡ row_words kind rows }
@@ -236,7 +239,7 @@ pub fn drop_entry(words: &mut [u64; NODE_FIELDS], slot: u8) -> Option<Entry>
     None
 }
 
-/// Takes the row of `slot`, one of more than two, and the last fork on the path to it out of the head of `words`, whose height becomes
+/// Takes the row of `slot`, one of more than two, and the last fork on the path to it out of the head of `words`. Its height becomes
 /// `height`. The words of the entries stay. Mostly each column has a fork still, and the words of the columns stay too.
 fn drop_row(words: &mut [u64; NODE_FIELDS], slot: u8, height: u16)
     requires dropping { (node : NodeView) × CanDropAt words.old node slot }
@@ -277,8 +280,8 @@ fn drop_columns(words: &mut [u64; NODE_FIELDS], count: u8, height: u16, rows: u3
     );
 }
 
-/// Puts `entry`, which is lower than the node of `words`, in place of its entries in slots `slot` and `other` and of the fork over just
-/// these. Returns `None`. If the node has no other entries, it returns `entry`, and only the word of slot `other` changes.
+/// Puts `entry` in place of the entries in slots `slot` and `other` of the node of `words`, and of the fork over just these. `entry` is
+/// lower than the node. Returns `None`. If the node has no other entries, it returns `entry`, and only the word of slot `other` changes.
 pub fn close_fork(
     words: &mut [u64; NODE_FIELDS],
     slot: u8,
@@ -292,8 +295,8 @@ pub fn close_fork(
     drop_entry(words, slot)
 }
 
-/// The height of a new node over the entries of `words`, all of which stood in a node of the height `height`: one above the greatest of
-/// theirs.
+/// The height of a new node over the entries of `words`: one above the greatest of theirs. All of them stood in a node of the height
+/// `height`.
 fn height_over(words: &[u64], height: u16) -> u16
     requires { (entries : List Entry) × SpellEntries height words.now entries }
     ensures { (entries : List Entry) → SpellEntries height words.now entries → result ≡ 1 + greatest_height entries }

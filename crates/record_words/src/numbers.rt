@@ -7,7 +7,9 @@ ghost use Rattle.record_words.specs.Kinds.{bit_mask, kind_in, mask_index};
 ghost use Rattle.record_words.specs.Node.{head_words};
 
 use crate::kind::Kind;
-use crate::{FIRST_MIDDLE_ROWS, FIRST_NARROW_ROWS, FIRST_POSITIONS, HEAD_WORDS};
+use crate::{
+    FIRST_MIDDLE_ROWS, FIRST_NARROW_ROWS, FIRST_POSITIONS, HEAD_WORDS, MIDDLE_KIND, NARROW_KIND,
+};
 
 /// The numbers in the first word of a head.
 #[derive(Clone, Copy)]
@@ -156,11 +158,20 @@ pub fn read_numbers(word: u64) -> HeadNumbers
 fn read_kind(word: u64) -> Kind
     ensures { result ≡ kind_in word }
 {
-    match word >> 40 {
-        1 => Kind::Narrow,
-        2 => Kind::Middle,
+    match kind_number(word) {
+        NARROW_KIND => Kind::Narrow,
+        MIDDLE_KIND => Kind::Middle,
         _ => Kind::Wide,
     }
+}
+
+/// The number that tells the kind of each node whose head begins with `word`: `NARROW_KIND`, `MIDDLE_KIND`, or 0 for a wide one. A search
+/// compares it as it is, since a `Kind` takes some ten instructions more.
+#[inline(always)]
+pub fn kind_number(word: u64) -> u64
+    ensures { result ≡ word / 2 ^ 40 }
+{
+    word >> 40
 }
 
 /// The position of a near column. Its byte is `index` behind byte `first_byte`, and its bit there is `mask`, which is not 0.

@@ -1,6 +1,6 @@
 //! Searching in the words of a head as they were loaded.
 
-ghost use Rattle.std.specs.Prelude.{◌≡◌, ◌+◌, ◌-◌, ◌*◌, ◌/◌, ◌%◌, ◌^◌, ◌<◌, ◌≤◌, ◌++◌, Bool, ℕ, length, replicate, slice_index};
+ghost use Rattle.std.specs.Prelude.{◌≡◌, ◌-◌, ◌*◌, ◌/◌, ◌%◌, ◌^◌, ◌<◌, ◌≤◌, ◌++◌, Bool, ℕ, length, replicate, slice_index};
 ghost use lib.Count.{count_leading_zeros};
 ghost use lib.Lanes.{digits_l, number_l};
 ghost use Rattle.compound_node.specs.Nodes.{piece};
@@ -32,7 +32,7 @@ const PLACES: [u32; 32] = [
 ];
 
 /// The dense key of `key` for each node whose head is wide and begins with `words`: the bit of column j is bit 31-j. The positions are
-/// read as a vector as they stand. `search_row_words` needs the words behind these alone, so a caller can load those later.
+/// read as a vector as they stand. `search_row_words` needs only the words behind `words`, so a caller can load those later.
 #[inline(always)]
 pub fn extract_dense_key(words: &[u64; FIRST_ROWS], key: &Key) -> u32
     requires { IsSpelling (HasHeadOf Wide) front_words words.now }
@@ -53,7 +53,8 @@ pub fn search_row_words(words: &[u64; ROW_WORDS], dense: u32) -> u8
     search_rows(wide_rows_in(words), dense)
 }
 
-/// The slot to which the bits of `key` lead, in each node whose head is narrow and begins with `words`. Its rows are searched as they stand.
+/// The slot to which the bits of `key` lead, in each node whose head is narrow and begins with `words`. Its rows are searched as they
+/// stand.
 #[inline(always)]
 pub fn search_narrow(words: &[u64; NARROW_HEAD_WORDS], key: &Key) -> u8
     requires { IsSpelling (HasHeadOf Narrow) narrow_words words.now }
@@ -159,7 +160,8 @@ pub(crate) fn with_unused_from(rows: u32x32, count: u8) -> u32x32
         .select(rows, u32x32::splat(u32::MAX))
 }
 
-/// The rows of each node whose head is wide and ends with `words`: lane `i` is that of slot `i`. Lanes past the last entry are 4,294,967,295.
+/// The rows of each node whose head is wide and ends with `words`: lane `i` is that of slot `i`. Lanes past the last entry are
+/// 4,294,967,295.
 #[inline(always)]
 fn wide_rows_in(words: &[u64]) -> u32x32
     requires { length words.now ≡ ROW_WORDS }

@@ -1,6 +1,6 @@
 //! By which change one list of leaves became another.
 
-ghost use Rattle.std.specs.Prelude.{ℕ, ◌≡◌, ◌↔◌, ◌<◌, ◌≤◌, IsTrue, Some, None, if◌then◌else◌, length, map, slice_index};
+ghost use Rattle.std.specs.Prelude.{ℕ, ◌≡◌, ◌<◌, ◌≤◌, Some, None, length, map, slice_index};
 ghost use Rattle.replay_trees.specs.Versions.{read_item};
 ghost use Rattle.rowex_core.specs.Events.{AreSame};
 ghost use Rattle.replay_trees.specs.Changed.{BeginApart, IsFoundChange, IsMade, numbers};

@@ -1,6 +1,6 @@
 //! The search that keeps its way: of a scan, and of a call that may change the index.
 
-ghost use Rattle.std.specs.Prelude.{◌≡◌, ◌+◌, ◌*◌, ◌≤◌, ℕ, IsSome, length};
+ghost use Rattle.std.specs.Prelude.{IsSome, length};
 ghost use Rattle.rowex_table.specs.Seats.{IsSeatOf};
 ghost use Rattle.rowex_reading.specs.Lookups.{HasFound, HasSearched};
 ghost use Rattle.rowex_reading.specs.Possible.{IsPossible};

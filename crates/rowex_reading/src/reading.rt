@@ -12,7 +12,7 @@ ghost use Rattle.version_laws.specs.Scan.{IsPlaced, IsRead};
 ghost use Rattle.rowex_reading.specs.Reads.{IsReader, Reads, ReadsRoot, leaf_loads};
 ghost use Rattle.rowex_reading.specs.Ways.{step_at};
 ghost use Rattle.rowex_reading.specs.Seen.{Sure, RootIs, IsCompared, IsHeadSeen, IsLedTo, HasPlace, AreHeadWords, AreLoaded, shape_of};
-ghost use Rattle.record_words.specs.declared.records.Rec.TheVariants.{Leaf as a_leaf, Node as a_node};
+ghost use Rattle.record_words.specs.declared.records.Rec.TheVariants.{Node as a_node};
 ghost use Rattle.rowex_table.specs.Rule.{IsLeafRecordAt, IsNodeRecordAt, record_number};
 ghost use Rattle.rowex_table.specs.Seats.{IsSeatOf};
 ghost use Rattle.tries.specs.Place.{spot};
@@ -22,10 +22,10 @@ use insert_cases::PathNode;
 use key_bits::{Key, MAX_BYTES};
 use record_words::{
     CACHE_LINE_WORDS, FIELDS_OFFSET, FIRST_KEY_WORD, FIRST_ROWS, HEAD_WORDS, HeadNumbers,
-    KEY_OFFSET, Kind, LENGTH_OFFSET, MIDDLE_HEAD_WORDS, NARROW_HEAD_WORDS, NODE_WORDS, ROW_WORDS,
-    count_key_words, extract_dense_key, first_position_of, index_of_first_position, key_word_at,
-    read_entry, read_numbers, read_some_entry, search_middle, search_narrow, search_row_words,
-    write_key_word,
+    KEY_OFFSET, Kind, LENGTH_OFFSET, MIDDLE_HEAD_WORDS, MIDDLE_KIND, NARROW_HEAD_WORDS,
+    NARROW_KIND, NODE_WORDS, ROW_WORDS, count_key_words, extract_dense_key, first_position_of,
+    index_of_first_position, key_word_at, kind_number, read_entry, read_numbers, read_some_entry,
+    search_middle, search_narrow, search_row_words, write_key_word,
 };
 use rowex_core::{Gate, Rec, Spot};
 use rowex_table::{HotTable, RecordAt, TableSeat};
@@ -172,22 +172,22 @@ pub fn search_node<G: Gate>(
     touch_entries(table, node);
     let numbers = read_numbers(first[0]);
     let number = node.number();
-    match numbers.kind {
-        Kind::Narrow => {
+    match kind_number(first[0]) {
+        NARROW_KIND => {
             let mut words = [first[0]; NARROW_HEAD_WORDS];
             load_head_part(table, seat, gate, node, 1, &mut words[1..]);
             let slot = search_narrow(&words, key);
             let word = words[index_of_first_position(Kind::Narrow)];
             path_node(number, numbers, word, slot)
         }
-        Kind::Middle => {
+        MIDDLE_KIND => {
             let mut words = [first[0]; MIDDLE_HEAD_WORDS];
             load_head_part(table, seat, gate, node, 1, &mut words[1..]);
             let slot = search_middle(&words, key);
             let word = words[index_of_first_position(Kind::Middle)];
             path_node(number, numbers, word, slot)
         }
-        Kind::Wide => {
+        _ => {
             let mut front = [first[0]; FIRST_ROWS];
             load_head_part(table, seat, gate, node, 1, &mut front[1..]);
             let dense = extract_dense_key(&front, key);

@@ -1,7 +1,7 @@
 //! Look-ups of many keys by one call. Several keys go down side by side, so that what one of them waits for is loaded while the others
 //! go on.
 
-ghost use Rattle.std.specs.Prelude.{◌≡◌, ◌+◌, ◌*◌, ◌<◌, ◌≤◌, ℕ, IsSome, IsTrue, false, length, true};
+ghost use Rattle.std.specs.Prelude.{◌≡◌, ◌+◌, ◌*◌, ◌<◌, ◌≤◌, ℕ, IsSome, false, length, true};
 ghost use Rattle.compound_node.specs.Nodes.{height_of};
 ghost use Rattle.compound_node.specs.declared.entries.Entry.TheVariants.{Node as NodeEntry};
 ghost use Rattle.key_bits.specs.declared.TheConstants.{MAX_BYTES};

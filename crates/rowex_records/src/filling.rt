@@ -1,6 +1,6 @@
 //! Records filled with the words of a leaf or of a node, and made ready.
 
-ghost use Rattle.std.specs.Prelude.{◌≡◌, ◌≢◌, ◌<◌, ◌≤◌, ◌+◌, ◌-◌, ◌*◌, ℕ, List, length};
+ghost use Rattle.std.specs.Prelude.{◌≡◌, ◌<◌, ◌≤◌, ◌+◌, ◌-◌, ◌*◌, ℕ, List, length};
 ghost use Rattle.record_words.specs.declared.records.Rec.TheVariants.{Node as a_node, Leaf as a_leaf};
 ghost use Rattle.record_words.specs.Layout.{leaf_size};
 ghost use Rattle.record_words.specs.Leaf.{leaf_words, words_for};
@@ -25,7 +25,7 @@ use rowex_core::{Gate, Rec};
 use rowex_table::{HotTable, RecordAt, TableSeat};
 use std::ops::Range;
 
-/// The word at `offset` of the record `at`.
+/// The word at `offset` of the record `at`, counted in words from 0 at its state.
 #[derive(Clone, Copy)]
 struct WordAt {
     at: RecordAt,
@@ -98,8 +98,8 @@ pub fn fill_node<G: Gate>(
     set_eight_words(table, seat, gate, node, words, HEAD_WORDS + 24..leads);
 }
 
-/// The index behind the last word with columns in which the node of `words` has something, and that behind the last such word with rows. In a
-/// near head the columns fill all their words, and the two are the same. A word of rows that is all ones counts to those with nothing.
+/// The index behind the last word with columns in which the node of `words` has something, and that behind the last such word with rows.
+/// In a near head the columns fill all their words, and the two are the same. A word of rows that is all ones counts to those with nothing.
 #[inline(always)]
 fn used_ends(words: &[u64; NODE_FIELDS]) -> (usize, usize)
     requires { IsSpelling HasNodeWords node_words words.now }
@@ -119,9 +119,9 @@ fn used_ends(words: &[u64; NODE_FIELDS]) -> (usize, usize)
     }
 }
 
-/// Fills eight words of the claimed node record `node`, with those of `words` from index `used.start` on. The node has something in those
-/// before `used.end`: these are stored. The others are loaded, and stored only where another stands. If the node has something in all
-/// eight, no index is compared with `used.end`. Inline, so that offsets are constants.
+/// Fills eight words of the claimed node record `node`, with those of `words` from index `used.start` on, counted from 0 behind the state.
+/// The node has something in those before index `used.end`: these are stored. Each other one is loaded, and stored only where another
+/// stands. If the node has something in all eight, no index is compared with `used.end`. Inline, so that offsets are constants.
 #[inline(always)]
 fn set_eight_words<G: Gate>(
     table: &HotTable,

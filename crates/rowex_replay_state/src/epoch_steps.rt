@@ -1,7 +1,6 @@
 //! The steps on the epoch and on pins.
 
-ghost use Rattle.std.specs.Prelude.{◌≡◌, ◌↔◌, ◌<◌, ◌^◌, IsTrue, length, slice_get, set, Some};
-ghost use Rattle.rowex_core.specs.declared.event.Act.{Act};
+ghost use Rattle.std.specs.Prelude.{◌≡◌, ◌<◌, length, slice_get, Some};
 ghost use Rattle.rowex_core.specs.declared.event.Act.TheVariants.{Advance, ClearPin, LoadEpoch, LoadPin, SetPin};
 ghost use Rattle.rowex_replay_state.specs.States.{IsStepped};
 

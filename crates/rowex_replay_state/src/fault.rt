@@ -1,6 +1,6 @@
 //! Why an event is not replayed.
 
-ghost use Rattle.std.specs.Prelude.{◌≡◌, Some, codes};
+ghost use Rattle.std.specs.Prelude.{Some};
 ghost use Rattle.rowex_replay_state.specs.Faults.{replay_fault_text};
 
 use std::error::Error;

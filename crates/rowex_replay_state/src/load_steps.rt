@@ -1,7 +1,6 @@
 //! The loads of words of records, and of the root. They change nothing.
 
 ghost use Rattle.std.specs.Prelude.{◌≡◌, ◌↔◌, IsTrue, Option};
-ghost use Rattle.rowex_core.specs.declared.event.Act.{Act};
 ghost use Rattle.rowex_core.specs.declared.event.Act.TheVariants.{LoadFixed, LoadRef, LoadState};
 ghost use Rattle.record_words.specs.Entry.{HasEntryWord, entry_word};
 ghost use Rattle.rowex_replay_state.specs.States.{IsStepped};

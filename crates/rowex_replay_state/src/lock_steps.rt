@@ -1,7 +1,6 @@
 //! The steps that lock and unlock the anchor and nodes.
 
 ghost use Rattle.std.specs.Prelude.{◌≡◌, ◌↔◌, IsTrue, Some};
-ghost use Rattle.rowex_core.specs.declared.event.Act.{Act};
 ghost use Rattle.rowex_core.specs.declared.event.Act.TheVariants.{Lock, Unlock};
 ghost use Rattle.rowex_core.specs.declared.event.Target.TheVariants.{Anchor, Node as NodeTarget};
 ghost use Rattle.rowex_replay_state.specs.States.{IsStepped};

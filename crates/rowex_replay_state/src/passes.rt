@@ -1,6 +1,6 @@
 //! The passes: their pins, and their rounds over the pins of all.
 
-ghost use Rattle.std.specs.Prelude.{◌≡◌, ◌↔◌, ◌<◌, ℕ, IsTrue, true, slice_get, set, Some, None, length, MatchOption, unwrap_or, min, replicate, false};
+ghost use Rattle.std.specs.Prelude.{◌≡◌, ◌↔◌, ◌<◌, IsTrue, true, Some, None, min, false};
 
 use record_words::MAX_STOCK_PASSES;
 

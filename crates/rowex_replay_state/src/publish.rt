@@ -1,6 +1,6 @@
 //! The publish: the one step that changes the map.
 
-ghost use Rattle.std.specs.Prelude.{◌≡◌, ◌↔◌, ◌<◌, IfOk, IsTrue, OnErr, Some};
+ghost use Rattle.std.specs.Prelude.{◌≡◌, ◌↔◌, IfOk, IsTrue, OnErr, Some};
 ghost use Rattle.record_words.specs.Entry.{HasEntryWord, entry_word};
 ghost use Rattle.rowex_core.specs.declared.event.Act.TheVariants.{Publish};
 ghost use Rattle.rowex_core.specs.declared.event.Spot.TheVariants.{Root, Slot, Value};
@@ -13,7 +13,7 @@ use crate::state::State;
 use compound_node::Entry;
 use finite_map::{Change, Kind};
 use record_words::{HEAD_WORDS, MAX_ENTRIES, pack_entry};
-use replay_trees::{Item, Linked, change_between, read_tree, unpack_entry};
+use replay_trees::{Item, change_between, read_tree, unpack_entry};
 use rowex_core::{Rec, Spot};
 use std::alloc::AllocError;
 

@@ -1,7 +1,6 @@
 //! The steps on records of a pass's own: claim, fill, ready and release; marks, and giving back.
 
-ghost use Rattle.std.specs.Prelude.{◌≡◌, ◌↔◌, ◌<◌, IsTrue, length};
-ghost use Rattle.rowex_core.specs.declared.event.Act.{Act};
+ghost use Rattle.std.specs.Prelude.{◌↔◌, ◌<◌, IsTrue, length};
 ghost use Rattle.rowex_core.specs.declared.event.Act.TheVariants.{Claim, Fill, GiveBack, Mark, Ready, Release};
 ghost use Rattle.rowex_core.specs.Cores.{HasWord};
 ghost use Rattle.rowex_core.specs.Events.{IsFixedOffset, IsOffset};

@@ -1,6 +1,6 @@
 //! The records of the table: their words, what has become of them, and who has locked them.
 
-ghost use Rattle.std.specs.Prelude.{◌≡◌, ℕ, List, Some, None, IfOk, IsTrue, ◌↔◌, ◌+◌, ◌<◌, ◌^◌, MatchOption, replicate, set};
+ghost use Rattle.std.specs.Prelude.{◌≡◌, ℕ, Some, None, IfOk, IsTrue, ◌↔◌, ◌+◌, ◌<◌, ◌^◌, MatchOption, replicate, set};
 ghost use Rattle.rowex_core.specs.Cores.{FitsIn};
 ghost use Rattle.rowex_core.specs.Reading.{IsPacked};
 ghost use Rattle.rowex_replay_state.specs.declared.fate.Fate.TheVariants.{Held, InTree, Marked};

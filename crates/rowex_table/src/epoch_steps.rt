@@ -1,6 +1,6 @@
 //! Steps on the epoch and on pins. The pass of `seat` makes each, and `gate` is told of it.
 
-ghost use Rattle.std.specs.Prelude.{◌≡◌, ◌<◌, ◌≤◌, ◌+◌, ◌*◌, ◌^◌, ℕ, List};
+ghost use Rattle.std.specs.Prelude.{◌<◌, ◌≤◌, ◌+◌, List};
 ghost use Rattle.finite_map.specs.declared.Note.{Note};
 ghost use Rattle.rowex_core.specs.declared.event.Act.TheVariants.{LoadEpoch, Advance, SetPin, ClearPin, LoadPin};
 ghost use Rattle.rowex_core.specs.declared.known.Known.{Known};

@@ -1,6 +1,6 @@
 //! The rule of the table, and what its steps tell.
 
-ghost use Rattle.std.specs.Prelude.{ℕ, List, [], Option as Maybe, None};
+ghost use Rattle.std.specs.Prelude.{List, [], Option as Maybe, None};
 ghost use Rattle.finite_map.specs.declared.Note.{Note};
 ghost use Rattle.record_words.specs.declared.layout.Layout.{Layout as Laid};
 ghost use Rattle.rowex_core.specs.declared.event.Act.{Act as Deed};

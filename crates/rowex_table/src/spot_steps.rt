@@ -1,6 +1,6 @@
 //! Steps on the entries of the tree and the values of leaves, and on the locks that guard them. The pass of `seat` makes each, and `gate` is told of it.
 
-ghost use Rattle.std.specs.Prelude.{◌≡◌, ◌<◌, ◌+◌, ◌*◌, ◌^◌, ℕ, List};
+ghost use Rattle.std.specs.Prelude.{◌<◌, ◌+◌};
 ghost use Rattle.record_words.specs.Layout.{IsInTable};
 ghost use Rattle.record_words.specs.declared.TheConstants.{MAX_ENTRIES};
 ghost use Rattle.rowex_core.specs.declared.event.Act.TheVariants.{LoadRef, Lock, Unlock, Publish};

@@ -1,5 +1,5 @@
 -- What a pass knows of the two nodes that become one.
-use Rattle.std.proofs.Common.{◌≡◌, ℕ, ◌-◌, ◌<◌, Bool, List, length, get_or, if◌then◌else◌, Some, None, sym, ap, subst, ◌∙◌, arith}
+use Rattle.std.proofs.Common.{Bor, ◌≡◌, ℕ, ◌-◌, ◌<◌, Bool, List, length, get_or, if◌then◌else◌, Some, None, sym, ap, subst, ◌∙◌, arith}
 use Rattle.std.specs.Prelude.{slice_get}
 use Rattle.std.proofs.lemmas.Bool.{lt-ltb}
 use Rattle.std.proofs.lemmas.List.{get_or_default}
@@ -37,6 +37,7 @@ use Rattle.rowex_writing.specs.Going.{HasLocked, IsLockedBy, IsNodeOf, WorksOn}
 use Rattle.publish_laws.proofs.Merging.{beside_in_table}
 use Rattle.rowex_writing.specs.Merging.{IsNeighbour, IsTaking, TakesOn, lower, no_step, upper}
 use Rattle.rowex_writing.specs.declared.job.Job.{Job}
+use Rattle.rowex_writing.specs.declared.job.Left.{Left}
 use Rattle.rowex_writing.specs.declared.job.Merge.{Merge}
 use Rattle.rowex_writing.proofs.Above.{locked_at}
 use Rattle.rowex_writing.proofs.Locking.{locked_on, seat_of}
@@ -129,9 +130,9 @@ module _ (table : TableView) (a : SeatView) (job : Job) (takes : TakesOn table a
           sym (sibling_spot job.key.now shown) ∙ sibling_beside (spot job.key.now shown) place (get_or view.columns column 0) (Node number height) shown (spot_below job.key.now shown) forks_shown
           (sym (place_is shown place) ∙ (ap (λ (b : Bool). if b then Some (entry_at shown place) else None) (lt-ltb place (size shown) place_shown) ∙ ap Some (sym entry)))
 
-      pub found_beside : (number height position : ℕ) → position ≡ position_at view.columns column → Node number height ≡ entry_at shown place →
-          IsNeighbour a.known job (record { slot = place; position = position; number = number })
-      found_beside number height position at entry =
+      pub found_beside : (left : Bor Left) (number height position : ℕ) → position ≡ position_at view.columns column → Node number height ≡ entry_at shown place →
+          IsNeighbour a.known job (record { slot = place; position = position; number = number; left = left })
+      found_beside left number height position at entry =
           let is : get_or view.columns column 0 ≡ position = sym (at ∙ get_or_default view.columns column 65535 0 forks.in_range) in
           record {
             words = words;

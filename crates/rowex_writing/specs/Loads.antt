@@ -30,7 +30,7 @@ ReadsRest {G} table becomes number size (b, old) (c, new) =
 
 -- They are here up to this index, or at least up to the end, which is before it.
 abbrev pub IsReadTo : {G : Type 0} → TableView → (G → Event → G → Type 0) → (a b : SeatView × G) → NodeLoads → (loaded : List ℕ) → (upto : ℕ) → Type 0
-IsReadTo table becomes a b loads loaded upto = (n : ℕ) × AreRead table becomes a b (record_number loads.node.rec) loaded n × (n ≤ upto) × ((n ≡ upto) ⊎ (loads.end ≤ n))
+IsReadTo table becomes a b loads loaded upto = (n : ℕ) × AreRead table becomes a b (record_number loads.node.rec) loaded n × (n ≤ upto) × ((n ≡ upto) ⊎ (HEAD_WORDS + loads.numbers.count ≤ n))
 
 -- the pass goes on so, with the words loaded so far, for eight words more
 abbrev pub ReadsEight : {G : Type 0} → TableView → (G → Event → G → Type 0) → NodeLoads → (first : ℕ) → (SeatView × G) × List ℕ → (SeatView × G) × List ℕ → Type 0

@@ -277,12 +277,12 @@ fn end_removal<G: Gate>(
         HasFailed table.now.layout job.now seat.old.known seat.new.known build.new.made.items fault) }
     ensures spares { KeepsSpare table.now.layout seat.old seat.new }
 {
-    let Some(merge) = find_merge(table, seat, gate, job) else {
+    let Some(merge) = find_merge(table, seat, gate, job, left) else {
         let raised = fill_left(table, seat, gate, build, job, left);
         publish_change(table, seat, gate, build, job, raised);
         return Ok(());
     };
-    if try_merge(table, seat, gate, build, job, &merge, left) {
+    if try_merge(table, seat, gate, build, job, &merge) {
         return Ok(());
     }
     let raised = fill_left(table, seat, gate, build, job, left);

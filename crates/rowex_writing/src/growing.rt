@@ -1,6 +1,6 @@
 //! A node that gets the new leaf, and what rises from it.
 
-ghost use Rattle.std.specs.Prelude.{◌≡◌, ◌≤◌, ◌+◌, ◌<◌, IfErr, IfOk, None};
+ghost use Rattle.std.specs.Prelude.{◌≡◌, ◌≤◌, ◌+◌, IfErr, IfOk, None};
 ghost use Rattle.version_laws.specs.Writer.{added_change};
 ghost use Rattle.tries.specs.Content.{item};
 ghost use Rattle.lone_runs.specs.Lone.{HasFree, HasSpare};

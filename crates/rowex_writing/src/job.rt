@@ -32,13 +32,15 @@ pub(crate) struct Raised {
 
 /// A merge of a node that loses a leaf, the lower one, with its sibling. Both stand in the upper node.
 #[derive(Clone, Copy)]
-pub(crate) struct Merge {
+pub(crate) struct Merge<'a> {
     /// The sibling's slot in the upper node.
     pub slot: u8,
     /// The position of the fork between the two.
     pub position: u16,
     /// The number of the sibling's record.
     pub number: u32,
+    /// What is left of the lower node.
+    pub left: &'a Left,
 }
 
 /// What is left of a node that loses a leaf, where that is a node, too.

@@ -5,7 +5,6 @@ ghost use Rattle.compound_node.specs.Beside.{IsBesideIn};
 ghost use Rattle.compound_node.specs.Nodes.{NodeView};
 ghost use Rattle.record_words.specs.HeadParts.{AreNumbersOf};
 ghost use Rattle.record_words.specs.Packed.{position_at, row_at};
-ghost use Rattle.record_words.specs.declared.records.Rec.TheVariants.{Node as a_node};
 ghost use Rattle.tries.specs.Place.{entry_at};
 ghost use Rattle.rowex_core.specs.Reading.{node_words_of};
 ghost use Rattle.rowex_reading.specs.Possible.{IsPossible};
@@ -23,11 +22,11 @@ use record_words::{
 use rowex_core::{Gate, Rec, Spot};
 use rowex_table::{HotTable, RecordAt, TableSeat};
 
-/// A locked node whose words are to be loaded. Its last entry's word is that before index `end`, counted from 0 behind the state.
+/// A locked node whose words are to be loaded, and the numbers in its head's first word.
 #[derive(Clone, Copy)]
 struct NodeLoads {
     node: RecordAt,
-    end: usize,
+    numbers: HeadNumbers,
 }
 
 /// Loads the words of the locked node `number`, all but its state, into `words`, which are 0 before. Of the head as many are loaded as say
@@ -50,8 +49,8 @@ pub(crate) fn load_locked_node_words<G: Gate>(
 {
     let node = table.locate(Rec::Node(number));
     load_locked_head(table, seat, gate, node, words);
-    let end = read_numbers(words[0]).entries_end();
-    let loads = NodeLoads { node, end };
+    let numbers = read_numbers(words[0]);
+    let loads = NodeLoads { node, numbers };
     load_eight_words(table, seat, gate, loads, words, HEAD_WORDS);
     load_eight_words(table, seat, gate, loads, words, HEAD_WORDS + 8);
     load_eight_words(table, seat, gate, loads, words, HEAD_WORDS + 16);
@@ -123,29 +122,30 @@ fn load_numbers<G: Gate>(
     read_numbers(load_locked_word(table, seat, gate, node, 0))
 }
 
-/// Loads the row of `slot` of the locked node `node`, whose head has `numbers`; 4,294,967,295 for an unused slot, and past the last one.
+/// Loads the row of `slot` of the locked node of `loads`, and returns it. It is 4,294,967,295 for an unused slot. A slot from `MAX_ENTRIES` on
+/// is unused, too, and nothing is loaded for it.
 #[inline(always)]
 fn load_row<G: Gate>(
     table: &HotTable,
     seat: &mut TableSeat,
     gate: &mut G,
-    node: RecordAt,
-    numbers: HeadNumbers,
+    loads: NodeLoads,
     slot: u8,
 ) -> u32
     requires own { IsSeatOf table.now seat.old }
-    requires node { IsNodeRecordAt table.now.layout node }
+    requires node { IsNodeRecordAt table.now.layout loads.node }
     ensures own { IsSeatOf table.now seat.new }
     ensures reads { ReadsOn table.now G.becomes (seat.old, gate.old) (seat.new, gate.new) }
-    ensures row { (view : NodeView) → HasLockedNode seat.old.known (record_number node.rec) view → AreNumbersOf numbers view → result ≡ row_at view.rows slot }
+    ensures row { (view : NodeView) → HasLockedNode seat.old.known (record_number loads.node.rec) view → AreNumbersOf loads.numbers view →
+        result ≡ row_at view.rows slot }
     ensures few { seat.new.known.steps ≤ seat.old.known.steps + 1 }
 {
     if slot as usize >= MAX_ENTRIES {
         return u32::MAX;
     }
-    let index = numbers.index_of_row(slot);
-    let word = load_locked_word(table, seat, gate, node, index);
-    numbers.row_of(word, slot)
+    let index = loads.numbers.index_of_row(slot);
+    let word = load_locked_word(table, seat, gate, loads.node, index);
+    loads.numbers.row_of(word, slot)
 }
 
 /// Returns the slot beside `slot` of the locked node `number`, and the column of the fork between the two. `None` if the other side
@@ -166,10 +166,11 @@ pub(crate) fn load_sibling<G: Gate>(
 {
     let node = table.locate(Rec::Node(number));
     let numbers = load_numbers(table, seat, gate, node);
-    let before = load_row(table, seat, gate, node, numbers, slot.saturating_sub(1));
-    let own = load_row(table, seat, gate, node, numbers, slot);
-    let after = load_row(table, seat, gate, node, numbers, slot + 1);
-    let second = load_row(table, seat, gate, node, numbers, slot + 2);
+    let loads = NodeLoads { node, numbers };
+    let before = load_row(table, seat, gate, loads, slot.saturating_sub(1));
+    let own = load_row(table, seat, gate, loads, slot);
+    let after = load_row(table, seat, gate, loads, slot + 1);
+    let second = load_row(table, seat, gate, loads, slot + 2);
     find_sibling(slot, before, own, after, second)
 }
 
@@ -217,8 +218,8 @@ pub(crate) fn load_locked_entry<G: Gate>(
     read_some_entry(table.load_ref(seat, gate, spot))
 }
 
-/// Loads eight words of the locked node of `loads` into `words`, from index `first` on. If `first` isn't before `loads.end`, none is
-/// loaded. Inline, so that each index is known when it is compiled.
+/// Loads eight words of the locked node of `loads` into `words`, from index `first` on. None is loaded if the entries end at
+/// `first` or before. Inline, so that each index is known when it is compiled.
 #[inline(always)]
 fn load_eight_words<G: Gate>(
     table: &HotTable,
@@ -234,7 +235,8 @@ fn load_eight_words<G: Gate>(
     ensures own { IsSeatOf table.now seat.new }
     ensures reads { ReadsEight table.now G.becomes loads first ((seat.old, gate.old), words.old) ((seat.new, gate.new), words.new) }
 {
-    if first < loads.end {
+    let end = loads.numbers.entries_end();
+    if first < end {
         for place in 0..8 {
             let index = first + place;
             words[index] = load_locked_word(table, seat, gate, loads.node, index);

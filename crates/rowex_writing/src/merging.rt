@@ -1,6 +1,6 @@
 //! The end of a removal by a merge: what is left of the leaf's node, and its sibling, become one node.
 
-ghost use Rattle.std.specs.Prelude.{◌≡◌, ◌≢◌, ◌<◌, ◌≤◌, ◌+◌, ◌-◌, ◌*◌, ◌++◌, ◌∷◌, [], ℕ, List, IfSome, MatchOption, None, false, true, length};
+ghost use Rattle.std.specs.Prelude.{◌≡◌, ◌<◌, ◌≤◌, ◌+◌, ◌-◌, ◌*◌, ◌++◌, ℕ, List, IfSome, None, false, true, length};
 ghost use Rattle.compound_node.specs.Nodes.{IsBuiltFrom, NodeView, piece};
 ghost use Rattle.node_tries.specs.Changes.{without};
 ghost use Rattle.node_tries.specs.Piece.{RisesFrom};
@@ -62,18 +62,17 @@ pub(crate) fn try_merge<G: Gate>(
     gate: &mut G,
     build: &mut Build,
     job: &Job<'_>,
-    merge: &Merge,
-    left: &Left,
+    merge: &Merge<'_>,
 ) -> bool
     requires takes { TakesOn table.now seat.old job.now }
     requires beside { IsNeighbour seat.old.known job.now merge.now }
-    requires claimed { HasClaimed table.now seat.old.known left.now.number }
-    requires left { IsLeftOfNode seat.old.known job.now left.now.words }
+    requires claimed { HasClaimed table.now seat.old.known merge.now.left.now.number }
+    requires left { IsLeftOfNode seat.old.known job.now merge.now.left.now.words }
     ensures tries { TriesFew table.now G.becomes (span_numbers job.now.way.now job.now.span) build.old.left_nodes 53 (seat.old, gate.old) (seat.new, gate.new) }
     ensures done { result ≡ true → HasDoneDeed seat.old.known seat.new.known Take job.now.key.now job.now.value job.now.found }
     ensures later { result ≡ false → IsLater seat.old.known seat.new.known × IsSeatOf table.now seat.new × IsPossible table.now.layout seat.new.known }
     ensures same { result ≡ false → (seat.new.known.locks ≡ seat.old.known.locks) × (seat.new.known.anchor ≡ seat.old.known.anchor) ×
-        HasClaimed table.now seat.new.known left.now.number }
+        HasClaimed table.now seat.new.known merge.now.left.now.number }
     ensures spares { KeepsSpare table.now.layout seat.old seat.new }
 {
     if !lock_for_merge(table, seat, gate, job, merge.number) {
@@ -83,22 +82,24 @@ pub(crate) fn try_merge<G: Gate>(
         unlock_for_merge(table, seat, gate, job, merge.number);
         return false;
     }
-    merge_under_locks(table, seat, gate, build, job, merge, left)
+    merge_under_locks(table, seat, gate, build, job, merge)
 }
 
-/// Returns the merge of the node that loses a leaf with its sibling. `None` if the other side of the last fork is not one node, or both
-/// nodes have more than 33 entries together, with the leaf. No lock is tried.
+/// Returns the merge of `left`, what is left of the node that loses a leaf, with its sibling. `None` if the other side of the last fork is
+/// not one node, or both nodes have more than 33 entries together, with the leaf. No lock is tried.
 ///
 /// A full node has none, since 31 entries are left of it, and a sibling has two at least. The sibling isn't locked yet, and may change.
-pub(crate) fn find_merge<G: Gate>(
+pub(crate) fn find_merge<'a, G: Gate>(
     table: &HotTable,
     seat: &mut TableSeat,
     gate: &mut G,
     job: &Job<'_>,
-) -> Option<Merge>
+    left: &'a Left,
+) -> Option<Merge<'a>>
     requires takes { TakesOn table.now seat.old job.now }
     ensures reads { ReadsOn table.now G.becomes (seat.old, gate.old) (seat.new, gate.new) }
     ensures beside { IfSome result (IsNeighbour seat.new.known job.now) }
+    ensures left { IfSome result (λ merge. merge.left.now ≡ left.now) }
     ensures few { seat.new.known.steps ≤ seat.old.known.steps + 10 }
 {
     let (above, low) = (job.way[job.span.end - 1], job.way[job.span.end]);
@@ -120,6 +121,7 @@ pub(crate) fn find_merge<G: Gate>(
         slot,
         position,
         number,
+        left,
     })
 }
 
@@ -131,24 +133,23 @@ fn merge_under_locks<G: Gate>(
     gate: &mut G,
     build: &mut Build,
     job: &Job<'_>,
-    merge: &Merge,
-    left: &Left,
+    merge: &Merge<'_>,
 ) -> bool
     requires wide { IsWide table.now seat.old job.now merge.now.number }
     requires beside { IsNeighbour seat.old.known job.now merge.now }
-    requires claimed { HasClaimed table.now seat.old.known left.now.number }
-    requires left { IsLeftOfNode seat.old.known job.now left.now.words }
+    requires claimed { HasClaimed table.now seat.old.known merge.now.left.now.number }
+    requires left { IsLeftOfNode seat.old.known job.now merge.now.left.now.words }
     requires loaded { HasLoadedFound seat.old.known job.now.found }
     ensures run { HasRun table.now G.becomes (seat.old, gate.old) (seat.new, gate.new) }
     ensures done { result ≡ true → HasDoneDeed seat.old.known seat.new.known Take job.now.key.now job.now.value job.now.found }
     ensures later { result ≡ false → IsLater seat.old.known seat.new.known }
     ensures same { result ≡ false → (w : IsWide table.now seat.old job.now merge.now.number) →
         (seat.new.known.locks ≡ w.taking.before.known.locks) × (seat.new.known.anchor ≡ w.taking.before.known.anchor) ×
-        HasClaimed table.now seat.new.known left.now.number }
+        HasClaimed table.now seat.new.known merge.now.left.now.number }
     ensures few { seat.new.known.steps ≤ seat.old.known.steps + 2 * build.old.left_nodes + 500 }
     ensures spares { KeepsSpare table.now.layout seat.old seat.new }
 {
-    if let Some(entry) = make_merge_records(table, seat, gate, build, job, merge, left) {
+    if let Some(entry) = make_merge_records(table, seat, gate, build, job, merge) {
         list_merged_records(build, job, merge.number);
         publish_merge(table, seat, gate, build, job, entry);
         return true;
@@ -157,35 +158,35 @@ fn merge_under_locks<G: Gate>(
     false
 }
 
-/// Puts the node of both siblings into the record of `left`. Returns the entry for what is left of the upper node, in a new record if that
-/// has other entries, too. `None` if [`merge_siblings`] has no node, or no record was free. Then the pass has the record that it had.
+/// Puts the node of both siblings into the record of `merge.left`. Returns the entry for what is left of the upper node, in a new record if
+/// that has other entries, too. `None` if [`merge_siblings`] has no node, or no record was free. Then the pass has the record that it had.
 fn make_merge_records<G: Gate>(
     table: &HotTable,
     seat: &mut TableSeat,
     gate: &mut G,
     build: &mut Build,
     job: &Job<'_>,
-    merge: &Merge,
-    left: &Left,
+    merge: &Merge<'_>,
 ) -> Option<Entry>
     requires wide { IsWide table.now seat.old job.now merge.now.number }
     requires beside { IsNeighbour seat.old.known job.now merge.now }
-    requires claimed { HasClaimed table.now seat.old.known left.now.number }
-    requires left { IsLeftOfNode seat.old.known job.now left.now.words }
+    requires claimed { HasClaimed table.now seat.old.known merge.now.left.now.number }
+    requires left { IsLeftOfNode seat.old.known job.now merge.now.left.now.words }
     ensures goes { WorksOn table.now G.becomes (seat.old, gate.old) (seat.new, gate.new) }
     ensures may { IfSome result (λ e. MayMergeInto table.now seat.new build.new.made.items job.now merge.now.number e) }
-    ensures same { result ≡ None → HasClaimed table.now seat.new.known left.now.number }
+    ensures same { result ≡ None → HasClaimed table.now seat.new.known merge.now.left.now.number }
     ensures few { seat.new.known.steps ≤ seat.old.known.steps + 2 * build.old.left_nodes + 420 }
 {
-    let joined = merge_siblings(table, seat, gate, job, merge, &left.words)?;
-    fill_node(table, seat, gate, left.number, &pack_node(&joined));
+    let joined = merge_siblings(table, seat, gate, job, merge)?;
+    let number = merge.left.number;
+    fill_node(table, seat, gate, number, &pack_node(&joined));
     build.made.clear();
-    build.made.push(Rec::Node(left.number));
+    build.made.push(Rec::Node(number));
     let fork = ClosedFork {
         step: job.way[job.span.end - 1],
         slot: merge.slot,
         entry: Entry::Node {
-            number: left.number,
+            number,
             height: joined.height(),
         },
     };
@@ -194,19 +195,18 @@ fn make_merge_records<G: Gate>(
     Some(entry)
 }
 
-/// Returns the node of the words `left`, what is left of the lower node, and all of its sibling as one node, with a fork of the two at
-/// `merge.position`. `None` if they have more than 32 entries.
+/// Returns what is left of the lower node, and all of its sibling, as one node, with a fork of the two at `merge.position`. `None` if they
+/// have more than 32 entries.
 fn merge_siblings<G: Gate>(
     table: &HotTable,
     seat: &mut TableSeat,
     gate: &mut G,
     job: &Job<'_>,
-    merge: &Merge,
-    left: &[u64; NODE_FIELDS],
+    merge: &Merge<'_>,
 ) -> Option<Node>
     requires wide { IsWide table.now seat.old job.now merge.now.number }
     requires beside { IsNeighbour seat.old.known job.now merge.now }
-    requires left { IsLeftOfNode seat.old.known job.now left.now }
+    requires left { IsLeftOfNode seat.old.known job.now merge.now.left.now.words }
     ensures reads { ReadsOn table.now G.becomes (seat.old, gate.old) (seat.new, gate.new) }
     ensures joined { (leaf : ℕ) (b : AreBeside seat.old.known.locks job.now.key.now (upper job.now).number (lower job.now).number merge.now.number leaf) →
         b.position ≡ merge.now.position → IfSome result (λ node. IsBuiltFrom node (merged b)) }
@@ -215,7 +215,7 @@ fn merge_siblings<G: Gate>(
     ensures few { seat.new.known.steps ≤ seat.old.known.steps + 114 }
 {
     let other = read_locked_node(table, seat, gate, merge.number);
-    let left = read_node(left);
+    let left = read_node(&merge.left.words);
     if left.count() + other.count() > 32 {
         return None;
     }

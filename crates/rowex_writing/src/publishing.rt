@@ -1,6 +1,6 @@
 //! The last part of each change: its records are made ready, and one store makes it visible. What it leaves comes after.
 
-ghost use Rattle.std.specs.Prelude.{◌≡◌, ℕ, List, [], ◌++◌, Option, MatchOption, ◌<◌, ◌≤◌, ◌+◌, ◌-◌, length, map, slice_range};
+ghost use Rattle.std.specs.Prelude.{◌≡◌, ℕ, List, ◌++◌, Option, ◌<◌, ◌≤◌, ◌+◌, ◌-◌, length, map, slice_range};
 ghost use Rattle.finite_map.specs.declared.Change.{Change};
 ghost use Rattle.insert_cases.specs.declared.choice.PathNode.{PathNode as PathNodeView};
 ghost use Rattle.record_words.specs.Entry.{HasEntryWord, entry_word};

@@ -1,7 +1,7 @@
 //! The end of a leaf: its node is made anew without it, or the root is empty. A record may be claimed first, and filled when it is known
 //! with what.
 
-ghost use Rattle.std.specs.Prelude.{◌≡◌, ◌≢◌, Err, ◌<◌, ℕ, [], IfErr, IfOk, MatchOption, None, Option, Some, ◌≤◌, ◌+◌, ◌*◌};
+ghost use Rattle.std.specs.Prelude.{◌≡◌, ◌≢◌, Err, ℕ, [], IfErr, IfOk, MatchOption, None, Option, Some, ◌≤◌, ◌+◌, ◌*◌};
 ghost use Rattle.version_laws.specs.Writer.{removed_change};
 ghost use Rattle.tries.specs.Content.{item};
 ghost use Rattle.lone_runs.specs.Lone.{HasRoom, HasSpare};
@@ -49,10 +49,7 @@ pub(crate) fn make_without_leaf<G: Gate>(
     ensures finds { HasRoom table.now.layout seat.old → result ≢ Err Full.Nodes }
 {
     build.made.clear();
-    let Found::Leaf { number, .. } = job.found else {
-        unreachable!()
-    };
-    remake_without_leaf(table, seat, gate, build, job, number)
+    remake_without_leaf(table, seat, gate, build, job)
 }
 
 /// What takes the place of the found leaf, which is all of the tree: the root is to be empty. No record is made for that.
@@ -72,7 +69,7 @@ pub(crate) fn empty_root(build: &mut Build, job: &Job<'_>) -> Raised
     }
 }
 
-/// Makes what is left of the span's node without leaf `number`, and returns its entry, which is to take the node's place. `Full::Nodes` if
+/// Makes what is left of the span's node without the found leaf, and returns its entry, which is to take the node's place. `Full::Nodes` if
 /// no node record was free for it.
 fn remake_without_leaf<G: Gate>(
     table: &HotTable,
@@ -80,12 +77,11 @@ fn remake_without_leaf<G: Gate>(
     gate: &mut G,
     build: &mut Build,
     job: &Job<'_>,
-    number: u32,
 ) -> Result<Raised, Full>
-    requires below { (m : ℕ) × (value : ℕ) × HasLeafBelow table.now seat.old m job.now number value }
+    requires below { (m : ℕ) × (number : ℕ) × (value : ℕ) × HasLeafBelow table.now seat.old m job.now number value }
     requires made { build.old.made.items ≡ [] }
     ensures goes { WorksOn table.now G.becomes (seat.old, gate.old) (seat.new, gate.new) }
-    ensures raised { (m value : ℕ) → HasLeafBelow table.now seat.old m job.now number value →
+    ensures raised { (m number value : ℕ) → HasLeafBelow table.now seat.old m job.now number value →
         IfOk result (λ raised. MayReplace table.now seat.new build.new.made.items job.now raised
         (removed_change seat.old.known.pass (item number job.now.key.now value)) (Some value)) }
     ensures full { IfErr result (λ full. (full ≡ Full.Nodes) × HasNoneFree table.now seat.old.known seat.new build.new.made.items job.now full) }
@@ -99,11 +95,7 @@ fn remake_without_leaf<G: Gate>(
     let Some(entry) = raise_without_leaf(table, seat, gate, build, lowest) else {
         return Err(Full::Nodes);
     };
-    Ok(Raised {
-        entry: Some(entry),
-        low: job.span.len,
-        leaf: Some(number),
-    })
+    Ok(put_in_place(job, entry))
 }
 
 /// Claims a record for what is left of the lower node of `job`'s span, or for the node that this is merged into. Returns its number. `None`

@@ -20,7 +20,7 @@ ghost use Rattle.rowex_writing.specs.Merging.{IsFar, IsNeighbour, IsTargetAbove,
 ghost use Rattle.rowex_writing.specs.declared.job.Merge.{Merge as MergeView};
 
 use crate::checking::{entry_stands, naming_entry, root_stands};
-use crate::job::{Job, Merge};
+use crate::job::Job;
 use crate::locks::{lock_anchor, lock_node};
 use compound_node::Entry;
 use insert_cases::PathNode;

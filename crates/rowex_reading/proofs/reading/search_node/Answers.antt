@@ -1,5 +1,6 @@
 -- What the loads of the words of a head tell.
-use Rattle.std.proofs.Common.{ℕ, ◌≡◌, ◌+◌, ◌-◌, ◌^◌, ◌++◌, ◌∙◌, [], ap, arith, get_or, length, length-append, lit≤, replicate, sym}
+use Rattle.std.proofs.Common.{ℕ, ◌≡◌, ◌≢◌, ◌/◌, cond, eqb, ◌+◌, ◌-◌, ◌^◌, ◌++◌, ◌∙◌, [], ap, arith, get_or, length, length-append, lit≤, replicate, sym}
+use Rattle.std.proofs.lemmas.Bool.{ne_eqb}
 use Rattle.std.proofs.lemmas.List.{get_or_append_left}
 use Rattle.compound_node.specs.declared.entries.Entry.TheVariants.{Node}
 use Rattle.record_words.specs.Kinds.{kind_in, mask_index}
@@ -11,160 +12,171 @@ use Rattle.rowex_reading.proofs.Led.{led_on, reader_then, reads_trans}
 use Rattle.rowex_reading.proofs.Stepping.{back_spelled, begun, begun_loaded, begun_long, front_spelled, near_read, part_spelled, part_spot, step_spelled, wide_read, wide_spot}
 use Rattle.rowex_reading.proofs.reading.search_node.Given as given
 use Rattle.rowex_reading.proofs.reading.search_node.Goals as goal
-use Rattle.rowex_reading.proofs.reading.search_node.Goals.{After-load_head_part-in-Narrow, After-load_head_part-in-Middle, After-load_head_part-in-Wide-2}
+use Rattle.rowex_reading.proofs.reading.search_node.Goals.{After-load_head_part-in-1, After-load_head_part-in-2, After-load_head_part-in_default-2}
+
+-- The number above the low 40 bits of a head's first word tells its kind.
+narrow_by : (word : ℕ) → word / 2 ^ 40 ≡ 1 → kind_in word ≡ Narrow
+narrow_by word is = ap (λ n. cond (eqb n 1) Narrow (cond (eqb n 2) Middle Wide)) is
+
+middle_by : (word : ℕ) → word / 2 ^ 40 ≡ 2 → kind_in word ≡ Middle
+middle_by word is = ap (λ n. cond (eqb n 1) Narrow (cond (eqb n 2) Middle Wide)) is
+
+wide_by : (word : ℕ) → word / 2 ^ 40 ≢ 1 → word / 2 ^ 40 ≢ 2 → kind_in word ≡ Wide
+wide_by word one two =
+    ap (λ b. cond b Narrow (cond (eqb (word / 2 ^ 40) 2) Middle Wide)) (ne_eqb (word / 2 ^ 40) 1 one) ∙ ap (λ b. cond b Middle Wide) (ne_eqb (word / 2 ^ 40) 2 two)
 
 -- ---- a narrow head
-pub load_head_part-requires-in-Narrow-clause-reader : goal.load_head_part-requires-in-Narrow-clause-reader
-load_head_part-requires-in-Narrow-clause-reader g c = reader_then c.requires.reader c.load_head_part.ensures.reads
+pub load_head_part-requires-in-1-clause-reader : goal.load_head_part-requires-in-1-clause-reader
+load_head_part-requires-in-1-clause-reader g c = reader_then c.requires.reader c.load_head_part.ensures.reads
 
-pub load_head_part-requires-in-Narrow-clause-led : goal.load_head_part-requires-in-Narrow-clause-led
-load_head_part-requires-in-Narrow-clause-led g c = let (m, h, led) = c.requires.led in (m, h, led_on m (Node (record_number c.args.node.rec) h) c.load_head_part.ensures.reads led)
+pub load_head_part-requires-in-1-clause-led : goal.load_head_part-requires-in-1-clause-led
+load_head_part-requires-in-1-clause-led g c = let (m, h, led) = c.requires.led in (m, h, led_on m (Node (record_number c.args.node.rec) h) c.load_head_part.ensures.reads led)
 
-module _ (g : given.Over) (c : After-load_head_part-in-Narrow g) where
+module _ (g : given.Over) (c : After-load_head_part-in-1 g) where
   narrow_is : kind_in (get_or c.load_head_part.new.words 0 0) ≡ Narrow
-  narrow_is = sym c.read_numbers-numbers.ensures.parts.3 ∙ c.in-Narrow.is
+  narrow_is = narrow_by (get_or c.load_head_part.new.words 0 0) (sym c.kind_number.ensures ∙ c.in-1.is)
 
-  narrow_size : length (begun c.load_head_part.new.words c.load_head_part-in-Narrow.new.words) ≡ 7
-  narrow_size = begun_long c.load_head_part.new.words c.load_head_part-in-Narrow.new.words ∙ ap (λ n. 1 + n) c.load_head_part-in-Narrow.ensures.long
+  narrow_size : length (begun c.load_head_part.new.words c.load_head_part-in-1.new.words) ≡ 7
+  narrow_size = begun_long c.load_head_part.new.words c.load_head_part-in-1.new.words ∙ ap (λ n. 1 + n) c.load_head_part-in-1.ensures.long
 
   narrow_words_are : (m h : ℕ) → IsLedTo c.args.seat.now.known m (Node (record_number c.args.node.rec) h) →
-      AreHeadWords c.load_head_part-in-Narrow.new.seat.known m (record_number c.args.node.rec) h (begun c.load_head_part.new.words c.load_head_part-in-Narrow.new.words ++ replicate 18 (2 ^ 64 - 1))
+      AreHeadWords c.load_head_part-in-1.new.seat.known m (record_number c.args.node.rec) h (begun c.load_head_part.new.words c.load_head_part-in-1.new.words ++ replicate 18 (2 ^ 64 - 1))
   narrow_words_are m h led =
-      let e = c.load_head_part.ensures in let f = c.load_head_part-in-Narrow.ensures in
-      near_read _ _ _ _ (record_number c.args.node.rec) Narrow c.load_head_part.new.words c.load_head_part-in-Narrow.new.words (reader_then (reader_then c.requires.reader e.reads) f.reads).1 e.loaded f.loaded narrow_is e.long
+      let e = c.load_head_part.ensures in let f = c.load_head_part-in-1.ensures in
+      near_read _ _ _ _ (record_number c.args.node.rec) Narrow c.load_head_part.new.words c.load_head_part-in-1.new.words (reader_then (reader_then c.requires.reader e.reads) f.reads).1 e.loaded f.loaded narrow_is e.long
       (ap (λ n. 1 + n) f.long) m h led
 
 pub search_narrow-slot-requires : goal.search_narrow-slot-requires
 search_narrow-slot-requires g c =
-    let d = (goal.at.search_narrow-slot-requires g c).After-load_head_part-in-Narrow in
+    let d = (goal.at.search_narrow-slot-requires g c).After-load_head_part-in-1 in
     let (m, h, led) = c.requires.led in
-    part_spelled Narrow (begun c.load_head_part.new.words c.load_head_part-in-Narrow.new.words) (narrow_is g d) (narrow_size g d) (narrow_words_are g d m h led)
+    part_spelled Narrow (begun c.load_head_part.new.words c.load_head_part-in-1.new.words) (narrow_is g d) (narrow_size g d) (narrow_words_are g d m h led)
 
-pub returns-in-Narrow-clause-reads : goal.returns-in-Narrow-clause-reads
-returns-in-Narrow-clause-reads g c = (7, lit≤ tt, reads_trans c.load_head_part.ensures.reads c.load_head_part-in-Narrow.ensures.reads)
+pub returns-in-1-clause-reads : goal.returns-in-1-clause-reads
+returns-in-1-clause-reads g c = (7, lit≤ tt, reads_trans c.load_head_part.ensures.reads c.load_head_part-in-1.ensures.reads)
 
-pub returns-in-Narrow-clause-step : goal.returns-in-Narrow-clause-step
-returns-in-Narrow-clause-step g c = λ m h led.
-    let d = (goal.at.returns-in-Narrow-clause-step g c).After-load_head_part-in-Narrow in
+pub returns-in-1-clause-step : goal.returns-in-1-clause-step
+returns-in-1-clause-step g c = λ m h led.
+    let d = (goal.at.returns-in-1-clause-step g c).After-load_head_part-in-1 in
     let are = narrow_words_are g d m h led in
-    let part = begun c.load_head_part.new.words c.load_head_part-in-Narrow.new.words in
+    let part = begun c.load_head_part.new.words c.load_head_part-in-1.new.words in
     let numbers = c.read_numbers-numbers.result in (
       are.head,
       are.seen,
       step_spelled (part ++ replicate 18 (2 ^ 64 - 1)) are numbers c.read_numbers-numbers.ensures.node _
           (ap (λ i. get_or part i 0) c.index_of_first_position.ensures ∙ (sym (get_or_append_left part (replicate 18 (2 ^ 64 - 1)) 0 2 (omega (arith, narrow_size g d)))
-          ∙ ap (λ kind. get_or (part ++ replicate 18 (2 ^ 64 - 1)) (mask_index kind 0) 0) (sym c.in-Narrow.is)))
+          ∙ ap (λ kind. get_or (part ++ replicate 18 (2 ^ 64 - 1)) (mask_index kind 0) 0) (sym (c.read_numbers-numbers.ensures.parts.3 ∙ narrow_is g d))))
           c.path_node.result (record_number c.args.node.rec) c.search_narrow-slot.result (rw c.number-number.ensures at c.path_node.ensures.same) c.path_node.ensures.node
           ∙ ap (step_at are.head (record_number c.args.node.rec)) (part_spot Narrow part (narrow_is g d) (narrow_size g d) are c.args.key.now c.search_narrow-slot.result c.search_narrow-slot.ensures),
     )
 
 -- ---- a middle head
-pub load_head_part-requires-in-Middle-clause-reader : goal.load_head_part-requires-in-Middle-clause-reader
-load_head_part-requires-in-Middle-clause-reader g c = reader_then c.requires.reader c.load_head_part.ensures.reads
+pub load_head_part-requires-in-2-clause-reader : goal.load_head_part-requires-in-2-clause-reader
+load_head_part-requires-in-2-clause-reader g c = reader_then c.requires.reader c.load_head_part.ensures.reads
 
-pub load_head_part-requires-in-Middle-clause-led : goal.load_head_part-requires-in-Middle-clause-led
-load_head_part-requires-in-Middle-clause-led g c = let (m, h, led) = c.requires.led in (m, h, led_on m (Node (record_number c.args.node.rec) h) c.load_head_part.ensures.reads led)
+pub load_head_part-requires-in-2-clause-led : goal.load_head_part-requires-in-2-clause-led
+load_head_part-requires-in-2-clause-led g c = let (m, h, led) = c.requires.led in (m, h, led_on m (Node (record_number c.args.node.rec) h) c.load_head_part.ensures.reads led)
 
-module _ (g : given.Over) (c : After-load_head_part-in-Middle g) where
+module _ (g : given.Over) (c : After-load_head_part-in-2 g) where
   middle_is : kind_in (get_or c.load_head_part.new.words 0 0) ≡ Middle
-  middle_is = sym c.read_numbers-numbers.ensures.parts.3 ∙ c.in-Middle.is
+  middle_is = middle_by (get_or c.load_head_part.new.words 0 0) (sym c.kind_number.ensures ∙ c.in-2.is)
 
-  middle_size : length (begun c.load_head_part.new.words c.load_head_part-in-Middle.new.words) ≡ 13
-  middle_size = begun_long c.load_head_part.new.words c.load_head_part-in-Middle.new.words ∙ ap (λ n. 1 + n) c.load_head_part-in-Middle.ensures.long
+  middle_size : length (begun c.load_head_part.new.words c.load_head_part-in-2.new.words) ≡ 13
+  middle_size = begun_long c.load_head_part.new.words c.load_head_part-in-2.new.words ∙ ap (λ n. 1 + n) c.load_head_part-in-2.ensures.long
 
   middle_words_are : (m h : ℕ) → IsLedTo c.args.seat.now.known m (Node (record_number c.args.node.rec) h) →
-      AreHeadWords c.load_head_part-in-Middle.new.seat.known m (record_number c.args.node.rec) h (begun c.load_head_part.new.words c.load_head_part-in-Middle.new.words ++ replicate 12 (2 ^ 64 - 1))
+      AreHeadWords c.load_head_part-in-2.new.seat.known m (record_number c.args.node.rec) h (begun c.load_head_part.new.words c.load_head_part-in-2.new.words ++ replicate 12 (2 ^ 64 - 1))
   middle_words_are m h led =
-      let e = c.load_head_part.ensures in let f = c.load_head_part-in-Middle.ensures in
-      near_read _ _ _ _ (record_number c.args.node.rec) Middle c.load_head_part.new.words c.load_head_part-in-Middle.new.words (reader_then (reader_then c.requires.reader e.reads) f.reads).1 e.loaded f.loaded middle_is e.long
+      let e = c.load_head_part.ensures in let f = c.load_head_part-in-2.ensures in
+      near_read _ _ _ _ (record_number c.args.node.rec) Middle c.load_head_part.new.words c.load_head_part-in-2.new.words (reader_then (reader_then c.requires.reader e.reads) f.reads).1 e.loaded f.loaded middle_is e.long
       (ap (λ n. 1 + n) f.long) m h led
 
 pub search_middle-slot-requires : goal.search_middle-slot-requires
 search_middle-slot-requires g c =
-    let d = (goal.at.search_middle-slot-requires g c).After-load_head_part-in-Middle in
+    let d = (goal.at.search_middle-slot-requires g c).After-load_head_part-in-2 in
     let (m, h, led) = c.requires.led in
-    part_spelled Middle (begun c.load_head_part.new.words c.load_head_part-in-Middle.new.words) (middle_is g d) (middle_size g d) (middle_words_are g d m h led)
+    part_spelled Middle (begun c.load_head_part.new.words c.load_head_part-in-2.new.words) (middle_is g d) (middle_size g d) (middle_words_are g d m h led)
 
-pub returns-in-Middle-clause-reads : goal.returns-in-Middle-clause-reads
-returns-in-Middle-clause-reads g c = (13, lit≤ tt, reads_trans c.load_head_part.ensures.reads c.load_head_part-in-Middle.ensures.reads)
+pub returns-in-2-clause-reads : goal.returns-in-2-clause-reads
+returns-in-2-clause-reads g c = (13, lit≤ tt, reads_trans c.load_head_part.ensures.reads c.load_head_part-in-2.ensures.reads)
 
-pub returns-in-Middle-clause-step : goal.returns-in-Middle-clause-step
-returns-in-Middle-clause-step g c = λ m h led.
-    let d = (goal.at.returns-in-Middle-clause-step g c).After-load_head_part-in-Middle in
+pub returns-in-2-clause-step : goal.returns-in-2-clause-step
+returns-in-2-clause-step g c = λ m h led.
+    let d = (goal.at.returns-in-2-clause-step g c).After-load_head_part-in-2 in
     let are = middle_words_are g d m h led in
-    let part = begun c.load_head_part.new.words c.load_head_part-in-Middle.new.words in
+    let part = begun c.load_head_part.new.words c.load_head_part-in-2.new.words in
     let numbers = c.read_numbers-numbers.result in (
       are.head,
       are.seen,
       step_spelled (part ++ replicate 12 (2 ^ 64 - 1)) are numbers c.read_numbers-numbers.ensures.node _
-          (ap (λ i. get_or part i 0) c.index_of_first_position-in-Middle.ensures ∙ (sym (get_or_append_left part (replicate 12 (2 ^ 64 - 1)) 0 4 (omega (arith, middle_size g d)))
-          ∙ ap (λ kind. get_or (part ++ replicate 12 (2 ^ 64 - 1)) (mask_index kind 0) 0) (sym c.in-Middle.is)))
-          c.path_node-in-Middle.result (record_number c.args.node.rec) c.search_middle-slot.result (rw c.number-number.ensures at c.path_node-in-Middle.ensures.same) c.path_node-in-Middle.ensures.node
+          (ap (λ i. get_or part i 0) c.index_of_first_position-in-2.ensures ∙ (sym (get_or_append_left part (replicate 12 (2 ^ 64 - 1)) 0 4 (omega (arith, middle_size g d)))
+          ∙ ap (λ kind. get_or (part ++ replicate 12 (2 ^ 64 - 1)) (mask_index kind 0) 0) (sym (c.read_numbers-numbers.ensures.parts.3 ∙ middle_is g d))))
+          c.path_node-in-2.result (record_number c.args.node.rec) c.search_middle-slot.result (rw c.number-number.ensures at c.path_node-in-2.ensures.same) c.path_node-in-2.ensures.node
           ∙ ap (step_at are.head (record_number c.args.node.rec)) (part_spot Middle part (middle_is g d) (middle_size g d) are c.args.key.now c.search_middle-slot.result c.search_middle-slot.ensures),
     )
 
 -- ---- a wide head
-pub load_head_part-requires-in-Wide-clause-reader : goal.load_head_part-requires-in-Wide-clause-reader
-load_head_part-requires-in-Wide-clause-reader g c = reader_then c.requires.reader c.load_head_part.ensures.reads
+pub load_head_part-requires-in_default-clause-reader : goal.load_head_part-requires-in_default-clause-reader
+load_head_part-requires-in_default-clause-reader g c = reader_then c.requires.reader c.load_head_part.ensures.reads
 
-pub load_head_part-requires-in-Wide-clause-led : goal.load_head_part-requires-in-Wide-clause-led
-load_head_part-requires-in-Wide-clause-led g c = let (m, h, led) = c.requires.led in (m, h, led_on m (Node (record_number c.args.node.rec) h) c.load_head_part.ensures.reads led)
+pub load_head_part-requires-in_default-clause-led : goal.load_head_part-requires-in_default-clause-led
+load_head_part-requires-in_default-clause-led g c = let (m, h, led) = c.requires.led in (m, h, led_on m (Node (record_number c.args.node.rec) h) c.load_head_part.ensures.reads led)
 
 pub extract_dense_key-dense-requires : goal.extract_dense_key-dense-requires
 extract_dense_key-dense-requires g c =
     let (m, h, led) = c.requires.led in
-    let e = c.load_head_part.ensures in let f = c.load_head_part-in-Wide.ensures in
-    front_spelled _ _ _ (record_number c.args.node.rec) (begun c.load_head_part.new.words c.load_head_part-in-Wide.new.words) (reader_then (reader_then c.requires.reader e.reads) f.reads).1
-    (begun_loaded c.load_head_part.new.words c.load_head_part-in-Wide.new.words e.long e.loaded f.loaded)
-    (begun_long c.load_head_part.new.words c.load_head_part-in-Wide.new.words ∙ ap (λ n. 1 + n) f.long) (sym c.read_numbers-numbers.ensures.parts.3 ∙ c.in-Wide.is) m h led
+    let e = c.load_head_part.ensures in let f = c.load_head_part-in_default.ensures in
+    front_spelled _ _ _ (record_number c.args.node.rec) (begun c.load_head_part.new.words c.load_head_part-in_default.new.words) (reader_then (reader_then c.requires.reader e.reads) f.reads).1
+    (begun_loaded c.load_head_part.new.words c.load_head_part-in_default.new.words e.long e.loaded f.loaded)
+    (begun_long c.load_head_part.new.words c.load_head_part-in_default.new.words ∙ ap (λ n. 1 + n) f.long) (wide_by (get_or c.load_head_part.new.words 0 0) (omega arith) (omega arith)) m h led
 
-pub load_head_part-requires-in-Wide-2-clause-reader : goal.load_head_part-requires-in-Wide-2-clause-reader
-load_head_part-requires-in-Wide-2-clause-reader g c = reader_then (reader_then c.requires.reader c.load_head_part.ensures.reads) c.load_head_part-in-Wide.ensures.reads
+pub load_head_part-requires-in_default-2-clause-reader : goal.load_head_part-requires-in_default-2-clause-reader
+load_head_part-requires-in_default-2-clause-reader g c = reader_then (reader_then c.requires.reader c.load_head_part.ensures.reads) c.load_head_part-in_default.ensures.reads
 
-pub load_head_part-requires-in-Wide-2-clause-led : goal.load_head_part-requires-in-Wide-2-clause-led
-load_head_part-requires-in-Wide-2-clause-led g c =
+pub load_head_part-requires-in_default-2-clause-led : goal.load_head_part-requires-in_default-2-clause-led
+load_head_part-requires-in_default-2-clause-led g c =
     let (m, h, led) = c.requires.led in
-    (m, h, led_on m (Node (record_number c.args.node.rec) h) (reads_trans c.load_head_part.ensures.reads c.load_head_part-in-Wide.ensures.reads) led)
+    (m, h, led_on m (Node (record_number c.args.node.rec) h) (reads_trans c.load_head_part.ensures.reads c.load_head_part-in_default.ensures.reads) led)
 
-module _ (g : given.Over) (c : After-load_head_part-in-Wide-2 g) where
+module _ (g : given.Over) (c : After-load_head_part-in_default-2 g) where
   wide_is : kind_in (get_or c.load_head_part.new.words 0 0) ≡ Wide
-  wide_is = sym c.read_numbers-numbers.ensures.parts.3 ∙ c.in-Wide.is
+  wide_is = wide_by (get_or c.load_head_part.new.words 0 0) (omega arith) (omega arith)
 
-  front_size : length (begun c.load_head_part.new.words c.load_head_part-in-Wide.new.words) ≡ 9
-  front_size = begun_long c.load_head_part.new.words c.load_head_part-in-Wide.new.words ∙ ap (λ n. 1 + n) c.load_head_part-in-Wide.ensures.long
+  front_size : length (begun c.load_head_part.new.words c.load_head_part-in_default.new.words) ≡ 9
+  front_size = begun_long c.load_head_part.new.words c.load_head_part-in_default.new.words ∙ ap (λ n. 1 + n) c.load_head_part-in_default.ensures.long
 
   wide_words_are : (m h : ℕ) → IsLedTo c.args.seat.now.known m (Node (record_number c.args.node.rec) h) →
-      AreHeadWords c.load_head_part-in-Wide-2.new.seat.known m (record_number c.args.node.rec) h ((begun c.load_head_part.new.words c.load_head_part-in-Wide.new.words ++ c.load_head_part-in-Wide-2.new.words) ++ [])
+      AreHeadWords c.load_head_part-in_default-2.new.seat.known m (record_number c.args.node.rec) h ((begun c.load_head_part.new.words c.load_head_part-in_default.new.words ++ c.load_head_part-in_default-2.new.words) ++ [])
   wide_words_are m h led =
-      let e = c.load_head_part.ensures in let f = c.load_head_part-in-Wide.ensures in let b = c.load_head_part-in-Wide-2.ensures in
-      wide_read _ _ _ _ (record_number c.args.node.rec) (begun c.load_head_part.new.words c.load_head_part-in-Wide.new.words) c.load_head_part-in-Wide-2.new.words
+      let e = c.load_head_part.ensures in let f = c.load_head_part-in_default.ensures in let b = c.load_head_part-in_default-2.ensures in
+      wide_read _ _ _ _ (record_number c.args.node.rec) (begun c.load_head_part.new.words c.load_head_part-in_default.new.words) c.load_head_part-in_default-2.new.words
       (reader_then (reader_then (reader_then c.requires.reader e.reads) f.reads) b.reads).1
-      (begun_loaded c.load_head_part.new.words c.load_head_part-in-Wide.new.words e.long e.loaded f.loaded) b.loaded wide_is front_size b.long m h led
+      (begun_loaded c.load_head_part.new.words c.load_head_part-in_default.new.words e.long e.loaded f.loaded) b.loaded wide_is front_size b.long m h led
 
 pub search_row_words-slot-requires : goal.search_row_words-slot-requires
 search_row_words-slot-requires g c =
-    let d = (goal.at.search_row_words-slot-requires g c).After-load_head_part-in-Wide-2 in
+    let d = (goal.at.search_row_words-slot-requires g c).After-load_head_part-in_default-2 in
     let (m, h, led) = c.requires.led in
-    back_spelled (begun c.load_head_part.new.words c.load_head_part-in-Wide.new.words) c.load_head_part-in-Wide-2.new.words (wide_is g d) (front_size g d) c.load_head_part-in-Wide-2.ensures.long
+    back_spelled (begun c.load_head_part.new.words c.load_head_part-in_default.new.words) c.load_head_part-in_default-2.new.words (wide_is g d) (front_size g d) c.load_head_part-in_default-2.ensures.long
     (wide_words_are g d m h led)
 
-pub returns-in-Wide-clause-reads : goal.returns-in-Wide-clause-reads
-returns-in-Wide-clause-reads g c = (25, lit≤ tt, reads_trans (reads_trans c.load_head_part.ensures.reads c.load_head_part-in-Wide.ensures.reads) c.load_head_part-in-Wide-2.ensures.reads)
+pub returns-in_default-clause-reads : goal.returns-in_default-clause-reads
+returns-in_default-clause-reads g c = (25, lit≤ tt, reads_trans (reads_trans c.load_head_part.ensures.reads c.load_head_part-in_default.ensures.reads) c.load_head_part-in_default-2.ensures.reads)
 
-pub returns-in-Wide-clause-step : goal.returns-in-Wide-clause-step
-returns-in-Wide-clause-step g c = λ m h led.
-    let d = (goal.at.returns-in-Wide-clause-step g c).After-load_head_part-in-Wide-2 in
+pub returns-in_default-clause-step : goal.returns-in_default-clause-step
+returns-in_default-clause-step g c = λ m h led.
+    let d = (goal.at.returns-in_default-clause-step g c).After-load_head_part-in_default-2 in
     let are = wide_words_are g d m h led in
-    let front = begun c.load_head_part.new.words c.load_head_part-in-Wide.new.words in
-    let back = c.load_head_part-in-Wide-2.new.words in
+    let front = begun c.load_head_part.new.words c.load_head_part-in_default.new.words in
+    let back = c.load_head_part-in_default-2.new.words in
     let numbers = c.read_numbers-numbers.result in (
       are.head,
       are.seen,
       step_spelled ((front ++ back) ++ []) are numbers c.read_numbers-numbers.ensures.node _
-          (ap (λ i. get_or front i 0) c.index_of_first_position-in-Wide.ensures ∙ (sym (get_or_append_left front back 0 1 (omega (arith, front_size g d)))
+          (ap (λ i. get_or front i 0) c.index_of_first_position-in_default.ensures ∙ (sym (get_or_append_left front back 0 1 (omega (arith, front_size g d)))
           ∙ (sym (get_or_append_left (front ++ back) [] 0 1 (omega (arith, front_size g d, length-append front back)))
-          ∙ ap (λ kind. get_or ((front ++ back) ++ []) (mask_index kind 0) 0) (sym c.in-Wide.is))))
-          c.path_node-in-Wide.result (record_number c.args.node.rec) c.search_row_words-slot.result (rw c.number-number.ensures at c.path_node-in-Wide.ensures.same) c.path_node-in-Wide.ensures.node
+          ∙ ap (λ kind. get_or ((front ++ back) ++ []) (mask_index kind 0) 0) (sym (c.read_numbers-numbers.ensures.parts.3 ∙ wide_is g d)))))
+          c.path_node-in_default.result (record_number c.args.node.rec) c.search_row_words-slot.result (rw c.number-number.ensures at c.path_node-in_default.ensures.same) c.path_node-in_default.ensures.node
           ∙ ap (step_at are.head (record_number c.args.node.rec))
-          (wide_spot front back (wide_is g d) (front_size g d) c.load_head_part-in-Wide-2.ensures.long are c.args.key.now c.extract_dense_key-dense.result c.search_row_words-slot.result c.extract_dense_key-dense.ensures c.search_row_words-slot.ensures),
+          (wide_spot front back (wide_is g d) (front_size g d) c.load_head_part-in_default-2.ensures.long are c.args.key.now c.extract_dense_key-dense.result c.search_row_words-slot.result c.extract_dense_key-dense.ensures c.search_row_words-slot.ensures),
     )

@@ -1,10 +1,12 @@
 -- What is left is published, as one with the node beside it or alone.
-use Rattle.std.proofs.Common.{◌+◌, ◌*◌, arith, subst}
+use Rattle.std.proofs.Common.{◌+◌, ◌*◌, arith, subst, sym}
 use Rattle.record_words.specs.declared.TheConstants.{NODE_FIELDS}
 use Rattle.rowex_reading.proofs.Seeing.{later_trans}
 use Rattle.rowex_writing.specs.Changes.{IsTakeChange}
 use Rattle.rowex_writing.specs.Locks.{span_numbers}
+use Rattle.rowex_writing.specs.Merging.{HasClaimed, IsLeftOfNode}
 use Rattle.rowex_writing.specs.Spare.{by_gone}
+use Rattle.rowex_writing.specs.declared.job.Left.{Left}
 use Rattle.rowex_writing.proofs.Beside.{takes_on}
 use Rattle.rowex_writing.proofs.Keeping.{changed_since}
 use Rattle.rowex_writing.proofs.Leaving.{claimed_same, left_on, still_holds, still_later, still_on, still_taking}
@@ -72,10 +74,13 @@ try_merge-requires-clause-takes g c =
     takes_on c.args.table.now g.G.Gate.becomes (c.args.seat.now, c.args.gate.now) (c.find_merge.new.seat, c.find_merge.new.gate) c.args.job.now c.find_merge.ensures.reads.goes c.requires.takes
 
 pub try_merge-requires-clause-claimed : goal.try_merge-requires-clause-claimed
-try_merge-requires-clause-claimed g c = claimed_same c.requires.claimed c.find_merge.ensures.reads.own
+try_merge-requires-clause-claimed g c =
+    subst (λ (l : Left). HasClaimed c.args.table.now c.find_merge.new.seat.known l.number) (sym c.in-Some.ensures.left) (claimed_same c.requires.claimed c.find_merge.ensures.reads.own)
 
 pub try_merge-requires-clause-left : goal.try_merge-requires-clause-left
-try_merge-requires-clause-left g c = left_on c.args.seat.now.known c.find_merge.new.seat.known c.args.job.now c.args.left.now.words c.find_merge.ensures.reads.goes.stays.1 c.requires.left
+try_merge-requires-clause-left g c =
+    subst (λ (l : Left). IsLeftOfNode c.find_merge.new.seat.known c.args.job.now l.words) (sym c.in-Some.ensures.left)
+    (left_on c.args.seat.now.known c.find_merge.new.seat.known c.args.job.now c.args.left.now.words c.find_merge.ensures.reads.goes.stays.1 c.requires.left)
 
 pub returns-then-try_merge-clause-tries : goal.returns-then-try_merge-clause-tries
 returns-then-try_merge-clause-tries g c =
@@ -102,7 +107,8 @@ fill_left-raised-requires-2-clause-still g c =
     still_later c.args.table.now c.find_merge.new.seat c.try_merge.new.seat c.args.job.now (still_taking c.args.table.now c.find_merge.new.seat c.args.job.now takes) (c.try_merge.ensures.later c.if-try_merge.false) (s.0, s.1)
 
 pub fill_left-raised-requires-2-clause-claimed : goal.fill_left-raised-requires-2-clause-claimed
-fill_left-raised-requires-2-clause-claimed g c = (c.try_merge.ensures.same c.if-try_merge.false).2
+fill_left-raised-requires-2-clause-claimed g c =
+    subst (λ (l : Left). HasClaimed c.args.table.now c.try_merge.new.seat.known l.number) c.in-Some.ensures.left (c.try_merge.ensures.same c.if-try_merge.false).2
 
 pub fill_left-raised-requires-2-clause-left : goal.fill_left-raised-requires-2-clause-left
 fill_left-raised-requires-2-clause-left g c =

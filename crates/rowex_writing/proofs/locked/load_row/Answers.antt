@@ -17,12 +17,12 @@ returns-then-slot-ge-MAX_ENTRIES g c = record {
 
 pub load_locked_word-word-requires-clause-index : goal.load_locked_word-word-requires-clause-index
 load_locked_word-word-requires-clause-index g c =
-    let within = row_within c.args.numbers.kind c.args.slot (omega (arith, c.if-slot-ge-MAX_ENTRIES.false)) in omega (arith, c.index_of_row-index.ensures, within)
+    let within = row_within c.args.loads.numbers.kind c.args.slot (omega (arith, c.if-slot-ge-MAX_ENTRIES.false)) in omega (arith, c.index_of_row-index.ensures, within)
 
 pub returns-clause-own : goal.returns-clause-own
 returns-clause-own g c = seat_of c.args.table.now g.G.Gate.becomes (c.args.seat.now, c.args.gate.now) (c.load_locked_word-word.new.seat, c.load_locked_word-word.new.gate) c.load_locked_word-word.ensures.reads.goes c.requires.own
 
 pub returns-clause-row : goal.returns-clause-row
 returns-clause-row g c = λ view (words, h, is) told.
-    c.row_of.ensures view is.has.lawful told (head_word view words is (rows_from c.args.numbers.kind + c.args.slot / rows_a_word c.args.numbers.kind) (row_within c.args.numbers.kind c.args.slot (omega (arith, c.if-slot-ge-MAX_ENTRIES.false)))
+    c.row_of.ensures view is.has.lawful told (head_word view words is (rows_from c.args.loads.numbers.kind + c.args.slot / rows_a_word c.args.loads.numbers.kind) (row_within c.args.loads.numbers.kind c.args.slot (omega (arith, c.if-slot-ge-MAX_ENTRIES.false)))
     ∙ (ap (λ i. get_or words i 0) (sym c.index_of_row-index.ensures) ∙ sym (c.load_locked_word-word.ensures.word words h)))

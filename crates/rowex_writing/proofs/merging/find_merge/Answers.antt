@@ -100,5 +100,5 @@ returns-clause-beside g c =
     (reads_fixed c.args.table.now g.G.Gate.becomes c.in-Node.number 1 c.load_fixed-word.result (c.load_locked_entry.new.seat, c.load_locked_entry.new.gate) (c.load_fixed-word.new.seat, c.load_fixed-word.new.gate) c.load_fixed-word.ensures)).goes.stays.1 in
     let then = locked_on c.args.seat.now.known c.load_fixed-word.new.seat.known (upper c.args.job.now).number words upto h in
     beside_on c.args.seat.now.known c.load_position-position.new.seat.known c.args.job.now _ (c.load_position-position.ensures.reads.goes.stays.1 ∙ upto)
-    (found_beside c.args.table.now c.args.seat.now c.args.job.now c.requires.takes words h view node c.in-Some.slot c.in-Some.column forks c.in-Node.number c.in-Node.height c.load_position-position.result
+    (found_beside c.args.table.now c.args.seat.now c.args.job.now c.requires.takes words h view node c.in-Some.slot c.in-Some.column forks c.args.left c.in-Node.number c.in-Node.height c.load_position-position.result
     (c.load_position-position.ensures.position view (words, then, node)) (c.in-Node.ensures.entry words there))

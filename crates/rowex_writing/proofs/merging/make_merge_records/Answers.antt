@@ -28,7 +28,7 @@ returns-in_err-joined-clause-same g c = λ e. claimed_same c.requires.claimed c.
 pub raise_closed_fork-requires-clause-building : goal.raise_closed_fork-requires-clause-building
 raise_closed_fork-requires-clause-building g c =
     let table = c.args.table.now in
-    let n = c.args.left.now.number in
+    let n = c.args.merge.now.left.now.number in
     let reads = c.merge_siblings.ensures.reads in
     let own = seat_of table g.G.Gate.becomes (c.args.seat.now, c.args.gate.now) (c.merge_siblings.new.seat, c.merge_siblings.new.gate) reads.goes c.requires.wide.seat in
     let possible = goes_possible table g.G.Gate.becomes (c.args.seat.now, c.args.gate.now) (c.merge_siblings.new.seat, c.merge_siblings.new.gate) reads.goes c.requires.wide.possible in
@@ -53,12 +53,12 @@ raise_closed_fork-requires-clause-closes g c =
     let goes = goes_more c.args.table.now g.G.Gate.becomes (c.args.seat.now, c.args.gate.now) (c.merge_siblings.new.seat, c.merge_siblings.new.gate) (c.fill_node.new.seat, c.fill_node.new.gate) c.merge_siblings.ensures.reads.goes
     (set_all_on c.args.table.now g.G.Gate.becomes _ _ _ _ c.fill_node.ensures.fills) in (
       c.args.job.now.key.now,
-      subst (λ h. ClosesFork c.fill_node.new.seat.known c.args.job.now.key.now (record { step = upper c.args.job.now; slot = c.args.merge.now.slot; entry = Node c.args.left.now.number h })) (sym c.height.ensures)
-          (closes_for c.args.table.now g.G.Gate.becomes (c.args.seat.now, c.args.gate.now) (c.fill_node.new.seat, c.fill_node.new.gate) c.args.job.now c.args.merge.now goes c.requires.wide c.requires.beside c.in_ok-joined.joined c.in_ok-joined.ensures.joined c.args.left.now.number),
+      subst (λ h. ClosesFork c.fill_node.new.seat.known c.args.job.now.key.now (record { step = upper c.args.job.now; slot = c.args.merge.now.slot; entry = Node c.args.merge.now.left.now.number h })) (sym c.height.ensures)
+          (closes_for c.args.table.now g.G.Gate.becomes (c.args.seat.now, c.args.gate.now) (c.fill_node.new.seat, c.fill_node.new.gate) c.args.job.now c.args.merge.now goes c.requires.wide c.requires.beside c.in_ok-joined.joined c.in_ok-joined.ensures.joined c.args.merge.now.left.now.number),
     )
 
 pub raise_closed_fork-requires-clause-room : goal.raise_closed_fork-requires-clause-room
-raise_closed_fork-requires-clause-room g c = omega (arith, ap length (c.push.ensures.items ∙ ap (λ z. z ++ a_node c.args.left.now.number ∷ []) c.clear.ensures))
+raise_closed_fork-requires-clause-room g c = omega (arith, ap length (c.push.ensures.items ∙ ap (λ z. z ++ a_node c.args.merge.now.left.now.number ∷ []) c.clear.ensures))
 
 pub returns-in_err-entry-clause-goes : goal.returns-in_err-entry-clause-goes
 returns-in_err-entry-clause-goes g c =
@@ -68,7 +68,7 @@ returns-in_err-entry-clause-goes g c =
 
 pub returns-in_err-entry-clause-same : goal.returns-in_err-entry-clause-same
 returns-in_err-entry-clause-same g c = λ e.
-    let again = claimed_again c.args.table.now g.G.Gate.becomes c.args.left.now.number c.pack_node.result (c.merge_siblings.new.seat, c.merge_siblings.new.gate) (c.fill_node.new.seat, c.fill_node.new.gate)
+    let again = claimed_again c.args.table.now g.G.Gate.becomes c.args.merge.now.left.now.number c.pack_node.result (c.merge_siblings.new.seat, c.merge_siblings.new.gate) (c.fill_node.new.seat, c.fill_node.new.gate)
     (claimed_same c.requires.claimed c.merge_siblings.ensures.reads.own) c.fill_node.ensures.fills in
     claimed_same again (c.in_err-entry.ensures.same refl).0
 
@@ -82,7 +82,7 @@ pub returns-clause-may : goal.returns-clause-may
 returns-clause-may g c =
     let table = c.args.table.now in
     let job = c.args.job.now in
-    let n = c.args.left.now.number in
+    let n = c.args.merge.now.left.now.number in
     let reads = c.merge_siblings.ensures.reads in
     let own = seat_of table g.G.Gate.becomes (c.args.seat.now, c.args.gate.now) (c.merge_siblings.new.seat, c.merge_siblings.new.gate) reads.goes c.requires.wide.seat in
     let possible = goes_possible table g.G.Gate.becomes (c.args.seat.now, c.args.gate.now) (c.merge_siblings.new.seat, c.merge_siblings.new.gate) reads.goes c.requires.wide.possible in

@@ -95,8 +95,8 @@ merge_under_locks-requires-clause-claimed g c = claimed_same c.requires.claimed 
 pub merge_under_locks-requires-clause-left : goal.merge_under_locks-requires-clause-left
 merge_under_locks-requires-clause-left g c =
     let (w, locks, anchor) = c.lock_for_merge.ensures.wide c.if-not-lock_for_merge.false in
-    left_on c.lock_for_merge.new.seat.known c.is_unchanged.new.seat.known c.args.job.now c.args.left.now.words c.is_unchanged.ensures.reads.goes.stays.1
-    (left_wider c.args.table.now c.lock_for_merge.new.seat c.args.job.now c.args.merge.now.number w c.args.seat.now.known c.args.left.now.words locks c.requires.left)
+    left_on c.lock_for_merge.new.seat.known c.is_unchanged.new.seat.known c.args.job.now c.args.merge.now.left.now.words c.is_unchanged.ensures.reads.goes.stays.1
+    (left_wider c.args.table.now c.lock_for_merge.new.seat c.args.job.now c.args.merge.now.number w c.args.seat.now.known c.args.merge.now.left.now.words locks c.requires.left)
 
 pub merge_under_locks-requires-clause-loaded : goal.merge_under_locks-requires-clause-loaded
 merge_under_locks-requires-clause-loaded g c = c.is_unchanged.ensures.same c.if-not-is_unchanged.false

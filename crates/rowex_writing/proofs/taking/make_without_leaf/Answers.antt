@@ -1,11 +1,11 @@
 -- The way has one node.
 use Rattle.rowex_writing.proofs.Spare.{low_spares}
-use Rattle.std.proofs.Common.{refl, arith}
+use Rattle.std.proofs.Common.{None, refl, arith}
 use Rattle.std.proofs.lemmas.Result.{IfErr-weaker}
 use Rattle.rowex_writing.specs.Locks.{locks_of}
 use Rattle.rowex_writing.proofs.Counting.{deed_least}
 use Rattle.rowex_writing.proofs.Raised.{nodes_alone, taken_raised}
-use Rattle.rowex_writing.proofs.Removing.{found_key, take_below, take_top}
+use Rattle.rowex_writing.proofs.Removing.{found_leaf, take_below, take_top}
 use Rattle.rowex_writing.proofs.taking.make_without_leaf.Goals as goal
 use Rattle.rowex_writing.specs.declared.plan.Deed.TheVariants.{TakeTop}
 
@@ -13,16 +13,17 @@ pub remake_without_leaf-requires-clause-below : goal.remake_without_leaf-require
 remake_without_leaf-requires-clause-below g c =
     let job = c.args.job.now in
     let (m, aim, taken, planned) = c.requires.taken in
-    (m, c.in-Leaf.value, take_below c.args.table.now c.args.seat.now m job aim TakeTop tt taken planned c.in-Leaf.number c.in-Leaf.value c.in-Leaf.mismatch c.in-Leaf.is (take_top c.args.seat.now.known m job aim TakeTop tt planned refl))
+    let (number, value, same) = found_leaf c.args.seat.now.known m job aim TakeTop tt planned in
+    (m, number, value, take_below c.args.table.now c.args.seat.now m job aim TakeTop tt taken planned number value None same (take_top c.args.seat.now.known m job aim TakeTop tt planned refl))
 
 pub returns-clause-done : goal.returns-clause-done
 returns-clause-done g c = record {
   goes = c.remake_without_leaf.ensures.goes;
   raised = (let job = c.args.job.now in
       let (m, aim, taken, planned) = c.requires.taken in
-      let below = take_below c.args.table.now c.args.seat.now m job aim TakeTop tt taken planned c.in-Leaf.number c.in-Leaf.value c.in-Leaf.mismatch c.in-Leaf.is (take_top c.args.seat.now.known m job aim TakeTop tt planned refl) in
-      let same = found_key c.args.table.now c.args.seat.now m job aim TakeTop tt taken planned c.in-Leaf.number c.in-Leaf.value c.in-Leaf.mismatch c.in-Leaf.is in
-      taken_raised c.args.table.now c.args.seat.now.known c.remake_without_leaf.new.seat c.remake_without_leaf.new.build.made.items job c.in-Leaf.number c.in-Leaf.value c.remake_without_leaf.result same (c.remake_without_leaf.ensures.raised m c.in-Leaf.value below));
+      let (number, value, same) = found_leaf c.args.seat.now.known m job aim TakeTop tt planned in
+      let below = take_below c.args.table.now c.args.seat.now m job aim TakeTop tt taken planned number value None same (take_top c.args.seat.now.known m job aim TakeTop tt planned refl) in
+      taken_raised c.args.table.now c.args.seat.now.known c.remake_without_leaf.new.seat c.remake_without_leaf.new.build.made.items job number value c.remake_without_leaf.result same (c.remake_without_leaf.ensures.raised m number value below));
   full = IfErr-weaker c.remake_without_leaf.result _ _ (λ full h. h.1) c.remake_without_leaf.ensures.full;
   few = (let least = deed_least c.args.table.now.layout (locks_of c.args.job.now.span) c.remake_without_leaf.result in omega (arith, c.remake_without_leaf.ensures.walk, least));
 }
@@ -38,5 +39,6 @@ pub returns-clause-spares : goal.returns-clause-spares
 returns-clause-spares g c = λ was.
     let job = c.args.job.now in
     let (m, aim, taken, planned) = c.requires.taken in
-    let below = take_below c.args.table.now c.args.seat.now m job aim TakeTop tt taken planned c.in-Leaf.number c.in-Leaf.value c.in-Leaf.mismatch c.in-Leaf.is (take_top c.args.seat.now.known m job aim TakeTop tt planned refl) in
+    let (number, value, same) = found_leaf c.args.seat.now.known m job aim TakeTop tt planned in
+    let below = take_below c.args.table.now c.args.seat.now m job aim TakeTop tt taken planned number value None same (take_top c.args.seat.now.known m job aim TakeTop tt planned refl) in
     low_spares c.args.table.now.layout c.remake_without_leaf.new.seat c.remake_without_leaf.new.build.made.items job c.remake_without_leaf.result (omega (arith, below.last)) taken.within.1 c.remake_without_leaf.ensures.lowest

@@ -4,7 +4,11 @@ use Rattle.std.proofs.lemmas.Option.{slice_get_within}
 use Rattle.record_words.specs.Entry.{HasEntryWord}
 use Rattle.record_words.specs.declared.layout.Layout.{Layout}
 use Rattle.rowex_writing.specs.Building.{IsBuilding}
+use Rattle.tries.specs.Content.{item}
+use Rattle.version_laws.specs.Writer.{removed_change}
 use Rattle.rowex_writing.specs.Counts.{level_steps}
+use Rattle.rowex_writing.specs.Deeds.{MayReplace}
+use Rattle.rowex_writing.specs.declared.job.Raised.{Raised}
 use Rattle.rowex_writing.specs.Walks.{nodes_among}
 use Rattle.rowex_writing.proofs.Growths.{lacks_nodes}
 use Rattle.rowex_writing.proofs.Keeping.{step_nodes}
@@ -17,26 +21,26 @@ use Rattle.rowex_writing.proofs.taking.remake_without_leaf.Goals as goal
 pub raise_without_leaf-requires-clause-locked : goal.raise_without_leaf-requires-clause-locked
 raise_without_leaf-requires-clause-locked g c =
     let job = c.args.job.now in
-    let (m, value, b) = c.requires.below in
-    let at = low_step c.args.table.now c.args.seat.now m job c.args.number value b in
-    lowest_locked c.args.table.now c.args.seat.now m job c.args.number value b _ at
+    let (m, number, value, b) = c.requires.below in
+    let at = low_step c.args.table.now c.args.seat.now m job number value b in
+    lowest_locked c.args.table.now c.args.seat.now m job number value b _ at
 
 pub raise_without_leaf-requires-clause-place : goal.raise_without_leaf-requires-clause-place
 raise_without_leaf-requires-clause-place g c =
     let job = c.args.job.now in
-    let (m, value, b) = c.requires.below in
-    let at = low_step c.args.table.now c.args.seat.now m job c.args.number value b in
-    (job.key.now, lowest_leads c.args.table.now c.args.seat.now m job c.args.number value b _ at)
+    let (m, number, value, b) = c.requires.below in
+    let at = low_step c.args.table.now c.args.seat.now m job number value b in
+    (job.key.now, lowest_leads c.args.table.now c.args.seat.now m job number value b _ at)
 
 pub returns-in_default-clause-full : goal.returns-in_default-clause-full
 returns-in_default-clause-full g c =
     let job = c.args.job.now in
-    let (m, value, b) = c.requires.below in
-    let at = low_step c.args.table.now c.args.seat.now m job c.args.number value b in
-    let (words, h) = lowest_locked c.args.table.now c.args.seat.now m job c.args.number value b _ at in (
+    let (m, number, value, b) = c.requires.below in
+    let at = low_step c.args.table.now c.args.seat.now m job number value b in
+    let (words, h) = lowest_locked c.args.table.now c.args.seat.now m job number value b _ at in (
       refl,
       record {
-        not_made = c.in_default.ensures.made job.key.now words (lowest_leads c.args.table.now c.args.seat.now m job c.args.number value b _ at) h;
+        not_made = c.in_default.ensures.made job.key.now words (lowest_leads c.args.table.now c.args.seat.now m job number value b _ at) h;
         few = omega (arith, ap length c.requires.made, c.raise_without_leaf.ensures.makes.more);
         full_of = lacks_nodes c.args.table.now.layout c.args.seat.now.known c.raise_without_leaf.new.seat.known job.way.now job.span c.raise_without_leaf.new.build.made.items c.args.seat.now.known.steps
             (step_nodes c.args.table.now.layout c.args.seat.now.known m job.key.now job.way.now _ b.taken.way_of) b.taken.locked c.raise_without_leaf.ensures.makes.goes.stays.1 b.taken.within.0 b.taken.within.1 (omega (arith, b.last))
@@ -47,20 +51,28 @@ returns-in_default-clause-full g c =
     )
 
 pub returns-clause-raised : goal.returns-clause-raised
-returns-clause-raised g c = λ m value b.
+returns-clause-raised g c = λ m number value b.
     let job = c.args.job.now in
     let table = c.args.table.now in
-    let at = low_step c.args.table.now c.args.seat.now m job c.args.number value b in
-    let (words, h) = lowest_locked table c.args.seat.now m job c.args.number value b _ at in
-    let (news, side, building) = c.in-Some.ensures.made job.key.now words (lowest_leads table c.args.seat.now m job c.args.number value b _ at) h in
+    let at = low_step c.args.table.now c.args.seat.now m job number value b in
+    let (words, h) = lowest_locked table c.args.seat.now m job number value b _ at in
+    let (news, side, building) = c.in-Some.ensures.made job.key.now words (lowest_leads table c.args.seat.now m job number value b _ at) h in
     let low : IsRaised c.in-Some.entry = left_raised table.layout c.args.seat.now.known _ words job.key.now c.in-Some.entry news b.taken.possible h side in
     let word : HasEntryWord (Some c.in-Some.entry) = search (rules, low) in
-    replaces_alone table c.args.seat.now m job c.args.number value b c.raise_without_leaf.new.seat c.raise_without_leaf.new.build.made.items news words h c.in-Some.entry (let stays = c.raise_without_leaf.ensures.makes.goes.stays in (stays.0, stays.1, stays.2)) building side word
-    (omega (arith, ap length c.requires.made, c.raise_without_leaf.ensures.makes.more))
+    subst (λ r. MayReplace table c.raise_without_leaf.new.seat c.raise_without_leaf.new.build.made.items job r (removed_change c.args.seat.now.known.pass (item number job.key.now value)) (Some value))
+    (sym (c.put_in_place.ensures.same number value b.is_found))
+    (replaces_alone table c.args.seat.now m job number value b c.raise_without_leaf.new.seat c.raise_without_leaf.new.build.made.items news words h c.in-Some.entry (let stays = c.raise_without_leaf.ensures.makes.goes.stays in (stays.0, stays.1, stays.2)) building side word
+    (omega (arith, ap length c.requires.made, c.raise_without_leaf.ensures.makes.more)))
+
+pub put_in_place-requires : goal.put_in_place-requires
+put_in_place-requires g c = let (m, number, value, b) = c.requires.below in record { found = (number, value, b.is_found) }
+
+pub returns-clause-lowest : goal.returns-clause-lowest
+returns-clause-lowest g c = let (m, number, value, b) = c.requires.below in ap (λ (r : Raised). r.low) (c.put_in_place.ensures.same number value b.is_found)
 
 pub raise_without_leaf-requires-clause-building : goal.raise_without_leaf-requires-clause-building
 raise_without_leaf-requires-clause-building g c =
-    let (m, value, b) = c.requires.below in
+    let (m, number, value, b) = c.requires.below in
     subst (λ z. IsBuilding c.args.table.now c.args.seat.now z []) (sym c.requires.made) (building_none c.args.table.now c.args.seat.now b.taken.seat b.taken.possible b.taken.own)
 
 pub raise_without_leaf-requires-clause-room : goal.raise_without_leaf-requires-clause-room
@@ -69,20 +81,20 @@ raise_without_leaf-requires-clause-room g c = omega (arith, ap length c.requires
 pub bounds-job-job : goal.bounds-job-job
 bounds-job-job g c =
     let job = c.args.job.now in
-    let (m, value, b) = c.requires.below in
-    slice_get_within job.way.now job.span.end _ (low_step c.args.table.now c.args.seat.now m job c.args.number value b)
+    let (m, number, value, b) = c.requires.below in
+    slice_get_within job.way.now job.span.end _ (low_step c.args.table.now c.args.seat.now m job number value b)
 
 pub offset_bounds-job-job : goal.offset_bounds-job-job
 offset_bounds-job-job g c =
     let job = c.args.job.now in
-    let (m, value, b) = c.requires.below in
-    let h = slice_get_within job.way.now job.span.end _ (low_step c.args.table.now c.args.seat.now m job c.args.number value b) in search (rules, h)
+    let (m, number, value, b) = c.requires.below in
+    let h = slice_get_within job.way.now job.span.end _ (low_step c.args.table.now c.args.seat.now m job number value b) in search (rules, h)
 
 pub raise_without_leaf-requires-clause-range : goal.raise_without_leaf-requires-clause-range
 raise_without_leaf-requires-clause-range g c =
     let job = c.args.job.now in
-    let (m, value, b) = c.requires.below in
-    (b.taken.way_of.nodes job.span.end _ (low_step c.args.table.now c.args.seat.now m job c.args.number value b)).2.range
+    let (m, number, value, b) = c.requires.below in
+    (b.taken.way_of.nodes job.span.end _ (low_step c.args.table.now c.args.seat.now m job number value b)).2.range
 
 pub returns-in_default-clause-walk : goal.returns-in_default-clause-walk
 returns-in_default-clause-walk g c =
@@ -98,5 +110,5 @@ returns-clause-walk g c =
 
 pub returns-in_default-clause-finds : goal.returns-in_default-clause-finds
 returns-in_default-clause-finds g c = λ room is.
-    let (m, value, b) = c.requires.below in
+    let (m, number, value, b) = c.requires.below in
     c.raise_without_leaf.ensures.finds (ap (λ (z : Layout). z.nodes) c.layout.ensures) b.taken.own room c.in_default.is
