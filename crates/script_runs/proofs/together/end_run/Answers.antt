@@ -9,14 +9,17 @@ pub meet_all_passes-handle-requires : goal.meet_all_passes-handle-requires
 meet_all_passes-handle-requires g c = rw (c.deref_mut-met.ensures.value, c.in_ok-done.ensures.scripts) c.requires.index
 
 pub run_last_script-requires-clause-index : goal.run_last_script-requires-clause-index
-run_last_script-requires-clause-index g c = at_own c.args.handle.index c.meet_all_passes-handle.result c.meet_all_passes-handle.new.done c.meet_all_passes-handle.ensures.index
+run_last_script-requires-clause-index g c =
+    at_own c.args.handle.index c.meet_all_passes-handle.result c.meet_all_passes-handle.new.done c.meet_all_passes-handle.ensures.index
 
 pub run_last_script-requires-clause-few : goal.run_last_script-requires-clause-few
 run_last_script-requires-clause-few g c =
-    let met = met_long c.args.handle.index c.args.handle.pass c.meet_all_passes-handle.result.pass c.deref_mut-met.result.now c.meet_all_passes-handle.new.done c.meet_all_passes-handle.ensures.met in
+    let k = c.args.handle in
+    let j = c.meet_all_passes-handle.result in
+    let long = met_long k.index k.pass j.pass c.deref_mut-met.result.now c.meet_all_passes-handle.new.done c.meet_all_passes-handle.ensures.met in
     omega (
       arith,
-      met,
+      long,
       ap length c.deref_mut-met.ensures.value,
       ap length c.in_ok-done.ensures.scripts,
       length-map c.args.ran.items (λ r. r.0),

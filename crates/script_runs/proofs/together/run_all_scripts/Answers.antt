@@ -24,9 +24,10 @@ pub end_run-requires-clause-index : goal.end_run-requires-clause-index
 end_run-requires-clause-index g c =
     let index = c.in_ok-index.index in
     let passes = c.in_ok-index.passes.items in
+    let scripts = map script_commands c.args.scripts.now in
     rw c.new.ensures (
       refl,
-      done_at g.G.Gate.becomes index (map (handle_at index) passes) c.args.gates.items (map script_commands c.args.scripts.now) c.in_ok-ran.ran.items (all_at index passes)
+      done_at g.G.Gate.becomes index (map (handle_at index) passes) c.args.gates.items scripts c.in_ok-ran.ran.items (all_at index passes)
           (rw c.in_ok-handles.ensures at c.in_ok-ran.ensures),
     )
 
