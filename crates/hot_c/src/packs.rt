@@ -11,6 +11,13 @@ use crate::scans::fill_list;
 use crate::status::DONE;
 use packed_pairs::{Head, Pairs};
 
+/// Where packed pairs go: the bytes of their keys, one after another, and a head for each.
+#[derive(Drop)]
+struct Room<'a> {
+    bytes: &'a mut [u8],
+    heads: &'a mut [Head],
+}
+
 /// Lists the first pairs whose keys are from `from` to `upto`, both included, in key order, packed. The bytes of their keys go to
 /// `bytes`, one after another, and a head for each to `heads`. It lists at most as many as `heads` has places, and only the first of these,
 /// whose keys together have room in `bytes`. `count` is their number then, and `more` 1 if the range has more, else 0: `DONE`. With
@@ -31,7 +38,7 @@ pub extern "C" fn hot_scan_packed(
 {
     let order = Order::Upwards;
     let query = Query { order, from, upto };
-    list_packed_pairs(handle, &query, bytes, heads, count, more)
+    list_packed_pairs(handle, &query, Room { bytes, heads }, count, more)
 }
 
 /// Lists the last pairs whose keys are from `from` to `upto`, both included, in falling key order, packed as by `hot_scan_packed`.
@@ -52,22 +59,23 @@ pub extern "C" fn hot_scan_packed_reverse(
 {
     let order = Order::Downwards;
     let query = Query { order, from, upto };
-    list_packed_pairs(handle, &query, bytes, heads, count, more)
+    list_packed_pairs(handle, &query, Room { bytes, heads }, count, more)
 }
 
-/// Lists pairs of `query`, packed as by `hot_scan_packed`, with its statuses: for `Upwards` the first ones, else the last ones, downwards.
+/// Lists pairs of `query` into `room`, packed as by `hot_scan_packed`, with its statuses: for `Upwards` the first ones, else the last ones,
+/// downwards.
 fn list_packed_pairs(
     handle: &mut Handle,
     query: &Query,
-    bytes: &mut [u8],
-    heads: &mut [Head],
+    room: Room<'_>,
     count: &mut usize,
     more: &mut u32,
 ) -> u32
     ensures call { ListsPackedBy (IsFilledIn query.now.order) query.now.from.now query.now.upto.now handle.old.slot.opened handle.new.slot.opened
-        (packing bytes.old heads.old count.old more.old) (packing bytes.new heads.new count.new more.new) result }
+        (packing room.entry.bytes.now room.entry.heads.now count.old more.old) (packing room.exit.0.now room.exit.1.0.now count.new more.new) result }
     ensures place { handle.new.place ≡ handle.old.place }
 {
+    let Room { bytes, heads } = room;
     match fill_list(handle, query, heads.len()) {
         Ok((found, is_more)) => {
             let opened = handle.slot.lend();

@@ -30,23 +30,24 @@ fn put_both<'a, R: Wait>(
     handle
 }
 
-/// Inserts keys by two threads, each with the handle of a new pass: `ash` and `oak` by the first, `oak` and `yew` by the second. Then it lets
-/// these passes meet, which are all of the index, and returns the handles. Their calls have ended in one run, and so are linearizable.
+/// Inserts keys by two threads, each with one of `handles`, of new passes: `ash` and `oak` by the first, `oak` and `yew` by the second.
+/// Then it lets these passes meet, which are all of the index, and returns the handles. Their calls have ended in one run, and so are
+/// linearizable.
 fn fill_together<'a, R: Threads + Wait + Sync>(
     rt: &R,
-    first: Handle<&'a Index>,
-    second: Handle<&'a Index>,
+    handles: (Handle<&'a Index>, Handle<&'a Index>),
     ash: &Key,
     oak: &Key,
     yew: &Key,
 ) -> (Handle<&'a Index>, Handle<&'a Index>)
-    requires index { second.index ≡ first.index }
-    requires alone { first.index.layout.passes ≡ 2 }
-    requires first { IsNewPass 0 first.pass }
-    requires second { IsNewPass 1 second.pass }
-    ensures { HaveEnded first.entry.index (Insert ash.now 1 ∷ Insert oak.now 2 ∷ []) (Insert oak.now 3 ∷ Insert yew.now 4 ∷ []) result.0 result.1 }
+    requires index { handles.1.index ≡ handles.0.index }
+    requires alone { handles.0.index.layout.passes ≡ 2 }
+    requires first { IsNewPass 0 handles.0.pass }
+    requires second { IsNewPass 1 handles.1.pass }
+    ensures { HaveEnded handles.entry.0.index (Insert ash.now 1 ∷ Insert oak.now 2 ∷ []) (Insert oak.now 3 ∷ Insert yew.now 4 ∷ []) result.0 result.1 }
 {
     // Each thread has a handle of its own: a pass, at the index.
+    let (first, second) = handles;
     let (first, second) = join(
         rt,
         || -> Handle<&Index>
@@ -84,7 +85,7 @@ fn run_example<R: Threads + Wait + AllocGlobal + Print + Sync>(rt: &R) -> io::Re
     };
     let (ash, oak, yew) = (key("ash")?, key("oak")?, key("yew")?);
     let (first, second) = (Handle::new(&index, first), Handle::new(&index, second));
-    let (mut first, second) = fill_together(rt, first, second, &ash, &oak, &yew);
+    let (mut first, second) = fill_together(rt, (first, second), &ash, &oak, &yew);
     let counts = [first.count(), second.count()];
     print_reads(rt, &mut first, total(&counts))
 }
