@@ -87,9 +87,11 @@ pub(crate) fn load_entries_ahead<G: Gate, S: Tallies>(
         sink.size(),
     ));
     let node = RecordAt::find(scan.origins, Rec::Node(top.number));
+    // Taken out of the loop by hand: each load in it is an atomic one, behind which the compiler reads memory again.
+    let (direction, top) = (scan.range.direction, *top);
     let mut leaves = [0; MOST_AHEAD as usize];
     for index in 0..count {
-        let slot = slot_ahead(scan.range.direction, *top, index);
+        let slot = slot_ahead(direction, top, index);
         match load_entry(scan.table, seat, gate, node, slot) {
             Entry::Node { number, .. } => {
                 return Ahead {
