@@ -73,6 +73,9 @@ pub(crate) fn find_start<G: Gate>(
 ///
 /// Else the leaf's key first differs from it at `found.mismatch`, and so do the keys of all entries that this position affects. All other
 /// keys part from it before that position. So the scan starts at the first affected entry, or behind the last if the key has a 1 there.
+///
+/// Always inline: a call that takes `scan` makes the compiler read the scan's direction again at each slot.
+#[inline(always)]
 fn find_start_of_upward_scan<G: Gate>(
     scan: &Scan,
     seat: &mut TableSeat,
