@@ -72,7 +72,7 @@ fn fill_node(rt: &impl Abort, table: &HotTable, seat: &mut TableSeat)
 {
     let node = Rec::Node(0);
     assert!(rt; claim_if_free(table, seat, node));
-    table.fill_at(seat, &mut NoGate, table.locate(node), 1, 7);
+    table.fill(seat, &mut NoGate, node, 1, 7);
     assert!(rt; table.load_fixed(seat, &mut NoGate, node, 1) == 7);
 }
 

@@ -80,8 +80,17 @@ impl HotTable {
         self.compare_exchange_at::<Brand, G>(seat, gate, act, at.start, Exchange { expected, new })
     }
 
-    /// Stores `word` at `offset` of the record `at`, which the pass holds. `offset` is that of a word of the record, and not 0, where the
-    /// state stands.
+    /// Stores `word` at `offset` of `rec`, which the pass holds. `offset` is that of a word of `rec`, and not 0, where the state stands.
+    pub fn fill<G: Gate>(&self, seat: &mut TableSeat, gate: &mut G, rec: Rec, offset: u8, word: u64)
+        requires own { IsSeatOf self.now seat.old }
+        requires range { HasRecord self.now.layout rec × IsOffset rec offset × HasWord self.now.layout rec offset }
+        requires may { MayStep self.now.layout (λ _. Fill rec offset word) seat.old.known }
+        ensures { Steps self.now G.becomes (Fill rec offset word) (seat.old, gate.old) (seat.new, gate.new) }
+    {
+        self.fill_at(seat, gate, self.locate(rec), offset, word);
+    }
+
+    /// Stores `word` at `offset` of the record `at`, which the pass holds. `offset` is as for `fill`.
     #[inline(always)]
     pub fn fill_at<G: Gate>(
         &self,
