@@ -25,10 +25,11 @@
  * Keys in calls. A key, a prefix or an end of a range that has more than HOT_MAX_KEY bytes is refused as HOT_KEY_TOO_LONG by each call.
  * The value that a key had is written to `had` if the call says so, and else `had` stays as it is; it may be NULL, if it is not wanted.
  *
- * What the library relies on, and doesn't check. No pointer is NULL but `had` and `context`, not even a key's if its length is 0; each points
- * to what its type says, and what a call writes overlaps no other argument. A handle is zeroed before it is opened, and the program never copies,
- * moves or writes its bytes. malloc, realloc and free belong to one allocator, and 16 bytes or more begin at a multiple of 16. No call is
- * made from a signal handler, or after a fork in the child of a process with threads. A call has 48 KiB of stack.
+ * What the library relies on, and doesn't check. No pointer is NULL but `had`, `context` and where a call says so, not even a key's if its
+ * length is 0; each points to what its type says, and what a call writes overlaps no other argument. A handle is zeroed before it is
+ * opened, and the program never copies, moves or writes its bytes. malloc, realloc and free belong to one allocator, and 16 bytes or more
+ * begin at a multiple of 16. No call is made from a signal handler, or after a fork in the child of a process with threads. A call has 48
+ * KiB of stack.
  *
  * A call fails only by its status. None waits for another, except hot_insert, hot_upsert, hot_exchange, hot_remove, hot_remove_if and
  * hot_add; hot_copy, hot_clear, hot_clear_range, hot_pop_first and hot_pop_last, which make such calls; hot_open and hot_stamp, for each
@@ -251,9 +252,11 @@ hot_status hot_number(hot_handle *handle, uint16_t *number);
 hot_status hot_get(hot_handle *handle, const uint8_t *key, size_t length, uint64_t *value);
 
 /* What values point to. A reader may still follow a value that another thread has just taken out of the index. So readers look up, and use
- * what they found, inside a section of their handle. Who takes a value out, or replaces it, notes a moment behind that, and frees what the
- * value points to once the moment is past. Sections hold no records of the index back, and calls inside one are as any other. A handle that
- * never enters a section costs nothing then. These calls wait for none; their loads and stores count as no steps. */
+ * what they found, inside a section of their handle. They see what was written to it before the call that stored the value. (No
+ * ThreadSanitizer sees the library's steps; hot.hpp tells it of calls and sections.) Who takes a value out, or replaces it, notes a moment
+ * behind that, and frees what the value points to once the moment is past. Sections hold no records of the index back, and calls inside
+ * one are as any other. A handle that never enters a section costs nothing then. These calls wait for none; their loads and stores count
+ * as no steps. */
 
 /* Enters the handle's section. It makes one load and one store, and one exchange more at the first time.
  * HOT_DONE; or HOT_INSIDE if it is open already, or HOT_CLOSED. */
@@ -446,7 +449,7 @@ hot_status hot_first(hot_handle *handle, const uint8_t *from, size_t length, hot
 hot_status hot_last(hot_handle *handle, const uint8_t *upto, size_t length, hot_pair *pair);
 
 /* Counts the keys from `from` to `upto`, both included, and writes their number to `count`: that of the pairs that hot_scan could list in
- * its place, if it had room for all. It reads few of the keys.
+ * its place, if it had room for all. It reads few of the keys. The last key with a prefix is the prefix, filled up to HOT_MAX_KEY bytes of 255.
  * HOT_DONE; or HOT_KEY_TOO_LONG, HOT_CLOSED, and then nothing was written. */
 hot_status hot_count(hot_handle *handle, const uint8_t *from, size_t from_length, const uint8_t *upto, size_t upto_length, size_t *count);
 

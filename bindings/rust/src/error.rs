@@ -90,6 +90,13 @@ impl From<Error> for LoadError {
     }
 }
 
+impl From<LoadError> for Error {
+    /// Why it was refused, without how many pairs came before.
+    fn from(why: LoadError) -> Self {
+        why.error
+    }
+}
+
 impl fmt::Display for LoadError {
     fn fmt(&self, to: &mut fmt::Formatter<'_>) -> fmt::Result {
         match self.error {
