@@ -12,7 +12,7 @@ use Rattle.key_bits.specs.declared.TheConstants.{MAX_BYTES}
 use Rattle.finite_map.specs.Maps.{key_order}
 use Rattle.finite_map.specs.Scans.{is_within}
 use Rattle.key_ranges.specs.Ranges.{HasPrefix, IsNextKey, IsPreviousKey, NoKeyAbove, last_with}
-use Rattle.key_ranges.proofs.Prefixes.{prefix_is_range}
+use Rattle.key_ranges.proofs.Prefixes.{between, not_below as not_over, not_over as not_under, prefix_is_range}
 use Rattle.hot_c.specs.Calls.{FitsInKey}
 use Rattle.hot_c.specs.Orders.{Answer}
 use Rattle.hot_c.specs.Prefixes.{HasPrefixAbove, HasPrefixBelow, IsRangeOf, ListsRest}
@@ -65,29 +65,6 @@ below_up_to one other key l n = by (key_order other key) refl n
 
 up_to_up_to : (one other key : List ℕ) → IsUpTo one other → IsUpTo other key → IsUpTo one key
 up_to_up_to one other key m n = not_below key one (λ l. not_above other key n (below_up_to key one other l m))
-
-between : (o p : Ordering) → o ≢ Greater → p ≢ Less → IsTrue (is_le o && not (is_lt p))
-between Greater p n m = absurd (n refl)
-between Less Less n m = absurd (m refl)
-between Less Equal n m = refl
-between Less Greater n m = refl
-between Equal Less n m = absurd (m refl)
-between Equal Equal n m = refl
-between Equal Greater n m = refl
-
-not_over : (o p : Ordering) → IsTrue (is_le o && not (is_lt p)) → o ≢ Greater
-not_over Greater p t e = cc
-not_over Less p t e = cc
-not_over Equal p t e = cc
-
-not_under : (o p : Ordering) → IsTrue (is_le o && not (is_lt p)) → p ≢ Less
-not_under Greater p t e = cc
-not_under Less Less t e = cc
-not_under Less Equal t e = cc
-not_under Less Greater t e = cc
-not_under Equal Less t e = cc
-not_under Equal Equal t e = cc
-not_under Equal Greater t e = cc
 
 within : (from upto key : List ℕ) → IsUpTo from key → IsUpTo key upto → IsTrue (is_within from upto key)
 within from upto key low high = between (key_order from key) (key_order upto key) low (not_above key upto high)

@@ -16,7 +16,7 @@ use Rattle.key_ranges.specs.Ranges.{HasPrefix, last_with}
 use Rattle.key_ranges.specs.Statements.{PrefixIsRange}
 use Rattle.key_ranges.proofs.Above.{AreBytes, none_above, none_below, same_front}
 
-between : (o p : Ordering) → o ≢ Greater → p ≢ Less → IsTrue (is_le o && not (is_lt p))
+pub between : (o p : Ordering) → o ≢ Greater → p ≢ Less → IsTrue (is_le o && not (is_lt p))
 between Greater p n m = absurd (n refl)
 between Less Less n m = absurd (m refl)
 between Less Equal n m = refl
@@ -25,12 +25,12 @@ between Equal Less n m = absurd (m refl)
 between Equal Equal n m = refl
 between Equal Greater n m = refl
 
-not_below : (o p : Ordering) → IsTrue (is_le o && not (is_lt p)) → o ≢ Greater
+pub not_below : (o p : Ordering) → IsTrue (is_le o && not (is_lt p)) → o ≢ Greater
 not_below Greater p t e = cc
 not_below Less p t e = cc
 not_below Equal p t e = cc
 
-not_over : (o p : Ordering) → IsTrue (is_le o && not (is_lt p)) → p ≢ Less
+pub not_over : (o p : Ordering) → IsTrue (is_le o && not (is_lt p)) → p ≢ Less
 not_over Greater p t e = cc
 not_over Less Less t e = cc
 not_over Less Equal t e = cc
