@@ -194,6 +194,9 @@ pub const FIRST_ENTRY: usize = 1 + HEAD_WORDS;
 /// How many entries a node has at most; a node record has a word for each.
 pub const MAX_ENTRIES: usize = 32;
 
+/// How many words of slots are loaded or filled together. A node's slots are `MAX_ENTRIES / SLOT_GROUP` such groups.
+pub const SLOT_GROUP: usize = 8;
+
 /// The bit of an entry's word from which on a child node's height stands.
 pub const HEIGHT_BIT: u32 = 34;
 
