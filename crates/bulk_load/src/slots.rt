@@ -13,7 +13,7 @@ ghost use Rattle.bulk_load.specs.declared.slots.Slot.{Slot as SlotView};
 
 use arrayvec::ArrayVec;
 use compound_node::{Entry, Head, Node};
-use partial_keys::Columns;
+use partial_keys::{Columns, MAX_ENTRIES};
 
 /// An entry, and the position of the fork between it and the one before.
 #[derive(Clone, Copy)]
@@ -56,12 +56,12 @@ fn collect_columns(slots: &[Slot]) -> Columns
 
 /// The rows of `slots` over `columns`, and 4,294,967,295 behind them. Each slot's path is that of the slot before up to the fork between
 /// the two, and takes the 1 side there. Below it has only 0 sides.
-fn make_rows(slots: &[Slot], columns: &Columns) -> [u32; 32]
+fn make_rows(slots: &[Slot], columns: &Columns) -> [u32; MAX_ENTRIES]
     requires few { (1 ≤ length slots.now) × (length slots.now ≤ 32) }
     requires columns { IsColumns columns.now }
     ensures { result ≡ with_unused (0 ∷ rows_behind columns.now 0 (forks_between slots.now)) }
 {
-    let mut rows = [u32::MAX; 32];
+    let mut rows = [u32::MAX; MAX_ENTRIES];
     rows[0] = 0;
     let mut row = 0;
     for i in 1..slots.len() {
@@ -85,7 +85,7 @@ fn height_over(slots: &[Slot]) -> u16
 }
 
 /// The entries of `slots`.
-fn list_entries(slots: &[Slot]) -> ArrayVec<Entry, 32>
+fn list_entries(slots: &[Slot]) -> ArrayVec<Entry, MAX_ENTRIES>
     requires { length slots.now ≤ 32 }
     ensures { result.items ≡ entries_in_slots slots.now }
 {

@@ -11,10 +11,14 @@ use super::heads::Head;
 use super::joining::{concatenate_rows, ensure_columns};
 use super::nodes::Node;
 use arrayvec::ArrayVec;
-use partial_keys::Columns;
+use partial_keys::{Columns, MAX_ENTRIES};
 
 /// The node of 2 to 32 `entries` that shows a piece with these `columns` and `rows`. Its height is one above the greatest of the entries'.
-pub(crate) fn build_node(columns: Columns, rows: &[u32], entries: ArrayVec<Entry, 32>) -> Node
+pub(crate) fn build_node(
+    columns: Columns,
+    rows: &[u32],
+    entries: ArrayVec<Entry, MAX_ENTRIES>,
+) -> Node
     requires { FitTogether columns rows.now entries.items }
     ensures { IsBuiltFrom result (piece_of (LeafEntry 0) columns rows.now entries.items) }
 {

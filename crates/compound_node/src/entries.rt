@@ -7,6 +7,7 @@ ghost use Rattle.node_tries.specs.Growth.{edited, forked_places};
 ghost use Rattle.compound_node.specs.Nodes.{IsEntry, StandsBelow, greatest_height, height_of};
 
 use arrayvec::ArrayVec;
+use partial_keys::MAX_ENTRIES;
 
 /// What a node has in a slot: a leaf record by its number, or a child node by its number and its stored height. In a node the height of a
 /// child is from 1 to 65,534.
@@ -91,7 +92,7 @@ pub(crate) fn all_stand_below(entries: &[Entry], height: u16) -> bool
 }
 
 /// The list of `items`, 32 at most.
-pub(crate) fn list_items<T: Copy + Default + Drop>(items: &[T]) -> ArrayVec<T, 32>
+pub(crate) fn list_items<T: Copy + Default + Drop>(items: &[T]) -> ArrayVec<T, MAX_ENTRIES>
     requires { length items.now ≤ 32 }
     ensures { result.items ≡ items.now }
 {
@@ -102,7 +103,7 @@ pub(crate) fn list_items<T: Copy + Default + Drop>(items: &[T]) -> ArrayVec<T, 3
 
 /// Puts `entry` into `entries`: straight after slot `last` if `bit` is true, else straight before slot `first`.
 pub(crate) fn insert_entry_beside(
-    entries: &mut ArrayVec<Entry, 32>,
+    entries: &mut ArrayVec<Entry, MAX_ENTRIES>,
     first: usize,
     last: usize,
     bit: bool,
@@ -118,7 +119,7 @@ pub(crate) fn insert_entry_beside(
 }
 
 /// The list of `entries` without that in `slot`.
-pub(crate) fn list_entries_without(entries: &[Entry], slot: usize) -> ArrayVec<Entry, 32>
+pub(crate) fn list_entries_without(entries: &[Entry], slot: usize) -> ArrayVec<Entry, MAX_ENTRIES>
     requires room { length entries.now ≤ 32 }
     requires in_range { slot < length entries.now }
     ensures { result.items ≡ remove entries.now slot }
@@ -130,7 +131,7 @@ pub(crate) fn list_entries_without(entries: &[Entry], slot: usize) -> ArrayVec<E
 }
 
 /// The list of the entries `zero`, and behind them of the entries `one`, 32 at most.
-pub(crate) fn concatenate_entries(zero: &[Entry], one: &[Entry]) -> ArrayVec<Entry, 32>
+pub(crate) fn concatenate_entries(zero: &[Entry], one: &[Entry]) -> ArrayVec<Entry, MAX_ENTRIES>
     requires { length zero.now + length one.now ≤ 32 }
     ensures { result.items ≡ zero.now ++ one.now }
 {
@@ -140,7 +141,7 @@ pub(crate) fn concatenate_entries(zero: &[Entry], one: &[Entry]) -> ArrayVec<Ent
 }
 
 /// Adds `items` to the end of `list`, which has room for them.
-pub(crate) fn append_items<T: Copy + Drop>(list: &mut ArrayVec<T, 32>, items: &[T])
+pub(crate) fn append_items<T: Copy + Drop>(list: &mut ArrayVec<T, MAX_ENTRIES>, items: &[T])
     requires { array_vec_len list.old + length items.now ≤ 32 }
     ensures { list.new.items ≡ list.old.items ++ items.now }
 {

@@ -15,7 +15,7 @@ use super::entries::{Entry, list_entries_without, list_items};
 use super::nodes::Node;
 use super::rows::{clear_first_column, count_zero_side, or_rows, squeeze_rows, without_row};
 use arrayvec::ArrayVec;
-use partial_keys::Columns;
+use partial_keys::{Columns, MAX_ENTRIES};
 
 /// A side of a cut node, or what is left of one: one entry, a new node of several, or (`Same`) the node that was handed in.
 #[derive(Drop)]
@@ -35,7 +35,11 @@ pub struct Cut {
 
 /// The `Half` that has all of `entries`, at least one, whose rows over `columns` are `rows`: the one entry, or a new node of many. The node
 /// has only the columns that the rows use.
-fn make_half(columns: &Columns, rows: ArrayVec<u32, 32>, entries: ArrayVec<Entry, 32>) -> Half
+fn make_half(
+    columns: &Columns,
+    rows: ArrayVec<u32, MAX_ENTRIES>,
+    entries: ArrayVec<Entry, MAX_ENTRIES>,
+) -> Half
     requires some { 0 < length entries.items }
     requires room { length entries.items ≤ 32 }
     requires positions { IsColumns columns.now }

@@ -8,7 +8,7 @@ ghost use Rattle.node_tries.specs.Positions.{front_below, has, with_position};
 
 use super::rows::{are_sparse_keys, first_of_run, fork_rows, is_padded, last_of_run, spread_rows};
 use key_bits::Key;
-use partial_keys::{Columns, pad, search_lanes};
+use partial_keys::{Columns, MAX_COLUMNS, MAX_ENTRIES, pad, search_lanes};
 use std::marker::Model;
 use std::simd::prelude::*;
 
@@ -18,7 +18,7 @@ pub struct Head {
     height: u16,
     count: u8,
     columns: Columns,
-    sparse: [u32; 32],
+    sparse: [u32; MAX_ENTRIES],
 }
 
 impl Model for Head {
@@ -44,7 +44,12 @@ impl Head {
 
     /// The head of a node of `count` entries with these fields; `None` exactly if no node has them. `columns` has the positions of the
     /// forks, each once, in rising order. `sparse` has the row of each entry at its slot, and 4,294,967,295 at each unused slot.
-    pub fn from_parts(count: u8, height: u16, columns: &[u16], sparse: &[u32; 32]) -> Option<Head>
+    pub fn from_parts(
+        count: u8,
+        height: u16,
+        columns: &[u16],
+        sparse: &[u32; MAX_ENTRIES],
+    ) -> Option<Head>
         ensures some { IsSome result ↔ IsHead count height columns.now sparse.now }
         ensures head { IfSome result (λ head. head ≡ record { height = height; columns = columns.now; rows = take count sparse.now }) }
     {
@@ -62,7 +67,7 @@ impl Head {
 
     /// The head of a node of `count` entries with these fields, which some node has. `sparse` has the row of each entry at its slot, and
     /// 4,294,967,295 at each unused slot.
-    pub fn of(count: u8, height: u16, columns: Columns, sparse: [u32; 32]) -> Head
+    pub fn of(count: u8, height: u16, columns: Columns, sparse: [u32; MAX_ENTRIES]) -> Head
         requires { IsHead count height columns sparse }
         ensures { result ≡ record { height = height; columns = columns; rows = take count sparse } }
     {
@@ -190,7 +195,7 @@ impl Head {
     }
 
     /// The rows of the entries, and 4,294,967,295 for the unused ones of 32 slots.
-    pub fn padded_rows(&self) -> &[u32; 32]
+    pub fn padded_rows(&self) -> &[u32; MAX_ENTRIES]
         ensures { result.now ≡ with_unused self.now.rows }
     {
         &self.sparse
@@ -209,7 +214,7 @@ impl Head {
 /// Adds a column at `position`, in which the first `count` of `rows` get 0. If there is one already, all stays. Returns the column's index.
 pub(crate) fn ensure_column(
     columns: &mut Columns,
-    rows: &mut [u32; 32],
+    rows: &mut [u32; MAX_ENTRIES],
     count: usize,
     position: u16,
 ) -> u8
@@ -231,12 +236,12 @@ pub(crate) fn ensure_column(
 }
 
 /// Whether some node of `count` entries has `columns`, and `sparse` has its rows, with 4,294,967,295 at each unused slot.
-fn fit_a_node(count: u8, columns: &[u16], sparse: &[u32; 32]) -> bool
+fn fit_a_node(count: u8, columns: &[u16], sparse: &[u32; MAX_ENTRIES]) -> bool
     ensures { IsTrue result ↔ FitsWords count columns.now sparse.now }
 {
     let used = count as usize;
     2 <= used
-        && used <= 32
+        && used <= MAX_ENTRIES
         && are_columns(columns)
         && is_padded(sparse, used)
         && are_sparse_keys(&sparse[..used], columns.len())
@@ -246,7 +251,7 @@ fn fit_a_node(count: u8, columns: &[u16], sparse: &[u32; 32]) -> bool
 fn are_columns(positions: &[u16]) -> bool
     ensures { IsTrue result ↔ IsColumns positions.now }
 {
-    if positions.is_empty() || positions.len() > 31 {
+    if positions.is_empty() || positions.len() > MAX_COLUMNS {
         return false;
     }
     let mut least = 0;

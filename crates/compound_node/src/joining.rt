@@ -8,13 +8,13 @@ ghost use Rattle.node_tries.specs.Positions.{front_below, has, with_position};
 use super::entries::list_items;
 use super::rows::spread_lanes;
 use arrayvec::ArrayVec;
-use partial_keys::Columns;
+use partial_keys::{Columns, MAX_ENTRIES};
 use std::simd::prelude::*;
 
 /// Adds `position` and each of `others` to `columns`, which have room, unless it is one already. Each of `rows` gets 0 in new columns.
 pub(crate) fn ensure_columns(
     columns: &mut Columns,
-    rows: &mut [u32; 32],
+    rows: &mut [u32; MAX_ENTRIES],
     position: u16,
     others: &Columns,
 )
@@ -48,7 +48,7 @@ fn ensure_column_of_lanes(columns: &mut Columns, rows: u32x32, position: u16) ->
 }
 
 /// The list of the rows `zero` as they are, and behind them of the rows `one`, each of these with `bit` set; 32 at most.
-pub(crate) fn concatenate_rows(zero: &[u32], one: &[u32], bit: u32) -> ArrayVec<u32, 32>
+pub(crate) fn concatenate_rows(zero: &[u32], one: &[u32], bit: u32) -> ArrayVec<u32, MAX_ENTRIES>
     requires { length zero.now + length one.now ≤ 32 }
     ensures { result.items ≡ zero.now ++ map (λ row. bit_or row bit) one.now }
 {

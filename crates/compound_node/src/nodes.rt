@@ -7,7 +7,7 @@ use super::heads::Head;
 use super::rows::find_sibling;
 use arrayvec::ArrayVec;
 use key_bits::Key;
-use partial_keys::Columns;
+use partial_keys::{Columns, MAX_ENTRIES};
 use std::marker::Model;
 
 /// A compound node of 2 to 32 entries, in the order of their keys. It shows a piece of a bit trie: its 1 to 31 columns are the positions of
@@ -16,7 +16,7 @@ use std::marker::Model;
 #[derive(Drop)]
 pub struct Node {
     pub(crate) head: Head,
-    pub(crate) entries: ArrayVec<Entry, 32>,
+    pub(crate) entries: ArrayVec<Entry, MAX_ENTRIES>,
 }
 
 impl Model for Node {
@@ -44,13 +44,13 @@ impl Node {
     pub fn from_parts(
         height: u16,
         columns: &[u16],
-        sparse: &[u32; 32],
+        sparse: &[u32; MAX_ENTRIES],
         entries: &[Entry],
     ) -> Option<Node>
         ensures some { IsSome result ↔ IsNode height columns.now sparse.now entries.now }
         ensures node { IfSome result (λ node. node ≡ node_from height columns.now sparse.now entries.now) }
     {
-        if entries.len() > 32 || !all_stand_below(entries, height) {
+        if entries.len() > MAX_ENTRIES || !all_stand_below(entries, height) {
             return None;
         }
         let head = Head::from_parts(entries.len() as u8, height, columns, sparse)?;
@@ -58,7 +58,7 @@ impl Node {
     }
 
     /// The node of `head` and `entries`. There are as many of these as the head has rows, and each is lower than the head's height.
-    pub fn of(head: Head, entries: ArrayVec<Entry, 32>) -> Node
+    pub fn of(head: Head, entries: ArrayVec<Entry, MAX_ENTRIES>) -> Node
         requires { IsLawfulNode (node_of head entries.items) }
         ensures { result ≡ node_of head entries.items }
     {
@@ -97,7 +97,7 @@ impl Node {
     }
 
     /// The rows of the entries, and 4,294,967,295 for the unused ones of 32 slots.
-    pub fn padded_rows(&self) -> &[u32; 32]
+    pub fn padded_rows(&self) -> &[u32; MAX_ENTRIES]
         ensures { result.now ≡ with_unused self.now.rows }
     {
         self.head.padded_rows()
@@ -173,7 +173,7 @@ impl Node {
     fn row(&self, slot: u8) -> u32
         ensures { result ≡ slice_index_or self.now.rows slot 4294967295 }
     {
-        if slot < 32 {
+        if (slot as usize) < MAX_ENTRIES {
             self.head.row(slot)
         } else {
             u32::MAX

@@ -17,14 +17,15 @@ ghost use Rattle.compound_node.specs.Removal.{lowest, bit_after, cleared_front, 
 
 use super::entries::append_items;
 use arrayvec::ArrayVec;
+use partial_keys::MAX_ENTRIES;
 use std::simd::prelude::*;
 
 /// Whether 4,294,967,295 stands in `sparse` at each index from `count` on, so that these slots are unused.
-pub(crate) fn is_padded(sparse: &[u32; 32], count: usize) -> bool
+pub(crate) fn is_padded(sparse: &[u32; MAX_ENTRIES], count: usize) -> bool
     requires { count ≤ 32 }
     ensures { IsTrue result ↔ (sparse.now ≡ with_unused (take count sparse.now)) }
 {
-    for i in count..32 {
+    for i in count..MAX_ENTRIES {
         if sparse[i] != u32::MAX {
             return false;
         }
@@ -78,7 +79,7 @@ fn spread_row(row: u32, column: u8) -> u32
 }
 
 /// Puts 0 in a new column at `column` of the first `count` rows. The columns from there on move on by one, and the last one is lost.
-pub(crate) fn spread_rows(rows: &mut [u32; 32], count: usize, column: u8)
+pub(crate) fn spread_rows(rows: &mut [u32; MAX_ENTRIES], count: usize, column: u8)
     requires column { column ≤ 31 }
     requires room { count ≤ 32 }
     ensures { rows.new ≡ map (spread_row column) (take count rows.old) ++ drop count rows.old }
@@ -203,7 +204,7 @@ pub(crate) fn count_zero_side(rows: &[u32]) -> usize
 }
 
 /// The list of `rows`, each with 0 in the first column.
-pub(crate) fn clear_first_column(rows: &[u32]) -> ArrayVec<u32, 32>
+pub(crate) fn clear_first_column(rows: &[u32]) -> ArrayVec<u32, MAX_ENTRIES>
     requires { length rows.now ≤ 32 }
     ensures { result.items ≡ map (λ r. r % 2 ^ 31) rows.now }
 {
@@ -276,7 +277,7 @@ fn sibling_bit(rows: &[u32], slot: usize) -> u32
 }
 
 /// Adds `rows` to the end of `out`, which has room for them. Those before the first without `bit` lose `bit`.
-fn append_cleared_rows(out: &mut ArrayVec<u32, 32>, rows: &[u32], bit: u32)
+fn append_cleared_rows(out: &mut ArrayVec<u32, MAX_ENTRIES>, rows: &[u32], bit: u32)
     requires { array_vec_len out.old + length rows.now ≤ 32 }
     ensures { out.new.items ≡ out.old.items ++ cleared_front bit rows.now }
 {
@@ -288,7 +289,7 @@ fn append_cleared_rows(out: &mut ArrayVec<u32, 32>, rows: &[u32], bit: u32)
 }
 
 /// The list of `rows` without row `slot`. If that is the 0 side of its last fork, the rows of the 1 side lose the fork's bit.
-pub(crate) fn without_row(rows: &[u32], slot: usize) -> ArrayVec<u32, 32>
+pub(crate) fn without_row(rows: &[u32], slot: usize) -> ArrayVec<u32, MAX_ENTRIES>
     requires ladder { IsLadder rows.now }
     requires room { length rows.now ≤ 32 }
     requires in_range { slot < length rows.now }

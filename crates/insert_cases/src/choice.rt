@@ -10,6 +10,8 @@ ghost use Rattle.insert_cases.specs.Levels.{IsLevel, IsChosen, IsChainEnd, IsPul
 ghost use Rattle.tries.specs.Search.{found};
 ghost use Rattle.insert_cases.specs.Ways.{IsWay, IsAffectedNode, case_of, stage, body};
 
+use partial_keys::MAX_ENTRIES;
+
 /// A node on the way of a search, topmost first, and the entry that the search took there.
 #[derive(Clone, Copy, Default)]
 pub struct PathNode {
@@ -110,7 +112,7 @@ fn case_at_node(step: PathNode, one_leaf: bool) -> Case
 {
     if one_leaf && step.height > 1 {
         Case::LeafPushdown
-    } else if step.count < 32 {
+    } else if (step.count as usize) < MAX_ENTRIES {
         Case::NormalInsert
     } else {
         Case::Overflow
@@ -134,7 +136,7 @@ pub fn pull_up_chain_end(way: &[PathNode], level: usize) -> usize
 fn is_pulled_up(child: PathNode, parent: PathNode) -> bool
     ensures { IsTrue result ↔ ((child.count ≡ 32) × IsPullUp child.height parent.height) }
 {
-    child.count == 32 && is_pull_up(child.height, parent.height)
+    child.count as usize == MAX_ENTRIES && is_pull_up(child.height, parent.height)
 }
 
 /// Whether what rises from a node of the height `child_height` goes into its parent: the parent is one higher. If it is higher still, a

@@ -10,6 +10,7 @@ ghost use Rattle.node_tries.specs.Grafts.{grafted, IsAbovePath};
 ghost use Rattle.insert_cases.specs.Grown.{GrownShows, IsCutOf, is_whole, keeps_node, keeps_side, half_piece};
 
 use compound_node::{Cut, Entry, Half, Node};
+use partial_keys::MAX_ENTRIES;
 
 /// A node with one entry more.
 #[derive(Drop)]
@@ -30,7 +31,7 @@ pub fn grow(node: &Node, first: u8, last: u8, position: u16, bit: bool, entry: E
     ensures whole { IsTrue (is_whole result) ↔ (length node.now.entries < 32) }
     ensures same { IsTrue (keeps_node result) ↔ ((is_whole result ≡ false) × AtRootFork (λ p zero one. position < p) (piece node.now)) }
 {
-    if node.count() < 32 {
+    if (node.count() as usize) < MAX_ENTRIES {
         return Grown::One(node.insert(first, last, position, bit, entry));
     }
     Grown::Two(grow_full(node, first, last, position, bit, entry))
@@ -46,7 +47,7 @@ pub fn grow_full(node: &Node, first: u8, last: u8, position: u16, bit: bool, ent
     ensures shows { IsCutOf node.now result (grown position bit entry first (piece node.now)) }
     ensures same { IsTrue (keeps_side result) ↔ AtRootFork (λ p zero one. position < p) (piece node.now) }
 {
-    prove!(node.count() == 32);
+    prove!(node.count() as usize == MAX_ENTRIES);
     if position < node.first_position() {
         return keep_node_whole(position, bit, entry);
     }
@@ -156,7 +157,7 @@ pub fn pull_up(node: &Node, slot: u8, position: u16, zero: Entry, one: Entry) ->
     ensures whole { IsTrue (is_whole result) ↔ (length node.now.entries < 32) }
     ensures same { keeps_node result ≡ false }
 {
-    if node.count() < 32 {
+    if (node.count() as usize) < MAX_ENTRIES {
         let mut grown = node.copy();
         put_fork(&mut grown, slot, position, zero, one);
         return Grown::One(grown);
@@ -175,7 +176,7 @@ pub fn pull_up_full(node: &Node, slot: u8, position: u16, zero: Entry, one: Entr
     ensures shows { IsCutOf node.now result (grafted slot (Fork position (At zero) (At one)) (piece node.now)) }
     ensures same { keeps_side result ≡ false }
 {
-    prove!(node.count() == 32);
+    prove!(node.count() as usize == MAX_ENTRIES);
     let Cut {
         position: root,
         zero: front,
@@ -233,7 +234,7 @@ pub fn put_fork(node: &mut Node, slot: u8, position: u16, zero: Entry, one: Entr
     requires one { IsEntry one }
     ensures { IsBuiltFrom node.new (grafted slot (Fork position (At zero) (At one)) (piece node.old)) }
 {
-    prove!(node.count() < 32);
+    prove!((node.count() as usize) < MAX_ENTRIES);
     // A leaf stands in for the old entry, whose height doesn't count. The higher entry is added first, so that the height is above both.
     node.set_entry(slot, Entry::Leaf(0));
     if zero.height() <= one.height() {

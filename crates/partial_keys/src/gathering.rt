@@ -8,6 +8,7 @@ ghost use Rattle.partial_keys.specs.Columns.{AreColumnLanes};
 ghost use Rattle.partial_keys.specs.Rows.{dense_of};
 ghost use Rattle.partial_keys.specs.Windows.{bit_within, byte_lane, mask_lane, missed_lane};
 
+use crate::MAX_COLUMNS;
 use key_bits::{Key, MAX_BYTES};
 use std::simd::prelude::*;
 
@@ -172,7 +173,7 @@ fn distances_below(bytes: u8x32, first: u8) -> u8x32
 
 /// The 31 `positions` as lanes, and 65,535 in the last lane.
 #[inline(always)]
-pub(crate) fn lanes_of(positions: &[u16; 31]) -> u16x32
+pub(crate) fn lanes_of(positions: &[u16; MAX_COLUMNS]) -> u16x32
     ensures { result ≡ positions.now ++ 65535 ∷ [] }
 {
     let low = u16x16::from_slice(positions);

@@ -18,10 +18,17 @@ use key_bits::Key;
 use std::marker::Model;
 use std::simd::prelude::*;
 
+/// How many columns a compound node has at most.
+pub const MAX_COLUMNS: usize = 31;
+
+/// How many entries a compound node has at most, one more than columns: so many parts have as many forks between them. There is a row for
+/// each.
+pub const MAX_ENTRIES: usize = MAX_COLUMNS + 1;
+
 /// The columns of a compound node: 1 to 31 positions, strictly rising, each below 65,535. Column j is bit 31-j of a dense key or a row.
 #[derive(Clone, Copy)]
 pub struct Columns {
-    positions: [u16; 31],
+    positions: [u16; MAX_COLUMNS],
     count: u8,
 }
 
@@ -61,7 +68,7 @@ impl Columns {
     }
 
     /// The columns at the first `count` of `positions`: 1 to 31, strictly rising, each below 65,535. All others are 65,535.
-    pub fn from_padded(positions: [u16; 31], count: u8) -> Columns
+    pub fn from_padded(positions: [u16; MAX_COLUMNS], count: u8) -> Columns
         requires { HoldsColumns positions count }
         ensures { result ≡ take count positions }
     {
@@ -77,7 +84,7 @@ impl Columns {
     }
 
     /// The positions, and 65,535 behind them up to 31.
-    pub fn padded_positions(&self) -> &[u16; 31]
+    pub fn padded_positions(&self) -> &[u16; MAX_COLUMNS]
         ensures { result.now ≡ with_free self.now }
     {
         &self.positions
@@ -209,7 +216,7 @@ pub fn remove_element<T: Copy>(items: &mut [T], count: usize, at: usize, fill: T
 
 /// Moves those of the first `count` positions whose bit 31-j is set in `used` to the front, where j is their index. Returns how many
 /// these are. All behind them are 65,535 then.
-fn keep_used_positions(positions: &mut [u16; 31], count: usize, used: u32) -> usize
+fn keep_used_positions(positions: &mut [u16; MAX_COLUMNS], count: usize, used: u32) -> usize
     requires few { count ≤ 31 }
     requires unused { drop count positions.old ≡ replicate (31 - count) 65535 }
     ensures count { result ≡ length (kept (used_bits used) (take count positions.old)) }
@@ -229,7 +236,7 @@ fn keep_used_positions(positions: &mut [u16; 31], count: usize, used: u32) -> us
 }
 
 /// The highest index i at which row `sparse[i]` complies with the dense key: it has no bit that `dense` lacks. The first row is 0, so there is one.
-pub fn search_plain(sparse: &[u32; 32], dense: u32) -> u8
+pub fn search_plain(sparse: &[u32; MAX_ENTRIES], dense: u32) -> u8
     requires { slice_index sparse.now 0 ≡ 0 }
     ensures { IsFound sparse.now dense result }
 {
@@ -243,7 +250,7 @@ pub fn search_plain(sparse: &[u32; 32], dense: u32) -> u8
 }
 
 /// The index that `search_plain` returns, by one comparison of all 32 rows as lanes of a vector.
-pub fn search_lanes(sparse: &[u32; 32], dense: u32) -> u8
+pub fn search_lanes(sparse: &[u32; MAX_ENTRIES], dense: u32) -> u8
     requires { slice_index sparse.now 0 ≡ 0 }
     ensures { IsFound sparse.now dense result }
 {

@@ -8,7 +8,8 @@ use Rattle.node_tries.specs.Growth.{IsAffected}
 use Rattle.node_tries.specs.Piece.{Piece, Place}
 use Rattle.record_words.specs.Entry.{HasEntryWord, entry_word}
 use Rattle.record_words.specs.Packed.{fixed_words}
-use Rattle.record_words.specs.declared.TheConstants.{HEAD_WORDS, MAX_ENTRIES}
+use Rattle.partial_keys.specs.declared.TheConstants.{MAX_ENTRIES}
+use Rattle.record_words.specs.declared.TheConstants.{HEAD_WORDS}
 
 -- the words at offsets 1 to HEAD_WORDS
 abbrev pub head_words : HeadView → List ℕ

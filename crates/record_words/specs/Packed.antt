@@ -4,7 +4,8 @@ use Rattle.std.specs.List.{range_with_len}
 use Rattle.record_words.specs.Kinds.{head_size, index_lanes, kind_of, kind_part, lane_words, mask_lanes}
 use Rattle.record_words.specs.declared.kind.Kind.{Kind}
 use Rattle.record_words.specs.declared.kind.Kind.TheVariants.{Wide, Narrow, Middle}
-use Rattle.record_words.specs.declared.TheConstants.{HEAD_WORDS, MAX_ENTRIES}
+use Rattle.partial_keys.specs.declared.TheConstants.{MAX_ENTRIES}
+use Rattle.record_words.specs.declared.TheConstants.{HEAD_WORDS}
 
 -- the number of entries, the number of columns and the stored height
 abbrev pub meta_word : ℕ → ℕ → ℕ → ℕ

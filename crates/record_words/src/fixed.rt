@@ -10,16 +10,16 @@ ghost use Rattle.partial_keys.specs.Columns.{with_free};
 use crate::kind::Kind;
 use crate::search::positions_in;
 use crate::{HEAD_WORDS, MIDDLE_KIND, NARROW_KIND};
-use partial_keys::Columns;
+use partial_keys::{Columns, MAX_COLUMNS};
 use std::simd::prelude::*;
 
 /// The positions of the columns of each node whose head has `words`, and 65,535 behind them up to 31.
-pub(crate) fn read_positions(words: &[u64]) -> [u16; 31]
+pub(crate) fn read_positions(words: &[u64]) -> [u16; MAX_COLUMNS]
     requires { length words.now ≡ HEAD_WORDS }
     ensures { InNodesOf words.now (λ node. result ≡ with_free node.columns) }
 {
-    let mut positions = [0; 31];
-    positions.copy_from_slice(&positions_in(words).to_array()[..31]);
+    let mut positions = [0; MAX_COLUMNS];
+    positions.copy_from_slice(&positions_in(words).to_array()[..MAX_COLUMNS]);
     positions
 }
 
@@ -41,7 +41,7 @@ pub(crate) fn word_of_numbers(count: u8, columns: &Columns, height: u16, kind: K
 
 /// Word `j` of the eight words of positions in a wide head, counted from 0. It has the four from `positions[4 * j]` on, in 16 bits each,
 /// the first in its lowest bits. 65,535 stands for one past the last.
-pub(crate) fn word_of_positions(positions: &[u16; 31], j: usize) -> u64
+pub(crate) fn word_of_positions(positions: &[u16; MAX_COLUMNS], j: usize) -> u64
     requires { j < 8 }
     ensures { result ≡ position_word positions.now j }
 {
@@ -53,10 +53,14 @@ pub(crate) fn word_of_positions(positions: &[u16; 31], j: usize) -> u64
 }
 
 /// The position at index `at` of `positions`, from 0; 65,535 past the last.
-fn position_at(positions: &[u16; 31], at: usize) -> u16
+fn position_at(positions: &[u16; MAX_COLUMNS], at: usize) -> u16
     ensures { result ≡ position_at positions.now at }
 {
-    if at < 31 { positions[at] } else { u16::MAX }
+    if at < MAX_COLUMNS {
+        positions[at]
+    } else {
+        u16::MAX
+    }
 }
 
 /// The eight words of the sixteen `rows`: two in each word, the first of them in its low half.

@@ -86,6 +86,7 @@ pub use numbers::{
     HeadNumbers, first_position_of, index_of_first_position, kind_number, read_numbers,
 };
 pub use origins::Origins;
+pub use partial_keys::MAX_ENTRIES;
 pub use records::Rec;
 pub use search::{extract_dense_key, search_middle, search_narrow, search_row_words};
 pub use state::{Tag, obsolete_word, pack_state, read_obsolete_epoch, unpack_state};
@@ -190,9 +191,6 @@ pub const FIRST_MIDDLE_ROWS: usize = 5;
 
 /// The offset at which a node record has its first entry: its state and its head stand before the entries.
 pub const FIRST_ENTRY: usize = 1 + HEAD_WORDS;
-
-/// How many entries a node has at most; a node record has a word for each.
-pub const MAX_ENTRIES: usize = 32;
 
 /// How many words of slots are loaded or filled together. A node's slots are `MAX_ENTRIES / SLOT_GROUP` such groups.
 pub const SLOT_GROUP: usize = 8;

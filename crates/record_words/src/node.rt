@@ -30,13 +30,15 @@ use crate::numbers::read_numbers;
 use crate::search::{has_lane, positions_in, rows_in, with_unused_from};
 use crate::{
     FIRST_MIDDLE_ROWS, FIRST_NARROW_ROWS, FIRST_POSITIONS, FIRST_ROWS, HEAD_WORDS, HEIGHT_BIT,
-    MAX_ENTRIES, NODE_FIELDS,
+    NODE_FIELDS,
 };
 use arrayvec::ArrayVec;
 use compound_node::{
     Entry, Head, Node, fork_rows, or_first_rows, remove_row, spread_lanes, squeeze_lanes,
 };
-use partial_keys::{Columns, count_below, insert_element, remove_element};
+use partial_keys::{
+    Columns, MAX_COLUMNS, MAX_ENTRIES, count_below, insert_element, remove_element,
+};
 use std::simd::prelude::*;
 
 /// The words of `node` in a node record, from offset 1 on: its head, its entries, and 0 behind these.
@@ -116,7 +118,7 @@ fn put_columns(words: &mut [u64; NODE_FIELDS], kind: Kind, columns: &Columns)
 
 /// Writes `positions`, four in each of eight words, to their place in `words`, those of a node whose head is wide. All other words stay.
 #[inline(always)]
-fn put_positions(words: &mut [u64; NODE_FIELDS], positions: &[u16; 31])
+fn put_positions(words: &mut [u64; NODE_FIELDS], positions: &[u16; MAX_COLUMNS])
     ensures columns { (j : ℕ) → j < 8 → slice_index words.new (FIRST_POSITIONS + j) ≡ position_word positions.now j }
     ensures others { (k : ℕ) → (k < FIRST_POSITIONS) ⊎ (FIRST_ROWS ≤ k) → slice_index words.new k ≡ slice_index words.old k }
 {

@@ -1,7 +1,7 @@
 //! A node and a head of their words.
 
 ghost use Rattle.std.specs.Prelude.{◌≡◌, length};
-ghost use Rattle.record_words.specs.declared.TheConstants.{MAX_ENTRIES};
+ghost use Rattle.partial_keys.specs.declared.TheConstants.{MAX_ENTRIES};
 ghost use Rattle.record_words.specs.Node.{HasHeadWords, HasNodeWords, HaveEntryWords, entry_words, head_words, node_words};
 ghost use Rattle.record_words.specs.Reading.{IsReading};
 

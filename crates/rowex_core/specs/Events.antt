@@ -6,7 +6,8 @@ use Rattle.compound_node.specs.declared.entries.Entry.{Entry}
 use Rattle.finite_map.specs.declared.Change.{Change}
 use Rattle.finite_map.specs.declared.Kind.TheVariants.{Replaced, Removed}
 use Rattle.finite_map.specs.Maps.{key_order}
-use Rattle.record_words.specs.declared.TheConstants.{EPOCHS, ROOT_WORD, FIRST_ENTRY, MAX_ENTRIES, NODE_WORDS, LEAF_WORDS}
+use Rattle.partial_keys.specs.declared.TheConstants.{MAX_ENTRIES}
+use Rattle.record_words.specs.declared.TheConstants.{EPOCHS, ROOT_WORD, FIRST_ENTRY, NODE_WORDS, LEAF_WORDS}
 use Rattle.record_words.specs.Entry.{HasEntryWord, entry_word}
 use Rattle.record_words.specs.State.{state_word}
 use Rattle.record_words.specs.declared.state.Tag.TheVariants.{Free as FreeTag, Held as HeldTag, Live, Locked, Obsolete}

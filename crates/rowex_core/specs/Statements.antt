@@ -8,7 +8,8 @@ use Rattle.finite_map.specs.declared.Kind.{Kind}
 use Rattle.finite_map.specs.declared.Kind.TheVariants.{Added, Replaced, Removed}
 use Rattle.finite_map.specs.Maps.{map_after}
 use Rattle.finite_map.specs.Fronts.{BeginsWith, map_of, Fits}
-use Rattle.record_words.specs.declared.TheConstants.{FIRST_ENTRY, MAX_ENTRIES}
+use Rattle.partial_keys.specs.declared.TheConstants.{MAX_ENTRIES}
+use Rattle.record_words.specs.declared.TheConstants.{FIRST_ENTRY}
 use Rattle.record_words.specs.Layout.{address}
 use Rattle.record_words.specs.declared.layout.Layout.{Layout}
 use Rattle.record_words.specs.declared.state.Tag.TheVariants.{Live}

@@ -1,6 +1,7 @@
 -- The records of a table as data, and the functions that they stand for.
 use Rattle.std.specs.Prelude.{◌≡◌, ℕ, ◌+◌, ◌<◌, List, length, set, slice_get, Bool, Option, Some, None, option_and_then, option_map}
-use Rattle.record_words.specs.declared.TheConstants.{HEAD_WORDS, MAX_ENTRIES}
+use Rattle.partial_keys.specs.declared.TheConstants.{MAX_ENTRIES}
+use Rattle.record_words.specs.declared.TheConstants.{HEAD_WORDS}
 use Rattle.record_words.specs.declared.layout.Layout.{Layout}
 use Rattle.record_words.specs.declared.state.Tag.{Tag}
 use Rattle.record_words.specs.State.{HasStateWord, state_word}

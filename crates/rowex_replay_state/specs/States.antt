@@ -10,7 +10,7 @@ use Rattle.rowex_core.specs.declared.event.Act.{Act}
 use Rattle.rowex_core.specs.declared.event.Act.TheVariants.{Publish}
 use Rattle.rowex_core.specs.declared.event.Spot.{Spot}
 use Rattle.rowex_core.specs.declared.event.Spot.TheVariants.{Root, Slot, Value}
-use Rattle.record_words.specs.declared.TheConstants.{MAX_ENTRIES}
+use Rattle.partial_keys.specs.declared.TheConstants.{MAX_ENTRIES}
 use Rattle.rowex_core.specs.Cores.{Core, IsLawful}
 use Rattle.rowex_core.specs.Events.{LegalAct, after}
 use Rattle.replay_trees.specs.declared.linked.Item.{Item as ReadItem}

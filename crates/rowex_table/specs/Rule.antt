@@ -6,7 +6,7 @@ use Rattle.atomic_table.specs.Table.{State, Me, Step, opening as first_state}
 use Rattle.finite_map.specs.declared.Change.{Change}
 use Rattle.finite_map.specs.declared.Note.{Note}
 use Rattle.finite_map.specs.Fronts.{BeginsWith, LegalFront, OthersGoOn}
-use Rattle.record_words.specs.declared.TheConstants.{MAX_ENTRIES}
+use Rattle.partial_keys.specs.declared.TheConstants.{MAX_ENTRIES}
 use Rattle.record_words.specs.declared.layout.Layout.{Layout}
 use Rattle.record_words.specs.declared.layout.Location.{Location}
 use Rattle.record_words.specs.Layout.{address, IsInTable}

@@ -2,7 +2,7 @@
 
 ghost use Rattle.std.specs.Prelude.{◌<◌, ◌+◌};
 ghost use Rattle.record_words.specs.Layout.{IsInTable};
-ghost use Rattle.record_words.specs.declared.TheConstants.{MAX_ENTRIES};
+ghost use Rattle.partial_keys.specs.declared.TheConstants.{MAX_ENTRIES};
 ghost use Rattle.rowex_core.specs.declared.event.Act.TheVariants.{LoadRef, Lock, Unlock, Publish};
 ghost use Rattle.rowex_core.specs.declared.event.Spot.TheVariants.{Slot, Value};
 ghost use Rattle.rowex_core.specs.Events.{target_word};

@@ -4,18 +4,18 @@ use Rattle.std.proofs.lemmas.Bool.{false≢true, leb-true}
 use Rattle.partial_keys.specs.Columns.{IsColumns}
 use Rattle.partial_keys.specs.Rows.{with_unused}
 use Rattle.compound_node.proofs.heads.fit_a_node.Goals as goal
-use Rattle.compound_node.proofs.heads.fit_a_node.Goals.{Then-is_padded, then-are_columns, else-are_columns, then-used-ge2, else-used-ge2, then-used-le32, else-used-le32}
+use Rattle.compound_node.proofs.heads.fit_a_node.Goals.{Then-is_padded, then-are_columns, else-are_columns, then-used-ge2, else-used-ge2, then-used-le-MAX_ENTRIES, else-used-le-MAX_ENTRIES}
 
 -- what the tests say that came before
 passed : (c : Then-is_padded) → (2 ≤ c.args.count × c.args.count ≤ 32) × (IsColumns c.args.columns.now × c.args.sparse.now ≡ with_unused (take c.args.count c.args.sparse.now))
 passed c = elim c.if-are_columns.branch [
   | else-are_columns w ↦ absurd (false≢true (sym w.if-are_columns.false ∙ sym w.value-is ∙ c.if-is_padded.true))
-  | then-are_columns w ↦ elim c.if-used-le32.branch [
-    | else-used-le32 v ↦ elim c.if-used-ge2.branch [
+  | then-are_columns w ↦ elim c.if-used-le-MAX_ENTRIES.branch [
+    | else-used-le-MAX_ENTRIES v ↦ elim c.if-used-ge2.branch [
       | else-used-ge2 u ↦ absurd (omega (arith, leb-true 2 c.args.count (sym u.t-8-is ∙ sym v.value-is ∙ w.if-are_columns.true), u.if-used-ge2.false))
-      | then-used-ge2 u ↦ absurd (omega (arith, leb-true c.args.count 32 (sym u.t-8-is ∙ sym v.value-is ∙ w.if-are_columns.true), v.if-used-le32.either, u.if-used-ge2.true))
+      | then-used-ge2 u ↦ absurd (omega (arith, leb-true c.args.count 32 (sym u.t-8-is ∙ sym v.value-is ∙ w.if-are_columns.true), v.if-used-le-MAX_ENTRIES.either, u.if-used-ge2.true))
     ]
-    | then-used-le32 v ↦ (v.if-used-le32.true, (v.are_columns.ensures.0 (sym v.value-is ∙ w.if-are_columns.true), w.is_padded.ensures.0 (sym w.value-is ∙ c.if-is_padded.true)))
+    | then-used-le-MAX_ENTRIES v ↦ (v.if-used-le-MAX_ENTRIES.true, (v.are_columns.ensures.0 (sym v.value-is ∙ w.if-are_columns.true), w.is_padded.ensures.0 (sym w.value-is ∙ c.if-is_padded.true)))
   ]
 ]
 
@@ -31,9 +31,9 @@ returns-else-is_padded c = (
   λ t. absurd (false≢true (sym c.if-is_padded.false ∙ t)),
   λ fit. elim c.if-are_columns.branch [
     | then-are_columns w ↦ w.value-is ∙ w.is_padded.ensures.1 fit.padded
-    | else-are_columns w ↦ elim c.if-used-le32.branch [
-      | then-used-le32 v ↦ w.value-is ∙ v.value-is ∙ v.are_columns.ensures.1 fit.positions
-      | else-used-le32 v ↦ absurd (omega (arith, fit.several, fit.room, v.if-used-le32.either))
+    | else-are_columns w ↦ elim c.if-used-le-MAX_ENTRIES.branch [
+      | then-used-le-MAX_ENTRIES v ↦ w.value-is ∙ v.value-is ∙ v.are_columns.ensures.1 fit.positions
+      | else-used-le-MAX_ENTRIES v ↦ absurd (omega (arith, fit.several, fit.room, v.if-used-le-MAX_ENTRIES.either))
     ]
   ],
 )
