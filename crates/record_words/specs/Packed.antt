@@ -44,10 +44,17 @@ row_words Wide rows = map (row_word rows) (range_with_len 0 16)
 row_words Narrow rows = lane_words 8 4 (row_lanes 24 rows)
 row_words Middle rows = lane_words 16 8 (row_lanes 16 rows)
 
--- the words of a head of this kind, and all ones behind them
+-- the word of the numbers of a head
+abbrev pub numbers_word : Kind → ℕ → ℕ → List ℕ → ℕ
+numbers_word kind count height columns = meta_word count (length columns) height + kind_part kind columns
+
+-- all ones, in the words of a head in which this kind has nothing
+abbrev pub unused_words : Kind → List ℕ
+unused_words kind = replicate (HEAD_WORDS - head_size kind) (2 ^ 64 - 1)
+
+-- the words of a head of this kind
 abbrev pub kind_words : Kind → ℕ → ℕ → List ℕ → List ℕ → List ℕ
-kind_words kind count height columns rows =
-    (meta_word count (length columns) height + kind_part kind columns) ∷ (column_words kind columns ++ (row_words kind rows ++ replicate (HEAD_WORDS - head_size kind) (2 ^ 64 - 1)))
+kind_words kind count height columns rows = numbers_word kind count height columns ∷ (column_words kind columns ++ (row_words kind rows ++ unused_words kind))
 
 -- the words at offsets 1 to HEAD_WORDS of a node record, in the kind that the columns take
 unfoldable pub fixed_words : ℕ → ℕ → List ℕ → List ℕ → List ℕ

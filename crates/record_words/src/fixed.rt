@@ -1,8 +1,8 @@
 //! The fixed words of a node: all but its state and its entries.
 
 ghost use Rattle.std.specs.Prelude.{ℕ, ◌≡◌, ◌+◌, ◌<◌, length, slice_index};
-ghost use Rattle.record_words.specs.Kinds.{kind_of, kind_part};
-ghost use Rattle.record_words.specs.Packed.{meta_word, position_at, position_word, row_word, row_words};
+ghost use Rattle.record_words.specs.Kinds.{kind_of};
+ghost use Rattle.record_words.specs.Packed.{numbers_word, position_at, position_word, row_word, row_words};
 ghost use Rattle.record_words.specs.declared.kind.Kind.TheVariants.{Middle, Narrow};
 ghost use Rattle.record_words.specs.Node.{InNodesOf};
 ghost use Rattle.partial_keys.specs.Columns.{with_free};
@@ -28,7 +28,7 @@ pub(crate) fn read_positions(words: &[u64]) -> [u16; MAX_COLUMNS]
 /// 40 on have the kind: 0 for wide, 1 for narrow, 2 for middle.
 pub(crate) fn word_of_numbers(count: u8, columns: &Columns, height: u16, kind: Kind) -> u64
     requires { kind ≡ kind_of columns.now }
-    ensures { result ≡ meta_word count (length columns.now) height + kind_part kind columns.now }
+    ensures { result ≡ numbers_word kind count height columns.now }
 {
     let numbers = count as u64 + 256 * columns.count() as u64 + 65_536 * height as u64;
     let first = (columns.first() as u64 / 9) << 32;
