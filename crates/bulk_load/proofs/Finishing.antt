@@ -41,7 +41,8 @@ use Rattle.versions.proofs.Legal.{linked_cases}
 use Rattle.rowex_core.specs.Cores.{Core, heap_of, fields_in, HasRecord, FitsIn}
 use Rattle.rowex_core.specs.Events.{IsLoad, after, loaded_root, loaded_tree, tree_of}
 use Rattle.rowex_core.specs.Opening.{opening}
-use Rattle.rowex_core.specs.Reading.{IsPacked, entry_of, node_words_of, leaf_of}
+use Rattle.record_words.specs.Decoding.{entry_of}
+use Rattle.rowex_core.specs.Reading.{IsPacked, node_words_of, leaf_of}
 use Rattle.rowex_core.specs.Words.{word_at, tag_of}
 use Rattle.rowex_core.proofs.Reading.{entry_of_word}
 use Rattle.rowex_core.proofs.Valuing.{tree_read}

@@ -22,7 +22,8 @@ use Rattle.finite_map.specs.Scans.{IsLawfulScan, IsUpToLast}
 use Rattle.finite_map.specs.Weaves.{LegalHistory, answered, calls_of, weave}
 use Rattle.plain_index.specs.Orders.{AreWoven, calls_in}
 use Rattle.record_words.specs.declared.layout.Layout.{Layout}
-use Rattle.rowex_core.specs.Cores.{Core, IsLawful, value_offset}
+use Rattle.record_words.specs.declared.TheConstants.{VALUE_OFFSET}
+use Rattle.rowex_core.specs.Cores.{Core, IsLawful}
 use Rattle.rowex_core.specs.Events.{IsLoad, loaded_tree}
 use Rattle.rowex_core.specs.Reading.{head_value}
 use Rattle.rowex_core.specs.Statements.{EntriesInReach, InReach, StoodLast}
@@ -146,7 +147,7 @@ pub record BoundedSteps : Type 0 where
 abbrev pub ValuesInReach : Type 0
 ValuesInReach =
     (c : Core) → IsLawful c → (q : ℕ) (p : Pin) → c.pins q ≡ Some p → (m l : ℕ) (u : Tree) → p.version ≤ m → m ≤ c.past.now → Stands c.past m (a_leaf l) u →
-    (o : ℕ) × (v : Tree) × (m ≤ o) × StoodLast c.past o (a_leaf l) v × (head_value v ≡ Some (record_word c (a_leaf l) value_offset))
+    (o : ℕ) × (v : Tree) × (m ≤ o) × StoodLast c.past o (a_leaf l) v × (head_value v ≡ Some (record_word c (a_leaf l) VALUE_OFFSET))
 
 pub record Headline : Type 0 where
   pub history : History

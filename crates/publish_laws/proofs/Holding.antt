@@ -12,7 +12,7 @@ use Rattle.version_laws.specs.Spots.{HoldsSpot, by_anchor, by_node, IsLowAt, Aff
 use Rattle.rowex_core.specs.declared.event.Spot.{Spot}
 use Rattle.rowex_core.specs.declared.known.Known.{Known}
 use Rattle.rowex_core.specs.declared.known.Locked.{Locked}
-use Rattle.rowex_core.specs.Reading.{entry_of}
+use Rattle.record_words.specs.Decoding.{entry_of}
 use Rattle.rowex_core.specs.Cores.{Core, bare, heap_of}
 use Rattle.rowex_core.specs.Events.{IsLockedAt, IsOfEntry, IsPackedAt, stored_words, stored_root}
 use Rattle.rowex_core.specs.Knowing.{Knows}

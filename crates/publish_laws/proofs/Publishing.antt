@@ -16,7 +16,7 @@ use Rattle.version_laws.specs.Statements.{IsPublished}
 use Rattle.version_laws.proofs.Now.{trie_now}
 use Rattle.rowex_core.specs.declared.event.Spot.{Spot}
 use Rattle.rowex_core.specs.declared.event.Spot.TheVariants.{Root, Slot, Value}
-use Rattle.rowex_core.specs.Reading.{entry_of}
+use Rattle.record_words.specs.Decoding.{entry_of}
 use Rattle.rowex_core.specs.Cores.{Core, IsLawful, bare, heap_of}
 use Rattle.rowex_core.specs.Events.{IsLockedAt, IsOfEntry, IsPackedAt, IsWordFor, stored_words, stored_root}
 use Rattle.rowex_core.proofs.Reading.{entry_of_word}

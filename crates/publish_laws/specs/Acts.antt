@@ -3,7 +3,7 @@ use Rattle.std.specs.Prelude.{◌≡◌, ℕ, ◌+◌, List, Some, get_or}
 use Rattle.compound_node.specs.declared.entries.Entry.TheVariants.{Node}
 use Rattle.node_tries.specs.Piece.{Place}
 use Rattle.record_words.specs.declared.layout.Layout.{Layout}
-use Rattle.record_words.specs.declared.TheConstants.{HEAD_WORDS}
+use Rattle.record_words.specs.declared.TheConstants.{FIELDS_OFFSET, HEAD_WORDS}
 use Rattle.tries.specs.Keys.{Key}
 use Rattle.tries.specs.Place.{subtrie_sibling}
 use Rattle.record_words.specs.declared.records.Rec.TheVariants.{Node as a_node}
@@ -38,7 +38,7 @@ abbrev pub LoadsOfLocked : Type 0
 LoadsOfLocked =
     (layout : Layout) (k j : Known) (n : ℕ) (words : List ℕ) → IsOneOf (record { node = n; words = words }) k.locks →
     ((i w : ℕ) → IsEvent layout (LoadRef (Slot n i) w) silent k j → w ≡ get_or words (HEAD_WORDS + i) 0) ×
-    ((i w : ℕ) → IsEvent layout (LoadFixed (a_node n) (i + 1) w) silent k j → w ≡ get_or words i 0)
+    ((i w : ℕ) → IsEvent layout (LoadFixed (a_node n) (i + FIELDS_OFFSET) w) silent k j → w ≡ get_or words i 0)
 
 -- After each act but a publish, a pin or an unpin a pass recalls all that it did before.
 abbrev pub ActGoesOn : Type 0

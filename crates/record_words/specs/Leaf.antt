@@ -2,7 +2,8 @@
 use Rattle.std.specs.Prelude.{ℕ, ◌≡◌, ◌+◌, ◌-◌, ◌*◌, ◌/◌, ◌^◌, ◌<◌, cond, nat_eq, nat_lt, if◌then◌else◌, List, length, map, drop, get_or, slice_index}
 use Rattle.std.specs.List.{range_with_len}
 use Rattle.std.specs.Int.{from_be_bytes, w64}
-use Rattle.record_words.specs.declared.TheConstants.{KEY_WORDS, LEAF_FIELDS}
+use Rattle.record_words.specs.Decoding.{key_length_in}
+use Rattle.record_words.specs.declared.TheConstants.{FIELDS_OFFSET, FIRST_KEY_WORD, KEY_OFFSET, KEY_WORDS, LEAF_FIELDS, LENGTH_OFFSET, VALUE_OFFSET}
 use Rattle.key_bits.specs.Key.{IsKey}
 use Rattle.key_bits.specs.declared.TheConstants.{MAX_BYTES}
 
@@ -16,20 +17,20 @@ words_of_key n = (n + 7) / 8
 
 -- how many words a leaf record needs for a key of this length: those of the state, the value and the length, and the key's own
 abbrev pub words_for : ℕ → ℕ
-words_for n = 3 + words_of_key n
+words_for n = KEY_OFFSET + words_of_key n
 
 -- the word at an offset of a leaf record, after that of the state
 abbrev pub leaf_word : List ℕ × ℕ → ℕ → ℕ
-leaf_word (key, value) offset = cond (nat_eq offset 1) value (cond (nat_eq offset 2) (length key) (key_word key (offset - 3)))
+leaf_word (key, value) offset = cond (nat_eq offset VALUE_OFFSET) value (cond (nat_eq offset LENGTH_OFFSET) (length key) (key_word key (offset - KEY_OFFSET)))
 
 -- the words at offsets 1 to LEAF_FIELDS
 unfoldable pub leaf_words : List ℕ × ℕ → List ℕ
-leaf_words leaf = map (leaf_word leaf) (range_with_len 1 LEAF_FIELDS)
+leaf_words leaf = map (leaf_word leaf) (range_with_len FIELDS_OFFSET LEAF_FIELDS)
 
 -- The words of a leaf record as far as they say something: the value, the length of the key, and the words with bytes of it. What stands
 -- behind these is of no leaf, and counts as 0.
 unfoldable pub up_to_key : List ℕ → List ℕ
-up_to_key words = map (λ i. if nat_lt i (2 + words_of_key (get_or words 1 0)) then get_or words i 0 else 0) (range_with_len 0 LEAF_FIELDS)
+up_to_key words = map (λ i. if nat_lt i (FIRST_KEY_WORD + words_of_key (key_length_in words)) then get_or words i 0 else 0) (range_with_len 0 LEAF_FIELDS)
 
 -- a key, and a value of 64 bits
 pub record HasLeafWords (leaf : List ℕ × ℕ) : Type 0 where

@@ -1,4 +1,5 @@
 -- The definitions of the crate.
+pub mod Decoding
 pub mod Dropping
 pub mod Entry
 pub mod HeadParts

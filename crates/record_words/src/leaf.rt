@@ -5,7 +5,7 @@ ghost use Rattle.key_bits.specs.declared.TheConstants.{MAX_BYTES};
 ghost use Rattle.record_words.specs.declared.TheConstants.{KEY_WORDS, LEAF_WORDS};
 ghost use Rattle.record_words.specs.Leaf.{HasLeafWords, key_word, leaf_words, words_for, words_of_key};
 
-use crate::{FIRST_KEY_WORD, KEY_OFFSET, KEY_WORDS, LEAF_FIELDS};
+use crate::{FIRST_KEY_WORD, KEY_OFFSET, KEY_WORDS, LEAF_FIELDS, LENGTH_INDEX, VALUE_INDEX};
 use key_bits::{Key, MAX_BYTES};
 
 /// How many words the bytes of a key take in a leaf, if it has `length` of them: 0 to `KEY_WORDS`.
@@ -41,8 +41,8 @@ pub fn pack_leaf(key: &Key, value: u64) -> [u64; LEAF_FIELDS]
 {
     let length = key.as_bytes().len() as u64;
     let mut words = [0; LEAF_FIELDS];
-    words[0] = value;
-    words[1] = length;
+    words[VALUE_INDEX] = value;
+    words[LENGTH_INDEX] = length;
     for j in 0..count_key_words(length) {
         words[FIRST_KEY_WORD + j] = key_word_at(key, j);
     }

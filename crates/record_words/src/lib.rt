@@ -37,7 +37,8 @@
 //!
 //! `specs/Kinds` says which kind columns take, and what the lanes of near ones are. `specs/Packed` has the words: `column_words`, `row_words`,
 //! `kind_words`, and `fixed_words`, which takes the kind of the columns. So the words of a head stay a function of the head.
-//! `specs/HeadParts` has the parts that a search loads, and `AreNumbersOf`, what the first word tells.
+//! `specs/HeadParts` has the parts that a search loads, and `AreNumbersOf`, what the first word tells. `specs/Decoding` says what words
+//! tell, whatever they are.
 //!
 //! | function | its contract |
 //! |---|---|
@@ -147,13 +148,22 @@ pub const LENGTH_OFFSET: u8 = 2;
 /// The offset of the first word with bytes of a leaf's key, eight each.
 pub const KEY_OFFSET: u8 = 3;
 
+/// The index of the word with a node's numbers, the first of its head.
+pub const NUMBERS_INDEX: usize = 0;
+
+/// The index of the word with a leaf's value.
+pub const VALUE_INDEX: usize = 0;
+
+/// The index of the word with the length of a leaf's key.
+pub const LENGTH_INDEX: usize = 1;
+
 /// The index of the first word with bytes of a leaf's key.
 pub const FIRST_KEY_WORD: usize = 2;
 
 /// How many words a node's head has, from index 0 on: those of the numbers, the positions and the rows.
 pub const HEAD_WORDS: usize = 25;
 
-/// The index of the first word with positions of a wide head's columns, four each. The word of the numbers stands before it.
+/// The index of the first word with columns, in a wide head the positions of four. The word of the numbers stands before it.
 pub const FIRST_POSITIONS: usize = 1;
 
 /// The index of the first word with rows of a wide head, two each. The words of the numbers and the positions stand before it.

@@ -2,6 +2,7 @@
 
 ghost use Rattle.std.specs.Prelude.{◌≡◌, ◌+◌, ◌-◌, ◌/◌, ◌%◌, ◌^◌, ◌<◌, ℕ, slice_index};
 ghost use Rattle.compound_node.specs.Nodes.{IsLawfulNode, NodeView, head_of};
+ghost use Rattle.record_words.specs.Decoding.{column_count_in, count_in, first_byte_in, height_in};
 ghost use Rattle.record_words.specs.HeadParts.{AreNumbersOf, InNodesWith};
 ghost use Rattle.record_words.specs.Kinds.{bit_mask, kind_in, mask_index};
 ghost use Rattle.record_words.specs.Node.{head_words};
@@ -139,8 +140,8 @@ impl HeadNumbers {
 /// The numbers of entries and of columns, the height and the kind of each node whose head begins with `word`.
 #[inline(always)]
 pub fn read_numbers(word: u64) -> HeadNumbers
-    ensures parts { (result.count ≡ word % 256) × (result.columns ≡ word / 256 % 256) × (result.height ≡ word / 65536 % 65536) × (result.kind ≡ kind_in word) ×
-        (result.first_byte ≡ word / 2 ^ 32 % 2 ^ 8) }
+    ensures parts { (result.count ≡ count_in word) × (result.columns ≡ column_count_in word) × (result.height ≡ height_in word) × (result.kind ≡ kind_in word) ×
+        (result.first_byte ≡ first_byte_in word) }
     ensures node { (node : NodeView) → IsLawfulNode node → slice_index (head_words (head_of node)) 0 ≡ word →
         AreNumbersOf result node }
 {

@@ -10,7 +10,8 @@ use Rattle.record_words.specs.Leaf.{HasLeafWords, key_word, leaf_words, up_to_ke
 use Rattle.record_words.proofs.Bytes.{key_word-bytes, same_key_bytes, small_byte}
 use Rattle.record_words.proofs.Leaves.{IsLeafOf, leaf_words_parts}
 use Rattle.record_words.proofs.UpToKey.{up_to_key_before, up_to_key_size, up_to_key_value}
-use Rattle.rowex_core.specs.Reading.{bytes_in, leaf_of}
+use Rattle.record_words.specs.Decoding.{bytes_in}
+use Rattle.rowex_core.specs.Reading.{leaf_of}
 
 -- ---- a word of a key, and its bytes
 

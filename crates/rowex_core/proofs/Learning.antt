@@ -30,7 +30,8 @@ use Rattle.rowex_core.specs.declared.known.Locked.{Locked}
 use Rattle.rowex_core.specs.declared.known.FailedAct.{FailedAct}
 use Rattle.rowex_core.specs.declared.known.FailedAct.TheVariants.{Claim as a_claim, Lock as a_lock, LoadState as a_load}
 use Rattle.rowex_core.specs.declared.known.Known.{Known}
-use Rattle.rowex_core.specs.Reading.{entry_of, head_entry, root_of}
+use Rattle.record_words.specs.Decoding.{entry_of}
+use Rattle.rowex_core.specs.Reading.{head_entry, root_of}
 use Rattle.rowex_core.specs.Cores.{Core, IsLawful, heap_of, holder_of}
 use Rattle.rowex_core.specs.Words.{record_word}
 use Rattle.versions.proofs.Publish.{version_old}

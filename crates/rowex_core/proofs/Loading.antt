@@ -14,7 +14,8 @@ use Rattle.versions.specs.State.{Stands, IsReach, last_of, Spans, IsRecord, Stat
 use Rattle.versions.specs.Core.{Fate, Free, Held as HeldBy, Ready as ReadyBy, InTree, Unlinked as UnlinkedBy, Marked, life_of, view as versions_of}
 use Rattle.versions.proofs.States.{spans_last, spans_ended, reach_later}
 use Rattle.rowex_core.specs.declared.known.Fact.TheVariants.{Placed, Fixed as FixedWord, Valued}
-use Rattle.rowex_core.specs.Reading.{entry_of, node_words_of, leaf_of, IsPacked, entry_in, head_value, HasWordAt}
+use Rattle.record_words.specs.Decoding.{entry_of}
+use Rattle.rowex_core.specs.Reading.{node_words_of, leaf_of, IsPacked, entry_in, head_value, HasWordAt}
 use Rattle.rowex_core.specs.Cores.{Core, IsLawful, IsWhole, heap_of, bare}
 use Rattle.rowex_core.specs.Words.{record_word}
 use Rattle.rowex_core.specs.Events.{IsFixedOffset}

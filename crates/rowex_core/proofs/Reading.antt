@@ -1,11 +1,10 @@
 -- Reading the words of a record that spell a value gives the value's parts.
-use Rattle.std.proofs.Common.{◌≡◌, ◌⊎◌, inl, inr, ⊎_elim, ℕ, zero, suc, ◌+◌, ◌-◌, ◌*◌, ◌/◌, ◌%◌, ◌^◌, ◌<◌, ◌≤◌, List, [], ◌∷◌, ◌++◌, length, get_or, take, drop, map, Option, Some, None, nat_lt, eqb, ltb, if◌then◌else◌, true, false, refl, sym, ap, ap₂, ◌∙◌, arith, lit<, length-take, get_or-take, get_or-drop}
+use Rattle.std.proofs.Common.{◌≡◌, ◌⊎◌, inl, inr, ℕ, zero, suc, ◌+◌, ◌-◌, ◌*◌, ◌/◌, ◌%◌, ◌^◌, ◌<◌, ◌≤◌, List, [], ◌∷◌, ◌++◌, length, get_or, take, drop, map, Option, Some, None, nat_lt, eqb, ltb, if◌then◌else◌, true, false, refl, sym, ap, ap₂, ◌∙◌, arith, length-take, get_or-take, get_or-drop}
 use Rattle.std.specs.Prelude.{All, slice_get}
 use Rattle.std.specs.Option.{unwrap_or}
 use Rattle.std.proofs.lemmas.Bool.{eq-eqb, ne_eqb, cases_lt, lt-ltb, le-ltb}
 use Rattle.std.proofs.lemmas.List.{ext_get_or, get_or_default, take_at, drop_at, length-take-le, length-map, get_or-map}
 use Rattle.std.proofs.lemmas.List.FromFn.{length-map-range_with_len, get_or-map-range_with_len}
-use Rattle.std.proofs.lemmas.List.Elements.{All-get_or, All-take, All-drop}
 use Rattle.std.proofs.lemmas.Option.{unwrap_or-slice_get}
 use Rattle.compound_node.specs.declared.entries.Entry.{Entry}
 use Rattle.compound_node.specs.declared.entries.Entry.TheVariants.{Leaf, Node}
@@ -25,7 +24,8 @@ use Rattle.record_words.proofs.TellingHead.{middle_row_is, narrow_row_is, near_c
 use Rattle.tries.specs.Tree.{Subtrie}
 use Rattle.tries.specs.Place.{entry_at}
 use Rattle.versions.specs.Heap.{NodeWords}
-use Rattle.rowex_core.specs.Reading.{column_byte, column_in, entry_of, entries_of, fixed_of, node_words_of, row_in}
+use Rattle.record_words.specs.Decoding.{column_byte, column_in, entry_of, entries_of, row_in}
+use Rattle.rowex_core.specs.Reading.{fixed_of, node_words_of}
 use Rattle.node_tries.proofs.Paths.{length-places}
 
 -- Entries

@@ -17,7 +17,8 @@ use Rattle.versions.proofs.Heaps.{near_refl}
 use Rattle.versions.proofs.Legal.{same_rec_true}
 use Rattle.rowex_core.specs.declared.event.Spot.{Spot}
 use Rattle.rowex_core.specs.declared.event.Spot.TheVariants.{Root, Slot, Value}
-use Rattle.rowex_core.specs.Reading.{node_words_of, fixed_of, entries_of, entry_of}
+use Rattle.record_words.specs.Decoding.{entries_of, entry_of}
+use Rattle.rowex_core.specs.Reading.{node_words_of, fixed_of}
 use Rattle.rowex_core.specs.Cores.{Core, heap_of}
 use Rattle.rowex_core.specs.Events.{stored_words}
 use Rattle.rowex_core.proofs.Valuing.{key_stays}

@@ -1,7 +1,7 @@
 -- The state of the shared words and of all versions so far.
 use Rattle.std.specs.Prelude.{◌≡◌, ◌⊎◌, ℕ, ◌+◌, ◌<◌, ◌≤◌, ◌^◌, List, length, get_or, map, All, if◌then◌else◌, nat_lt, Option, Some, None}
 use Rattle.std.specs.List.{range_with_len}
-use Rattle.record_words.specs.declared.TheConstants.{EPOCHS, NODE_WORDS, NODE_FIELDS, LEAF_FIELDS}
+use Rattle.record_words.specs.declared.TheConstants.{EPOCHS, FIELDS_OFFSET, NODE_WORDS, NODE_FIELDS, LEAF_FIELDS}
 use Rattle.record_words.specs.declared.layout.Layout.{Layout}
 use Rattle.record_words.specs.declared.records.Rec.{Rec}
 use Rattle.record_words.specs.declared.records.Rec.TheVariants.{Node as a_node, Leaf as a_leaf}
@@ -9,6 +9,7 @@ use Rattle.versions.specs.declared.Pin.{Pin}
 use Rattle.versions.specs.declared.Round.{Round}
 use Rattle.versions.specs.Heap.{Heap}
 use Rattle.versions.specs.Steps.{IsLawfulCore}
+use Rattle.record_words.specs.Decoding.{key_length_in}
 use Rattle.record_words.specs.Entry.{HasEntryWord}
 use Rattle.record_words.specs.Layout.{node_start, leaf_start, leaf_size}
 use Rattle.record_words.specs.Leaf.{words_for}
@@ -46,11 +47,7 @@ HasWord layout r offset = offset < size_of layout r
 -- the table has a word for each that has bytes of the key
 abbrev pub FitsIn : Layout → Rec → List ℕ → Type 0
 FitsIn layout (a_node n) words = Unit {0}
-FitsIn layout (a_leaf n) words = words_for (get_or words 1 0) ≤ leaf_size layout n
-
--- the offset of a leaf's value
-abbrev pub value_offset : ℕ
-value_offset = 1
+FitsIn layout (a_leaf n) words = words_for (key_length_in words) ≤ leaf_size layout n
 
 -- a record has this many words, each of 64 bits, and a leaf has as many whatever its class
 abbrev pub word_count_of : Rec → ℕ
@@ -59,9 +56,9 @@ word_count_of (a_leaf n) = LEAF_FIELDS
 
 -- the words of a record behind its state, in the words of a table; a leaf has 0 for those past the record's
 unfoldable pub fields_in : Layout → List ℕ → Rec → List ℕ
-fields_in layout table (a_node n) = map (λ i. get_or table (node_start layout n + (1 + i)) 0) (range_with_len 0 NODE_FIELDS)
+fields_in layout table (a_node n) = map (λ i. get_or table (node_start layout n + (FIELDS_OFFSET + i)) 0) (range_with_len 0 NODE_FIELDS)
 fields_in layout table (a_leaf n) =
-    map (λ i. if nat_lt (1 + i) (leaf_size layout n) then get_or table (leaf_start layout n + (1 + i)) 0 else 0) (range_with_len 0 LEAF_FIELDS)
+    map (λ i. if nat_lt (FIELDS_OFFSET + i) (leaf_size layout n) then get_or table (leaf_start layout n + (FIELDS_OFFSET + i)) 0 else 0) (range_with_len 0 LEAF_FIELDS)
 
 abbrev pub IsSized : Rec → List ℕ → Type 0
 IsSized r words = (length words ≡ word_count_of r) × All (λ w. w < 2 ^ 64) words

@@ -7,7 +7,7 @@ use Rattle.finite_map.specs.declared.Change.{Change}
 use Rattle.finite_map.specs.declared.Kind.TheVariants.{Replaced, Removed}
 use Rattle.finite_map.specs.Maps.{key_order}
 use Rattle.partial_keys.specs.declared.TheConstants.{MAX_ENTRIES}
-use Rattle.record_words.specs.declared.TheConstants.{EPOCHS, ROOT_WORD, FIRST_ENTRY, NODE_WORDS, LEAF_WORDS}
+use Rattle.record_words.specs.declared.TheConstants.{EPOCHS, FIELDS_OFFSET, FIRST_ENTRY, LEAF_WORDS, NODE_WORDS, ROOT_WORD, VALUE_OFFSET}
 use Rattle.record_words.specs.Entry.{HasEntryWord, entry_word}
 use Rattle.record_words.specs.State.{state_word}
 use Rattle.record_words.specs.declared.state.Tag.TheVariants.{Free as FreeTag, Held as HeldTag, Live, Locked, Obsolete}
@@ -32,8 +32,9 @@ use Rattle.rowex_core.specs.declared.event.Target.{Target}
 use Rattle.rowex_core.specs.declared.event.Target.TheVariants.{Anchor, Node as NodeTarget}
 use Rattle.rowex_core.specs.declared.event.Spot.{Spot}
 use Rattle.rowex_core.specs.declared.event.Spot.TheVariants.{Root, Slot, Value}
-use Rattle.rowex_core.specs.Reading.{entry_of, leaf_of, IsPacked}
-use Rattle.rowex_core.specs.Cores.{Core, bare, heap_of, fields_in, HasRecord, HasWord, FitsIn, value_offset}
+use Rattle.record_words.specs.Decoding.{entry_of}
+use Rattle.rowex_core.specs.Reading.{leaf_of, IsPacked}
+use Rattle.rowex_core.specs.Cores.{Core, bare, heap_of, fields_in, HasRecord, HasWord, FitsIn}
 use Rattle.rowex_core.specs.Opening.{opening}
 use Rattle.rowex_core.specs.Words.{lock_tag, state_at, pin_word, record_word}
 
@@ -41,14 +42,14 @@ use Rattle.rowex_core.specs.Words.{lock_tag, state_at, pin_word, record_word}
 
 -- the records' words with one of them changed
 abbrev pub with_word : (Rec → List ℕ) → Rec → ℕ → ℕ → Rec → List ℕ
-with_word words r offset w i = if same_rec i r then set (words r) (offset - 1) w else words i
+with_word words r offset w i = if same_rec i r then set (words r) (offset - FIELDS_OFFSET) w else words i
 
 -- Publishing: what a word stored at a spot makes
 
 abbrev pub stored_words : Core → Spot → ℕ → Rec → List ℕ
 stored_words c Root w = c.words
 stored_words c (Slot n j) w = with_word c.words (a_node n) (FIRST_ENTRY + j) w
-stored_words c (Value l) w = with_word c.words (a_leaf l) value_offset w
+stored_words c (Value l) w = with_word c.words (a_leaf l) VALUE_OFFSET w
 
 abbrev pub stored_root : Core → Spot → ℕ → Option Entry
 stored_root c Root w = entry_of w
@@ -116,13 +117,13 @@ pub record IsLoad (layout : Layout) (words : List ℕ) : Type 0 where
 
 -- the offsets of a record's words but the state
 abbrev pub IsOffset : Rec → ℕ → Type 0
-IsOffset (a_node n) offset = (1 ≤ offset) × (offset < NODE_WORDS)
-IsOffset (a_leaf n) offset = (1 ≤ offset) × (offset < LEAF_WORDS)
+IsOffset (a_node n) offset = (FIELDS_OFFSET ≤ offset) × (offset < NODE_WORDS)
+IsOffset (a_leaf n) offset = (FIELDS_OFFSET ≤ offset) × (offset < LEAF_WORDS)
 
 -- and but the entries, and the value
 abbrev pub IsFixedOffset : Rec → ℕ → Type 0
-IsFixedOffset (a_node n) offset = (1 ≤ offset) × (offset < FIRST_ENTRY)
-IsFixedOffset (a_leaf n) offset = (value_offset < offset) × (offset < LEAF_WORDS)
+IsFixedOffset (a_node n) offset = (FIELDS_OFFSET ≤ offset) × (offset < FIRST_ENTRY)
+IsFixedOffset (a_leaf n) offset = (VALUE_OFFSET < offset) × (offset < LEAF_WORDS)
 
 abbrev pub IsInTree : Core → ℕ → Type 0
 IsInTree c n = (since : ℕ) × (c.fate (a_node n) ≡ InTree since)
@@ -165,7 +166,7 @@ LegalAct c q (Ready r) = HasRecord c.layout r × (c.fate r ≡ Held q) × IsPack
 LegalAct c q (Release r) = HasRecord c.layout r × (c.fate r ≡ Held q)
 LegalAct c q (LoadRef Root w) = w ≡ entry_word c.root
 LegalAct c q (LoadRef (Slot n j) w) = (n < c.layout.nodes) × (j < MAX_ENTRIES) × (w ≡ record_word c (a_node n) (FIRST_ENTRY + j))
-LegalAct c q (LoadRef (Value l) w) = (l < c.layout.leaves) × (w ≡ record_word c (a_leaf l) value_offset)
+LegalAct c q (LoadRef (Value l) w) = (l < c.layout.leaves) × (w ≡ record_word c (a_leaf l) VALUE_OFFSET)
 LegalAct c q (LoadFixed r offset w) = HasRecord c.layout r × IsFixedOffset r offset × (w ≡ record_word c r offset) × HasWord c.layout r offset
 LegalAct c q (Lock Anchor found) = found ≡ state_word (lock_tag c.anchor)
 LegalAct c q (Lock (NodeTarget n) found) = (n < c.layout.nodes) × (found ≡ state_at c (a_node n)) × (found ≡ state_word Live → IsInTree c n)
@@ -270,7 +271,7 @@ state_of r = word_of r 0
 abbrev pub spot_word : Spot → Location
 spot_word Root = RootWord
 spot_word (Slot n j) = NodeWord n (FIRST_ENTRY + j)
-spot_word (Value l) = LeafWord l value_offset
+spot_word (Value l) = LeafWord l VALUE_OFFSET
 
 abbrev pub target_word : Target → Location
 target_word Anchor = AnchorWord

@@ -2,7 +2,8 @@
 use Rattle.std.specs.Prelude.{◌≡◌, ℕ}
 use Rattle.finite_map.specs.Fronts.{OthersGoOn}
 use Rattle.versions.specs.Frames.{IsGrown}
-use Rattle.rowex_core.specs.Cores.{Core, value_offset}
+use Rattle.record_words.specs.declared.TheConstants.{VALUE_OFFSET}
+use Rattle.rowex_core.specs.Cores.{Core}
 use Rattle.record_words.specs.declared.records.Rec.TheVariants.{Leaf as a_leaf}
 use Rattle.rowex_core.specs.declared.event.Spot.TheVariants.{Value}
 use Rattle.rowex_core.specs.Words.{record_word}
@@ -16,4 +17,4 @@ pub record IsFrame (q : ℕ) (c d : Core) : Type 0 where
   pub changes : OthersGoOn q c.changes d.changes
   pub own : share q d ≡ share q c
   -- and so are the values of leaves of which it has locked what names them
-  pub values : (l : ℕ) → IsLockedAt c q (Value l) → record_word d (a_leaf l) value_offset ≡ record_word c (a_leaf l) value_offset
+  pub values : (l : ℕ) → IsLockedAt c q (Value l) → record_word d (a_leaf l) VALUE_OFFSET ≡ record_word c (a_leaf l) VALUE_OFFSET

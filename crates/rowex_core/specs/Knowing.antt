@@ -4,7 +4,7 @@ use Rattle.compound_node.specs.declared.entries.Entry.{Entry}
 use Rattle.finite_map.specs.declared.Change.{Change}
 use Rattle.finite_map.specs.declared.Note.{Note}
 use Rattle.finite_map.specs.Fronts.{BeginsWith, OthersGoOn}
-use Rattle.record_words.specs.declared.TheConstants.{FIRST_ENTRY}
+use Rattle.record_words.specs.declared.TheConstants.{FIELDS_OFFSET, FIRST_ENTRY, VALUE_OFFSET}
 use Rattle.record_words.specs.declared.layout.Location.{Location}
 use Rattle.record_words.specs.declared.layout.Layout.{Layout}
 use Rattle.record_words.specs.declared.state.Tag.TheVariants.{Live, Free as FreeTag}
@@ -36,8 +36,9 @@ use Rattle.rowex_core.specs.declared.known.FailedAct.TheVariants.{Claim as a_cla
 use Rattle.rowex_core.specs.declared.known.Known.{Known}
 use Rattle.rowex_core.specs.declared.known.View.{View}
 use Rattle.rowex_core.specs.declared.known.View.TheVariants.{Spent, Dealer, Founder, Pass, Pair, Witness, Follower}
-use Rattle.rowex_core.specs.Cores.{Core, IsLawful, holder_of, value_offset}
-use Rattle.rowex_core.specs.Reading.{entry_of, root_of, entry_in, head_value, HasWordAt}
+use Rattle.rowex_core.specs.Cores.{Core, IsLawful, holder_of}
+use Rattle.record_words.specs.Decoding.{entry_of}
+use Rattle.rowex_core.specs.Reading.{root_of, entry_in, head_value, HasWordAt}
 use Rattle.rowex_core.specs.Sharing.{share, known_share, nothing}
 use Rattle.rowex_core.specs.Words.{record_word}
 use Rattle.rowex_core.specs.Events.{loaded_tree, Legal, IsLockedAt, stored_words, stored_root, next_change, next_tree, state_of, target_word}
@@ -64,7 +65,7 @@ IsFact s (Valued since at l v) = (at ≤ s.now) × HoldsIfStood s since at (a_le
 
 -- The leaf still has the value that the pass loaded, if it has locked what names the leaf.
 abbrev pub IsStillLoaded : ℕ → Core → Loaded → Type 0
-IsStillLoaded q c v = IsLockedAt c q (Value v.leaf) → record_word c (a_leaf v.leaf) value_offset ≡ v.value
+IsStillLoaded q c v = IsLockedAt c q (Value v.leaf) → record_word c (a_leaf v.leaf) VALUE_OFFSET ≡ v.value
 
 -- What it has seen is true: others alone have changed the map since; its last load of the root saw a front of that; and
 -- its facts are facts of the past.
@@ -138,7 +139,7 @@ abbrev pub with_holding : Rec → Holding → Owned → Owned
 with_holding r h o = if same_rec o.rec r then record o { holding = h } else o
 
 abbrev pub with_filled_word : Rec → ℕ → ℕ → Owned → Owned
-with_filled_word r offset w o = if same_rec o.rec r then record o { words = set o.words (offset - 1) w } else o
+with_filled_word r offset w o = if same_rec o.rec r then record o { words = set o.words (offset - FIELDS_OFFSET) w } else o
 
 abbrev pub without_record : Rec → List Owned → List Owned
 without_record r own = filter (λ o. not (same_rec o.rec r)) own
@@ -195,8 +196,8 @@ entry_learned c (Slot n j) k = record k {
 }
 entry_learned c (Value l) k = record k {
   front = c.changes;
-  facts = facts_with k.pin (λ since. Valued since c.past.now l (record_word c (a_leaf l) value_offset)) k.facts;
-  values = record { leaf = l; value = record_word c (a_leaf l) value_offset } ∷ k.values;
+  facts = facts_with k.pin (λ since. Valued since c.past.now l (record_word c (a_leaf l) VALUE_OFFSET)) k.facts;
+  values = record { leaf = l; value = record_word c (a_leaf l) VALUE_OFFSET } ∷ k.values;
 }
 
 -- the records of a tree

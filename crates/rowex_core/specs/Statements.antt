@@ -32,7 +32,8 @@ use Rattle.rowex_core.specs.declared.event.Spot.TheVariants.{Root}
 use Rattle.rowex_core.specs.declared.known.Known.{Known}
 use Rattle.rowex_core.specs.declared.known.View.{View}
 use Rattle.rowex_core.specs.declared.known.View.TheVariants.{Dealer}
-use Rattle.rowex_core.specs.Reading.{entry_of, node_words_of, entry_in, HasWordAt}
+use Rattle.record_words.specs.Decoding.{entry_of}
+use Rattle.rowex_core.specs.Reading.{node_words_of, entry_in, HasWordAt}
 use Rattle.rowex_core.specs.Cores.{Core, IsLawful, heap_of}
 use Rattle.rowex_core.specs.Words.{record_word, word_at, Shows}
 use Rattle.rowex_core.specs.Events.{loaded_tree, IsAtomic, IsFixedOffset, IsOfEntry, Legal, after, location_of, writes, stored_words, stored_root, next_tree, next_change}

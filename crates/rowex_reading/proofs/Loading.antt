@@ -14,9 +14,10 @@ use Rattle.rowex_core.specs.declared.known.Fact.TheVariants.{Rooted, Placed, Fix
 use Rattle.rowex_core.specs.declared.known.Fresh.{Fresh}
 use Rattle.rowex_core.specs.declared.known.Loaded.{Loaded}
 use Rattle.rowex_core.specs.declared.known.Known.{Known}
-use Rattle.rowex_core.specs.Cores.{Core, IsLawful, value_offset}
+use Rattle.record_words.specs.declared.TheConstants.{VALUE_OFFSET}
+use Rattle.rowex_core.specs.Cores.{Core, IsLawful}
 use Rattle.rowex_core.specs.Knowing.{IsFact, HoldsIfStood, StoodAs, StoodBetween, Recalls, IsEvent, facts_with, version_of}
-use Rattle.rowex_core.specs.Reading.{entry_of}
+use Rattle.record_words.specs.Decoding.{entry_of}
 use Rattle.rowex_core.specs.Words.{record_word}
 use Rattle.rowex_table.specs.Runs.{silent}
 use Rattle.rowex_reading.specs.Seen.{seen}
@@ -53,8 +54,8 @@ module _ (layout : Layout) (k j : Known) (p : Pin) (pinned : k.pin ≡ Some p) w
 
   pub value_taught : (l w : ℕ) (e : IsEvent layout (LoadRef (Value l) w) silent k j) → IsTaught e.core (Valued p.version e.core.past.now l w) k j
   value_taught l w e = subst (λ z. IsTaught e.core (Valued p.version e.core.past.now l z) k j) (sym e.legal.1.1)
-      (taught e.core k j p (λ since. Valued since e.core.past.now l (record_word e.core (a_leaf l) value_offset)) k.fresh
-      (record { leaf = l; value = record_word e.core (a_leaf l) value_offset } ∷ k.values) pinned (event_later e tt) e.learned_is)
+      (taught e.core k j p (λ since. Valued since e.core.past.now l (record_word e.core (a_leaf l) VALUE_OFFSET)) k.fresh
+      (record { leaf = l; value = record_word e.core (a_leaf l) VALUE_OFFSET } ∷ k.values) pinned (event_later e tt) e.learned_is)
 
   pub fixed_taught : (r : Rec) (offset w : ℕ) (e : IsEvent layout (LoadFixed r offset w) silent k j) → IsTaught e.core (Fixed p.version e.core.past.now r offset w) k j
   fixed_taught r offset w e =

@@ -22,7 +22,8 @@ use Rattle.rowex_core.specs.declared.known.Known.{Known}
 use Rattle.rowex_core.specs.Cores.{Core, IsLawful}
 use Rattle.rowex_core.specs.Knowing.{Recalls, IsEvent, StoodAs}
 use Rattle.rowex_core.proofs.Owning.{recalls}
-use Rattle.rowex_core.specs.Reading.{entry_of, entry_in}
+use Rattle.record_words.specs.Decoding.{entry_of}
+use Rattle.rowex_core.specs.Reading.{entry_in}
 use Rattle.rowex_core.specs.Words.{record_word}
 use Rattle.rowex_core.proofs.Reading.{entry_of_word}
 use Rattle.rowex_table.specs.Rule.{HasSpot}

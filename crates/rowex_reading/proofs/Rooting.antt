@@ -25,7 +25,8 @@ use Rattle.rowex_core.specs.declared.known.Known.{Known}
 use Rattle.rowex_core.specs.Cores.{Core, IsLawful, heap_of}
 use Rattle.rowex_core.specs.Knowing.{Recalls, IsEvent, IsPinnedSince, version_of}
 use Rattle.rowex_core.proofs.Owning.{pin_is}
-use Rattle.rowex_core.specs.Reading.{entry_of, root_of, head_entry}
+use Rattle.record_words.specs.Decoding.{entry_of}
+use Rattle.rowex_core.specs.Reading.{root_of, head_entry}
 use Rattle.rowex_core.proofs.Reading.{entry_of_word}
 use Rattle.rowex_table.specs.Runs.{silent}
 use Rattle.rowex_reading.specs.Seen.{RootIs, since}

@@ -5,6 +5,7 @@ use Rattle.compound_node.specs.declared.entries.Entry.{Entry}
 use Rattle.compound_node.specs.declared.entries.Entry.TheVariants.{Node}
 use Rattle.node_tries.specs.Piece.{size}
 use Rattle.record_words.specs.Node.{head_words}
+use Rattle.record_words.specs.declared.TheConstants.{FIELDS_OFFSET}
 use Rattle.tries.specs.Keys.{Key}
 use Rattle.tries.specs.Tree.{Subtrie}
 use Rattle.versions.specs.State.{Past}
@@ -77,7 +78,7 @@ IsStood k m r = IsPinnedSince k m × Sure k (λ s. StoodBetween s m s.now r)
 -- that is loaded it is sure, if it knew that the record stood.
 pub record AreLoaded (k j : Known) (r : Rec) (before : ℕ) (IsLoaded : ℕ → Type 0) (words : List ℕ) : Type 0 where
   pub later : IsLater k j
-  pub each : (m : ℕ) → IsStood k m r → (i : ℕ) → IsLoaded i → Sure j (λ s. StoodWithWord s m r (before + i + 1) (get_or words i 0))
+  pub each : (m : ℕ) → IsStood k m r → (i : ℕ) → IsLoaded i → Sure j (λ s. StoodWithWord s m r (before + i + FIELDS_OFFSET) (get_or words i 0))
 
 -- The leaf stood with this key and this value; where there is no value, with another key.
 abbrev pub IsCompared : Past → ℕ → ℕ → Key → Option ℕ → Type 0

@@ -21,11 +21,12 @@ use compound_node::Entry;
 use insert_cases::PathNode;
 use key_bits::{Key, MAX_BYTES};
 use record_words::{
-    CACHE_LINE_WORDS, FIELDS_OFFSET, FIRST_KEY_WORD, FIRST_ROWS, HEAD_WORDS, HeadNumbers,
-    KEY_OFFSET, Kind, LENGTH_OFFSET, MIDDLE_HEAD_WORDS, MIDDLE_KIND, NARROW_HEAD_WORDS,
-    NARROW_KIND, NODE_WORDS, ROW_WORDS, count_key_words, extract_dense_key, first_position_of,
-    index_of_first_position, key_word_at, kind_number, read_entry, read_numbers, read_some_entry,
-    search_middle, search_narrow, search_row_words, write_key_word,
+    CACHE_LINE_WORDS, FIELDS_OFFSET, FIRST_KEY_WORD, FIRST_POSITIONS, FIRST_ROWS, HEAD_WORDS,
+    HeadNumbers, KEY_OFFSET, Kind, LENGTH_OFFSET, MIDDLE_HEAD_WORDS, MIDDLE_KIND,
+    NARROW_HEAD_WORDS, NARROW_KIND, NODE_WORDS, NUMBERS_INDEX, ROW_WORDS, count_key_words,
+    extract_dense_key, first_position_of, index_of_first_position, key_word_at, kind_number,
+    read_entry, read_numbers, read_some_entry, search_middle, search_narrow, search_row_words,
+    write_key_word,
 };
 use rowex_core::{Gate, Rec, Spot};
 use rowex_table::{HotTable, RecordAt, TableSeat};
@@ -82,17 +83,32 @@ pub(crate) fn load_head_words<G: Gate>(
 {
     let node = table.locate(Rec::Node(number));
     let mut first = [0; 1];
-    load_head_part(table, seat, gate, node, 0, &mut first);
+    load_head_part(table, seat, gate, node, NUMBERS_INDEX, &mut first);
     let mut words = [u64::MAX; HEAD_WORDS];
-    words[0] = first[0];
+    words[NUMBERS_INDEX] = first[0];
+    let from = FIRST_POSITIONS;
     match read_numbers(first[0]).kind {
         Kind::Narrow => {
-            load_head_part(table, seat, gate, node, 1, &mut words[1..NARROW_HEAD_WORDS]);
+            load_head_part(
+                table,
+                seat,
+                gate,
+                node,
+                from,
+                &mut words[from..NARROW_HEAD_WORDS],
+            );
         }
         Kind::Middle => {
-            load_head_part(table, seat, gate, node, 1, &mut words[1..MIDDLE_HEAD_WORDS]);
+            load_head_part(
+                table,
+                seat,
+                gate,
+                node,
+                from,
+                &mut words[from..MIDDLE_HEAD_WORDS],
+            );
         }
-        Kind::Wide => load_head_part(table, seat, gate, node, 1, &mut words[1..]),
+        Kind::Wide => load_head_part(table, seat, gate, node, from, &mut words[from..]),
     }
     words
 }
@@ -112,7 +128,7 @@ pub fn load_path_node<G: Gate>(
         (head : HeadView) × IsHeadSeen seat.new.known m number h head × (result ≡ step_at head number 0) }
 {
     let words = load_head_words(table, seat, gate, number);
-    let numbers = read_numbers(words[0]);
+    let numbers = read_numbers(words[NUMBERS_INDEX]);
     let word = words[index_of_first_position(numbers.kind)];
     path_node(number, numbers, word, 0)
 }
@@ -168,28 +184,29 @@ pub fn search_node<G: Gate>(
         (result ≡ step_at head (record_number node.rec) (spot key.now (shape_of head))) }
 {
     let mut first = [0; 1];
-    load_head_part(table, seat, gate, node, 0, &mut first);
+    load_head_part(table, seat, gate, node, NUMBERS_INDEX, &mut first);
     touch_entries(table, node);
     let numbers = read_numbers(first[0]);
     let number = node.number();
+    let from = FIRST_POSITIONS;
     match kind_number(first[0]) {
         NARROW_KIND => {
             let mut words = [first[0]; NARROW_HEAD_WORDS];
-            load_head_part(table, seat, gate, node, 1, &mut words[1..]);
+            load_head_part(table, seat, gate, node, from, &mut words[from..]);
             let slot = search_narrow(&words, key);
             let word = words[index_of_first_position(Kind::Narrow)];
             path_node(number, numbers, word, slot)
         }
         MIDDLE_KIND => {
             let mut words = [first[0]; MIDDLE_HEAD_WORDS];
-            load_head_part(table, seat, gate, node, 1, &mut words[1..]);
+            load_head_part(table, seat, gate, node, from, &mut words[from..]);
             let slot = search_middle(&words, key);
             let word = words[index_of_first_position(Kind::Middle)];
             path_node(number, numbers, word, slot)
         }
         _ => {
             let mut front = [first[0]; FIRST_ROWS];
-            load_head_part(table, seat, gate, node, 1, &mut front[1..]);
+            load_head_part(table, seat, gate, node, from, &mut front[from..]);
             let dense = extract_dense_key(&front, key);
             let mut back = [0; ROW_WORDS];
             load_head_part(table, seat, gate, node, FIRST_ROWS, &mut back);

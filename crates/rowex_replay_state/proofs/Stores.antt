@@ -11,7 +11,8 @@ use Rattle.versions.specs.Steps.{same_rec}
 use Rattle.versions.proofs.Legal.{same_rec_refl, same_rec_true}
 use Rattle.rowex_core.specs.declared.event.Act.TheVariants.{Publish}
 use Rattle.rowex_core.specs.declared.event.Spot.TheVariants.{Root, Slot}
-use Rattle.rowex_core.specs.Reading.{entry_of, IsPacked}
+use Rattle.record_words.specs.Decoding.{entry_of}
+use Rattle.rowex_core.specs.Reading.{IsPacked}
 use Rattle.rowex_core.specs.Cores.{Core, IsLawful, IsWhole}
 use Rattle.rowex_core.specs.Events.{LegalAct, after, stored_words}
 use Rattle.rowex_core.proofs.Reading.{entry_of_word}

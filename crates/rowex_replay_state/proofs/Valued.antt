@@ -25,7 +25,8 @@ use Rattle.versions.specs.Told.{items_of}
 use Rattle.versions.proofs.Revalued.{revalued}
 use Rattle.rowex_core.specs.declared.event.Act.TheVariants.{Publish}
 use Rattle.rowex_core.specs.declared.event.Spot.TheVariants.{Value}
-use Rattle.rowex_core.specs.Reading.{entry_of, leaf_of, node_words_of, IsPacked}
+use Rattle.record_words.specs.Decoding.{entry_of}
+use Rattle.rowex_core.specs.Reading.{leaf_of, node_words_of, IsPacked}
 use Rattle.rowex_core.specs.Cores.{Core, IsLawful, IsWhole, HasRecord, bare}
 use Rattle.rowex_core.specs.Events.{IsLockedAt, after, next_tree, stored_words}
 use Rattle.rowex_core.proofs.Reading.{entry_of_word, entry_at_is, entry_word_is, few_entries, node_is}

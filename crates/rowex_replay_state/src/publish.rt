@@ -4,7 +4,7 @@ ghost use Rattle.std.specs.Prelude.{◌≡◌, ◌↔◌, IfOk, IsTrue, OnErr, S
 ghost use Rattle.record_words.specs.Entry.{HasEntryWord, entry_word};
 ghost use Rattle.rowex_core.specs.declared.event.Act.TheVariants.{Publish};
 ghost use Rattle.rowex_core.specs.declared.event.Spot.TheVariants.{Root, Slot, Value};
-ghost use Rattle.rowex_core.specs.Reading.{entry_of};
+ghost use Rattle.record_words.specs.Decoding.{entry_of};
 ghost use Rattle.rowex_replay_state.specs.Publishing.{AreRevalued, IsPublishJudged};
 ghost use Rattle.rowex_replay_state.specs.States.{HasLock, HasNamerLocked, IsStepped};
 

@@ -26,7 +26,8 @@ use Rattle.rowex_core.specs.declared.known.Fresh.{Fresh}
 use Rattle.rowex_core.specs.declared.known.Known.{Known}
 use Rattle.rowex_core.specs.Cores.{heap_of}
 use Rattle.rowex_core.specs.Knowing.{IsEvent, IsPinnedSince, Recalls}
-use Rattle.rowex_core.specs.Reading.{entry_of, node_words_of}
+use Rattle.record_words.specs.Decoding.{entry_of}
+use Rattle.rowex_core.specs.Reading.{node_words_of}
 use Rattle.rowex_core.specs.Sharing.{IsLocked}
 use Rattle.rowex_core.proofs.Owning.{knows_all, recalls}
 use Rattle.rowex_core.proofs.Reading.{entry_of_word, entry_at_is}

@@ -24,7 +24,8 @@ use Rattle.rowex_core.specs.declared.event.Act.TheVariants.{LoadRef}
 use Rattle.rowex_core.specs.declared.event.Spot.{Spot}
 use Rattle.rowex_core.specs.declared.event.Spot.TheVariants.{Root, Slot, Value}
 use Rattle.rowex_core.specs.declared.known.Known.{Known}
-use Rattle.rowex_core.specs.Cores.{Core, bare, value_offset}
+use Rattle.record_words.specs.declared.TheConstants.{VALUE_OFFSET}
+use Rattle.rowex_core.specs.Cores.{Core, bare}
 use Rattle.rowex_core.specs.Knowing.{IsEvent}
 use Rattle.rowex_core.specs.Reading.{leaf_of, node_words_of}
 use Rattle.rowex_core.specs.Words.{record_word}
@@ -79,7 +80,7 @@ named_below table a m key way found span t last n v is = go (cases_lt 0 (length 
         (Slot s.number (spot key (node_words_of words).subtrie), in_node s.number (spot key (node_words_of words).subtrie) words has entry refl)
 
 -- ---- its value is loaded
-value_is : (c : Core) (n w : ℕ) → w ≡ record_word c (a_leaf n) value_offset → (leaf_of (c.words (a_leaf n))).value ≡ w
+value_is : (c : Core) (n w : ℕ) → w ≡ record_word c (a_leaf n) VALUE_OFFSET → (leaf_of (c.words (a_leaf n))).value ≡ w
 unfolding leaf_of
 value_is c n w is = sym is
 

@@ -17,7 +17,7 @@ use Rattle.rowex_core.specs.declared.known.Fresh.{Fresh}
 use Rattle.rowex_core.specs.declared.known.Known.{Known}
 use Rattle.rowex_core.specs.Having.{AreKept}
 use Rattle.rowex_core.specs.Knowing.{IsEvent}
-use Rattle.rowex_core.specs.Reading.{entry_of}
+use Rattle.record_words.specs.Decoding.{entry_of}
 use Rattle.rowex_table.specs.Made.{nodes_of}
 use Rattle.rowex_table.specs.Publishes.{HasPublished, Publishes}
 use Rattle.rowex_table.specs.Rule.{MayStep}

@@ -5,7 +5,7 @@ ghost use Rattle.finite_map.specs.declared.Change.{Change};
 ghost use Rattle.insert_cases.specs.declared.choice.PathNode.{PathNode as PathNodeView};
 ghost use Rattle.record_words.specs.Entry.{HasEntryWord, entry_word};
 ghost use Rattle.record_words.specs.declared.records.Rec.TheVariants.{Node as a_node};
-ghost use Rattle.rowex_core.specs.Reading.{entry_of};
+ghost use Rattle.record_words.specs.Decoding.{entry_of};
 ghost use Rattle.rowex_table.specs.Made.{Made};
 ghost use Rattle.publish_laws.specs.Stages.{HasReady};
 ghost use Rattle.lone_runs.specs.Lone.{HasSpare};

@@ -2,7 +2,7 @@
 use Rattle.std.proofs.Common.{rules, ◌≡◌, ◌<◌, ◌^◌, ap, subst, ◌∙◌, Some}
 use Rattle.compound_node.specs.declared.entries.Entry.TheVariants.{Node}
 use Rattle.record_words.specs.Entry.{HasEntryWord, entry_word}
-use Rattle.rowex_core.specs.Reading.{entry_of}
+use Rattle.record_words.specs.Decoding.{entry_of}
 use Rattle.rowex_writing.proofs.Storing.{high}
 use Rattle.rowex_writing.proofs.publishing.stored_word.Goals as goal
 

@@ -1,0 +1,92 @@
+-- What words say, whatever they are; of words that spell a value these are its parts. The words of a record are those from offset 1 on.
+use Rattle.std.specs.Prelude.{ℕ, ◌+◌, ◌-◌, ◌*◌, ◌/◌, ◌%◌, ◌^◌, List, drop, get_or, map, nat_eq, take, Option, Some, None, if◌then◌else◌}
+use Rattle.std.specs.Int.{to_be_bytes, w64}
+use Rattle.std.specs.Int.Count.{count_leading_zeros}
+use Rattle.std.specs.List.{range_with_len}
+use Rattle.std.specs.Option.{unwrap_or}
+use Rattle.compound_node.specs.declared.entries.Entry.{Entry}
+use Rattle.compound_node.specs.declared.entries.Entry.TheVariants.{Leaf, Node}
+use Rattle.key_bits.specs.declared.TheConstants.{MAX_BYTES}
+use Rattle.record_words.specs.Entry.{entry_word}
+use Rattle.record_words.specs.Kinds.{kind_in, mask_index, position_index}
+use Rattle.record_words.specs.declared.kind.Kind.{Kind}
+use Rattle.record_words.specs.declared.kind.Kind.TheVariants.{Wide, Narrow, Middle}
+use Rattle.record_words.specs.declared.TheConstants.{FIRST_KEY_WORD, FIRST_MIDDLE_ROWS, FIRST_NARROW_ROWS, FIRST_POSITIONS, FIRST_ROWS, HEIGHT_BIT, LENGTH_INDEX, NUMBERS_INDEX, VALUE_INDEX}
+
+-- ---- an entry word
+-- the entry that a word spells
+unfoldable pub entry_of : ℕ → Option Entry
+entry_of w = if nat_eq w (entry_word None) then None else (if nat_eq (w % 4) 1 then Some (Leaf (w / 4)) else Some (Node (w / 4 % 2 ^ 32) (w / 2 ^ HEIGHT_BIT)))
+
+-- ---- the words of a head
+-- the number of entries that the first word tells
+abbrev pub count_in : ℕ → ℕ
+count_in word = word % 256
+
+-- the number of columns
+abbrev pub column_count_in : ℕ → ℕ
+column_count_in word = word / 256 % 256
+
+-- the height
+abbrev pub height_in : ℕ → ℕ
+height_in word = word / 65536 % 65536
+
+-- the byte from which a near head counts
+abbrev pub first_byte_in : ℕ → ℕ
+first_byte_in word = word / 2 ^ 32 % 2 ^ 8
+
+-- the word with these numbers
+abbrev pub numbers_in : List ℕ → ℕ
+numbers_in head = get_or head NUMBERS_INDEX 0
+
+-- the byte for column j in a word of near columns
+abbrev pub column_byte : ℕ → ℕ → ℕ
+column_byte j word = word / 2 ^ (8 * (7 - j % 8)) % 2 ^ 8
+
+-- a near column: how many bytes behind the first one its byte is, and the mask of its bit
+abbrev pub near_column_in : Kind → List ℕ → ℕ → ℕ
+near_column_in kind head j =
+    9 * (first_byte_in (numbers_in head) + column_byte j (get_or head (position_index kind j) 0)) +
+    1 + count_leading_zeros 8 (column_byte j (get_or head (mask_index kind j) 0))
+
+-- the position of column j in the words of a head of this kind; a wide one has it in 16 bits
+abbrev pub column_in : Kind → List ℕ → ℕ → ℕ
+column_in Wide head j = get_or head (FIRST_POSITIONS + j / 4) 0 / 2 ^ (16 * (j % 4)) % 2 ^ 16
+column_in Narrow head j = near_column_in Narrow head j
+column_in Middle head j = near_column_in Middle head j
+
+-- the sparse partial key of place i in the words of a head of this kind: its highest 8 or 16 bits, or all 32
+abbrev pub row_in : Kind → List ℕ → ℕ → ℕ
+row_in Wide head i = get_or head (FIRST_ROWS + i / 2) 0 / 2 ^ (32 * (i % 2)) % 2 ^ 32
+row_in Narrow head i = get_or head (FIRST_NARROW_ROWS + i / 8) 0 / 2 ^ (8 * (i % 8)) % 2 ^ 8 * 2 ^ 24
+row_in Middle head i = get_or head (FIRST_MIDDLE_ROWS + i / 4) 0 / 2 ^ (16 * (i % 4)) % 2 ^ 16 * 2 ^ 16
+
+-- the positions of all columns
+abbrev pub columns_in : List ℕ → List ℕ
+columns_in head = map (column_in (kind_in (numbers_in head)) head) (range_with_len 0 (column_count_in (numbers_in head)))
+
+-- the sparse partial keys of all places
+abbrev pub rows_in : List ℕ → List ℕ
+rows_in head = map (row_in (kind_in (numbers_in head)) head) (range_with_len 0 (count_in (numbers_in head)))
+
+-- ---- the words of entries
+-- the first so many
+abbrev pub entries_of : ℕ → List ℕ → List Entry
+entries_of count tail = take count (map (λ w. unwrap_or (entry_of w) (Leaf 0)) tail)
+
+-- ---- the words of a leaf
+-- the bytes of a key's words: eight a word, the first in its highest bits
+abbrev pub bytes_in : List ℕ → List ℕ
+bytes_in words = map (λ i. get_or (to_be_bytes w64 (get_or words (i / 8) 0)) (i % 8) 0) (range_with_len 0 MAX_BYTES)
+
+-- the value
+abbrev pub leaf_value_in : List ℕ → ℕ
+leaf_value_in words = get_or words VALUE_INDEX 0
+
+-- the length of the key, in bytes
+abbrev pub key_length_in : List ℕ → ℕ
+key_length_in words = get_or words LENGTH_INDEX 0
+
+-- the key
+abbrev pub leaf_key_in : List ℕ → List ℕ
+leaf_key_in words = take (key_length_in words) (bytes_in (drop FIRST_KEY_WORD words))
