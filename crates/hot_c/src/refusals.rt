@@ -6,6 +6,7 @@ ghost use Rattle.hot_c.specs.Refusals.{AreNone, TellsOfLeaves, TellsRefusal};
 
 use crate::status::{BUSY, FULL_LEAVES, FULL_NODES, HELD_BACK, KEY_TOO_LONG};
 use hot_index::{Full, RecordCounts, Refusal, StateCounts};
+use record_words::{LARGE_BYTES, MEDIUM_BYTES, SHORT_BYTES, WIDE_BYTES};
 
 /// The status of a call for a key of `size` bytes that was refused so.
 pub fn tell_refusal(size: usize, refusal: Refusal) -> u32
@@ -42,9 +43,9 @@ fn has_no_record(counts: &StateCounts) -> bool
 fn has_no_leaf_for(size: usize, counts: &RecordCounts) -> bool
     ensures { IsTrue result ↔ OfLeaves AreNone size counts.now }
 {
-    (size > 8 || has_no_record(&counts.short))
-        && (size > 24 || has_no_record(&counts.medium))
-        && (size > 56 || has_no_record(&counts.large))
-        && (size > 88 || has_no_record(&counts.wide))
+    (size > SHORT_BYTES || has_no_record(&counts.short))
+        && (size > MEDIUM_BYTES || has_no_record(&counts.medium))
+        && (size > LARGE_BYTES || has_no_record(&counts.large))
+        && (size > WIDE_BYTES || has_no_record(&counts.wide))
         && has_no_record(&counts.long)
 }

@@ -3,6 +3,7 @@ use Rattle.std.specs.Prelude.{◌≡◌, ◌⊎◌, ℕ, suc, ◌<◌, ◌≤◌
 use Rattle.finite_map.specs.declared.Call.{Call}
 use Rattle.finite_map.specs.declared.Reply.{Reply}
 use Rattle.finite_map.specs.Maps.{key_of}
+use Rattle.record_words.specs.declared.TheConstants.{LARGE_BYTES, MEDIUM_BYTES, SHORT_BYTES, WIDE_BYTES}
 use Rattle.record_words.specs.declared.layout.Layout.{Layout}
 use Rattle.rowex_core.specs.declared.event.Event.{Event}
 use Rattle.rowex_table.specs.Seats.{TableView}
@@ -28,10 +29,10 @@ pub record AreShort (needs : ℕ) (counts : StateCounts) : Type 0 where
 
 -- it is so of each class of leaf records that has room for a key of this length
 pub record OfLeaves (IsSo : StateCounts → Type 0) (length : ℕ) (counts : RecordCounts) : Type 0 where
-  pub short : length ≤ 8 → IsSo counts.short
-  pub medium : length ≤ 24 → IsSo counts.medium
-  pub large : length ≤ 56 → IsSo counts.large
-  pub wide : length ≤ 88 → IsSo counts.wide
+  pub short : length ≤ SHORT_BYTES → IsSo counts.short
+  pub medium : length ≤ MEDIUM_BYTES → IsSo counts.medium
+  pub large : length ≤ LARGE_BYTES → IsSo counts.large
+  pub wide : length ≤ WIDE_BYTES → IsSo counts.wide
   pub long : IsSo counts.long
 
 -- the index is full for a change that lacks a record of this kind: of the nodes it needs so many, and of the leaf records one with room

@@ -9,6 +9,7 @@ ghost use Rattle.hot_index_calls.specs.declared.census.RecordCounts.{RecordCount
 ghost use Rattle.hot_index_calls.specs.declared.refusals.Refusal.TheVariants.{Full as IsFull};
 
 use crate::census::{RecordCounts, StateCounts};
+use record_words::{LARGE_BYTES, MEDIUM_BYTES, SHORT_BYTES, WIDE_BYTES};
 use rowex_core::Rec;
 use rowex_writing::{Full, TryFault};
 
@@ -105,14 +106,13 @@ fn are_short(needs: usize, counts: &StateCounts) -> bool
     (counts.free as usize) < needs && counts.held == 0 && counts.obsolete == 0
 }
 
-/// Whether of each class of leaf records with room for a key of `size` bytes none is free, held or obsolete, by `counts`. The classes have
-/// room for keys of 8, 24, 56 and 88 bytes, and the last one for each key.
+/// Whether of each class of leaf records with room for a key of `size` bytes none is free, held or obsolete, by `counts`.
 fn are_leaves_short(size: usize, counts: &RecordCounts) -> bool
     ensures { IsTrue result ↔ OfLeaves (AreShort 1) size counts.now }
 {
-    (size > 8 || are_short(1, &counts.short))
-        && (size > 24 || are_short(1, &counts.medium))
-        && (size > 56 || are_short(1, &counts.large))
-        && (size > 88 || are_short(1, &counts.wide))
+    (size > SHORT_BYTES || are_short(1, &counts.short))
+        && (size > MEDIUM_BYTES || are_short(1, &counts.medium))
+        && (size > LARGE_BYTES || are_short(1, &counts.large))
+        && (size > WIDE_BYTES || are_short(1, &counts.wide))
         && are_short(1, &counts.long)
 }

@@ -226,17 +226,29 @@ pub const LEAF_FIELDS: usize = LEAF_WORDS - 1;
 /// How many classes of leaf records there are.
 pub const LEAF_CLASSES: usize = 5;
 
-/// How many words a short leaf record has; its key has at most 8 bytes.
+/// How many words a short leaf record has.
 pub const SHORT_WORDS: usize = 4;
 
-/// How many words a medium leaf record has; its key has at most 24 bytes.
+/// How many words a medium leaf record has.
 pub const MEDIUM_WORDS: usize = 6;
 
-/// How many words a large leaf record has; its key has at most 56 bytes.
+/// How many words a large leaf record has.
 pub const LARGE_WORDS: usize = 10;
 
-/// How many words a wide leaf record has; its key has at most 88 bytes.
+/// How many words a wide leaf record has.
 pub const WIDE_WORDS: usize = 14;
+
+/// How many bytes the longest key of a short leaf record has: 8.
+pub const SHORT_BYTES: usize = WORD_BYTES * (SHORT_WORDS - 1 - FIRST_KEY_WORD);
+
+/// How many bytes the longest key of a medium leaf record has: 24.
+pub const MEDIUM_BYTES: usize = WORD_BYTES * (MEDIUM_WORDS - 1 - FIRST_KEY_WORD);
+
+/// How many bytes the longest key of a large leaf record has: 56.
+pub const LARGE_BYTES: usize = WORD_BYTES * (LARGE_WORDS - 1 - FIRST_KEY_WORD);
+
+/// How many bytes the longest key of a wide leaf record has: 88.
+pub const WIDE_BYTES: usize = WORD_BYTES * (WIDE_WORDS - 1 - FIRST_KEY_WORD);
 
 /// For how many keys `Stock::for_keys` has one node record.
 pub const KEYS_A_NODE: u32 = 4;
