@@ -1,8 +1,9 @@
 -- Records in the words of a table, and the tree that they show.
-use Rattle.std.specs.Prelude.{◌≡◌, ◌⊎◌, ℕ, ◌+◌, ◌*◌, ◌<◌, ◌≤◌, List, length, get_or, if◌then◌else◌, nat_lt, Option, Some}
-use Rattle.record_words.specs.declared.TheConstants.{EPOCH_WORD, ROOT_WORD, ANCHOR_WORD, FIRST_PIN, LINE_WORDS}
+use Rattle.std.specs.Prelude.{◌≡◌, ◌⊎◌, ℕ, ◌+◌, ◌*◌, ◌<◌, ◌≤◌, List, length, get_or, if◌then◌else◌, nat_lt, None, Option, Some}
+use Rattle.record_words.specs.declared.TheConstants.{EPOCH_WORD, ROOT_WORD, ANCHOR_WORD, FIRST_PIN, LINE_WORDS, NO_PIN}
 use Rattle.record_words.specs.declared.layout.Layout.{Layout}
 use Rattle.record_words.specs.declared.state.Tag.TheVariants.{Free, Live}
+use Rattle.record_words.specs.Entry.{entry_word}
 use Rattle.record_words.specs.Layout.{node_start, leaf_start, word_count}
 use Rattle.record_words.specs.State.{state_word}
 use Rattle.tries.specs.Tree.{Tree}
@@ -37,9 +38,9 @@ pub record IsPut (layout : Layout) (old new : List ℕ) (r : Rec) : Type 0 where
 pub record IsRootless (layout : Layout) (table : List ℕ) : Type 0 where
   pub size : length table ≡ word_count layout
   pub epoch : get_or table EPOCH_WORD 0 ≡ 1
-  pub root : get_or table ROOT_WORD 0 ≡ 0
+  pub root : get_or table ROOT_WORD 0 ≡ entry_word None
   pub anchor : get_or table ANCHOR_WORD 0 ≡ state_word Live
-  pub pins : (q : ℕ) → q < layout.passes → get_or table (FIRST_PIN + LINE_WORDS * q) 0 ≡ 0
+  pub pins : (q : ℕ) → q < layout.passes → get_or table (FIRST_PIN + LINE_WORDS * q) 0 ≡ NO_PIN
 
 -- the words show the tree
 abbrev pub WordsShow : Layout → List ℕ → Option Tree → Type 0

@@ -4,6 +4,7 @@ ghost use Rattle.std.specs.Prelude.{◌≡◌, ◌≢◌, ℕ, ◌+◌, ◌^◌,
 ghost use Rattle.record_words.specs.declared.state.Tag.TheVariants.{Free as FreeTag, Obsolete};
 ghost use Rattle.record_words.specs.Layout.{leaf_size};
 ghost use Rattle.record_words.specs.State.{state_word};
+ghost use Rattle.record_words.specs.declared.TheConstants.{NO_PIN};
 ghost use Rattle.record_words.specs.declared.records.Rec.TheVariants.{Node as a_node, Leaf as a_leaf};
 ghost use Rattle.rowex_core.specs.Cores.{HasRecord};
 ghost use Rattle.rowex_table.specs.Rule.{IsStartOf};
@@ -12,7 +13,9 @@ ghost use Rattle.epochs.specs.Rounds.{AdvancesEpoch, BeginsRound, FindsBound, Ha
 ghost use Rattle.epochs.specs.declared.limbo.Visited.TheVariants.{Free, Waits};
 
 use crate::limbo::{Limbo, MOST_VISITED, Visited};
-use record_words::{EPOCHS, Layout, Tag, read_obsolete_epoch, unpack_state};
+use record_words::{
+    EPOCHS, LEAST_OBSOLETE, Layout, NO_PIN, Tag, read_obsolete_epoch, unpack_state,
+};
 use rowex_core::{Gate, Rec};
 use rowex_table::{HotTable, RecordAt, TableSeat};
 use std::ops::Range;
@@ -41,9 +44,6 @@ struct Tally {
     given: u32,
     found_free: bool,
 }
-
-/// The least state word of a retired record, that of epoch 1.
-const LEAST_OBSOLETE: u64 = 12;
 
 /// The tally of no visits.
 const NO_VISITS: Tally = Tally {
@@ -139,7 +139,7 @@ fn advance_epoch<G: Gate>(table: &HotTable, seat: &mut TableSeat, gate: &mut G)
     }
 }
 
-/// Loads the epoch and each pin. Returns the least of that epoch and of the pins that are not 0. The pass's own pin stays.
+/// Loads the epoch and each pin. Returns the least of that epoch and of the pins that are set. The pass's own pin stays.
 fn find_bound<G: Gate>(table: &HotTable, seat: &mut TableSeat, gate: &mut G) -> u64
     requires { IsSeatOf table.now seat.old }
     ensures pin { seat.new.known.pin ≡ seat.old.known.pin }
@@ -155,12 +155,16 @@ fn find_bound<G: Gate>(table: &HotTable, seat: &mut TableSeat, gate: &mut G) -> 
     bound
 }
 
-/// The lower of `bound` and `word`, a pin's word; `bound` if `word` is 0, which is no pin.
+/// The lower of `bound` and `word`, a pin's word; `bound` if that is not set.
 fn bound_with_pin(bound: u64, word: u64) -> u64
-    ensures none { word ≡ 0 → result ≡ bound }
+    ensures none { word ≡ NO_PIN → result ≡ bound }
     ensures pinned { 1 ≤ word → result ≡ min bound word }
 {
-    if word == 0 { bound } else { bound.min(word) }
+    if word == NO_PIN {
+        bound
+    } else {
+        bound.min(word)
+    }
 }
 
 /// Visits each record, nodes first. Returns how many of each kind it gave back, and whether others were free. `bound` is the bound of the

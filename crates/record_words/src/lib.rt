@@ -90,10 +90,15 @@ pub use origins::Origins;
 pub use partial_keys::MAX_ENTRIES;
 pub use records::Rec;
 pub use search::{extract_dense_key, search_middle, search_narrow, search_row_words};
-pub use state::{Tag, obsolete_word, pack_state, read_obsolete_epoch, unpack_state};
+pub use state::{
+    LEAST_OBSOLETE, Tag, obsolete_word, pack_state, read_obsolete_epoch, unpack_state,
+};
 
 /// Epochs are below this number, and at least 1.
 pub const EPOCHS: u64 = 1 << 60;
+
+/// The word of a pin that is not set. One that is set has an epoch.
+pub const NO_PIN: u64 = 0;
 
 /// How many passes a table of `Layout::of` has at most.
 pub const MAX_PASSES: u32 = 64;
@@ -202,7 +207,8 @@ pub const FIRST_MIDDLE_ROWS: usize = 5;
 /// The offset at which a node record has its first entry: its state and its head stand before the entries.
 pub const FIRST_ENTRY: usize = 1 + HEAD_WORDS;
 
-/// How many words of slots are loaded or filled together. A node's slots are `MAX_ENTRIES / SLOT_GROUP` such groups.
+/// How many words of a node are loaded or filled together: the positions of a wide head, half of its rows, or as many slots. A node's slots
+/// are `MAX_ENTRIES / SLOT_GROUP` such groups.
 pub const SLOT_GROUP: usize = 8;
 
 /// The bit of an entry's word from which on a child node's height stands.

@@ -7,6 +7,9 @@ ghost use Rattle.record_words.specs.Reading.{IsReading};
 
 use crate::{EPOCHS, WordFault};
 
+/// The least state word of a retired record, that of epoch 1.
+pub const LEAST_OBSOLETE: u64 = 12;
+
 /// What a record's state word says of it.
 #[derive(Clone, Copy, PartialEq, Eq)]
 pub enum Tag {

@@ -1,5 +1,6 @@
 -- The words that show a core.
 use Rattle.std.specs.Prelude.{◌≡◌, ℕ, List, length, get_or, Option, Some, None, suc, zero}
+use Rattle.record_words.specs.declared.TheConstants.{NO_PIN}
 use Rattle.record_words.specs.declared.layout.Location.{Location}
 use Rattle.record_words.specs.declared.layout.Location.TheVariants.{Epoch, Root, Anchor, Pin as PinOf, NodeWord, LeafWord}
 use Rattle.record_words.specs.declared.state.Tag.{Tag}
@@ -35,7 +36,7 @@ abbrev pub state_at : Core → Rec → ℕ
 state_at c r = state_word (tag_of (lock_of c r) (c.fate r))
 
 abbrev pub pin_word : Option Pin → ℕ
-pin_word None = 0
+pin_word None = NO_PIN
 pin_word (Some p) = p.word
 
 -- a word of a record by its offset

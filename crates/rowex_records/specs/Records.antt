@@ -1,10 +1,11 @@
 -- Steps on records of a pass's own that are not in the tree: filled, made ready, given up.
-use Rattle.std.specs.Prelude.{◌≡◌, ◌≢◌, ◌⊎◌, ℕ, zero, suc, ◌+◌, ◌-◌, ◌*◌, ◌^◌, ◌<◌, ◌≤◌, List, [], ◌∷◌, length, map, set, get_or, nat_eq, nat_lt, All, Contains, if◌then◌else◌}
+use Rattle.std.specs.Prelude.{◌≡◌, ◌≢◌, ◌⊎◌, ℕ, zero, suc, ◌+◌, ◌-◌, ◌*◌, ◌^◌, ◌<◌, ◌≤◌, List, [], ◌∷◌, None, length, map, set, get_or, nat_eq, nat_lt, All, Contains, if◌then◌else◌}
 use Rattle.record_words.specs.declared.records.Rec.{Rec}
 use Rattle.record_words.specs.declared.records.Rec.TheVariants.{Node as a_node, Leaf as a_leaf}
 use Rattle.versions.specs.Steps.{same_rec}
 use Rattle.rowex_core.specs.declared.event.Act.{Act}
-use Rattle.record_words.specs.declared.TheConstants.{FIRST_ENTRY}
+use Rattle.record_words.specs.declared.TheConstants.{FIELDS_OFFSET, FIRST_ENTRY, LENGTH_OFFSET, SLOT_GROUP, VALUE_OFFSET}
+use Rattle.record_words.specs.Entry.{entry_word}
 use Rattle.record_words.specs.Leaf.{leaf_words, up_to_key}
 use Rattle.rowex_core.specs.declared.event.Act.TheVariants.{Fill, LoadFixed, LoadRef, Ready, Release}
 use Rattle.rowex_core.specs.declared.event.Spot.TheVariants.{Slot}
@@ -39,25 +40,25 @@ fill_with r words o = if same_rec o.rec r then record o { words = words } else o
 abbrev pub filling : Known → Known → Known
 filling k j = record k { own = j.own; front = j.front; facts = j.facts }
 
--- what stands at an offset of a node's record where the node has nothing: all bits are set in the head, and none elsewhere
+-- what stands at an offset of a node's record where the node has nothing: all bits are set in the head, and elsewhere no entry stands
 abbrev pub unused_word : ℕ → ℕ
-unused_word offset = if nat_lt offset FIRST_ENTRY then 2 ^ 64 - 1 else 0
+unused_word offset = if nat_lt offset FIRST_ENTRY then 2 ^ 64 - 1 else entry_word None
 
--- Of eight words of a node, from this index on, those below the end have something, and the others nothing.
+-- Of a group of words of a node, from this index on, those below the end have something, and the others nothing.
 pub record HaveBelow (words : List ℕ) (first end : ℕ) : Type 0 where
-  pub used : (i : ℕ) → first ≤ i → i < first + 8 → i < end → get_or words i 0 ≢ unused_word (i + 1)
-  pub unused : (i : ℕ) → first ≤ i → i < first + 8 → end ≤ i → get_or words i 0 ≡ unused_word (i + 1)
+  pub used : (i : ℕ) → first ≤ i → i < first + SLOT_GROUP → i < end → get_or words i 0 ≢ unused_word (i + FIELDS_OFFSET)
+  pub unused : (i : ℕ) → first ≤ i → i < first + SLOT_GROUP → end ≤ i → get_or words i 0 ≡ unused_word (i + FIELDS_OFFSET)
 
 -- The word that stands there is looked at before this one is stored, since it is often the same: of a node where it has nothing, of a leaf
 -- the length of its key.
 abbrev pub IsLookedAt : Rec → ℕ → ℕ → Type 0
 IsLookedAt (a_node n) offset word = word ≡ unused_word offset
-IsLookedAt (a_leaf n) offset word = offset ≡ 2
+IsLookedAt (a_leaf n) offset word = offset ≡ LENGTH_OFFSET
 
 -- of a leaf, the offset of a word behind the value
 abbrev pub IsBehindValue : Rec → ℕ → Type 0
 IsBehindValue (a_node n) offset = Unit {0}
-IsBehindValue (a_leaf n) offset = 1 < offset
+IsBehindValue (a_leaf n) offset = VALUE_OFFSET < offset
 
 -- a load of the word there
 abbrev pub load_of_word : Rec → ℕ → ℕ → Act
@@ -93,7 +94,7 @@ stored_in r words i o = if same_rec o.rec r then record o { words = stored words
 -- The first i of the words come to stand so, in one step or two for each. The record stays claimed.
 pub record SetsSome {G : Type 0} (table : TableView) (becomes : G → Event → G → Type 0) (r : Rec) (words : List ℕ) (i : ℕ) (a b : SeatView × G) : Type 0 where
   pub acts : List Act
-  pub in_turn : InTurn (λ i. SetsWord r (i + 1) (get_or words i 0)) i acts
+  pub in_turn : InTurn (λ i. SetsWord r (i + FIELDS_OFFSET) (get_or words i 0)) i acts
   pub least : i ≤ length acts
   pub most : length acts ≤ 2 * i
   pub does : Does table becomes filling acts a b
@@ -111,7 +112,7 @@ SetsMore {G = G} table becomes r words i count b c =
 pub record SetsAll {G : Type 0} (table : TableView) (becomes : G → Event → G → Type 0) (r : Rec) (words : List ℕ) (a b : SeatView × G) : Type 0 where
   pub sized : length words ≡ word_count_of r
   pub acts : List Act
-  pub in_turn : InTurn (λ i. SetsWord r (i + 1) (get_or words i 0)) (word_count_of r) acts
+  pub in_turn : InTurn (λ i. SetsWord r (i + FIELDS_OFFSET) (get_or words i 0)) (word_count_of r) acts
   pub does : Does table becomes filling acts a b
   pub later : IsLater a.0.known b.0.known
   pub own : b.0.known.own ≡ map (fill_with r words) a.0.known.own

@@ -9,7 +9,7 @@ ghost use Rattle.rowex_records.specs.Claims.{AllMissed, IsAnothersTo, Claims, Cl
 ghost use Rattle.rowex_records.specs.Starts.{IsSpan, first_word};
 ghost use Rattle.rowex_records.specs.Records.{GivesUp, GivesUpAll, HoldsJust};
 
-use record_words::{Layout, NODE_WORDS};
+use record_words::{Layout, NODE_WORDS, Tag, pack_state};
 use rowex_core::{Gate, Rec};
 use rowex_table::{HotTable, RecordAt, TableSeat};
 
@@ -278,10 +278,10 @@ fn try_claim_record<G: Gate>(
     ensures missed { result ≡ false → MissesOne table.now G.becomes at.rec (seat.old, gate.old) (seat.new, gate.new) }
     ensures claimed { result ≡ true → ClaimsOne table.now G.becomes at.rec (seat.old, gate.old) (seat.new, gate.new) }
 {
-    if table.load_state_at(seat, gate, at) != 0 {
+    if table.load_state_at(seat, gate, at) != pack_state(Tag::Free) {
         return false;
     }
-    table.claim_at(seat, gate, at) == 0
+    table.claim_at(seat, gate, at) == pack_state(Tag::Free)
 }
 
 /// Returns the number of the first record of `kind` that a load finds free, counted from 0 at the first of the kind. It claims nothing.
@@ -309,7 +309,7 @@ pub fn find_free_record<G: Gate>(
     let mut number = number_or_zero(from, all);
     for tried in 0..most {
         let rec = kind.record_at(number);
-        if table.load_state(seat, gate, rec) == 0 {
+        if table.load_state(seat, gate, rec) == pack_state(Tag::Free) {
             return Some(number);
         }
         number = number_or_zero(number + 1, all);

@@ -6,7 +6,8 @@ ghost use Rattle.record_words.specs.Layout.{leaf_size};
 ghost use Rattle.record_words.specs.Leaf.{leaf_words, words_for};
 ghost use Rattle.record_words.specs.Node.{HasNodeWords, node_words};
 ghost use Rattle.record_words.specs.Reading.{IsSpelling};
-ghost use Rattle.record_words.specs.declared.TheConstants.{FIRST_POSITIONS, FIRST_ROWS, LEAF_FIELDS};
+ghost use Rattle.record_words.specs.declared.TheConstants.{FIRST_POSITIONS, FIRST_ROWS, LEAF_FIELDS, SLOT_GROUP};
+ghost use Rattle.rowex_records.specs.declared.filling.TheConstants.{SECOND_ROWS};
 ghost use Rattle.rowex_core.specs.Cores.{FitsIn, HasRecord, HasWord};
 ghost use Rattle.rowex_core.specs.Events.{IsOffset};
 ghost use Rattle.rowex_table.specs.Rights.{IsClaimed};
@@ -18,12 +19,24 @@ ghost use Rattle.rowex_records.specs.Records.{HaveBelow, IsBehindValue, IsFilled
 use key_bits::Key;
 use record_words::{
     FIELDS_OFFSET, FIRST_ENTRY, FIRST_POSITIONS, FIRST_ROWS, HEAD_WORDS, KEY_OFFSET, Kind,
-    LENGTH_OFFSET, NODE_FIELDS, NUMBERS_OFFSET, VALUE_OFFSET, count_key_words, key_word_at,
-    read_numbers,
+    LENGTH_OFFSET, NODE_FIELDS, NUMBERS_INDEX, NUMBERS_OFFSET, SLOT_GROUP, VALUE_OFFSET,
+    count_key_words, key_word_at, pack_entry, read_numbers,
 };
 use rowex_core::{Gate, Rec};
 use rowex_table::{HotTable, RecordAt, TableSeat};
 use std::ops::Range;
+
+/// The index of the second group of words with rows in a wide head.
+const SECOND_ROWS: usize = FIRST_ROWS + SLOT_GROUP;
+
+/// The index of the second group of words with entries.
+const SECOND_SLOTS: usize = HEAD_WORDS + SLOT_GROUP;
+
+/// That of the third group,
+const THIRD_SLOTS: usize = HEAD_WORDS + 2 * SLOT_GROUP;
+
+/// and of the last one.
+const LAST_SLOTS: usize = HEAD_WORDS + 3 * SLOT_GROUP;
 
 /// The word at `offset` of the record `at`, counted in words from 0 at its state.
 #[derive(Clone, Copy)]
@@ -86,16 +99,17 @@ pub fn fill_node<G: Gate>(
 {
     let node = table.locate(Rec::Node(number));
     let (columns, rows) = used_ends(words);
-    let leads = read_numbers(words[0]).entries_end();
+    let numbers = words[NUMBERS_INDEX];
+    let leads = read_numbers(numbers).entries_end();
     let offset = NUMBERS_OFFSET;
-    store_word(table, seat, gate, WordAt { at: node, offset }, words[0]);
+    store_word(table, seat, gate, WordAt { at: node, offset }, numbers);
     set_eight_words(table, seat, gate, node, words, FIRST_POSITIONS..columns);
     set_eight_words(table, seat, gate, node, words, FIRST_ROWS..rows);
-    set_eight_words(table, seat, gate, node, words, FIRST_ROWS + 8..rows);
+    set_eight_words(table, seat, gate, node, words, SECOND_ROWS..rows);
     set_eight_words(table, seat, gate, node, words, HEAD_WORDS..leads);
-    set_eight_words(table, seat, gate, node, words, HEAD_WORDS + 8..leads);
-    set_eight_words(table, seat, gate, node, words, HEAD_WORDS + 16..leads);
-    set_eight_words(table, seat, gate, node, words, HEAD_WORDS + 24..leads);
+    set_eight_words(table, seat, gate, node, words, SECOND_SLOTS..leads);
+    set_eight_words(table, seat, gate, node, words, THIRD_SLOTS..leads);
+    set_eight_words(table, seat, gate, node, words, LAST_SLOTS..leads);
 }
 
 /// The index behind the last word with columns in which the node of `words` has something, and that behind the last such word with rows.
@@ -104,9 +118,9 @@ pub fn fill_node<G: Gate>(
 fn used_ends(words: &[u64; NODE_FIELDS]) -> (usize, usize)
     requires { IsSpelling HasNodeWords node_words words.now }
     ensures columns { HaveBelow words.now FIRST_POSITIONS result.0 }
-    ensures rows { HaveBelow words.now FIRST_ROWS result.1 × HaveBelow words.now (FIRST_ROWS + 8) result.1 }
+    ensures rows { HaveBelow words.now FIRST_ROWS result.1 × HaveBelow words.now SECOND_ROWS result.1 }
 {
-    let numbers = read_numbers(words[0]);
+    let numbers = read_numbers(words[NUMBERS_INDEX]);
     let all = numbers.rows_end();
     let rows = if words[all - 1] == u64::MAX {
         all - 1
@@ -134,19 +148,19 @@ fn set_eight_words<G: Gate>(
     requires own { IsSeatOf table.now seat.old }
     requires node { IsNodeRecordAt table.now.layout node }
     requires held { IsClaimed seat.old.known node.rec }
-    requires range { used.start + 8 ≤ NODE_FIELDS }
+    requires range { used.start + SLOT_GROUP ≤ NODE_FIELDS }
     requires have { HaveBelow words.now used.start used.end }
-    ensures { SetsMore table.now G.becomes node.rec words.now used.start 8 (seat.old, gate.old) (seat.new, gate.new) }
+    ensures { SetsMore table.now G.becomes node.rec words.now used.start SLOT_GROUP (seat.old, gate.old) (seat.new, gate.new) }
 {
-    if used.start + 8 <= used.end {
-        for place in 0..8 {
+    if used.start + SLOT_GROUP <= used.end {
+        for place in 0..SLOT_GROUP {
             let index = used.start + place;
             let offset = index as u8 + FIELDS_OFFSET;
             store_word(table, seat, gate, WordAt { at: node, offset }, words[index]);
         }
         return;
     }
-    for place in 0..8 {
+    for place in 0..SLOT_GROUP {
         let index = used.start + place;
         let offset = index as u8 + FIELDS_OFFSET;
         if index < used.end {
@@ -226,7 +240,7 @@ fn unused_node_word(offset: u8) -> u64
     if (offset as usize) < FIRST_ENTRY {
         u64::MAX
     } else {
-        0
+        pack_entry(None)
     }
 }
 

@@ -10,7 +10,7 @@ ghost use Rattle.rowex_table.specs.Seats.{IsPassOf, IsSeatOf};
 
 use crate::steps::Exchange;
 use crate::table::{HotTable, TableSeat};
-use record_words::{EPOCHS, Location};
+use record_words::{EPOCHS, Location, NO_PIN};
 use rowex_core::{Act, Gate};
 use std::marker::Brand;
 
@@ -46,7 +46,7 @@ impl HotTable {
         self.store_word_at::<Brand, G>(seat, gate, Act::SetPin { word }, pin, word);
     }
 
-    /// Clears the pass's pin, which is set: stores 0. A call ends with this step, and its notes `said` come with it.
+    /// Clears the pass's pin, which is set: stores `NO_PIN`. A call ends with this step, and its notes `said` come with it.
     pub fn clear_pin<G: Gate>(&self, seat: &mut TableSeat, gate: &mut G)
         ghost said: { Known → List Note }
         requires fits { IsPassOf self.now seat.old }
@@ -54,10 +54,10 @@ impl HotTable {
         ensures { StepsWith self.now G.becomes ClearPin said (seat.old, gate.old) (seat.new, gate.new) }
     {
         let pin = self.address_of(Location::Pin(seat.number()));
-        self.store_word_at::<Brand, G>(seat, gate, Act::ClearPin, pin, 0);
+        self.store_word_at::<Brand, G>(seat, gate, Act::ClearPin, pin, NO_PIN);
     }
 
-    /// Loads the word of the pin of pass `of` and returns it: 0 if that pass isn't pinned.
+    /// Loads the word of the pin of pass `of` and returns it: `NO_PIN` if that pass isn't pinned.
     pub fn load_pin<G: Gate>(&self, seat: &mut TableSeat, gate: &mut G, of: u16) -> u64
         requires own { IsSeatOf self.now seat.old }
         requires range { of < self.now.layout.passes }

@@ -35,7 +35,8 @@ loop-tried-preserved g c =
     let n = count_of c.args.kind c.args.table.now.layout in
     let all : c.count-all.result ≡ n = rw c.layout.ensures at c.count-all.ensures in
     let low : c.loop-tried.tried < n = omega (arith, c.min-most.ensures, all, c.loop-tried-test.true) in
-    let taken = c.if-load_state-eq0.false in
+    let taken = c.if-load_state-pack_state.false in
+    let free = c.pack_state.ensures in
     let missed : MissesOne c.args.table.now g.G.Gate.becomes (record_of c.args.kind c.loop-tried.number) (c.loop-tried.seat, c.loop-tried.gate) (c.load_state.new.seat, c.load_state.new.gate) =
     missed_by_load c.args.table.now g.G.Gate.becomes (record_of c.args.kind c.loop-tried.number) c.load_state.result _ _ (omega arith)
     (subst (λ r. Steps c.args.table.now g.G.Gate.becomes (LoadState r c.load_state.result) (c.loop-tried.seat, c.loop-tried.gate) (c.load_state.new.seat, c.load_state.new.gate)) c.record_at-rec.ensures c.load_state.ensures) in
@@ -48,8 +49,8 @@ loop-tried-preserved g c =
           turned_over n (begin_of n c.args.from) c.loop-tried.tried 1 (begins_low n c.args.from (omega (arith, low))) low (omega (arith, low)) (subst (λ z. z + 1 ≤ n) c.loop-tried.invariant.number (omega (arith, below))));
     }
 
-pub returns-then-load_state-eq0 : goal.returns-then-load_state-eq0
-returns-then-load_state-eq0 g c =
+pub returns-then-load_state-pack_state : goal.returns-then-load_state-pack_state
+returns-then-load_state-pack_state g c =
     let n = count_of c.args.kind c.args.table.now.layout in
     let all : c.count-all.result ≡ n = rw c.layout.ensures at c.count-all.ensures in
     record {
@@ -59,7 +60,7 @@ returns-then-load_state-eq0 g c =
         number_is = c.loop-tried.invariant.number;
         before = (c.loop-tried.seat, c.loop-tried.gate);
         none = c.loop-tried.invariant.none;
-        free = subst (λ w. Steps c.args.table.now g.G.Gate.becomes (LoadState (record_of c.args.kind c.loop-tried.number) w) (c.loop-tried.seat, c.loop-tried.gate) (c.load_state.new.seat, c.load_state.new.gate)) c.if-load_state-eq0.true
+        free = subst (λ w. Steps c.args.table.now g.G.Gate.becomes (LoadState (record_of c.args.kind c.loop-tried.number) w) (c.loop-tried.seat, c.loop-tried.gate) (c.load_state.new.seat, c.load_state.new.gate)) (c.if-load_state-pack_state.true ∙ c.pack_state.ensures)
             (subst (λ r. Steps c.args.table.now g.G.Gate.becomes (LoadState r c.load_state.result) (c.loop-tried.seat, c.loop-tried.gate) (c.load_state.new.seat, c.load_state.new.gate)) c.record_at-rec.ensures c.load_state.ensures);
       };
     }

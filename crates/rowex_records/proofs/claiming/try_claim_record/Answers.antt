@@ -1,25 +1,27 @@
 -- Found not free by the load, or by the claim, or claimed.
-use Rattle.std.proofs.Common.{arith, ◌≡◌, subst}
+use Rattle.std.proofs.Common.{arith, ◌≡◌, ◌∙◌, subst}
 use Rattle.std.proofs.lemmas.Bool.{eqb-true, eqb-false}
 use Rattle.rowex_core.specs.declared.event.Act.TheVariants.{LoadState}
 use Rattle.rowex_table.specs.Runs.{Steps}
 use Rattle.rowex_records.proofs.Claimed.{missed_by_load, missed_by_claim, claimed_free}
 use Rattle.rowex_records.proofs.claiming.try_claim_record.Goals as goal
 
-pub returns-then-load_state_at-ne0-clause-missed : goal.returns-then-load_state_at-ne0-clause-missed
-returns-then-load_state_at-ne0-clause-missed g c = λ refused.
-    let taken = c.if-load_state_at-ne0.true in
+pub returns-then-load_state_at-pack_state-clause-missed : goal.returns-then-load_state_at-pack_state-clause-missed
+returns-then-load_state_at-pack_state-clause-missed g c = λ refused.
+    let taken = c.if-load_state_at-pack_state.true in
+    let free = c.pack_state.ensures in
     missed_by_load c.args.table.now g.G.Gate.becomes c.args.at.rec c.load_state_at.result _ _ (omega arith) c.load_state_at.ensures
 
 pub returns-clause-missed : goal.returns-clause-missed
 returns-clause-missed g c = λ refused.
-    let free : c.load_state_at.result ≡ 0 = omega (arith, c.if-load_state_at-ne0.false) in
-    let taken = eqb-false c.claim_at.result 0 refused in
+    let free : c.load_state_at.result ≡ 0 = omega (arith, c.if-load_state_at-pack_state.false, c.pack_state.ensures) in
+    let taken = eqb-false c.claim_at.result c.pack_state-2.result refused in
+    let found = c.pack_state-2.ensures in
     missed_by_claim c.args.table.now g.G.Gate.becomes c.args.at.rec c.claim_at.result _ _ _ (omega arith)
     (subst (λ w. Steps c.args.table.now g.G.Gate.becomes (LoadState c.args.at.rec w) (c.args.seat.now, c.args.gate.now) (c.load_state_at.new.seat, c.load_state_at.new.gate)) free c.load_state_at.ensures) c.claim_at.ensures
 
 pub returns-clause-claimed : goal.returns-clause-claimed
 returns-clause-claimed g c = λ taken.
-    let free : c.load_state_at.result ≡ 0 = omega (arith, c.if-load_state_at-ne0.false) in
-    claimed_free c.args.table.now g.G.Gate.becomes c.args.at.rec c.claim_at.result _ _ _ (eqb-true c.claim_at.result 0 taken)
+    let free : c.load_state_at.result ≡ 0 = omega (arith, c.if-load_state_at-pack_state.false, c.pack_state.ensures) in
+    claimed_free c.args.table.now g.G.Gate.becomes c.args.at.rec c.claim_at.result _ _ _ (eqb-true c.claim_at.result c.pack_state-2.result taken ∙ c.pack_state-2.ensures)
     (subst (λ w. Steps c.args.table.now g.G.Gate.becomes (LoadState c.args.at.rec w) (c.args.seat.now, c.args.gate.now) (c.load_state_at.new.seat, c.load_state_at.new.gate)) free c.load_state_at.ensures) c.claim_at.ensures
