@@ -4,12 +4,12 @@ ghost use Rattle.hot_c.specs.Around.{IsKeyTold, TellsAfter, TellsBefore};
 
 use crate::status::{ABSENT, DONE, KEY_TOO_LONG};
 use hot_index::{next_key, previous_key};
-use key_bits::Key;
+use key_bits::{Key, MAX_BYTES};
 
 /// Room for a key of C's.
 #[repr(C)]
 pub struct KeyRoom {
-    pub bytes: [u8; 240],
+    pub bytes: [u8; MAX_BYTES],
 }
 
 /// Writes the least possible key above `key` to `next`, and its length to `length`: `DONE`. `ABSENT` if `key` is 240 bytes 255, the

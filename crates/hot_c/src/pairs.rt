@@ -6,12 +6,13 @@ ghost use Rattle.hot_c.specs.Pairs.{AreSpelled, IsPairTold, Spells};
 ghost use Rattle.key_bits.specs.Key.{IsKey};
 
 use crate::status::{ABSENT, FOUND};
+use key_bits::MAX_BYTES;
 use packed_pairs::Pairs;
 
 /// A key with its value. The key is the first `length` bytes.
 #[repr(C)]
 pub struct Pair {
-    pub key: [u8; 240],
+    pub key: [u8; MAX_BYTES],
     pub length: u32,
     pub value: u64,
 }
