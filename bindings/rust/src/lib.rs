@@ -18,7 +18,7 @@
 //! assert_eq!(handle.range("a".."b").next(), Some((b"ash".to_vec(), 1)));
 //! # Ok::<(), hot::Error>(())
 //! ```
-#![deny(missing_docs, unsafe_code)]
+#![deny(missing_docs, unsafe_code, unsafe_op_in_unsafe_fn)]
 #![deny(clippy::unwrap_used, clippy::expect_used, clippy::panic, clippy::indexing_slicing)]
 mod error;
 mod ffi;

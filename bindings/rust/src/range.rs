@@ -142,8 +142,9 @@ pub(crate) fn count(handle: &Handle, keys: &impl KeyRange) -> usize {
 
 /// The values of a range, by a scan with room for some more keys than there were, and for twice as many as long as that has more.
 pub(crate) fn values(handle: &Handle, keys: &impl KeyRange) -> Result<Vec<u64>, Error> {
-    let Some((from, upto)) = ends(keys) else {
-        return Ok(Vec::new());
+    let (from, upto) = match ends(keys) {
+        Some(both) => both,
+        None => return Ok(Vec::new()),
     };
     let mut limit = handle.lease().count(from.bytes(), upto.bytes()) + LARGEST_PAGE;
     loop {
