@@ -14,6 +14,9 @@ from .codec import Codec
 K = TypeVar("K")
 Self = TypeVar("Self", bound="SortedMap[Any]")
 
+# An end of a range: a key, or of a map with Codec.of the first values of one.
+Bound = Union[K, tuple[Any, ...]]
+
 
 ALL = LEAST, GREATEST = b"", b"\xff" * MAX_KEY
 
@@ -126,8 +129,8 @@ class SortedMap(Map[K], MutableMapping[K, int], Generic[K]):
 
     def irange(
         self,
-        minimum: Optional[K] = None,
-        maximum: Optional[K] = None,
+        minimum: Optional[Bound[K]] = None,
+        maximum: Optional[Bound[K]] = None,
         inclusive: tuple[bool, bool] = (True, True),
         reverse: bool = False,
     ) -> Iterator[K]:
@@ -136,8 +139,8 @@ class SortedMap(Map[K], MutableMapping[K, int], Generic[K]):
 
     def irange_items(
         self,
-        minimum: Optional[K] = None,
-        maximum: Optional[K] = None,
+        minimum: Optional[Bound[K]] = None,
+        maximum: Optional[Bound[K]] = None,
         inclusive: tuple[bool, bool] = (True, True),
         reverse: bool = False,
     ) -> Iterator[tuple[K, int]]:
@@ -146,8 +149,8 @@ class SortedMap(Map[K], MutableMapping[K, int], Generic[K]):
 
     def count_range(
         self,
-        minimum: Optional[K] = None,
-        maximum: Optional[K] = None,
+        minimum: Optional[Bound[K]] = None,
+        maximum: Optional[Bound[K]] = None,
         inclusive: tuple[bool, bool] = (True, True),
     ) -> int:
         """How many keys `irange` lists: few of them are read."""
@@ -156,8 +159,8 @@ class SortedMap(Map[K], MutableMapping[K, int], Generic[K]):
 
     def values_range(
         self,
-        minimum: Optional[K] = None,
-        maximum: Optional[K] = None,
+        minimum: Optional[Bound[K]] = None,
+        maximum: Optional[Bound[K]] = None,
         inclusive: tuple[bool, bool] = (True, True),
     ) -> list[int]:
         """The values of the keys that `irange` lists, in that order, by one scan that
@@ -165,7 +168,9 @@ class SortedMap(Map[K], MutableMapping[K, int], Generic[K]):
         bounds = self._bounds(minimum, maximum, inclusive)
         return [] if bounds is None else self._values(*bounds)
 
-    def prefix_items(self, prefix: K, reverse: bool = False) -> Iterator[tuple[K, int]]:
+    def prefix_items(
+        self, prefix: Bound[K], reverse: bool = False
+    ) -> Iterator[tuple[K, int]]:
         """The pairs whose keys begin with the prefix."""
         code = self._encode(prefix)
         has_keys = len(code) <= MAX_KEY
@@ -174,8 +179,8 @@ class SortedMap(Map[K], MutableMapping[K, int], Generic[K]):
 
     def irange_pop(
         self,
-        minimum: Optional[K] = None,
-        maximum: Optional[K] = None,
+        minimum: Optional[Bound[K]] = None,
+        maximum: Optional[Bound[K]] = None,
         inclusive: tuple[bool, bool] = (True, True),
         reverse: bool = False,
     ) -> tuple[K, int]:
@@ -191,19 +196,23 @@ class SortedMap(Map[K], MutableMapping[K, int], Generic[K]):
 
     def irange_clear(
         self,
-        minimum: Optional[K] = None,
-        maximum: Optional[K] = None,
+        minimum: Optional[Bound[K]] = None,
+        maximum: Optional[Bound[K]] = None,
         inclusive: tuple[bool, bool] = (True, True),
     ) -> None:
         """Deletes the keys that `irange` lists."""
         for key in self.irange(minimum, maximum, inclusive):
             self.pop(key, None)
 
-    def floor_item(self, key: K, inclusive: bool = True) -> Optional[tuple[K, int]]:
+    def floor_item(
+        self, key: Bound[K], inclusive: bool = True
+    ) -> Optional[tuple[K, int]]:
         """The last pair whose key is at most this one, or below it."""
         return next(self.irange_items(None, key, (True, inclusive), True), None)
 
-    def ceiling_item(self, key: K, inclusive: bool = True) -> Optional[tuple[K, int]]:
+    def ceiling_item(
+        self, key: Bound[K], inclusive: bool = True
+    ) -> Optional[tuple[K, int]]:
         """The first pair whose key is at least this one, or above it."""
         return next(self.irange_items(key, None, (inclusive, True)), None)
 
