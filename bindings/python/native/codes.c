@@ -194,13 +194,18 @@ int value_of(PyObject *object, uint64_t *value) {
     return -1;
 }
 
-void raise_own(const char *name, const char *text) {
+PyObject *own_error(const char *name) {
     PyObject *from = PyImport_ImportModule("hot._errors");
     PyObject *kind = from ? PyObject_GetAttrString(from, name) : NULL;
+    Py_XDECREF(from);
+    return kind;
+}
+
+void raise_own(const char *name, const char *text) {
+    PyObject *kind = own_error(name);
     if (kind)
         PyErr_SetString(kind, text);
     Py_XDECREF(kind);
-    Py_XDECREF(from);
 }
 
 void raise_status(hot_status status) {

@@ -14,6 +14,31 @@ static void packed_end(packed *it) {
     PyMem_Free(it->heads);
 }
 
+/* Raises what the refusal of a pair becomes, with the pair's number. */
+static void raise_pair(const char *name, hot_status status, size_t number) {
+    PyObject *kind = own_error(name);
+    PyObject *text = kind ? PyUnicode_FromFormat("pair %zu: %s", number, hot_status_text(status)) : NULL;
+    PyObject *error = text ? PyObject_CallFunctionObjArgs(kind, text, NULL) : NULL;
+    PyObject *at = error ? PyLong_FromSize_t(number) : NULL;
+    if (at && PyObject_SetAttrString(error, "number", at) == 0)
+        PyErr_SetObject(kind, error);
+    Py_XDECREF(at);
+    Py_XDECREF(error);
+    Py_XDECREF(text);
+    Py_XDECREF(kind);
+}
+
+/* The same for a load, which may have been refused as a whole. */
+static void raise_load(hot_status status, size_t number) {
+    switch (status) {
+    case HOT_NOT_RISING:
+    case HOT_KEY_TOO_LONG: raise_pair("LoadError", status, number); break;
+    case HOT_FULL_NODES:
+    case HOT_FULL_LEAVES: raise_pair("FullError", status, number); break;
+    default: raise_status(status); break;
+    }
+}
+
 /* Makes room for one more, with a key of this length: -1 with an exception. */
 static int packed_make_room(packed *it, size_t length) {
     if (it->count == it->heads_room) {
@@ -38,7 +63,7 @@ static int packed_make_room(packed *it, size_t length) {
 /* Puts a pair behind the others: -1 with an exception. */
 static int packed_put(packed *it, const code *key, uint64_t value) {
     if (key->length > HOT_MAX_KEY) {
-        raise_status(HOT_KEY_TOO_LONG);
+        raise_load(HOT_KEY_TOO_LONG, it->count);
         return -1;
     }
     if (packed_make_room(it, key->length) < 0) {
@@ -89,10 +114,8 @@ static PyObject *load_pairs(map *it, PyObject *pairs) {
     if (in) {
         sorted_pairs sorted = {all.bytes, all.heads, all.count};
         status = store_load(in, &sorted, &number);
-        if (status == HOT_NOT_RISING)
-            PyErr_Format(PyExc_ValueError, "pair %zu: %s", number, hot_status_text(status));
-        else if (status != HOT_DONE)
-            raise_status(status);
+        if (status != HOT_DONE)
+            raise_load(status, number);
     }
     packed_end(&all);
     if (!in || status != HOT_DONE)

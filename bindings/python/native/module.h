@@ -49,7 +49,10 @@ PyObject *key_of(const codec *it, const uint8_t *bytes, size_t length);
 /* The value of an object: -1 with an exception if it is none. It may run any Python code. */
 int value_of(PyObject *object, uint64_t *value);
 
-/* Raises an error of the package by its name. */
+/* An error of the package by its name: NULL with an exception. */
+PyObject *own_error(const char *name);
+
+/* Raises it. */
 void raise_own(const char *name, const char *text);
 
 /* Raises what a refusal becomes. */

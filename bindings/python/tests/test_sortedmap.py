@@ -10,7 +10,7 @@ import unittest
 import weakref
 from pathlib import Path
 
-from hot import Codec, FullError, SortedMap
+from hot import Codec, FullError, LoadError, SortedMap
 
 from apart import run_apart
 
@@ -278,6 +278,14 @@ class Whole(unittest.TestCase):
         mine |= {b"a": 7}
         self.assertEqual(mine[b"a"], 7)
 
+    def assert_refuses(self, number, error, pairs, longest=None) -> None:
+        """Refuses the pair of this number, in a map for few keys if a length is given."""
+        size = {} if longest is None else {"capacity": 7, "longest": longest}
+        with self.assertRaises(error) as raised:
+            SortedMap(pairs, sorted=True, grow=longest is None, **size)
+        self.assertEqual(raised.exception.number, number)
+        self.assertIn(f"pair {number}: ", str(raised.exception))
+
     def test_loads(self) -> None:
         pairs = [(f"{at:05}", at) for at in range(3000)]
         for data in pairs, dict(pairs), iter(pairs):
@@ -291,6 +299,10 @@ class Whole(unittest.TestCase):
         for wrong in [("a", 1), ("a", 2)], [("b", 1), ("a", 2)]:
             with self.assertRaisesRegex(ValueError, "^pair 1: the key is not above"):
                 SortedMap(wrong, sorted=True)
+        self.assert_refuses(1, LoadError, [("a", 1), ("a", 2)])
+        self.assert_refuses(2, LoadError, [("a", 1), ("b", 1), ("c" * 241, 1)])
+        self.assert_refuses(1, LoadError, [("a", 1), ("b" * 9, 1)], 8)
+        self.assert_refuses(521, FullError, pairs, 8)
         for wrong, error in [
             ([("a" * 241, 1)], ValueError),
             ([("a",)], ValueError),
@@ -300,8 +312,10 @@ class Whole(unittest.TestCase):
         ]:
             with self.assertRaises(error):
                 SortedMap(wrong, sorted=True)  # type: ignore[arg-type]
-        with self.assertRaises(FullError):
-            SortedMap(pairs, sorted=True, capacity=1, grow=False)
+        full = SortedMap(keys=int, capacity=0, grow=False)
+        with self.assertRaises(FullError) as raised:
+            full.update((at, at) for at in range(3000))
+        self.assertIsNone(raised.exception.number)
         with self.assertRaises(TypeError):
             m._load_map({})  # type: ignore[arg-type]
 

@@ -7,7 +7,7 @@ except ModuleNotFoundError as error:
     raise ImportError(f"{why}; a Python without the GIL has none") from error
 
 from . import _forks
-from ._errors import FullError, HotError
+from ._errors import FullError, HotError, LoadError
 from .codec import Codec, key_of, values_of
 from .sortedmap import SortedMap, Stats
 
@@ -15,6 +15,7 @@ __all__ = [
     "Codec",
     "FullError",
     "HotError",
+    "LoadError",
     "SortedMap",
     "Stats",
     "key_of",

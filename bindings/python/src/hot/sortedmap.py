@@ -61,8 +61,8 @@ class SortedMap(Map[K], MutableMapping[K, int], Generic[K]):
     or look up many keys. A map has room for `capacity` keys of at most `longest` bytes.
     When it is full it grows, by a copy for which other threads wait; with grow=False it
     raises FullError. Where the data is a SortedMap with the same keys, or sorted=True
-    says that its keys rise, all goes in at once; a key that isn't above the one before
-    raises ValueError then.
+    says that its keys rise, all goes in at once. A key that isn't above the one before,
+    or is too long, raises LoadError then, which is a ValueError with the pair's number.
 
     An iterator lists what is there all along, and may list or miss
     what is set or deleted meanwhile. In the child of a process that forks while it has
