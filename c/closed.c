@@ -76,6 +76,7 @@ static hot_handle open_handle = HOT_HANDLE;
     CALL(hot_scan_packed_reverse(closed, key, 1, key, 1, to->key, 1, &to->head, 1, &to->count, &to->more)) \
     CALL(hot_each(closed, key, 1, key, 1, visit, to))                                          \
     CALL(hot_count(closed, key, 1, key, 1, &to->count))                                        \
+    CALL(hot_count_prefix(closed, key, 1, &to->count))                                         \
     CALL(hot_scan_values(closed, key, 1, key, 1, &to->value, 1, &to->count, &to->more))        \
     CALL(hot_first(closed, key, 1, &to->pair))                                                 \
     CALL(hot_last(closed, key, 1, &to->pair))                                                  \

@@ -453,6 +453,9 @@ hot_status hot_last(hot_handle *handle, const uint8_t *upto, size_t length, hot_
  * HOT_DONE; or HOT_KEY_TOO_LONG, HOT_CLOSED, and then nothing was written. */
 hot_status hot_count(hot_handle *handle, const uint8_t *from, size_t from_length, const uint8_t *upto, size_t upto_length, size_t *count);
 
+/* hot_count of the keys that begin with the prefix, or of all keys if it is empty. It writes and returns what hot_count does. */
+hot_status hot_count_prefix(hot_handle *handle, const uint8_t *prefix, size_t length, size_t *count);
+
 /* hot_scan of values alone: writes those of the first `limit` pairs to `values`, for which it has room. It answers what hot_scan does, and
  * makes no more steps than hot_scan may. It names no key to go on from: hot_count tells how much room takes them all. */
 hot_status hot_scan_values(hot_handle *handle, const uint8_t *from, size_t from_length, const uint8_t *upto, size_t upto_length,

@@ -588,13 +588,17 @@ class handle {
         return range(it(), from, upto, count, order::last);
     }
 
-    /// How many keys there are from one key to another, both included: hot_count. And how many begin with a prefix.
+    /// How many keys there are from one key to another, both included: hot_count. And how many begin with a prefix: hot_count_prefix.
     [[nodiscard]] std::size_t count(key_view from, key_view upto) {
         std::size_t count = 0;
         check(hot_count(it(), bytes(from), from.size(), bytes(upto), upto.size(), &count));
         return count;
     }
-    [[nodiscard]] std::size_t count_prefix(key_view prefix) { return count(prefix, last_with(prefix)); }
+    [[nodiscard]] std::size_t count_prefix(key_view prefix) {
+        std::size_t count = 0;
+        check(hot_count_prefix(it(), bytes(prefix), prefix.size(), &count));
+        return count;
+    }
 
     /// The values of the keys from one key to another, both included, in key order: hot_scan_values.
     [[nodiscard]] std::vector<std::uint64_t> values(key_view from, key_view upto) {

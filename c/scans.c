@@ -40,6 +40,28 @@ static void test_prefix(void) {
     CHECK(hot_first(&handle, bytes("a"), 1, &pair) == HOT_CLOSED);
 }
 
+/* How many keys begin with a prefix: one that is a key, one that ends in the greatest byte, all keys, a key of the greatest length, none. */
+static void test_count_prefix(void) {
+    static const struct {
+        const char *prefix;
+        size_t count;
+    } rows[] = {{"", 6}, {"a", 3}, {"ab", 1}, {"a\377", 1}, {"a\377\377", 1}, {"\377", 1}, {"ac", 0}, {"c", 0}};
+    static const char *const keys[] = {"", "a", "ab", "a\377\377", "b"};
+    hot_handle handle = HOT_HANDLE;
+    uint8_t greatest[HOT_MAX_KEY + 1];
+    size_t row, count = 9;
+    memset(greatest, 0xff, sizeof greatest);
+    CHECK(hot_create(100, 100, &handle, 1) == HOT_DONE && hot_insert(&handle, greatest, HOT_MAX_KEY, 5, NULL) == HOT_INSERTED);
+    for (row = 0; row < sizeof keys / sizeof keys[0]; row++)
+        CHECK(hot_insert(&handle, bytes(keys[row]), strlen(keys[row]), row, NULL) == HOT_INSERTED);
+    for (row = 0; row < sizeof rows / sizeof rows[0]; row++)
+        CHECK(hot_count_prefix(&handle, bytes(rows[row].prefix), strlen(rows[row].prefix), &count) == HOT_DONE && count == rows[row].count);
+    CHECK(hot_count_prefix(&handle, greatest, HOT_MAX_KEY, &count) == HOT_DONE && count == 1);
+    CHECK(hot_count_prefix(&handle, greatest, sizeof greatest, &count) == HOT_KEY_TOO_LONG && count == 1);
+    CHECK(hot_destroy(&handle) == HOT_DONE);
+    CHECK(hot_count_prefix(&handle, greatest, sizeof greatest, &count) == HOT_CLOSED && count == 1);
+}
+
 /* The same downwards. In each row a scan of a prefix ends before a key, or at the last one, and lists these values; then there may be more. */
 static void test_prefix_reverse(void) {
     static const struct {
@@ -352,6 +374,7 @@ int main(void) {
     test_scan_reverse();
     test_scan_last();
     test_prefix();
+    test_count_prefix();
     test_prefix_reverse();
     test_after();
     test_before();

@@ -102,6 +102,7 @@ class Maps(unittest.TestCase):
         self.assertEqual(list(mine), sorted(keys))
         with_a = [key for key in sorted(keys) if key[0] == "a"]
         self.assertEqual([key for key, _ in mine.prefix_items(("a",))], with_a)
+        self.assertEqual(mine.count_prefix(("a",)), len(with_a))
         after = [key for key in sorted(keys) if ("a", 1) <= key < ("b",)]
         self.assertEqual(list(mine.irange(("a", 1), ("b",), (True, False))), after)
 

@@ -83,6 +83,7 @@ class Model:
         if self.kind is not int:
             wanted = [(key, other[key]) for key in keys if key.startswith(one[:2])]
             equal(list(mine.prefix_items(one[:2])), wanted)
+            equal(mine.count_prefix(one[:2]), len(wanted))
             equal(list(mine.prefix_items(one[:2], reverse=True)), wanted[::-1])
 
     def end(self):
@@ -208,6 +209,7 @@ class Refusals(unittest.TestCase):
         self.assertEqual(list(mine.irange("x" * 241)), [])
         self.assertEqual(list(mine.irange(None, "x" * 241, (True, False))), ["x" * 240])
         self.assertEqual(list(mine.prefix_items("x" * 241)), [])
+        self.assertEqual(mine.count_prefix("x" * 241), 0)
 
     def test_full(self):
         mine = SortedMap(capacity=0, longest=8, grow=False)

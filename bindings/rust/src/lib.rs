@@ -549,6 +549,18 @@ impl Handle {
         range::count(self, &keys)
     }
 
+    /// How many keys begin with these bytes: [`prefix`](Handle::prefix)`.count()`, but few of the keys are read.
+    ///
+    /// ```
+    /// let handle = hot::Hot::with_capacity(10, 8, 1)?.handle()?;
+    /// handle.extend([("a", 1), ("ab", 2), ("b", 3)])?;
+    /// assert_eq!(handle.count_prefix("a"), 2);
+    /// # Ok::<(), hot::Error>(())
+    /// ```
+    pub fn count_prefix(&self, prefix: impl AsRef<[u8]>) -> usize {
+        range::count_prefix(self, prefix.as_ref())
+    }
+
     /// The pairs whose keys begin with these bytes, in the same way.
     pub fn prefix(&self, prefix: impl AsRef<[u8]>) -> Range<'_> {
         Range::prefix(self, prefix.as_ref())

@@ -135,9 +135,29 @@ pub(crate) fn ends(range: &impl KeyRange) -> Option<(Key, Key)> {
     }
 }
 
+/// The least and the greatest key that may begin with a prefix, or `None` if none does.
+fn ends_of_prefix(prefix: &[u8]) -> Option<(Key, Key)> {
+    let least = Key::new(prefix);
+    if prefix.len() <= MAX_KEY {
+        Some((least, least.filled()))
+    } else {
+        None
+    }
+}
+
+/// How many keys there are between these ends.
+fn count_between(handle: &Handle, ends: Option<(Key, Key)>) -> usize {
+    ends.map_or(0, |(from, upto)| handle.lease().count(from.bytes(), upto.bytes()))
+}
+
 /// How many keys a range has.
 pub(crate) fn count(handle: &Handle, keys: &impl KeyRange) -> usize {
-    ends(keys).map_or(0, |(from, upto)| handle.lease().count(from.bytes(), upto.bytes()))
+    count_between(handle, ends(keys))
+}
+
+/// How many keys begin with a prefix.
+pub(crate) fn count_prefix(handle: &Handle, prefix: &[u8]) -> usize {
+    count_between(handle, ends_of_prefix(prefix))
 }
 
 /// The values of a range, by a scan with room for some more keys than there were, and for twice as many as long as that has more.
@@ -175,15 +195,7 @@ impl<'a> Range<'a> {
     }
 
     pub(crate) fn prefix(handle: &'a Handle, prefix: &[u8]) -> Self {
-        let least = Key::new(prefix);
-        Range::between(
-            handle,
-            if prefix.len() <= MAX_KEY {
-                Some((least, least.filled()))
-            } else {
-                None
-            },
-        )
+        Range::between(handle, ends_of_prefix(prefix))
     }
 
     fn between(handle: &'a Handle, left: Option<(Key, Key)>) -> Self {

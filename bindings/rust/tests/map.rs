@@ -167,6 +167,7 @@ fn check_look_ups(handle: &Handle, model: &Model, random: &mut Random) {
     assert!(keys.iter().zip(wanted).all(|(key, value)| handle.get(key) == value));
     let prefix = random.key();
     let wanted = listed(model, |key| key.starts_with(&prefix));
+    assert_eq!(handle.count_prefix(&prefix), wanted.len());
     assert!(handle.prefix(&prefix).eq(wanted.clone()));
     assert!(handle.prefix(&prefix).rev().eq(wanted.into_iter().rev()));
     let copy = |(key, value): (&Vec<u8>, &u64)| (key.clone(), *value);
@@ -252,7 +253,7 @@ fn keys_that_are_too_long() {
         ),
         (1, 2, 2)
     );
-    assert_eq!(handle.prefix(&long).count(), 0);
+    assert_eq!((handle.prefix(&long).count(), handle.count_prefix(&long)), (0, 0));
 }
 
 #[test]

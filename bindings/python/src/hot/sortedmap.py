@@ -125,6 +125,11 @@ class SortedMap(Map[K], MutableMapping[K, int], Generic[K]):
             return None
         return start, end
 
+    def _prefix_bounds(self, prefix: Any) -> Optional[tuple[bytes, bytes]]:
+        """The bytes of the least and greatest key with a prefix, if it may have keys."""
+        code = self._encode(prefix)
+        return (code, code.ljust(MAX_KEY, b"\xff")) if len(code) <= MAX_KEY else None
+
     # ---- Order ----
 
     def irange(
@@ -172,10 +177,12 @@ class SortedMap(Map[K], MutableMapping[K, int], Generic[K]):
         self, prefix: Bound[K], reverse: bool = False
     ) -> Iterator[tuple[K, int]]:
         """The pairs whose keys begin with the prefix."""
-        code = self._encode(prefix)
-        has_keys = len(code) <= MAX_KEY
-        bounds = (code, code.ljust(MAX_KEY, b"\xff")) if has_keys else None
-        return self._list(ITEMS, bounds, reverse)
+        return self._list(ITEMS, self._prefix_bounds(prefix), reverse)
+
+    def count_prefix(self, prefix: Bound[K]) -> int:
+        """How many keys begin with the prefix: few of them are read."""
+        bounds = self._prefix_bounds(prefix)
+        return 0 if bounds is None else self._count(*bounds)
 
     def irange_pop(
         self,
