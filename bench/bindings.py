@@ -1,12 +1,11 @@
 #!/usr/bin/env python3
 """Counts the instructions of calls from Python and of statements of SQLite, by valgrind's callgrind, beside a SortedDict (of sortedcontainers)
-and beside an ordinary table in memory. `bench/run bindings` builds the module and the table, and runs it.
-
-usage: bench/run bindings [KEYS]      on so many keys of 12 characters, 12,000 or more (20,000)
+and beside an ordinary table in memory. `bench/run bindings [KEYS]` builds the module and the table, and runs it.
 
 A run of 2,000 calls is subtracted from one of 12,000, and what the loop itself takes from both. How busy the machine is changes nothing. The
 figures go to a CSV, too, beside the folder of the module and the table; bench/pages reads such.
 """
+import argparse
 import csv
 import os
 import re
@@ -91,9 +90,13 @@ def show(file, title: str, kinds: dict, sides: dict, command) -> None:
 
 
 def main() -> None:
-    folder, keys = Path(sys.argv[1]), int(sys.argv[2]) if len(sys.argv) > 2 else 20_000
+    words = argparse.ArgumentParser(description=__doc__, formatter_class=argparse.RawDescriptionHelpFormatter)
+    words.add_argument("folder", type=Path, metavar="FOLDER", help="that has the module and the table")
+    words.add_argument("keys", type=int, nargs="?", metavar="KEYS", default=20_000, help=f"of 12 characters: {MANY:,} or more (%(default)s)")
+    given = words.parse_args()
+    folder, keys = given.folder, given.keys
     if keys < MANY:
-        sys.exit(f"bindings: {MANY:,} keys or more")
+        words.error(f"{MANY:,} keys or more")
     with open(folder.parent / "bindings.csv", "w", newline="") as file:
         csv.writer(file, lineterminator="\n").writerow(FIELDS)
         show(file, "Python", PYTHON, MAPS, lambda of, call: python(of, keys, call))

@@ -2,9 +2,8 @@
 """A key-value loop by ctypes: reads commands, a line each, and answers them.
 
     put KEY NUMBER     get KEY     del KEY     list
-
-usage: example.py [LIBRARY]     where it lies, if it is not libhot.so.3 of the loader's folders
 """
+import argparse
 import ctypes
 import sys
 from ctypes import POINTER, byref, c_char_p, c_size_t, c_uint8, c_uint32, c_uint64, c_void_p
@@ -210,7 +209,9 @@ def answer(index: Index, line: str) -> list:
 
 
 def main() -> None:
-    hot = load(sys.argv[1] if len(sys.argv) > 1 else "libhot.so.3")
+    words = argparse.ArgumentParser(description=__doc__, formatter_class=argparse.RawDescriptionHelpFormatter)
+    words.add_argument("library", nargs="?", metavar="LIBRARY", default="libhot.so.3", help="where it lies, if not in the loader's folders")
+    hot = load(words.parse_args().library)
     index = Index(hot, stock_for_keys(hot, 16384, MAX_KEY))
     for line in sys.stdin:
         try:

@@ -1,9 +1,6 @@
 #!/usr/bin/env python3
-"""Tests of example.py: indexes with stocks, what they take and what they refuse; scans over several pages.
-
-usage: test.py LIBRARY
-"""
-import sys
+"""Tests of example.py: indexes with stocks, what they take and what they refuse; scans over several pages."""
+import argparse
 
 from example import MAX_KEY, PAGE, Index, Stock, load, stock_for_keys
 
@@ -18,7 +15,9 @@ def refusal(call, *words) -> str | None:
 
 
 def main() -> None:
-    hot = load(sys.argv[1])
+    words = argparse.ArgumentParser(description=__doc__)
+    words.add_argument("library", metavar="LIBRARY", help="where libhot.so lies")
+    hot = load(words.parse_args().library)
     stock = stock_for_keys(hot, 7, 8)
     assert (stock.nodes, stock.short, stock.medium, stock.long) == (513, 521, 0, 0)
     assert refusal(Index, hot, stock, 1025) == refusal(Index, hot, Stock(1)) == hot.hot_status_text(14).decode()

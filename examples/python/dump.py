@@ -1,13 +1,8 @@
-"""Dumps a map to a file, and makes a map of the file again.
+"""Dumps a map to a file, makes a map of the file again, and prints what that has. The
+file is as examples/c/dump.c has it, which reads and writes the same."""
 
-    dump.py FILE [KEYS]
-
-It puts KEYS keys in, or 1000000, dumps them, restores them into a second map, and prints
-what that has. The file is as examples/c/dump.c has it, which reads and writes the same.
-"""
-
+import argparse
 import os
-import sys
 from collections.abc import Iterator
 from typing import BinaryIO
 
@@ -57,7 +52,12 @@ def read_dump(name: str) -> SortedMap[bytes]:
 
 
 def main() -> None:
-    name, keys = sys.argv[1], int(sys.argv[2]) if len(sys.argv) > 2 else 1_000_000
+    words = argparse.ArgumentParser(description=__doc__)
+    words.add_argument("file", metavar="FILE", help="the dump, which is replaced")
+    words.add_argument("keys", type=int, nargs="?", metavar="KEYS", default=1_000_000)
+    given = words.parse_args()
+    name: str = given.file
+    keys: int = given.keys
     index = SortedMap(
         ((b"user:%d" % number, number) for number in range(keys)),
         keys=bytes,

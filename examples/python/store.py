@@ -2,12 +2,14 @@
 only grows; the map has the place of each key's last record: twice its offset, and one
 more if the record deletes the key. Several threads may write and read at once.
 
-    store.py LOG THREADS     put KEY VALUE   get KEY   del KEY   list PREFIX   fill COUNT
+Standard input has commands, a line each: put KEY VALUE, get KEY, del KEY, list PREFIX,
+fill COUNT.
 
 A put is in the log when it returns; a store that must outlive the machine calls
 os.fdatasync, too.
 """
 
+import argparse
 import itertools
 import os
 import struct
@@ -157,7 +159,11 @@ def answer(store: Store, line: bytes) -> None:
 
 
 def main() -> None:
-    store = Store(sys.argv[1], int(sys.argv[2]))
+    words = argparse.ArgumentParser(description=__doc__)
+    words.add_argument("log", metavar="LOG", help="the file, which is made if need be")
+    words.add_argument("threads", type=int, metavar="THREADS", help="that read the log")
+    given = words.parse_args()
+    store = Store(given.log, given.threads)
     for line in sys.stdin.buffer:
         answer(store, line)
 

@@ -1,8 +1,6 @@
-"""Counts the words of standard input with several threads, and lists them in order.
+"""Counts the words of standard input with several threads, and lists them in order."""
 
-    words.py THREADS <TEXT
-"""
-
+import argparse
 import re
 import sys
 from concurrent.futures import ThreadPoolExecutor
@@ -29,7 +27,9 @@ def parts(text: bytes, wanted: int) -> list[bytes]:
 
 
 def main() -> None:
-    threads = int(sys.argv[1])
+    words = argparse.ArgumentParser(description=__doc__)
+    words.add_argument("threads", type=int, metavar="THREADS", help="how many threads")
+    threads: int = words.parse_args().threads
     counts: SortedMap[bytes] = SortedMap(keys=bytes, threads=threads)
     with ThreadPoolExecutor(threads) as pool:
         texts = parts(sys.stdin.buffer.read(), threads)
