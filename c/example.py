@@ -9,8 +9,7 @@ import sys
 from ctypes import POINTER, byref, c_char_p, c_size_t, c_uint8, c_uint32, c_uint64, c_void_p
 
 MAX_KEY, PAGE = 240, 64
-FOUND, WAS, REMOVED, EXCHANGED, DIFFERS = 1, 6, 7, 16, 17
-REFUSALS = (*range(8, 16), 18, 21)
+FOUND, WAS, REMOVED, BUSY, NO_MEMORY, EXCHANGED, DIFFERS, HELD_BACK = 1, 6, 7, 8, 15, 16, 17, 18
 
 
 class Handle(ctypes.Structure):
@@ -104,7 +103,7 @@ class Index:
 
     def check(self, status: int) -> int:
         """The status, unless it is a refusal."""
-        if status in REFUSALS:
+        if BUSY <= status <= NO_MEMORY or status >= HELD_BACK:
             raise RuntimeError(self.hot.hot_status_text(status).decode())
         return status
 
@@ -142,13 +141,13 @@ class Index:
         return had.value if status == REMOVED else None
 
     def exchange(self, key: bytes, expected: int, value: int, thread: int = 0) -> int | None:
-        """Gives a key a value if it has the expected one. Answers the value that it had, which it keeps if that is another."""
+        """Gives a key a value if it has the expected one. Returns the value that it had, which it keeps if that is another."""
         had = c_uint64(expected)
         status = self.check(self.hot.hot_exchange(self.handles[thread], key, len(key), expected, value, had))
         return had.value if status in (EXCHANGED, DIFFERS) else None
 
     def remove_if(self, key: bytes, expected: int, thread: int = 0) -> int | None:
-        """Makes a key absent if it has the expected value. Answers the value that it had, which it keeps if that is another."""
+        """Makes a key absent if it has the expected value. Returns the value that it had, which it keeps if that is another."""
         had = c_uint64()
         status = self.check(self.hot.hot_remove_if(self.handles[thread], key, len(key), expected, had))
         return had.value if status in (REMOVED, DIFFERS) else None

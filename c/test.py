@@ -4,6 +4,8 @@ import argparse
 
 from example import MAX_KEY, PAGE, Index, Stock, load, stock_for_keys
 
+FULL_LEAVES, OUT_OF_RANGE = 10, 14
+
 
 def refusal(call, *words) -> str | None:
     """What a call is refused for, if it is."""
@@ -20,7 +22,7 @@ def main() -> None:
     hot = load(words.parse_args().library)
     stock = stock_for_keys(hot, 7, 8)
     assert (stock.nodes, stock.short, stock.medium, stock.long) == (513, 521, 0, 0)
-    assert refusal(Index, hot, stock, 1025) == refusal(Index, hot, Stock(1)) == hot.hot_status_text(14).decode()
+    assert refusal(Index, hot, stock, 1025) == refusal(Index, hot, Stock(1)) == hot.hot_status_text(OUT_OF_RANGE).decode()
     index = Index(hot, stock)
     assert index.size == 255680
     for number in range(PAGE * 3):
@@ -38,8 +40,9 @@ def main() -> None:
     # A key takes the smallest leaf that has room for it and is free.
     index = Index(hot, Stock(nodes=8, short=1, long=1), 2)
     assert index.upsert(b"a" * MAX_KEY, 1) is None and index.upsert(b"b", 2, 1) is None
-    assert refusal(index.upsert, b"c", 3) == hot.hot_status_text(10).decode()
-    assert index.remove(b"b") == 2 and refusal(index.upsert, b"c" * 9, 3) == hot.hot_status_text(10).decode()
+    full = hot.hot_status_text(FULL_LEAVES).decode()
+    assert refusal(index.upsert, b"c", 3) == full
+    assert index.remove(b"b") == 2 and refusal(index.upsert, b"c" * 9, 3) == full
     short = index.census().short
     assert (short.free, short.held, short.live, short.obsolete) == (1, 0, 0, 0)
     assert index.upsert(b"c", 3) is None and index.get(b"c", 1) == 3 and index.get(b"b") is None

@@ -44,7 +44,7 @@ impl Error {
             ffi::OTHER_INDEX => Error::OtherIndex,
             ffi::OLD_PROCESSOR => Error::OldProcessor,
             ffi::INSIDE => Error::Inside,
-            0..=7 | ffi::EXCHANGED | ffi::DIFFERS | ffi::NOT_PAST => return Ok(status),
+            0..=ffi::REMOVED | ffi::EXCHANGED | ffi::DIFFERS | ffi::NOT_PAST => return Ok(status),
             _ => Error::Unexpected(status),
         })
     }
