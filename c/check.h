@@ -1,4 +1,5 @@
-/* What the tests in C share: CHECK, which says where something is not so and goes on, keys written as text, and a limit of addresses. */
+/* What the tests in C and C++ share: CHECK, which says where something is not so and goes on, keys written as text, and a limit of
+ * addresses. */
 #ifndef CHECK_H
 #define CHECK_H
 
@@ -9,12 +10,13 @@
 /* 1 once something was not so; a test's exit status. */
 static int failures;
 
-#define CHECK(that)                                                         \
-    do {                                                                    \
-        if (!(that)) {                                                      \
-            fprintf(stderr, "%s:%d: not so: %s\n", __FILE__, __LINE__, #that); \
-            __atomic_store_n(&failures, 1, __ATOMIC_SEQ_CST);               \
-        }                                                                   \
+/* Its argument may have commas, as C++ has between braces. */
+#define CHECK(...)                                                                 \
+    do {                                                                           \
+        if (!(__VA_ARGS__)) {                                                      \
+            fprintf(stderr, "%s:%d: not so: %s\n", __FILE__, __LINE__, #__VA_ARGS__); \
+            __atomic_store_n(&failures, 1, __ATOMIC_SEQ_CST);                      \
+        }                                                                          \
     } while (0)
 
 static inline const uint8_t *bytes(const char *text) {

@@ -1,5 +1,6 @@
 // Tests of the library from C++: what each call gives or throws, scans over several pages, moved handles, and threads that wait.
 #include "hot.hpp"
+#include "check.h"
 #include <algorithm>
 #include <array>
 #include <atomic>
@@ -19,16 +20,6 @@ static_assert(!std::ranges::borrowed_range<hot::packed> && std::convertible_to<h
 static_assert(std::movable<hot::handle> && std::movable<hot::index> && std::default_initializable<hot::handle>);
 static_assert(std::convertible_to<std::span<const std::byte>, hot::key_view> && !std::convertible_to<int, hot::key_view>);
 #endif
-
-static int failures;
-
-#define CHECK(...)                                                                  \
-    do {                                                                            \
-        if (!(__VA_ARGS__)) {                                                       \
-            std::fprintf(stderr, "test.cpp:%d: not so: %s\n", __LINE__, #__VA_ARGS__); \
-            failures = 1;                                                           \
-        }                                                                           \
-    } while (0)
 
 template <class Error, class Call> static bool throws(Call call) {
     try {
