@@ -374,13 +374,13 @@ hot_status hot_after(const uint8_t *key, size_t length, uint8_t *next, size_t *n
 /* hot_scan from the end downwards: lists the pairs whose keys are from `from` to `upto`, both included, in falling key order:
  * the last `limit` of them. Writes 1 to `more` if the range has more below, else 0. No key is missing that was there all along
  * (if there are more, no key down to the last one listed). To go on, end at the key that hot_before gives for the last pair's. It
- * answers what hot_scan does, and makes no more steps than hot_scan may. */
+ * returns what hot_scan does, and makes no more steps than hot_scan may. */
 hot_status hot_scan_reverse(hot_handle *handle, const uint8_t *from, size_t from_length, const uint8_t *upto, size_t upto_length,
                             hot_pair *pairs, size_t limit, size_t *count, uint32_t *more);
 
 /* hot_scan_reverse with its pairs in rising key order: lists the last `limit` pairs whose keys are from `from` to `upto`, both
  * included. Writes 1 to `more` if the range has more below, else 0. To go on, end at the key that hot_before gives for the first
- * pair's. It answers what hot_scan does, and makes no more steps than hot_scan may. */
+ * pair's. It returns what hot_scan does, and makes no more steps than hot_scan may. */
 hot_status hot_scan_last(hot_handle *handle, const uint8_t *from, size_t from_length, const uint8_t *upto, size_t upto_length,
                          hot_pair *pairs, size_t limit, size_t *count, uint32_t *more);
 
@@ -390,13 +390,13 @@ hot_status hot_scan_last(hot_handle *handle, const uint8_t *from, size_t from_le
 hot_status hot_before(const uint8_t *key, size_t length, uint8_t *previous, size_t *previous_length);
 
 /* hot_scan of the keys that begin with the prefix, or of all keys if it is empty: from the first one if `after` is NULL, else from
- * the one after that key, such as the last one of an earlier call. It writes and answers what hot_scan does, by as many steps at
+ * the one after that key, such as the last one of an earlier call. It writes and returns what hot_scan does, by as many steps at
  * most. */
 hot_status hot_scan_prefix(hot_handle *handle, const uint8_t *prefix, size_t length, const uint8_t *after, size_t after_length,
                            hot_pair *pairs, size_t limit, size_t *count, uint32_t *more);
 
 /* hot_scan_prefix downwards: from the last one if `before` is NULL, else from the one before that key, such as the last one that an
- * earlier call listed. It writes and answers what hot_scan_reverse does, by as many steps at most. */
+ * earlier call listed. It writes and returns what hot_scan_reverse does, by as many steps at most. */
 hot_status hot_scan_prefix_reverse(hot_handle *handle, const uint8_t *prefix, size_t length, const uint8_t *before, size_t before_length,
                                    hot_pair *pairs, size_t limit, size_t *count, uint32_t *more);
 
@@ -411,12 +411,12 @@ typedef struct hot_head {
  * these only the first whose keys have `room` bytes together at most: a room of HOT_MAX_KEY bytes for each pair is always enough, and
  * with one for a single key a call gets on. Writes 1 to `more` if the range has more than it wrote, else 0. What it wrote is a scan
  * for as many pairs: no key is missing, up to the last one written, that was there all along. To go on, begin at the key that
- * hot_after gives for the last one. It answers what hot_scan does, and makes no more steps than hot_scan may. */
+ * hot_after gives for the last one. It returns what hot_scan does, and makes no more steps than hot_scan may. */
 hot_status hot_scan_packed(hot_handle *handle, const uint8_t *from, size_t from_length, const uint8_t *upto, size_t upto_length,
                            uint8_t *bytes, size_t room, hot_head *heads, size_t limit, size_t *count, uint32_t *more);
 
 /* hot_scan_packed from the end downwards: lists the last pairs, in falling key order, packed in the same way. Writes 1 to `more` if the
- * range has more below than it wrote, else 0. To go on, end at the key that hot_before gives for the last one. It answers what hot_scan
+ * range has more below than it wrote, else 0. To go on, end at the key that hot_before gives for the last one. It returns what hot_scan
  * does, and makes no more steps than hot_scan may. */
 hot_status hot_scan_packed_reverse(hot_handle *handle, const uint8_t *from, size_t from_length, const uint8_t *upto, size_t upto_length,
                                    uint8_t *bytes, size_t room, hot_head *heads, size_t limit, size_t *count, uint32_t *more);
@@ -426,10 +426,10 @@ hot_status hot_scan_packed_reverse(hot_handle *handle, const uint8_t *from, size
 hot_status hot_load_packed(const hot_stock *stock, size_t handles, const uint8_t *bytes, const hot_head *heads, size_t count, hot_index **index,
                            size_t *loaded);
 
-/* What a call hands pairs to: `pair` is there until the function returns. It answers 0 to end the call. */
+/* What a call hands pairs to: `pair` is there until the function returns. It returns 0 to end the call. */
 typedef int hot_visitor(void *context, const hot_pair *pair);
 
-/* Hands each pair whose key is from `from` to `upto`, both included, to `visit`, in key order, with the `context`, until it answers 0.
+/* Hands each pair whose key is from `from` to `upto`, both included, to `visit`, in key order, with the `context`, until it returns 0.
  * It lists 32 pairs at a time, as hot_scan does, and each time begins at the key that hot_after gives for the last one: so no key is
  * missing that was there all along, up to where it ended. While `visit` runs no call is under way: it may use the handle, and nothing
  * that is retired is held back. Each list makes at most as many steps as hot_scan with a limit of 32.
@@ -456,7 +456,7 @@ hot_status hot_count(hot_handle *handle, const uint8_t *from, size_t from_length
 /* hot_count of the keys that begin with the prefix, or of all keys if it is empty. It writes and returns what hot_count does. */
 hot_status hot_count_prefix(hot_handle *handle, const uint8_t *prefix, size_t length, size_t *count);
 
-/* hot_scan of values alone: writes those of the first `limit` pairs to `values`, for which it has room. It answers what hot_scan does, and
+/* hot_scan of values alone: writes those of the first `limit` pairs to `values`, for which it has room. It returns what hot_scan does, and
  * makes no more steps than hot_scan may. It names no key to go on from: hot_count tells how much room takes them all. */
 hot_status hot_scan_values(hot_handle *handle, const uint8_t *from, size_t from_length, const uint8_t *upto, size_t upto_length,
                            uint64_t *values, size_t limit, size_t *count, uint32_t *more);

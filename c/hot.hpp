@@ -120,7 +120,7 @@ inline void call_ends() {}
 #endif
 } // namespace detail
 
-/// Throws for each status that isn't an answer: std::length_error for a key of more than HOT_MAX_KEY bytes, or one for which no leaf
+/// Throws for each refusal that isn't returned as a value: std::length_error for a key of more than HOT_MAX_KEY bytes, or one for which no leaf
 /// record has room; std::bad_alloc; std::invalid_argument for numbers out of range, and for what is of another index; std::logic_error for
 /// handles that are closed or open, and sections that are open; std::runtime_error where no handle is free, or the processor is too old.
 inline void check(hot_status status) {

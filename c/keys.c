@@ -3,7 +3,7 @@
 #include "check.h"
 #include <string.h>
 
-/* One handle: what each call answers. */
+/* One handle: what each call returns. */
 static void test_calls(void) {
     hot_handle handle = HOT_HANDLE;
     uint64_t value = 7;

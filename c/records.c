@@ -254,7 +254,7 @@ static void test_sizes(void) {
     CHECK(hot_destroy(&handle) == HOT_DONE);
 }
 
-/* Keys that one handle takes out and puts in again: no call is refused. Answers whether small rounds were enough. A full round would give
+/* Keys that one handle takes out and puts in again: no call is refused. Returns whether small rounds were enough. A full round would give
  * back what the other handle has retired, the one leaf for 24 bytes that is not in use; and no more leaves are kept back than make the
  * next round due. */
 #define STEADY 100000

@@ -426,7 +426,7 @@ static int keep_to(const cpu_set_t *cores) {
     return sched_setaffinity(0, sizeof *cores, cores) == 0;
 }
 
-/* So many changes; answers whether any found that other calls held records back. */
+/* So many changes; returns whether any found that other calls held records back. */
 static int test_stopped(unsigned calls) {
     static const hot_stock stock = {FEW_LEAVES, FEW_LEAVES, 0, 0, 0, 0};
     hot_handle handles[CROWDED];
