@@ -253,10 +253,10 @@ hot_status hot_get(hot_handle *handle, const uint8_t *key, size_t length, uint64
 
 /* What values point to. A reader may still follow a value that another thread has just taken out of the index. So readers look up, and use
  * what they found, inside a section of their handle. They see what was written to it before the call that stored the value. (No
- * ThreadSanitizer sees the library's steps; hot.hpp tells it of calls and sections.) Who takes a value out, or replaces it, notes a moment
- * behind that, and frees what the value points to once the moment is past. Sections hold no records of the index back, and calls inside
- * one are as any other. A handle that never enters a section costs nothing then. These calls wait for none; their loads and stores count
- * as no steps. */
+ * ThreadSanitizer sees the library's steps; hot.hpp tells it of calls and sections, and in C hot_tsan.h.) Who takes a value out, or replaces
+ * it, notes a moment behind that, and frees what the value points to once the moment is past. Sections hold no records of the index back,
+ * and calls inside one are as any other. A handle that never enters a section costs nothing then. These calls wait for none; their loads
+ * and stores count as no steps. */
 
 /* Enters the handle's section. It makes one load and one store, and one exchange more at the first time.
  * HOT_DONE; or HOT_INSIDE if it is open already, or HOT_CLOSED. */

@@ -100,7 +100,8 @@ struct collected {
 };
 
 namespace detail {
-// ThreadSanitizer sees nothing of the library. It is told that a call that ends comes after what threads did before they began theirs.
+// ThreadSanitizer sees nothing of the library. It is told that a call that ends comes after what threads did before they began theirs, those
+// of C among them (hot_tsan.h).
 #if defined(__SANITIZE_THREAD__)
 #define HOT_TELLS_SANITIZER
 #elif defined(__has_feature)
@@ -111,9 +112,9 @@ namespace detail {
 #ifdef HOT_TELLS_SANITIZER
 extern "C" void __tsan_acquire(void *);
 extern "C" void __tsan_release(void *);
-inline char calls;
-inline void call_begins() { __tsan_release(&calls); }
-inline void call_ends() { __tsan_acquire(&calls); }
+inline void *calls() { return const_cast<std::uint8_t *>(hot_last_key); }
+inline void call_begins() { __tsan_release(calls()); }
+inline void call_ends() { __tsan_acquire(calls()); }
 #else
 inline void call_begins() {}
 inline void call_ends() {}

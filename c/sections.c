@@ -1,6 +1,9 @@
 /* Tests of sections: their statuses, what holds a moment back, and threads that read what values point to while others replace it, take it
  * out, and give it up once no reader has it. */
 #include "hot.h"
+#ifdef IS_TOLD
+#include "hot_tsan.h"
+#endif
 #include "check.h"
 #include <pthread.h>
 #include <sched.h>
@@ -66,6 +69,15 @@ static void test_opening(void) {
     CHECK(hot_close_index(index) == HOT_DONE);
 }
 
+/* How threads read and write an object. Plainly, ThreadSanitizer finds a race, unless it is told of the calls that order them. */
+#ifdef IS_PLAIN
+#define LOAD(word) (word)
+#define STORE(word, value) ((word) = (value))
+#else
+#define LOAD(word) __atomic_load_n(&(word), __ATOMIC_SEQ_CST)
+#define STORE(word, value) __atomic_store_n(&(word), value, __ATOMIC_SEQ_CST)
+#endif
+
 /* Threads: two replace objects and take them out, and give them up once their moments are past; two read. No reader sees one that was given
  * up. An object's place is used again. Each opens a handle, while others may be in their sections already. */
 enum { KEYS = 8, ROUNDS = 20000, OBJECTS = 64, READERS = 2, WRITERS = 2 };
@@ -88,6 +100,21 @@ static worker writers[WRITERS];
 static int writers_left;
 static hot_index *shared;
 
+/* The object of a key, by a thread within its section. */
+static void read_object(uint64_t value, uint8_t key) {
+    object *found = (object *)(uintptr_t)value;
+    int looks;
+    CHECK(LOAD(found->key) == key);
+    for (looks = 0; looks < 10; looks++)
+        CHECK(LOAD(found->is_given_up) == 0);
+}
+
+static int visit_object(void *context, const hot_pair *pair) {
+    (void)context;
+    read_object(pair->value, pair->key[0]);
+    return 1;
+}
+
 static void *read_objects(void *given) {
     worker *me = given;
     uint32_t turn = 0;
@@ -96,13 +123,10 @@ static void *read_objects(void *given) {
         uint8_t key = (uint8_t)(turn++ % KEYS);
         uint64_t value;
         CHECK(hot_enter(me->handle) == HOT_DONE);
-        if (hot_get(me->handle, &key, 1, &value) == HOT_FOUND) {
-            object *found = (object *)(uintptr_t)value;
-            int looks;
-            CHECK(__atomic_load_n(&found->key, __ATOMIC_SEQ_CST) == key);
-            for (looks = 0; looks < 10; looks++)
-                CHECK(__atomic_load_n(&found->is_given_up, __ATOMIC_SEQ_CST) == 0);
-        }
+        if (hot_get(me->handle, &key, 1, &value) == HOT_FOUND)
+            read_object(value, key);
+        if (turn % 16 == 0)
+            CHECK(hot_each(me->handle, bytes(""), 0, HOT_TO_END, visit_object, NULL) == HOT_DONE);
         CHECK(hot_leave(me->handle) == HOT_DONE);
     }
     return NULL;
@@ -113,7 +137,7 @@ static int find_free(worker *me) {
     int place, is_free = OBJECTS;
     for (place = 0; place < OBJECTS; place++) {
         if (me->is_waiting[place] && hot_is_past(me->handle, &me->moments[place]) == HOT_DONE) {
-            __atomic_store_n(&me->objects[place].is_given_up, 1, __ATOMIC_SEQ_CST);
+            STORE(me->objects[place].is_given_up, 1);
             me->is_waiting[place] = me->is_used[place] = 0;
         }
         if (!me->is_used[place])
@@ -142,8 +166,8 @@ static void *change_objects(void *given) {
         hot_status status;
         while ((place = find_free(me)) == OBJECTS)
             sched_yield();
-        __atomic_store_n(&me->objects[place].key, key, __ATOMIC_SEQ_CST);
-        __atomic_store_n(&me->objects[place].is_given_up, 0, __ATOMIC_SEQ_CST);
+        STORE(me->objects[place].key, key);
+        STORE(me->objects[place].is_given_up, 0);
         me->is_used[place] = 1;
         status = hot_upsert(me->handle, &key, 1, (uintptr_t)&me->objects[place], &had);
         CHECK(status == HOT_NEW || status == HOT_WAS);
