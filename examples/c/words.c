@@ -91,7 +91,8 @@ int main(int argc, char **argv) {
     }
     for (i = 0; i < threads; i++)
         pthread_join(parts[i].thread, NULL);
-    hot_each(&handle, text, 0, HOT_TO_END, print, NULL);
+    if ((status = hot_each(&handle, text, 0, HOT_TO_END, print, NULL)) != HOT_DONE)
+        die(hot_status_text(status));
     hot_close(&handle), hot_close_index(index);
     free(parts), free(text);
     return 0;
