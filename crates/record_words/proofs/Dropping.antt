@@ -9,16 +9,13 @@ use Rattle.std.proofs.lemmas.List.Edits.{get_or-remove_above, get_or-remove_belo
 use Rattle.std.proofs.lemmas.Option.{slice_get-get_or, slice_get_past}
 use Rattle.compound_node.specs.declared.entries.Entry.{Entry}
 use Rattle.compound_node.specs.declared.entries.Entry.TheVariants.{Leaf, Node}
-use Rattle.compound_node.specs.Nodes.{HeadView, IsEntry, IsLawfulNode, NodeView, StandsBelow, greatest_height, head_of, height_of, piece}
-use Rattle.compound_node.proofs.Lawful.{same_count}
+use Rattle.compound_node.specs.Nodes.{IsEntry, IsLawfulNode, NodeView, StandsBelow, greatest_height, head_of, height_of, piece}
 use Rattle.compound_node.proofs.Taken.{one_left}
 use Rattle.node_tries.specs.Changes.{without}
 use Rattle.node_tries.specs.Piece.{Place}
 use Rattle.record_words.specs.Entry.{HasEntryWord, entry_word}
-use Rattle.record_words.specs.Node.{HasHeadWords, HasNodeWords, HaveEntryWords, SpellEntries, entry_words, head_words, node_words}
-use Rattle.record_words.specs.Reading.{IsSpelledBy}
+use Rattle.record_words.specs.Node.{HasNodeWords, HaveEntryWords, SpellEntries, entry_words, head_words, node_words}
 use Rattle.record_words.proofs.Nodes.{length-head_words, length-node_words, node_words-entry}
-use Rattle.record_words.proofs.Spelled.{head_read}
 
 -- ---- a word taken out of the first `count`, with 0 behind them
 abbrev pub taken : List ℕ → (count at : ℕ) → List ℕ

@@ -94,6 +94,9 @@ module _ {words : List ℕ} {node : NodeView} {position first last : ℕ} (growi
     pub column_found : has lanes position ≡ true → has node.columns position ≡ true
     column_found found = sym (has-unused position (32 - length node.columns) node.columns low) ∙ (ap (λ xs. has xs position) (sym lanes_are) ∙ found)
 
+  fits_head : (old : List ℕ) → old ≡ with_unused node.rows → FitsHead (length node.rows) old (head_of node)
+  fits_head old old_are = record { padded = old_are; counted = refl; lawful = with_leaves node growing.has.lawful (length node.rows) (same_count node growing.has.lawful) }
+
   -- ---- the rows with the fork
   module _ (bit : Bool) where
     abbrev next : HeadView
@@ -131,11 +134,7 @@ module _ {words : List ℕ} {node : NodeView} {position first last : ℕ} (growi
         n = length node.rows
 
         old_fits : FitsHead n old (head_of node)
-        old_fits = record {
-          padded = old_are;
-          counted = refl;
-          lawful = with_leaves node growing.has.lawful n (same_count node growing.has.lawful);
-        }
+        old_fits = fits_head old old_are
 
         behind_are : drop n old ≡ replicate (32 - n) 4294967295
         behind_are = ap (drop n) old_are ∙ drop_at node.rows (replicate (32 - n) 4294967295) n refl
@@ -176,11 +175,7 @@ module _ {words : List ℕ} {node : NodeView} {position first last : ℕ} (growi
       count = length node.rows
 
       fits : FitsHead count old (head_of node)
-      fits = record {
-        padded = old_are;
-        counted = refl;
-        lawful = with_leaves node growing.has.lawful count (same_count node growing.has.lawful);
-      }
+      fits = fits_head old old_are
 
       kept : rows ≡ next.rows ++ drop (count + 1) old
       kept = words_forked count (head_of node) old fits 1 position first last below bit rows ordered in_range room few place

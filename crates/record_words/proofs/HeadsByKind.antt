@@ -1,9 +1,10 @@
 -- The parts of a head's words, by its kind.
-use Rattle.std.proofs.Common.{ℕ, zero, suc, ◌≡◌, ◌≢◌, ◌+◌, ◌-◌, ◌*◌, ◌/◌, ◌%◌, ◌^◌, ◌<◌, ◌≤◌, ◌++◌, List, ◌∷◌, arith, get_or, length, length-append, drop, take, replicate, refl, sym, ap, ap₂, subst, ◌∙◌}
+use Rattle.std.proofs.Common.{ℕ, zero, suc, ◌≡◌, ◌≢◌, ◌+◌, ◌-◌, ◌*◌, ◌/◌, ◌%◌, ◌^◌, ◌<◌, ◌≤◌, ◌++◌, ⊎_elim, List, ◌∷◌, arith, get_or, length, length-append, drop, take, replicate, refl, sym, ap, ap₂, subst, ◌∙◌}
+use Rattle.std.proofs.lemmas.Bool.{cases_lt, le-ltb, lt-ltb}
 use Rattle.std.proofs.lemmas.List.{append_assoc, drop_at, length-replicate, take_at}
 use Rattle.std.proofs.lemmas.List.FromFn.{length-map-range_with_len}
 use lib.Lanes.{chunk, digits_l, number_l}
-use Rattle.record_words.specs.Kinds.{first_byte, head_size, index_lanes, kind_in, kind_of, kind_part, lane_words, mask_lanes, rows_from}
+use Rattle.record_words.specs.Kinds.{first_byte, head_size, index_lanes, kind_in, kind_of, kind_part, lane_words, mask_index, mask_lanes, position_index, rows_a_word, rows_from}
 use Rattle.record_words.specs.Packed.{column_words, fixed_words, kind_words, meta_word, position_word, row_lanes, row_word, row_words}
 use Rattle.record_words.specs.declared.kind.Kind.{Kind}
 use Rattle.record_words.specs.declared.kind.Kind.TheVariants.{Middle, Narrow, Wide}
@@ -64,6 +65,25 @@ parts_of_kind kind count height columns rows =
 pub head_parts : (count height : ℕ) (columns rows words : List ℕ) → fixed_words count height columns rows ≡ words → HasParts (kind_of columns) count height columns rows words
 unfolding fixed_words
 head_parts count height columns rows words same = subst (HasParts (kind_of columns) count height columns rows) same (parts_of_kind (kind_of columns) count height columns rows)
+
+-- ---- where the words stand that have a column and a row
+position_inside : (kind : Kind) (j : ℕ) → j < 31 → position_index kind j < 23
+position_inside Wide j low = omega arith
+position_inside Narrow j low = omega arith
+position_inside Middle j low = ⊎_elim (λ (few : j < 8). rw (lt-ltb j 8 few) (omega arith)) (λ (many : 8 ≤ j). rw (le-ltb j 8 many) (omega arith)) (cases_lt j 8)
+
+pub position_within : (kind : Kind) (j : ℕ) → j < 31 → position_index kind j < 25
+position_within kind j low = omega (arith, position_inside kind j low)
+
+pub mask_within : (kind : Kind) (j : ℕ) → j < 31 → mask_index kind j < 25
+mask_within Wide j low = position_within Wide j low
+mask_within Narrow j low = omega (arith, position_inside Narrow j low)
+mask_within Middle j low = omega (arith, position_inside Middle j low)
+
+pub row_within : (kind : Kind) (i : ℕ) → i < 32 → rows_from kind + i / rows_a_word kind < 25
+row_within Wide i low = omega arith
+row_within Narrow i low = omega arith
+row_within Middle i low = omega arith
 
 -- ---- what the first word tells
 pub record Tells (count height : ℕ) (columns : List ℕ) (word : ℕ) : Type 0 where

@@ -1,8 +1,8 @@
 -- The highest bits of rows as lanes, and the words of them.
-use Rattle.std.proofs.Common.{ℕ, zero, suc, ◌≡◌, ◌/◌, ◌^◌, ◌<◌, List, [], ◌∷◌, arith, get_or, length, map, replicate, sym, ap, subst, ◌∙◌, w8, w16, w32, Fits}
+use Rattle.std.proofs.Common.{ℕ, zero, suc, ◌≡◌, ◌/◌, ◌^◌, ◌<◌, List, [], ◌∷◌, arith, get_or, length, lit<, map, replicate, sym, ap, ◌∙◌, w8, w16, w32, Fits}
 use Rattle.std.proofs.lemmas.List.{ext_get_or, get_or-map, get_or_default, length-map}
 use Rattle.std.proofs.lemmas.List.FromFn.{get_or-map-range_with_len, length-map-range_with_len}
-use Rattle.std.proofs.lemmas.Simd.{Each1-from_get_or, Each1-get_or, below_from_Fits, map-map, zip2_splat}
+use Rattle.std.proofs.lemmas.Simd.{map-map, zip2_splat}
 use lib.Lanes.{Each1, digits_l, number_l, zip2}
 use Rattle.record_words.specs.Kinds.{lane_words}
 use Rattle.record_words.specs.Packed.{row_at, row_lanes}
@@ -32,15 +32,11 @@ highs_are low rows long =
     ∙ (ap (λ r. r / 2 ^ low) (get_or_default rows i 0 4294967295 inside)
     ∙ sym (get_or-map-range_with_len (λ k. row_at rows k / 2 ^ low) 0 32 i i 0 (omega (arith, inside, long)) (omega arith)))))
 
--- the lanes are small
-pub lanes_small : (w low : ℕ) (rows : List ℕ) → length rows ≡ 32 → ((x : ℕ) → x < 2 ^ 32 → x / 2 ^ low < 2 ^ w) → Each1 (Fits w32) rows → Each1 (λ x. x < 2 ^ w) (row_lanes low rows)
-lanes_small w low rows long shift fits =
-    Each1-from_get_or (λ x. x < 2 ^ w) (row_lanes low rows) 0
-    (λ i h. let inside : i < 32 = omega (arith, h, length-map-range_with_len (λ k. row_at rows k / 2 ^ low) 0 32) in
-    let below : get_or rows i 0 < 2 ^ 32 = Each1-get_or (λ x. x < 2 ^ 32) rows i 0 (omega (arith, inside, long)) (below_from_Fits w32 rows fits) in
-    subst (λ x. x < 2 ^ w)
-    (ap (λ r. r / 2 ^ low) (get_or_default rows i 0 4294967295 (omega (arith, inside, long))) ∙ sym (get_or-map-range_with_len (λ k. row_at rows k / 2 ^ low) 0 32 i i 0 inside (omega arith)))
-    (shift (get_or rows i 0) below))
+-- the rows are small
+pub rows_small : (rows : List ℕ) → Each1 (Fits w32) rows → (i : ℕ) → get_or rows i 0 < 2 ^ 32
+rows_small [] fits i = lit< tt
+rows_small (row ∷ rows) fits zero = fits.0.fits
+rows_small (row ∷ rows) fits (suc i) = rows_small rows fits.1 i
 
 -- halves go through their bytes
 pub words_by_bytes : (lanes : List ℕ) → length lanes ≡ 32 → Each1 (λ x. x < 2 ^ 16) lanes → digits_l (2 ^ 64) 8 (number_l (2 ^ 8) (digits_l (2 ^ 8) 64 (number_l (2 ^ 16) lanes))) ≡ lane_words 16 8 lanes

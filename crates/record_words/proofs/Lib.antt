@@ -1,7 +1,6 @@
 -- The lemmas of the crate.
 pub mod Bytes
 pub mod Closed
-mod Complying
 pub mod Digits
 mod DroppedRows
 pub mod Dropping
@@ -21,6 +20,7 @@ pub mod Leaves
 pub mod Locations
 mod NearDense
 mod NearHeads
+pub mod NearKinds
 pub mod NearLanes
 mod NearPositions
 mod NearRows

@@ -1,21 +1,33 @@
 -- The lanes of columns, and of rows, that the words of a narrow and of a middle head spell.
-use Rattle.std.proofs.Common.{ℕ, ◌≡◌, ◌+◌, ◌-◌, ◌*◌, ◌/◌, ◌%◌, ◌^◌, ◌<◌, ◌≤◌, ◌++◌, ⊎_elim, arith, cond, List, [], ◌∷◌, drop, get_or, get_or-drop, length, length-drop, refl, replicate, sym, ap, ap₂, ◌∙◌}
+use Rattle.std.proofs.Common.{ℕ, ◌≡◌, ◌+◌, ◌-◌, ◌*◌, ◌/◌, ◌%◌, ◌^◌, ◌<◌, ◌≤◌, ◌++◌, ⊎_elim, arith, cond, List, [], ◌∷◌, drop, get_or, get_or-drop, get_or-take, length, length-drop, refl, replicate, sym, take, ap, ap₂, ◌∙◌}
 use Rattle.std.proofs.lemmas.Bool.{cases_lt, eq-eqb}
 use Rattle.std.proofs.lemmas.List.{ext_get_or, get_or-append_right, get_or-replicate, get_or_append_left, get_or_past, length-replicate}
 use Rattle.std.proofs.lemmas.List.FromFn.{get_or-map-range_with_len}
 use Rattle.std.proofs.Common.{length-append}
-use lib.Lanes.{digits_l, number_l}
+use Rattle.std.proofs.lemmas.Simd.{get_or-chunk}
+use lib.Lanes.{chunk, digits_l, number_l}
 use Rattle.compound_node.specs.Nodes.{IsLawfulNode, NodeView, head_of}
-use Rattle.record_words.specs.Kinds.{AreNearLanes, bit_mask, first_byte, index_lanes, kind_of, lane_words, mask_lanes, near_position}
+use Rattle.record_words.specs.Kinds.{AreNearLanes, bit_mask, first_byte, head_size, index_lanes, kind_of, lane_words, mask_lanes, near_position, rows_a_word, rows_from}
 use Rattle.record_words.specs.Node.{head_words}
 use Rattle.record_words.specs.Packed.{row_lanes}
+use Rattle.record_words.specs.declared.kind.Kind.{Kind}
 use Rattle.record_words.specs.declared.kind.Kind.TheVariants.{Middle, Narrow}
 use Rattle.record_words.proofs.Digits.{base_8}
 use Rattle.record_words.proofs.HeadsByKind.{length-lane_words}
 use Rattle.record_words.proofs.LaneWords.{lanes_back}
 use Rattle.record_words.proofs.Lawful.{row-lt}
-use Rattle.record_words.proofs.OfKinds.{AreNear, are_near_unless_wide, has_near_lanes, middle-not-wide, narrow-not-wide, narrow_few}
-use Rattle.record_words.proofs.TellingHead.{bytes_small, index_small, indexes_long, mask_small, masks_long, middle_row, of_this, row_lane_is, rows_long, word_of}
+use Rattle.record_words.proofs.NearKinds.{IsNearKind, index_words, lanes_small, last_lanes, middle_kind, narrow_kind, row_bits, row_lane_is, rows_long, word_in}
+use Rattle.record_words.proofs.OfKinds.{AreNear, are_near_unless_wide, has_near_lanes, narrow_few}
+use Rattle.record_words.proofs.TellingHead.{index_small, index_word, indexes_long, mask_small, mask_word, masks_long, near_row, row_word_is}
+
+-- words in front, and behind a place
+pub front_at : (n : ℕ) (all words : List ℕ) → take n all ≡ words → (j : ℕ) → j < n → get_or words j 0 ≡ get_or all j 0
+front_at n all words same j low = ap (λ (ws : List ℕ). get_or ws j 0) (sym same) ∙ get_or-take n all j 0 low
+
+pub behind_at : (from n : ℕ) (words : List ℕ) (k : ℕ) → k < n → get_or (chunk 0 n (take n (drop from words))) k 0 ≡ get_or words (from + k) 0
+behind_at from n words k low =
+    get_or-chunk 0 n (take n (drop from words)) k 0 low
+    ∙ (get_or-take n (drop from words) (0 + k) 0 (omega (arith, low)) ∙ (get_or-drop from words (0 + k) 0 ∙ ap (λ i. get_or words (from + i) 0) (omega arith)))
 
 -- what was read of two words as sixteen bytes
 abbrev pub Reads : ℕ → ℕ → List ℕ → Type 0
@@ -77,95 +89,67 @@ module _ (columns : List ℕ) (most : ℕ) (near : AreNear columns most) (few : 
   masks_read : (read : List ℕ) → Reads low high read → lane_words 8 2 (mask_lanes columns) ≡ low ∷ high ∷ [] → read ≡ mask_lanes columns
   masks_read read reads is = reads (mask_lanes columns) (masks_long columns most near few) (small_everywhere (mask_lanes columns) (masks_long columns most near few) (mask_small columns most near few)) is
 
--- ---- a narrow head
-module _ (node : NodeView) (lawful : IsLawfulNode node) (kinded : kind_of node.columns ≡ Narrow) (words : List ℕ) (at : (j : ℕ) → j < 7 → get_or words j 0 ≡ get_or (head_words (head_of node)) j 0) where
-  narrow_near : AreNear node.columns 16
-  narrow_near = are_near_unless_wide node.columns (narrow-not-wide (kind_of node.columns) kinded)
+-- the words of a near head that stand in its front
+module _ (node : NodeView) (lawful : IsLawfulNode node) (kind : Kind) (near : IsNearKind kind) (kinded : kind_of node.columns ≡ kind) (words : List ℕ)
+    (at : (j : ℕ) → j < head_size kind → get_or words j 0 ≡ get_or (head_words (head_of node)) j 0) where
+  of_near : AreNear node.columns 16
+  of_near = are_near_unless_wide node.columns (λ wide. near.other (sym kinded ∙ wide))
 
-  narrow_index_words : lane_words 8 2 (index_lanes node.columns) ≡ 0 ∷ get_or words 1 0 ∷ []
-  narrow_index_words =
-      let its = lane_words 8 1 (drop 8 (index_lanes node.columns)) in
-      let masks = lane_words 8 1 (drop 8 (mask_lanes node.columns)) in
-      let long : length its ≡ 1 = length-lane_words 8 1 (drop 8 (index_lanes node.columns)) in
-      let p = of_this node lawful (head_words (head_of node)) refl Narrow kinded in
-      let first : get_or its 0 0 ≡ get_or words 1 0 =
-      sym (at 1 (omega arith) ∙ (word_of node lawful (head_words (head_of node)) refl 1 2 0 (its ++ masks) (omega arith) p.columns_are ∙ get_or_append_left its masks 0 0 (omega (arith, long)))) in
-      zeros_in_lanes (index_lanes node.columns) (indexes_long node.columns 16 narrow_near narrow_near.few) (index_none node.columns (narrow_few node.columns kinded))
-      ∙ (ap (λ (ws : List ℕ). 0 ∷ ws) (one_of its long) ∙ ap (λ w. 0 ∷ w ∷ []) first)
+  index_at : (q : ℕ) → q < index_words kind → get_or words (1 + q) 0 ≡ get_or (last_lanes kind (index_lanes node.columns)) q 0
+  index_at q low = at (1 + q) (omega (arith, low, near.rows_behind, near.rows_inside)) ∙ index_word node lawful (head_words (head_of node)) refl kind near kinded q low
 
-  narrow_mask_words : lane_words 8 2 (mask_lanes node.columns) ≡ 0 ∷ get_or words 2 0 ∷ []
-  narrow_mask_words =
-      let its = lane_words 8 1 (drop 8 (index_lanes node.columns)) in
-      let masks = lane_words 8 1 (drop 8 (mask_lanes node.columns)) in
-      let long : length its ≡ 1 = length-lane_words 8 1 (drop 8 (index_lanes node.columns)) in
-      let p = of_this node lawful (head_words (head_of node)) refl Narrow kinded in
-      let first : get_or masks 0 0 ≡ get_or words 2 0 =
-      sym (at 2 (omega arith) ∙ (word_of node lawful (head_words (head_of node)) refl 1 2 1 (its ++ masks) (omega arith) p.columns_are ∙ get_or-append_right its masks 1 1 0 long (omega arith))) in
-      zeros_in_lanes (mask_lanes node.columns) (masks_long node.columns 16 narrow_near narrow_near.few) (mask_none node.columns (narrow_few node.columns kinded))
-      ∙ (ap (λ (ws : List ℕ). 0 ∷ ws) (one_of masks (length-lane_words 8 1 (drop 8 (mask_lanes node.columns)))) ∙ ap (λ w. 0 ∷ w ∷ []) first)
+  mask_at : (q : ℕ) → q < index_words kind → get_or words (1 + (index_words kind + q)) 0 ≡ get_or (last_lanes kind (mask_lanes node.columns)) q 0
+  mask_at q low = at (1 + (index_words kind + q)) (omega (arith, low, near.rows_behind, near.rows_inside)) ∙ mask_word node lawful (head_words (head_of node)) refl kind near kinded q low
 
-  pub narrow_lanes : (indexes masks : List ℕ) (first : ℕ) → Reads 0 (get_or words 1 0) indexes → Reads 0 (get_or words 2 0) masks → first ≡ first_byte node.columns → AreNearLanes node.columns indexes masks first
-  narrow_lanes indexes masks first of_indexes of_masks is = record {
-    has = has_near_lanes node.columns lawful.positions (narrow-not-wide (kind_of node.columns) kinded);
-    indexes_are = indexes_read node.columns 16 narrow_near narrow_near.few 0 (get_or words 1 0) indexes of_indexes narrow_index_words;
-    masks_are = masks_read node.columns 16 narrow_near narrow_near.few 0 (get_or words 2 0) masks of_masks narrow_mask_words;
+  lanes_of : (indexes masks : List ℕ) (first i j k l : ℕ) → Reads i j indexes → Reads k l masks → lane_words 8 2 (index_lanes node.columns) ≡ i ∷ j ∷ [] → lane_words 8 2 (mask_lanes node.columns) ≡ k ∷ l ∷ [] →
+      first ≡ first_byte node.columns → AreNearLanes node.columns indexes masks first
+  lanes_of indexes masks first i j k l of_indexes of_masks its ones is = record {
+    has = has_near_lanes node.columns lawful.positions (λ wide. near.other (sym kinded ∙ wide));
+    indexes_are = indexes_read node.columns 16 of_near of_near.few i j indexes of_indexes its;
+    masks_are = masks_read node.columns 16 of_near of_near.few k l masks of_masks ones;
     first_is = is;
   }
 
+  pub near_rows : (lanes : List ℕ) → length lanes ≡ 32 → ((i : ℕ) → i < 32 → get_or lanes i 0 ≡ get_or words (rows_from kind + i / rows_a_word kind) 0 / 2 ^ (row_bits kind * (i % rows_a_word kind)) % 2 ^ row_bits kind) →
+      lanes ≡ row_lanes (32 - row_bits kind) node.rows
+  near_rows lanes long each =
+      ext_get_or 0 lanes (row_lanes (32 - row_bits kind) node.rows) (long ∙ sym (rows_long (32 - row_bits kind) node.rows))
+      (λ i h. let low : i < 32 = omega (arith, h, long) in
+      each i low ∙ (ap (λ w. w / 2 ^ (row_bits kind * (i % rows_a_word kind)) % 2 ^ row_bits kind) (at (rows_from kind + i / rows_a_word kind) (omega (arith, word_in kind near i low)))
+      ∙ (near_row node lawful (head_words (head_of node)) refl kind near kinded i low ∙ sym (row_lane_is (32 - row_bits kind) node.rows i low))))
+
+-- ---- a narrow head
+module _ (node : NodeView) (lawful : IsLawfulNode node) (kinded : kind_of node.columns ≡ Narrow) (words : List ℕ) (at : (j : ℕ) → j < 7 → get_or words j 0 ≡ get_or (head_words (head_of node)) j 0) where
+  near : AreNear node.columns 16
+  near = of_near node lawful Narrow narrow_kind kinded words at
+
+  narrow_words : (lanes : List ℕ) (word : ℕ) → length lanes ≡ 16 → ((i : ℕ) → i < 8 → get_or lanes i 0 ≡ 0) → word ≡ get_or (lane_words 8 1 (drop 8 lanes)) 0 0 → lane_words 8 2 lanes ≡ 0 ∷ word ∷ []
+  narrow_words lanes word long none is =
+      zeros_in_lanes lanes long none ∙ (ap (λ (ws : List ℕ). 0 ∷ ws) (one_of (lane_words 8 1 (drop 8 lanes)) (length-lane_words 8 1 (drop 8 lanes))) ∙ ap (λ w. 0 ∷ w ∷ []) (sym is))
+
+  pub narrow_lanes : (indexes masks : List ℕ) (first : ℕ) → Reads 0 (get_or words 1 0) indexes → Reads 0 (get_or words 2 0) masks → first ≡ first_byte node.columns → AreNearLanes node.columns indexes masks first
+  narrow_lanes indexes masks first of_indexes of_masks =
+      lanes_of node lawful Narrow narrow_kind kinded words at indexes masks first 0 _ 0 _ of_indexes of_masks
+      (narrow_words (index_lanes node.columns) (get_or words 1 0) (indexes_long node.columns 16 near near.few) (index_none node.columns (narrow_few node.columns kinded)) (index_at node lawful Narrow narrow_kind kinded words at 0 (omega arith)))
+      (narrow_words (mask_lanes node.columns) (get_or words 2 0) (masks_long node.columns 16 near near.few) (mask_none node.columns (narrow_few node.columns kinded)) (mask_at node lawful Narrow narrow_kind kinded words at 0 (omega arith)))
+
+  -- bytes are read of whole words
   pub narrow_rows : (four : List ℕ) → length four ≡ 4 → ((k : ℕ) → k < 4 → get_or four k 0 ≡ get_or words (3 + k) 0) → digits_l (2 ^ 8) 32 (number_l (2 ^ 64) four) ≡ row_lanes 24 node.rows
   narrow_rows four long each =
-      let all : List ℕ = head_words (head_of node) in
-      let p = of_this node lawful all refl Narrow kinded in
       let rows : List ℕ = lane_words 8 4 (row_lanes 24 node.rows) in
       let is : four ≡ rows = ext_get_or 0 four rows (long ∙ sym (length-lane_words 8 4 (row_lanes 24 node.rows)))
-      (λ k h. let low : k < 4 = omega (arith, h, long) in each k low ∙ (at (3 + k) (omega (arith, low)) ∙ word_of node lawful all refl 3 4 k rows low p.rows_are)) in
-      ap (λ ws. digits_l (2 ^ 8) 32 (number_l (2 ^ 64) ws)) is ∙ lanes_back 8 8 4 32 base_8 (row_lanes 24 node.rows) (rows_long 24 node.rows) (bytes_small node.rows (row-lt node lawful)) refl
+      (λ k h. let low : k < 4 = omega (arith, h, long) in each k low ∙ (at (3 + k) (omega (arith, low)) ∙ row_word_is node lawful (head_words (head_of node)) refl Narrow narrow_kind kinded k low)) in
+      ap (λ ws. digits_l (2 ^ 8) 32 (number_l (2 ^ 64) ws)) is ∙ lanes_back 8 8 4 32 base_8 (row_lanes 24 node.rows) (rows_long 24 node.rows) (lanes_small Narrow narrow_kind node.rows (row-lt node lawful)) refl
 
 -- ---- a middle head
 module _ (node : NodeView) (lawful : IsLawfulNode node) (kinded : kind_of node.columns ≡ Middle) (words : List ℕ) (at : (j : ℕ) → j < 13 → get_or words j 0 ≡ get_or (head_words (head_of node)) j 0) where
-  middle_near : AreNear node.columns 16
-  middle_near = are_near_unless_wide node.columns (middle-not-wide (kind_of node.columns) kinded)
-
-  abbrev its : List ℕ
-  its = lane_words 8 2 (index_lanes node.columns)
-
-  abbrev ones : List ℕ
-  ones = lane_words 8 2 (mask_lanes node.columns)
-
-  its_long : length its ≡ 2
-  its_long = length-lane_words 8 2 (index_lanes node.columns)
-
-  ones_long : length ones ≡ 2
-  ones_long = length-lane_words 8 2 (mask_lanes node.columns)
-
-  both_at : (k : ℕ) → k < 4 → get_or words (1 + k) 0 ≡ get_or (its ++ ones) k 0
-  both_at k low =
-      at (1 + k) (omega (arith, low)) ∙ word_of node lawful (head_words (head_of node)) refl 1 4 k (its ++ ones) low (of_this node lawful (head_words (head_of node)) refl Middle kinded).columns_are
-
-  middle_index_words : its ≡ get_or words 1 0 ∷ get_or words 2 0 ∷ []
-  middle_index_words =
-      two_of its its_long ∙ ap₂ (λ (a b : ℕ). a ∷ b ∷ [])
-      (sym (both_at 0 (omega arith) ∙ get_or_append_left its ones 0 0 (omega (arith, its_long))))
-      (sym (both_at 1 (omega arith) ∙ get_or_append_left its ones 0 1 (omega (arith, its_long))))
-
-  middle_mask_words : ones ≡ get_or words 3 0 ∷ get_or words 4 0 ∷ []
-  middle_mask_words =
-      two_of ones ones_long ∙ ap₂ (λ (a b : ℕ). a ∷ b ∷ [])
-      (sym (both_at 2 (omega arith) ∙ get_or-append_right its ones 2 2 0 its_long (omega arith)))
-      (sym (both_at 3 (omega arith) ∙ get_or-append_right its ones 2 3 0 its_long (omega arith)))
+  middle_words : (lanes : List ℕ) (i j : ℕ) → i ≡ get_or (lane_words 8 2 lanes) 0 0 → j ≡ get_or (lane_words 8 2 lanes) 1 0 → lane_words 8 2 lanes ≡ i ∷ j ∷ []
+  middle_words lanes i j first second = two_of (lane_words 8 2 lanes) (length-lane_words 8 2 lanes) ∙ ap₂ (λ (a b : ℕ). a ∷ b ∷ []) (sym first) (sym second)
 
   pub middle_lanes : (indexes masks : List ℕ) (first : ℕ) → Reads (get_or words 1 0) (get_or words 2 0) indexes → Reads (get_or words 3 0) (get_or words 4 0) masks → first ≡ first_byte node.columns →
       AreNearLanes node.columns indexes masks first
-  middle_lanes indexes masks first of_indexes of_masks is = record {
-    has = has_near_lanes node.columns lawful.positions (middle-not-wide (kind_of node.columns) kinded);
-    indexes_are = indexes_read node.columns 16 middle_near middle_near.few (get_or words 1 0) (get_or words 2 0) indexes of_indexes middle_index_words;
-    masks_are = masks_read node.columns 16 middle_near middle_near.few (get_or words 3 0) (get_or words 4 0) masks of_masks middle_mask_words;
-    first_is = is;
-  }
-
-  pub middle_rows : (halves : List ℕ) → length halves ≡ 32 → ((i : ℕ) → i < 32 → get_or halves i 0 ≡ get_or words (5 + i / 4) 0 / 2 ^ (16 * (i % 4)) % 2 ^ 16) → halves ≡ row_lanes 16 node.rows
-  middle_rows halves long each =
-      ext_get_or 0 halves (row_lanes 16 node.rows) (long ∙ sym (rows_long 16 node.rows))
-      (λ i h. let low : i < 32 = omega (arith, h, long) in
-      each i low ∙ (ap (λ w. w / 2 ^ (16 * (i % 4)) % 2 ^ 16) (at (5 + i / 4) (omega (arith, low)))
-      ∙ (middle_row node lawful (head_words (head_of node)) refl kinded i low ∙ sym (row_lane_is 16 node.rows i low))))
+  middle_lanes indexes masks first of_indexes of_masks =
+      let its = index_at node lawful Middle middle_kind kinded words at in
+      let ones = mask_at node lawful Middle middle_kind kinded words at in
+      lanes_of node lawful Middle middle_kind kinded words at indexes masks first _ _ _ _ of_indexes of_masks
+      (middle_words (index_lanes node.columns) _ _ (its 0 (omega arith)) (its 1 (omega arith))) (middle_words (mask_lanes node.columns) _ _ (ones 0 (omega arith)) (ones 1 (omega arith)))

@@ -1,13 +1,14 @@
 -- The rows of near heads as lanes of fewer bits: where a dense key leads by them, and the rows of 32 bits that they stand for.
-use Rattle.std.proofs.Common.{ℕ, ◌≡◌, ◌+◌, ◌-◌, ◌*◌, ◌/◌, ◌%◌, ◌^◌, ◌<◌, ◌≤◌, ⊎_elim, arith, Bool, true, false, bit_and, cond, List, get_or, length, map, nat_lt, refl, replicate, subst, sym, ap, ap₂, ◌∙◌, w32}
+use Rattle.std.proofs.Common.{ℕ, ◌≡◌, ◌-◌, ◌*◌, ◌/◌, ◌%◌, ◌^◌, ◌<◌, ◌≤◌, ⊎_elim, arith, Bool, true, false, bit_and, cond, eqb, List, get_or, length, map, nat_lt, refl, replicate, subst, sym, ap, ap₂, ◌∙◌, w32}
 use Rattle.std.specs.Int.Bits.{and_zero_r}
-use Rattle.std.proofs.Math.Nat.{div-lt_iff_lt-mul, mul_comm, zero-div}
-use Rattle.std.proofs.lemmas.Nat.{pow-add, pow_pos}
+use Rattle.std.proofs.Math.Nat.{mul_comm, zero-div}
 use Rattle.std.specs.List.{range_with_len}
 use Rattle.std.proofs.lemmas.Bool.{cases_lt, eq-eqb, le-ltb, lt-ltb}
 use Rattle.std.proofs.lemmas.List.{get_or-map, get_or-replicate, get_or_default, get_or_past, length-map, length-replicate}
 use Rattle.std.proofs.lemmas.List.FromFn.{get_or-map-range_with_len, length-map-range_with_len}
 use Rattle.std.proofs.lemmas.Simd.{bit_mask_l, get_or-sel_l, get_or-zip2, length-sel_l, tops_compared, zip2_splat}
+use mir.Syntax.{Width}
+use mir.Val.{bits, hbits}
 use lib.Count.{count_leading_zeros}
 use lib.Lanes.{mask_l, sel_l, top, zip2}
 use Rattle.compound_node.proofs.Lawful.{same_count}
@@ -15,11 +16,11 @@ use Rattle.compound_node.specs.Nodes.{IsLawfulNode, NodeView, piece}
 use Rattle.partial_keys.specs.Rows.{complies, dense_of, with_unused}
 use Rattle.node_tries.specs.Piece.{leads_to}
 use Rattle.record_words.specs.Packed.{row_lanes}
-use Rattle.record_words.proofs.Complying.{lacks_none, lacks_none-complies}
+use Rattle.partial_keys.proofs.Lanes.{lacks_none, lacks_none-complies, lanes_lack_none}
 use Rattle.record_words.proofs.Lanes.{row_lanes_read}
 use Rattle.record_words.proofs.Lawful.{row-lt}
 use Rattle.record_words.proofs.Searched.{dense-lt, first_row, leads, row_at_place, row_by_high}
-use Rattle.record_words.proofs.TellingHead.{row_lane_is, rows_long}
+use Rattle.record_words.proofs.NearKinds.{high_small, row_lane_is, rows_long}
 
 -- the first lane sets the lowest bit
 first_sets : (t : ℕ → Bool) (xs : List ℕ) → 0 < length xs → t (get_or xs 0 0) ≡ true → mask_l (map t xs) % 2 ≡ 1
@@ -43,7 +44,14 @@ module _ (node : NodeView) (lawful : IsLawfulNode node) where
   first_is_none = sym (row_at_place node lawful 0 several) ∙ first_row node lawful
 
   -- ---- the lanes of so many bits of a head that has no more columns
-  module _ (w : ℕ) (few : length node.columns ≤ w) (inside32 : w ≤ 32) (lanes : List ℕ) (are : lanes ≡ row_lanes (32 - w) node.rows) where
+  module _ (width : Width) (few : length node.columns ≤ bits width) (inside32 : bits width ≤ 32) (lanes : List ℕ) (are : lanes ≡ row_lanes (32 - bits width) node.rows) where
+    abbrev w : ℕ
+    w = bits width
+
+    -- what the lanes that lack none of the bits of a dense key set
+    abbrev complying : ℕ → ℕ
+    complying d = mask_l (map (top (hbits width)) (zip2 (λ a b. cond (eqb a b) (2 ^ w - 1) 0) (zip2 bit_and (replicate 32 (2 ^ w - 1 - d)) lanes) (replicate 32 0))) % 2 ^ 64
+
     lane_is : (k : ℕ) → k < length node.rows → get_or lanes k 0 ≡ get_or node.rows k 0 / 2 ^ (32 - w)
     lane_is k inside = ap (λ (xs : List ℕ). get_or xs k 0) are ∙ high_is (32 - w) k inside
 
@@ -55,25 +63,20 @@ module _ (node : NodeView) (lawful : IsLawfulNode node) where
         let zero : get_or lanes 0 0 ≡ 0 = lane_is 0 several ∙ (ap (λ r. r / 2 ^ (32 - w)) first_is_none ∙ zero-div (2 ^ (32 - w))) in
         ap (lacks_none w d) zero ∙ eq-eqb (bit_and (2 ^ w - 1 - d) 0) 0 (and_zero_r (2 ^ w - 1 - d))
 
-    pub lanes_odd : (d : ℕ) → mask_l (map (lacks_none w d) lanes) % 2 ≡ 1
-    lanes_odd d = first_sets (lacks_none w d) lanes (omega (arith, lanes_long)) (first_lacks_none d)
+    pub lanes_odd : (d : ℕ) → complying d % 2 ≡ 1
+    lanes_odd d = ap (λ m. m % 2) (lanes_lack_none width lanes d lanes_long) ∙ first_sets (lacks_none w d) lanes (omega (arith, lanes_long)) (first_lacks_none d)
 
     pub row_by_lane : (k : ℕ) → k < length node.rows → get_or lanes k 0 * 2 ^ (32 - w) ≡ get_or node.rows k 0
     row_by_lane k inside = ap (λ r. r * 2 ^ (32 - w)) (lane_is k inside) ∙ row_by_high node lawful w few inside32 k inside
 
-    -- the highest bits of 32 bits
-    high_small : (x : ℕ) → x < 2 ^ 32 → x / 2 ^ (32 - w) < 2 ^ w
-    high_small x small =
-        let whole : 2 ^ w * 2 ^ (32 - w) ≡ 2 ^ 32 = sym (pow-add 2 w (32 - w)) ∙ ap (λ n. 2 ^ n) (let e : w + (32 - w) ≡ 32 = omega (arith, inside32) in e) in
-        (div-lt_iff_lt-mul {k = 2 ^ (32 - w)} {x = x} {y = 2 ^ w} (pow_pos (32 - w))).1 (subst (λ n. x < n) (sym whole) small)
-
     pub lanes_lead : (dense : ℕ) (bit : ℕ → Bool) → dense ≡ dense_of node.columns bit → (count : ℕ) → count ≡ length node.entries →
-        63 - count_leading_zeros 64 (mask_l (map (lacks_none w (dense / 2 ^ (32 - w))) lanes) % 2 ^ count) ≡ leads_to bit (piece node)
+        63 - count_leading_zeros 64 (complying (dense / 2 ^ (32 - w)) % 2 ^ count) ≡ leads_to bit (piece node)
     lanes_lead dense bit gathered count counted =
-        leads node lawful lanes count (counted ∙ sym (same_count node lawful)) (omega (arith, counted, lawful.room, lanes_long)) (lacks_none w (dense / 2 ^ (32 - w))) (first_lacks_none (dense / 2 ^ (32 - w))) dense bit gathered
+        ap (λ m. 63 - count_leading_zeros 64 (m % 2 ^ count)) (lanes_lack_none width lanes (dense / 2 ^ (32 - w)) lanes_long)
+        ∙ leads node lawful lanes count (counted ∙ sym (same_count node lawful)) (omega (arith, counted, lawful.room, lanes_long)) (lacks_none w (dense / 2 ^ (32 - w))) (first_lacks_none (dense / 2 ^ (32 - w))) dense bit gathered
         (λ k low. let inside : k < length node.rows = omega (arith, low, counted, same_count node lawful) in
-        let small : get_or lanes k 0 < 2 ^ w = subst (λ x. x < 2 ^ w) (sym (lane_is k inside)) (high_small (get_or node.rows k 0) (row-lt node lawful k)) in
-        lacks_none-complies w (32 - w) dense (get_or lanes k 0) (high_small dense (dense-lt node lawful dense bit gathered)) small
+        let small : get_or lanes k 0 < 2 ^ w = subst (λ x. x < 2 ^ w) (sym (lane_is k inside)) (high_small w (get_or node.rows k 0) inside32 (row-lt node lawful k)) in
+        lacks_none-complies w (32 - w) dense (get_or lanes k 0) (high_small w dense inside32 (dense-lt node lawful dense bit gathered)) small
         ∙ ap (complies dense) (mul_comm (2 ^ (32 - w)) (get_or lanes k 0) ∙ (row_by_lane k inside ∙ sym (row_at_place node lawful k inside))))
 
   -- ---- rows of 32 bits

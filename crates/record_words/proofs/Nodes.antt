@@ -15,8 +15,9 @@ use Rattle.record_words.proofs.Heads.{same_fields}
 use Rattle.record_words.proofs.HeadsByKind.{Tells, head_parts}
 use Rattle.record_words.proofs.Lawful.{column-lt, row-lt}
 use Rattle.record_words.proofs.NearLanes.{first_lowest, lane_read, used_lane}
-use Rattle.record_words.proofs.OfKinds.{are_near_unless_wide, middle-not-wide, narrow-not-wide}
-use Rattle.record_words.proofs.TellingHead.{middle_row_is, narrow_row_is, near_index, near_mask, told, wide}
+use Rattle.record_words.proofs.NearKinds.{IsNearKind, middle_kind, narrow_kind}
+use Rattle.record_words.proofs.OfKinds.{are_near_unless_wide}
+use Rattle.record_words.proofs.TellingHead.{near_index, near_mask, near_row_is, told, wide}
 
 -- ---- the two parts of a node's words
 pub length-head_words : (node : NodeView) → length (head_words (head_of node)) ≡ 25
@@ -83,6 +84,12 @@ module _ (a b : NodeView) (lawful_a : IsLawfulNode a) (lawful_b : IsLawfulNode b
   near_columns : kind_of b.columns ≢ Wide → a.columns ≡ b.columns
   near_columns other = ext_get_or 0 a.columns b.columns as_many (near_column other)
 
+  near_both : (kind : Kind) → IsNearKind kind → kind_of b.columns ≡ kind → (a.columns ≡ b.columns) × (a.rows ≡ b.rows)
+  near_both kind near e = (
+    near_columns (λ wide. near.other (sym e ∙ wide)),
+    ext_get_or 0 a.rows b.rows counts (λ i h. sym (near_row_is a lawful_a words same kind near (kinds ∙ e) i h) ∙ near_row_is b lawful_b words refl kind near e i (omega (arith, h, counts))),
+  )
+
   both : (kind : Kind) → kind_of b.columns ≡ kind → (a.columns ≡ b.columns) × (a.rows ≡ b.rows)
   both Wide e =
       let fixed_a = wide a lawful_a words same (kinds ∙ e) in
@@ -90,14 +97,8 @@ module _ (a b : NodeView) (lawful_a : IsLawfulNode a) (lawful_b : IsLawfulNode b
         columns_same a.columns b.columns words fixed_a.positions fixed_b.positions lawful_a.positions.few as_many (column-lt a lawful_a) (column-lt b lawful_b),
         rows_same a.rows b.rows words fixed_a.rows_are fixed_b.rows_are (omega (arith, same_count a lawful_a, lawful_a.room)) counts (row-lt a lawful_a) (row-lt b lawful_b),
       )
-  both Narrow e = (
-    near_columns (narrow-not-wide (kind_of b.columns) e),
-    ext_get_or 0 a.rows b.rows counts (λ i h. sym (narrow_row_is a lawful_a words same (kinds ∙ e) i h) ∙ narrow_row_is b lawful_b words refl e i (omega (arith, h, counts))),
-  )
-  both Middle e = (
-    near_columns (middle-not-wide (kind_of b.columns) e),
-    ext_get_or 0 a.rows b.rows counts (λ i h. sym (middle_row_is a lawful_a words same (kinds ∙ e) i h) ∙ middle_row_is b lawful_b words refl e i (omega (arith, h, counts))),
-  )
+  both Narrow e = near_both Narrow narrow_kind e
+  both Middle e = near_both Middle middle_kind e
 
   pub same_head : head_of a ≡ head_of b
   same_head = let parts = both (kind_of b.columns) refl in same_fields (sym of_a.height_told ∙ of_b.height_told) parts.0 parts.1

@@ -12,7 +12,7 @@ use Rattle.partial_keys.proofs.Search.{first_is_zero}
 use Rattle.partial_keys.specs.Rows.{IsHighest, complies, dense_of, row_of, with_unused}
 use Rattle.node_tries.specs.Piece.{leads_to, paths}
 use Rattle.node_tries.specs.Positions.{has}
-use Rattle.record_words.proofs.Complying.{top_of_used}
+use Rattle.partial_keys.proofs.Lanes.{top_of_used}
 use Rattle.record_words.proofs.Lawful.{length-with_unused}
 use lib.Count.{count_leading_zeros}
 use lib.Lanes.{mask_l}

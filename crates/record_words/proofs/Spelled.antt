@@ -10,7 +10,7 @@ use Rattle.partial_keys.specs.Columns.{with_free}
 use Rattle.partial_keys.specs.Rows.{with_unused}
 use Rattle.compound_node.specs.Nodes.{NodeView, HeadView, IsHead, IsLawfulNode, head_of, node_of}
 use Rattle.compound_node.proofs.Lawful.{same_count}
-use Rattle.record_words.specs.HeadParts.{HasHeadOf}
+use Rattle.record_words.specs.HeadParts.{HasHeadOf, InNodesOfKind}
 use Rattle.record_words.specs.Kinds.{kind_of}
 use Rattle.record_words.specs.Node.{HasHeadWords, HasNodeWords, head_words, node_words}
 use Rattle.record_words.specs.Leaf.{HasLeafWords, leaf_words}
@@ -50,6 +50,10 @@ module _ (kind : Kind) (part : HeadView → List ℕ) (words : List ℕ) (given 
 
   pub part_of_one : part (head_of one_of_kind) ≡ words
   part_of_one = ap part given.1.0.2 ∙ given.2
+
+  -- what is so in each such node, and speaks of none
+  pub in_one : {P : Type 0} → InNodesOfKind kind part words (λ _. P) → P
+  in_one each = each one_of_kind lawful_one kind_of_one part_of_one
 
 -- some node whose head has the words
 module _ (words : List ℕ) (given : IsSpelling HasHeadWords head_words words) where

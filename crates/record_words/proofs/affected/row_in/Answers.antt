@@ -1,17 +1,11 @@
 -- It is read of its word.
-use Rattle.std.proofs.Common.{ℕ, ◌+◌, ◌/◌, ◌<◌, ◌∙◌, ap, arith, get_or, sym}
+use Rattle.std.proofs.Common.{◌+◌, ◌/◌, ◌∙◌, ap, arith, get_or, sym}
 use Rattle.record_words.specs.Kinds.{rows_a_word, rows_from}
-use Rattle.record_words.specs.declared.kind.Kind.{Kind}
-use Rattle.record_words.specs.declared.kind.Kind.TheVariants.{Middle, Narrow, Wide}
+use Rattle.record_words.proofs.HeadsByKind.{row_within}
 use Rattle.record_words.proofs.affected.row_in.Goals as goal
 
-row_index-lt : (kind : Kind) (at : ℕ) → at < 32 → rows_from kind + at / rows_a_word kind < 25
-row_index-lt Wide at low = omega (arith, low)
-row_index-lt Narrow at low = omega (arith, low)
-row_index-lt Middle at low = omega (arith, low)
-
 pub bounds-words-index_of_row : goal.bounds-words-index_of_row
-bounds-words-index_of_row c = omega (arith, c.requires.0, c.index_of_row.ensures, row_index-lt c.read_numbers-numbers.result.kind c.args.slot c.requires.1)
+bounds-words-index_of_row c = omega (arith, c.requires.0, c.index_of_row.ensures, row_within c.read_numbers-numbers.result.kind c.args.slot c.requires.1)
 
 pub returns : goal.returns
 returns c = λ node lawful same.

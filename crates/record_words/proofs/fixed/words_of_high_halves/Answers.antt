@@ -1,8 +1,9 @@
 -- The words are made of the higher halves.
-use Rattle.std.proofs.Common.{ap, arith, ◌/◌, ◌^◌, ◌∙◌}
-use Rattle.std.proofs.lemmas.List.FromFn.{length-map-range_with_len}
-use Rattle.record_words.specs.Packed.{row_at, row_lanes}
-use Rattle.record_words.proofs.Highs.{halves_fit, highs_are, lanes_small, words_by_bytes}
+use Rattle.std.proofs.Common.{ap, ◌^◌, ◌∙◌}
+use Rattle.record_words.specs.Packed.{row_lanes}
+use Rattle.record_words.specs.declared.kind.Kind.TheVariants.{Middle}
+use Rattle.record_words.proofs.Highs.{halves_fit, highs_are, rows_small, words_by_bytes}
+use Rattle.record_words.proofs.NearKinds.{lanes_small, middle_kind, rows_long}
 use Rattle.record_words.proofs.fixed.words_of_high_halves.Goals as goal
 use lib.Lanes.{digits_l, number_l}
 
@@ -13,4 +14,4 @@ pub returns : goal.returns
 returns c =
     let rows = c.args.rows in
     ap (λ lanes. digits_l (2 ^ 64) 8 (number_l (2 ^ 8) (digits_l (2 ^ 8) 64 (number_l (2 ^ 16) lanes)))) (highs_are 16 rows c.fits-rows.0)
-    ∙ words_by_bytes (row_lanes 16 rows) (length-map-range_with_len (λ i. row_at rows i / 2 ^ 16) 0 32) (lanes_small 16 16 rows c.fits-rows.0 (λ x small. omega (arith, small)) c.fits-rows.1)
+    ∙ words_by_bytes (row_lanes 16 rows) (rows_long 16 rows) (lanes_small Middle middle_kind rows (rows_small rows c.fits-rows.1))

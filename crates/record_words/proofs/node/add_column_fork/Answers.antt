@@ -1,5 +1,5 @@
 -- The columns and the rows with one more give the words.
-use Rattle.std.proofs.Common.{List, ℕ, ◌≡◌, ◌+◌, ◌≤◌, ◌∙◌, ap, arith, false, get_or, get_or-take, length, map, subst, sym, take}
+use Rattle.std.proofs.Common.{List, ℕ, ◌≡◌, ◌+◌, ◌≤◌, ◌∙◌, ap, arith, get_or, get_or-take, length, subst, sym, take}
 use Rattle.compound_node.proofs.Lawful.{same_count}
 use Rattle.compound_node.specs.Nodes.{IsLawfulNode, NodeView, head_of}
 use Rattle.partial_keys.proofs.Keeping.{holds_front}
@@ -9,7 +9,6 @@ use Rattle.node_tries.specs.Positions.{front_below, has, with_position}
 use Rattle.record_words.specs.HeadParts.{AreNumbersOf}
 use Rattle.record_words.specs.Node.{CanGrowAt, head_words}
 use Rattle.record_words.specs.declared.numbers.HeadNumbers.{HeadNumbers}
-use Rattle.record_words.proofs.DroppedRows.{first_lanes}
 use Rattle.record_words.proofs.Forking.{has_column_fork, in_range, more_are_columns, ordered, room, room_for_one}
 use Rattle.record_words.proofs.Nodes.{head_part}
 use Rattle.record_words.proofs.Spelled.{columns_in_front}

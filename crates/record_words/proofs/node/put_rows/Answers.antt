@@ -5,10 +5,10 @@ use Rattle.std.proofs.lemmas.List.{ext_get_or}
 use Rattle.std.proofs.lemmas.List.FromFn.{get_or-map-range_with_len, length-map-range_with_len}
 use Rattle.std.proofs.lemmas.Simd.{get_or-chunk, length-chunk, pick_l-range_with_len, pick_l_left}
 use Rattle.std.specs.List.{range_with_len}
-use Rattle.record_words.proofs.HeadsByKind.{length-lane_words}
+use Rattle.record_words.proofs.HeadsByKind.{length-row_words}
 use Rattle.record_words.proofs.Written.{at_stored, before_stored, chunk_stored, half_words, length-stored, other_stored, stored}
 use Rattle.record_words.specs.Kinds.{head_size, rows_from}
-use Rattle.record_words.specs.Packed.{row_lanes, row_word, row_words}
+use Rattle.record_words.specs.Packed.{row_word, row_words}
 use Rattle.record_words.specs.declared.kind.Kind.{Kind}
 use Rattle.record_words.specs.declared.kind.Kind.TheVariants.{Middle, Narrow, Wide}
 use Rattle.record_words.proofs.node.put_rows.Goals as goal
@@ -78,39 +78,36 @@ returns-in-Wide-clause-others c = λ k out.
     let whole : length c.args.words.now ≡ 57 = search rules in
     others_stay c.args.rows c.args.words.now low.result high.result c.fits-rows.0 whole low.ensures.whole high.ensures.whole low.ensures.each high.ensures.each k (outside c.args.kind Wide k c.in-Wide.is out)
 
--- ---- the highest bits of rows
-four : (rows words : List ℕ) → words ≡ row_words Narrow rows → length words ≡ 4
-four rows words same = ap length same ∙ length-lane_words 8 4 (row_lanes 24 rows)
+-- ---- the highest bits of rows, which are stored at once
+module _ (kind this : Kind) (is : kind ≡ this) (inside : head_size this ≤ 57) (order : rows_from this ≤ head_size this) (rows words made : List ℕ) (whole : length words ≡ 57) (are : made ≡ row_words this rows) where
+  long : length made ≡ head_size this - rows_from this
+  long = omega (arith, ap length are, length-row_words this rows)
 
-eight_words : (rows words : List ℕ) → words ≡ row_words Middle rows → length words ≡ 8
-eight_words rows words same = ap length same ∙ length-lane_words 16 8 (row_lanes 16 rows)
+  here : length words ≡ rows_from this + (57 - rows_from this)
+  here = omega (arith, whole, inside, order)
+
+  room : length made ≤ 57 - rows_from this
+  room = omega (arith, long, inside)
+
+  abbrev put : List ℕ
+  put = stored (rows_from this) (57 - rows_from this) words made here room
+
+  rows_put : chunk (rows_from kind) (head_size kind - rows_from kind) put ≡ row_words kind rows
+  rows_put = for_kind kind this rows put is (chunk_stored (rows_from this) (57 - rows_from this) words made here room (head_size this - rows_from this) long ∙ are)
+
+  others_kept : (k : ℕ) → (k < rows_from kind) ⊎ (head_size kind ≤ k) → get_or put k 0 ≡ get_or words k 0
+  others_kept k out =
+      other_stored (rows_from this) (57 - rows_from this) words made here room k
+      (⊎_elim (λ (low : k < rows_from this). inl low) (λ (past : head_size this ≤ k). inr (omega (arith, past, long, order))) (outside kind this k is out))
 
 pub returns-in-Narrow-clause-rows : goal.returns-in-Narrow-clause-rows
-returns-in-Narrow-clause-rows c =
-    let made = c.words_of_high_bytes in
-    let long = four c.args.rows made.result made.ensures in
-    let whole : length c.args.words.now ≡ 57 = search rules in
-    for_kind c.args.kind Narrow c.args.rows _ c.in-Narrow.is (chunk_stored 3 54 c.args.words.now made.result whole (omega (arith, long)) 4 long ∙ made.ensures)
+returns-in-Narrow-clause-rows c = rows_put c.args.kind Narrow c.in-Narrow.is (omega arith) (omega arith) c.args.rows c.args.words.now c.words_of_high_bytes.result (search rules) c.words_of_high_bytes.ensures
 
 pub returns-in-Narrow-clause-others : goal.returns-in-Narrow-clause-others
-returns-in-Narrow-clause-others c = λ k out.
-    let made = c.words_of_high_bytes in
-    let long = four c.args.rows made.result made.ensures in
-    let whole : length c.args.words.now ≡ 57 = search rules in
-    other_stored 3 54 c.args.words.now made.result whole (omega (arith, long)) k
-    (⊎_elim (λ (h : k < 3). inl h) (λ (h : 7 ≤ k). inr (omega (arith, h, long))) (outside c.args.kind Narrow k c.in-Narrow.is out))
+returns-in-Narrow-clause-others c = others_kept c.args.kind Narrow c.in-Narrow.is (omega arith) (omega arith) c.args.rows c.args.words.now c.words_of_high_bytes.result (search rules) c.words_of_high_bytes.ensures
 
 pub returns-in-Middle-clause-rows : goal.returns-in-Middle-clause-rows
-returns-in-Middle-clause-rows c =
-    let made = c.words_of_high_halves in
-    let long = eight_words c.args.rows made.result made.ensures in
-    let whole : length c.args.words.now ≡ 57 = search rules in
-    for_kind c.args.kind Middle c.args.rows _ c.in-Middle.is (chunk_stored 5 52 c.args.words.now made.result whole (omega (arith, long)) 8 long ∙ made.ensures)
+returns-in-Middle-clause-rows c = rows_put c.args.kind Middle c.in-Middle.is (omega arith) (omega arith) c.args.rows c.args.words.now c.words_of_high_halves.result (search rules) c.words_of_high_halves.ensures
 
 pub returns-in-Middle-clause-others : goal.returns-in-Middle-clause-others
-returns-in-Middle-clause-others c = λ k out.
-    let made = c.words_of_high_halves in
-    let long = eight_words c.args.rows made.result made.ensures in
-    let whole : length c.args.words.now ≡ 57 = search rules in
-    other_stored 5 52 c.args.words.now made.result whole (omega (arith, long)) k
-    (⊎_elim (λ (h : k < 5). inl h) (λ (h : 13 ≤ k). inr (omega (arith, h, long))) (outside c.args.kind Middle k c.in-Middle.is out))
+returns-in-Middle-clause-others c = others_kept c.args.kind Middle c.in-Middle.is (omega arith) (omega arith) c.args.rows c.args.words.now c.words_of_high_halves.result (search rules) c.words_of_high_halves.ensures

@@ -1,5 +1,5 @@
 -- By the kind: halves of words, or lanes of fewer bits that are moved up.
-use Rattle.std.proofs.Common.{ℕ, ◌≡◌, ◌-◌, ◌*◌, ◌/◌, ◌%◌, ◌^◌, ◌<◌, ◌∙◌, ap, arith, drop, get_or, length, length-drop, map, replicate, sym}
+use Rattle.std.proofs.Common.{ℕ, ◌≡◌, ◌-◌, ◌*◌, ◌/◌, ◌%◌, ◌^◌, ◌<◌, ◌∙◌, ap, arith, drop, get_or, length, length-drop, map, replicate, sym, w8, w16}
 use Rattle.std.proofs.lemmas.List.{take_all}
 use Rattle.std.proofs.lemmas.Simd.{get_or-chunk, length-chunk}
 use lib.Lanes.{zip2}
@@ -11,7 +11,8 @@ use Rattle.record_words.specs.Node.{head_words}
 use Rattle.record_words.specs.Packed.{row_lanes}
 use Rattle.record_words.specs.declared.kind.Kind.TheVariants.{Middle, Narrow, Wide}
 use Rattle.record_words.proofs.Lawful.{row-lt}
-use Rattle.record_words.proofs.NearHeads.{middle_rows, narrow_rows}
+use Rattle.record_words.proofs.NearHeads.{narrow_rows, near_rows}
+use Rattle.record_words.proofs.NearKinds.{middle_kind}
 use Rattle.record_words.proofs.NearRows.{lanes_long, moved_up, near_rows_read, row_by_lane, up}
 use Rattle.record_words.proofs.OfKinds.{middle_few, narrow_few}
 use Rattle.record_words.proofs.search.rows_in.Goals as goal
@@ -43,16 +44,16 @@ returns c = λ node lawful same. elim c.match-read_numbers.branch [
       w.bytes_in.ensures ∙ narrow_rows node lawful kinded words (word c node lawful same 7) _ (length-chunk 3 4 words (omega (arith, c.requires.long))) (λ k low. get_or-chunk 3 4 words k 0 low) in
       w.result-is ∙ near_rows_read node lawful w.with_unused_from.result (zip2 up (map (λ a. a) w.bytes_in.result) (replicate 32 24)) c.read_numbers-count.result.count
       w.with_unused_from.ensures.whole (counted c node lawful same) w.with_unused_from.ensures.used w.with_unused_from.ensures.unused
-      (λ i low. moved_up 24 w.bytes_in.result i (get_or node.rows i 0) (lanes_long node lawful 8 (narrow_few node.columns kinded) (omega arith) w.bytes_in.result bytes) (inside c node lawful same i low)
-      (row_by_lane node lawful 8 (narrow_few node.columns kinded) (omega arith) w.bytes_in.result bytes i low) (row-lt node lawful i))
+      (λ i low. moved_up 24 w.bytes_in.result i (get_or node.rows i 0) (lanes_long node lawful w8 (narrow_few node.columns kinded) (omega arith) w.bytes_in.result bytes) (inside c node lawful same i low)
+      (row_by_lane node lawful w8 (narrow_few node.columns kinded) (omega arith) w.bytes_in.result bytes i low) (row-lt node lawful i))
   | in-Middle w ↦
       let words = c.args.words.now in
       let kinded : kind_of node.columns ≡ Middle = sym (told c node lawful same).kind_is ∙ w.in-Middle.is in
       let halves : w.split_into_quarters.result ≡ row_lanes 16 node.rows =
-      middle_rows node lawful kinded words (word c node lawful same 13) w.split_into_quarters.result w.split_into_quarters.ensures.whole
+      near_rows node lawful Middle middle_kind kinded words (word c node lawful same 13) w.split_into_quarters.result w.split_into_quarters.ensures.whole
       (λ i low. w.split_into_quarters.ensures.each i low ∙ ap (λ v. v / 2 ^ (16 * (i % 4)) % 2 ^ 16) (get_or-chunk 5 8 words (i / 4) 0 (omega (arith, low)))) in
       w.result-is ∙ near_rows_read node lawful w.with_unused_from-in-Middle.result (zip2 up (map (λ a. a) w.split_into_quarters.result) (replicate 32 16)) c.read_numbers-count.result.count
       w.with_unused_from-in-Middle.ensures.whole (counted c node lawful same) w.with_unused_from-in-Middle.ensures.used w.with_unused_from-in-Middle.ensures.unused
-      (λ i low. moved_up 16 w.split_into_quarters.result i (get_or node.rows i 0) (lanes_long node lawful 16 (middle_few node.columns kinded) (omega arith) w.split_into_quarters.result halves) (inside c node lawful same i low)
-      (row_by_lane node lawful 16 (middle_few node.columns kinded) (omega arith) w.split_into_quarters.result halves i low) (row-lt node lawful i))
+      (λ i low. moved_up 16 w.split_into_quarters.result i (get_or node.rows i 0) (lanes_long node lawful w16 (middle_few node.columns kinded) (omega arith) w.split_into_quarters.result halves) (inside c node lawful same i low)
+      (row_by_lane node lawful w16 (middle_few node.columns kinded) (omega arith) w.split_into_quarters.result halves i low) (row-lt node lawful i))
 ]

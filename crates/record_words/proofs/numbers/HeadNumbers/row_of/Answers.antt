@@ -5,7 +5,8 @@ use Rattle.std.proofs.lemmas.Nat.{and_mask}
 use Rattle.compound_node.proofs.Lawful.{same_count}
 use Rattle.compound_node.specs.Nodes.{IsLawfulNode, NodeView, head_of}
 use Rattle.record_words.proofs.Lawful.{row-lt}
-use Rattle.record_words.proofs.TellingHead.{middle_row_is, narrow_row_is, wide_row}
+use Rattle.record_words.proofs.NearKinds.{IsNearKind, middle_kind, narrow_kind, row_bits}
+use Rattle.record_words.proofs.TellingHead.{near_row_is, wide_row}
 use Rattle.record_words.specs.HeadParts.{AreNumbersOf}
 use Rattle.record_words.specs.Kinds.{rows_a_word, rows_from}
 use Rattle.record_words.specs.Node.{head_words}
@@ -30,19 +31,13 @@ module _ (node : NodeView) (lawful : IsLawfulNode node) (numbers : HeadNumbers) 
   word_in : (kind : Kind) → numbers.kind ≡ kind → get_or (head_words (head_of node)) (rows_from kind + slot / rows_a_word kind) 0 ≡ word
   word_in kind is = ap (λ k. get_or (head_words (head_of node)) (rows_from k + slot / rows_a_word k) 0) (sym is) ∙ same
 
-  narrow : numbers.kind ≡ Narrow → bit_and (word / 2 ^ (8 * (slot % 8))) 255 * 16777216 % 4294967296 ≡ get_or node.rows slot 4294967295
-  narrow is =
-      let part : bit_and (word / 2 ^ (8 * (slot % 8))) (2 ^ 8 - 1) ≡ word / 2 ^ (8 * (slot % 8)) % 2 ^ 8 = and_mask (word / 2 ^ (8 * (slot % 8))) 8 in
-      let row : word / 2 ^ (8 * (slot % 8)) % 2 ^ 8 * 2 ^ 24 ≡ get_or node.rows slot 0 =
-      ap (λ w. w / 2 ^ (8 * (slot % 8)) % 2 ^ 8 * 2 ^ 24) (sym (word_in Narrow is)) ∙ narrow_row_is node lawful (head_words (head_of node)) refl (sym told.kind_is ∙ is) slot inside in
-      omega (arith, part, row, at, row-lt node lawful slot)
-
-  middle : numbers.kind ≡ Middle → bit_and (word / 2 ^ (16 * (slot % 4))) 65535 * 65536 % 4294967296 ≡ get_or node.rows slot 4294967295
-  middle is =
-      let part : bit_and (word / 2 ^ (16 * (slot % 4))) (2 ^ 16 - 1) ≡ word / 2 ^ (16 * (slot % 4)) % 2 ^ 16 = and_mask (word / 2 ^ (16 * (slot % 4))) 16 in
-      let row : word / 2 ^ (16 * (slot % 4)) % 2 ^ 16 * 2 ^ 16 ≡ get_or node.rows slot 0 =
-      ap (λ w. w / 2 ^ (16 * (slot % 4)) % 2 ^ 16 * 2 ^ 16) (sym (word_in Middle is)) ∙ middle_row_is node lawful (head_words (head_of node)) refl (sym told.kind_is ∙ is) slot inside in
-      omega (arith, part, row, at, row-lt node lawful slot)
+  near_one : (kind : Kind) → IsNearKind kind → numbers.kind ≡ kind →
+      bit_and (word / 2 ^ (row_bits kind * (slot % rows_a_word kind))) (2 ^ row_bits kind - 1) * 2 ^ (32 - row_bits kind) % 2 ^ 32 ≡ get_or node.rows slot 4294967295
+  near_one kind near is =
+      let w : ℕ = row_bits kind in
+      let row : word / 2 ^ (w * (slot % rows_a_word kind)) % 2 ^ w * 2 ^ (32 - w) ≡ get_or node.rows slot 0 =
+      ap (λ x. x / 2 ^ (w * (slot % rows_a_word kind)) % 2 ^ w * 2 ^ (32 - w)) (sym (word_in kind is)) ∙ near_row_is node lawful (head_words (head_of node)) refl kind near (sym told.kind_is ∙ is) slot inside in
+      ap (λ x. x * 2 ^ (32 - w) % 2 ^ 32) (and_mask (word / 2 ^ (w * (slot % rows_a_word kind))) w) ∙ (ap (λ x. x % 2 ^ 32) row ∙ omega (arith, at, row-lt node lawful slot))
 
   wide : numbers.kind ≡ Wide → bit_and (word / 2 ^ (32 * (slot % 2))) 4294967295 ≡ get_or node.rows slot 4294967295
   wide is =
@@ -53,7 +48,7 @@ pub returns-in-Wide : goal.returns-in-Wide
 returns-in-Wide c = λ node lawful told same. wide node lawful c.args.self told c.args.slot c.args.word (omega (arith, c.if-slot-self.false)) same c.in-Wide.is
 
 pub returns-in-Narrow : goal.returns-in-Narrow
-returns-in-Narrow c = λ node lawful told same. narrow node lawful c.args.self told c.args.slot c.args.word (omega (arith, c.if-slot-self.false)) same c.in-Narrow.is
+returns-in-Narrow c = λ node lawful told same. near_one node lawful c.args.self told c.args.slot c.args.word (omega (arith, c.if-slot-self.false)) same Narrow narrow_kind c.in-Narrow.is
 
 pub returns-in-Middle : goal.returns-in-Middle
-returns-in-Middle c = λ node lawful told same. middle node lawful c.args.self told c.args.slot c.args.word (omega (arith, c.if-slot-self.false)) same c.in-Middle.is
+returns-in-Middle c = λ node lawful told same. near_one node lawful c.args.self told c.args.slot c.args.word (omega (arith, c.if-slot-self.false)) same Middle middle_kind c.in-Middle.is
