@@ -3,7 +3,7 @@ use Rattle.std.proofs.Common.{◌≡◌, Bool, ℕ, ◌+◌, ◌-◌, ◌^◌, �
 use Rattle.std.proofs.lemmas.List.{append-nil, drop_at, get_or_append_left, length-replicate, take-take, take_all, take_at}
 use Rattle.compound_node.proofs.Roots.{root_of_head}
 use Rattle.compound_node.specs.declared.entries.Entry.TheVariants.{Leaf, Node}
-use Rattle.compound_node.specs.Nodes.{NodeView, IsLawfulNode, head_of, leaves, node_of, piece}
+use Rattle.compound_node.specs.Nodes.{HeadView, NodeView, IsLawfulNode, head_of, leaves, node_of, piece}
 use Rattle.insert_cases.specs.declared.choice.PathNode.{PathNode}
 use Rattle.key_bits.specs.Bits.{bit_of}
 use Rattle.partial_keys.specs.Rows.{dense_of}
@@ -28,7 +28,7 @@ use Rattle.tries.specs.Keys.{Key}
 use Rattle.tries.specs.Place.{spot}
 use Rattle.record_words.specs.declared.records.Rec.TheVariants.{Node as a_node}
 use Rattle.rowex_reading.specs.Possible.{IsPossible}
-use Rattle.rowex_reading.specs.Seen.{AreHeadWords, AreLoaded, IsLedTo, shape_of}
+use Rattle.rowex_reading.specs.Seen.{AreHeadWords, AreLoaded, IsHeadSeen, IsLedTo, shape_of}
 use Rattle.rowex_reading.specs.Ways.{step_at}
 use Rattle.rowex_reading.proofs.Descents.{step_is}
 use Rattle.rowex_reading.proofs.Heading.{kind_tells, part_read}
@@ -124,6 +124,16 @@ module _ {k : Known} {m n h : ℕ} (words : List ℕ) (are : AreHeadWords k m n 
       let parts = fits node are.seen.lawful its (ap (λ (ws : List ℕ). get_or ws (mask_index numbers.kind 0) 0) are.words_are ∙ sym word_is) in
       same_step step.number number step.height are.head.height step.first_position step.first_position step.count step.count step.slot at same.0 parts.0 refl refl same.1
       ∙ step_is are.head are.seen.lawful number at step.count step.first_position (parts.1 ∙ length-replicate (length are.head.rows) (Leaf 0)) (root_of_head are.head step.first_position parts.2)
+
+  -- so the step that a search finds is at the node, by its slot
+  pub step_found : (numbers : HeadNumbers) → ((v : NodeView) → IsLawfulNode v → get_or (head_words (head_of v)) 0 0 ≡ get_or words 0 0 → AreNumbersOf numbers v) → (kind : Kind) → numbers.kind ≡ kind → (word : ℕ) → word ≡ get_or words (mask_index kind 0) 0 →
+      (step : PathNode) (at : ℕ) → (step.number ≡ n) × (step.slot ≡ at) → IsStepOf numbers word step → (key : Key) → at ≡ spot key (shape_of are.head) →
+      (head : HeadView) × IsHeadSeen k m n h head × (step ≡ step_at head n (spot key (shape_of head)))
+  step_found numbers numbers_are kind is word word_is step at same fits key leads = (
+    are.head,
+    are.seen,
+    step_spelled numbers numbers_are word (word_is ∙ ap (λ z. get_or words (mask_index z 0) 0) (sym is)) step n at same fits ∙ ap (step_at are.head n) leads,
+  )
 
 -- ---- a head of a kind
 module _ {k : Known} {m n h : ℕ} (kind : Kind) (part : List ℕ) (is : kind_in (get_or part 0 0) ≡ kind) (long : length part ≡ head_size kind)

@@ -3,13 +3,12 @@ use Rattle.std.proofs.Common.{ℕ, ◌≡◌, ◌≢◌, ◌/◌, cond, eqb, ◌
 use Rattle.std.proofs.lemmas.Bool.{ne_eqb}
 use Rattle.std.proofs.lemmas.List.{get_or_append_left}
 use Rattle.compound_node.specs.declared.entries.Entry.TheVariants.{Node}
-use Rattle.record_words.specs.Kinds.{kind_in, mask_index}
+use Rattle.record_words.specs.Kinds.{kind_in}
 use Rattle.record_words.specs.declared.kind.Kind.TheVariants.{Middle, Narrow, Wide}
 use Rattle.rowex_table.specs.Rule.{record_number}
 use Rattle.rowex_reading.specs.Seen.{AreHeadWords, IsLedTo}
-use Rattle.rowex_reading.specs.Ways.{step_at}
 use Rattle.rowex_reading.proofs.Led.{led_on, reader_then, reads_trans}
-use Rattle.rowex_reading.proofs.Stepping.{back_spelled, begun, begun_loaded, begun_long, front_spelled, near_read, part_spelled, part_spot, step_spelled, wide_read, wide_spot}
+use Rattle.rowex_reading.proofs.Stepping.{back_spelled, begun, begun_loaded, begun_long, front_spelled, near_read, part_spelled, part_spot, step_found, wide_read, wide_spot}
 use Rattle.rowex_reading.proofs.reading.search_node.Given as given
 use Rattle.rowex_reading.proofs.reading.search_node.Goals as goal
 use Rattle.rowex_reading.proofs.reading.search_node.Goals.{After-load_head_part-in-1, After-load_head_part-in-2, After-load_head_part-in_default-2}
@@ -60,15 +59,10 @@ returns-in-1-clause-step g c = λ m h led.
     let d = (goal.at.returns-in-1-clause-step g c).After-load_head_part-in-1 in
     let are = narrow_words_are g d m h led in
     let part = begun c.load_head_part.new.words c.load_head_part-in-1.new.words in
-    let numbers = c.read_numbers-numbers.result in (
-      are.head,
-      are.seen,
-      step_spelled (part ++ replicate 18 (2 ^ 64 - 1)) are numbers c.read_numbers-numbers.ensures.node _
-          (ap (λ i. get_or part i 0) c.index_of_first_position.ensures ∙ (sym (get_or_append_left part (replicate 18 (2 ^ 64 - 1)) 0 2 (omega (arith, narrow_size g d)))
-          ∙ ap (λ kind. get_or (part ++ replicate 18 (2 ^ 64 - 1)) (mask_index kind 0) 0) (sym (c.read_numbers-numbers.ensures.parts.3 ∙ narrow_is g d))))
-          c.path_node.result (record_number c.args.node.rec) c.search_narrow-slot.result (rw c.number-number.ensures at c.path_node.ensures.same) c.path_node.ensures.node
-          ∙ ap (step_at are.head (record_number c.args.node.rec)) (part_spot Narrow part (narrow_is g d) (narrow_size g d) are c.args.key.now c.search_narrow-slot.result c.search_narrow-slot.ensures),
-    )
+    step_found (part ++ replicate 18 (2 ^ 64 - 1)) are c.read_numbers-numbers.result c.read_numbers-numbers.ensures.node Narrow (c.read_numbers-numbers.ensures.parts.3 ∙ narrow_is g d) _
+    (ap (λ i. get_or part i 0) c.index_of_first_position.ensures ∙ sym (get_or_append_left part (replicate 18 (2 ^ 64 - 1)) 0 2 (omega (arith, narrow_size g d))))
+    c.path_node.result c.search_narrow-slot.result (rw c.number-number.ensures at c.path_node.ensures.same) c.path_node.ensures.node c.args.key.now
+    (part_spot Narrow part (narrow_is g d) (narrow_size g d) are c.args.key.now c.search_narrow-slot.result c.search_narrow-slot.ensures)
 
 -- ---- a middle head
 pub load_head_part-requires-in-2-clause-reader : goal.load_head_part-requires-in-2-clause-reader
@@ -105,15 +99,10 @@ returns-in-2-clause-step g c = λ m h led.
     let d = (goal.at.returns-in-2-clause-step g c).After-load_head_part-in-2 in
     let are = middle_words_are g d m h led in
     let part = begun c.load_head_part.new.words c.load_head_part-in-2.new.words in
-    let numbers = c.read_numbers-numbers.result in (
-      are.head,
-      are.seen,
-      step_spelled (part ++ replicate 12 (2 ^ 64 - 1)) are numbers c.read_numbers-numbers.ensures.node _
-          (ap (λ i. get_or part i 0) c.index_of_first_position-in-2.ensures ∙ (sym (get_or_append_left part (replicate 12 (2 ^ 64 - 1)) 0 4 (omega (arith, middle_size g d)))
-          ∙ ap (λ kind. get_or (part ++ replicate 12 (2 ^ 64 - 1)) (mask_index kind 0) 0) (sym (c.read_numbers-numbers.ensures.parts.3 ∙ middle_is g d))))
-          c.path_node-in-2.result (record_number c.args.node.rec) c.search_middle-slot.result (rw c.number-number.ensures at c.path_node-in-2.ensures.same) c.path_node-in-2.ensures.node
-          ∙ ap (step_at are.head (record_number c.args.node.rec)) (part_spot Middle part (middle_is g d) (middle_size g d) are c.args.key.now c.search_middle-slot.result c.search_middle-slot.ensures),
-    )
+    step_found (part ++ replicate 12 (2 ^ 64 - 1)) are c.read_numbers-numbers.result c.read_numbers-numbers.ensures.node Middle (c.read_numbers-numbers.ensures.parts.3 ∙ middle_is g d) _
+    (ap (λ i. get_or part i 0) c.index_of_first_position-in-2.ensures ∙ sym (get_or_append_left part (replicate 12 (2 ^ 64 - 1)) 0 4 (omega (arith, middle_size g d))))
+    c.path_node-in-2.result c.search_middle-slot.result (rw c.number-number.ensures at c.path_node-in-2.ensures.same) c.path_node-in-2.ensures.node c.args.key.now
+    (part_spot Middle part (middle_is g d) (middle_size g d) are c.args.key.now c.search_middle-slot.result c.search_middle-slot.ensures)
 
 -- ---- a wide head
 pub load_head_part-requires-in_default-clause-reader : goal.load_head_part-requires-in_default-clause-reader
@@ -169,14 +158,8 @@ returns-in_default-clause-step g c = λ m h led.
     let are = wide_words_are g d m h led in
     let front = begun c.load_head_part.new.words c.load_head_part-in_default.new.words in
     let back = c.load_head_part-in_default-2.new.words in
-    let numbers = c.read_numbers-numbers.result in (
-      are.head,
-      are.seen,
-      step_spelled ((front ++ back) ++ []) are numbers c.read_numbers-numbers.ensures.node _
-          (ap (λ i. get_or front i 0) c.index_of_first_position-in_default.ensures ∙ (sym (get_or_append_left front back 0 1 (omega (arith, front_size g d)))
-          ∙ (sym (get_or_append_left (front ++ back) [] 0 1 (omega (arith, front_size g d, length-append front back)))
-          ∙ ap (λ kind. get_or ((front ++ back) ++ []) (mask_index kind 0) 0) (sym (c.read_numbers-numbers.ensures.parts.3 ∙ wide_is g d)))))
-          c.path_node-in_default.result (record_number c.args.node.rec) c.search_row_words-slot.result (rw c.number-number.ensures at c.path_node-in_default.ensures.same) c.path_node-in_default.ensures.node
-          ∙ ap (step_at are.head (record_number c.args.node.rec))
-          (wide_spot front back (wide_is g d) (front_size g d) c.load_head_part-in_default-2.ensures.long are c.args.key.now c.extract_dense_key-dense.result c.search_row_words-slot.result c.extract_dense_key-dense.ensures c.search_row_words-slot.ensures),
-    )
+    step_found ((front ++ back) ++ []) are c.read_numbers-numbers.result c.read_numbers-numbers.ensures.node Wide (c.read_numbers-numbers.ensures.parts.3 ∙ wide_is g d) _
+    (ap (λ i. get_or front i 0) c.index_of_first_position-in_default.ensures ∙ (sym (get_or_append_left front back 0 1 (omega (arith, front_size g d)))
+    ∙ sym (get_or_append_left (front ++ back) [] 0 1 (omega (arith, front_size g d, length-append front back)))))
+    c.path_node-in_default.result c.search_row_words-slot.result (rw c.number-number.ensures at c.path_node-in_default.ensures.same) c.path_node-in_default.ensures.node c.args.key.now
+    (wide_spot front back (wide_is g d) (front_size g d) c.load_head_part-in_default-2.ensures.long are c.args.key.now c.extract_dense_key-dense.result c.search_row_words-slot.result c.extract_dense_key-dense.ensures c.search_row_words-slot.ensures)
