@@ -1,7 +1,6 @@
 -- What is read of the words of a head, by its kind, is its numbers, its columns and its rows; and those are of a head.
 use Rattle.std.proofs.Common.{ℕ, ◌≡◌, ◌+◌, ◌*◌, ◌/◌, ◌%◌, ◌^◌, ◌<◌, ◌≤◌, ◌++◌, ⊎_elim, arith, cond, List, [], ◌∷◌, Ok, Err, below_more, get_or, get_or-set_other, get_or-set_same, length, length-set, nat_lt, set, suc, take, refl, sym, ap, ◌∙◌}
 use Rattle.std.proofs.Math.Seq.{take-suc}
-use Rattle.std.proofs.lemmas.Bool.{cases_lt, le-ltb, lt-ltb}
 use Rattle.std.proofs.lemmas.List.{ext_get_or, get_or_default, take_all}
 use Rattle.partial_keys.specs.Rows.{with_unused}
 use Rattle.compound_node.specs.declared.entries.Entry.{Entry}
@@ -9,36 +8,14 @@ use Rattle.compound_node.specs.Nodes.{HeadView, IsHead, IsLawfulNode, IsNode, No
 use Rattle.compound_node.proofs.Lawful.{same_count}
 use Rattle.record_words.specs.declared.WordFault.{WordFault}
 use Rattle.record_words.specs.declared.WordFault.TheVariants.{Bad}
-use Rattle.record_words.specs.declared.kind.Kind.{Kind}
-use Rattle.record_words.specs.declared.kind.Kind.TheVariants.{Middle, Narrow, Wide}
 use Rattle.record_words.specs.declared.numbers.HeadNumbers.{HeadNumbers}
 use Rattle.record_words.specs.HeadParts.{AreNumbersOf}
-use Rattle.record_words.specs.Kinds.{mask_index, position_index, rows_a_word, rows_from}
 use Rattle.record_words.specs.Node.{HasHeadWords, InNodesOf, head_words}
 use Rattle.record_words.specs.Packed.{position_at, row_at}
 use Rattle.record_words.specs.Reading.{IsReading}
 use Rattle.record_words.proofs.Heads.{head_used, is_head, is_node, used_rows}
 use Rattle.record_words.proofs.Lawful.{length-with_unused, row_at-with_unused}
 use Rattle.replay_trees.proofs.Readings.{reads_none, reads_one}
-
--- ---- words of a head of each kind
-position_inside : (kind : Kind) (j : ℕ) → j < 31 → position_index kind j < 23
-position_inside Wide j low = omega arith
-position_inside Narrow j low = omega arith
-position_inside Middle j low = ⊎_elim (λ (few : j < 8). rw (lt-ltb j 8 few) (omega arith)) (λ (many : 8 ≤ j). rw (le-ltb j 8 many) (omega arith)) (cases_lt j 8)
-
-pub position_within : (kind : Kind) (j : ℕ) → j < 31 → position_index kind j < 25
-position_within kind j low = omega (arith, position_inside kind j low)
-
-pub mask_within : (kind : Kind) (j : ℕ) → j < 31 → mask_index kind j < 25
-mask_within Wide j low = position_within Wide j low
-mask_within Narrow j low = omega (arith, position_inside Narrow j low)
-mask_within Middle j low = omega (arith, position_inside Middle j low)
-
-pub row_within : (kind : Kind) (i : ℕ) → i < 32 → rows_from kind + i / rows_a_word kind < 25
-row_within Wide i low = omega arith
-row_within Narrow i low = omega arith
-row_within Middle i low = omega arith
 
 -- ---- the columns and the rows so far
 one_column : (node : NodeView) (before after : List ℕ) (j p : ℕ) → j < length node.columns → before ≡ take j node.columns → p ≡ position_at node.columns j → after ≡ before ++ p ∷ [] → after ≡ take (j + 1) node.columns

@@ -1,6 +1,7 @@
 -- Each row is the one at its place.
 use Rattle.std.proofs.Common.{arith, refl}
-use Rattle.replay_trees.proofs.Heads.{all_rows, next_row, row_within}
+use Rattle.record_words.proofs.HeadsByKind.{row_within}
+use Rattle.replay_trees.proofs.Heads.{all_rows, next_row}
 use Rattle.replay_trees.proofs.fixed.read_rows.Goals as goal
 
 pub returns : goal.returns
