@@ -1,9 +1,9 @@
 -- Words as lanes of fewer bits.
 use Rattle.std.proofs.Common.{Bool, true, false, cond, eqb, map, not, ◌||◌, ℕ, zero, suc, ◌≡◌, ◌+◌, ◌-◌, ◌*◌, ◌/◌, ◌%◌, ◌^◌, ◌<◌, ◌≤◌, ◌++◌, List, [], ◌∷◌, arith, get_or, length, length-append, replicate, take, drop, refl, sym, ap, subst, ◌∙◌, w32, w64, Fits, below_more}
 use borrow.Author.Count.{below_none}
-use Rattle.std.proofs.lemmas.List.{ext_get_or, get_or_default, get_or-append_right, get_or-drop, get_or-take, length-replicate, take_at}
-use Rattle.std.proofs.lemmas.Simd.{below_from_Fits, get_or-chunk, get_or_narrower, get_or_wider, length-chunk}
-use lib.Lanes.{Each1, chunk, digits_l, mask_l, number_l}
+use Rattle.std.proofs.lemmas.List.{ext_get_or, get_or_default, get_or-append_right, get_or-drop, get_or-replicate, get_or-take, length-replicate, take_at}
+use Rattle.std.proofs.lemmas.Simd.{below_from_Fits, get_or-chunk, get_or-zip2, get_or_narrower, get_or_wider, length-chunk, length-zip2}
+use lib.Lanes.{Each1, chunk, digits_l, mask_l, number_l, zip2}
 use Rattle.std.proofs.Common.{ap₂, inl, inr}
 use Rattle.std.proofs.Math.ListN.{get_or-append}
 use Rattle.std.proofs.lemmas.Bool.{cases_lt, eq-eqb, eqb-false, eqb-true, ne_eqb}
@@ -23,12 +23,20 @@ number_of_two p (x ∷ []) e = absurd (omega (arith, e))
 number_of_two p (x ∷ y ∷ []) e = omega arith
 number_of_two p (x ∷ y ∷ z ∷ zs) e = absurd (omega (arith, e))
 
--- eight of n words from an offset on
-pub eight_at : (words : List ℕ) (n s j : ℕ) → s + 8 ≤ n → j < 8 → get_or (chunk 0 8 (take (n - s) (drop s words))) j 0 ≡ get_or words (s + j) 0
-eight_at words n s j room low =
-    get_or-chunk 0 8 (take (n - s) (drop s words)) j 0 low
+-- m of n words from an offset on
+pub part_at : (words : List ℕ) (n s m j : ℕ) → s + m ≤ n → j < m → get_or (chunk 0 m (take (n - s) (drop s words))) j 0 ≡ get_or words (s + j) 0
+part_at words n s m j room low =
+    get_or-chunk 0 m (take (n - s) (drop s words)) j 0 low
     ∙ (get_or-take (n - s) (drop s words) (0 + j) 0 (omega (arith, room, low))
     ∙ (get_or-drop s words (0 + j) 0 ∙ ap (λ k. get_or words (s + k) 0) (omega arith)))
+
+-- an operation with one number, in each lane
+pub splat_at : (n : ℕ) (op : ℕ → ℕ → ℕ) (xs : List ℕ) (c i : ℕ) → length xs ≡ n → i < n → get_or (zip2 op xs (replicate n c)) i 0 ≡ op (get_or xs i 0) c
+splat_at n op xs c i long low =
+    get_or-zip2 op xs (replicate n c) i 0 0 0 (omega (arith, low, long)) (omega (arith, low, length-replicate {A = ℕ} n c)) ∙ ap (op (get_or xs i 0)) (get_or-replicate {A = ℕ} n i c 0 low)
+
+pub splat_long : (n : ℕ) (op : ℕ → ℕ → ℕ) (xs : List ℕ) (c : ℕ) → length xs ≡ n → length (zip2 op xs (replicate n c)) ≡ n
+splat_long n op xs c long = length-zip2 op xs (replicate n c) (long ∙ sym (length-replicate {A = ℕ} n c)) ∙ long
 
 -- eight words
 module _ (xs : List ℕ) (long : length xs ≡ 8) (fits : Each1 (Fits w64) xs) where

@@ -4,8 +4,7 @@ use Rattle.std.proofs.lemmas.Bool.{cases_lt, eq-eqb}
 use Rattle.std.proofs.lemmas.List.{ext_get_or, get_or-append_right, get_or-replicate, get_or_append_left, get_or_past, length-replicate}
 use Rattle.std.proofs.lemmas.List.FromFn.{get_or-map-range_with_len}
 use Rattle.std.proofs.Common.{length-append}
-use Rattle.std.proofs.lemmas.Simd.{get_or-chunk}
-use lib.Lanes.{chunk, digits_l, number_l}
+use lib.Lanes.{digits_l, number_l}
 use Rattle.compound_node.specs.Nodes.{IsLawfulNode, NodeView, head_of}
 use Rattle.record_words.specs.Kinds.{AreNearLanes, bit_mask, first_byte, head_size, index_lanes, kind_of, lane_words, mask_lanes, near_position, rows_a_word, rows_from}
 use Rattle.record_words.specs.Node.{head_words}
@@ -20,14 +19,9 @@ use Rattle.record_words.proofs.NearKinds.{IsNearKind, index_words, lanes_small, 
 use Rattle.record_words.proofs.OfKinds.{AreNear, are_near_unless_wide, has_near_lanes, narrow_few}
 use Rattle.record_words.proofs.TellingHead.{index_small, index_word, indexes_long, mask_small, mask_word, masks_long, near_row, row_word_is}
 
--- words in front, and behind a place
+-- words in front
 pub front_at : (n : ℕ) (all words : List ℕ) → take n all ≡ words → (j : ℕ) → j < n → get_or words j 0 ≡ get_or all j 0
 front_at n all words same j low = ap (λ (ws : List ℕ). get_or ws j 0) (sym same) ∙ get_or-take n all j 0 low
-
-pub behind_at : (from n : ℕ) (words : List ℕ) (k : ℕ) → k < n → get_or (chunk 0 n (take n (drop from words))) k 0 ≡ get_or words (from + k) 0
-behind_at from n words k low =
-    get_or-chunk 0 n (take n (drop from words)) k 0 low
-    ∙ (get_or-take n (drop from words) (0 + k) 0 (omega (arith, low)) ∙ (get_or-drop from words (0 + k) 0 ∙ ap (λ i. get_or words (from + i) 0) (omega arith)))
 
 -- what was read of two words as sixteen bytes
 abbrev pub Reads : ℕ → ℕ → List ℕ → Type 0

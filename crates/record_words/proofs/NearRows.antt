@@ -6,7 +6,7 @@ use Rattle.std.specs.List.{range_with_len}
 use Rattle.std.proofs.lemmas.Bool.{cases_lt, eq-eqb, le-ltb, lt-ltb}
 use Rattle.std.proofs.lemmas.List.{get_or-map, get_or-replicate, get_or_default, get_or_past, length-map, length-replicate}
 use Rattle.std.proofs.lemmas.List.FromFn.{get_or-map-range_with_len, length-map-range_with_len}
-use Rattle.std.proofs.lemmas.Simd.{bit_mask_l, get_or-sel_l, get_or-zip2, length-sel_l, tops_compared, zip2_splat}
+use Rattle.std.proofs.lemmas.Simd.{bit_mask_l, get_or-sel_l, length-sel_l, tops_compared, zip2_splat}
 use mir.Syntax.{Width}
 use mir.Val.{bits, hbits}
 use lib.Count.{count_leading_zeros}
@@ -17,7 +17,7 @@ use Rattle.partial_keys.specs.Rows.{complies, dense_of, with_unused}
 use Rattle.node_tries.specs.Piece.{leads_to}
 use Rattle.record_words.specs.Packed.{row_lanes}
 use Rattle.partial_keys.proofs.Lanes.{lacks_none, lacks_none-complies, lanes_lack_none}
-use Rattle.record_words.proofs.Lanes.{row_lanes_read}
+use Rattle.record_words.proofs.Lanes.{row_lanes_read, splat_at}
 use Rattle.record_words.proofs.Lawful.{row-lt}
 use Rattle.record_words.proofs.Searched.{dense-lt, first_row, leads, row_at_place, row_by_high}
 use Rattle.record_words.proofs.NearKinds.{high_small, row_lane_is, rows_long}
@@ -96,8 +96,8 @@ up a b = a * 2 ^ b % 2 ^ 32
 
 pub moved_up : (low : ℕ) (xs : List ℕ) (i x : ℕ) → length xs ≡ 32 → i < 32 → get_or xs i 0 * 2 ^ low ≡ x → x < 2 ^ 32 → get_or (zip2 up (map (λ a. a) xs) (replicate 32 low)) i 0 ≡ x
 moved_up low xs i x long inside is small =
-    get_or-zip2 up (map (λ a. a) xs) (replicate 32 low) i 0 0 0 (omega (arith, length-map {A = ℕ} xs (λ a. a), long, inside)) (omega (arith, length-replicate {A = ℕ} 32 low, inside))
-    ∙ (ap₂ up (get_or-map (λ a. a) xs i 0 0 (omega (arith, long, inside))) (get_or-replicate {A = ℕ} 32 i low 0 inside) ∙ (ap (λ y. y % 2 ^ 32) is ∙ omega (arith, small)))
+    splat_at 32 up (map (λ a. a) xs) low i (length-map {A = ℕ} xs (λ a. a) ∙ long) inside
+    ∙ (ap (λ y. up y low) (get_or-map (λ a. a) xs i 0 0 (omega (arith, long, inside))) ∙ (ap (λ y. y % 2 ^ 32) is ∙ omega (arith, small)))
 
 -- ---- lanes before a place, and unused ones behind
 module _ (rows : List ℕ) (count : ℕ) (long : length rows ≡ 32) where

@@ -8,6 +8,7 @@ use Rattle.std.proofs.lemmas.Simd.{Each1-from_get_or, Each1-get_or, SwzOk, SwzOk
 use lib.Lanes.{Each1, pick_l, sel_l, top, zip2}
 use Rattle.record_words.specs.Kinds.{HasNearLanes, bit_mask, distance_from, first_byte, index_lanes, mask_lanes, near_position, with_free_to_16}
 use Rattle.record_words.specs.declared.near.TheConstants.{BIT_OF_HIGH_MASK, BIT_OF_LOW_MASK, MASKS}
+use Rattle.record_words.proofs.Lanes.{splat_at, splat_long}
 use Rattle.record_words.proofs.Lawful.{get_or-padded, small_below}
 use Rattle.record_words.proofs.NearLanes.{bit_read, first_lowest, lane_is, lane_read, position_read}
 use Rattle.record_words.proofs.OfKinds.{AreNear, near_of}
@@ -60,7 +61,7 @@ module _ (positions : List ℕ) (long : length positions ≡ 16) (first : ℕ) (
   differences = zip2 less16 positions (replicate 16 (9 * first))
 
   differences_long : length differences ≡ 16
-  differences_long = length-zip2 less16 positions (replicate 16 (9 * first)) (long ∙ sym (length-replicate {A = ℕ} 16 (9 * first))) ∙ long
+  differences_long = splat_long 16 less16 positions (9 * first) long
 
   abbrev pub apart : List ℕ
   apart = sel_l (same_tops positions 65535) (replicate 16 0) differences
@@ -72,9 +73,7 @@ module _ (positions : List ℕ) (long : length positions ≡ 16) (first : ℕ) (
   apart_at i low =
       chosen_at positions long 65535 (replicate 16 0) differences (length-replicate {A = ℕ} 16 0) differences_long i low
       ∙ ap₂ (λ z d. cond (eqb (get_or positions i 0) 65535) z d) (get_or-replicate {A = ℕ} 16 i 0 0 low)
-      (get_or-zip2 less16 positions (replicate 16 (9 * first)) i 0 0 0 (omega (arith, low, long)) (omega (arith, low, length-replicate {A = ℕ} 16 (9 * first)))
-      ∙ (ap (less16 (get_or positions i 0)) (get_or-replicate {A = ℕ} 16 i (9 * first) 0 low)
-      ∙ ap (λ m. (get_or positions i 0 + (2 ^ 16 - m)) % 2 ^ 16) (let e : 9 * first ≡ 9 * first % 2 ^ 16 = omega (arith, small) in e)))
+      (splat_at 16 less16 positions (9 * first) i long low ∙ ap (λ m. (get_or positions i 0 + (2 ^ 16 - m)) % 2 ^ 16) (let e : 9 * first ≡ 9 * first % 2 ^ 16 = omega (arith, small) in e))
 
 -- ---- from distances to lanes
 abbrev pub mul16 : ℕ → ℕ → ℕ
@@ -91,16 +90,13 @@ module _ (ds : List ℕ) (long : length ds ≡ 16) (near : (i : ℕ) → i < 16 
   ninths = zip2 down (zip2 mul16 ds (replicate 16 57)) (replicate 16 9)
 
   products_long : length (zip2 mul16 ds (replicate 16 57)) ≡ 16
-  products_long = length-zip2 mul16 ds (replicate 16 57) (long ∙ sym (length-replicate {A = ℕ} 16 57)) ∙ long
+  products_long = splat_long 16 mul16 ds 57 long
 
   pub ninths_long : length ninths ≡ 16
-  ninths_long = length-zip2 down (zip2 mul16 ds (replicate 16 57)) (replicate 16 9) (products_long ∙ sym (length-replicate {A = ℕ} 16 9)) ∙ products_long
+  ninths_long = splat_long 16 down (zip2 mul16 ds (replicate 16 57)) 9 products_long
 
   pub ninth_at : (i : ℕ) → i < 16 → get_or ninths i 0 ≡ get_or ds i 0 / 9
-  ninth_at i low =
-      get_or-zip2 down (zip2 mul16 ds (replicate 16 57)) (replicate 16 9) i 0 0 0 (omega (arith, low, products_long)) (omega (arith, low, length-replicate {A = ℕ} 16 9))
-      ∙ (ap₂ down (get_or-zip2 mul16 ds (replicate 16 57) i 0 0 0 (omega (arith, low, long)) (omega (arith, low, length-replicate {A = ℕ} 16 57)) ∙ ap (mul16 (get_or ds i 0)) (get_or-replicate {A = ℕ} 16 i 57 0 low))
-      (get_or-replicate {A = ℕ} 16 i 9 0 low) ∙ ninth (get_or ds i 0) (near i low))
+  ninth_at i low = splat_at 16 down (zip2 mul16 ds (replicate 16 57)) 9 i products_long low ∙ (ap (λ p. down p 9) (splat_at 16 mul16 ds 57 i long low) ∙ ninth (get_or ds i 0) (near i low))
 
   abbrev pub wholes : List ℕ
   wholes = zip2 mul16 ninths (replicate 16 9)
@@ -109,7 +105,7 @@ module _ (ds : List ℕ) (long : length ds ≡ 16) (near : (i : ℕ) → i < 16 
   rests = zip2 less16 ds wholes
 
   wholes_long : length wholes ≡ 16
-  wholes_long = length-zip2 mul16 ninths (replicate 16 9) (ninths_long ∙ sym (length-replicate {A = ℕ} 16 9)) ∙ ninths_long
+  wholes_long = splat_long 16 mul16 ninths 9 ninths_long
 
   pub rests_long : length rests ≡ 16
   rests_long = length-zip2 less16 ds wholes (long ∙ sym wholes_long) ∙ long
@@ -117,8 +113,7 @@ module _ (ds : List ℕ) (long : length ds ≡ 16) (near : (i : ℕ) → i < 16 
   pub rest_at : (i : ℕ) → i < 16 → get_or rests i 0 ≡ get_or ds i 0 % 9
   rest_at i low =
       let d : ℕ = get_or ds i 0 in
-      let part : get_or wholes i 0 ≡ d / 9 * 9 % 2 ^ 16 =
-      get_or-zip2 mul16 ninths (replicate 16 9) i 0 0 0 (omega (arith, low, ninths_long)) (omega (arith, low, length-replicate {A = ℕ} 16 9)) ∙ ap₂ mul16 (ninth_at i low) (get_or-replicate {A = ℕ} 16 i 9 0 low) in
+      let part : get_or wholes i 0 ≡ d / 9 * 9 % 2 ^ 16 = splat_at 16 mul16 ninths 9 i ninths_long low ∙ ap (λ x. mul16 x 9) (ninth_at i low) in
       get_or-zip2 less16 ds wholes i 0 0 0 (omega (arith, low, long)) (omega (arith, low, wholes_long)) ∙ (ap (less16 d) part ∙ omega (arith, near i low))
 
   pub ninths_fit : Each1 (Fits w8) ninths
@@ -217,16 +212,16 @@ module _ (masks : List ℕ) (long : length masks ≡ 16) (fits : Each1 (Fits w8)
   highs = zip2 down masks (replicate 16 4)
 
   lows_long : length lows ≡ 16
-  lows_long = length-zip2 bit_and masks (replicate 16 15) (long ∙ sym (length-replicate {A = ℕ} 16 15)) ∙ long
+  lows_long = splat_long 16 bit_and masks 15 long
 
   highs_long : length highs ≡ 16
-  highs_long = length-zip2 down masks (replicate 16 4) (long ∙ sym (length-replicate {A = ℕ} 16 4)) ∙ long
+  highs_long = splat_long 16 down masks 4 long
 
   low_at : (i : ℕ) → i < 16 → get_or lows i 0 ≡ bit_and (get_or masks i 0) 15
-  low_at i low = get_or-zip2 bit_and masks (replicate 16 15) i 0 0 0 (omega (arith, low, long)) (omega (arith, low, length-replicate {A = ℕ} 16 15)) ∙ ap (bit_and (get_or masks i 0)) (get_or-replicate {A = ℕ} 16 i 15 0 low)
+  low_at i low = splat_at 16 bit_and masks 15 i long low
 
   high_at : (i : ℕ) → i < 16 → get_or highs i 0 ≡ get_or masks i 0 / 2 ^ 4
-  high_at i low = get_or-zip2 down masks (replicate 16 4) i 0 0 0 (omega (arith, low, long)) (omega (arith, low, length-replicate {A = ℕ} 16 4)) ∙ ap (down (get_or masks i 0)) (get_or-replicate {A = ℕ} 16 i 4 0 low)
+  high_at i low = splat_at 16 down masks 4 i long low
 
   low_below : (i : ℕ) → i < 16 → get_or lows i 0 < 16
   low_below i low = omega (arith, low_at i low, and_le_r (get_or masks i 0) 15)
@@ -276,15 +271,13 @@ module _ (masks : List ℕ) (long : length masks ≡ 16) (fits : Each1 (Fits w8)
     indexes_same = map-id indexes
 
     bytes_long : length bytes_read ≡ 16
-    bytes_long = length-zip2 add16 (map (λ a. a) indexes) (replicate 16 first) (ap length indexes_same ∙ (indexes_long ∙ sym (length-replicate {A = ℕ} 16 first))) ∙ (ap length indexes_same ∙ indexes_long)
+    bytes_long = splat_long 16 add16 (map (λ a. a) indexes) first (ap length indexes_same ∙ indexes_long)
 
     byte_at : (i : ℕ) → i < 16 → get_or bytes_read i 0 ≡ (get_or indexes i 0 + first) % 2 ^ 16
-    byte_at i low =
-        get_or-zip2 add16 (map (λ a. a) indexes) (replicate 16 first) i 0 0 0 (omega (arith, low, ap length indexes_same, indexes_long)) (omega (arith, low, length-replicate {A = ℕ} 16 first))
-        ∙ ap₂ add16 (ap (λ (xs : List ℕ). get_or xs i 0) indexes_same) (get_or-replicate {A = ℕ} 16 i first 0 low)
+    byte_at i low = splat_at 16 add16 (map (λ a. a) indexes) first i (ap length indexes_same ∙ indexes_long) low ∙ ap (λ (xs : List ℕ). add16 (get_or xs i 0) first) indexes_same
 
     nines_long : length (zip2 mul16 bytes_read (replicate 16 9)) ≡ 16
-    nines_long = length-zip2 mul16 bytes_read (replicate 16 9) (bytes_long ∙ sym (length-replicate {A = ℕ} 16 9)) ∙ bytes_long
+    nines_long = splat_long 16 mul16 bytes_read 9 bytes_long
 
     rests_same : map (λ a. a) bits_read ≡ bits_read
     rests_same = map-id bits_read
@@ -296,7 +289,7 @@ module _ (masks : List ℕ) (long : length masks ≡ 16) (fits : Each1 (Fits w8)
     place_read_at i low =
         get_or-zip2 add16 (zip2 mul16 bytes_read (replicate 16 9)) (map (λ a. a) bits_read) i 0 0 0 (omega (arith, low, nines_long)) (omega (arith, low, ap length rests_same, bits_long))
         ∙ ap₂ add16
-        (get_or-zip2 mul16 bytes_read (replicate 16 9) i 0 0 0 (omega (arith, low, bytes_long)) (omega (arith, low, length-replicate {A = ℕ} 16 9)) ∙ ap₂ mul16 (byte_at i low) (get_or-replicate {A = ℕ} 16 i 9 0 low))
+        (splat_at 16 mul16 bytes_read 9 i bytes_long low ∙ ap (λ x. mul16 x 9) (byte_at i low))
         (ap (λ (xs : List ℕ). get_or xs i 0) rests_same ∙ bits_at i low)
 
     masks_same : map (λ a. a) masks ≡ masks

@@ -9,7 +9,7 @@ use Rattle.record_words.specs.HeadParts.{front_words}
 use Rattle.record_words.specs.Kinds.{kind_of}
 use Rattle.record_words.specs.Node.{head_words}
 use Rattle.record_words.specs.declared.kind.Kind.TheVariants.{Wide}
-use Rattle.record_words.proofs.Lanes.{column_lanes, eight_at, place_lanes_read}
+use Rattle.record_words.proofs.Lanes.{column_lanes, part_at, place_lanes_read}
 use Rattle.record_words.proofs.Spelled.{columns_counted, kind_of_one, lawful_one, one_of_kind, part_of_one}
 use Rattle.record_words.proofs.TellingHead.{wide_position}
 use Rattle.record_words.proofs.search.extract_dense_key.Goals as goal
@@ -26,7 +26,7 @@ module _ (words lanes : List ℕ) (long : length lanes ≡ 32) (each : (i : ℕ)
   columns_are : (take n lanes ≡ node.columns) × AreColumnLanes lanes n
   columns_are = column_lanes node.columns lanes n lawful.positions (is ∙ ap (λ w. w / 256 % 256) (word 0 (lit< tt)) ∙ columns_counted node lawful all refl)
       (place_lanes_read node lawful lanes long
-      (λ i low. each i low ∙ (ap (λ w. w / 2 ^ (16 * (i % 4)) % 2 ^ 16) (eight_at words 9 1 (i / 4) (lit≤ tt) (omega (arith, low)) ∙ word (1 + i / 4) (omega (arith, low)))
+      (λ i low. each i low ∙ (ap (λ w. w / 2 ^ (16 * (i % 4)) % 2 ^ 16) (part_at words 9 1 8 (i / 4) (lit≤ tt) (omega (arith, low)) ∙ word (1 + i / 4) (omega (arith, low)))
       ∙ wide_position node lawful all refl kinded i low)))
 
 pub extract_dense_key_by_lanes-requires : goal.extract_dense_key_by_lanes-requires

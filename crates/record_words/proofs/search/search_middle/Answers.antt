@@ -6,7 +6,8 @@ use Rattle.record_words.specs.Kinds.{AreNearLanes, kind_of}
 use Rattle.record_words.specs.Node.{head_words}
 use Rattle.record_words.specs.Packed.{row_lanes}
 use Rattle.record_words.specs.declared.kind.Kind.TheVariants.{Middle}
-use Rattle.record_words.proofs.NearHeads.{behind_at, front_at, middle_lanes, near_rows}
+use Rattle.record_words.proofs.Lanes.{part_at}
+use Rattle.record_words.proofs.NearHeads.{front_at, middle_lanes, near_rows}
 use Rattle.record_words.proofs.NearKinds.{middle_kind}
 use Rattle.record_words.proofs.NearRows.{lanes_lead, lanes_odd}
 use Rattle.record_words.proofs.OfKinds.{middle-not-wide, middle_few}
@@ -26,7 +27,7 @@ module _ (c : After-bytes_of_words-masks) (node : NodeView) (lawful : IsLawfulNo
 rows_are : (c : After-split_into_quarters-rows) (node : NodeView) → IsLawfulNode node → kind_of node.columns ≡ Middle → middle_words (head_of node) ≡ c.args.words.now → c.split_into_quarters-rows.result ≡ row_lanes 16 node.rows
 rows_are c node lawful kinded same =
     near_rows node lawful Middle middle_kind kinded c.args.words.now (front_at 13 (head_words (head_of node)) c.args.words.now same) c.split_into_quarters-rows.result c.split_into_quarters-rows.ensures.whole
-    (λ i low. c.split_into_quarters-rows.ensures.each i low ∙ ap (λ w. w / 2 ^ (16 * (i % 4)) % 2 ^ 16) (behind_at 5 8 c.args.words.now (i / 4) (omega (arith, low))))
+    (λ i low. c.split_into_quarters-rows.ensures.each i low ∙ ap (λ w. w / 2 ^ (16 * (i % 4)) % 2 ^ 16) (part_at c.args.words.now 13 5 8 (i / 4) (omega arith) (omega (arith, low))))
 
 pub extract_near-dense-requires : goal.extract_near-dense-requires
 extract_near-dense-requires c =

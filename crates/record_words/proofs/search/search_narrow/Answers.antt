@@ -9,7 +9,8 @@ use Rattle.record_words.specs.Kinds.{AreNearLanes, kind_of}
 use Rattle.record_words.specs.Node.{head_words}
 use Rattle.record_words.specs.Packed.{row_lanes}
 use Rattle.record_words.specs.declared.kind.Kind.TheVariants.{Narrow}
-use Rattle.record_words.proofs.NearHeads.{behind_at, front_at, narrow_lanes, narrow_rows}
+use Rattle.record_words.proofs.Lanes.{part_at}
+use Rattle.record_words.proofs.NearHeads.{front_at, narrow_lanes, narrow_rows}
 use Rattle.record_words.proofs.NearRows.{lanes_lead, lanes_odd}
 use Rattle.record_words.proofs.OfKinds.{narrow-not-wide, narrow_few}
 use Rattle.record_words.proofs.Spelled.{in_one}
@@ -32,7 +33,7 @@ rows_are : (c : After-bytes_in-rows) (node : NodeView) → IsLawfulNode node →
 rows_are c node lawful kinded same =
     let long : length c.args.words.now ≡ 7 = search rules in
     c.bytes_in-rows.ensures
-    ∙ narrow_rows node lawful kinded c.args.words.now (front_at 7 (head_words (head_of node)) c.args.words.now same) _ (four_long c.args.words.now long) (behind_at 3 4 c.args.words.now)
+    ∙ narrow_rows node lawful kinded c.args.words.now (front_at 7 (head_words (head_of node)) c.args.words.now same) _ (four_long c.args.words.now long) (λ k low. part_at c.args.words.now 7 3 4 k (omega arith) low)
 
 pub extract_near-dense-requires : goal.extract_near-dense-requires
 extract_near-dense-requires c =
