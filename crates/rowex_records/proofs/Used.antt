@@ -30,7 +30,8 @@ use Rattle.record_words.proofs.Nodes.{head_part, node_words-entry}
 use Rattle.record_words.proofs.HeadsByKind.{Tells}
 use Rattle.record_words.proofs.OfKinds.{OfKind, is_middle, is_narrow, is_wide, of_kind}
 use Rattle.record_words.proofs.Spelled.{entries_counted}
-use Rattle.record_words.proofs.TellingHead.{middle_rows_unused, middle_rows_used, narrow_rows_unused, narrow_rows_used, near_word_used, past_kind, told}
+use Rattle.record_words.proofs.NearKinds.{IsNearKind, middle_kind, narrow_kind}
+use Rattle.record_words.proofs.TellingHead.{near_rows_unused, near_rows_used, near_word_used, past_kind, told}
 use Rattle.rowex_records.specs.Records.{HaveBelow, unused_word}
 
 head_unused : (i : ℕ) → i < 25 → unused_word (i + 1) ≡ 2 ^ 64 - 1
@@ -195,43 +196,31 @@ module _ (node : NodeView) (words : List ℕ) (is_node : HasNodeWords node) (sam
     unused = λ i low top past. ⊎_elim (λ (last : i < all). ap (λ k. get_or words k 0) (let at : i ≡ all - 1 = omega (arith, past, last, is) in at) ∙ ones) (λ (after : all ≤ i). behind i low top after) (cases_lt i all);
   }
 
+  -- the words of columns and of rows in front, and the unused ones behind
+  near_used_to : (kind : Kind) (near : IsNearKind kind) → kind_of node.columns ≡ kind → (end all : ℕ) → 1 < all → all ≤ 25 →
+      ((q : ℕ) → rows_from kind + q < all - 1 → rows_a_word kind * q + 1 < length node.rows) → ((q : ℕ) → all ≤ rows_from kind + q → length node.rows ≤ rows_a_word kind * q) → rows_from kind ≤ all → EndsAt words all end → IsUsedTo end
+  near_used_to kind near e end all some few front back from last =
+      let used : (i : ℕ) → 1 ≤ i → i < 25 → i < all - 1 → get_or words i 0 ≢ 2 ^ 64 - 1 = λ i low top inside. ⊎_elim
+      (λ (column : i < rows_from kind). column_used (λ wide. near.other (sym e ∙ wide)) i low (subst (λ k. i < rows_from k) (sym e) column) top)
+      (λ (row : rows_from kind ≤ i).
+      let at : rows_from kind + (i - rows_from kind) ≡ i = omega (arith, row) in
+      word_used i top (subst (λ k. get_or (take 25 words) k 0 ≢ 2 ^ 64 - 1) at
+      (near_rows_used node lawful (take 25 words) head_words_are kind near e (i - rows_from kind) (front (i - rows_from kind) (omega (arith, at, inside))))))
+      (cases_lt i (rows_from kind)) in
+      let unused : (i : ℕ) → 1 ≤ i → i < 25 → all ≤ i → get_or words i 0 ≡ 2 ^ 64 - 1 = λ i low top past. ⊎_elim
+      (λ (row : i < head_size kind).
+      let at : rows_from kind + (i - rows_from kind) ≡ i = omega (arith, past, from) in
+      sym (in_head i top) ∙ (ap (λ k. get_or (take 25 words) k 0) (sym at)
+      ∙ near_rows_unused node lawful (take 25 words) head_words_are kind near e (i - rows_from kind) (omega (arith, row, at)) (back (i - rows_from kind) (omega (arith, at, past)))))
+      (λ (rest : head_size kind ≤ i). past_used i (subst (λ k. head_size k ≤ i) (sym e) rest) top)
+      (cases_lt i (head_size kind)) in
+      ends all end used unused some few last
+
   narrow_ends : kind_of node.columns ≡ Narrow → (end all : ℕ) → all ≡ 3 + (length node.rows + 8 - 1) / 8 → EndsAt words all end → IsUsedTo end
-  narrow_ends e end all is_all last =
-      let some : 1 ≤ length node.rows = rows_some in
-      let few : length node.rows ≤ 32 = room in
-      let other : kind_of node.columns ≢ Wide = λ w. cc in
-      let front : (i : ℕ) → 1 ≤ i → i < 25 → i < all - 1 → get_or words i 0 ≢ 2 ^ 64 - 1 = λ i low top inside. ⊎_elim
-      (λ (column : i < 3). column_used other i low (subst (λ k. i < rows_from k) (sym e) column) top)
-      (λ (row : 3 ≤ i).
-      let at : 3 + (i - 3) ≡ i = omega (arith, row) in
-      word_used i top (subst (λ k. get_or (take 25 words) k 0 ≢ 2 ^ 64 - 1) at (narrow_rows_used node lawful (take 25 words) head_words_are e (i - 3) (omega (arith, row, inside, is_all)))))
-      (cases_lt i 3) in
-      let behind : (i : ℕ) → 1 ≤ i → i < 25 → all ≤ i → get_or words i 0 ≡ 2 ^ 64 - 1 = λ i low top past. ⊎_elim
-      (λ (row : i < 7).
-      let at : 3 + (i - 3) ≡ i = omega (arith, past, is_all, some) in
-      sym (in_head i top) ∙ (ap (λ k. get_or (take 25 words) k 0) (sym at) ∙ narrow_rows_unused node lawful (take 25 words) head_words_are e (i - 3) (omega (arith, row)) (omega (arith, past, is_all))))
-      (λ (rest : 7 ≤ i). past_used i (subst (λ k. head_size k ≤ i) (sym e) rest) top)
-      (cases_lt i 7) in
-      ends all end front behind (omega (arith, is_all, some)) (omega (arith, is_all, few)) last
+  narrow_ends e end all is_all = near_used_to Narrow narrow_kind e end all (omega (arith, is_all, rows_some)) (omega (arith, is_all, room)) (λ q low. omega (arith, low, is_all)) (λ q past. omega (arith, past, is_all)) (omega (arith, is_all))
 
   middle_ends : kind_of node.columns ≡ Middle → (end all : ℕ) → all ≡ 5 + (length node.rows + 4 - 1) / 4 → EndsAt words all end → IsUsedTo end
-  middle_ends e end all is_all last =
-      let some : 1 ≤ length node.rows = rows_some in
-      let few : length node.rows ≤ 32 = room in
-      let other : kind_of node.columns ≢ Wide = λ w. cc in
-      let front : (i : ℕ) → 1 ≤ i → i < 25 → i < all - 1 → get_or words i 0 ≢ 2 ^ 64 - 1 = λ i low top inside. ⊎_elim
-      (λ (column : i < 5). column_used other i low (subst (λ k. i < rows_from k) (sym e) column) top)
-      (λ (row : 5 ≤ i).
-      let at : 5 + (i - 5) ≡ i = omega (arith, row) in
-      word_used i top (subst (λ k. get_or (take 25 words) k 0 ≢ 2 ^ 64 - 1) at (middle_rows_used node lawful (take 25 words) head_words_are e (i - 5) (omega (arith, row, inside, is_all)))))
-      (cases_lt i 5) in
-      let behind : (i : ℕ) → 1 ≤ i → i < 25 → all ≤ i → get_or words i 0 ≡ 2 ^ 64 - 1 = λ i low top past. ⊎_elim
-      (λ (row : i < 13).
-      let at : 5 + (i - 5) ≡ i = omega (arith, past, is_all, some) in
-      sym (in_head i top) ∙ (ap (λ k. get_or (take 25 words) k 0) (sym at) ∙ middle_rows_unused node lawful (take 25 words) head_words_are e (i - 5) (omega (arith, row)) (omega (arith, past, is_all))))
-      (λ (rest : 13 ≤ i). past_used i (subst (λ k. head_size k ≤ i) (sym e) rest) top)
-      (cases_lt i 13) in
-      ends all end front behind (omega (arith, is_all, some)) (omega (arith, is_all, few)) last
+  middle_ends e end all is_all = near_used_to Middle middle_kind e end all (omega (arith, is_all, rows_some)) (omega (arith, is_all, room)) (λ q low. omega (arith, low, is_all)) (λ q past. omega (arith, past, is_all)) (omega (arith, is_all))
 
   -- ---- a head of any kind
   first_is : get_or (head_words (head_of node)) 0 0 ≡ get_or words 0 0
