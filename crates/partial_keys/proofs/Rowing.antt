@@ -1,6 +1,6 @@
 -- What a new column and a new fork do to rows.
-use Rattle.std.proofs.Common.{Bool, List, [], ap, arith, bit_or, drop, eqb, false, length, map, refl, suc, sym, take, true, zero, ℕ, ◌*◌, ◌++◌, ◌+◌, ◌-◌, ◌<◌, ◌^◌, ◌||◌, ◌∙◌, ◌∷◌, ◌≡◌, ◌≤◌}
-use Rattle.std.proofs.lemmas.Bool.{eq-eqb, ne_eqb, or_left, or_right}
+use Rattle.std.proofs.Common.{Bool, List, [], ap, arith, bit_or, drop, false, length, map, refl, suc, sym, take, true, zero, ℕ, ◌*◌, ◌++◌, ◌+◌, ◌-◌, ◌<◌, ◌^◌, ◌||◌, ◌∙◌, ◌∷◌, ◌≡◌, ◌≤◌}
+use Rattle.std.proofs.lemmas.Bool.{eq-eqb, ne_eqb}
 use Rattle.std.proofs.lemmas.List.{length-drop, length-map, length-take-le, map-append}
 use Rattle.std.proofs.lemmas.Nat.{mod_low, shr_high}
 use Rattle.std.proofs.lemmas.Simd.{map-map}
@@ -12,7 +12,7 @@ use Rattle.partial_keys.specs.Spread.{spread_row, forked_rows}
 use Rattle.node_tries.proofs.Edits.{edited-map}
 use Rattle.node_tries.proofs.Growing.{affected_fits, paths-grown, forked_paths}
 use Rattle.node_tries.proofs.Paths.{NoneHas, length-paths}
-use Rattle.node_tries.proofs.Positions.{has_after, has-with_position}
+use Rattle.node_tries.proofs.Positions.{has-here, has-with_position, has_after}
 use Rattle.node_tries.proofs.Tests.{map_same}
 use Rattle.node_tries.specs.Growth.{affected_first, affected_count, grown, edited}
 use Rattle.node_tries.specs.Piece.{Piece, size, paths, RisesFrom}
@@ -79,10 +79,6 @@ column_bit (suc w) p low [] ys l a =
     let e : suc w - 1 - 0 ≡ w = omega arith in
     rw (eq-eqb p p refl, falses_after w p (p + 1) ys (omega arith) a.1, e) (omega arith)
 column_bit (suc w) p low (x ∷ xs) ys l a =
-    let after : x + 1 ≤ p = has_after (x + 1) p (xs ++ p ∷ ys) a.1 (has_mid xs ys p) in
+    let after : x + 1 ≤ p = has_after (x + 1) p (xs ++ p ∷ ys) a.1 (has-here xs ys p) in
     let e : suc w - 1 - suc (length xs) ≡ w - 1 - length xs = omega arith in
     rw (ne_eqb p x (omega arith), column_bit w p (x + 1) xs ys (omega arith) a.1, e) (omega arith)
-  where
-    has_mid : (xs ys : List ℕ) (p : ℕ) → has (xs ++ p ∷ ys) p ≡ true
-    has_mid [] ys p = or_left (eqb p p) (has ys p) (eq-eqb p p refl)
-    has_mid (x ∷ xs) ys p = or_right (eqb x p) (has (xs ++ p ∷ ys) p) (has_mid xs ys p)

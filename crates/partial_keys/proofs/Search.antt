@@ -30,7 +30,7 @@ unused_fail d (suc n) l e = or_none (complies d 4294967295) (any (complies d) (r
     or_none : (x y : Bool) → x ≡ false → y ≡ false → (x || y) ≡ false
     or_none x y f g = rw (f, g)
 
-code-even : (w : ℕ) (bs : List Bool) → length bs ≤ w → code (suc w) bs % 2 ≡ 0
+pub code-even : (w : ℕ) (bs : List Bool) → length bs ≤ w → code (suc w) bs % 2 ≡ 0
 code-even w [] h = refl
 code-even zero (b ∷ bs) h = absurd (omega arith)
 code-even (suc w) (true ∷ bs) h = omega (arith, code-even w bs (omega arith), pow-suc 2 w)

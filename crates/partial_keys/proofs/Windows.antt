@@ -74,11 +74,11 @@ bytes_lanes zero (p ∷ ps) e f = absurd (omega (arith, e))
 bytes_lanes (suc n) (p ∷ ps) e f = ap₂ (λ x xs. x ∷ xs) (one_byte p f.0.fits) (bytes_lanes n ps (omega (arith, e)) f.1)
 
 -- ---- look-ups
-abbrev every : (t : ℕ → Bool) (n : ℕ) → Bool
+abbrev pub every : (t : ℕ → Bool) (n : ℕ) → Bool
 every t zero = true
 every t (suc n) = t n && every t n
 
-every_one : (t : ℕ → Bool) (n : ℕ) → T (every t n) → (i : ℕ) → i < n → T (t i)
+pub every_one : (t : ℕ → Bool) (n : ℕ) → T (every t n) → (i : ℕ) → i < n → T (t i)
 every_one t zero h i low = absurd (omega arith)
 every_one t (suc n) h i low = elim (cases_lt i n) [ inl l ↦ every_one t n (second (t n) (every t n) h) i l | inr g ↦ subst (λ k. T (t k)) (omega (arith, g, low)) (first (t n) (every t n) h) ]
   where
@@ -278,17 +278,17 @@ mask_is p low = below_more P 8 (below_more P 7 (below_more P 6 (below_more P 5 (
     at : (k j : ℕ) → k ≡ j → {v : ℕ} → get_or MASKS j 0 ≡ v → get_or MASKS k 0 ≡ v
     at k j is known = ap (λ n. get_or MASKS n 0) is ∙ known
 
+pub same_bool : (a b : Bool) → T (beq a b) → a ≡ b
+same_bool true true h = refl
+same_bool true false h = absurd h
+same_bool false true h = absurd h
+same_bool false false h = refl
+
 -- what a mask misses in a byte
 mask_tells : (r w : ℕ) → r < 9 → w < 256 → eqb (bit_and (mask_of r) (255 - w)) 0 ≡ (eqb r 0 || eqb (bit_at w (8 - r)) 1)
 mask_tells r w low small =
-    same _ _ (every_one (λ k. beq (eqb (bit_and (mask_of r) (255 - k)) 0) (eqb r 0 || eqb (bit_at k (8 - r)) 1)) 256
+    same_bool _ _ (every_one (λ k. beq (eqb (bit_and (mask_of r) (255 - k)) 0) (eqb r 0 || eqb (bit_at k (8 - r)) 1)) 256
     (every_one (λ j. every (λ k. beq (eqb (bit_and (mask_of j) (255 - k)) 0) (eqb j 0 || eqb (bit_at k (8 - j)) 1)) 256) 9 tt r low) w small)
-  where
-    same : (a b : Bool) → T (beq a b) → a ≡ b
-    same true true h = refl
-    same true false h = absurd h
-    same false true h = absurd h
-    same false false h = refl
 
 module _ (key window : List ℕ) (first i p : ℕ) (some : 1 ≤ length key) (few : length key ≤ 240) (bytes : (k : ℕ) → get_or key k 0 < 256) (inside : i < 32)
     (holds : (k : ℕ) → k < 32 → get_or window k 0 ≡ get_or (with_zeros key) (first + k % 16) 0)

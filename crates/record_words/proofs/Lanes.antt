@@ -17,6 +17,12 @@ use Rattle.record_words.proofs.Lawful.{get_or-padded, length-with_unused}
 use Rattle.partial_keys.specs.Columns.{AreColumnLanes, IsColumns}
 use Rattle.partial_keys.specs.Rows.{with_unused}
 
+-- a list of one word
+pub one_of : (xs : List ℕ) → length xs ≡ 1 → xs ≡ get_or xs 0 0 ∷ []
+one_of [] long = absurd (omega (arith, long))
+one_of (x ∷ []) long = refl
+one_of (x ∷ y ∷ zs) long = absurd (omega (arith, long))
+
 number_of_two : (p : ℕ) (xs : List ℕ) → length xs ≡ 2 → number_l p xs ≡ get_or xs 0 0 + p * get_or xs 1 0
 number_of_two p [] e = absurd (omega (arith, e))
 number_of_two p (x ∷ []) e = absurd (omega (arith, e))

@@ -1,5 +1,5 @@
 -- The dense key for near columns: each lane tells its bit of the key, and the lanes are the highest bits of the dense key.
-use Rattle.std.proofs.Common.{ℕ, zero, suc, ◌≡◌, ◌≢◌, ◌+◌, ◌-◌, ◌*◌, ◌/◌, ◌%◌, ◌^◌, ◌<◌, ◌≤◌, ◌++◌, inl, inr, ⊎_elim, Bool, true, false, cond, ◌&&◌, ◌||◌, not, eqb, T, List, [], ◌∷◌, length, get_or, map, take, replicate, bit_and, refl, sym, ap, ap₂, subst, ◌∙◌, arith, w8}
+use Rattle.std.proofs.Common.{ℕ, zero, suc, ◌≡◌, ◌≢◌, ◌+◌, ◌-◌, ◌*◌, ◌/◌, ◌%◌, ◌^◌, ◌<◌, ◌≤◌, ◌++◌, ⊎_elim, Bool, true, false, cond, ◌&&◌, ◌||◌, not, eqb, List, [], ◌∷◌, length, get_or, map, take, replicate, bit_and, refl, sym, ap, ap₂, subst, ◌∙◌, arith, w8}
 use Rattle.std.proofs.Math.Nat.{pow-suc, pow-zero}
 use Rattle.std.proofs.Math.ListN.{get_or-append}
 use Rattle.std.proofs.Math.Seq.{take-suc}
@@ -15,6 +15,7 @@ use Rattle.key_bits.specs.Gather.{code}
 use Rattle.key_bits.specs.Key.{IsKey, with_zeros}
 use Rattle.key_bits.proofs.Gathering.{code-lt, code-shifted}
 use Rattle.partial_keys.specs.Rows.{dense_of}
+use Rattle.partial_keys.proofs.Windows.{every, every_one, same_bool}
 use Rattle.record_words.specs.Kinds.{AreNearLanes, bit_mask, first_byte, near_position}
 use Rattle.record_words.proofs.NearLanes.{first_lowest}
 use Rattle.record_words.proofs.OfKinds.{AreNear, IsNear, near_of}
@@ -49,31 +50,6 @@ mask_of_bits (suc n) ms (b ∷ bs) long few each =
     ap mask_l whole ∙ (mask_snoc front (get_or ms n false) ∙ omega (arith, rest, top))
 
 -- ---- the bit that a lane tells
-abbrev every : (t : ℕ → Bool) (n : ℕ) → Bool
-every t zero = true
-every t (suc n) = t n && every t n
-
-and_first : (a b : Bool) → T (a && b) → T a
-and_first true b h = tt
-and_first false b h = h
-
-and_second : (a b : Bool) → T (a && b) → T b
-and_second true b h = h
-and_second false b h = absurd h
-
-every_one : (t : ℕ → Bool) (n : ℕ) → T (every t n) → (i : ℕ) → i < n → T (t i)
-every_one t zero h i low = absurd (omega (arith, low))
-every_one t (suc n) h i low = elim (cases_lt i n) [
-  | inl l ↦ every_one t n (and_second (t n) (every t n) h) i l
-  | inr g ↦ subst (λ k. T (t k)) (omega (arith, g, low)) (and_first (t n) (every t n) h)
-]
-
-same_bool : (a b : Bool) → T (beq a b) → a ≡ b
-same_bool true true h = refl
-same_bool true false h = absurd h
-same_bool false true h = absurd h
-same_bool false false h = refl
-
 -- a byte has a bit of a mask exactly if its bit there is 1
 abbrev tells : ℕ → ℕ → Bool
 tells o byte = beq (not (eqb (bit_and byte (2 ^ (8 - (o + 1)))) 0)) (eqb (bit_at byte (8 - (o + 1))) 1)

@@ -14,6 +14,7 @@ use Rattle.record_words.specs.declared.kind.Kind.TheVariants.{Middle, Narrow}
 use Rattle.record_words.proofs.Digits.{base_8}
 use Rattle.record_words.proofs.HeadsByKind.{length-lane_words}
 use Rattle.record_words.proofs.LaneWords.{lanes_back}
+use Rattle.record_words.proofs.Lanes.{one_of}
 use Rattle.record_words.proofs.Lawful.{row-lt}
 use Rattle.record_words.proofs.NearKinds.{IsNearKind, index_words, lanes_small, last_lanes, middle_kind, narrow_kind, row_bits, row_lane_is, rows_long, word_in}
 use Rattle.record_words.proofs.OfKinds.{AreNear, are_near_unless_wide, has_near_lanes, narrow_few}
@@ -27,12 +28,7 @@ front_at n all words same j low = ap (λ (ws : List ℕ). get_or ws j 0) (sym sa
 abbrev pub Reads : ℕ → ℕ → List ℕ → Type 0
 Reads low high read = (lanes : List ℕ) → length lanes ≡ 16 → ((i : ℕ) → get_or lanes i 0 < 2 ^ 8) → lane_words 8 2 lanes ≡ low ∷ high ∷ [] → read ≡ lanes
 
--- ---- lists of one and of two words
-one_of : (xs : List ℕ) → length xs ≡ 1 → xs ≡ get_or xs 0 0 ∷ []
-one_of [] long = absurd (omega (arith, long))
-one_of (x ∷ []) long = refl
-one_of (x ∷ y ∷ zs) long = absurd (omega (arith, long))
-
+-- ---- a list of two words
 two_of : (xs : List ℕ) → length xs ≡ 2 → xs ≡ get_or xs 0 0 ∷ get_or xs 1 0 ∷ []
 two_of [] long = absurd (omega (arith, long))
 two_of (x ∷ []) long = absurd (omega (arith, long))

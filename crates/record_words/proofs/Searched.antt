@@ -1,6 +1,5 @@
 -- The highest of the first lanes that passes a test, where the test tells of each lane whether the row at its place complies.
-use Rattle.std.proofs.Common.{Bool, true, false, map, ℕ, zero, suc, ◌≡◌, ⊎_elim, ◌+◌, ◌-◌, ◌*◌, ◌/◌, ◌%◌, ◌^◌, ◌<◌, ◌≤◌, List, [], ◌∷◌, arith, bit_and, get_or, length, replicate, refl, sym, ap, subst, ◌∙◌}
-use Rattle.std.proofs.Math.Nat.{pow-suc}
+use Rattle.std.proofs.Common.{Bool, true, false, map, ℕ, suc, ◌≡◌, ⊎_elim, ◌+◌, ◌-◌, ◌*◌, ◌/◌, ◌%◌, ◌^◌, ◌<◌, ◌≤◌, List, [], arith, bit_and, get_or, length, replicate, refl, sym, ap, subst, ◌∙◌}
 use Rattle.std.proofs.lemmas.Bool.{cases_lt, eqb-true, ne_eqb}
 use Rattle.std.proofs.lemmas.List.{get_or-append_right, get_or-replicate, get_or_append_left, get_or-map, length-map}
 use Rattle.std.proofs.lemmas.Nat.{and_mask, shl-shr}
@@ -8,7 +7,7 @@ use Rattle.compound_node.proofs.Lawful.{head_leads, same_count}
 use Rattle.compound_node.specs.Nodes.{NodeView, IsLawfulNode, head_of, piece}
 use Rattle.key_bits.proofs.Gathering.{code-lt, code-shifted}
 use Rattle.key_bits.specs.Gather.{code}
-use Rattle.partial_keys.proofs.Search.{first_is_zero}
+use Rattle.partial_keys.proofs.Search.{code-even, first_is_zero}
 use Rattle.partial_keys.specs.Rows.{IsHighest, complies, dense_of, row_of, with_unused}
 use Rattle.node_tries.specs.Piece.{leads_to, paths}
 use Rattle.node_tries.specs.Positions.{has}
@@ -16,12 +15,6 @@ use Rattle.partial_keys.proofs.Lanes.{top_of_used}
 use Rattle.record_words.proofs.Lawful.{length-with_unused}
 use lib.Count.{count_leading_zeros}
 use lib.Lanes.{mask_l}
-
-code_even : (w : ℕ) (bs : List Bool) → length bs ≤ w → code (suc w) bs % 2 ≡ 0
-code_even w [] h = refl
-code_even zero (b ∷ bs) h = absurd (omega arith)
-code_even (suc w) (true ∷ bs) h = omega (arith, code_even w bs (omega arith), pow-suc 2 w)
-code_even (suc w) (false ∷ bs) h = omega (arith, code_even w bs (omega arith))
 
 module _ (node : NodeView) (lawful : IsLawfulNode node) where
   -- a dense key has 32 bits
@@ -52,7 +45,7 @@ module _ (node : NodeView) (lawful : IsLawfulNode node) where
     module _ (dense : ℕ) (bit : ℕ → Bool) (gathered : dense ≡ dense_of node.columns bit)
         (tells : (k : ℕ) → k < count → t (get_or lanes k 0) ≡ complies dense (get_or (with_unused node.rows) k 0)) where
       even : dense % 2 ≡ 0
-      even = ap (λ d. d % 2) gathered ∙ code_even 31 (map bit node.columns) (rw length-map lawful.positions.few)
+      even = ap (λ d. d % 2) gathered ∙ code-even 31 (map bit node.columns) (rw length-map lawful.positions.few)
 
       unused_fails : (k : ℕ) → count ≤ k → k < 32 → complies dense (get_or (with_unused node.rows) k 0) ≡ false
       unused_fails k past inside =

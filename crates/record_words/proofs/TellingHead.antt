@@ -33,7 +33,7 @@ bit_mask-le p = elim (cases_eq (p % 9) 0) [
 ]
 
 -- the mask tells which of the nine bits it is of
-mask_place : (o : ℕ) → o < 8 → count_leading_zeros 8 (2 ^ (8 - (o + 1))) ≡ o
+pub mask_place : (o : ℕ) → o < 8 → count_leading_zeros 8 (2 ^ (8 - (o + 1))) ≡ o
 unfolding count_leading_zeros
 mask_place =
     let P : ℕ → Type 0 = λ o. count_leading_zeros 8 (2 ^ (8 - (o + 1))) ≡ o in

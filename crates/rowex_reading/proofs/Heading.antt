@@ -25,6 +25,7 @@ use Rattle.tries.specs.Place.{shape}
 use Rattle.record_words.specs.declared.records.Rec.TheVariants.{Node as a_node}
 use Rattle.versions.specs.Heap.{Heap, NodeWords, IsCopied}
 use Rattle.versions.specs.State.{Stands, IsRecord, IsSameRecord, IsReach}
+use Rattle.versions.proofs.Heaps.{node_number}
 use Rattle.versions.proofs.States.{steady}
 use Rattle.rowex_core.specs.declared.known.Known.{Known}
 use Rattle.rowex_core.specs.Cores.{Core, IsLawful, IsSized, heap_of}
@@ -75,10 +76,7 @@ shape_is v lawful = shape_map (piece v) ∙ sym (piece_of_shown (Leaf 0) v.colum
 same_fixed : (heap : Heap) (n : ℕ) (x : Fixed) (b w : Tree) → IsRecord (a_node n) w → IsSameRecord (node n x b) w → IsCopied heap w → (heap.nodes n).fixed ≡ x
 same_fixed heap n x b (leaf m k v) r i f = absurd i
 same_fixed heap n x b (fork p y z) r i f = absurd i
-same_fixed heap n x b (node m y d) r i f = ap (λ z. (heap.nodes z).fixed) (number r) ∙ (ap (λ (z : NodeWords). z.fixed) f ∙ sym i.0)
-  where
-    number : {a b : ℕ} → a_node a ≡ a_node b → a ≡ b
-    number e = cc
+same_fixed heap n x b (node m y d) r i f = ap (λ z. (heap.nodes z).fixed) (node_number r) ∙ (ap (λ (z : NodeWords). z.fixed) f ∙ sym i.0)
 
 -- The first words of a node's head have been loaded, which tell all of them.
 module _ (layout : Layout) (k j : Known) (n : ℕ) (part words : List ℕ) (possible : IsPossible layout j) (loaded : AreLoaded k j (a_node n) 0 (λ o. o < length part) part)

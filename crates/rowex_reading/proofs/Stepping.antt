@@ -17,6 +17,7 @@ use Rattle.record_words.specs.declared.kind.Kind.{Kind}
 use Rattle.record_words.specs.declared.kind.Kind.TheVariants.{Middle, Narrow, Wide}
 use Rattle.record_words.specs.declared.numbers.HeadNumbers.{HeadNumbers}
 use Rattle.record_words.specs.Reading.{IsSpelling}
+use Rattle.record_words.proofs.Lanes.{one_of}
 use Rattle.record_words.proofs.Nodes.{length-head_words}
 use Rattle.record_words.proofs.TellingHead.{told}
 use Rattle.rowex_core.proofs.Owning.{recalls}
@@ -58,11 +59,6 @@ front_spelled layout k j n front possible loaded long wide m h led =
 abbrev pub begun : List ℕ → List ℕ → List ℕ
 begun first more = get_or first 0 0 ∷ (more ++ [])
 
-one_word : (first : List ℕ) → length first ≡ 1 → first ≡ get_or first 0 0 ∷ []
-one_word [] long = absurd (omega (arith, long))
-one_word (w ∷ []) long = refl
-one_word (w ∷ v ∷ ws) long = absurd (omega (arith, long))
-
 pub begun_long : (first more : List ℕ) → length (begun first more) ≡ 1 + length more
 begun_long first more = omega (arith, ap (λ (ws : List ℕ). length ws) (append-nil more))
 
@@ -70,7 +66,7 @@ pub begun_loaded : {k j i : Known} {n : ℕ} (first more : List ℕ) → length 
     AreLoaded k i (a_node n) 0 (λ o. o < length (begun first more)) (begun first more)
 begun_loaded {k} {j} {i} {n} first more long loaded behind =
     subst (λ (ws : List ℕ). AreLoaded k i (a_node n) 0 (λ o. o < length ws) ws) (ap (λ (ws : List ℕ). get_or first 0 0 ∷ ws) (sym (append-nil more)))
-    (both_loaded k j i (a_node n) (get_or first 0 0 ∷ []) more (subst (λ (ws : List ℕ). AreLoaded k j (a_node n) 0 (λ o. o < length ws) ws) (one_word first long) loaded) behind)
+    (both_loaded k j i (a_node n) (get_or first 0 0 ∷ []) more (subst (λ (ws : List ℕ). AreLoaded k j (a_node n) 0 (λ o. o < length ws) ws) (one_of first long) loaded) behind)
 
 -- a near head has been loaded, as far as its words say something
 pub near_read : (layout : Layout) (k j i : Known) (n : ℕ) (kind : Kind) (first more : List ℕ) → IsPossible layout i → AreLoaded k j (a_node n) 0 (λ o. o < length first) first →
