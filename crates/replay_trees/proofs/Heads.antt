@@ -17,33 +17,9 @@ use Rattle.record_words.proofs.Heads.{head_used, is_head, is_node, used_rows}
 use Rattle.record_words.proofs.Lawful.{length-with_unused, row_at-with_unused}
 use Rattle.replay_trees.proofs.Readings.{reads_none, reads_one}
 
--- ---- the columns and the rows so far
-one_column : (node : NodeView) (before after : List ℕ) (j p : ℕ) → j < length node.columns → before ≡ take j node.columns → p ≡ position_at node.columns j → after ≡ before ++ p ∷ [] → after ≡ take (j + 1) node.columns
-one_column node before after j p inside so_far is pushed =
-    pushed ∙ (ap (λ front. front ++ p ∷ []) so_far ∙ (ap (λ x. take j node.columns ++ x ∷ []) (is ∙ get_or_default node.columns j 65535 0 inside)
-    ∙ (sym (take-suc node.columns j 0 inside) ∙ ap (λ n. take n node.columns) (let e : suc j ≡ j + 1 = omega arith in e))))
-
-pub next_column : (words : List ℕ) (numbers : HeadNumbers) (before after : List ℕ) (j p : ℕ) → j < numbers.columns → InNodesOf words (λ node. AreNumbersOf numbers node → before ≡ take j node.columns) →
-    InNodesOf words (λ node. AreNumbersOf numbers node → p ≡ position_at node.columns j) → after ≡ before ++ p ∷ [] → InNodesOf words (λ node. AreNumbersOf numbers node → after ≡ take (j + 1) node.columns)
-next_column words numbers before after j p inside so_far is pushed = λ node lawful same told.
-    one_column node before after j p (omega (arith, inside, told.columns_are)) (so_far node lawful same told) (is node lawful same told) pushed
-
-pub all_columns : (words : List ℕ) (numbers : HeadNumbers) (columns : List ℕ) (j : ℕ) → (numbers.columns ≤ 31 → numbers.columns ≤ j) → InNodesOf words (λ node. AreNumbersOf numbers node → columns ≡ take j node.columns) →
-    InNodesOf words (λ node. AreNumbersOf numbers node → columns ≡ node.columns)
-all_columns words numbers columns j all so_far = λ node lawful same told.
-    let few : length node.columns ≤ 31 = lawful.positions.few in
-    so_far node lawful same told ∙ take_all j node.columns (omega (arith, told.columns_are, all (omega (arith, few, told.columns_are))))
-
+-- ---- the rows so far
 abbrev pub AreRowsBelow : List ℕ → HeadNumbers → List ℕ → ℕ → Type 0
 AreRowsBelow words numbers rows n = (length rows ≡ 32) × InNodesOf words (λ node. AreNumbersOf numbers node → (k : ℕ) → k < n → get_or rows k 0 ≡ row_at node.rows k)
-
-pub next_row : (words : List ℕ) (numbers : HeadNumbers) (rows : List ℕ) (n row : ℕ) → n < 32 → AreRowsBelow words numbers rows n → InNodesOf words (λ node. AreNumbersOf numbers node → row ≡ row_at node.rows n) → AreRowsBelow words numbers (set rows n row) (n + 1)
-next_row words numbers rows n row low (long, so_far) is = (
-  length-set rows n row ∙ long,
-  λ node lawful same told. below_more (λ k. get_or (set rows n row) k 0 ≡ row_at node.rows k) n
-      (λ k before. get_or-set_other rows n k row 0 (λ e. omega (arith, e, before)) ∙ so_far node lawful same told k before)
-      (get_or-set_same rows n row 0 (omega (arith, low, long)) ∙ is node lawful same told),
-)
 
 pub all_rows : (words : List ℕ) (numbers : HeadNumbers) (rows : List ℕ) (n : ℕ) → 32 ≤ n → AreRowsBelow words numbers rows n → InNodesOf words (λ node. AreNumbersOf numbers node → rows ≡ with_unused node.rows)
 all_rows words numbers rows n all (long, so_far) = λ node lawful same told.

@@ -1,7 +1,6 @@
 -- Each row is the one at its place.
-use Rattle.std.proofs.Common.{arith, refl}
-use Rattle.record_words.proofs.HeadsByKind.{row_within}
-use Rattle.replay_trees.proofs.Heads.{all_rows, next_row}
+use Rattle.std.proofs.Common.{arith}
+use Rattle.replay_trees.proofs.Heads.{all_rows}
 use Rattle.replay_trees.proofs.fixed.read_rows.Goals as goal
 
 pub returns : goal.returns
