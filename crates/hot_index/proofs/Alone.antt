@@ -16,10 +16,8 @@ use Rattle.rowex_writing.specs.Changes.{LacksNodes}
 use Rattle.rowex_writing.specs.Locks.{HasMetTaken}
 use Rattle.hot_index_calls.specs.Answers.{IsOvertaken}
 use Rattle.hot_index_calls.specs.Passes.{PassView}
+use Rattle.hot_index_calls.proofs.Refusing.{no_other}
 use Rattle.hot_index.specs.Statements.{IsNobodys, OnePassFullIsFull, OnePassIsNeverBusy, ThirdIsTaken}
-
-no_other : (passes pass other : ℕ) → passes ≡ 1 → pass < passes → other < passes → other ≡ pass
-no_other passes pass other one mine its = omega arith
 
 pub one_pass_is_never_busy : OnePassIsNeverBusy
 one_pass_is_never_busy layout key k j one conflict =

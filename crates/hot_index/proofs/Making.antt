@@ -12,19 +12,17 @@ use lib.ListN.{get_elem?}
 use Rattle.hot_index.specs.KeyCounts.{IsCountOf}
 use Rattle.hot_index.specs.declared.key_counts.KeyCount.{KeyCount}
 use Rattle.rowex_core.specs.declared.known.Known.{Known}
+use Rattle.insert_cases.proofs.Choosing.{some_injective}
 use Rattle.rowex_table.specs.Rule.{opening_of}
 use Rattle.rowex_table.specs.Seats.{TableView, SeatView, IsNewSeatOf}
 use Rattle.hot_index_calls.specs.Passes.{Owns, IsNewPass, IsSettled, PassView, pass_of}
 use Rattle.hot_index.specs.Passes.{AreSettled, HasNoCall}
 
-same : {A : Type 0} (x y : A) → Some x ≡ Some y → x ≡ y
-same x y e = cc
-
 -- what holds of each pass, by its number, where the passes are those of seats
 pub passes_of : (P : ℕ → PassView → Type 0) (seats : List SeatView) → ((q : ℕ) (s : SeatView) → get_elem? seats q ≡ some s → P q (pass_of s)) →
     (q : ℕ) (p : PassView) → slice_get (map pass_of seats) q ≡ Some p → P q p
 passes_of P [] h q p e = absurd cc
-passes_of P (s ∷ ss) h zero p e = subst (P zero) (same (pass_of s) p e) (h 0 s refl)
+passes_of P (s ∷ ss) h zero p e = subst (P zero) (some_injective e) (h 0 s refl)
 passes_of P (s ∷ ss) h (suc q) p e = passes_of (λ i. P (suc i)) ss (λ i t f. h (suc i) t f) q p e
 
 -- the seats that are left are of the passes from this one on

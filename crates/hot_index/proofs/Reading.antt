@@ -9,6 +9,7 @@ use Rattle.key_bits.specs.Key.{IsKey}
 use Rattle.record_words.specs.declared.layout.Layout.{Layout}
 use Rattle.rowex_core.specs.declared.event.Act.TheVariants.{ClearPin}
 use Rattle.rowex_core.specs.declared.event.Event.{Event}
+use Rattle.rowex_reading.specs.Reads.{Looks}
 use Rattle.rowex_reading.proofs.Led.{looked_at, looks_same}
 use Rattle.rowex_scanning.specs.Counts.{Scans, scan_loads}
 use Rattle.version_laws.specs.Directions.{IsLawfulBy}
@@ -17,7 +18,7 @@ use Rattle.rowex_scanning.specs.Tallies.{tally_of_number, tally_of_values}
 use Rattle.packed_pairs.specs.declared.direction.Direction.TheVariants.{Upwards}
 use Rattle.packed_pairs.specs.declared.direction.Direction.{Direction}
 use Rattle.rowex_table.specs.Runs.{StepsWith, silent}
-use Rattle.rowex_table.specs.Seats.{IsSeatOf, SeatView, TableView}
+use Rattle.rowex_table.specs.Seats.{IsPassOf, IsSeatOf, SeatView, TableView}
 use Rattle.version_laws.specs.Scan.{Range}
 use Rattle.epochs.specs.Runs.{Pins}
 use Rattle.tries.specs.Keys.{Key}
@@ -26,8 +27,11 @@ use Rattle.hot_index_calls.specs.Answers.{AreValuesListed, IsFoundBy, IsListedBy
 use Rattle.hot_index_calls.specs.Calls.{IsCountReadWith, IsListReadBy, IsRangeReadWith, IsScanReadBy, IsValuesReadWith, no_part}
 use Rattle.hot_index_calls.specs.Passes.{PassView, IsSettled, pass_of}
 use Rattle.hot_index.proofs.Found.{listed_found, part_found, taken_found}
-use Rattle.hot_index_calls.proofs.Noting.{looked}
-use Rattle.hot_index_calls.proofs.Scanned.{if_answered, if_refused, listed_scanned, listed_unnoted, scan_answered, scan_counted, scan_numbered, scan_refused, scan_valued}
+use Rattle.hot_index.specs.Passes.{IsSettledWith}
+use Rattle.hot_index.specs.declared.key_counts.KeyCount.{KeyCount}
+use Rattle.hot_index.proofs.Counted.{settled_on}
+use Rattle.hot_index_calls.proofs.Noting.{fits_then, looked}
+use Rattle.hot_index_calls.proofs.Scanned.{if_answered, if_refused, listed_scanned, listed_unnoted, scan_answered, scan_counted, scan_numbered, scan_refused, scan_settled, scan_valued}
 use Rattle.hot_index_calls.proofs.Tracing.{has_walked}
 
 module _ {G : Type 0} {range : Range} {index : TableView} {becomes : G → Event → G → Type 0} {a b : PassView × G} where
@@ -68,6 +72,17 @@ range_first {from = from} {upto = upto} {index = index} {a = a} {b = b} {IsLawfu
   steps = h.steps;
   read = h.read;
 }
+
+-- A pass that was pinned, and has looked since, may clear the pin.
+pub still_pinned : {G : Type 0} {table : TableView} {becomes : G → Event → G → Type 0} {e n : ℕ} {b c : SeatView × G} → Looks table becomes e n b c → IsPassOf table b.0 → IsSome b.0.known.pin → IsPassOf table c.0 × IsSome c.0.known.pin
+still_pinned {table = table} {b = b} {c = c} looks fits pinned = (fits_then table b.0 c.0 (looks_same looks) fits, subst IsSome (sym (looked_at looks).later.pin) pinned)
+
+-- Its count stays, with no note.
+pub scanned_on : {G : Type 0} {table : TableView} {becomes : G → Event → G → Type 0} {n m : ℕ} {a b c e : SeatView × G} (count : KeyCount) → Pins table becomes a b → Looks table becomes n m b c → StepsWith table becomes ClearPin silent c e →
+    IsSettledWith a.0.known count → IsSettledWith e.0.known count
+scanned_on {table = table} {a = a} {e = e} count pins looks end was =
+    let has = looked was.settled pins looks in
+    settled_on table.layout a.0 e.0 count (scan_refused a.0 e.0 was.settled has end.event) (scan_settled a.0 e.0 was.settled has end.event) was
 
 -- A pass that was settled has been pinned, has scanned into a list, and clears the pin now.
 pub list_read : {G : Type 0} (table : TableView) (becomes : G → Event → G → Type 0) (d : Direction) (g : Range) (pairs : List (Key × ℕ)) (r : Result Bool AllocError) {a b c e : SeatView × G} → IsSettled a.0.known →

@@ -126,7 +126,7 @@ told_after {table = table} {becomes = becomes} {counts = counts} {m = m} {b = b}
 }
 
 -- ---- in an index of one pass
-no_other : (passes pass other : ℕ) → passes ≡ 1 → pass < passes → other < passes → other ≡ pass
+pub no_other : (passes pass other : ℕ) → passes ≡ 1 → pass < passes → other < passes → other ≡ pass
 no_other passes pass other one mine its = omega arith
 
 never_busy : (layout : Layout) (k j : PassView) → layout.passes ≡ 1 → HasConflict layout k j → ⊥

@@ -117,14 +117,14 @@ module _ {G : Type 0} (table : TableView) (becomes : G → Event → G → Type 
 
   -- Nobody need be told.
 
-  step_untold : (act : Act) (said : Known → List Note) (a b : SeatView × G) → StepsWith table becomes act said a b → StepsWith table untold act said (a.0, tt) (b.0, tt)
+  pub step_untold : (act : Act) (said : Known → List Note) (a b : SeatView × G) → StepsWith table becomes act said a b → StepsWith table untold act said (a.0, tt) (b.0, tt)
   step_untold act said a b x = record { seat = x.seat; atomic = x.atomic; event = x.event; next = x.next; told = tt }
 
-  runs_untold : (acts : List Act) (a b : SeatView × G) → Runs table becomes acts a b → Runs table untold acts (a.0, tt) (b.0, tt)
+  pub runs_untold : (acts : List Act) (a b : SeatView × G) → Runs table becomes acts a b → Runs table untold acts (a.0, tt) (b.0, tt)
   runs_untold [] a b run = ap (λ (z : SeatView × G). (z.0, tt)) run
   runs_untold (act ∷ acts) a b run = ((run.0.0, tt), step_untold act (λ k. []) a run.0 run.1, runs_untold acts run.0 b run.2)
 
-  ends_untold : (acts : List Act) (last : Act) (said : Known → List Note) (a b : SeatView × G) → Ends table becomes acts last said a b → Ends table untold acts last said (a.0, tt) (b.0, tt)
+  pub ends_untold : (acts : List Act) (last : Act) (said : Known → List Note) (a b : SeatView × G) → Ends table becomes acts last said a b → Ends table untold acts last said (a.0, tt) (b.0, tt)
   ends_untold acts last said a b (m, run, end) = ((m.0, tt), runs_untold acts a m run, step_untold last said m b end)
 
   -- a call that ended on its seat

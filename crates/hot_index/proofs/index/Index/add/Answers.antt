@@ -3,17 +3,8 @@ use Rattle.finite_map.specs.declared.Call.TheVariants.{Add}
 use Rattle.hot_index.proofs.Held.{is_made}
 use Rattle.hot_index.proofs.index.Index.add.Goals as goal
 
-pub returns-clause-call : goal.returns-clause-call
-returns-clause-call g c = rw c.copy.ensures.same at c.retry_change_with.ensures.call
-
-pub returns-clause-cause : goal.returns-clause-cause
-returns-clause-cause g c = rw c.copy.ensures.same at c.retry_change_with.ensures.cause
-
-pub returns-clause-tries : goal.returns-clause-tries
-returns-clause-tries g c = rw c.copy.ensures.same at c.retry_change_with.ensures.tries
-
-pub returns-clause-room : goal.returns-clause-room
-returns-clause-room g c = rw c.copy.ensures.same at c.retry_change_with.ensures.room
-
-pub returns-clause-made : goal.returns-clause-made
-returns-clause-made g c = is_made c.args.self.now.layout c.args.pass.now c.retry_change_with.new.pass (Add c.copy.result c.args.delta) (λ may. may) c.retry_change_with.result c.retry_change_with.ensures.call
+pub returns : goal.returns
+returns g c =
+    let made = is_made c.args.self.now.layout c.args.pass.now c.retry_change_with.new.pass (Add c.copy.result c.args.delta) (λ may. may) c.retry_change_with.result c.retry_change_with.ensures.call in
+    let o = rw c.copy.ensures.same at c.retry_change_with.ensures in
+    record { own = o.own; call = o.call; cause = o.cause; tries = o.tries; told = o.told; room = o.room; made = made }

@@ -1,18 +1,16 @@
 -- The gets are noted as their pass clears the pin, and it has settled then.
-use Rattle.std.proofs.Common.{rules, ◌∙◌, IsSome, length, sym, ap, subst}
+use Rattle.std.proofs.Common.{rules, ◌∙◌, length, ap, subst}
 use Rattle.rowex_table.specs.Seats.{TableView}
-use Rattle.rowex_reading.proofs.Led.{looked_at, looks_same}
+use Rattle.rowex_reading.proofs.Led.{looks_same}
 use Rattle.hot_index_calls.specs.Passes.{PassView, pass_of}
 use Rattle.hot_index_calls.specs.Many.{AreNoted, HasGotMany, gets}
-use Rattle.hot_index_calls.proofs.Noting.{fits_then}
 use Rattle.hot_index_calls.proofs.Tracing.{has_got_many}
 use Rattle.hot_index.proofs.ManyNoted.{gets_counted, gets_noted}
+use Rattle.hot_index.proofs.Reading.{still_pinned}
 use Rattle.hot_index.proofs.index.Index.get_many_with.Goals as goal
 
 pub end_gets-requires : goal.end_gets-requires
-end_gets-requires g c =
-    let l = c.look_up_all.ensures.searched.looks in
-    λ κs le. (search rules, (fits_then c.self.inside.table c.pin.new.seat c.look_up_all.new.seat (looks_same l) c.pin.ensures.fits, subst IsSome (sym (looked_at l).later.pin) c.pin.ensures.pinned))
+end_gets-requires g c = λ κs le. (search rules, still_pinned c.look_up_all.ensures.searched.looks c.pin.ensures.fits c.pin.ensures.pinned)
 
 pub returns-clause-own : goal.returns-clause-own
 returns-clause-own g c =

@@ -1,14 +1,15 @@
 -- A get is noted as its pass clears the pin, and has settled then.
-use Rattle.std.proofs.Common.{rules, ◌∙◌, IsSome, sym, ap, subst}
+use Rattle.std.proofs.Common.{rules, ◌∙◌, ap, subst}
 use Rattle.finite_map.specs.declared.Call.TheVariants.{Get}
 use Rattle.rowex_table.specs.Seats.{TableView}
 use Rattle.hot_index_calls.specs.Passes.{PassView, pass_of}
 use Rattle.hot_index_calls.specs.Answers.{IsNoted, got}
 use Rattle.hot_index_calls.specs.Traces.{HasGot}
-use Rattle.rowex_reading.proofs.Led.{looked_at, looks_same}
-use Rattle.hot_index_calls.proofs.Noting.{fits_then, get_noted}
+use Rattle.rowex_reading.proofs.Led.{looks_same}
+use Rattle.hot_index_calls.proofs.Noting.{get_noted}
 use Rattle.hot_index_calls.proofs.Tracing.{has_got}
 use Rattle.hot_index.proofs.Counted.{got_on}
+use Rattle.hot_index.proofs.Reading.{still_pinned}
 use Rattle.hot_index.proofs.index.Index.get_with.Goals as goal
 
 pub returns-clause-call : goal.returns-clause-call
@@ -19,9 +20,7 @@ returns-clause-call g c =
     (get_noted c.args.key.now c.look_up-found.result c.pin.ensures.steps s.searched c.end_get.ensures.step c.pass.invariant.settled s.found).0)
 
 pub end_get-requires : goal.end_get-requires
-end_get-requires g c =
-    let l = c.look_up-found.ensures.searched.looks in
-    λ κs le. (search rules, (fits_then c.self.inside.table c.pin.new.seat c.look_up-found.new.seat (looks_same l) c.pin.ensures.fits, subst IsSome (sym (looked_at l).later.pin) c.pin.ensures.pinned))
+end_get-requires g c = λ κs le. (search rules, still_pinned c.look_up-found.ensures.searched.looks c.pin.ensures.fits c.pin.ensures.pinned)
 
 pub returns-clause-own : goal.returns-clause-own
 returns-clause-own g c =

@@ -1,31 +1,19 @@
 -- A scan ends as its pass clears the pin, whether it is answered or refused.
-use Rattle.std.proofs.Common.{rules, sym, subst}
-use Rattle.std.specs.Prelude.{IsSome}
+use Rattle.std.proofs.Common.{rules, subst}
 use Rattle.rowex_table.specs.Seats.{TableView}
 use Rattle.version_laws.specs.Scan.{Range}
-use Rattle.rowex_reading.proofs.Led.{looked_at, looks_same}
 use Rattle.rowex_scanning.specs.Scanning.{asked_range}
 use Rattle.version_laws.specs.Directions.{IsLawfulBy}
 use Rattle.hot_index_calls.specs.Calls.{IsListReadBy}
 use Rattle.hot_index_calls.specs.Passes.{PassView, pass_of}
-use Rattle.hot_index_calls.proofs.Noting.{fits_then, looked}
-use Rattle.hot_index.proofs.Counted.{settled_on}
-use Rattle.hot_index.proofs.Reading.{list_read}
-use Rattle.hot_index_calls.proofs.Scanned.{scan_refused, scan_settled}
+use Rattle.hot_index.proofs.Reading.{list_read, scanned_on, still_pinned}
 use Rattle.hot_index.proofs.index.Index.list_range.Goals as goal
 
 pub unpin-requires : goal.unpin-requires
-unpin-requires g c =
-    let l = c.scan_root-scan.ensures.looks.3 in
-    λ κs le. (search rules, (fits_then c.self.inside.table c.pin.new.seat c.scan_root-scan.new.seat (looks_same l) c.pin.ensures.fits, subst IsSome (sym (looked_at l).later.pin) c.pin.ensures.pinned))
+unpin-requires g c = λ κs le. (search rules, still_pinned c.scan_root-scan.ensures.looks.3 c.pin.ensures.fits c.pin.ensures.pinned)
 
 pub invariant_of-pass : goal.invariant_of-pass
-invariant_of-pass g c =
-    let looks = looked c.pass.invariant.settled c.pin.ensures.steps c.scan_root-scan.ensures.looks.3 in
-    let s = c.pass.inside.seat in
-    let t = c.unpin.new.seat in
-    let event = c.unpin.ensures.step.event in
-    settled_on c.self.inside.table.layout s t c.pass.inside.count (scan_refused s t c.pass.invariant.settled looks event) (scan_settled s t c.pass.invariant.settled looks event) c.pass.invariant
+invariant_of-pass g c = scanned_on c.pass.inside.count c.pin.ensures.steps c.scan_root-scan.ensures.looks.3 c.unpin.ensures.step c.pass.invariant
 
 pub returns : goal.returns
 returns g c =

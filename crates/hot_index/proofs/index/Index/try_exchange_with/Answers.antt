@@ -3,17 +3,8 @@ use Rattle.finite_map.specs.declared.Call.TheVariants.{Exchange}
 use Rattle.hot_index.proofs.Held.{is_busy}
 use Rattle.hot_index.proofs.index.Index.try_exchange_with.Goals as goal
 
-pub returns-clause-call : goal.returns-clause-call
-returns-clause-call g c = rw c.copy.ensures.same at c.try_change_with.ensures.call
-
-pub returns-clause-cause : goal.returns-clause-cause
-returns-clause-cause g c = rw c.copy.ensures.same at c.try_change_with.ensures.cause
-
-pub returns-clause-made : goal.returns-clause-made
-returns-clause-made g c = rw c.copy.ensures.same at c.try_change_with.ensures.made
-
-pub returns-clause-room : goal.returns-clause-room
-returns-clause-room g c = rw c.copy.ensures.same at c.try_change_with.ensures.room
-
-pub returns-clause-busy : goal.returns-clause-busy
-returns-clause-busy g c = is_busy c.args.self.now.layout c.args.pass.now c.try_change_with.new.pass (Exchange c.copy.result c.args.expected c.args.value) (λ may. may) c.try_change_with.result c.try_change_with.ensures.call
+pub returns : goal.returns
+returns g c =
+    let busy = is_busy c.args.self.now.layout c.args.pass.now c.try_change_with.new.pass (Exchange c.copy.result c.args.expected c.args.value) (λ may. may) c.try_change_with.result c.try_change_with.ensures.call in
+    let o = rw c.copy.ensures.same at c.try_change_with.ensures in
+    record { own = o.own; call = o.call; cause = o.cause; made = o.made; room = o.room; busy = busy }
