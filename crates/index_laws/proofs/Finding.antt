@@ -50,7 +50,7 @@ use Rattle.index_laws.specs.Joined.{AnInsertIsFound, HasGoneThrough, HaveEndedIn
 use Rattle.index_laws.proofs.Joining.{both_done, of_both}
 use Rattle.finite_map.specs.declared.Change.{Change}
 
--- Two passes and the core between their steps
+-- Two passes and the core between their steps: the one that steps, and the other
 
 record World : Type 0 where
   pub core : Core
@@ -58,109 +58,112 @@ record World : Type 0 where
   pub one : Known
   pub other : Known
 
--- a step of pass 0, with these notes
-abbrev first : World → Act → List Note → World
-first w act notes = record {
-  core = after w.core 0 act;
-  run = w.run ++ record { pass = 0; act = act } ∷ [];
+-- a step of the one, which is pass q, with these notes
+abbrev stepped : ℕ → World → Act → List Note → World
+stepped q w act notes = record {
+  core = after w.core q act;
+  run = w.run ++ record { pass = q; act = act } ∷ [];
   one = record (learned w.core act w.one) { notes = w.one.notes ++ notes };
   other = w.other;
 }
 
--- and of pass 1
-abbrev second : World → Act → List Note → World
-second w act notes = record {
-  core = after w.core 1 act;
-  run = w.run ++ record { pass = 1; act = act } ∷ [];
-  one = w.one;
-  other = record (learned w.core act w.other) { notes = w.other.notes ++ notes };
-}
+-- the other steps now
+abbrev turned : World → World
+turned w = record { core = w.core; run = w.run; one = w.other; other = w.one }
 
-record IsTrue (layout : Layout) (w : World) : Type 0 where
+record IsTrue (layout : Layout) (q p : ℕ) (w : World) : Type 0 where
   pub lawful : IsLawful w.core
   pub layout_is : w.core.layout ≡ layout
   pub led : EventsLead (opening layout) w.run w.core
   pub one : Knows w.core w.one
   pub other : Knows w.core w.other
-  pub zero_is : w.one.pass ≡ 0
-  pub one_is : w.other.pass ≡ 1
+  pub one_is : w.one.pass ≡ q
+  pub other_is : w.other.pass ≡ p
 
-first_true : (layout : Layout) (w : World) (act : Act) (notes : List Note) → IsTrue layout w → Legal w.core 0 act → IsTrue layout (first w act notes)
-first_true layout w act notes x legal =
-    let own : Legal w.core w.one.pass act = subst (λ p. Legal w.core p act) (sym x.zero_is) legal in
-    record {
-      lawful = stays_lawful w.core 0 act x.lawful legal;
-      layout_is = x.layout_is;
-      led = led_more (opening layout) w.run w.core 0 act x.led legal;
-      one = renoted (after w.core 0 act) (learned w.core act w.one) (w.one.notes ++ notes)
-          (subst (λ p. Knows (after w.core p act) (learned w.core act w.one)) x.zero_is (learns w.core w.one act x.lawful x.one own));
-      other = keeps w.core 0 act (Pass w.other) x.lawful legal (λ e. let no : 1 ≡ 0 = sym x.one_is ∙ e in absurd (omega (arith, no))) x.other;
-      zero_is = learned_pass w.core act w.one ∙ x.zero_is;
-      one_is = x.one_is;
-    }
-
-second_true : (layout : Layout) (w : World) (act : Act) (notes : List Note) → IsTrue layout w → Legal w.core 1 act → IsTrue layout (second w act notes)
-second_true layout w act notes x legal =
-    let own : Legal w.core w.other.pass act = subst (λ p. Legal w.core p act) (sym x.one_is) legal in
-    record {
-      lawful = stays_lawful w.core 1 act x.lawful legal;
-      layout_is = x.layout_is;
-      led = led_more (opening layout) w.run w.core 1 act x.led legal;
-      one = keeps w.core 1 act (Pass w.one) x.lawful legal (λ e. let no : 0 ≡ 1 = sym x.zero_is ∙ e in absurd (omega (arith, no))) x.one;
-      other = renoted (after w.core 1 act) (learned w.core act w.other) (w.other.notes ++ notes)
-          (subst (λ p. Knows (after w.core p act) (learned w.core act w.other)) x.one_is (learns w.core w.other act x.lawful x.other own));
-      zero_is = x.zero_is;
-      one_is = learned_pass w.core act w.other ∙ x.one_is;
-    }
+turned_true : (layout : Layout) (q p : ℕ) (w : World) → IsTrue layout q p w → IsTrue layout p q (turned w)
+turned_true layout q p w x = record {
+  lawful = x.lawful;
+  layout_is = x.layout_is;
+  led = x.led;
+  one = x.other;
+  other = x.one;
+  one_is = x.other_is;
+  other_is = x.one_is;
+}
 
 abbrev seat_at : TableId → ℕ → Known → List Event → SeatView
 seat_at id n k trace = record { table = id; id = n; known = k; trace = trace; asides = 0 }
 
-first_step : (table : TableView) (w : World) (act : Act) (notes : List Note) → IsTrue table.layout w → Legal w.core 0 act → IsAtomic act →
-    StepsWith table untold act (λ k. notes) (seat_at table.id 0 w.one w.run, tt) (seat_at table.id 0 (first w act notes).one (first w act notes).run, tt)
-first_step table w act notes x legal plain = record {
-  seat = (refl, refl, learned_pass w.core act w.one, refl);
-  event = record {
-    core = w.core;
-    lawful = x.lawful;
-    layout_is = x.layout_is;
-    knows = x.one;
-    legal = subst (λ p. Legal w.core p act) (sym x.zero_is) legal;
-    learned_is = refl;
-  };
-  next = record {
-    before = w.run;
-    led = x.led;
-    others = others_none w.one.pass w.run;
-    next_is = ap (λ p. w.run ++ record { pass = p; act = act } ∷ [])
-        (sym x.zero_is);
-  };
-  told = tt;
-  atomic = plain;
-}
+module _ (table : TableView) (q p : ℕ) (apart : p ≢ q) where
+  step_true : (w : World) (act : Act) (notes : List Note) → IsTrue table.layout q p w → Legal w.core q act → IsTrue table.layout q p (stepped q w act notes)
+  step_true w act notes x legal =
+      let own : Legal w.core w.one.pass act = subst (λ n. Legal w.core n act) (sym x.one_is) legal in
+      record {
+        lawful = stays_lawful w.core q act x.lawful legal;
+        layout_is = x.layout_is;
+        led = led_more (opening table.layout) w.run w.core q act x.led legal;
+        one = renoted (after w.core q act) (learned w.core act w.one) (w.one.notes ++ notes)
+            (subst (λ n. Knows (after w.core n act) (learned w.core act w.one)) x.one_is (learns w.core w.one act x.lawful x.one own));
+        other = keeps w.core q act (Pass w.other) x.lawful legal (λ e. apart (sym x.other_is ∙ e)) x.other;
+        one_is = learned_pass w.core act w.one ∙ x.one_is;
+        other_is = x.other_is;
+      }
 
-second_step : (table : TableView) (w : World) (act : Act) (notes : List Note) (trace : List Event) → IsTrue table.layout w → Legal w.core 1 act →
-    OthersStepOn 1 trace w.run → IsAtomic act →
-    StepsWith table untold act (λ k. notes) (seat_at table.id 1 w.other trace, tt) (seat_at table.id 1 (second w act notes).other (second w act notes).run, tt)
-second_step table w act notes trace x legal others plain = record {
-  seat = (refl, refl, learned_pass w.core act w.other, refl);
-  event = record {
-    core = w.core;
-    lawful = x.lawful;
-    layout_is = x.layout_is;
-    knows = x.other;
-    legal = subst (λ p. Legal w.core p act) (sym x.one_is) legal;
-    learned_is = refl;
-  };
-  next = record {
-    before = w.run;
-    led = x.led;
-    others = subst (λ p. OthersStepOn p trace w.run) (sym x.one_is) others;
-    next_is = ap (λ p. w.run ++ record { pass = p; act = act } ∷ []) (sym x.one_is);
-  };
-  told = tt;
-  atomic = plain;
-}
+  -- from where the seat's trace has got
+  one_step : (w : World) (act : Act) (notes : List Note) (trace : List Event) → IsTrue table.layout q p w → Legal w.core q act → OthersStepOn q trace w.run → IsAtomic act →
+      StepsWith table untold act (λ k. notes) (seat_at table.id q w.one trace, tt) (seat_at table.id q (stepped q w act notes).one (stepped q w act notes).run, tt)
+  one_step w act notes trace x legal others plain = record {
+    seat = (refl, refl, learned_pass w.core act w.one, refl);
+    event = record {
+      core = w.core;
+      lawful = x.lawful;
+      layout_is = x.layout_is;
+      knows = x.one;
+      legal = subst (λ n. Legal w.core n act) (sym x.one_is) legal;
+      learned_is = refl;
+    };
+    next = record {
+      before = w.run;
+      led = x.led;
+      others = subst (λ n. OthersStepOn n trace w.run) (sym x.one_is) others;
+      next_is = ap (λ n. w.run ++ record { pass = n; act = act } ∷ []) (sym x.one_is);
+    };
+    told = tt;
+    atomic = plain;
+  }
+
+-- several steps with no notes
+abbrev all_stepped : ℕ → World → List Act → World
+all_stepped q w [] = w
+all_stepped q w (act ∷ acts) = all_stepped q (stepped q w act []) acts
+
+abbrev AreLegal : ℕ → World → List Act → Type 0
+AreLegal q w [] = Unit {0}
+AreLegal q w (act ∷ acts) = Legal w.core q act × IsAtomic act × AreLegal q (stepped q w act []) acts
+
+both_legal : (q : ℕ) (w : World) (acts more : List Act) → AreLegal q w acts → AreLegal q (all_stepped q w acts) more → AreLegal q w (acts ++ more)
+both_legal q w [] more legal rest = rest
+both_legal q w (act ∷ acts) more legal rest = (legal.0, legal.1, both_legal q (stepped q w act []) acts more legal.2 rest)
+
+all_true : (table : TableView) (q p : ℕ) → p ≢ q → (w : World) (acts : List Act) → IsTrue table.layout q p w → AreLegal q w acts → IsTrue table.layout q p (all_stepped q w acts)
+all_true table q p apart w [] x legal = x
+all_true table q p apart w (act ∷ acts) x legal = all_true table q p apart (stepped q w act []) acts (step_true table q p apart w act [] x legal.0) legal.2
+
+all_run : (table : TableView) (q p : ℕ) → p ≢ q → (w : World) (acts : List Act) → IsTrue table.layout q p w → AreLegal q w acts →
+    Runs table untold acts (seat_at table.id q w.one w.run, tt) (seat_at table.id q (all_stepped q w acts).one (all_stepped q w acts).run, tt)
+all_run table q p apart w [] x legal = refl
+all_run table q p apart w (act ∷ acts) x legal =
+    let next : World = stepped q w act [] in (
+      (seat_at table.id q next.one next.run, tt),
+      one_step table q p apart w act [] w.run x legal.0 (others_none q w.run) legal.1,
+      all_run table q p apart next acts (step_true table q p apart w act [] x legal.0) legal.2,
+    )
+
+zero_not : let z : ℕ = 0 in z ≢ 1
+zero_not e = absurd (omega (arith, e))
+
+one_not : let z : ℕ = 1 in z ≢ 0
+one_not e = absurd (omega (arith, e))
 
 -- The steps
 
@@ -183,79 +186,41 @@ module _ (table : TableView) (two : table.layout.passes ≡ 2) (value : ℕ) (fi
   abbrev w0 : World
   w0 = record { core = opening layout; run = []; one = opening_of 0; other = opening_of 1 }
 
-  t0 : IsTrue layout w0
+  t0 : IsTrue layout 0 1 w0
   t0 = record {
     lawful = (opening_is_lawful layout).0;
     layout_is = refl;
     led = refl;
     one = (opening_is_new layout).sound.knows 0 zero_low;
     other = (opening_is_new layout).sound.knows 1 one_low;
-    zero_is = refl;
     one_is = refl;
+    other_is = refl;
   }
 
-  abbrev w1 : World
-  w1 = first w0 (LoadEpoch 1) []
-
-  l1 : Legal w0.core 0 (LoadEpoch 1)
-  l1 = (zero_low, refl)
-
-  t1 : IsTrue layout w1
-  t1 = first_true layout w0 (LoadEpoch 1) [] t0 l1
-
-  abbrev w2 : World
-  w2 = first w1 (SetPin 1) []
-
-  l2 : Legal w1.core 0 (SetPin 1)
-  l2 = (zero_low, (refl, refl, le_refl 1))
-
-  t2 : IsTrue layout w2
-  t2 = first_true layout w1 (SetPin 1) [] t1 l2
-
-  abbrev w3 : World
-  w3 = first w2 (LoadRef Root 0) []
-
-  l3 : Legal w2.core 0 (LoadRef Root 0)
-  l3 = (zero_low, refl)
-
-  t3 : IsTrue layout w3
-  t3 = first_true layout w2 (LoadRef Root 0) [] t2 l3
-
-  abbrev w4 : World
-  w4 = first w3 (Lock Anchor (state_word Live)) []
-
-  l4 : Legal w3.core 0 (Lock Anchor (state_word Live))
-  l4 = (zero_low, refl)
-
-  t4 : IsTrue layout w4
-  t4 = first_true layout w3 (Lock Anchor (state_word Live)) [] t3 l4
-
-  abbrev w5 : World
-  w5 = first w4 (LoadRef Root 0) []
-
-  l5 : Legal w4.core 0 (LoadRef Root 0)
-  l5 = (zero_low, refl)
-
-  t5 : IsTrue layout w5
-  t5 = first_true layout w4 (LoadRef Root 0) [] t4 l5
-
-  abbrev w6 : World
-  w6 = first w5 (Claim (a_leaf 0) (state_word Free)) []
-
-  l6 : Legal w5.core 0 (Claim (a_leaf 0) (state_word Free))
-  l6 = (zero_low, (some_leaf, refl))
-
-  t6 : IsTrue layout w6
-  t6 = first_true layout w5 (Claim (a_leaf 0) (state_word Free)) [] t5 l6
+  abbrev filling : List Act
+  filling = LoadEpoch 1 ∷ SetPin 1 ∷ LoadRef Root 0 ∷ Lock Anchor (state_word Live) ∷ LoadRef Root 0 ∷ Claim (a_leaf 0) (state_word Free) ∷ Fill (a_leaf 0) 1 value ∷ []
 
   abbrev w7 : World
-  w7 = first w6 (Fill (a_leaf 0) 1 value) []
+  w7 = all_stepped 0 w0 filling
 
-  l7 : Legal w6.core 0 (Fill (a_leaf 0) 1 value)
-  l7 = (zero_low, (some_leaf, refl, (le_refl 1, omega arith), fits, (let room = leaf_has_room layout 0 in omega (arith, room))))
+  may_fill : AreLegal 0 w0 filling
+  may_fill =
+      let room = leaf_has_room layout 0 in (
+        (zero_low, refl),
+        tt,
+        (
+          (zero_low, (refl, refl, le_refl 1)),
+          tt,
+          (
+            (zero_low, refl),
+            tt,
+            ((zero_low, refl), tt, ((zero_low, refl), tt, ((zero_low, (some_leaf, refl)), tt, ((zero_low, (some_leaf, refl, (le_refl 1, omega arith), fits, omega (arith, room))), tt, tt)))),
+          ),
+        ),
+      )
 
-  t7 : IsTrue layout w7
-  t7 = first_true layout w6 (Fill (a_leaf 0) 1 value) [] t6 l7
+  t7 : IsTrue layout 0 1 w7
+  t7 = all_true table 0 1 one_not w0 filling t0 may_fill
 
   abbrev spelled : List ℕ
   spelled = w7.core.words (a_leaf 0)
@@ -272,13 +237,13 @@ module _ (table : TableView) (two : table.layout.passes ≡ 2) (value : ℕ) (fi
   packed = (([], value), no_key, spells)
 
   abbrev w8 : World
-  w8 = first w7 (Ready (a_leaf 0)) []
+  w8 = stepped 0 w7 (Ready (a_leaf 0)) []
 
   l8 : Legal w7.core 0 (Ready (a_leaf 0))
   l8 = (zero_low, (some_leaf, refl, packed, (let room = leaf_has_room layout 0 in omega (arith, room))))
 
-  t8 : IsTrue layout w8
-  t8 = first_true layout w7 (Ready (a_leaf 0)) [] t7 l8
+  t8 : IsTrue layout 0 1 w8
+  t8 = step_true table 0 1 one_not w7 (Ready (a_leaf 0)) [] t7 l8
 
   -- The publish
 
@@ -295,13 +260,10 @@ module _ (table : TableView) (two : table.layout.passes ≡ 2) (value : ℕ) (fi
   l9 = may.may w8.core t8.lawful t8.layout_is t8.one
 
   abbrev w9 : World
-  w9 = first w8 (Publish Root 1) []
-
-  t9 : IsTrue layout w9
-  t9 = first_true layout w8 (Publish Root 1) [] t8 l9
+  w9 = stepped 0 w8 (Publish Root 1) []
 
   published : HasPublished w8.one w9.one change None [] []
-  published = may.gives w9.one [] (record { only = λ n h. inl h; each = λ n h. absurd h }) (first_step table w8 (Publish Root 1) [] t8 l9 tt).event
+  published = may.gives w9.one [] (record { only = λ n h. inl h; each = λ n h. absurd h }) (one_step table 0 1 one_not w8 (Publish Root 1) [] w8.run t8 l9 (others_none 0 w8.run) tt).event
 
   one_only : (a b : Change) (before : List Change) → a ∷ [] ≡ before ++ b ∷ [] → a ≡ b
   one_only a b [] e = cc
@@ -319,32 +281,26 @@ module _ (table : TableView) (two : table.layout.passes ≡ 2) (value : ℕ) (fi
   abbrev inserted : Note
   inserted = record { place = 0; call = Insert [] value; reply = Inserted }
 
-  abbrev w10 : World
-  w10 = first w9 (LoadEpoch 1) []
+  abbrev changing : List Act
+  changing = filling ++ Ready (a_leaf 0) ∷ Publish Root 1 ∷ LoadEpoch 1 ∷ Unlock Anchor ∷ []
 
-  l10 : Legal w9.core 0 (LoadEpoch 1)
-  l10 = (zero_low, refl)
-
-  t10 : IsTrue layout w10
-  t10 = first_true layout w9 (LoadEpoch 1) [] t9 l10
+  may_change : AreLegal 0 w0 changing
+  may_change = both_legal 0 w0 filling (Ready (a_leaf 0) ∷ Publish Root 1 ∷ LoadEpoch 1 ∷ Unlock Anchor ∷ []) may_fill (l8, tt, (l9, tt, ((zero_low, refl), tt, ((zero_low, refl), tt, tt))))
 
   abbrev w11 : World
-  w11 = first w10 (Unlock Anchor) []
+  w11 = all_stepped 0 w0 changing
 
-  l11 : Legal w10.core 0 (Unlock Anchor)
-  l11 = (zero_low, refl)
-
-  t11 : IsTrue layout w11
-  t11 = first_true layout w10 (Unlock Anchor) [] t10 l11
-
-  abbrev w12 : World
-  w12 = first w11 ClearPin (inserted ∷ [])
+  t11 : IsTrue layout 0 1 w11
+  t11 = all_true table 0 1 one_not w0 changing t0 may_change
 
   l12 : Legal w11.core 0 ClearPin
   l12 = (zero_low, refl)
 
-  t12 : IsTrue layout w12
-  t12 = first_true layout w11 ClearPin (inserted ∷ []) t11 l12
+  abbrev w12 : World
+  w12 = stepped 0 w11 ClearPin (inserted ∷ [])
+
+  t12 : IsTrue layout 1 0 (turned w12)
+  t12 = turned_true layout 0 1 w12 (step_true table 0 1 one_not w11 ClearPin (inserted ∷ []) t11 l12)
 
   -- The get
 
@@ -352,43 +308,31 @@ module _ (table : TableView) (two : table.layout.passes ≡ 2) (value : ℕ) (fi
   found = record { place = 1; call = Get []; reply = Value value }
 
   abbrev w13 : World
-  w13 = second w12 (LoadEpoch 1) []
-
-  l13 : Legal w12.core 1 (LoadEpoch 1)
-  l13 = (one_low, refl)
-
-  t13 : IsTrue layout w13
-  t13 = second_true layout w12 (LoadEpoch 1) [] t12 l13
-
-  abbrev w14 : World
-  w14 = second w13 (SetPin 1) []
-
-  l14 : Legal w13.core 1 (SetPin 1)
-  l14 = (one_low, (refl, refl, le_refl 1))
-
-  t14 : IsTrue layout w14
-  t14 = second_true layout w13 (SetPin 1) [] t13 l14
+  w13 = stepped 1 (turned w12) (LoadEpoch 1) []
 
   abbrev root : ℕ
-  root = entry_word w14.core.root
+  root = entry_word (stepped 1 w13 (SetPin 1) []).core.root
+
+  abbrev looking : List Act
+  looking = LoadEpoch 1 ∷ SetPin 1 ∷ LoadRef Root root ∷ []
+
+  may_look : AreLegal 1 (turned w12) looking
+  may_look = ((one_low, refl), tt, ((one_low, (refl, refl, le_refl 1)), tt, ((one_low, refl), tt, tt)))
 
   abbrev w15 : World
-  w15 = second w14 (LoadRef Root root) []
+  w15 = all_stepped 1 (turned w12) looking
 
-  l15 : Legal w14.core 1 (LoadRef Root root)
-  l15 = (one_low, refl)
-
-  t15 : IsTrue layout w15
-  t15 = second_true layout w14 (LoadRef Root root) [] t14 l15
-
-  abbrev w16 : World
-  w16 = second w15 ClearPin (found ∷ [])
+  t15 : IsTrue layout 1 0 w15
+  t15 = all_true table 1 0 zero_not (turned w12) looking t12 may_look
 
   l16 : Legal w15.core 1 ClearPin
   l16 = (one_low, refl)
 
-  t16 : IsTrue layout w16
-  t16 = second_true layout w15 ClearPin (found ∷ []) t15 l16
+  abbrev w16 : World
+  w16 = stepped 1 w15 ClearPin (found ∷ [])
+
+  t16 : IsTrue layout 1 0 w16
+  t16 = step_true table 1 0 zero_not w15 ClearPin (found ∷ []) t15 l16
 
   -- Both calls, as their contracts say
 
@@ -402,76 +346,13 @@ module _ (table : TableView) (two : table.layout.passes ≡ 2) (value : ℕ) (fi
   s1 = seat_at table.id 1 (opening_of 1) []
 
   abbrev e1 : SeatView
-  e1 = seat_at table.id 1 w16.other w16.run
+  e1 = seat_at table.id 1 w16.one w16.run
 
-  abbrev changing : List Act
-  changing =
-      LoadEpoch 1 ∷ SetPin 1 ∷ LoadRef Root 0 ∷ Lock Anchor (state_word Live) ∷ LoadRef Root 0 ∷ Claim (a_leaf 0) (state_word Free) ∷ Fill
-      (a_leaf 0) 1 value ∷ Ready (a_leaf 0) ∷
-      Publish Root 1 ∷ LoadEpoch 1 ∷ Unlock Anchor ∷ []
-
-  abbrev looking : List Act
-  looking = LoadEpoch 1 ∷ SetPin 1 ∷ LoadRef Root root ∷ []
-
-  abbrev one_at : World → SeatView × Unit {0}
-  one_at w = (seat_at table.id 0 w.one w.run, tt)
-
-  abbrev other_at : World → SeatView × Unit {0}
-  other_at w = (seat_at table.id 1 w.other w.run, tt)
-
-  changes_so : Runs table untold changing (s0, tt) (one_at w11)
-  changes_so = (
-    one_at w1,
-    first_step table w0 (LoadEpoch 1) [] t0 l1 tt,
-    (
-      one_at w2,
-      first_step table w1 (SetPin 1) [] t1 l2 tt,
-      (
-        one_at w3,
-        first_step table w2
-            (LoadRef Root 0) [] t2 l3 tt,
-        (
-          one_at w4,
-          first_step table w3 (Lock Anchor (state_word Live)) [] t3 l4 tt,
-          (
-            one_at w5,
-            first_step table w4 (LoadRef Root 0) [] t4 l5 tt,
-            (
-              one_at w6,
-              first_step table w5 (Claim (a_leaf 0) (state_word Free)) [] t5 l6 tt,
-              (
-                one_at w7,
-                first_step table w6 (Fill (a_leaf 0) 1 value) [] t6 l7 tt,
-                (
-                  one_at w8,
-                  first_step table w7 (Ready (a_leaf 0)) [] t7 l8 tt,
-                  (
-                    one_at w9,
-                    first_step table w8 (Publish Root 1) [] t8 l9 tt,
-                    (
-                      one_at w10,
-                      first_step table w9
-                          (LoadEpoch 1) [] t9 l10 tt,
-                      (one_at w11, first_step table w10 (Unlock Anchor) [] t10 l11 tt, refl),
-                    ),
-                  ),
-                ),
-              ),
-            ),
-          ),
-        ),
-      ),
-    ),
-  )
+  abbrev seat_of : ℕ → World → SeatView × Unit {0}
+  seat_of q w = (seat_at table.id q w.one w.run, tt)
 
   ends_so : Ends table untold changing ClearPin (λ k. inserted ∷ []) (s0, tt) (e0, tt)
-  ends_so = (one_at w11, changes_so, first_step table w11 ClearPin (inserted ∷ []) t11 l12 tt)
-
-  zero_not : let z : ℕ = 0 in z ≢ 1
-  zero_not e = absurd (omega (arith, e))
-
-  one_not : let z : ℕ = 1 in z ≢ 0
-  one_not e = absurd (omega (arith, e))
+  ends_so = (seat_of 0 w11, all_run table 0 1 one_not w0 changing t0 may_change, one_step table 0 1 one_not w11 ClearPin (inserted ∷ []) w11.run t11 l12 (others_none 0 w11.run) tt)
 
   behind_insert : OthersStepOn 1 [] w12.run
   behind_insert = (
@@ -481,20 +362,15 @@ module _ (table : TableView) (two : table.layout.passes ≡ 2) (value : ℕ) (fi
         (zero_not, (zero_not, (zero_not, (zero_not, (zero_not, (zero_not, (zero_not, (zero_not, (zero_not, (zero_not, (zero_not, (zero_not, tt)))))))))))),
   )
 
-  looks_so : Runs table untold looking (s1, tt) (other_at w15)
+  looks_so : Runs table untold looking (s1, tt) (seat_of 1 w15)
   looks_so = (
-    other_at w13,
-    second_step table w12 (LoadEpoch 1) [] [] t12 l13 behind_insert tt,
-    (
-      other_at w14,
-      second_step table w13 (SetPin 1) [] w13.run t13 l14
-          (others_none 1 w13.run) tt,
-      (other_at w15, second_step table w14 (LoadRef Root root) [] w14.run t14 l15 (others_none 1 w14.run) tt, refl),
-    ),
+    seat_of 1 w13,
+    one_step table 1 0 zero_not (turned w12) (LoadEpoch 1) [] [] t12 may_look.0 behind_insert tt,
+    all_run table 1 0 zero_not w13 (SetPin 1 ∷ LoadRef Root root ∷ []) (step_true table 1 0 zero_not (turned w12) (LoadEpoch 1) [] t12 may_look.0) may_look.2,
   )
 
   found_so : Ends table untold looking ClearPin (λ k. found ∷ []) (s1, tt) (e1, tt)
-  found_so = (other_at w15, looks_so, second_step table w15 ClearPin (found ∷ []) w15.run t15 l16 (others_none 1 w15.run) tt)
+  found_so = (seat_of 1 w15, looks_so, one_step table 1 0 zero_not w15 ClearPin (found ∷ []) w15.run t15 l16 (others_none 1 w15.run) tt)
 
   -- of a list of this one change
   at_change : (P : List Change → Type 0) → P (change ∷ []) → P (made ∷ [])

@@ -29,7 +29,7 @@ use Rattle.index_laws.specs.Traced.{Instant, MakesEvent}
 use Rattle.index_laws.specs.Executions.{insertion_notes, insertions}
 use Rattle.index_laws.proofs.Loaded.{makes_load, unloaded}
 use Rattle.index_laws.proofs.Coming.{Begun, Life, MakesStep, Reached, Rest, Shows, Waits, asks, closes, goes, life_begins, over, put, put-other, put-own, sees}
-use Rattle.index_laws.proofs.Moving.{Calm, calm_step, end_more, ends_calm, ends_next, invoke_more, pass_is, rest, show_more, stands_is, step_more}
+use Rattle.index_laws.proofs.Moving.{Calm, calm_then, end_more, ends_calm, ends_next, invoke_more, pass_is, rest, show_more, stands_is, step_more}
 use Rattle.index_laws.proofs.Placing.{no_step_left, none_next, shown_last, shown_next, step_next}
 
 -- Up to the next step of the run
@@ -134,7 +134,7 @@ module _ (table : TableView) (whole : ℕ → List Happening) (q : ℕ) (below :
       Reached table whole done left tip → left q ≡ rest s o hs → Calm tip →
       OthersStepOn q e.trace (done ++ x ∷ todo) → Went table whole q left (done ++ x ∷ []) e
   go_any None l left tip r is calm all = go l left tip r is calm all
-  go_any (Some o) l left tip r is calm all = go_on l left tip r is (λ act notes. calm_step tip q act notes calm) all
+  go_any (Some o) l left tip r is calm all = go_on l left tip r is (λ act notes. calm_then tip (steps q act notes) calm tt) all
 
 -- Where no step of the run is left
 

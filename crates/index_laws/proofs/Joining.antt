@@ -1,20 +1,18 @@
 -- Where passes have ended in one run, and that their calls are linearizable then.
-use Rattle.std.proofs.Common.{◌≡◌, ◌≢◌, ⊎_elim, ℕ, ◌<◌, ◌≤◌, List, [], ◌∷◌, if◌then◌else◌, None, Some, refl, sym, ap, subst, ◌∙◌, arith, le_refl}
+use Rattle.std.proofs.Common.{◌≡◌, ◌≢◌, ⊎_elim, ℕ, ◌<◌, List, [], ◌∷◌, if◌then◌else◌, None, Some, refl, sym, ap, subst, ◌∙◌, arith, le_refl}
 use Rattle.std.proofs.lemmas.Bool.{cases_eq, ne_eqb}
 use Rattle.std.proofs.lemmas.List.Elements.{All-cons, All-nil}
-use Rattle.rowex_core.specs.declared.event.Act.{Act}
 use Rattle.rowex_core.specs.declared.event.Event.{Event}
-use Rattle.rowex_core.specs.declared.known.Known.{Known}
-use Rattle.finite_map.specs.declared.Note.{Note}
 use Rattle.rowex_core.specs.Events.{after}
 use Rattle.rowex_core.specs.Opening.{opening}
 use Rattle.rowex_table.specs.Rule.{load_of}
-use Rattle.rowex_table.specs.Runs.{Runs, StepsWith, silent}
+use Rattle.rowex_table.specs.Runs.{StepsWith, silent}
 use Rattle.rowex_table.specs.Seats.{SeatView, TableView}
 use Rattle.rowex_table.specs.Traces.{OthersStepOn}
 use Rattle.hot_index_calls.specs.Traces.{untold}
 use Rattle.linearizability.specs.Histories.{PendingEndOrChangeAsAsked}
 use Rattle.linearizability.specs.Moments.{Happening, Moment, Pending}
+use Rattle.hot_index_calls.proofs.Tracing.{ends_untold, runs_untold}
 use Rattle.index_laws.specs.Joined.{HasGoneThrough, LoadedHaveEnded, OneRunIsAnExecution, ShownHaveEnded, SilentStepsEnd, StepsNeedNoGate, TwoThatMeetHaveEnded, load_call, loader, new, of_two}
 use Rattle.index_laws.specs.Traced.{moment_of}
 use Rattle.rowex_table.proofs.Onward.{others_none}
@@ -100,17 +98,5 @@ silent_steps_end table act (next ∷ acts) s e (m, step, runs) =
 
 -- Steps with a gate
 
-module _ {G : Type 0} (becomes : G → Event → G → Type 0) (table : TableView) where
-  untell : (act : Act) (said : Known → List Note) (a b : SeatView × G) → StepsWith table becomes act said a b → StepsWith table untold act said (a.0, tt) (b.0, tt)
-  untell act said a b x = record { seat = x.seat; atomic = x.atomic; event = x.event; next = x.next; told = tt }
-
-  untell_each : (acts : List Act) (a b : SeatView × G) → Runs table becomes acts a b → Runs table untold acts (a.0, tt) (b.0, tt)
-  untell_each [] a b runs = ap (λ (z : SeatView × G). let y : SeatView × Unit {0} = (z.0, tt) in y) runs
-  untell_each (act ∷ acts) a b (m, step, runs) = ((m.0, tt), untell act silent a m step, untell_each acts m b runs)
-
 pub steps_need_no_gate : {G : Type 0} (becomes : G → Event → G → Type 0) → StepsNeedNoGate becomes
-steps_need_no_gate becomes table acts a b = (
-  untell_each becomes table acts a b,
-  λ last said ends.
-      ((ends.0.0, tt), untell_each becomes table acts a ends.0 ends.1, untell becomes table last said ends.0 b ends.2),
-)
+steps_need_no_gate becomes table acts a b = (runs_untold table becomes acts a b, λ last said ends. ends_untold table becomes acts last said a b ends)

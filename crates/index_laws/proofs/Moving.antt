@@ -26,26 +26,17 @@ abbrev pub Calm : Happening → Type 0
 Calm (invokes q calls) = ⊥
 Calm _ = Unit {0}
 
-calm_show : (tip : Happening) (q : ℕ) (front : List Change) → Calm tip → KeepCallsWhole tip (shows q front)
-calm_show (steps p act notes) q front c = tt
-calm_show (shows p others) q front c = tt
-calm_show (invokes p calls) q front c = absurd c
-calm_show (responds p notes) q front c = tt
-calm_show (refuses p) q front c = tt
+-- it ends no call
+abbrev pub Midway : Happening → Type 0
+Midway (responds q notes) = ⊥
+Midway (refuses q) = ⊥
+Midway _ = Unit {0}
 
-calm_invoke : (tip : Happening) (q : ℕ) (asked : List Call) → Calm tip → KeepCallsWhole tip (invokes q asked)
-calm_invoke (steps p act notes) q asked c = tt
-calm_invoke (shows p others) q asked c = tt
-calm_invoke (invokes p calls) q asked c = absurd c
-calm_invoke (responds p notes) q asked c = tt
-calm_invoke (refuses p) q asked c = tt
-
-pub calm_step : (tip : Happening) (q : ℕ) (act : Act) (notes : List Note) → Calm tip → KeepCallsWhole tip (steps q act notes)
-calm_step (steps p by told) q act notes c = tt
-calm_step (shows p others) q act notes c = tt
-calm_step (invokes p calls) q act notes c = absurd c
-calm_step (responds p told) q act notes c = tt
-calm_step (refuses p) q act notes c = tt
+pub calm_then : (tip h : Happening) → Calm tip → Midway h → KeepCallsWhole tip h
+calm_then (invokes p calls) h calm midway = absurd calm
+calm_then tip (responds q notes) calm midway = absurd midway
+calm_then tip (refuses q) calm midway = absurd midway
+calm_then tip h calm midway = tt
 
 pub ends_next : {layout : Layout} {q : ℕ} {calls : List Call} {s e : SeatView} {h : Happening} (act : Act) (notes : List Note) →
     HasEndedAs layout q calls s e h → KeepCallsWhole (steps q act notes) h
@@ -154,7 +145,7 @@ module _ (table : TableView) (whole : ℕ → List Happening) (q : ℕ) (below :
       whose = refl;
       ahead = ap (λ (z : Rest). z.ahead) is;
       leads = at_both (λ u v. IsSeatShowing table u v q front) n x.at after_show showing;
-      follows = calm_show tip q front calm;
+      follows = calm_then tip (shows q front) calm tt;
       named = shown_pass shows_so ∙ pass_is s None (shows q front ∷ hs) is;
       stands = now;
       others = λ p ne. x.stands p;
@@ -194,7 +185,7 @@ module _ (table : TableView) (whole : ℕ → List Happening) (q : ℕ) (below :
         at_both (λ u v. IsSeatTurn table.layout u v q asks) n x.at after_invoke
             (record { pass = below; run = refl; seats = refl; own = turned-own a.pending q asks; others = λ p ne. turned-other a.pending q asks p ne }),
       );
-      follows = calm_invoke tip q calls calm;
+      follows = calm_then tip (invokes q calls) calm tt;
       named = pass_is s None (invokes q calls ∷ hs) is;
       stands = stands_is s None (invokes q calls ∷ hs) is;
       others = λ p ne. x.stands p;

@@ -34,6 +34,7 @@ use Rattle.rowex_table.proofs.Linking.{lead_rest}
 use Rattle.rowex_table.proofs.Onward.{begins_on as run_begins_on, led_more, of_one_run}
 use Rattle.rowex_table.proofs.Running.{runs_same}
 use Rattle.hot_index_calls.specs.Traces.{untold}
+use Rattle.hot_index.proofs.Counted.{last_of}
 use Rattle.hot_index_calls.proofs.Noting.{longer}
 use Rattle.linearizability.specs.Moments.{Happening, IsCallTurn, IsMomentStep, IsNewIndex, IsShowing, IsSoundMoment, Moment, Pending, invokes, refuses, responds, shows, steps}
 use Rattle.linearizability.proofs.Growing.{runs_stay_sound}
@@ -227,10 +228,6 @@ loads_see_all index s t acts last said ends u v loads before load begins =
     let earlier : RunBeginsWith loads.run before = none_later q load.0 before loads.run load.1.0 loads.rest (root_load q loads.root) (sym load.1.1 ∙ loads.until) loads.last in
     subst (λ (z : Fresh). BeginsWith z.front t.known.front) (sym loads.sees.fresh)
     (step_grows index last said ends.0.0 t ends.2 loads.run loads.sees.core loads.led (run_begins_on t.trace before loads.run begins earlier))
-
-last_of : (P : Note → Type 0) (notes : List Note) (n : Note) → All P (notes ++ n ∷ []) → P n
-last_of P [] n h = All-head P n [] h
-last_of P (x ∷ notes) n h = last_of P notes n (All-tail P x (notes ++ n ∷ []) h)
 
 pub ended_before_loaded : EndedBeforeLoaded
 ended_before_loaded index s t call reply first acts last said ends u v later answer second loads before load begins =
