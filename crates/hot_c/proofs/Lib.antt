@@ -1,6 +1,4 @@
 -- The lemmas of the crate.
-pub mod Content
-pub mod Boxes
 pub mod Shares
 pub mod Parted
 pub mod Listed

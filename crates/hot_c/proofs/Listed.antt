@@ -18,7 +18,7 @@ use Rattle.hot_index_calls.specs.Traces.{HasGotRange, untold}
 use Rattle.hot_index.proofs.Reading.{range_whole}
 use Rattle.hot_c.specs.Calls.{FitsInKey, KeepsAll, StaysOpen}
 use Rattle.hot_c.specs.Orders.{Answer, IsFilledIn, IsListedIn, in_order}
-use Rattle.section_handles.specs.Owning.{heap}
+use Rattle.slots.specs.Owning.{heap}
 use Rattle.hot_c.specs.Packs.{IsListedByParts}
 use Rattle.hot_c.specs.Scans.{HasFilled, ListsInto, ListsNothing}
 use Rattle.hot_c.specs.declared.opened.Opened.{Opened}

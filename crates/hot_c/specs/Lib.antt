@@ -1,5 +1,4 @@
 -- The definitions of the crate.
-pub mod Owning
 pub mod Lending
 pub mod Statuses
 pub mod Refusals

@@ -5,7 +5,6 @@ ghost use Rattle.std.specs.Prelude.{◌≡◌, ◌↔◌, IsSome, IsTrue, None, 
 use crate::opened::Opened;
 use crate::slot::Slot;
 use std::alloc::Global;
-use std::mem::replace;
 
 /// The tag of an open handle. No handle that was zeroed has it.
 const TAG: u32 = 0x544f_4821;
@@ -36,8 +35,7 @@ impl Handle {
         ensures place { self.new.place ≡ self.old.place }
     {
         self.tag = 0;
-        let slot = replace(&mut self.slot, Slot::empty());
-        slot.into_box(alloc)
+        self.slot.take(alloc)
     }
 
     /// Opens the handle, which is closed, with `opened`.
@@ -47,7 +45,7 @@ impl Handle {
         ensures place { self.new.place ≡ self.old.place }
     {
         self.tag = TAG;
-        self.slot = Slot::of(opened);
+        self.slot.put(opened);
     }
 }
 

@@ -1,3 +1,2 @@
 -- The definitions of the crate.
-pub mod Owning
 pub mod Lending

@@ -5,7 +5,6 @@ ghost use Rattle.std.specs.Prelude.{◌≡◌, ◌↔◌, IsSome, IsTrue, None, 
 use crate::open_load::OpenLoad;
 use crate::slot::Slot;
 use std::alloc::Global;
-use std::mem::replace;
 
 /// The tag of an open handle. No handle that was zeroed has it.
 const TAG: u32 = 0x4c4f_4144;
@@ -34,8 +33,7 @@ impl LoadHandle {
         ensures gone { self.new.slot.opened ≡ None }
     {
         self.tag = 0;
-        let slot = replace(&mut self.slot, Slot::empty());
-        slot.into_box(alloc)
+        self.slot.take(alloc)
     }
 
     /// Opens the handle, which is closed, with `opened`.
@@ -44,6 +42,6 @@ impl LoadHandle {
         ensures { self.new.slot.opened ≡ Some opened.value }
     {
         self.tag = TAG;
-        self.slot = Slot::of(opened);
+        self.slot.put(opened);
     }
 }

@@ -5,7 +5,6 @@ ghost use Rattle.std.specs.Prelude.{◌≡◌, ◌↔◌, IsSome, IsTrue, None, 
 use crate::opened::Opened;
 use crate::slot::Slot;
 use std::alloc::Global;
-use std::mem::replace;
 
 /// The tag of an open handle. No handle that was zeroed has it.
 const TAG: u32 = 0x5443_4553;
@@ -34,8 +33,7 @@ impl SectionHandle {
         ensures gone { self.new.slot.opened ≡ None }
     {
         self.tag = 0;
-        let slot = replace(&mut self.slot, Slot::empty());
-        slot.into_box(alloc)
+        self.slot.take(alloc)
     }
 
     /// Opens the handle, which is closed, with `opened`.
@@ -44,7 +42,7 @@ impl SectionHandle {
         ensures { self.new.slot.opened ≡ Some opened.value }
     {
         self.tag = TAG;
-        self.slot = Slot::of(opened);
+        self.slot.put(opened);
     }
 }
 

@@ -1,50 +1,22 @@
 //! A place for what an open handle holds, behind an untyped pointer that C may hold.
 
-ghost use Rattle.std.specs.Prelude.{◌≡◌, Option as Maybe, None, Some, IsSome};
-ghost use Rattle.section_handles.specs.Owning.{owns_section};
+ghost use Rattle.std.specs.Prelude.{Option as Maybe};
+ghost use Rattle.slots.specs.Owning.{owns_held};
 ghost use Rattle.section_handles.specs.declared.opened.Opened.{Opened as Content};
+ghost use Rattle.section_handles.specs.contracts.opened.Opened.{the_row};
 
-use crate::opened::Opened;
-use std::alloc::Global;
 use std::marker::Model;
-use std::ptr::null_mut;
 
 /// What an open handle holds, or nothing. Dropping a slot doesn't drop what it holds.
 #[repr(C)]
 #[derive(Drop)]
 pub struct Slot {
-    pub(crate) at: *mut u8,
+    at: *mut u8,
     pub ghost opened: { Maybe Content },
 }
 
 impl Model for Slot {
-    ghost also_owns = { λ s. owns_section s.at s.opened };
-}
-
-impl Slot {
-    /// An empty slot.
-    pub fn empty() -> Slot
-        ensures { result.opened ≡ None }
-    {
-        Slot { at: null_mut() }
-    }
-
-    /// A slot that holds what `boxed` held.
-    pub fn of(boxed: Box<Opened, Global>) -> Slot
-        ensures { result.opened ≡ Some boxed.value }
-    {
-        Slot {
-            at: Box::into_raw(boxed) as *mut u8,
-        }
-    }
-
-    /// The box of what the slot holds. The slot isn't empty.
-    pub fn into_box(self, alloc: Global) -> Box<Opened, Global>
-        requires { IsSome self.opened }
-        ensures { self.opened ≡ Some result.value }
-    {
-        unsafe { Box::from_raw(alloc, self.at as *mut Opened) }
-    }
+    ghost also_owns = { λ s. owns_held the_row s.at s.opened };
 }
 
 unsafe impl Send for Slot {}

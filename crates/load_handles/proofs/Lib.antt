@@ -1,3 +1,0 @@
--- The lemmas of the crate.
-pub mod Content
-pub mod Boxes

@@ -1,0 +1,3 @@
+-- The definitions of the crate.
+pub mod Owning
+pub mod Lending
