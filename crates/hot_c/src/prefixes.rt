@@ -3,8 +3,9 @@
 ghost use Rattle.std.specs.Prelude.{◌≡◌};
 ghost use Rattle.key_ranges.specs.Ranges.{last_with};
 ghost use Rattle.hot_c.specs.Calls.{FitsInKey};
+ghost use Rattle.hot_c.specs.Orders.{IsListedIn};
 ghost use Rattle.hot_c.specs.Prefixes.{HasPrefixAbove, HasPrefixBelow, IsRangeOf, ListsAfter, ListsBefore};
-ghost use Rattle.hot_c.specs.Scans.{Lists, ListsReverse, listing};
+ghost use Rattle.hot_c.specs.Scans.{Lists, ListsBy, ListsReverse, listing};
 
 use crate::handle::Handle;
 use crate::pairs::{Order, Pair, Query};
@@ -28,19 +29,7 @@ pub extern "C" fn hot_scan_whole_prefix(
         (listing room.old count.old more.old) (listing room.new count.new more.new) result }
     ensures place { handle.new.place ≡ handle.old.place }
 {
-    if !handle.is_open() {
-        return CLOSED;
-    }
-    let Ok(first) = Key::from_bytes(prefix) else {
-        return KEY_TOO_LONG;
-    };
-    let last = last_with_prefix(&first);
-    let query = Query {
-        order: Order::Upwards,
-        from: prefix,
-        upto: last.as_bytes(),
-    };
-    list_pairs_of_query(handle, &query, room, count, more)
+    list_whole_prefix(handle, Order::Upwards, prefix, room, count, more)
 }
 
 /// Lists the first pairs whose keys begin with `prefix` and are above `after`, in key order. It writes and returns what `hot_scan` does:
@@ -87,19 +76,7 @@ pub extern "C" fn hot_scan_whole_prefix_reverse(
         (listing room.old count.old more.old) (listing room.new count.new more.new) result }
     ensures place { handle.new.place ≡ handle.old.place }
 {
-    if !handle.is_open() {
-        return CLOSED;
-    }
-    let Ok(first) = Key::from_bytes(prefix) else {
-        return KEY_TOO_LONG;
-    };
-    let last = last_with_prefix(&first);
-    let query = Query {
-        order: Order::Downwards,
-        from: prefix,
-        upto: last.as_bytes(),
-    };
-    list_pairs_of_query(handle, &query, room, count, more)
+    list_whole_prefix(handle, Order::Downwards, prefix, room, count, more)
 }
 
 /// Lists the last pairs whose keys begin with `prefix` and are below `before`, in falling key order. It writes and returns what
@@ -127,6 +104,35 @@ pub extern "C" fn hot_scan_prefix_before(
     let query = Query {
         order: Order::Downwards,
         from: first.as_bytes(),
+        upto: last.as_bytes(),
+    };
+    list_pairs_of_query(handle, &query, room, count, more)
+}
+
+/// Lists pairs whose keys begin with `prefix` in `order`, as `list_pairs_of_query` does: from `prefix` to the last key that begins with it.
+#[inline(always)]
+fn list_whole_prefix(
+    handle: &mut Handle,
+    order: Order,
+    prefix: &[u8],
+    room: &mut [Pair],
+    count: &mut usize,
+    more: &mut u32,
+) -> u32
+    ensures call { ListsBy (IsListedIn order) prefix.now (last_with prefix.now) handle.old.slot.opened handle.new.slot.opened
+        (listing room.old count.old more.old) (listing room.new count.new more.new) result }
+    ensures place { handle.new.place ≡ handle.old.place }
+{
+    if !handle.is_open() {
+        return CLOSED;
+    }
+    let Ok(first) = Key::from_bytes(prefix) else {
+        return KEY_TOO_LONG;
+    };
+    let last = last_with_prefix(&first);
+    let query = Query {
+        order,
+        from: prefix,
         upto: last.as_bytes(),
     };
     list_pairs_of_query(handle, &query, room, count, more)
