@@ -26,7 +26,7 @@ use Rattle.rowex_records.proofs.Making.{looks_one}
 use Rattle.rowex_writing.specs.declared.kept.Build.{Build}
 use Rattle.rowex_writing.specs.Building.{IsBuilding}
 use Rattle.rowex_writing.specs.Going.{WorksOn}
-use Rattle.rowex_writing.specs.Walks.{HasNoOther, IsClaimWalk, Makes}
+use Rattle.rowex_writing.specs.Walks.{HasNoOther, HasWalked, IsClaimWalk, Makes}
 use Rattle.rowex_writing.proofs.Keeping.{made_alone, made_held, made_records, run_failed}
 use Rattle.rowex_writing.proofs.Locking.{goes_more, goes_none}
 use Rattle.rowex_writing.proofs.Making.{miss_on, steps_rise}
@@ -86,19 +86,20 @@ alone_still k j made same alone r has = alone r (subst (λ own. Contains (map (�
 
 -- ---- the walk
 -- a walk that is to try each record begins at any number
-pub walk_begins : (layout : Layout) (k : Known) (made : List Rec) (next : ℕ) (all : Layout) → all ≡ layout → IsClaimWalk layout k.steps k made next all.nodes
-walk_begins layout k made next all same = record {
+pub walk_begins : (layout : Layout) (k : Known) (build : Build) (all : Layout) → build.left_nodes ≡ all.nodes → all ≡ layout → HasWalked layout k.steps k build
+walk_begins layout k build all left same = record {
   early = omega arith;
-  begin = begin_of layout.nodes next;
-  low = begins (nat_lt next layout.nodes) refl;
+  begin = begin_of layout.nodes build.nodes.next;
+  low = begins (nat_lt build.nodes.next layout.nodes) refl;
   tried = 0;
-  count = (let e = ap (λ (z : Layout). z.nodes) same in omega (arith, e));
-  next_is = λ more. sym ((let same : begin_of layout.nodes next + 0 ≡ begin_of layout.nodes next = omega arith in ap (λ z. if nat_lt z layout.nodes then z else z - layout.nodes) same) ∙ low_is layout.nodes (begin_of layout.nodes next) (begins (nat_lt next layout.nodes) refl));
+  count = (let e = ap (λ (z : Layout). z.nodes) same in omega (arith, e, left));
+  next_is = λ more. sym ((let same : begin_of layout.nodes build.nodes.next + 0 ≡ begin_of layout.nodes build.nodes.next = omega arith in ap (λ z. if nat_lt z layout.nodes then z else z - layout.nodes) same) ∙
+      low_is layout.nodes (begin_of layout.nodes build.nodes.next) (begins (nat_lt build.nodes.next layout.nodes) refl));
   each = λ i low. absurd (omega arith);
 }
   where
-    begins : (b : Bool) → nat_lt next layout.nodes ≡ b → (if nat_lt next layout.nodes then next else 0) < layout.nodes
-    begins true e = rw e (ltb-true next layout.nodes e)
+    begins : (b : Bool) → nat_lt build.nodes.next layout.nodes ≡ b → (if nat_lt build.nodes.next layout.nodes then build.nodes.next else 0) < layout.nodes
+    begins true e = rw e (ltb-true build.nodes.next layout.nodes e)
     begins false e = rw e layout.nodes_in_range.0
 
 -- it goes on being one, where failed steps and records come to those that there are

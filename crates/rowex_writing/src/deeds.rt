@@ -8,11 +8,11 @@ ghost use Rattle.rowex_writing.specs.Deeds.{CarriesOut};
 ghost use Rattle.rowex_writing.specs.Plans.{TakesLeaf};
 ghost use Rattle.rowex_writing.specs.declared.plan.Deed.TheVariants.{Put, PushDown};
 
-use crate::building::{make_leaf, make_node};
-use crate::claims::leaves_free_node;
 use crate::growing::grow_node;
 use crate::job::{Job, Raised};
 use crate::kept::Build;
+use crate::leaves::make_leaf;
+use crate::nodes::{leaves_free_node, make_node};
 use crate::plan::{Deed, Full};
 use crate::remaking::pair_with_leaf;
 use crate::taking::{empty_root, make_without_leaf};
@@ -92,8 +92,7 @@ pub(crate) fn push_leaf_down<G: Gate>(
     let Some(leaf) = make_leaf(table, seat, gate, build, job) else {
         return Err(Full::Leaves);
     };
-    build.nodes.next = build.nodes.stretch.start();
-    build.left_nodes = table.layout().nodes;
+    build.begin_claims(table.layout().nodes);
     let pair = pair_with_leaf(job.key, position, Entry::Leaf(old), leaf);
     let Some(entry) = make_node(table, seat, gate, build, &pair) else {
         return Err(Full::Nodes);

@@ -13,10 +13,10 @@ ghost use Rattle.rowex_writing.specs.Going.{WorksOn};
 ghost use Rattle.rowex_writing.specs.Growths.{HasNumber, MayGrow};
 ghost use Rattle.rowex_writing.specs.Locks.{locks_of};
 
-use crate::building::make_leaf;
-use crate::claims::leaves_free_node;
 use crate::job::{Job, Raised};
 use crate::kept::Build;
+use crate::leaves::make_leaf;
+use crate::nodes::leaves_free_node;
 use crate::plan::Full;
 use crate::remaking::NewLeaf;
 use crate::rising::raise_with_leaf;
@@ -69,8 +69,7 @@ fn grow_with_leaf<G: Gate>(
         seat.old.known.steps + deed_steps table.now.layout (locks_of job.now.span) result }
     ensures free { IfOk result (λ raised. HasFree table.now.layout seat.new) }
 {
-    build.nodes.next = build.nodes.stretch.start();
-    build.left_nodes = table.layout().nodes;
+    build.begin_claims(table.layout().nodes);
     let Some((entry, stays)) = raise_with_leaf(table, seat, gate, build, job, new) else {
         return Err(Full::Nodes);
     };

@@ -16,8 +16,8 @@
 //!    the path still stands, since nobody else changes a locked node. The value of a key that is held is loaded then: it stays while what
 //!    names its leaf is locked. A call that expects another value ends here, with nothing changed. A new value is stored at once
 //!    (`valuing`), and that is the change. The steps below are those of other deeds.
-//! 5. *Build* (`deeds`, `growing`, `taking`, `rising`, `building`, `remaking`, `claims`): records are claimed and filled with what takes
-//!    the place of the span. Nobody else can reach them yet. If no record is free, all is given up and undone.
+//! 5. *Build* (`deeds`, `growing`, `taking`, `rising`, `remaking`, `leaves`, `nodes`, `hints`): records are claimed and filled with what
+//!    takes the place of the span. Nobody else can reach them yet. If no record is free, all is given up and undone.
 //! 6. *Merge* (`merging`, `locked`, `widening`): a removal whose node has another above it looks at the last fork on the path there. If its
 //!    other side is one node, the sibling, and what is left fits into one node with it, the sibling and what names the upper node are
 //!    locked, too, and both become one. If anything fails, these locks are given back, and the removal goes on as it was.
@@ -36,34 +36,34 @@
 //!
 //! # What is kept between calls
 //!
-//! [`Build`] has the lists that a change fills, and hints where free records are ([`Hint`]); both stand in `kept`. The hints are plain numbers of which
-//! no contract speaks: a claim is an exchange of the record's state, which fails if the record isn't free.
+//! [`Build`] (`kept`) has the lists that a change fills, and hints where free records are ([`Hint`], `hints`). The hints are plain numbers
+//! of which no contract speaks: a claim is an exchange of the record's state, which fails if the record isn't free.
 #![tactic(auto)]
 
 mod asking;
 mod attempts;
-mod building;
 mod checking;
-mod claims;
 mod deeds;
 mod ending;
 mod growing;
+mod hints;
 mod job;
 mod kept;
+mod leaves;
 mod locked;
 mod locks;
 mod merging;
+mod nodes;
 mod plan;
 mod publishing;
 mod remaking;
 mod rising;
 mod store;
-mod stretch;
 mod taking;
 mod valuing;
 mod widening;
 
 pub use attempts::{TryFault, attempt};
-pub use kept::{Build, Hint};
+pub use hints::{Hint, Stretch};
+pub use kept::Build;
 pub use plan::Full;
-pub use stretch::Stretch;

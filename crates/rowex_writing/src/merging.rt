@@ -22,13 +22,13 @@ ghost use Rattle.rowex_writing.specs.Locks.{span_numbers};
 ghost use Rattle.rowex_writing.specs.Merging.{AreNoNode, ClosesFork, HasClaimed, HasHeight, HasListed, IsLeftOfNode, IsNeighbour, IsWide, MayMergeInto, TakesOn, TriesFew, lower, upper};
 ghost use Rattle.rowex_writing.specs.declared.plan.Deed.TheVariants.{Take};
 
-use crate::building::make_node_from_words;
 use crate::growing::show_number_fits;
 use crate::job::{Job, Left, Merge};
 use crate::kept::Build;
 use crate::locked::{
     load_locked_entry, load_locked_node_words, load_position, load_sibling, read_locked_node,
 };
+use crate::nodes::make_node_from_words;
 use crate::publishing::{publish_entry, spot_above};
 use crate::store::Store;
 use crate::valuing::is_unchanged;

@@ -23,12 +23,10 @@ ghost use Rattle.version_laws.specs.Rise.{entry};
 ghost use Rattle.rowex_writing.specs.Counts.{level_steps, node_steps};
 ghost use Rattle.rowex_writing.specs.Walks.{Makes};
 
-use crate::building::{
-    make_node, make_node_from_words, make_node_with_leaf, make_risen, node_entry,
-};
 use crate::job::Job;
 use crate::kept::{Build, MOST_MADE};
 use crate::locked::{load_locked_node_words, read_locked_node};
+use crate::nodes::{make_node, make_node_from_words, make_node_with_leaf, make_risen};
 use crate::remaking::{Fork, NewLeaf, add_fork, add_leaf, cut_with_fork, cut_with_leaf};
 use compound_node::{Cut, Entry, Half, Node};
 use insert_cases::{PathNode, Risen};
@@ -65,6 +63,16 @@ fn raise_node_with_fork<G: Gate>(
     add_fork(&mut node, fork);
     let entry = make_node(table, seat, gate, build, &node)?;
     Some(Risen::Whole(entry))
+}
+
+/// The entry that names `node`, which is in node record `number`.
+fn node_entry(number: u32, node: &Node) -> Entry
+    ensures { result ≡ Entry.Node number node.now.height }
+{
+    Entry::Node {
+        number,
+        height: node.height(),
+    }
 }
 
 /// The words of the locked node `number`, all but its state, as they were loaded.

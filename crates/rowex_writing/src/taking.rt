@@ -18,10 +18,10 @@ ghost use Rattle.record_words.specs.declared.TheConstants.{NODE_FIELDS};
 ghost use Rattle.rowex_reading.specs.declared.descent.Found.TheVariants.{Leaf as FoundLeaf};
 ghost use Rattle.rowex_writing.specs.declared.plan.Deed.TheVariants.{TakeTop};
 
-use crate::claims::claim_node;
 use crate::growing::show_number_fits;
 use crate::job::{Job, Left, Raised};
 use crate::kept::Build;
+use crate::nodes::claim_node;
 use crate::plan::Full;
 use crate::rising::raise_without_leaf;
 use compound_node::Entry;
@@ -89,8 +89,7 @@ fn remake_without_leaf<G: Gate>(
     ensures lowest { IfOk result (λ raised. raised.low ≡ job.now.span.len) }
     ensures finds { HasRoom table.now.layout seat.old → result ≢ Err Full.Nodes }
 {
-    build.nodes.next = build.nodes.stretch.start();
-    build.left_nodes = table.layout().nodes;
+    build.begin_claims(table.layout().nodes);
     let lowest = job.way[job.span.end];
     let Some(entry) = raise_without_leaf(table, seat, gate, build, lowest) else {
         return Err(Full::Nodes);
@@ -116,8 +115,7 @@ pub(crate) fn claim_for_left<G: Gate>(
     ensures finds { HasRoom table.now.layout seat.old → result ≢ None }
 {
     build.made.clear();
-    build.nodes.next = build.nodes.stretch.start();
-    build.left_nodes = table.layout().nodes;
+    build.begin_claims(table.layout().nodes);
     let number = claim_node(table, seat, gate, build)?;
     Some(number)
 }
