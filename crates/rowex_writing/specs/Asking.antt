@@ -1,9 +1,10 @@
 -- What a call asks for, by the value that its key was found to have.
-use Rattle.std.specs.Prelude.{ℕ, [], Option, Some, None, nat_eq, if◌then◌else◌}
+use Rattle.std.specs.Prelude.{◌≡◌, ℕ, [], Option, Some, None, nat_eq, if◌then◌else◌}
 use Rattle.finite_map.specs.declared.Call.{Call}
 use Rattle.finite_map.specs.declared.Call.TheVariants.{Insert, Upsert, Exchange, Add, Get, Remove, RemoveIf}
 use Rattle.finite_map.specs.declared.Reply.{Reply}
 use Rattle.finite_map.specs.Maps.{step_where, wrapped_sum}
+use Rattle.rowex_writing.specs.declared.asking.Request.{Request}
 use Rattle.rowex_writing.specs.declared.plan.Aim.{Aim}
 use Rattle.rowex_writing.specs.declared.plan.Aim.TheVariants as aim
 
@@ -31,6 +32,10 @@ aim_of (Add key delta) (Some had) = Some aim.Upsert
 aim_of (Get key) held = None
 aim_of (Remove key) held = Some aim.Remove
 aim_of (RemoveIf key expected) held = aim_where expected held aim.Remove
+
+-- a call requests this whose key has this value, or none
+abbrev pub IsRequest : Call → Option ℕ → Request → Type 0
+IsRequest call held request = (aim_of call held ≡ Some request.aim) × (request.value ≡ value_in call held)
 
 -- the reply to a call whose key has this value, or none, whatever else the map holds
 abbrev pub reply_to : Call → Option ℕ → Reply

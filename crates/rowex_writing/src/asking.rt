@@ -1,16 +1,35 @@
 //! What a call asks for, by the value that its key was found to have.
 
-ghost use Rattle.std.specs.Prelude.{◌≡◌};
+ghost use Rattle.std.specs.Prelude.{◌≡◌, None, MatchOption};
 ghost use Rattle.rowex_reading.specs.Ways.{value_of as the_value};
-ghost use Rattle.rowex_writing.specs.Asking.{aim_of as the_aim, aim_where as the_aim_where, value_in as the_value_in};
+ghost use Rattle.rowex_writing.specs.Asking.{IsRequest, aim_of as the_aim, aim_where as the_aim_where, value_in as the_value_in};
 
 use crate::plan::Aim;
 use finite_map::Call;
 use rowex_reading::Found;
 
+/// What a call requests for its key.
+#[derive(Clone, Copy)]
+pub(crate) struct Request {
+    pub aim: Aim,
+    /// The value that the key is to get; 0 for a removal.
+    pub value: u64,
+}
+
+/// What `call` requests when the search for its key ended at `found`. It is `None` if it requests no change: for a get, for a call whose
+/// expected value is not the key's, and for an addition to an absent key.
+pub(crate) fn request_of(call: &Call, found: Found) -> Option<Request>
+    ensures { MatchOption result (the_aim call.now (the_value found) ≡ None) (IsRequest call.now (the_value found)) }
+{
+    let held = found_value(found);
+    let aim = aim_of(call, held)?;
+    let value = new_value(call, held);
+    Some(Request { aim, value })
+}
+
 /// The value that `call` gives its key, if it changes the map. `held` is the key's value before; `None` if it is absent. The result is 0
 /// for a get, a removal, and an addition to an absent key, which give none.
-pub(crate) fn new_value(call: &Call, held: Option<u64>) -> u64
+fn new_value(call: &Call, held: Option<u64>) -> u64
     ensures { result ≡ the_value_in call.now held }
 {
     match (call, held) {
@@ -35,9 +54,8 @@ pub(crate) fn found_value(found: Found) -> Option<u64>
     }
 }
 
-/// What `call` aims at when its key has the value `held`, or is absent (`None`). It is `None` for a get, for a call whose expected value is
-/// not the key's, and for an addition to an absent key.
-pub(crate) fn aim_of(call: &Call, held: Option<u64>) -> Option<Aim>
+/// What `call` aims at when its key has the value `held`, or is absent (`None`). It is `None` if it is to change nothing.
+fn aim_of(call: &Call, held: Option<u64>) -> Option<Aim>
     ensures { result ≡ the_aim call.now held }
 {
     match call {

@@ -25,7 +25,7 @@ ghost use Rattle.rowex_writing.specs.Locks.{HasMadeNoChange, HasMetLock, TriesNo
 ghost use Rattle.rowex_writing.specs.Counts.{change_steps, held_loads, most_locks, most_steps_of, span_steps, value_steps};
 ghost use Rattle.record_words.specs.declared.TheConstants.{HEAD_WORDS};
 
-use crate::asking::{aim_of, found_value, new_value};
+use crate::asking::{found_value, request_of};
 use crate::checking::check_span;
 use crate::deeds::carry_out_deed;
 use crate::ending::release_records_and_locks;
@@ -99,18 +99,17 @@ pub fn attempt<G: Gate>(
 {
     let key = call.key();
     let found = search_way(table, seat, gate, key, way);
-    let held = found_value(found);
-    let Some(aim) = aim_of(call, held) else {
-        return Ok(call.reply(held));
+    let Some(request) = request_of(call, found) else {
+        return Ok(call.reply(found_value(found)));
     };
     let way = way.as_slice();
-    match find_plan(table, seat, gate, way, aim, found) {
+    match find_plan(table, seat, gate, way, request.aim, found) {
         Plan::Answer(reply) => Ok(reply),
         Plan::Change { span, deed } => {
             let job = Job {
                 way,
                 key,
-                value: new_value(call, held),
+                value: request.value,
                 found,
                 span,
                 deed,
@@ -161,15 +160,14 @@ fn try_plan<G: Gate>(
         return Err(TryFault::Busy);
     }
     let found = load_found_again(table, seat, gate, job);
-    let held = found_value(found);
-    let Some(_) = aim_of(call, held) else {
+    let Some(request) = request_of(call, found) else {
         release_records_and_locks(table, seat, gate, &[], job);
         return Ok(found);
     };
     let job = Job {
         way: job.way,
         key: job.key,
-        value: new_value(call, held),
+        value: request.value,
         found,
         span: job.span,
         deed: job.deed,

@@ -5,8 +5,8 @@
 //! An attempt ([`attempt`]) of a call that may change the index goes through these stages. Each has files of its own, and no two files
 //! import each other, by whatever way. What is planned goes from stage to stage as a job (`job`).
 //!
-//! 1. *Search* (`rowex_reading`): the path of the key, and the leaf at its end with the key's first mismatch. A call whose answer
-//!    needs no change ends here.
+//! 1. *Search* (`rowex_reading`): the path of the key, and the leaf at its end with the key's first mismatch. These tell what the call
+//!    requests (`asking`). A call whose answer needs no change ends here.
 //! 2. *Plan* (`plan`): which nodes of the path are remade, the span, and what is done at its lower end, the deed. A
 //!    deed puts the first leaf, gives a leaf another value, pushes a leaf down into a node of two, grows a node by a leaf, or takes a leaf out.
 //!    The cases of an insertion are those of HOT: normal insert, leaf pushdown, parent pull up, intermediate node, new root.

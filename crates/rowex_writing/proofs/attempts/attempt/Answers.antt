@@ -49,7 +49,7 @@ returns-in-Answer-clause-answered g c =
     let planned = plan_made c.args.table.now.layout _ _ m c.key-key.result.now _ _ _ _ _ c.as_slice-way.ensures.value c.search_way-found.ensures.way c.find_plan.ensures.planned in
     let found = found_later _ _ _ _ (reads_later c.find_plan.ensures.reads.2) (same_since c.find_plan.ensures.reads.2) c.search_way-found.ensures.found in
     answered_look c.args.seat.now.known c.find_plan.new.seat.known c.args.call.now c.in-Answer.reply b.later
-    (looked _ _ _ _ _ c.args.call.now _ _ _ _ c.key-key.ensures c.found_value-held.ensures (sym c.aim_of.ensures ∙ c.in-Some.is) (subst (IsPlanned _ _ _ _ _ _) c.in-Answer.is planned) found)
+    (looked _ _ _ _ _ c.args.call.now _ _ _ _ c.key-key.ensures refl c.in-Some.ensures.0 (subst (IsPlanned _ _ _ _ _ _) c.in-Answer.is planned) found)
 
 pub returns-in-Answer-clause-few : goal.returns-in-Answer-clause-few
 returns-in-Answer-clause-few g c =
@@ -68,7 +68,7 @@ try_plan-requires-clause-planned g c =
     let m = since c.search_way-found.new.seat.known in
     let way = subst (λ way. IsWayOf c.args.table.now.layout c.search_way-found.new.seat.known m c.key-key.result.now way c.search_way-found.result) (sym c.as_slice-way.ensures.value) c.search_way-found.ensures.way in (
       m,
-      c.in-Some.aim,
+      c.in-Some.request.aim,
       way_later _ _ _ _ _ _ _ (reads_later c.find_plan.ensures.reads.2) way,
       subst (IsPlanned _ _ _ _ _ _) c.in-Change.is (c.find_plan.ensures.planned m c.key-key.result.now way),
     )
@@ -98,8 +98,8 @@ pub returns-in-Err-clause-leafless : goal.returns-in-Err-clause-leafless
 returns-in-Err-clause-leafless g c =
     let m = since c.search_way-found.new.seat.known in
     let planned = plan_made c.args.table.now.layout _ _ m c.key-key.result.now _ _ _ _ _ c.as_slice-way.ensures.value c.search_way-found.ensures.way c.find_plan.ensures.planned in
-    leafless c.args.call.now c.found_value-held.result c.in-Some.aim c.in-Err.fault (sym c.aim_of.ensures ∙ c.in-Some.is)
-    (λ removes is. c.try_plan.ensures.leafless (removal_takes c.find_plan.new.seat.known m c.key-key.result.now c.as_slice-way.result.now c.in-Some.aim c.search_way-found.result c.find_plan.result c.in-Change.span c.in-Change.deed removes c.in-Change.is planned) (c.in-Err.is ∙ ap Err is))
+    leafless c.args.call.now (value_of c.search_way-found.result) c.in-Some.request.aim c.in-Err.fault c.in-Some.ensures.0
+    (λ removes is. c.try_plan.ensures.leafless (removal_takes c.find_plan.new.seat.known m c.key-key.result.now c.as_slice-way.result.now c.in-Some.request.aim c.search_way-found.result c.find_plan.result c.in-Change.span c.in-Change.deed removes c.in-Change.is planned) (c.in-Err.is ∙ ap Err is))
 
 pub returns-in-Ok-clause-leafless : goal.returns-in-Ok-clause-leafless
 returns-in-Ok-clause-leafless g c = answered_leafless c.args.call.now _
@@ -111,10 +111,10 @@ pub returns-in-Err-clause-few : goal.returns-in-Err-clause-few
 returns-in-Err-clause-few g c =
     let m = since c.search_way-found.new.seat.known in
     let planned = plan_made c.args.table.now.layout _ _ m c.key-key.result.now _ _ _ _ _ c.as_slice-way.ensures.value c.search_way-found.ensures.way c.find_plan.ensures.planned in
-    let plan : IsPlanned c.find_plan.new.seat.known m c.key-key.result.now c.as_slice-way.result.now c.in-Some.aim c.search_way-found.result (Change c.in-Change.span c.in-Change.deed) = subst (IsPlanned _ _ _ _ _ _) c.in-Change.is planned in
+    let plan : IsPlanned c.find_plan.new.seat.known m c.key-key.result.now c.as_slice-way.result.now c.in-Some.request.aim c.search_way-found.result (Change c.in-Change.span c.in-Change.deed) = subst (IsPlanned _ _ _ _ _ _) c.in-Change.is planned in
     let looked = searched_few c.args.table.now g.G.Gate.becomes (c.args.seat.now, c.args.gate.now) (c.search_way-found.new.seat, c.search_way-found.new.gate) c.search_way-found.ensures.searched in
-    tried_few c.args.table.now.layout c.args.seat.now.known.steps c.try_plan.new.seat.known.steps c.find_plan.new.seat.known m c.key-key.result.now c.as_slice-way.result.now c.in-Some.aim c.search_way-found.result c.in-Change.span c.in-Change.deed c.args.call.now
-    (ap (aim_of c.args.call.now) (sym c.found_value-held.ensures) ∙ (sym c.aim_of.ensures ∙ c.in-Some.is)) plan (λ is. let short = c.try_plan.ensures.short is in omega (arith, looked, c.find_plan.ensures.few, short))
+    tried_few c.args.table.now.layout c.args.seat.now.known.steps c.try_plan.new.seat.known.steps c.find_plan.new.seat.known m c.key-key.result.now c.as_slice-way.result.now c.in-Some.request.aim c.search_way-found.result c.in-Change.span c.in-Change.deed c.args.call.now
+    c.in-Some.ensures.0 plan (λ is. let short = c.try_plan.ensures.short is in omega (arith, looked, c.find_plan.ensures.few, short))
     (tried_after c.args.table.now g.G.Gate.becomes c.find_plan.ensures.reads.0 c.find_plan.ensures.reads.1 (c.args.seat.now, c.args.gate.now) (c.search_way-found.new.seat, c.search_way-found.new.gate) (c.find_plan.new.seat, c.find_plan.new.gate) (c.try_plan.new.seat, c.try_plan.new.gate) c.search_way-found.ensures.searched c.find_plan.ensures.reads.2 c.find_plan.ensures.few c.try_plan.ensures.run).1
 
 pub returns-in-Ok-clause-run : goal.returns-in-Ok-clause-run
@@ -130,31 +130,31 @@ returns-in-Ok-clause-answered g c =
     let b = begun_on c.args.table.now g.G.Gate.becomes c.find_plan.ensures.reads.0 c.find_plan.ensures.reads.1 (c.args.seat.now, c.args.gate.now) (c.search_way-found.new.seat, c.search_way-found.new.gate) (c.find_plan.new.seat, c.find_plan.new.gate) c.search_way-found.ensures.searched c.search_way-found.ensures.possible c.requires.own c.requires.rest c.find_plan.ensures.reads.2 in
     let m = since c.search_way-found.new.seat.known in
     let planned = plan_made c.args.table.now.layout _ _ m c.key-key.result.now _ _ _ _ _ c.as_slice-way.ensures.value c.search_way-found.ensures.way c.find_plan.ensures.planned in
-    let plan : IsPlanned c.find_plan.new.seat.known m c.key-key.result.now c.as_slice-way.result.now c.in-Some.aim c.search_way-found.result (Change c.in-Change.span c.in-Change.deed) = subst (IsPlanned _ _ _ _ _ _) c.in-Change.is planned in
-    rw (c.reply-in-Ok.ensures []) (rw (c.found_value.ensures) (elim c.in-Ok.ensures.done [
+    let plan : IsPlanned c.find_plan.new.seat.known m c.key-key.result.now c.as_slice-way.result.now c.in-Some.request.aim c.search_way-found.result (Change c.in-Change.span c.in-Change.deed) = subst (IsPlanned _ _ _ _ _ _) c.in-Change.is planned in
+    rw (c.reply-in-Ok.ensures []) (rw (c.found_value-in-Ok.ensures) (elim c.in-Ok.ensures.done [
       | inl other ↦ answered_look c.args.seat.now.known c.try_plan.new.seat.known c.args.call.now _ (later_trans b.later other.later)
           (aimless_looked c.try_plan.new.seat.known c.key-key.result.now c.args.call.now (value_of c.in-Ok.now) (Some other.value) c.key-key.ensures other.is (ap (aim_of c.args.call.now) other.is ∙ other.aimless) other.held)
       | inr made ↦
           let again = made.0 in
-          let now = subst (λ f. IsPlanned c.find_plan.new.seat.known m c.key-key.result.now c.as_slice-way.result.now c.in-Some.aim f (Change c.in-Change.span c.in-Change.deed)) (sym again.is)
-          (planned_again c.find_plan.new.seat.known m c.key-key.result.now c.as_slice-way.result.now c.in-Some.aim c.search_way-found.result again.value c.in-Change.span c.in-Change.deed plan) in
-          let aims = again.aims c.in-Some.aim (ap (aim_of c.args.call.now) (sym c.found_value-held.ensures) ∙ (sym c.aim_of.ensures ∙ c.in-Some.is)) in
+          let now = subst (λ f. IsPlanned c.find_plan.new.seat.known m c.key-key.result.now c.as_slice-way.result.now c.in-Some.request.aim f (Change c.in-Change.span c.in-Change.deed)) (sym again.is)
+          (planned_again c.find_plan.new.seat.known m c.key-key.result.now c.as_slice-way.result.now c.in-Some.request.aim c.search_way-found.result again.value c.in-Change.span c.in-Change.deed plan) in
+          let aims = again.aims c.in-Some.request.aim c.in-Some.ensures.0 in
           answered_change c.args.seat.now.known c.find_plan.new.seat.known c.find_plan.new.seat.known c.try_plan.new.seat.known m c.key-key.result.now (value_in c.args.call.now (value_of c.in-Ok.now)) c.as_slice-way.result.now c.args.call.now
-          (value_of c.in-Ok.now) c.in-Some.aim c.in-Ok.now c.in-Change.span c.in-Change.deed b.later c.key-key.ensures refl refl aims now made.1
+          (value_of c.in-Ok.now) c.in-Some.request.aim c.in-Ok.now c.in-Change.span c.in-Change.deed b.later c.key-key.ensures refl refl aims now made.1
     ]))
 
 pub try_plan-requires-clause-aims : goal.try_plan-requires-clause-aims
 try_plan-requires-clause-aims g c =
-    subst (λ h. IsSome (aim_of c.args.call.now h)) c.found_value-held.ensures (subst IsSome (sym (sym c.aim_of.ensures ∙ c.in-Some.is)) refl)
+    subst IsSome (sym c.in-Some.ensures.0) refl
 
 pub returns-in-Ok-clause-few : goal.returns-in-Ok-clause-few
 returns-in-Ok-clause-few g c =
     let m = since c.search_way-found.new.seat.known in
     let planned = plan_made c.args.table.now.layout _ _ m c.key-key.result.now _ _ _ _ _ c.as_slice-way.ensures.value c.search_way-found.ensures.way c.find_plan.ensures.planned in
-    let plan : IsPlanned c.find_plan.new.seat.known m c.key-key.result.now c.as_slice-way.result.now c.in-Some.aim c.search_way-found.result (Change c.in-Change.span c.in-Change.deed) = subst (IsPlanned _ _ _ _ _ _) c.in-Change.is planned in
+    let plan : IsPlanned c.find_plan.new.seat.known m c.key-key.result.now c.as_slice-way.result.now c.in-Some.request.aim c.search_way-found.result (Change c.in-Change.span c.in-Change.deed) = subst (IsPlanned _ _ _ _ _ _) c.in-Change.is planned in
     let looked = searched_few c.args.table.now g.G.Gate.becomes (c.args.seat.now, c.args.gate.now) (c.search_way-found.new.seat, c.search_way-found.new.gate) c.search_way-found.ensures.searched in
-    tried_few c.args.table.now.layout c.args.seat.now.known.steps c.try_plan.new.seat.known.steps c.find_plan.new.seat.known m c.key-key.result.now c.as_slice-way.result.now c.in-Some.aim c.search_way-found.result c.in-Change.span c.in-Change.deed c.args.call.now
-    (ap (aim_of c.args.call.now) (sym c.found_value-held.ensures) ∙ (sym c.aim_of.ensures ∙ c.in-Some.is)) plan (λ is. let short = c.try_plan.ensures.short is in omega (arith, looked, c.find_plan.ensures.few, short))
+    tried_few c.args.table.now.layout c.args.seat.now.known.steps c.try_plan.new.seat.known.steps c.find_plan.new.seat.known m c.key-key.result.now c.as_slice-way.result.now c.in-Some.request.aim c.search_way-found.result c.in-Change.span c.in-Change.deed c.args.call.now
+    c.in-Some.ensures.0 plan (λ is. let short = c.try_plan.ensures.short is in omega (arith, looked, c.find_plan.ensures.few, short))
     (tried_after c.args.table.now g.G.Gate.becomes c.find_plan.ensures.reads.0 c.find_plan.ensures.reads.1 (c.args.seat.now, c.args.gate.now) (c.search_way-found.new.seat, c.search_way-found.new.gate) (c.find_plan.new.seat, c.find_plan.new.gate) (c.try_plan.new.seat, c.try_plan.new.gate) c.search_way-found.ensures.searched c.find_plan.ensures.reads.2 c.find_plan.ensures.few c.try_plan.ensures.run).1
 
 -- ---- answered at once
@@ -173,7 +173,7 @@ pub returns-in_default-clause-answered : goal.returns-in_default-clause-answered
 returns-in_default-clause-answered g c =
     let b = searched c.args.table.now g.G.Gate.becomes (c.args.seat.now, c.args.gate.now) (c.search_way-found.new.seat, c.search_way-found.new.gate) c.search_way-found.ensures.searched c.search_way-found.ensures.possible c.requires.own c.requires.rest in
     rw (c.reply.ensures []) (answered_look c.args.seat.now.known c.search_way-found.new.seat.known c.args.call.now _ b.later
-    (aimless_looked c.search_way-found.new.seat.known _ c.args.call.now _ _ c.key-key.ensures c.found_value-held.ensures (sym c.aim_of.ensures ∙ c.in_default.is) c.search_way-found.ensures.found))
+    (aimless_looked c.search_way-found.new.seat.known _ c.args.call.now _ _ c.key-key.ensures c.found_value.ensures (ap (aim_of c.args.call.now) c.found_value.ensures ∙ c.in_default.ensures) c.search_way-found.ensures.found))
 
 pub returns-in_default-clause-leafless : goal.returns-in_default-clause-leafless
 returns-in_default-clause-leafless g c = answered_leafless c.args.call.now _
@@ -187,11 +187,11 @@ pub returns-in-Err-clause-full : goal.returns-in-Err-clause-full
 returns-in-Err-clause-full g c =
     let m = since c.search_way-found.new.seat.known in
     let planned = plan_made c.args.table.now.layout _ _ m c.key-key.result.now _ _ _ _ _ c.as_slice-way.ensures.value c.search_way-found.ensures.way c.find_plan.ensures.planned in
-    let plan : IsPlanned c.find_plan.new.seat.known m c.key-key.result.now c.as_slice-way.result.now c.in-Some.aim c.search_way-found.result (Change c.in-Change.span c.in-Change.deed) = subst (IsPlanned _ _ _ _ _ _) c.in-Change.is planned in
+    let plan : IsPlanned c.find_plan.new.seat.known m c.key-key.result.now c.as_slice-way.result.now c.in-Some.request.aim c.search_way-found.result (Change c.in-Change.span c.in-Change.deed) = subst (IsPlanned _ _ _ _ _ _) c.in-Change.is planned in
     let whole = λ (is : c.in-Change.deed ≡ ValueDeed). c.in-Err.ensures.whole is in
-    full_of_new c.search_way-found.new.seat.known c.find_plan.new.seat.known c.try_plan.new.seat.known m c.key-key.result.now c.as_slice-way.result.now c.in-Some.aim c.search_way-found.result c.in-Change.span c.in-Change.deed c.in-Err.fault
+    full_of_new c.search_way-found.new.seat.known c.find_plan.new.seat.known c.try_plan.new.seat.known m c.key-key.result.now c.as_slice-way.result.now c.in-Some.request.aim c.search_way-found.result c.in-Change.span c.in-Change.deed c.in-Err.fault
     c.args.call.now c.key-key.ensures plan c.search_way-found.ensures.way.since c.search_way-found.ensures.found (later_trans (reads_later c.find_plan.ensures.reads.2) c.in-Err.ensures.later)
-    (ap (aim_of c.args.call.now) (sym c.found_value-held.ensures) ∙ (sym c.aim_of.ensures ∙ c.in-Some.is)) whole
+    c.in-Some.ensures.0 whole
 
 -- ---- a record that stands in no tree
 pub returns-in_default-clause-spares : goal.returns-in_default-clause-spares
@@ -212,9 +212,9 @@ returns-in-Err-clause-finds g c = λ removal room is.
     let same : c.in-Err.fault ≡ FullNodes = cc in
     let m = since c.search_way-found.new.seat.known in
     let planned = plan_made c.args.table.now.layout _ _ m c.key-key.result.now _ _ _ _ _ c.as_slice-way.ensures.value c.search_way-found.ensures.way c.find_plan.ensures.planned in
-    let removes = removes_aim c.args.call.now c.found_value-held.result c.in-Some.aim removal (sym c.aim_of.ensures ∙ c.in-Some.is) in
+    let removes = removes_aim c.args.call.now (value_of c.search_way-found.result) c.in-Some.request.aim removal c.in-Some.ensures.0 in
     let none = (begun_on c.args.table.now g.G.Gate.becomes c.find_plan.ensures.reads.0 c.find_plan.ensures.reads.1 (c.args.seat.now, c.args.gate.now) (c.search_way-found.new.seat, c.search_way-found.new.gate) (c.find_plan.new.seat, c.find_plan.new.gate) c.search_way-found.ensures.searched c.search_way-found.ensures.possible c.requires.own c.requires.rest c.find_plan.ensures.reads.2).rest.own in
     let searched_none = (searched c.args.table.now g.G.Gate.becomes (c.args.seat.now, c.args.gate.now) (c.search_way-found.new.seat, c.search_way-found.new.gate) c.search_way-found.ensures.searched c.search_way-found.ensures.possible c.requires.own c.requires.rest).rest.own in
     c.try_plan.ensures.finds
-    (removal_takes c.find_plan.new.seat.known m c.key-key.result.now c.as_slice-way.result.now c.in-Some.aim c.search_way-found.result c.find_plan.result c.in-Change.span c.in-Change.deed removes c.in-Change.is planned)
+    (removal_takes c.find_plan.new.seat.known m c.key-key.result.now c.as_slice-way.result.now c.in-Some.request.aim c.search_way-found.result c.find_plan.result c.in-Change.span c.in-Change.deed removes c.in-Change.is planned)
     (reads_room c.args.table.now g.G.Gate.becomes (c.search_way-found.new.seat, c.search_way-found.new.gate) (c.find_plan.new.seat, c.find_plan.new.gate) c.find_plan.ensures.reads.2 none (looks_room c.args.table.now g.G.Gate.becomes (c.args.seat.now, c.args.gate.now) (c.search_way-found.new.seat, c.search_way-found.new.gate) c.search_way-found.ensures.searched.looks searched_none room)) (c.in-Err.is ∙ ap Err same)

@@ -69,7 +69,7 @@ returns-in_default-clause-done g c =
     let reads = c.load_found_again-found.ensures.reads in
     let (value, again) = c.load_found_again-found.ensures.again in
     inl (found_other table.layout c.args.seat.now.known c.load_found_again-found.new.seat.known c.release_records_and_locks.new.seat.known c.args.call.now c.args.job.now.key.now c.args.job.now.found c.load_found_again-found.result value again
-    c.requires.aims (ap (aim_of c.args.call.now) (sym c.found_value-held.ensures) ∙ (sym c.aim_of.ensures ∙ c.in_default.is))
+    c.requires.aims c.in_default.ensures
     (goes_possible table g.G.Gate.becomes (c.lock_and_check_span.new.seat, c.lock_and_check_span.new.gate) (c.load_found_again-found.new.seat, c.load_found_again-found.new.gate) reads.goes taken.possible) c.load_found_again-found.ensures.held
     (later_trans c.lock_and_check_span.ensures.later reads.goes.stays.0)
     (works_later table g.G.Gate.becomes (c.load_found_again-found.new.seat, c.load_found_again-found.new.gate) (c.release_records_and_locks.new.seat, c.release_records_and_locks.new.gate) c.release_records_and_locks.ensures.works)
@@ -119,10 +119,9 @@ returns-in-Ok-clause-done g c =
     let job = c.args.job.now in
     let later = later_trans c.lock_and_check_span.ensures.later c.load_found_again-found.ensures.reads.goes.stays.0 in
     let (value, again) = c.load_found_again-found.ensures.again in
-    let value_is = c.new_value.ensures ∙ ap (value_in c.args.call.now) c.found_value-held.ensures in
-    let aimed = subst IsSome (sym (sym (ap (aim_of c.args.call.now) c.found_value-held.ensures) ∙ (sym c.aim_of.ensures ∙ c.in-Some.is))) refl in
+    let (aim, value_is) = c.in-Some.ensures in
     let (x, was, is, changed) = c.change_span.ensures.done c.in-Ok.is in inr (
-      found_again c.args.call.now job.found c.load_found_again-found.result value again aimed,
+      found_again c.args.call.now job.found c.load_found_again-found.result value again (subst IsSome (sym aim) refl),
       (
         x,
         was,
@@ -150,7 +149,7 @@ returns-in-Err-clause-refused g c k loaded later =
     let locked = run_loaded table g.G.Gate.becomes k (c.args.seat.now, c.args.gate.now) (c.lock_and_check_span.new.seat, c.lock_and_check_span.new.gate) loaded c.lock_and_check_span.ensures.run.1.1 in
     let there = run_loaded table g.G.Gate.becomes k (c.lock_and_check_span.new.seat, c.lock_and_check_span.new.gate) (c.load_found_again-found.new.seat, c.load_found_again-found.new.gate) locked
     (goes_run table g.G.Gate.becomes (c.lock_and_check_span.new.seat, c.lock_and_check_span.new.gate) (c.load_found_again-found.new.seat, c.load_found_again-found.new.gate) c.load_found_again-found.ensures.reads.goes) in
-    let now : Job = record { way = c.args.job.now.way; key = c.args.job.now.key; value = c.new_value.result; found = c.load_found_again-found.result; span = c.args.job.now.span; deed = c.args.job.now.deed } in
+    let now : Job = record { way = c.args.job.now.way; key = c.args.job.now.key; value = c.in-Some.request.value; found = c.load_found_again-found.result; span = c.args.job.now.span; deed = c.args.job.now.deed } in
     refused_failed table.layout now k c.load_found_again-found.new.seat.known _ _ c.in-Err.fault m taken.way_of there
     (later_trans later (later_trans c.lock_and_check_span.ensures.later c.load_found_again-found.ensures.reads.goes.stays.0)) c.in-Err.ensures.failed
 
@@ -160,7 +159,7 @@ returns-in-Err-clause-leafless g c take is = let same : c.in-Err.fault ≡ FullL
 -- ---- what it leaves
 pub returns-in-Err-clause-later : goal.returns-in-Err-clause-later
 returns-in-Err-clause-later g c =
-    let now : Job = record { way = c.args.job.now.way; key = c.args.job.now.key; value = c.new_value.result; found = c.load_found_again-found.result; span = c.args.job.now.span; deed = c.args.job.now.deed } in
+    let now : Job = record { way = c.args.job.now.way; key = c.args.job.now.key; value = c.in-Some.request.value; found = c.load_found_again-found.result; span = c.args.job.now.span; deed = c.args.job.now.deed } in
     later_trans c.lock_and_check_span.ensures.later (later_trans c.load_found_again-found.ensures.reads.goes.stays.0 (failed_later c.args.table.now.layout now c.load_found_again-found.new.seat.known c.change_span.new.seat.known _ c.in-Err.fault c.in-Err.ensures.failed))
 
 pub returns-in-Err-clause-whole : goal.returns-in-Err-clause-whole
