@@ -2,7 +2,7 @@
 use Rattle.std.specs.Prelude.{◌≡◌, ◌⊎◌, ℕ, ◌+◌, ◌<◌, ◌≤◌, List, length, get_or}
 use Rattle.compound_node.specs.Nodes.{NodeView}
 use Rattle.record_words.specs.Kinds.{head_size, kind_in}
-use Rattle.record_words.specs.declared.TheConstants.{HEAD_WORDS}
+use Rattle.record_words.specs.declared.TheConstants.{HEAD_WORDS, SLOT_GROUP}
 use Rattle.rowex_core.specs.declared.event.Event.{Event}
 use Rattle.rowex_table.specs.Rule.{record_number}
 use Rattle.rowex_table.specs.Seats.{TableView, SeatView, IsSeatOf}
@@ -32,7 +32,7 @@ ReadsRest {G} table becomes number size (b, old) (c, new) =
 abbrev pub IsReadTo : {G : Type 0} → TableView → (G → Event → G → Type 0) → (a b : SeatView × G) → NodeLoads → (loaded : List ℕ) → (upto : ℕ) → Type 0
 IsReadTo table becomes a b loads loaded upto = (n : ℕ) × AreRead table becomes a b (record_number loads.node.rec) loaded n × (n ≤ upto) × ((n ≡ upto) ⊎ (HEAD_WORDS + loads.numbers.count ≤ n))
 
--- the pass goes on so, with the words loaded so far, for eight words more
-abbrev pub ReadsEight : {G : Type 0} → TableView → (G → Event → G → Type 0) → NodeLoads → (first : ℕ) → (SeatView × G) × List ℕ → (SeatView × G) × List ℕ → Type 0
-ReadsEight {G} table becomes loads first (b, old) (c, new) =
-    (a : SeatView × G) → IsReadTo table becomes a b loads old first → IsReadTo table becomes a c loads new (first + 8)
+-- the pass goes on so, with the words loaded so far, for a group of slots more
+abbrev pub ReadsGroup : {G : Type 0} → TableView → (G → Event → G → Type 0) → NodeLoads → (first : ℕ) → (SeatView × G) × List ℕ → (SeatView × G) × List ℕ → Type 0
+ReadsGroup {G} table becomes loads first (b, old) (c, new) =
+    (a : SeatView × G) → IsReadTo table becomes a b loads old first → IsReadTo table becomes a c loads new (first + SLOT_GROUP)

@@ -145,7 +145,7 @@ fn is_word_of(entry: Option<Entry>, word: u64) -> bool
     ensures differ { result ≡ false → (e : Option EntryValue) → HasEntryWord e → entry_word e ≡ word → e ≢ entry }
 {
     match entry {
-        None => word == 0,
+        None => word == pack_entry(None),
         Some(Entry::Leaf(number)) => word == pack_entry(Some(Entry::Leaf(number))),
         Some(Entry::Node { number, height }) => {
             height > 0 && word == pack_entry(Some(Entry::Node { number, height }))

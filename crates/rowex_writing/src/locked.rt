@@ -12,12 +12,12 @@ ghost use Rattle.rowex_reading.specs.Seen.{HasPlace};
 ghost use Rattle.rowex_table.specs.Rule.{IsNodeRecordAt, record_number};
 ghost use Rattle.rowex_table.specs.Seats.{IsSeatOf};
 ghost use Rattle.rowex_writing.specs.Going.{ReadsOn, HasLocked, IsLockedBy, HasLockedNode, IsNodeOf};
-ghost use Rattle.rowex_writing.specs.Loads.{AreRead, ReadsEight, ReadsRest};
+ghost use Rattle.rowex_writing.specs.Loads.{AreRead, ReadsGroup, ReadsRest};
 
 use compound_node::{Entry, Node, find_sibling};
 use record_words::{
     FIELDS_OFFSET, HEAD_WORDS, HeadNumbers, Kind, MAX_ENTRIES, MIDDLE_HEAD_WORDS,
-    NARROW_HEAD_WORDS, NODE_FIELDS, read_node, read_numbers, read_some_entry,
+    NARROW_HEAD_WORDS, NODE_FIELDS, SLOT_GROUP, read_node, read_numbers, read_some_entry,
 };
 use rowex_core::{Gate, Rec, Spot};
 use rowex_table::{HotTable, RecordAt, TableSeat};
@@ -30,7 +30,7 @@ struct NodeLoads {
 }
 
 /// Loads the words of the locked node `number`, all but its state, into `words`, which are 0 before. Of the head as many are loaded as say
-/// something. Words of slots are loaded in groups of eight, as far as there are entries. Those behind stay 0.
+/// something. Words of slots are loaded in groups of `SLOT_GROUP`, as far as there are entries. Those behind stay 0.
 pub(crate) fn load_locked_node_words<G: Gate>(
     table: &HotTable,
     seat: &mut TableSeat,
@@ -51,10 +51,10 @@ pub(crate) fn load_locked_node_words<G: Gate>(
     load_locked_head(table, seat, gate, node, words);
     let numbers = read_numbers(words[0]);
     let loads = NodeLoads { node, numbers };
-    load_eight_words(table, seat, gate, loads, words, HEAD_WORDS);
-    load_eight_words(table, seat, gate, loads, words, HEAD_WORDS + 8);
-    load_eight_words(table, seat, gate, loads, words, HEAD_WORDS + 16);
-    load_eight_words(table, seat, gate, loads, words, HEAD_WORDS + 24);
+    load_slot_group(table, seat, gate, loads, words, HEAD_WORDS);
+    load_slot_group(table, seat, gate, loads, words, HEAD_WORDS + SLOT_GROUP);
+    load_slot_group(table, seat, gate, loads, words, HEAD_WORDS + 2 * SLOT_GROUP);
+    load_slot_group(table, seat, gate, loads, words, HEAD_WORDS + 3 * SLOT_GROUP);
 }
 
 /// Loads the words of the head of the locked node `node` into `words`, which are 0 before. The first one tells its kind, and so how many
@@ -159,7 +159,7 @@ pub(crate) fn load_sibling<G: Gate>(
 ) -> Option<(u8, u8)>
     requires own { IsSeatOf table.now seat.old }
     requires range { number < table.now.layout.nodes }
-    requires place { slot < 32 }
+    requires place { slot < MAX_ENTRIES }
     ensures reads { ReadsOn table.now G.becomes (seat.old, gate.old) (seat.new, gate.new) }
     ensures beside { (node : NodeView) → HasLockedNode seat.old.known number node → slot < length node.entries → IsBesideIn node slot result }
     ensures few { seat.new.known.steps ≤ seat.old.known.steps + 5 }
@@ -218,10 +218,10 @@ pub(crate) fn load_locked_entry<G: Gate>(
     read_some_entry(table.load_ref(seat, gate, spot))
 }
 
-/// Loads eight words of the locked node of `loads` into `words`, from index `first` on. None is loaded if the entries end at
+/// Loads `SLOT_GROUP` words of the locked node of `loads` into `words`, from index `first` on. None is loaded if the entries end at
 /// `first` or before. Inline, so that each index is known when it is compiled.
 #[inline(always)]
-fn load_eight_words<G: Gate>(
+fn load_slot_group<G: Gate>(
     table: &HotTable,
     seat: &mut TableSeat,
     gate: &mut G,
@@ -231,13 +231,13 @@ fn load_eight_words<G: Gate>(
 )
     requires own { IsSeatOf table.now seat.old }
     requires node { IsNodeRecordAt table.now.layout loads.node }
-    requires range { first + 8 ≤ NODE_FIELDS }
+    requires range { first + SLOT_GROUP ≤ NODE_FIELDS }
     ensures own { IsSeatOf table.now seat.new }
-    ensures reads { ReadsEight table.now G.becomes loads first ((seat.old, gate.old), words.old) ((seat.new, gate.new), words.new) }
+    ensures reads { ReadsGroup table.now G.becomes loads first ((seat.old, gate.old), words.old) ((seat.new, gate.new), words.new) }
 {
     let end = loads.numbers.entries_end();
     if first < end {
-        for place in 0..8 {
+        for place in 0..SLOT_GROUP {
             let index = first + place;
             words[index] = load_locked_word(table, seat, gate, loads.node, index);
         }

@@ -35,7 +35,9 @@ use crate::valuing::is_unchanged;
 use crate::widening::{lock_for_merge, unlock_for_merge};
 use compound_node::{Entry, Node};
 use insert_cases::PathNode;
-use record_words::{NODE_FIELDS, NUMBERS_OFFSET, close_fork, pack_node, read_node, read_numbers};
+use record_words::{
+    MAX_ENTRIES, NODE_FIELDS, NUMBERS_OFFSET, close_fork, pack_node, read_node, read_numbers,
+};
 use rowex_core::{Gate, Rec};
 use rowex_reading::Found;
 use rowex_records::fill_node;
@@ -103,7 +105,7 @@ pub(crate) fn find_merge<'a, G: Gate>(
     ensures few { seat.new.known.steps ≤ seat.old.known.steps + 10 }
 {
     let (above, low) = (job.way[job.span.end - 1], job.way[job.span.end]);
-    if low.count > 31 {
+    if low.count as usize >= MAX_ENTRIES {
         return None;
     }
     let Some((slot, column)) = load_sibling(table, seat, gate, above.number, above.slot) else {
@@ -113,7 +115,7 @@ pub(crate) fn find_merge<'a, G: Gate>(
         return None;
     };
     let word = table.load_fixed(seat, gate, Rec::Node(number), NUMBERS_OFFSET);
-    if read_numbers(word).count.saturating_add(low.count) > 33 {
+    if read_numbers(word).count as usize + low.count as usize > MAX_ENTRIES + 1 {
         return None;
     }
     let position = load_position(table, seat, gate, above.number, column);
@@ -216,7 +218,7 @@ fn merge_siblings<G: Gate>(
 {
     let other = read_locked_node(table, seat, gate, merge.number);
     let left = read_node(&merge.left.words);
-    if left.count() + other.count() > 32 {
+    if (left.count() + other.count()) as usize > MAX_ENTRIES {
         return None;
     }
     Some(merge_sides(job.key.bit(merge.position), merge.position, &left, &other))
@@ -224,7 +226,7 @@ fn merge_siblings<G: Gate>(
 
 /// Returns one node of the entries of `own` and `other`, with a fork of the two at `position`. `own` is the side of `bit` there.
 fn merge_sides(bit: bool, position: u16, own: &Node, other: &Node) -> Node
-    requires room { length own.now.entries + length other.now.entries ≤ 32 }
+    requires room { length own.now.entries + length other.now.entries ≤ MAX_ENTRIES }
     requires after { RisesFrom 0 (fork_of bit position (piece own.now) (piece other.now)) }
     ensures { IsBuiltFrom result (fork_of bit position (piece own.now) (piece other.now)) }
 {

@@ -24,7 +24,9 @@ use crate::kept::{Build, MOST_MADE};
 use crate::remaking::NewLeaf;
 use compound_node::{Cut, Entry, Half, Node};
 use insert_cases::Risen;
-use record_words::{HEAD_WORDS, NODE_FIELDS, affected_slots, pack_node, read_numbers};
+use record_words::{
+    HEAD_WORDS, NODE_FIELDS, Tag, affected_slots, pack_node, pack_state, read_numbers,
+};
 use rowex_core::{Gate, Rec};
 use rowex_records::{RecordKind, fill_node, find_free_record};
 use rowex_table::{HotTable, TableSeat};
@@ -241,7 +243,7 @@ fn is_last_free<G: Gate>(
     if number >= table.layout().nodes {
         return false;
     }
-    table.load_state(seat, gate, Rec::Node(number)) == 0
+    table.load_state(seat, gate, Rec::Node(number)) == pack_state(Tag::Free)
 }
 
 /// Loads the states of the records `made`, which the pass has made, so that each was found not free.

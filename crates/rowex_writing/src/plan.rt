@@ -13,6 +13,7 @@ ghost use Rattle.record_words.specs.declared.TheConstants.{HEAD_WORDS};
 
 use finite_map::Reply;
 use insert_cases::{Case, PathNode, choose_case, last_level_before, pull_up_chain_end};
+use record_words::MAX_ENTRIES;
 use rowex_core::Gate;
 use rowex_reading::{Found, find_affected};
 use rowex_table::{HotTable, TableSeat};
@@ -160,7 +161,7 @@ fn plan_in_lowest_node(way: &[PathNode], position: u16, level: usize) -> Plan
     ensures { (first last : ℕ) → IsBeside way.now position level first last result }
 {
     let deed = Deed::Grow { position };
-    if way[level].count < 32 {
+    if (way[level].count as usize) < MAX_ENTRIES {
         change_plan(level + 1, level, deed)
     } else {
         change_plan(level + 1, pull_up_chain_end(way, level), deed)

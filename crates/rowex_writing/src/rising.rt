@@ -31,7 +31,7 @@ use crate::remaking::{Fork, NewLeaf, add_fork, add_leaf, cut_with_fork, cut_with
 use compound_node::{Cut, Entry, Half, Node};
 use insert_cases::{PathNode, Risen};
 use key_bits::Key;
-use record_words::{NODE_FIELDS, can_take_leaf, drop_entry, read_node};
+use record_words::{MAX_ENTRIES, NODE_FIELDS, can_take_leaf, drop_entry, read_node};
 use rowex_core::Gate;
 use rowex_table::{HotTable, TableSeat};
 
@@ -55,7 +55,7 @@ fn raise_node_with_fork<G: Gate>(
     ensures level { (words : List ℕ) → HasLocked seat.old.known number words → IfSome result (IsLevelRisen words) }
 {
     let mut node = read_locked_node(table, seat, gate, number);
-    if node.count() == 32 {
+    if node.count() as usize == MAX_ENTRIES {
         let old = node_entry(number, &node);
         let cut = cut_with_fork(&node, fork);
         return make_risen(table, seat, gate, build, old, &cut);
@@ -99,7 +99,7 @@ fn make_risen_with_leaf_by_value<G: Gate>(
     ensures made { MakesGrown table.now (seat.old, build.old.made.items) (seat.new, build.new.made.items) loaded.now new.now result }
 {
     let mut node = read_node(&loaded.words);
-    if node.count() == 32 {
+    if node.count() as usize == MAX_ENTRIES {
         let old = node_entry(loaded.number, &node);
         let cut = cut_with_leaf(&node, new);
         let stays = has_whole_node(&cut);

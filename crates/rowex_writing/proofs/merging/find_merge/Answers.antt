@@ -62,8 +62,8 @@ load_fixed-word-requires-clause-range g c =
     let low : c.in-Node.number < c.args.table.now.layout.nodes = beside_in_table c.args.table.now.layout c.args.seat.now.known p.core p.lawful p.layout_is p.knows c.args.job.now.key.now (upper c.args.job.now).number c.in-Node.number _ c.in-Node.height words h is in
     search (rules, low)
 
-pub returns-then-saturating_add-gt33-clause-reads : goal.returns-then-saturating_add-gt33-clause-reads
-returns-then-saturating_add-gt33-clause-reads g c =
+pub returns-then-read_numbers-low-clause-reads : goal.returns-then-read_numbers-low-clause-reads
+returns-then-read_numbers-low-clause-reads g c =
     reads_more c.args.table.now g.G.Gate.becomes (c.args.seat.now, c.args.gate.now) (c.load_locked_entry.new.seat, c.load_locked_entry.new.gate) (c.load_fixed-word.new.seat, c.load_fixed-word.new.gate) (reads_more c.args.table.now g.G.Gate.becomes (c.args.seat.now, c.args.gate.now) (c.load_sibling.new.seat, c.load_sibling.new.gate) (c.load_locked_entry.new.seat, c.load_locked_entry.new.gate) c.load_sibling.ensures.reads c.load_locked_entry.ensures.reads)
     (reads_fixed c.args.table.now g.G.Gate.becomes c.in-Node.number 1 c.load_fixed-word.result (c.load_locked_entry.new.seat, c.load_locked_entry.new.gate) (c.load_fixed-word.new.seat, c.load_fixed-word.new.gate) c.load_fixed-word.ensures)
 

@@ -22,8 +22,8 @@ read_locked_node-other-requires-clause-locked g c = (c.requires.wide.words, othe
 pub read_node-left-requires : goal.read_node-left-requires
 read_node-left-requires g c = let left = c.requires.left.built in (left.node, left.has, left.spells)
 
-pub returns-then-count-gt32-clause-none : goal.returns-then-count-gt32-clause-none
-returns-then-count-gt32-clause-none g c = λ e node other (words, h, is) (also, k, there).
+pub returns-then-count-gt-MAX_ENTRIES-clause-none : goal.returns-then-count-gt-MAX_ENTRIES-clause-none
+returns-then-count-gt-MAX_ENTRIES-clause-none g c = λ e node other (words, h, is) (also, k, there).
     let left = c.requires.left.built in
     let same = c.read_node-left.ensures.only left.node left.has left.spells in
     let node_is : (ws : List ℕ) → HasLocked c.args.seat.now.known (lower c.args.job.now).number ws → IsNodeOf ws node = λ ws i. subst (λ z. IsNodeOf z node) (same_words c.args.table.now.layout c.args.seat.now.known (lower c.args.job.now).number words ws c.requires.wide.possible h i) is in

@@ -13,8 +13,8 @@ cut_with_leaf-cut-requires-clause-leads g c = let (node, takes) = c.requires.tak
 pub cut_with_leaf-cut-requires-clause-tree : goal.cut_with_leaf-cut-requires-clause-tree
 cut_with_leaf-cut-requires-clause-tree g c = let (node, takes) = c.requires.takes in (takes_read c.read_node-node.ensures node c.args.new.now takes).tree
 
-pub returns-then-count-eq32-clause-made : goal.returns-then-count-eq32-clause-made
-returns-then-count-eq32-clause-made g c = λ news node takes b.
+pub returns-then-count-eq-MAX_ENTRIES-clause-made : goal.returns-then-count-eq-MAX_ENTRIES-clause-made
+returns-then-count-eq-MAX_ENTRIES-clause-made g c = λ news node takes b.
     let (after, made, now) = c.in_ok-risen.ensures.made news b in
     let e = c.cut_with_leaf-cut.ensures in (
       after,
@@ -22,7 +22,7 @@ returns-then-count-eq32-clause-made g c = λ news node takes b.
           (record {
             grown = Two c.cut_with_leaf-cut.result;
             shows = e.shows;
-            whole = (λ t. absurd (let z : false ≡ true = t in cc), λ room. absurd (omega (arith, c.if-count-eq32.true, c.count.ensures.count, room)));
+            whole = (λ t. absurd (let z : false ≡ true = t in cc), λ room. absurd (omega (arith, c.if-count-eq-MAX_ENTRIES.true, c.count.ensures.count, room)));
             keeps = c.has_whole_node-stays.ensures;
             above = e.same.0;
             low = e.low;
@@ -40,7 +40,7 @@ add_leaf-requires-clause-tree g c = let (node, takes) = c.requires.takes in (tak
 pub returns-clause-made : goal.returns-clause-made
 returns-clause-made g c = λ news node takes b.
     let (m, is, has, building) = c.in_ok-entry.ensures.made news b in
-    let room : length c.read_node-node.result.entries < 32 = omega (arith, c.if-count-eq32.false, c.count.ensures.count, c.count.ensures.lawful.room) in (
+    let room : length c.read_node-node.result.entries < 32 = omega (arith, c.if-count-eq-MAX_ENTRIES.false, c.count.ensures.count, c.count.ensures.lawful.room) in (
       _,
       grown_for (takes_same c.read_node-node.ensures node c.args.new.now takes) c.args.loaded.now.number c.args.new.now _ false news _
           (record {
@@ -58,8 +58,8 @@ returns-clause-made g c = λ news node takes b.
 pub returns-in_err-risen-clause-makes : goal.returns-in_err-risen-clause-makes
 returns-in_err-risen-clause-makes g c = rw c.from_residual.ensures (makes_failed c.in_err-risen.ensures.makes)
 
-pub returns-then-count-eq32-clause-makes : goal.returns-then-count-eq32-clause-makes
-returns-then-count-eq32-clause-makes g c = makes_as c.in_ok-risen.ensures.makes
+pub returns-then-count-eq-MAX_ENTRIES-clause-makes : goal.returns-then-count-eq-MAX_ENTRIES-clause-makes
+returns-then-count-eq-MAX_ENTRIES-clause-makes g c = makes_as c.in_ok-risen.ensures.makes
 
 pub returns-in_err-entry-clause-makes : goal.returns-in_err-entry-clause-makes
 returns-in_err-entry-clause-makes g c = rw c.from_residual-in_err-entry.ensures (makes_failed (makes_within c.in_err-entry.ensures.makes (omega arith) (omega arith)))

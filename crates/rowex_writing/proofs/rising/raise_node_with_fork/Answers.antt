@@ -34,19 +34,19 @@ add_fork-requires-clause-one g c = lift_one _ _ c.read_locked_node-node.ensures.
 pub make_node-requires-clause-building : goal.make_node-requires-clause-building
 make_node-requires-clause-building g c = (c.requires.below.here.raising.news, lift_building _ _ c.read_locked_node-node.ensures.reads c.requires.below c.read_locked_node-node.ensures.node)
 
-pub returns-then-count-eq32-clause-made : goal.returns-then-count-eq32-clause-made
-returns-then-count-eq32-clause-made g c = λ b.
+pub returns-then-count-eq-MAX_ENTRIES-clause-made : goal.returns-then-count-eq-MAX_ENTRIES-clause-made
+returns-then-count-eq-MAX_ENTRIES-clause-made g c = λ b.
     lifted _ _ c.read_locked_node-node.ensures.reads b c.read_locked_node-node.ensures.node (c.make_risen.new.seat, c.make_risen.new.gate) c.make_risen.new.build.made.items c.node_entry-old.result (Two c.cut_with_fork-cut.result) c.make_risen.result
     c.cut_with_fork-cut.ensures.shows c.cut_with_fork-cut.ensures.same c.make_risen.ensures.makes.goes
     (c.make_risen.ensures.made b.here.raising.news (lift_building _ _ c.read_locked_node-node.ensures.reads b c.read_locked_node-node.ensures.node))
 
-pub returns-then-count-eq32-clause-level : goal.returns-then-count-eq32-clause-level
-returns-then-count-eq32-clause-level g c = λ words h.
+pub returns-then-count-eq-MAX_ENTRIES-clause-level : goal.returns-then-count-eq-MAX_ENTRIES-clause-level
+returns-then-count-eq-MAX_ENTRIES-clause-level g c = λ words h.
     let b = c.requires.below in
     let e = c.cut_with_fork-cut.ensures in
     fork_level words c.read_locked_node-node.result c.node_entry-old.result (Two c.cut_with_fork-cut.result) c.make_risen.result _ b.here.raising.news (IsBuilding c.args.table.now c.make_risen.new.seat c.make_risen.new.build.made.items)
     (c.read_locked_node-node.ensures.node words h) (ap height_of c.node_entry-old.ensures) e.low
-    (λ t. absurd (let z : false ≡ true = t in cc), λ room. absurd (omega (arith, c.if-count-eq32.true, c.count.ensures.count, room)))
+    (λ t. absurd (let z : false ≡ true = t in cc), λ room. absurd (omega (arith, c.if-count-eq-MAX_ENTRIES.true, c.count.ensures.count, room)))
     (c.make_risen.ensures.made b.here.raising.news (lift_building _ _ c.read_locked_node-node.ensures.reads b c.read_locked_node-node.ensures.node))
 
 pub returns-clause-made : goal.returns-clause-made
@@ -60,7 +60,7 @@ pub returns-clause-level : goal.returns-clause-level
 returns-clause-level g c = λ words h.
     let b = c.requires.below in
     let (m, is, has, building) = c.in_ok-entry.ensures.made b.here.raising.news (lift_building _ _ c.read_locked_node-node.ensures.reads b c.read_locked_node-node.ensures.node) in
-    let room : length c.read_locked_node-node.result.entries < 32 = omega (arith, c.if-count-eq32.false, c.count.ensures.count, c.count.ensures.lawful.room) in
+    let room : length c.read_locked_node-node.result.entries < 32 = omega (arith, c.if-count-eq-MAX_ENTRIES.false, c.count.ensures.count, c.count.ensures.lawful.room) in
     fork_level words c.read_locked_node-node.result (Node c.args.number c.read_locked_node-node.result.height) (Single c.add_fork.new.node) (Some (Whole c.in_ok-entry.entry)) (Unit {0}) b.here.raising.news (IsBuilding c.args.table.now c.make_node.new.seat c.make_node.new.build.made.items)
     (c.read_locked_node-node.ensures.node words h) refl c.add_fork.ensures.low (λ t. room, λ t. refl)
     (made_of_node m c.add_fork.new.node ∷ b.here.raising.news, (m, is, refl, has), building)
@@ -68,8 +68,8 @@ returns-clause-level g c = λ words h.
 pub returns-in_err-entry-clause-made : goal.returns-in_err-entry-clause-made
 returns-in_err-entry-clause-made g c = λ b. rw c.from_residual.ensures (c.in_err-entry.ensures.made b.here.raising.news (lift_building _ _ c.read_locked_node-node.ensures.reads b c.read_locked_node-node.ensures.node))
 
-pub returns-then-count-eq32-clause-makes : goal.returns-then-count-eq32-clause-makes
-returns-then-count-eq32-clause-makes g c = makes_after _ c.read_locked_node-node.ensures.reads.goes c.read_locked_node-node.ensures.few c.make_risen.ensures.makes (omega arith) (omega arith)
+pub returns-then-count-eq-MAX_ENTRIES-clause-makes : goal.returns-then-count-eq-MAX_ENTRIES-clause-makes
+returns-then-count-eq-MAX_ENTRIES-clause-makes g c = makes_after _ c.read_locked_node-node.ensures.reads.goes c.read_locked_node-node.ensures.few c.make_risen.ensures.makes (omega arith) (omega arith)
 
 pub returns-in_err-entry-clause-makes : goal.returns-in_err-entry-clause-makes
 returns-in_err-entry-clause-makes g c = rw c.from_residual.ensures (makes_after _ c.read_locked_node-node.ensures.reads.goes c.read_locked_node-node.ensures.few (makes_failed c.in_err-entry.ensures.makes) (omega arith) (omega arith))

@@ -3,7 +3,7 @@ use Rattle.std.proofs.Common.{◌+◌}
 use Rattle.rowex_table.specs.Seats.{IsSeatOf}
 use Rattle.rowex_table.specs.Rule.{record_number}
 use Rattle.rowex_writing.specs.Loads.{AreRead}
-use Rattle.rowex_writing.proofs.locked.load_eight_words.Given as goal
+use Rattle.rowex_writing.proofs.locked.load_slot_group.Given as goal
 
 abbrev pub invariant-loop-place : goal.invariant-loop-place
 invariant-loop-place g l = record {

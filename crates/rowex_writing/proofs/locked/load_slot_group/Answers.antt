@@ -1,9 +1,10 @@
--- Eight words more have been loaded, or the end was reached before.
+-- A group of words more has been loaded, or the end was reached before.
 use Rattle.std.proofs.Common.{◌≡◌, ◌+◌, add-zero, arith, inl, refl, subst, sym, ⊎_elim}
+use Rattle.record_words.specs.declared.TheConstants.{SLOT_GROUP}
 use Rattle.rowex_table.specs.Rule.{record_number}
 use Rattle.rowex_writing.specs.Loads.{AreRead}
 use Rattle.rowex_writing.proofs.Locking.{one_read, seat_of}
-use Rattle.rowex_writing.proofs.locked.load_eight_words.Goals as goal
+use Rattle.rowex_writing.proofs.locked.load_slot_group.Goals as goal
 
 pub loop-place-init : goal.loop-place-init
 loop-place-init g c = record {
@@ -26,8 +27,8 @@ loop-place-preserved g c =
 pub returns-after-loop-place-clause-reads : goal.returns-after-loop-place-clause-reads
 returns-after-loop-place-clause-reads g c = λ a (n, read, low, upto).
     let at : n ≡ c.args.first = ⊎_elim (λ same. same) (λ past. absurd (omega (arith, past, low, c.if-first-end.true, c.entries_end-end.ensures))) upto in
-    let all : c.args.first + c.loop-place.place ≡ c.args.first + 8 = omega (arith, c.loop-place-test.false, c.loop-place.auto.place-end) in (
-      c.args.first + 8,
+    let all : c.args.first + c.loop-place.place ≡ c.args.first + SLOT_GROUP = omega (arith, c.loop-place-test.false, c.loop-place.auto.place-end) in (
+      c.args.first + SLOT_GROUP,
       subst (AreRead c.args.table.now g.G.Gate.becomes a (c.loop-place.seat, c.loop-place.gate) (record_number c.args.loads.node.rec) c.loop-place.words) all
           (c.loop-place.invariant.reads a (subst (AreRead c.args.table.now g.G.Gate.becomes a (c.args.seat.now, c.args.gate.now) (record_number c.args.loads.node.rec) c.args.words.now) at read)),
       omega arith,
