@@ -28,9 +28,13 @@ abbrev pub ReadsRest : {G : Type 0} → TableView → (G → Event → G → Typ
 ReadsRest {G} table becomes number size (b, old) (c, new) =
     (a : SeatView × G) → AreRead table becomes a b number old 1 → head_size (kind_in (get_or old 0 0)) ≡ size → AreRead table becomes a c number new HEAD_WORDS
 
--- They are here up to this index, or at least up to the end, which is before it.
+-- So many words are all those up to this index, or at least up to the end, which is before it.
+abbrev pub ReachesTo : NodeLoads → (n upto : ℕ) → Type 0
+ReachesTo loads n upto = (n ≤ upto) × ((n ≡ upto) ⊎ (HEAD_WORDS + loads.numbers.count ≤ n))
+
+-- They are here up to this index, or up to the end.
 abbrev pub IsReadTo : {G : Type 0} → TableView → (G → Event → G → Type 0) → (a b : SeatView × G) → NodeLoads → (loaded : List ℕ) → (upto : ℕ) → Type 0
-IsReadTo table becomes a b loads loaded upto = (n : ℕ) × AreRead table becomes a b (record_number loads.node.rec) loaded n × (n ≤ upto) × ((n ≡ upto) ⊎ (HEAD_WORDS + loads.numbers.count ≤ n))
+IsReadTo table becomes a b loads loaded upto = (n : ℕ) × AreRead table becomes a b (record_number loads.node.rec) loaded n × ReachesTo loads n upto
 
 -- the pass goes on so, with the words loaded so far, for a group of slots more
 abbrev pub ReadsGroup : {G : Type 0} → TableView → (G → Event → G → Type 0) → NodeLoads → (first : ℕ) → (SeatView × G) × List ℕ → (SeatView × G) × List ℕ → Type 0

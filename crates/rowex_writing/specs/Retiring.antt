@@ -52,7 +52,8 @@ is_root (Value l) = false
 
 -- Once its records are ready, the pass may publish the change x by this store. The records that are listed for it go. Of the nodes that
 -- the pass has locked just these are kept, each listed once, and the anchor is locked just where the root is stored.
-pub record MayStore (table : TableView) (a : SeatView) (build : Build) (kept : List PathNode) (spot : Spot) (entry : Option Entry) (x : Change) (was : Option ℕ) : Type 0 where
+pub record MayStore (table : TableView) (a : SeatView) (build : Build) (kept : List PathNode) (spot : Spot) (entry : Option Entry)
+    (x : Change) (was : Option ℕ) : Type 0 where
   pub ready : MayPublishOnceReady table a build.made.items spot (entry_word entry) x was build.gone.items
   pub of_entry : IsOfEntry spot
   pub told : KnowsWas a.known build.gone.items was

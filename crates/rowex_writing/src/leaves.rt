@@ -5,7 +5,8 @@ ghost use Rattle.key_bits.specs.Key.{IsKey};
 ghost use Rattle.rowex_table.specs.Seats.{IsSeatOf};
 ghost use Rattle.rowex_reading.specs.Possible.{IsPossible};
 ghost use Rattle.rowex_writing.specs.Building.{HasLeafMade, IsBuilding};
-ghost use Rattle.rowex_writing.specs.Changes.{LacksLeaves};
+ghost use Rattle.rowex_writing.specs.Changes.{IsFull};
+ghost use Rattle.rowex_writing.specs.declared.plan.Full.TheVariants.{Leaves};
 ghost use Rattle.rowex_writing.specs.Counts.{leaf_steps};
 ghost use Rattle.rowex_writing.specs.Going.{WorksOn};
 ghost use Rattle.tries.specs.Content.{item};
@@ -39,7 +40,7 @@ pub(crate) fn make_leaf<G: Gate>(
     requires key { IsKey job.now.key.now }
     ensures goes { WorksOn table.now G.becomes (seat.old, gate.old) (seat.new, gate.new) }
     ensures made { MatchOption result
-        (IsBuilding table.now seat.new build.new.made.items [] × LacksLeaves table.now.layout job.now.key.now seat.new.known.pass seat.new.known.failed seat.old.known.steps)
+        (IsBuilding table.now seat.new build.new.made.items [] × IsFull table.now.layout job.now.key.now seat.old.known seat.new.known [] Leaves)
         (λ n. HasLeafMade table.now seat.new build.new.made.items (item n job.now.key.now job.now.value)) }
     ensures few { seat.new.known.steps ≤ seat.old.known.steps + leaf_steps table.now.layout }
 {

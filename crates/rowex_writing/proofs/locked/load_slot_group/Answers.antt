@@ -25,12 +25,11 @@ loop-place-preserved g c =
     }
 
 pub returns-after-loop-place-clause-reads : goal.returns-after-loop-place-clause-reads
-returns-after-loop-place-clause-reads g c = λ a (n, read, low, upto).
+returns-after-loop-place-clause-reads g c = λ a (n, read, (low, upto)).
     let at : n ≡ c.args.first = ⊎_elim (λ same. same) (λ past. absurd (omega (arith, past, low, c.if-first-end.true, c.entries_end-end.ensures))) upto in
     let all : c.args.first + c.loop-place.place ≡ c.args.first + SLOT_GROUP = omega (arith, c.loop-place-test.false, c.loop-place.auto.place-end) in (
       c.args.first + SLOT_GROUP,
       subst (AreRead c.args.table.now g.G.Gate.becomes a (c.loop-place.seat, c.loop-place.gate) (record_number c.args.loads.node.rec) c.loop-place.words) all
           (c.loop-place.invariant.reads a (subst (AreRead c.args.table.now g.G.Gate.becomes a (c.args.seat.now, c.args.gate.now) (record_number c.args.loads.node.rec) c.args.words.now) at read)),
-      omega arith,
-      inl refl,
+      (omega arith, inl refl),
     )
