@@ -1,6 +1,7 @@
 -- One entry that is left is published; for more a record is claimed; or all is given back.
-use Rattle.std.proofs.Common.{◌+◌, ◌*◌, [], Some, ap, arith, length, refl, rules, subst, sym, ◌∙◌}
+use Rattle.std.proofs.Common.{ℕ, Option, ◌+◌, ◌*◌, [], Some, ap, arith, length, refl, rules, subst, sym, ◌∙◌}
 use Rattle.std.proofs.lemmas.Option.{slice_get_within}
+use Rattle.finite_map.specs.declared.Change.{Change}
 use Rattle.tries.specs.Content.{item}
 use Rattle.version_laws.specs.Writer.{removed_change}
 use Rattle.record_words.specs.declared.TheConstants.{NODE_FIELDS}
@@ -27,7 +28,9 @@ use Rattle.rowex_writing.proofs.Runs.{goes_run, works_run}
 use Rattle.rowex_writing.proofs.Spare.{goes_room, goes_spare, gone_node, works_spare}
 use Rattle.rowex_writing.proofs.Valued.{busy_leafless, busy_roomy, failed_before}
 use Rattle.rowex_writing.proofs.Wider.{few_none, removal_changes}
+use Rattle.rowex_writing.proofs.attempts.make_removal.Given as given
 use Rattle.rowex_writing.proofs.attempts.make_removal.Goals as goal
+use Rattle.rowex_writing.proofs.attempts.make_removal.Goals.{After-put_in_place}
 
 -- ---- the leaf's node
 pub bounds-job-job : goal.bounds-job-job
@@ -73,8 +76,10 @@ pub put_in_place-requires : goal.put_in_place-requires
 put_in_place-requires g c =
     let (t, same) = is_taking c.args.table.now c.args.seat.now c.args.job.now c.requires.taken c.requires.some in record { found = (t.number, t.value, t.found) }
 
-pub publish_change-requires : goal.publish_change-requires
-publish_change-requires g c =
+-- what takes the place of the node then
+may_replace : (g : given.Over) (c : After-put_in_place g) → (x : Change) × (was : Option ℕ) × IsTakeChange c.args.seat.now.known.pass c.args.job.now.key.now c.args.job.now.found x was ×
+    MayReplace c.args.table.now c.load_without_leaf.new.seat c.clear.new.self.items c.args.job.now c.put_in_place.result x was
+may_replace g c =
     let table = c.args.table.now in
     let job = c.args.job.now in
     let reads = c.load_without_leaf.ensures.reads in
@@ -88,14 +93,21 @@ publish_change-requires g c =
     (goes_possible table g.G.Gate.becomes (c.args.seat.now, c.args.gate.now) (c.load_without_leaf.new.seat, c.load_without_leaf.new.gate) reads.goes taken.possible) (reads.own ∙ taken.own)) in
     let may = replaces_alone table c.args.seat.now m job number value b c.load_without_leaf.new.seat c.clear.new.self.items [] words h c.in-Some.entry (reads.goes.stays.0, reads.goes.stays.1, reads.goes.stays.2) building
     (one c.in-Some.entry left.0) (word_of c.in-Some.entry c.put_in_place.ensures.number (entry_height c.in-Some.entry left.1)) (omega (arith, ap length c.clear.ensures)) in
+    let change = removed_change c.args.seat.now.known.pass (item number job.key.now value) in (
+      change,
+      Some value,
+      subst (λ f. IsTakeChange c.args.seat.now.known.pass job.key.now f change (Some value)) (sym is) (refl, refl),
+      subst (λ (r : Raised). MayReplace table c.load_without_leaf.new.seat c.clear.new.self.items job r change (Some value)) (sym (c.put_in_place.ensures.same number value is)) may,
+    )
+
+pub publish_change-requires : goal.publish_change-requires
+publish_change-requires g c =
+    let reads = c.load_without_leaf.ensures.reads in
+    let (x, was, is, may) = may_replace g (goal.at.publish_change-requires g c).After-put_in_place in
     record {
-      held = holds_on table g.G.Gate.becomes (c.args.seat.now, c.args.gate.now) (c.load_without_leaf.new.seat, c.load_without_leaf.new.gate) job Take reads.goes c.requires.taken;
-      may = (
-        _,
-        _,
-        subst (λ (r : Raised). MayReplace table c.load_without_leaf.new.seat c.clear.new.self.items job r (removed_change c.args.seat.now.known.pass (item number job.key.now value)) (Some value)) (sym (c.put_in_place.ensures.same number value is)) may,
-      );
-      loaded = loaded_on c.args.seat.now.known c.load_without_leaf.new.seat.known job.found reads.goes.stays.3 c.requires.loaded;
+      held = holds_on c.args.table.now g.G.Gate.becomes (c.args.seat.now, c.args.gate.now) (c.load_without_leaf.new.seat, c.load_without_leaf.new.gate) c.args.job.now Take reads.goes c.requires.taken;
+      may = (x, was, may);
+      loaded = loaded_on c.args.seat.now.known c.load_without_leaf.new.seat.known c.args.job.now.found reads.goes.stays.3 c.requires.loaded;
     }
 
 pub returns-in-Some-clause-run : goal.returns-in-Some-clause-run
@@ -110,26 +122,8 @@ returns-in-Some-clause-run g c =
 
 pub returns-in-Some-clause-done : goal.returns-in-Some-clause-done
 returns-in-Some-clause-done g c = λ ok.
-    let table = c.args.table.now in
-    let job = c.args.job.now in
-    let reads = c.load_without_leaf.ensures.reads in
-    let (m, aim, taken, planned) = c.requires.taken in
-    let (number, value, is, b) = taken_below table c.args.seat.now m job aim Take tt taken planned (let w = taken.within.0 in omega (arith, w, c.requires.some)) in
-    let at = low_step table c.args.seat.now m job number value b in
-    let (words, h) = lowest_locked table c.args.seat.now m job number value b _ at in
-    let left = c.in-Some.ensures.left job.key.now words (lowest_leads table c.args.seat.now m job number value b _ at) h in
-    let building = subst (λ z. IsBuilding table c.load_without_leaf.new.seat z []) (sym c.clear.ensures)
-    (building_none table c.load_without_leaf.new.seat (seat_of table g.G.Gate.becomes (c.args.seat.now, c.args.gate.now) (c.load_without_leaf.new.seat, c.load_without_leaf.new.gate) reads.goes taken.seat)
-    (goes_possible table g.G.Gate.becomes (c.args.seat.now, c.args.gate.now) (c.load_without_leaf.new.seat, c.load_without_leaf.new.gate) reads.goes taken.possible) (reads.own ∙ taken.own)) in
-    let may = replaces_alone table c.args.seat.now m job number value b c.load_without_leaf.new.seat c.clear.new.self.items [] words h c.in-Some.entry (reads.goes.stays.0, reads.goes.stays.1, reads.goes.stays.2) building
-    (one c.in-Some.entry left.0) (word_of c.in-Some.entry c.put_in_place.ensures.number (entry_height c.in-Some.entry left.1)) (omega (arith, ap length c.clear.ensures)) in
-    let there = subst (λ (r : Raised). MayReplace table c.load_without_leaf.new.seat c.clear.new.self.items job r (removed_change c.args.seat.now.known.pass (item number job.key.now value)) (Some value)) (sym (c.put_in_place.ensures.same number value is)) may in
-    let change = removed_change c.args.seat.now.known.pass (item number job.key.now value) in (
-      change,
-      Some value,
-      subst (λ f. IsTakeChange c.args.seat.now.known.pass job.key.now f change (Some value)) (sym is) (refl, refl),
-      changed_since c.args.seat.now.known c.load_without_leaf.new.seat.known c.publish_change.new.seat.known change (Some value) c.load_without_leaf.ensures.reads.goes.stays.0 (c.publish_change.ensures.changed change (Some value) there),
-    )
+    let (x, was, is, may) = may_replace g (goal.at.returns-in-Some-clause-done g c).After-put_in_place in
+    (x, was, is, changed_since c.args.seat.now.known c.load_without_leaf.new.seat.known c.publish_change.new.seat.known x was c.load_without_leaf.ensures.reads.goes.stays.0 (c.publish_change.ensures.changed x was may))
 
 pub returns-in-Some-clause-spares : goal.returns-in-Some-clause-spares
 returns-in-Some-clause-spares g c = λ had.
