@@ -1,23 +1,41 @@
 -- The search, its plan, and what follows from it.
 use Rattle.rowex_writing.proofs.Spare.{looks_room, looks_spare, reads_room, reads_spare}
-use Rattle.std.proofs.Common.{[], Err, Some, inl, inr, ◌∙◌, ap, subst, sym, arith, refl, IsSome, ◌≡◌}
+use Rattle.std.proofs.Common.{[], Err, Some, inl, inr, ◌∙◌, ap, subst, sym, arith, refl, IsSome, ◌≡◌, ◌≤◌, ◌+◌}
 use Rattle.rowex_reading.specs.Seen.{since}
 use Rattle.rowex_reading.specs.Ways.{IsWayOf, value_of}
 use Rattle.rowex_reading.proofs.Led.{reads_later, same_since}
 use Rattle.rowex_reading.proofs.Ways.{way_later}
+use Rattle.rowex_writing.specs.Attempts.{HasAttempted}
 use Rattle.rowex_writing.specs.Changes.{IsPlanned}
+use Rattle.rowex_writing.specs.Counts.{most_steps}
 use Rattle.rowex_writing.specs.Plans.{LiesOnWay}
-use Rattle.rowex_writing.proofs.Attempting.{aimless_looked, answered_change, answered_leafless, answered_look, begun_on, found_later, leafless, looked, looked_few, plan_made, removal_takes, removes_aim, searched, planned_again, full_of_new, tried_few}
+use Rattle.rowex_writing.proofs.Attempting.{Begun, aimless_looked, answered_change, answered_leafless, answered_look, begun_on, found_later, leafless, looked, looked_few, plan_made, removal_takes, removes_aim, searched, planned_again, full_of_new, tried_few}
 use Rattle.rowex_writing.proofs.Attempted.{attempted, searched_few, tried_after}
 use Rattle.rowex_writing.proofs.Onward.{reads_run}
 use Rattle.rowex_writing.proofs.Runs.{none_once, run_loaded, run_none}
 use Rattle.rowex_writing.proofs.Works.{no_change_made_later}
+use Rattle.rowex_writing.proofs.attempts.attempt.Given as given
 use Rattle.rowex_writing.proofs.attempts.attempt.Goals as goal
+use Rattle.rowex_writing.proofs.attempts.attempt.Goals.{After-find_plan, After-try_plan, In-Change}
 use Rattle.rowex_writing.specs.Asking.{aim_of, value_in}
 use Rattle.rowex_writing.specs.declared.attempts.TryFault.TheVariants.{FullNodes}
 use Rattle.rowex_writing.specs.declared.plan.Plan.TheVariants.{Change}
 use Rattle.rowex_reading.proofs.Seeing.{later_trans}
 use Rattle.rowex_writing.specs.declared.plan.Deed.TheVariants.{Value as ValueDeed}
+
+-- what the search and the plan leave
+begun : (g : given.Over) (c : After-find_plan g) → Begun c.args.table.now g.G.Gate.becomes (c.args.seat.now, c.args.gate.now) (c.find_plan.new.seat, c.find_plan.new.gate)
+begun g c = begun_on c.args.table.now g.G.Gate.becomes c.find_plan.ensures.reads.0 c.find_plan.ensures.reads.1 (c.args.seat.now, c.args.gate.now) (c.search_way-found.new.seat, c.search_way-found.new.gate) (c.find_plan.new.seat, c.find_plan.new.gate) c.search_way-found.ensures.searched c.search_way-found.ensures.possible c.requires.own c.requires.rest c.find_plan.ensures.reads.2
+
+-- what is planned, if it is a change
+change_planned : (g : given.Over) (c : In-Change g) →
+    IsPlanned c.find_plan.new.seat.known (since c.search_way-found.new.seat.known) c.key-key.result.now c.as_slice-way.result.now c.in-Some.request.aim c.search_way-found.result (Change c.in-Change.span c.in-Change.deed)
+change_planned g c = subst (IsPlanned _ _ _ _ _ _) c.in-Change.is (plan_made c.args.table.now.layout _ _ (since c.search_way-found.new.seat.known) c.key-key.result.now _ _ _ _ _ c.as_slice-way.ensures.value c.search_way-found.ensures.way c.find_plan.ensures.planned)
+
+-- what the plan's change leaves
+tried : (g : given.Over) (c : After-try_plan g) → HasAttempted c.args.table.now g.G.Gate.becomes (c.args.seat.now, c.args.gate.now) (c.try_plan.new.seat, c.try_plan.new.gate) ×
+    (c.try_plan.new.seat.known.steps ≤ c.args.seat.now.known.steps + most_steps c.args.table.now.layout)
+tried g c = tried_after c.args.table.now g.G.Gate.becomes c.find_plan.ensures.reads.0 c.find_plan.ensures.reads.1 (c.args.seat.now, c.args.gate.now) (c.search_way-found.new.seat, c.search_way-found.new.gate) (c.find_plan.new.seat, c.find_plan.new.gate) (c.try_plan.new.seat, c.try_plan.new.gate) c.search_way-found.ensures.searched c.find_plan.ensures.reads.2 c.find_plan.ensures.few c.try_plan.ensures.run
 
 pub find_plan-requires-clause-own : goal.find_plan-requires-clause-own
 find_plan-requires-clause-own g c = (searched c.args.table.now g.G.Gate.becomes (c.args.seat.now, c.args.gate.now) (c.search_way-found.new.seat, c.search_way-found.new.gate) c.search_way-found.ensures.searched c.search_way-found.ensures.possible c.requires.own c.requires.rest).seat
@@ -37,14 +55,14 @@ returns-in-Answer-clause-run g c =
     attempted c.args.table.now g.G.Gate.becomes (c.args.seat.now, c.args.gate.now) (c.search_way-found.new.seat, c.search_way-found.new.gate) (c.find_plan.new.seat, c.find_plan.new.gate) c.search_way-found.ensures.searched none (omega arith) (omega (arith, c.find_plan.ensures.few))
 
 pub returns-in-Answer-clause-loaded : goal.returns-in-Answer-clause-loaded
-returns-in-Answer-clause-loaded g c = (begun_on c.args.table.now g.G.Gate.becomes c.find_plan.ensures.reads.0 c.find_plan.ensures.reads.1 (c.args.seat.now, c.args.gate.now) (c.search_way-found.new.seat, c.search_way-found.new.gate) (c.find_plan.new.seat, c.find_plan.new.gate) c.search_way-found.ensures.searched c.search_way-found.ensures.possible c.requires.own c.requires.rest c.find_plan.ensures.reads.2).loaded
+returns-in-Answer-clause-loaded g c = (begun g (goal.at.returns-in-Answer-clause-loaded g c).After-find_plan).loaded
 
 pub returns-in-Answer-clause-rest : goal.returns-in-Answer-clause-rest
-returns-in-Answer-clause-rest g c = (begun_on c.args.table.now g.G.Gate.becomes c.find_plan.ensures.reads.0 c.find_plan.ensures.reads.1 (c.args.seat.now, c.args.gate.now) (c.search_way-found.new.seat, c.search_way-found.new.gate) (c.find_plan.new.seat, c.find_plan.new.gate) c.search_way-found.ensures.searched c.search_way-found.ensures.possible c.requires.own c.requires.rest c.find_plan.ensures.reads.2).rest
+returns-in-Answer-clause-rest g c = (begun g (goal.at.returns-in-Answer-clause-rest g c).After-find_plan).rest
 
 pub returns-in-Answer-clause-answered : goal.returns-in-Answer-clause-answered
 returns-in-Answer-clause-answered g c =
-    let b = begun_on c.args.table.now g.G.Gate.becomes c.find_plan.ensures.reads.0 c.find_plan.ensures.reads.1 (c.args.seat.now, c.args.gate.now) (c.search_way-found.new.seat, c.search_way-found.new.gate) (c.find_plan.new.seat, c.find_plan.new.gate) c.search_way-found.ensures.searched c.search_way-found.ensures.possible c.requires.own c.requires.rest c.find_plan.ensures.reads.2 in
+    let b = begun g (goal.at.returns-in-Answer-clause-answered g c).After-find_plan in
     let m = since c.search_way-found.new.seat.known in
     let planned = plan_made c.args.table.now.layout _ _ m c.key-key.result.now _ _ _ _ _ c.as_slice-way.ensures.value c.search_way-found.ensures.way c.find_plan.ensures.planned in
     let found = found_later _ _ _ _ (reads_later c.find_plan.ensures.reads.2) (same_since c.find_plan.ensures.reads.2) c.search_way-found.ensures.found in
@@ -58,7 +76,7 @@ returns-in-Answer-clause-few g c =
 
 -- ---- the change
 pub try_plan-requires-clause-own : goal.try_plan-requires-clause-own
-try_plan-requires-clause-own g c = (begun_on c.args.table.now g.G.Gate.becomes c.find_plan.ensures.reads.0 c.find_plan.ensures.reads.1 (c.args.seat.now, c.args.gate.now) (c.search_way-found.new.seat, c.search_way-found.new.gate) (c.find_plan.new.seat, c.find_plan.new.gate) c.search_way-found.ensures.searched c.search_way-found.ensures.possible c.requires.own c.requires.rest c.find_plan.ensures.reads.2).seat
+try_plan-requires-clause-own g c = (begun g (goal.at.try_plan-requires-clause-own g c).After-find_plan).seat
 
 pub try_plan-requires-clause-within : goal.try_plan-requires-clause-within
 try_plan-requires-clause-within g c = subst (LiesOnWay c.as_slice-way.result.now) c.in-Change.is c.find_plan.ensures.within
@@ -74,24 +92,24 @@ try_plan-requires-clause-planned g c =
     )
 
 pub try_plan-requires-clause-rest : goal.try_plan-requires-clause-rest
-try_plan-requires-clause-rest g c = (begun_on c.args.table.now g.G.Gate.becomes c.find_plan.ensures.reads.0 c.find_plan.ensures.reads.1 (c.args.seat.now, c.args.gate.now) (c.search_way-found.new.seat, c.search_way-found.new.gate) (c.find_plan.new.seat, c.find_plan.new.gate) c.search_way-found.ensures.searched c.search_way-found.ensures.possible c.requires.own c.requires.rest c.find_plan.ensures.reads.2).rest
+try_plan-requires-clause-rest g c = (begun g (goal.at.try_plan-requires-clause-rest g c).After-find_plan).rest
 
 pub try_plan-requires-clause-quiet : goal.try_plan-requires-clause-quiet
 try_plan-requires-clause-quiet g c =
-    let b = begun_on c.args.table.now g.G.Gate.becomes c.find_plan.ensures.reads.0 c.find_plan.ensures.reads.1 (c.args.seat.now, c.args.gate.now) (c.search_way-found.new.seat, c.search_way-found.new.gate) (c.find_plan.new.seat, c.find_plan.new.gate) c.search_way-found.ensures.searched c.search_way-found.ensures.possible c.requires.own c.requires.rest c.find_plan.ensures.reads.2 in
+    let b = begun g (goal.at.try_plan-requires-clause-quiet g c).After-find_plan in
     no_change_made_later c.args.seat.now.known c.find_plan.new.seat.known b.later c.requires.quiet
 
 pub returns-in-Err-clause-run : goal.returns-in-Err-clause-run
 returns-in-Err-clause-run g c =
-    (tried_after c.args.table.now g.G.Gate.becomes c.find_plan.ensures.reads.0 c.find_plan.ensures.reads.1 (c.args.seat.now, c.args.gate.now) (c.search_way-found.new.seat, c.search_way-found.new.gate) (c.find_plan.new.seat, c.find_plan.new.gate) (c.try_plan.new.seat, c.try_plan.new.gate) c.search_way-found.ensures.searched c.find_plan.ensures.reads.2 c.find_plan.ensures.few c.try_plan.ensures.run).0
+    (tried g (goal.at.returns-in-Err-clause-run g c).After-try_plan).0
 
 pub returns-in-Err-clause-loaded : goal.returns-in-Err-clause-loaded
 returns-in-Err-clause-loaded g c =
-    run_loaded c.args.table.now g.G.Gate.becomes c.args.seat.now.known (c.find_plan.new.seat, c.find_plan.new.gate) (c.try_plan.new.seat, c.try_plan.new.gate) (begun_on c.args.table.now g.G.Gate.becomes c.find_plan.ensures.reads.0 c.find_plan.ensures.reads.1 (c.args.seat.now, c.args.gate.now) (c.search_way-found.new.seat, c.search_way-found.new.gate) (c.find_plan.new.seat, c.find_plan.new.gate) c.search_way-found.ensures.searched c.search_way-found.ensures.possible c.requires.own c.requires.rest c.find_plan.ensures.reads.2).loaded c.try_plan.ensures.run.1.1
+    run_loaded c.args.table.now g.G.Gate.becomes c.args.seat.now.known (c.find_plan.new.seat, c.find_plan.new.gate) (c.try_plan.new.seat, c.try_plan.new.gate) (begun g (goal.at.returns-in-Err-clause-loaded g c).After-find_plan).loaded c.try_plan.ensures.run.1.1
 
 pub returns-in-Err-clause-refused : goal.returns-in-Err-clause-refused
 returns-in-Err-clause-refused g c =
-    let b = begun_on c.args.table.now g.G.Gate.becomes c.find_plan.ensures.reads.0 c.find_plan.ensures.reads.1 (c.args.seat.now, c.args.gate.now) (c.search_way-found.new.seat, c.search_way-found.new.gate) (c.find_plan.new.seat, c.find_plan.new.gate) c.search_way-found.ensures.searched c.search_way-found.ensures.possible c.requires.own c.requires.rest c.find_plan.ensures.reads.2 in
+    let b = begun g (goal.at.returns-in-Err-clause-refused g c).After-find_plan in
     rw (sym c.key-key.ensures) (c.in-Err.ensures.refused c.args.seat.now.known b.loaded b.later)
 
 pub returns-in-Err-clause-leafless : goal.returns-in-Err-clause-leafless
@@ -110,27 +128,25 @@ returns-in-Answer-clause-leafless g c = answered_leafless c.args.call.now _
 pub returns-in-Err-clause-few : goal.returns-in-Err-clause-few
 returns-in-Err-clause-few g c =
     let m = since c.search_way-found.new.seat.known in
-    let planned = plan_made c.args.table.now.layout _ _ m c.key-key.result.now _ _ _ _ _ c.as_slice-way.ensures.value c.search_way-found.ensures.way c.find_plan.ensures.planned in
-    let plan : IsPlanned c.find_plan.new.seat.known m c.key-key.result.now c.as_slice-way.result.now c.in-Some.request.aim c.search_way-found.result (Change c.in-Change.span c.in-Change.deed) = subst (IsPlanned _ _ _ _ _ _) c.in-Change.is planned in
+    let plan = change_planned g (goal.at.returns-in-Err-clause-few g c).In-Change in
     let looked = searched_few c.args.table.now g.G.Gate.becomes (c.args.seat.now, c.args.gate.now) (c.search_way-found.new.seat, c.search_way-found.new.gate) c.search_way-found.ensures.searched in
     tried_few c.args.table.now.layout c.args.seat.now.known.steps c.try_plan.new.seat.known.steps c.find_plan.new.seat.known m c.key-key.result.now c.as_slice-way.result.now c.in-Some.request.aim c.search_way-found.result c.in-Change.span c.in-Change.deed c.args.call.now
     c.in-Some.ensures.0 plan (λ is. let short = c.try_plan.ensures.short is in omega (arith, looked, c.find_plan.ensures.few, short))
-    (tried_after c.args.table.now g.G.Gate.becomes c.find_plan.ensures.reads.0 c.find_plan.ensures.reads.1 (c.args.seat.now, c.args.gate.now) (c.search_way-found.new.seat, c.search_way-found.new.gate) (c.find_plan.new.seat, c.find_plan.new.gate) (c.try_plan.new.seat, c.try_plan.new.gate) c.search_way-found.ensures.searched c.find_plan.ensures.reads.2 c.find_plan.ensures.few c.try_plan.ensures.run).1
+    (tried g (goal.at.returns-in-Err-clause-few g c).After-try_plan).1
 
 pub returns-in-Ok-clause-run : goal.returns-in-Ok-clause-run
 returns-in-Ok-clause-run g c =
-    (tried_after c.args.table.now g.G.Gate.becomes c.find_plan.ensures.reads.0 c.find_plan.ensures.reads.1 (c.args.seat.now, c.args.gate.now) (c.search_way-found.new.seat, c.search_way-found.new.gate) (c.find_plan.new.seat, c.find_plan.new.gate) (c.try_plan.new.seat, c.try_plan.new.gate) c.search_way-found.ensures.searched c.find_plan.ensures.reads.2 c.find_plan.ensures.few c.try_plan.ensures.run).0
+    (tried g (goal.at.returns-in-Ok-clause-run g c).After-try_plan).0
 
 pub returns-in-Ok-clause-loaded : goal.returns-in-Ok-clause-loaded
 returns-in-Ok-clause-loaded g c =
-    run_loaded c.args.table.now g.G.Gate.becomes c.args.seat.now.known (c.find_plan.new.seat, c.find_plan.new.gate) (c.try_plan.new.seat, c.try_plan.new.gate) (begun_on c.args.table.now g.G.Gate.becomes c.find_plan.ensures.reads.0 c.find_plan.ensures.reads.1 (c.args.seat.now, c.args.gate.now) (c.search_way-found.new.seat, c.search_way-found.new.gate) (c.find_plan.new.seat, c.find_plan.new.gate) c.search_way-found.ensures.searched c.search_way-found.ensures.possible c.requires.own c.requires.rest c.find_plan.ensures.reads.2).loaded c.try_plan.ensures.run.1.1
+    run_loaded c.args.table.now g.G.Gate.becomes c.args.seat.now.known (c.find_plan.new.seat, c.find_plan.new.gate) (c.try_plan.new.seat, c.try_plan.new.gate) (begun g (goal.at.returns-in-Ok-clause-loaded g c).After-find_plan).loaded c.try_plan.ensures.run.1.1
 
 pub returns-in-Ok-clause-answered : goal.returns-in-Ok-clause-answered
 returns-in-Ok-clause-answered g c =
-    let b = begun_on c.args.table.now g.G.Gate.becomes c.find_plan.ensures.reads.0 c.find_plan.ensures.reads.1 (c.args.seat.now, c.args.gate.now) (c.search_way-found.new.seat, c.search_way-found.new.gate) (c.find_plan.new.seat, c.find_plan.new.gate) c.search_way-found.ensures.searched c.search_way-found.ensures.possible c.requires.own c.requires.rest c.find_plan.ensures.reads.2 in
+    let b = begun g (goal.at.returns-in-Ok-clause-answered g c).After-find_plan in
     let m = since c.search_way-found.new.seat.known in
-    let planned = plan_made c.args.table.now.layout _ _ m c.key-key.result.now _ _ _ _ _ c.as_slice-way.ensures.value c.search_way-found.ensures.way c.find_plan.ensures.planned in
-    let plan : IsPlanned c.find_plan.new.seat.known m c.key-key.result.now c.as_slice-way.result.now c.in-Some.request.aim c.search_way-found.result (Change c.in-Change.span c.in-Change.deed) = subst (IsPlanned _ _ _ _ _ _) c.in-Change.is planned in
+    let plan = change_planned g (goal.at.returns-in-Ok-clause-answered g c).In-Change in
     rw (c.reply-in-Ok.ensures []) (rw (c.found_value-in-Ok.ensures) (elim c.in-Ok.ensures.done [
       | inl other ↦ answered_look c.args.seat.now.known c.try_plan.new.seat.known c.args.call.now _ (later_trans b.later other.later)
           (aimless_looked c.try_plan.new.seat.known c.key-key.result.now c.args.call.now (value_of c.in-Ok.now) (Some other.value) c.key-key.ensures other.is (ap (aim_of c.args.call.now) other.is ∙ other.aimless) other.held)
@@ -150,12 +166,11 @@ try_plan-requires-clause-aims g c =
 pub returns-in-Ok-clause-few : goal.returns-in-Ok-clause-few
 returns-in-Ok-clause-few g c =
     let m = since c.search_way-found.new.seat.known in
-    let planned = plan_made c.args.table.now.layout _ _ m c.key-key.result.now _ _ _ _ _ c.as_slice-way.ensures.value c.search_way-found.ensures.way c.find_plan.ensures.planned in
-    let plan : IsPlanned c.find_plan.new.seat.known m c.key-key.result.now c.as_slice-way.result.now c.in-Some.request.aim c.search_way-found.result (Change c.in-Change.span c.in-Change.deed) = subst (IsPlanned _ _ _ _ _ _) c.in-Change.is planned in
+    let plan = change_planned g (goal.at.returns-in-Ok-clause-few g c).In-Change in
     let looked = searched_few c.args.table.now g.G.Gate.becomes (c.args.seat.now, c.args.gate.now) (c.search_way-found.new.seat, c.search_way-found.new.gate) c.search_way-found.ensures.searched in
     tried_few c.args.table.now.layout c.args.seat.now.known.steps c.try_plan.new.seat.known.steps c.find_plan.new.seat.known m c.key-key.result.now c.as_slice-way.result.now c.in-Some.request.aim c.search_way-found.result c.in-Change.span c.in-Change.deed c.args.call.now
     c.in-Some.ensures.0 plan (λ is. let short = c.try_plan.ensures.short is in omega (arith, looked, c.find_plan.ensures.few, short))
-    (tried_after c.args.table.now g.G.Gate.becomes c.find_plan.ensures.reads.0 c.find_plan.ensures.reads.1 (c.args.seat.now, c.args.gate.now) (c.search_way-found.new.seat, c.search_way-found.new.gate) (c.find_plan.new.seat, c.find_plan.new.gate) (c.try_plan.new.seat, c.try_plan.new.gate) c.search_way-found.ensures.searched c.find_plan.ensures.reads.2 c.find_plan.ensures.few c.try_plan.ensures.run).1
+    (tried g (goal.at.returns-in-Ok-clause-few g c).After-try_plan).1
 
 -- ---- answered at once
 pub returns-in_default-clause-run : goal.returns-in_default-clause-run
@@ -186,8 +201,7 @@ returns-in_default-clause-few g c =
 pub returns-in-Err-clause-full : goal.returns-in-Err-clause-full
 returns-in-Err-clause-full g c =
     let m = since c.search_way-found.new.seat.known in
-    let planned = plan_made c.args.table.now.layout _ _ m c.key-key.result.now _ _ _ _ _ c.as_slice-way.ensures.value c.search_way-found.ensures.way c.find_plan.ensures.planned in
-    let plan : IsPlanned c.find_plan.new.seat.known m c.key-key.result.now c.as_slice-way.result.now c.in-Some.request.aim c.search_way-found.result (Change c.in-Change.span c.in-Change.deed) = subst (IsPlanned _ _ _ _ _ _) c.in-Change.is planned in
+    let plan = change_planned g (goal.at.returns-in-Err-clause-full g c).In-Change in
     let whole = λ (is : c.in-Change.deed ≡ ValueDeed). c.in-Err.ensures.whole is in
     full_of_new c.search_way-found.new.seat.known c.find_plan.new.seat.known c.try_plan.new.seat.known m c.key-key.result.now c.as_slice-way.result.now c.in-Some.request.aim c.search_way-found.result c.in-Change.span c.in-Change.deed c.in-Err.fault
     c.args.call.now c.key-key.ensures plan c.search_way-found.ensures.way.since c.search_way-found.ensures.found (later_trans (reads_later c.find_plan.ensures.reads.2) c.in-Err.ensures.later)
@@ -213,7 +227,7 @@ returns-in-Err-clause-finds g c = λ removal room is.
     let m = since c.search_way-found.new.seat.known in
     let planned = plan_made c.args.table.now.layout _ _ m c.key-key.result.now _ _ _ _ _ c.as_slice-way.ensures.value c.search_way-found.ensures.way c.find_plan.ensures.planned in
     let removes = removes_aim c.args.call.now (value_of c.search_way-found.result) c.in-Some.request.aim removal c.in-Some.ensures.0 in
-    let none = (begun_on c.args.table.now g.G.Gate.becomes c.find_plan.ensures.reads.0 c.find_plan.ensures.reads.1 (c.args.seat.now, c.args.gate.now) (c.search_way-found.new.seat, c.search_way-found.new.gate) (c.find_plan.new.seat, c.find_plan.new.gate) c.search_way-found.ensures.searched c.search_way-found.ensures.possible c.requires.own c.requires.rest c.find_plan.ensures.reads.2).rest.own in
+    let none = (begun g (goal.at.returns-in-Err-clause-finds g c).After-find_plan).rest.own in
     let searched_none = (searched c.args.table.now g.G.Gate.becomes (c.args.seat.now, c.args.gate.now) (c.search_way-found.new.seat, c.search_way-found.new.gate) c.search_way-found.ensures.searched c.search_way-found.ensures.possible c.requires.own c.requires.rest).rest.own in
     c.try_plan.ensures.finds
     (removal_takes c.find_plan.new.seat.known m c.key-key.result.now c.as_slice-way.result.now c.in-Some.request.aim c.search_way-found.result c.find_plan.result c.in-Change.span c.in-Change.deed removes c.in-Change.is planned)

@@ -4,7 +4,7 @@ use Rattle.std.proofs.Common.{◌≡◌, inl, inr, ap, refl, sym, subst, ◌∙�
 use Rattle.rowex_core.specs.declared.known.Fresh.{Fresh}
 use Rattle.rowex_reading.specs.Ways.{IsFoundAt, value_of}
 use Rattle.rowex_reading.proofs.Seeing.{later_trans}
-use Rattle.rowex_writing.specs.Asking.{aim_of, value_in}
+use Rattle.rowex_writing.specs.Asking.{value_in}
 use Rattle.rowex_writing.specs.Changes.{HasTakenSpan, IsDeedChange, IsPlanned}
 use Rattle.rowex_writing.proofs.Attempted.{ended_run}
 use Rattle.rowex_writing.proofs.Attempting.{one_lock, planned_again, planned_later, refused_busy, refused_failed, failed_later}
