@@ -232,8 +232,8 @@ impl Builder {
             && self.words[self.layout.leaf(number)] == pack_state(Tag::Free)
     }
 
-    /// Whether enough node records are left for one leaf more: two for each piece that there is then, or one for each slot. Closing all
-    /// pieces takes no more.
+    /// Whether enough node records are left for one leaf more, which is one slot and one piece more: two for each piece, or one for each
+    /// slot. Closing all pieces takes no more.
     fn has_nodes(&self) -> bool
         ensures { IsTrue result ↔ HasNodesFor self.now 1 }
     {
@@ -281,7 +281,7 @@ impl Builder {
         }
     }
 
-    /// Joins all pieces, of which there is one at least, into one.
+    /// Joins all pieces, of which there is one at least, into one. The loop's label names it for the proof.
     fn join_all(&mut self)
         requires { (xs : List Item) × IsStackOf self.old xs }
         ensures alone { (xs : List Item) → IsStackOf self.old xs → (t : Tree) × IsAlone self.new t xs }

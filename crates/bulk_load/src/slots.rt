@@ -15,7 +15,7 @@ use arrayvec::ArrayVec;
 use compound_node::{Entry, Head, Node};
 use partial_keys::{Columns, MAX_ENTRIES};
 
-/// An entry, and the position of the fork between it and the one before.
+/// An entry, and the position of the fork (BiNode) between it and the one before.
 #[derive(Clone, Copy)]
 pub(crate) struct Slot {
     pub(crate) fork: u16,

@@ -33,8 +33,8 @@ pub struct Cut {
     pub one: Half,
 }
 
-/// The `Half` that has all of `entries`, at least one, whose rows over `columns` are `rows`: the one entry, or a new node of many. The node
-/// has only the columns that the rows use.
+/// The `Half` that has all of `entries`, at least one, whose rows over `columns` are `rows`: the one entry, or a new node of several, as
+/// `build_node` makes it. The node has only the columns that the rows use. The half is never `Same`.
 fn make_half(
     columns: &Columns,
     rows: ArrayVec<u32, MAX_ENTRIES>,

@@ -82,6 +82,8 @@ impl Head {
     /// How many entries the node has, 2 to 32.
     pub fn count(&self) -> u8
         ensures count { result ≡ length self.now.rows }
+
+        // A lawful node has this head: the one with as many leaves as entries.
         ensures lawful { IsLawfulNode (node_of self.now (leaves result)) }
     {
         self.count

@@ -215,7 +215,7 @@ pub(crate) fn clear_first_column(rows: &[u32]) -> ArrayVec<u32, MAX_ENTRIES>
     out
 }
 
-/// `row` without the column at `column`. The columns behind it move forward by one.
+/// `row` without the column with the index `column`, 0 to 31, which is bit 31-`column`. The columns behind it move forward by one.
 fn close_column(row: u32, column: u8) -> u32
     requires { column ≤ 31 }
     ensures { result ≡ closed_row column row }
@@ -224,7 +224,7 @@ fn close_column(row: u32, column: u8) -> u32
     row & !low | (row & low >> 1) << 1
 }
 
-/// Takes the column at `column` out of each of `rows`.
+/// Takes the column with the index `column`, 0 to 31, out of each of `rows`, as `close_column` does.
 fn close_column_of_rows(rows: &mut [u32], column: u8)
     requires { column ≤ 31 }
     ensures { rows.new ≡ map (closed_row column) rows.old }

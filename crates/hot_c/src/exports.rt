@@ -324,8 +324,9 @@ pub extern "C" fn hot_try_remove_if(
     make_call(handle, &mut call, key, had)
 }
 
-/// Makes `call` with `key` in place of its own, and returns the status. `CLOSED` if the handle is closed, `KEY_TOO_LONG` if the key has
-/// more than 240 bytes. The reply's value, if it has one, goes to `had`; else `had` stays. Inline: so the key's bytes are written once.
+/// Gives `call` the key `key` in place of its own, makes it, and returns the status. `CLOSED` if the handle is closed, `KEY_TOO_LONG` if
+/// the key has more than 240 bytes. The reply's value, if it has one, goes to `had`; else `had` stays. Inline, so that the key's bytes are
+/// written once.
 #[inline(always)]
 fn make_call(handle: &mut Handle, call: &mut Call, key: &[u8], had: &mut u64) -> u32
     ensures call { Answers key.now (for_key key.now call.old) handle.old.slot.opened handle.new.slot.opened had.old had.new result }

@@ -86,7 +86,8 @@ impl Opened {
     }
 
     /// Replaces the list with at most `limit` pairs whose keys are from `from` to `upto`, both included. For `Upwards` these are the first
-    /// ones, in rising order; else the last ones, in falling order. Returns whether there are more; an error if memory is refused.
+    /// ones, in rising order; else the last ones, in falling order. `write_pairs_in_order` turns them round for `LastUpwards`.
+    /// Returns whether there are more. An error if memory is refused; then nothing is said of the list.
     pub fn scan(
         &mut self,
         order: Order,

@@ -23,6 +23,7 @@ takes_of Added = 0
 takes_of Replaced = 0
 takes_of TakenAway = 1
 
+-- the same of a change
 abbrev pub puts : Change → ℕ
 puts c = puts_of c.kind
 

@@ -303,7 +303,8 @@ impl<I: ShowsIndex> Handle<I> {
         self.index.show().try_counted(&mut self.pass, call)
     }
 
-    /// The first `limit` pairs from `from` to `upto`, and whether there are more, as `Index::scan` returns. An error if memory is refused.
+    /// The first `limit` pairs with keys from `from` to `upto`, both included, and whether there are more, as `Index::scan` returns. An
+    /// error if memory is refused.
     pub fn scan(
         &mut self,
         alloc: Global,

@@ -278,9 +278,9 @@ impl Index {
         )
     }
 
-    /// Makes one round of collection: it advances the epoch, and visits each record of the index once. It gives back each record that
-    /// was retired in an epoch below the new one and below each pin that is set. No running call can reach such a record. Returns
-    /// how many it gave back.
+    /// Makes one round of collection: it advances the epoch, if no other pass does so meanwhile, loads it, and visits each record of the
+    /// index once. It gives back each record that was retired in an epoch below the loaded one and below each pin that is set. No running
+    /// call can reach such a record. Returns how many it gave back.
     ///
     /// It takes no lock, allocates nothing and never blocks. It makes at most 3 atomic steps, with one more for each pass and two more
     /// for each record.

@@ -105,11 +105,11 @@ pub record IsRangeReadWith {A E G : Type 0} (IsAnswer : Layout → PassView → 
   pub steps : b.0.steps ≤ a.0.steps + scan_steps range.limit
   pub read : HasGotRange index becomes range.limit a b
 
--- no part is left
+-- nothing is said of a part
 abbrev pub no_part : Layout → PassView → PassView → Type 0
 no_part layout k j = Unit {0}
 
--- a range was read, with no gate; out of memory no part is left
+-- a range was read, with no gate; of a part that is left out of memory nothing is said
 abbrev pub IsRangeRead : {A E : Type 0} → (Layout → PassView → PassView → A → Type 0) → Range → Result A E → TableView → PassView → PassView → Type 0
 IsRangeRead IsAnswer range result index k j = IsRangeReadWith IsAnswer no_part range result index untold (k, tt) (j, tt)
 

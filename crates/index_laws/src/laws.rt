@@ -104,8 +104,9 @@ pub fn calls_stand_in_order_or_first_knew_the_load()
     ensures { EndedOrLoadedBefore }
 {}
 
-/// Let one run have the trace of an answered call and all steps before another's load of the root; each has one key. Either the first
-/// stands as in `calls_stand_in_order_of_steps`, or its pass knew of all these steps when it ended.
+/// Let two calls with a key each be answered. Let one run begin with the first one's trace, and with all steps before the second one's load
+/// of the root. Then one of two is so. The first stands no later than the second, and earlier if it changed the map. Or its pass knew of
+/// all these steps when it ended.
 pub fn calls_stand_in_order_or_first_knew_the_steps()
     ensures { EndedOrShownBefore }
 {}

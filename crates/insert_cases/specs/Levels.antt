@@ -23,8 +23,8 @@ pub record IsChosen (way : List PathNode) (level first last : ℕ) (c : Choice) 
 abbrev pub IsPullUp : ℕ → ℕ → Type 0
 IsPullUp child parent = parent ≡ child + 1
 
--- The end of the chain of pull ups that begins at a full node: each node below the end is full, and its parent is one
--- higher; the end is topmost, or has room, or its parent is higher still.
+-- The end of the chain of pull ups from the node at this level on; both are indices on the way, the topmost node first. Each node of the
+-- chain below the end is full, and its parent is one higher. The end is topmost, or has room, or its parent is higher still.
 pub record IsChainEnd (way : List PathNode) (level end : ℕ) : Type 0 where
   pub upto : end ≤ level
   pub pulls : (l : ℕ) (s u : PathNode) → end ≤ l → l < level → slice_get way (l + 1) ≡ Some s → slice_get way l ≡ Some u → (s.count ≡ 32) × IsPullUp s.height u.height

@@ -1,4 +1,4 @@
--- The way of a key's search through the nodes of a tree, and which node an insertion affects.
+-- The way (path) of a key's search through the nodes of a tree, and which node an insertion affects.
 use Rattle.std.specs.Bool.{MatchBool}
 use Rattle.std.specs.Prelude.{◌≡◌, ℕ, zero, suc, ◌<◌, List, [], ◌∷◌, Bool, true, false, ◌&&◌, nat_lt, if◌then◌else◌}
 use Rattle.node_tries.specs.Piece.{size}
@@ -47,7 +47,7 @@ abbrev pub IsWay : Key → Tree → List PathNode → Type 0
 IsWay k t [] = IsLeaf t
 IsWay k t (s ∷ ss) = IsStepAt k s t × IsWay k (below k t) ss
 
--- all forks on the key's way through a body are below the position
+-- each fork on the key's way through a body has a lower position than this; nodes that stand there as entries are not entered
 abbrev pub WayBelow : ℕ → Key → Tree → Type 0
 WayBelow p k (leaf n l v) = Unit {0}
 WayBelow p k (node n x b) = Unit {0}

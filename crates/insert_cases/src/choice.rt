@@ -1,4 +1,4 @@
-//! The choice of the insertion case, from the way of a search.
+//! The choice of the insertion case, from the way (path) of a search.
 
 ghost use Rattle.std.specs.Prelude.{◌≡◌, ◌↔◌, ℕ, ◌+◌, ◌<◌, IsTrue, length};
 ghost use Rattle.key_bits.specs.Bits.{IsFirstDifference};

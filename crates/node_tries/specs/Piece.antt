@@ -1,4 +1,4 @@
--- A piece of a bit trie: a place, or a fork at a position (the binary Patricia trie of the literature).
+-- A piece of a bit trie, a binary Patricia trie: a place, or a fork (BiNode) at a position.
 use Rattle.std.specs.Prelude.{Bool, List, [], cond, eqb, false, map, true, ℕ, ◌++◌, ◌+◌, ◌<◌, ◌||◌, ◌∷◌, ◌≡◌}
 use Rattle.node_tries.specs.Kept.{kept}
 use Rattle.node_tries.specs.Positions.{has}

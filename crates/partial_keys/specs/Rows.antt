@@ -1,4 +1,4 @@
--- The rows of a piece over columns, as numbers of 32 bits.
+-- The rows (sparse partial keys) of a piece over columns, as numbers of 32 bits.
 use Rattle.std.specs.Int.{bit_at}
 use Rattle.std.specs.Prelude.{Bool, List, bit_and, eqb, false, length, map, replicate, slice_index, ℕ, ◌++◌, ◌-◌, ◌<◌, ◌≡◌}
 use Rattle.key_bits.specs.Gather.{gathered}

@@ -25,7 +25,8 @@ pub const MAX_COLUMNS: usize = 31;
 /// each.
 pub const MAX_ENTRIES: usize = MAX_COLUMNS + 1;
 
-/// The columns of a compound node: 1 to 31 positions, strictly rising, each below 65,535. Column j is bit 31-j of a dense key or a row.
+/// The columns (discriminative bits) of a compound node: 1 to 31 positions, strictly rising, each below 65,535. Column j is bit 31-j of a
+/// dense key or a row.
 #[derive(Clone, Copy)]
 pub struct Columns {
     positions: [u16; MAX_COLUMNS],
@@ -128,14 +129,14 @@ impl Columns {
         below < self.count && self.positions[below as usize] == position
     }
 
-    /// The dense key of `key`: its bits at the columns. The bit of column j is bit 31-j, and all others are 0.
+    /// The dense key (dense partial key) of `key`: its bits at the columns. The bit of column j is bit 31-j, and all others are 0.
     pub fn extract(&self, key: &Key) -> u32
         ensures { result ≡ dense_of self.now (bit_of key.now) }
     {
         extract_dense_key_by_lanes(lanes_of(&self.positions), self.count, key)
     }
 
-    /// Adds a column at `position`, which is none yet, to fewer than 31, and returns its index among the columns.
+    /// Adds a column at `position`, which is below 65,535 and no column yet, to fewer than 31. Returns its index among the columns.
     pub fn add_position(&mut self, position: u16) -> u8
         requires room { length self.old < 31 }
         requires below { position < 65535 }
@@ -148,7 +149,8 @@ impl Columns {
         at
     }
 
-    /// Adds a column at `position`, which is none yet, to fewer than 31. `below` says how many columns are below it, and becomes its index.
+    /// Adds a column at `position`, which is below 65,535 and no column yet, to fewer than 31. `below` says how many columns are below it,
+    /// and becomes its index.
     pub fn insert_position_at(&mut self, below: u8, position: u16)
         requires room { length self.old < 31 }
         requires small { position < 65535 }

@@ -125,6 +125,7 @@ impl HeadNumbers {
         if column >= self.columns {
             return u16::MAX;
         }
+        // A word of a near head has a byte for each of eight columns, the highest for the first of them.
         let low = 8 * (7 - column % 8);
         match self.kind {
             Kind::Wide => (word >> (16 * (column % 4)) & 0xffff) as u16,

@@ -154,8 +154,8 @@ PublishIsAStep =
     Fits (map_of c.changes) (next_change c q spot w) ×
     (content ((after c q (Publish spot w)).past.version (after c q (Publish spot w)).past.now) ≡ map_after (map_of c.changes) (call_of_change (next_change c q spot w)))
 
--- where an entry is stored, and the words then show a bit trie whose leaves differ by one change of the pass from those before, the
--- change that the publish makes is that one
+-- Let an entry be stored, and the words then show a bit trie of lawful nodes, or no tree. Let its leaves differ from those before by one
+-- change of the pass. Then the publish makes that change.
 abbrev pub FindsChange : Type 0
 FindsChange =
     (c : Core) (q : ℕ) (spot : Spot) (w : ℕ) → IsOfEntry spot → IsLawful c → IsTop (heap_of (stored_words c spot w)) (stored_root c spot w) (next_tree c spot w) →

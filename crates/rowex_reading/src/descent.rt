@@ -1,4 +1,4 @@
-//! The search that keeps its way: of a scan, and of a call that may change the index.
+//! The search that keeps its way (path): of a scan, and of a call that may change the index.
 
 ghost use Rattle.std.specs.Prelude.{IsSome, length};
 ghost use Rattle.rowex_table.specs.Seats.{IsSeatOf};

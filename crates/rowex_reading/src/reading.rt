@@ -237,11 +237,12 @@ pub fn load_entry<G: Gate>(
     read_some_entry(word)
 }
 
-/// Loads `leaf`, and returns its key's length in bytes and its value. Writes the bytes of the key to the first of `places`.
+/// Loads `leaf`, to which the pass was led. Returns its key's length in bytes and its value. Writes the bytes of the key to the first of
+/// `places`.
 ///
-/// Words behind the key are not loaded, and their places stay. If all were 0 before, `places` are the key's (`Key::from_padded`); else
-/// those behind the key mean nothing. Keys of eight bytes are common: their one word is loaded without a loop. Inline, so that a caller has
-/// the bytes where they were read.
+/// Words behind the key are not loaded, and their places stay. If all places were 0 before, those behind the key are 0 still, as
+/// `Key::from_padded` wants them; else they mean nothing. Keys of eight bytes are common: their one word is loaded without a loop. Inline,
+/// so that a caller has the bytes where they were read.
 #[inline(always)]
 pub fn load_leaf<G: Gate>(
     table: &HotTable,
@@ -267,7 +268,7 @@ pub fn load_leaf<G: Gate>(
         write_key_word(places, 0, word);
         return (length as usize, value);
     }
-    // The length is a byte's, so that no sum with it may wrap.
+    // A length is at most 240. As a byte it loses nothing, and no sum with it may wrap.
     let used = FIRST_KEY_WORD + count_key_words(u64::from(length as u8));
     for index in FIRST_KEY_WORD..used {
         let word = table.load_fixed_at(seat, gate, leaf, index as u8 + FIELDS_OFFSET);

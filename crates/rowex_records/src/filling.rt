@@ -244,7 +244,7 @@ fn unused_node_word(offset: u8) -> u64
     }
 }
 
-/// Makes the claimed record `rec`, which has been filled, live. From then on the pass may link it.
+/// Makes the claimed record `rec`, which has been filled, ready: one step stores that it is live. From then on the pass may link it.
 pub fn make_ready<G: Gate>(table: &HotTable, seat: &mut TableSeat, gate: &mut G, rec: Rec)
     requires own { IsSeatOf table.now seat.old }
     requires range { HasRecord table.now.layout rec }

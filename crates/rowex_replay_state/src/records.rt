@@ -323,7 +323,7 @@ impl Records {
         }
     }
 
-    /// Gives `rec` the fate `fate`, and unlocks it. If the table hasn't the record, nothing changes.
+    /// Gives `rec` the fate `fate`, and unlocks it if it is a node. If the table hasn't the record, nothing changes.
     pub(crate) fn set_fate_and_unlock(&mut self, rec: Rec, fate: Fate)
         ensures { self.new ≡ with_fate_unlocked_in self.old rec fate }
     {

@@ -31,7 +31,7 @@ impl Model for TableStamp {
 
 impl HotTable {
     /// Makes a stamp with the changes and the steps that the pass has seen. It makes no event. The seat stays as it was, but `asides`
-    /// counts one more.
+    /// counts one more: a stamp made or followed, or a meeting.
     pub fn stamp_seat(&self, seat: &mut TableSeat) -> TableStamp
         requires { IsSeatOf self.now seat.old }
         ensures same { seat.new ≡ record seat.old { asides = suc seat.old.asides } }

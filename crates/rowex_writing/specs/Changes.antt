@@ -138,8 +138,8 @@ pub record LacksNodes (layout : Layout) (q : ℕ) (failed : List Failed) (since 
   pub low : All (λ n. n < layout.nodes) locked
   pub missed : AllMissed (IsAnothers layout q own locked) a_node layout.nodes failed since
 
--- It lacks a leaf record with room for the key: each was found not free. None was its own; so another pass had it, or nobody, and then it
--- was in the tree or retired.
+-- Pass q lacks a leaf record with room for the key: each was found not free, at this step or a later one. None was its own; so another pass
+-- had it, or nobody, and then it was in the tree or retired.
 abbrev pub LacksLeaves : Layout → Key → ℕ → List Failed → ℕ → Type 0
 LacksLeaves layout key q failed since = AllMissedFrom (IsAnothers layout q [] []) layout (words_for (length key)) failed since
 

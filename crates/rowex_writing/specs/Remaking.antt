@@ -36,7 +36,7 @@ pub record AwaitsLeaf (words : List ℕ) (node : NodeView) (new : NewLeaf) : Typ
   pub leads : spot new.key.now (piece node) ≡ new.slot
   pub tree : IsSubtrieOfTree (subtrie_with_leaf new (piece node))
 
--- the subtrie with the fork in the place of the entry of its key's search
+-- the subtrie with the fork in place of the entry that the search for the fork's key takes
 abbrev pub subtrie_with_fork : Fork → Subtrie → Subtrie
 subtrie_with_fork fork shown = with_subtrie fork.key.now (Branch fork.position (Place fork.zero) (Place fork.one)) shown
 

@@ -57,7 +57,8 @@ pub(crate) fn lock_span<G: Gate>(
     false
 }
 
-/// Locks node `number`, which the pass may lock, and returns whether it did. If it is locked or retired already, the locks are as before.
+/// Tries by one step to lock node `number`, of which the pass knows that it is in the tree if it is live. Returns whether it did. If the
+/// node is locked or retired already, the locks are as before.
 pub(crate) fn lock_node<G: Gate>(
     table: &HotTable,
     seat: &mut TableSeat,

@@ -62,7 +62,7 @@ pub(crate) fn cut_with_leaf(node: &Node, new: &NewLeaf<'_>) -> Cut
     )
 }
 
-/// A fork of two entries at `position`, which comes in the place of the entry to which the search for `key` leads.
+/// A fork (BiNode) of two entries at `position`, which comes in the place of the entry to which the search for `key` leads.
 #[derive(Drop)]
 pub(crate) struct Fork<'a> {
     pub key: &'a Key,

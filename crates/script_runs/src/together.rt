@@ -165,7 +165,7 @@ where
 }
 
 /// Starts the thread of each of `scripts`, with the handle and the gate of its place. Returns the threads in their order. An error if
-/// memory is refused, or a thread can't be started; those that were started go on.
+/// memory is refused, or a thread can't be started; those that were started go on, and the scope waits for them.
 fn start_files<'a: 's, 's, E, T, G>(
     threads: &Scope<'s, E>,
     rt: &'s T,
@@ -183,6 +183,7 @@ where
     let mut scripts = scripts.iter();
     let mut gates = gates.into_iter();
     let mut running = Vec::new(rt.alloc());
+    // There are as many scripts and gates as handles.
     for handle in handles {
         let Some(script) = scripts.next() else {
             unreachable!();

@@ -62,7 +62,8 @@ impl Sections {
         section.counted = true;
     }
 
-    /// Stores that `section`, which isn't open and which looks take in, is entered with so many moments. The owner knows of as many.
+    /// Stores `moments` and one more in the word of `section`, which isn't open and which looks take in: it is entered. The owner knows of
+    /// so many moments.
     pub(crate) fn store_entered(&self, section: &mut Section, moments: u64)
         requires own { IsSectionOf self.now section.old }
         requires outside { ¬ IsInside section.old }
@@ -78,7 +79,7 @@ impl Sections {
         section.word = word;
     }
 
-    /// Stores that `section`, which is open, is left.
+    /// Stores 0 in the word of `section`, which is open: it is left.
     pub(crate) fn store_left(&self, section: &mut Section)
         requires own { IsSectionOf self.now section.old }
         requires inside { IsInside section.old }

@@ -17,7 +17,7 @@ at_place (leaf n k v) i = leaf n k v
 at_place (node n x b) i = node n x b
 at_place (fork p a b) i = if nat_lt i (size (subtrie a)) then at_place a i else at_place b (i - size (subtrie a))
 
--- The keys agree through each fork on the way to a place.
+-- The keys have the same bits up to the position of each fork on the way to a place, and at it.
 abbrev pub AgreeUpToPlace : Subtrie → ℕ → Key → Key → Type 0
 AgreeUpToPlace (Place e) i x y = Unit {0}
 AgreeUpToPlace (Fork p a b) i x y =

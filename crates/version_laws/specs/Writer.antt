@@ -34,7 +34,7 @@ pub record IsNewLeaf (c : BareCore) (q : ℕ) (x : Item) : Type 0 where
   pub fate : c.fate (a_leaf x.number) ≡ Ready q
   pub words : c.heap.leaves x.number ≡ record { key = x.key; value = x.value }
 
--- What is to be inserted, and what its search found: since version `since` it led to a leaf with the key `like`, from which the item's
+-- A new entry, and what its search found: since version `since` it led to a leaf with the key `like`, from which the item's
 -- key differs first at bit `mismatch`.
 pub record Newcomer : Type 0 where
   pub since : ℕ

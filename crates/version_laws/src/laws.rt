@@ -123,7 +123,8 @@ pub fn unchanged_search_begins_at_root_entry()
     ensures { StillRooted }
 {}
 
-/// If no change was made since a version, a search in the newest tree goes on from its node by the entry read since at the key's place.
+/// Let a search in the newest tree be at a node whose forks were read, if no change was made since a version. Then it goes on by the entry
+/// that was read there since, at the key's place.
 pub fn unchanged_search_goes_on_by_entry()
     ensures { StillPlaced }
 {}
