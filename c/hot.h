@@ -1,9 +1,9 @@
 /* An ordered in-memory index from byte keys to 64-bit values, which threads use at the same time.
  *
- * hot_open_index makes an index, and hot_open opens a handle on it. A handle is the right to use the index. Calls with different
- * handles may run at the same time; calls with the same handle may not. So give each thread its own handle, or hand a handle over by a
- * lock, by a thread's start or join, or by a sequentially consistent atomic. A call takes effect for all others at once, or not at all; but
- * hot_copy, hot_clear, hot_clear_range, hot_pop_first, hot_pop_last, hot_each and hot_get_packed make several calls, one after the other.
+ * hot_open_index makes an index, and hot_open opens a handle on it. A handle is the right to use the index. Calls with different handles
+ * may run at the same time; calls with the same handle may not. So give each thread its own handle, or hand a handle over by a lock, by a
+ * thread's start or join, or by a sequentially consistent atomic. A call takes effect for all others at once, or not at all. But these make
+ * several calls, one after the other: hot_copy, hot_clear, hot_clear_range, hot_pop_first, hot_pop_last, hot_each and hot_get_packed.
  *
  * A key is 0 to HOT_MAX_KEY bytes of any value. Keys are ordered as by memcmp, and a key comes after its own prefixes. The index
  * copies keys: the memory of a key is yours again when the call returns.
@@ -14,19 +14,20 @@
  *
  * When the index is full. A key that is there gets a new value where it stands, which takes no record. Any other change writes new records
  * before it retires those that it replaces. Retired records can be used again once the calls that ran at that time, or began soon after,
- * have returned: the next collection gives them back, and a change that finds no record free makes a collection itself and tries again,
- * where that may help, and then counts all records. If fewer are free than it needs, and none is claimed by a change that is under way or retired, it returns
- * HOT_FULL_NODES or HOT_FULL_LEAVES: keys must be removed first. So it does where the index has one handle. Else other calls hold records
- * back, and it is to be tried again: hot_insert and the like do so, and hot_try_insert and the like return HOT_HELD_BACK. An index has one
- * node record more than asked, up to 4294967295, which insertions leave free for removals: so a full index can be emptied. A thread that is
- * stopped in the middle of a call, even of a look-up or a scan, may hold back everything that is retired meanwhile. The count loads one
- * record after another: with a handful of records to spare, changes that are under way may have a few of them in use for a moment.
+ * have returned. Then the next collection gives them back. A change that finds no record free makes a collection itself and tries again,
+ * where that may help. Then it counts all records. If fewer are free than it needs, and none is retired or claimed by a change that is
+ * under way, it returns HOT_FULL_NODES or HOT_FULL_LEAVES, until keys are removed. So it does where the index has one handle. Else other
+ * calls hold records back, and it is to be tried again: hot_insert and the like do so, and hot_try_insert and the like return
+ * HOT_HELD_BACK. An index has one node record more than asked, up to 4294967295, which insertions leave free for removals: so a full index
+ * can be emptied. A thread that is stopped in the middle of a call, even of a look-up or a scan, may hold back everything that is retired
+ * meanwhile. The count loads one record after another: with a handful of records to spare, changes that are under way may have a few of
+ * them in use for a moment.
  *
- * Keys in calls. A key, a prefix or an end of a range that has more than HOT_MAX_KEY bytes is refused as HOT_KEY_TOO_LONG by each call.
- * The value that a key had is written to `had` if the call says so, and else `had` stays as it is; it may be NULL, if it is not wanted.
+ * Keys in calls. A key, a prefix or an end of a range that has more than HOT_MAX_KEY bytes is refused as HOT_KEY_TOO_LONG by each call. The
+ * value that a key had is written to `had` if the call says so, and else `had` stays as it is. It may be NULL, if it is not wanted.
  *
  * What the library relies on, and doesn't check. No pointer is NULL but `had`, `context` and where a call says so, not even a key's if its
- * length is 0; each points to what its type says, and what a call writes overlaps no other argument. A handle is zeroed before it is
+ * length is 0. Each points to what its type says, and what a call writes overlaps no other argument. A handle is zeroed before it is
  * opened, and the program never copies, moves or writes its bytes. malloc, realloc and free belong to one allocator, and 16 bytes or more
  * begin at a multiple of 16. No call is made from a signal handler, or after a fork in the child of a process with threads. A call has 48
  * KiB of stack.
@@ -162,10 +163,10 @@ typedef struct hot_stock {
  * HOT_DONE; or HOT_OUT_OF_RANGE, HOT_OPEN, HOT_NO_MEMORY or HOT_OLD_PROCESSOR, as hot_create. */
 hot_status hot_create_with(const hot_stock *stock, hot_handle *handles, size_t count);
 
-/* Writes a stock for `keys` keys of at most `longest` bytes each: 4 leaves for 3 keys, of the smallest size with room for such a key,
- * one node for 4 keys, and 512 more of both. Take the most keys that there will ever be: what isn't used takes no memory. That was
- * enough for random keys, URLs, numbers and text with a rising number, also where keys came and went for long, and is for eight threads
- * that change the index. Numbers with few bits set may take more, and keys that somebody chose to do harm up to one node each:
+/* Writes a stock for `keys` keys of at most `longest` bytes each. It has 4 leaves for 3 keys, of the smallest size with room for such a
+ * key, one node for 4 keys, and 512 more of both. Take the most keys that there will ever be: what isn't used takes no memory. That was
+ * enough for random keys, URLs, numbers and text with a rising number, also where keys came and went for long. It is enough for eight
+ * threads that change the index. Numbers with few bits set may take more, and keys that somebody chose to do harm up to one node each:
  * hot_stock_for_any_keys has room for them. */
 void hot_stock_for_keys(uint32_t keys, size_t longest, hot_stock *stock);
 
@@ -252,8 +253,8 @@ hot_status hot_number(hot_handle *handle, uint16_t *number);
 hot_status hot_get(hot_handle *handle, const uint8_t *key, size_t length, uint64_t *value);
 
 /* What values point to. A reader may still follow a value that another thread has just taken out of the index. So readers look up, and use
- * what they found, inside a section of their handle. They see what was written to it before the call that stored the value. (No
- * ThreadSanitizer sees the library's steps; hot.hpp tells it of calls and sections, and in C hot_tsan.h.) Who takes a value out, or replaces
+ * what they found, inside a section of their handle. They see what was written to it before the call that stored the value. No
+ * ThreadSanitizer sees the library's steps: hot.hpp tells it of calls and sections, and in C hot_tsan.h. Who takes a value out, or replaces
  * it, notes a moment behind that, and frees what the value points to once the moment is past. Sections hold no records of the index back,
  * and calls inside one are as any other. A handle that never enters a section costs nothing then. These calls wait for none; their loads
  * and stores count as no steps. */
@@ -356,12 +357,12 @@ hot_status hot_clear_range(hot_handle *handle, const uint8_t *from, size_t from_
  * HOT_DONE; or HOT_CLOSED, HOT_NO_MEMORY, HOT_FULL_NODES, HOT_FULL_LEAVES or HOT_KEY_TOO_LONG, and then the rest was not copied. */
 hot_status hot_copy(hot_handle *from, hot_handle *to);
 
-/* Lists the pairs whose keys are from `from` to `upto`, both included, in key order: the first `limit` of them, for which the
- * array `pairs` has room. Writes their number to `count`, and 1 to `more` if the range has more, else 0. Other calls may change
- * the index meanwhile: each pair was there at some moment of the call, and no key is missing that was there all along (if there
- * are more, no key up to the last one listed). A range whose `from` is above its `upto` has no pairs. To go on, begin at the key
- * that hot_after gives for the last pair's. Records that other calls retire meanwhile can't be used again until the call ends: so list some
- * thousand pairs at a time. It makes at most 168607 steps, and 60 for each pair of the limit.
+/* Lists the pairs whose keys are from `from` to `upto`, both included, in key order: the first `limit` of them, for which the array `pairs`
+ * has room. Writes their number to `count`, and 1 to `more` if the range has more, else 0. Other calls may change the index meanwhile. Each
+ * pair was there at some moment of the call, and no key is missing that was there all along. If there are more, no key up to the last one
+ * listed is. A range whose `from` is above its `upto` has no pairs. To go on, begin at the key that hot_after gives for the last pair's.
+ * Records that other calls retire meanwhile can't be used again until the call ends: so list some thousand pairs at a time.
+ * It makes at most 168607 steps, and 60 for each pair of the limit.
  * HOT_DONE; or HOT_KEY_TOO_LONG, HOT_CLOSED, HOT_NO_MEMORY (only if it had a pair to list), and then nothing was written. */
 hot_status hot_scan(hot_handle *handle, const uint8_t *from, size_t from_length, const uint8_t *upto, size_t upto_length,
                     hot_pair *pairs, size_t limit, size_t *count, uint32_t *more);
@@ -389,9 +390,8 @@ hot_status hot_scan_last(hot_handle *handle, const uint8_t *from, size_t from_le
  * HOT_DONE; or HOT_ABSENT if this key is the empty one, which has no key below it, or HOT_KEY_TOO_LONG, and then nothing was written. */
 hot_status hot_before(const uint8_t *key, size_t length, uint8_t *previous, size_t *previous_length);
 
-/* hot_scan of the keys that begin with the prefix, or of all keys if it is empty: from the first one if `after` is NULL, else from
- * the one after that key, such as the last one of an earlier call. It writes and returns what hot_scan does, by as many steps at
- * most. */
+/* hot_scan of the keys that begin with the prefix, or of all keys if it is empty. It begins with the first one if `after` is NULL, else
+ * with the one after that key, such as the last one of an earlier call. It writes and returns what hot_scan does, by as many steps at most. */
 hot_status hot_scan_prefix(hot_handle *handle, const uint8_t *prefix, size_t length, const uint8_t *after, size_t after_length,
                            hot_pair *pairs, size_t limit, size_t *count, uint32_t *more);
 
@@ -406,12 +406,12 @@ typedef struct hot_head {
     uint64_t value;
 } hot_head;
 
-/* hot_scan with its pairs packed: writes the keys one after another to `bytes`, each as long as it is, and their heads to `heads`, so
- * that the first `length` bytes are the first key, and so on. It lists the first `limit` pairs, for which `heads` has room, and of
- * these only the first whose keys have `room` bytes together at most: a room of HOT_MAX_KEY bytes for each pair is always enough, and
- * with one for a single key a call gets on. Writes 1 to `more` if the range has more than it wrote, else 0. What it wrote is a scan
- * for as many pairs: no key is missing, up to the last one written, that was there all along. To go on, begin at the key that
- * hot_after gives for the last one. It returns what hot_scan does, and makes no more steps than hot_scan may. */
+/* hot_scan with its pairs packed: writes the keys one after another to `bytes`, each as long as it is, and their heads to `heads`. So the
+ * first `length` bytes are the first key, and so on. It lists the first `limit` pairs, for which `heads` has room, and of these only the
+ * first whose keys have `room` bytes together at most. A room of HOT_MAX_KEY bytes for each pair is always enough, and with one for a
+ * single key a call gets on. Writes 1 to `more` if the range has more than it wrote, else 0. What it wrote is a scan for as many pairs: no
+ * key is missing, up to the last one written, that was there all along. To go on, begin at the key that hot_after gives for the last one.
+ * It returns what hot_scan does, and makes no more steps than hot_scan may. */
 hot_status hot_scan_packed(hot_handle *handle, const uint8_t *from, size_t from_length, const uint8_t *upto, size_t upto_length,
                            uint8_t *bytes, size_t room, hot_head *heads, size_t limit, size_t *count, uint32_t *more);
 
@@ -429,10 +429,10 @@ hot_status hot_load_packed(const hot_stock *stock, size_t handles, const uint8_t
 /* What a call hands pairs to: `pair` is there until the function returns. It returns 0 to end the call. */
 typedef int hot_visitor(void *context, const hot_pair *pair);
 
-/* Hands each pair whose key is from `from` to `upto`, both included, to `visit`, in key order, with the `context`, until it returns 0.
- * It lists 32 pairs at a time, as hot_scan does, and each time begins at the key that hot_after gives for the last one: so no key is
- * missing that was there all along, up to where it ended. While `visit` runs no call is under way: it may use the handle, and nothing
- * that is retired is held back. Each list makes at most as many steps as hot_scan with a limit of 32.
+/* Hands each pair whose key is from `from` to `upto`, both included, to `visit`, in key order, with the `context`, until it returns 0. It
+ * lists 32 pairs at a time, as hot_scan does, and each time begins at the key that hot_after gives for the last one. So no key is missing
+ * that was there all along, up to where it ended. While `visit` runs no call is under way: it may use the handle, and nothing that is
+ * retired is held back. Each list makes at most as many steps as hot_scan with a limit of 32.
  * HOT_DONE; or HOT_KEY_TOO_LONG, HOT_CLOSED, HOT_NO_MEMORY: HOT_NO_MEMORY may come after pairs have been handed over, and so may
  * HOT_CLOSED if `visit` closes the handle. */
 hot_status hot_each(hot_handle *handle, const uint8_t *from, size_t from_length, const uint8_t *upto, size_t upto_length,
@@ -448,8 +448,9 @@ hot_status hot_first(hot_handle *handle, const uint8_t *from, size_t length, hot
  * HOT_FOUND, HOT_ABSENT; or HOT_KEY_TOO_LONG, HOT_CLOSED, HOT_NO_MEMORY (only if there was a pair). */
 hot_status hot_last(hot_handle *handle, const uint8_t *upto, size_t length, hot_pair *pair);
 
-/* Counts the keys from `from` to `upto`, both included, and writes their number to `count`: that of the pairs that hot_scan could list in
- * its place, if it had room for all. It reads few of the keys. The last key with a prefix is the prefix, filled up to HOT_MAX_KEY bytes of 255.
+/* Counts the keys from `from` to `upto`, both included, and writes their number to `count`. That is the number of the pairs that hot_scan
+ * could list in its place, if it had room for all. It reads few of the keys. Its bound is that of hot_scan with a limit of 2 to the power
+ * of 63, less 1.
  * HOT_DONE; or HOT_KEY_TOO_LONG, HOT_CLOSED, and then nothing was written. */
 hot_status hot_count(hot_handle *handle, const uint8_t *from, size_t from_length, const uint8_t *upto, size_t upto_length, size_t *count);
 
@@ -461,10 +462,10 @@ hot_status hot_count_prefix(hot_handle *handle, const uint8_t *prefix, size_t le
 hot_status hot_scan_values(hot_handle *handle, const uint8_t *from, size_t from_length, const uint8_t *upto, size_t upto_length,
                            uint64_t *values, size_t limit, size_t *count, uint32_t *more);
 
-/* Removes the first pair whose key is from `from` to `upto`, both included, or the last one, and writes it: by a scan for one pair and then
- * hot_remove of its key, and again where another call has removed that key meanwhile. So one call alone gets a pair, with the value that
- * its key had when it was removed. No key of the range before it, or behind it for hot_pop_last, was there all along from the beginning of
- * that scan to the removal; one that another call puts in meanwhile may be.
+/* Removes the first pair whose key is from `from` to `upto`, both included, or the last one, and writes it. It makes a scan for one pair
+ * and then hot_remove of its key, and both again where another call has removed that key meanwhile. So one call alone gets a pair, with the
+ * value that its key had when it was removed. No key of the range before it, or behind it for hot_pop_last, was there all along from the
+ * beginning of that scan to the removal. One that another call puts in meanwhile may be.
  * HOT_REMOVED; or HOT_ABSENT if a scan found no pair, or HOT_FULL_NODES, HOT_KEY_TOO_LONG, HOT_CLOSED, HOT_NO_MEMORY, and then nothing was
  * written. */
 hot_status hot_pop_first(hot_handle *handle, const uint8_t *from, size_t from_length, const uint8_t *upto, size_t upto_length, hot_pair *pair);
