@@ -166,14 +166,6 @@ hot_status hot_scan_prefix_reverse(hot_handle *handle, const uint8_t *prefix, si
     return proved_scan_prefix_before(handle, prefix, length, before, before_length, pairs, limit, count, more);
 }
 
-hot_status hot_count_prefix(hot_handle *handle, const uint8_t *prefix, size_t length, size_t *count) {
-    uint8_t last[HOT_MAX_KEY];
-    prefix = not_null(prefix, length);
-    memcpy(last, hot_last_key, sizeof last);
-    memcpy(last, prefix, length < sizeof last ? length : sizeof last);
-    return hot_count(handle, prefix, length, last, sizeof last, count);
-}
-
 hot_status hot_each(hot_handle *handle, const uint8_t *from, size_t from_length, const uint8_t *upto, size_t upto_length,
                     hot_visitor *visit, void *context) {
     enum { PAGE = 32 };

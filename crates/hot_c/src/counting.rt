@@ -1,11 +1,13 @@
-//! The number of the keys of a range, for programs in C.
+//! The number of the keys of a range, or with a prefix, for programs in C.
 
 ghost use Rattle.std.specs.Prelude.{◌≡◌};
+ghost use Rattle.key_ranges.specs.Ranges.{last_with};
 ghost use Rattle.hot_c.specs.Counting.{CountsRange};
 
 use crate::handle::Handle;
 use crate::status::{CLOSED, DONE, KEY_TOO_LONG};
 use key_bits::Key;
+use key_ranges::last_with_prefix;
 
 /// Counts the keys from `from` to `upto`, both included: `DONE`, with their number in `count`, at most 2^63 - 1. `CLOSED` if `handle` is
 /// closed, `KEY_TOO_LONG` if an end has more than 240 bytes: then `count` stays. No other status is returned.
@@ -24,4 +26,21 @@ pub extern "C" fn hot_count(handle: &mut Handle, from: &[u8], upto: &[u8], count
     };
     *count = handle.slot.lend().handle.count_range(&first, &last);
     DONE
+}
+
+/// Counts the keys that begin with `prefix`: those from `prefix` to the last one that begins with it. It writes and returns what
+/// `hot_count` does.
+#[unsafe(no_mangle)]
+pub extern "C" fn hot_count_prefix(handle: &mut Handle, prefix: &[u8], count: &mut usize) -> u32
+    ensures call { CountsRange prefix.now (last_with prefix.now) handle.old.slot.opened handle.new.slot.opened count.old count.new result }
+    ensures place { handle.new.place ≡ handle.old.place }
+{
+    if !handle.is_open() {
+        return CLOSED;
+    }
+    let Ok(first) = Key::from_bytes(prefix) else {
+        return KEY_TOO_LONG;
+    };
+    let last = last_with_prefix(&first);
+    hot_count(handle, prefix, last.as_bytes(), count)
 }
