@@ -30,8 +30,8 @@ pub struct Hint {
     pub next: u32,
     /// Where they begin when they don't go on.
     pub stretch: Stretch,
-    /// How many claims of a leaf record still try these records last, since a claim found none of them free. It begins as the number of
-    /// the records. So in the long run a claim looks at one of them.
+    /// How many claims of a leaf record still try these records last, since a claim found none of them free. That claim sets it to the
+    /// number of the records. So in the long run a claim looks at one of them.
     pub skips: u32,
 }
 
@@ -70,7 +70,7 @@ impl Hint {
 /// Where a pass claims records of a kind, where none is spare. These are plain numbers, which promise nothing.
 ///
 /// The pass claims one record after the other, and the stretch is what it has come by. Where more than an eighth of that was given back,
-/// it claims there again, round and round. So a table takes memory for what is in use, and little more.
+/// it claims there again. So a table takes memory for what is in use, and little more.
 #[derive(Drop)]
 pub struct Stretch {
     /// The number with which the stretch begins.

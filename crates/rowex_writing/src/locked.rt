@@ -17,7 +17,8 @@ ghost use Rattle.rowex_writing.specs.Loads.{AreRead, ReadsGroup, ReadsRest};
 use compound_node::{Entry, Node, find_sibling};
 use record_words::{
     FIELDS_OFFSET, HEAD_WORDS, HeadNumbers, Kind, MAX_ENTRIES, MIDDLE_HEAD_WORDS,
-    NARROW_HEAD_WORDS, NODE_FIELDS, SLOT_GROUP, read_node, read_numbers, read_some_entry,
+    NARROW_HEAD_WORDS, NODE_FIELDS, NUMBERS_INDEX, SLOT_GROUP, read_node, read_numbers,
+    read_some_entry,
 };
 use rowex_core::{Gate, Rec, Spot};
 use rowex_table::{HotTable, RecordAt, TableSeat};
@@ -49,7 +50,7 @@ pub(crate) fn load_locked_node_words<G: Gate>(
 {
     let node = table.locate(Rec::Node(number));
     load_locked_head(table, seat, gate, node, words);
-    let numbers = read_numbers(words[0]);
+    let numbers = read_numbers(words[NUMBERS_INDEX]);
     let loads = NodeLoads { node, numbers };
     load_slot_group(table, seat, gate, loads, words, HEAD_WORDS);
     load_slot_group(table, seat, gate, loads, words, HEAD_WORDS + SLOT_GROUP);
@@ -72,8 +73,8 @@ fn load_locked_head<G: Gate>(
     requires empty { words.old ≡ replicate NODE_FIELDS 0 }
     ensures { AreRead table.now G.becomes (seat.old, gate.old) (seat.new, gate.new) (record_number node.rec) words.new HEAD_WORDS }
 {
-    words[0] = load_locked_word(table, seat, gate, node, 0);
-    match read_numbers(words[0]).kind {
+    words[NUMBERS_INDEX] = load_locked_word(table, seat, gate, node, NUMBERS_INDEX);
+    match read_numbers(words[NUMBERS_INDEX]).kind {
         Kind::Narrow => load_rest_of_head(table, seat, gate, node, words, NARROW_HEAD_WORDS),
         Kind::Middle => load_rest_of_head(table, seat, gate, node, words, MIDDLE_HEAD_WORDS),
         Kind::Wide => load_rest_of_head(table, seat, gate, node, words, HEAD_WORDS),
@@ -119,7 +120,7 @@ fn load_numbers<G: Gate>(
     ensures numbers { (view : NodeView) → HasLockedNode seat.old.known (record_number node.rec) view → AreNumbersOf result view }
     ensures few { seat.new.known.steps ≤ seat.old.known.steps + 1 }
 {
-    read_numbers(load_locked_word(table, seat, gate, node, 0))
+    read_numbers(load_locked_word(table, seat, gate, node, NUMBERS_INDEX))
 }
 
 /// Loads the row of `slot` of the locked node of `loads`, and returns it. It is 4,294,967,295 for an unused slot. A slot from `MAX_ENTRIES` on

@@ -25,7 +25,8 @@ use crate::remaking::NewLeaf;
 use compound_node::{Cut, Entry, Half, Node};
 use insert_cases::Risen;
 use record_words::{
-    HEAD_WORDS, NODE_FIELDS, Tag, affected_slots, pack_node, pack_state, read_numbers,
+    HEAD_WORDS, NODE_FIELDS, NUMBERS_INDEX, Tag, affected_slots, pack_node, pack_state,
+    read_numbers,
 };
 use rowex_core::{Gate, Rec};
 use rowex_records::{RecordKind, fill_node, find_free_record};
@@ -80,7 +81,7 @@ pub(crate) fn make_node_from_words<G: Gate>(
     build.made.push(Rec::Node(number));
     Some(Entry::Node {
         number,
-        height: read_numbers(words[0]).height,
+        height: read_numbers(words[NUMBERS_INDEX]).height,
     })
 }
 

@@ -25,7 +25,7 @@ use crate::nodes::claim_node;
 use crate::plan::Full;
 use crate::rising::raise_without_leaf;
 use compound_node::Entry;
-use record_words::read_numbers;
+use record_words::{NUMBERS_INDEX, read_numbers};
 use rowex_core::{Gate, Rec};
 use rowex_reading::Found;
 use rowex_records::fill_node;
@@ -143,7 +143,7 @@ pub(crate) fn fill_left<G: Gate>(
     build.made.push(Rec::Node(left.number));
     let entry = Entry::Node {
         number: left.number,
-        height: read_numbers(left.words[0]).height,
+        height: read_numbers(left.words[NUMBERS_INDEX]).height,
     };
     put_in_place(job, entry)
 }
