@@ -79,11 +79,11 @@ step m call = step_where (value_at m (key_of call)) m call
 abbrev pub map_after : Map → Call → Map
 map_after m call = (step m call).0
 
--- what a call answers on a map
+-- what a call returns on a map
 abbrev pub reply_of : Map → Call → Reply
 reply_of m call = (step m call).1
 
--- what calls answer one after the other, the first on the map m
+-- what calls return one after the other, the first on the map m
 abbrev pub replies_of : Map → List Call → List Reply
 replies_of m [] = []
 replies_of m (call ∷ calls) = reply_of m call ∷ replies_of (map_after m call) calls

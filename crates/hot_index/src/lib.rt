@@ -14,8 +14,8 @@
 //!
 //! - *Look-ups*: `get`, `get_many`. They take no lock, and make a bounded number of atomic steps, whatever other threads do.
 //! - *Changes*: `insert`, `upsert`, `remove`, `exchange`, `add`, `remove_if`. Each changes the map by one store, or not at all.
-//!   These forms wait while another pass is in the way. The `try_` forms return [`TryFault`] instead, after a bounded number of steps.
-//! - *Scans*: `scan`, `scan_into`, downwards `scan_reverse`, `prefix_into`, `first`, `last`, and [`Cursor`]s. A scan is no single
+//!   These forms wait while another pass is in the way, or holds records back. The `try_` forms return [`TryFault`] instead, after a bounded number of steps.
+//! - *Scans*: `scan`, `scan_into`, `scan_values_into`, downwards `scan_reverse`, `prefix_into`, `first`, `last`, `count_range`, and [`Cursor`]s. A scan is no single
 //!   moment: each pair was there at a moment of it, and no key is left out that was there all along.
 //! - *Upkeep*: `collect` gives back what was retired, and `census` counts the records. Calls collect by themselves. Each pass keeps a
 //!   `count` of its keys, and [`total`] adds up these counts.

@@ -29,11 +29,11 @@ abbrev pub first_from : (ℕ → Bool) → ℕ → ℕ → ℕ
 first_from test low zero = low
 first_from test low (suc more) = if test low then low else first_from test (low + 1) more
 
--- whether the map of the first n changes answers the call so
+-- whether the call has this reply on the map of the first n changes
 abbrev pub answers_so : List Change → Call → Reply → ℕ → Bool
 answers_so front call reply n = same_reply (reply_of (map_of (take n front)) call) reply
 
--- the first place from `low` up to the front's end at which the map answers the call so
+-- the first place from `low` up to the front's end at which the call has this reply on the map
 unfoldable pub place_of : List Change → ℕ → Call → Reply → ℕ
 place_of front low call reply = first_from (answers_so front call reply) low (length front - low)
 

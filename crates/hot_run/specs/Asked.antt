@@ -1,4 +1,4 @@
--- What the program answers.
+-- What the program writes.
 use Rattle.std.specs.Prelude.{ℕ, List, [], ◌∷◌, map, Option}
 use Rattle.std.specs.Io.KnownBytes.{Appends}
 use Rattle.hot_scripts.specs.declared.fault.RunFault.{RunFault}

@@ -1,4 +1,4 @@
--- What a call answers and leaves, and when a trie has no room for one key more.
+-- What a call returns and leaves, and when a trie has no room for one key more.
 use Rattle.std.specs.Prelude.{◌≡◌, ◌⊎◌, ℕ, ◌+◌, ◌^◌, ◌<◌, ◌≤◌, length, Option, Some, None}
 use Rattle.compound_node.specs.Nodes.{height_of}
 use Rattle.compound_node.specs.declared.entries.Entry.{Entry}

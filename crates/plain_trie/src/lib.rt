@@ -8,7 +8,7 @@
 //! It has in common with the concurrent index all that decides the tree's form:
 //!
 //! - the nodes, and what becomes of one (`compound_node`),
-//! - the rule which of the four cases an insertion is, growing a full node, and pulling a fork up (`insert_cases`),
+//! - the rule which case an insertion is, growing a full node, and pulling a fork up (`insert_cases`),
 //! - the tree that records show, and the map that it holds (`tries`).
 //!
 //! It differs in how changes come about. Its records stand in two vectors, and a node is replaced in place. Insertion goes down by

@@ -32,10 +32,10 @@ const SECOND_ROWS: usize = FIRST_ROWS + SLOT_GROUP;
 /// The index of the second group of words with entries.
 const SECOND_SLOTS: usize = HEAD_WORDS + SLOT_GROUP;
 
-/// That of the third group,
+/// The index of the third group of words with entries.
 const THIRD_SLOTS: usize = HEAD_WORDS + 2 * SLOT_GROUP;
 
-/// and of the last one.
+/// The index of the last group of words with entries.
 const LAST_SLOTS: usize = HEAD_WORDS + 3 * SLOT_GROUP;
 
 /// The word at `offset` of the record `at`, counted in words from 0 at its state.

@@ -1,4 +1,4 @@
--- One attempt of a call that may change the map: what it answers, and why it is refused.
+-- One attempt of a call that may change the map: what it returns, and why it is refused.
 use Rattle.std.specs.Prelude.{◌≡◌, ◌≢◌, ◌⊎◌, ℕ, ◌<◌, ◌≤◌, List, ◌++◌, length, All, Option, Some, None, Result, Err}
 use Rattle.finite_map.specs.declared.Call.{Call}
 use Rattle.finite_map.specs.declared.Call.TheVariants.{Insert, Remove, RemoveIf, Upsert}

@@ -1,4 +1,4 @@
--- What a run of a script reads, writes and answers.
+-- What a run of a script reads, writes and returns.
 use Rattle.std.specs.Prelude.{◌≡◌, ℕ, ◌≤◌, ◌++◌, List, [], ◌∷◌, length, map, All, Option, Ok, Err, IsOk}
 use Rattle.finite_map.specs.declared.Change.{Change}
 use Rattle.finite_map.specs.Maps.{Map, map_after, reply_of}
