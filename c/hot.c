@@ -285,13 +285,8 @@ hot_status hot_try_remove_if(hot_handle *handle, const uint8_t *key, size_t leng
     return counted(handle, proved_try_remove_if(handle, key, length, expected, had ? had : &unread));
 }
 
-/* How often a call has found another one in its way so far, and how often it has slept. */
-typedef struct waits {
-    unsigned busy, sleeps;
-} waits;
-
-/* Sleeps so many nanoseconds, and twice as long for each time that the call has slept before, up to 32 times as long. */
-static __attribute__((cold, noinline)) void rest(waits *so_far, long nanoseconds) {
+/* Sleeps so many nanoseconds, and twice as long for each time that it has slept before, up to 32 times as long. */
+static __attribute__((cold, noinline)) void rest(hot_waits *so_far, long nanoseconds) {
     struct timespec time = {0, 0};
     time.tv_nsec = nanoseconds << so_far->sleeps;
     if (so_far->sleeps < 5)
@@ -299,26 +294,45 @@ static __attribute__((cold, noinline)) void rest(waits *so_far, long nanoseconds
     nanosleep(&time, NULL);
 }
 
-/* Whether a change is to be tried again. Where another call is in its way, other threads run first. If one still is after a few tries, many
- * want the same nodes: each try then takes lines of the cache from the one that is at work, so this thread sleeps, which lets that one make
- * hundreds of calls. Where records are held back, each try goes through all of them in vain until that call has gone on: so this thread
- * sleeps at once. */
-static int is_to_wait(hot_status status, waits *so_far) {
-    enum { FEW = 3, AMONG_MANY = 100000, HELD_BACK = 50000 };
+/* Lets the processor pause so many times. */
+static void pause_for(unsigned times) {
+    while (times-- > 0)
+        __builtin_ia32_pause();
+}
+
+/* Waits for another call that is in the way. That mostly needs a microsecond more, so the first tries come soon. If it is there still, its
+ * thread may not run, and others run first. Else many want the same nodes: each try then takes lines of the cache from the one that is at
+ * work, so this thread sleeps, which lets that one make many calls. */
+static __attribute__((cold, noinline)) void wait_for_call(hot_waits *so_far) {
+    enum { PAUSES = 7, YIELDS = 2, SLEEP = 20000 };
+    if (so_far->tries >= PAUSES + YIELDS) {
+        rest(so_far, SLEEP);
+        return;
+    }
+    if (so_far->tries < PAUSES)
+        pause_for(2u << so_far->tries);
+    else
+        sched_yield();
+    ++so_far->tries;
+}
+
+/* Waits before a refused change is tried again, and returns whether it is to be. Where records are held back, each try goes through all of
+ * them in vain until that call has gone on: so this thread sleeps at once. */
+static int is_to_wait(hot_status status, hot_waits *so_far) {
+    enum { HELD_BACK = 50000 };
     switch (status) {
-    case HOT_BUSY:
-        if (++so_far->busy < FEW)
-            sched_yield();
-        else
-            rest(so_far, AMONG_MANY);
-        return 1;
+    case HOT_BUSY: wait_for_call(so_far); return 1;
     case HOT_HELD_BACK: rest(so_far, HELD_BACK); return 1;
     default: return 0;
     }
 }
 
+int hot_wait(hot_status status, hot_waits *so_far) {
+    return is_to_wait(status, so_far);
+}
+
 hot_status hot_insert(hot_handle *handle, const uint8_t *key, size_t length, uint64_t value, uint64_t *had) {
-    waits so_far = {0, 0};
+    hot_waits so_far = HOT_NO_WAITS;
     hot_status status;
     while (is_to_wait(status = hot_try_insert(handle, key, length, value, had), &so_far))
         ;
@@ -326,7 +340,7 @@ hot_status hot_insert(hot_handle *handle, const uint8_t *key, size_t length, uin
 }
 
 hot_status hot_upsert(hot_handle *handle, const uint8_t *key, size_t length, uint64_t value, uint64_t *had) {
-    waits so_far = {0, 0};
+    hot_waits so_far = HOT_NO_WAITS;
     hot_status status;
     while (is_to_wait(status = hot_try_upsert(handle, key, length, value, had), &so_far))
         ;
@@ -334,7 +348,7 @@ hot_status hot_upsert(hot_handle *handle, const uint8_t *key, size_t length, uin
 }
 
 hot_status hot_remove(hot_handle *handle, const uint8_t *key, size_t length, uint64_t *had) {
-    waits so_far = {0, 0};
+    hot_waits so_far = HOT_NO_WAITS;
     hot_status status;
     while (is_to_wait(status = hot_try_remove(handle, key, length, had), &so_far))
         ;
@@ -342,7 +356,7 @@ hot_status hot_remove(hot_handle *handle, const uint8_t *key, size_t length, uin
 }
 
 hot_status hot_exchange(hot_handle *handle, const uint8_t *key, size_t length, uint64_t expected, uint64_t value, uint64_t *had) {
-    waits so_far = {0, 0};
+    hot_waits so_far = HOT_NO_WAITS;
     hot_status status;
     while (is_to_wait(status = hot_try_exchange(handle, key, length, expected, value, had), &so_far))
         ;
@@ -350,7 +364,7 @@ hot_status hot_exchange(hot_handle *handle, const uint8_t *key, size_t length, u
 }
 
 hot_status hot_remove_if(hot_handle *handle, const uint8_t *key, size_t length, uint64_t expected, uint64_t *had) {
-    waits so_far = {0, 0};
+    hot_waits so_far = HOT_NO_WAITS;
     hot_status status;
     while (is_to_wait(status = hot_try_remove_if(handle, key, length, expected, had), &so_far))
         ;
@@ -358,7 +372,7 @@ hot_status hot_remove_if(hot_handle *handle, const uint8_t *key, size_t length, 
 }
 
 hot_status hot_add(hot_handle *handle, const uint8_t *key, size_t length, uint64_t delta, uint64_t *had) {
-    waits so_far = {0, 0};
+    hot_waits so_far = HOT_NO_WAITS;
     hot_status status;
     while (is_to_wait(status = hot_try_add(handle, key, length, delta, had), &so_far))
         ;
@@ -801,8 +815,9 @@ static void move_handle(hot_handle *to, hot_handle *from) {
 
 /* Waits until the word is 0, and makes it 1. Two are locked at once by hot_stamp alone, which takes `telling` first. */
 static void lock(uint32_t *word) {
+    hot_waits so_far = HOT_NO_WAITS;
     while (__atomic_exchange_n(word, 1, __ATOMIC_SEQ_CST) != 0)
-        sched_yield();
+        wait_for_call(&so_far);
 }
 
 static void unlock(uint32_t *word) {

@@ -67,7 +67,7 @@ extern "C" {
 
 /* The version of this header. A program that is right with an earlier version of the same major number is right with this one. */
 #define HOT_VERSION_MAJOR 3
-#define HOT_VERSION_MINOR 0
+#define HOT_VERSION_MINOR 1
 #define HOT_VERSION_PATCH 0
 
 /* The version of the library that is linked: 65536 times the major number, 256 times the minor one, and the patch. */
@@ -332,9 +332,8 @@ hot_status hot_try_remove(hot_handle *handle, const uint8_t *key, size_t length,
 hot_status hot_try_remove_if(hot_handle *handle, const uint8_t *key, size_t length, uint64_t expected, uint64_t *had);
 
 /* hot_try_insert, hot_try_upsert and hot_try_remove, repeated as long as another call is in the way or holds records back. Between two
- * tries they make a sched_yield; after a few of those, and where records are held back, they sleep for 50 microseconds to 3.2 milliseconds.
- * There is no bound on how long they wait: a thread that is stopped in the middle of a change keeps others waiting that want to change the
- * same nodes. They write and return what those do, except HOT_BUSY and HOT_HELD_BACK. */
+ * tries they wait as hot_wait does. There is no bound on how long they wait: a thread that is stopped in the middle of a change keeps others
+ * waiting that want to change the same nodes. They write and return what those do, except HOT_BUSY and HOT_HELD_BACK. */
 hot_status hot_insert(hot_handle *handle, const uint8_t *key, size_t length, uint64_t value, uint64_t *had);
 hot_status hot_upsert(hot_handle *handle, const uint8_t *key, size_t length, uint64_t value, uint64_t *had);
 hot_status hot_remove(hot_handle *handle, const uint8_t *key, size_t length, uint64_t *had);
@@ -343,6 +342,18 @@ hot_status hot_remove(hot_handle *handle, const uint8_t *key, size_t length, uin
 hot_status hot_exchange(hot_handle *handle, const uint8_t *key, size_t length, uint64_t expected, uint64_t value, uint64_t *had);
 hot_status hot_add(hot_handle *handle, const uint8_t *key, size_t length, uint64_t delta, uint64_t *had);
 hot_status hot_remove_if(hot_handle *handle, const uint8_t *key, size_t length, uint64_t expected, uint64_t *had);
+
+/* How often a loop of tries has waited. Each loop begins with none: hot_waits so_far = HOT_NO_WAITS; */
+typedef struct hot_waits {
+    uint32_t tries, sleeps;
+} hot_waits;
+
+#define HOT_NO_WAITS { 0, 0 }
+
+/* For a loop of tries: while (hot_wait(status = hot_try_insert(..), &so_far)); Waits and returns 1 after HOT_BUSY and HOT_HELD_BACK, and
+ * returns 0 at once after any other status. For HOT_BUSY it lets the processor pause 2, 4 and so on to 128 times, then makes two sched_yield,
+ * and then sleeps, for 20 microseconds. For HOT_HELD_BACK it sleeps for 50. It sleeps twice as long each time, up to 32 times as long. */
+int hot_wait(hot_status status, hot_waits *so_far);
 
 /* Removes all keys, page by page, as hot_remove does. A key that another call puts in meanwhile may stay.
  * HOT_DONE; or HOT_CLOSED, HOT_NO_MEMORY or HOT_FULL_NODES, and then some keys are left. */

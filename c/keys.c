@@ -1,7 +1,9 @@
-/* Tests of the calls for one key and for many: what each returns and writes, keys of all lengths, texts, constants. */
+/* Tests of the calls for one key and for many: what each returns and writes, keys of all lengths, texts, constants, waits. */
+#define _POSIX_C_SOURCE 199309L
 #include "hot.h"
 #include "check.h"
 #include <string.h>
+#include <time.h>
 
 /* One handle: what each call returns. */
 static void test_calls(void) {
@@ -185,6 +187,33 @@ static void test_constants(void) {
     CHECK(hot_destroy(&handle) == HOT_DONE);
 }
 
+static double now(void) {
+    struct timespec at;
+    clock_gettime(CLOCK_MONOTONIC, &at);
+    return (double)at.tv_sec * 1e6 + (double)at.tv_nsec / 1e3;
+}
+
+/* A loop of tries waits after a refusal that other calls end, and after no other status. It sleeps twice as long each time. */
+static void test_waits(void) {
+    enum { BEFORE_SLEEPS = 9 };
+    hot_waits so_far = HOT_NO_WAITS, held = HOT_NO_WAITS;
+    hot_status status;
+    double began;
+    int tries;
+    for (status = 0; status <= HOT_NOT_RISING + 1; status++)
+        CHECK(hot_wait(status, &so_far) == (status == HOT_BUSY || status == HOT_HELD_BACK));
+    CHECK(so_far.tries == 1 && so_far.sleeps == 1);
+    for (tries = 1; tries < BEFORE_SLEEPS; tries++)
+        CHECK(hot_wait(HOT_BUSY, &so_far));
+    CHECK(so_far.sleeps == 1);
+    began = now();
+    CHECK(hot_wait(HOT_BUSY, &so_far) && hot_wait(HOT_BUSY, &so_far));
+    CHECK(now() - began >= 40 + 80 && so_far.sleeps == 3);
+    began = now();
+    CHECK(hot_wait(HOT_HELD_BACK, &held) && hot_wait(HOT_HELD_BACK, &held));
+    CHECK(now() - began >= 50 + 100);
+}
+
 int main(void) {
     CHECK(sizeof(hot_handle) == 24 && sizeof(hot_pair) == 256 && sizeof(hot_stock) == 24 && sizeof(hot_head) == 16);
     CHECK(sizeof(hot_moment) == 8 && sizeof(hot_lookup) == 32 && sizeof(hot_states) == 16 && sizeof(hot_counts) == 104);
@@ -197,6 +226,7 @@ int main(void) {
     test_add();
     test_get_packed();
     test_constants();
+    test_waits();
     puts(failures ? "c/keys.c failed" : "passed: c/keys.c");
     return failures;
 }

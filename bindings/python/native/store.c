@@ -1,11 +1,10 @@
 /* The handles of an index that threads share, and its growth. */
 #include "store.h"
-#include <sched.h>
 #include <stdlib.h>
 
 enum {
-    LONG_TRIES = 100, /* of a change that others are in the way of */
-    HELD_TRIES = 3,   /* of a change in a store that is held: the first one may have to collect what was retired */
+    LONG_TRIES = 16, /* of a change that others are in the way of */
+    HELD_TRIES = 3,  /* of a change in a store that is held: the first one may have to collect what was retired */
     CLASSES = 5,
     LEAST_LEAVES = 256,
     LISTED = 64 /* pairs that are listed at a time */
@@ -261,13 +260,12 @@ static hot_status quick(store *it, store_call *call, void *what) {
 hot_status store_long(store *it, store_call *call, void *what) {
     lease *taken;
     hot_status status = take(it, &taken);
+    hot_waits so_far = HOT_NO_WAITS;
     if (!taken)
         return status;
     status = call(&taken->handle, what);
-    for (int tries = 1; tries < LONG_TRIES && is_in_the_way(status); tries++) {
-        sched_yield();
+    for (int tries = 1; tries < LONG_TRIES && hot_wait(status, &so_far); tries++)
         status = call(&taken->handle, what);
-    }
     give_back(it, taken);
     return status;
 }
