@@ -129,7 +129,7 @@ PyObject *map_load(PyObject *self, PyObject *pairs) {
 }
 
 PyObject *map_load_map(PyObject *self, PyObject *other) {
-    if (!is_map(other)) {
+    if (!map_type(other)) {
         PyErr_SetString(PyExc_TypeError, "it is no map");
         return NULL;
     }

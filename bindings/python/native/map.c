@@ -208,17 +208,14 @@ static int map_init(PyObject *self, PyObject *words, PyObject *named) {
     wanted.threads = (size_t)threads;
     if (stock_for(capacity, longest, &wanted.stock) < 0)
         return -1;
-    PyObject *module = PyImport_ImportModule("hot._hot");
-    PyObject *pairs = module ? PyObject_GetAttrString(module, "Pairs") : NULL;
-    Py_XDECREF(module);
     /* Python code that ran up to here may have called it, too. */
-    if (pairs && it->pairs)
+    if (it->is_begun) {
         PyErr_SetString(PyExc_TypeError, "the map's __init__ was called before");
-    if (!pairs || it->pairs || codec_init(&it->codec, keys) < 0) {
-        Py_XDECREF(pairs);
         return -1;
     }
-    it->pairs = pairs;
+    if (codec_init(&it->codec, keys) < 0)
+        return -1;
+    it->is_begun = 1;
     return map_open(it, &wanted);
 }
 
@@ -227,7 +224,6 @@ static int map_traverse(PyObject *self, visitproc visit, void *arg) {
     Py_VISIT(Py_TYPE(self));
     Py_VISIT(it->codec.encode);
     Py_VISIT(it->codec.decode);
-    Py_VISIT(it->pairs);
     return 0;
 }
 
@@ -235,7 +231,6 @@ static int map_clear(PyObject *self) {
     map *it = (map *)self;
     Py_CLEAR(it->codec.encode);
     Py_CLEAR(it->codec.decode);
-    Py_CLEAR(it->pairs);
     return 0;
 }
 
@@ -254,14 +249,14 @@ static void map_dealloc(PyObject *self) {
     Py_DECREF(type);
 }
 
-int is_map(PyObject *it) {
+PyTypeObject *map_type(PyObject *it) {
     PyTypeObject *type = Py_TYPE(it);
     while (type && PyType_GetFlags(type) & Py_TPFLAGS_HEAPTYPE) {
         if (PyType_GetSlot(type, Py_tp_dealloc) == SLOT(map_dealloc))
-            return 1;
+            return type;
         type = PyType_GetSlot(type, Py_tp_base);
     }
-    return 0;
+    return NULL;
 }
 
 static PyMethodDef methods[] = {

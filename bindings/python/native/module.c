@@ -1,4 +1,5 @@
-/* The module hot._hot: its types, and what it does about forks. It keeps nothing but how often the process forked with threads. */
+/* The module hot._hot: its types, and what it does about forks. Beside its types it keeps nothing but how often the process forked with
+ * threads. */
 #include "module.h"
 
 static PyObject *forked(PyObject *self, PyObject *unused) {
@@ -7,21 +8,46 @@ static PyObject *forked(PyObject *self, PyObject *unused) {
     Py_RETURN_NONE;
 }
 
-static int add_type(PyObject *module, const char *name, PyType_Spec *spec) {
-    PyObject *type = PyType_FromSpec(spec);
-    if (type && PyModule_AddObject(module, name, type) == 0)
-        return 0;
-    Py_XDECREF(type);
-    return -1;
+/* Makes a type of the module, and has the module show it: a reference, or NULL. */
+static PyObject *add_type(PyObject *module, const char *name, PyType_Spec *spec) {
+    PyObject *type = PyType_FromModuleAndSpec(module, spec, NULL);
+    Py_XINCREF(type);
+    if (type && PyModule_AddObject(module, name, type) < 0) {
+        Py_DECREF(type);
+        Py_CLEAR(type);
+    }
+    return type;
 }
 
 static int add_all(PyObject *module) {
-    if (add_type(module, "Map", &map_spec) < 0 || add_type(module, "Pairs", &pairs_spec) < 0)
+    module_state *state = PyModule_GetState(module);
+    PyObject *map = add_type(module, "Map", &map_spec);
+    Py_XDECREF(map);
+    state->pairs = PyType_FromModuleAndSpec(module, &pairs_spec, NULL);
+    if (!map || !state->pairs)
         return -1;
     return PyModule_AddIntConstant(module, "MAX_KEY", HOT_MAX_KEY) < 0 || PyModule_AddIntConstant(module, "KEYS", KEYS) < 0 ||
                    PyModule_AddIntConstant(module, "VALUES", VALUES) < 0 || PyModule_AddIntConstant(module, "ITEMS", ITEMS) < 0
                ? -1
                : 0;
+}
+
+static int state_traverse(PyObject *module, visitproc visit, void *arg) {
+    module_state *state = PyModule_GetState(module);
+    if (state)
+        Py_VISIT(state->pairs);
+    return 0;
+}
+
+static int state_clear(PyObject *module) {
+    module_state *state = PyModule_GetState(module);
+    if (state)
+        Py_CLEAR(state->pairs);
+    return 0;
+}
+
+static void state_free(void *module) {
+    state_clear(module);
 }
 
 static PyMethodDef functions[] = {
@@ -31,8 +57,17 @@ static PyMethodDef functions[] = {
 
 static PyModuleDef_Slot slots[] = {{Py_mod_exec, SLOT(add_all)}, {0, NULL}};
 
-static PyModuleDef definition = {PyModuleDef_HEAD_INIT, .m_name = "hot._hot", .m_doc = "SortedMap's part in C.",
-                                 .m_methods = functions, .m_slots = slots};
+static PyModuleDef definition = {
+    PyModuleDef_HEAD_INIT,
+    .m_name = "hot._hot",
+    .m_doc = "SortedMap's part in C.",
+    .m_size = sizeof(module_state),
+    .m_methods = functions,
+    .m_slots = slots,
+    .m_traverse = state_traverse,
+    .m_clear = state_clear,
+    .m_free = state_free,
+};
 
 PyMODINIT_FUNC PyInit__hot(void) {
     return PyModuleDef_Init(&definition);

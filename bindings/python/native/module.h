@@ -17,6 +17,11 @@
 #define SLOT(function) ((void *)(uintptr_t)(function))
 #define METHOD(function) ((PyCFunction)(uintptr_t)(function))
 
+/* What each module of an interpreter has of its own, which no Python code can replace. */
+typedef struct module_state {
+    PyObject *pairs; /* the type of iterators */
+} module_state;
+
 /* ---- Keys as bytes: codes.c ---- */
 
 /* Which keys a map has. A Codec has two functions. */
@@ -64,8 +69,8 @@ typedef struct map {
     PyObject_HEAD
     store *store; /* NULL before __init__ */
     codec codec;
-    PyObject *pairs; /* the type of its iterators */
-    int forks;       /* how often the process had forked with threads */
+    int is_begun; /* whether an __init__ has got as far as to make it */
+    int forks;    /* how often the process had forked with threads */
 } map;
 
 extern PyType_Spec map_spec;
@@ -73,9 +78,9 @@ extern PyType_Spec map_spec;
 /* The map's store: NULL with an exception if it can't be used. */
 store *usable(map *it);
 
-/* Whether an object is a map, of a subclass too, and may be taken for one. It asks types alone: `__class__` and a module's names say what Python
- * code lets them say. */
-int is_map(PyObject *it);
+/* The type Map of an object that is a map, of a subclass too, or else NULL. It asks types alone: `__class__` and a module's names say what
+ * Python code lets them say. */
+PyTypeObject *map_type(PyObject *it);
 
 /* After a fork, in the child of a process with threads: the maps that there are can't be used. */
 void map_forked(void);

@@ -82,9 +82,12 @@ static int next_page(pairs *it) {
 /* ---- The iterator ---- */
 
 PyObject *pairs_new(map *of, const code *from, const code *upto, int falls, int what) {
-    PyTypeObject *type = (PyTypeObject *)of->pairs;
-    allocfunc make = (allocfunc)(uintptr_t)PyType_GetSlot(type, Py_tp_alloc);
-    pairs *it = (pairs *)make(type, 0);
+    module_state *state = PyType_GetModuleState(map_type((PyObject *)of));
+    PyTypeObject *type = state ? (PyTypeObject *)state->pairs : NULL;
+    allocfunc make = type ? (allocfunc)(uintptr_t)PyType_GetSlot(type, Py_tp_alloc) : NULL;
+    pairs *it = make ? (pairs *)make(type, 0) : NULL;
+    if (!make && !PyErr_Occurred())
+        PyErr_SetString(PyExc_RuntimeError, "the module has ended");
     if (!it)
         return NULL;
     Py_INCREF(of);

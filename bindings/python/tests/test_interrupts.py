@@ -394,6 +394,16 @@ class Objects(unittest.TestCase):
         self.assertEqual([*keys], ["a"])
         self.assertEqual([*keys], [])
 
+    def test_type_of_iterators(self):
+        """No Python code can put another one in its place."""
+        run_apart("""
+            import hot._hot
+            from hot import SortedMap
+
+            hot._hot.Pairs = 5
+            assert list(SortedMap({"a": 1})) == ["a"]
+        """)
+
     def test_cycles_end(self):
         """The collector finds a map whose codec has it, and an iterator of it."""
 
