@@ -13,11 +13,13 @@ int codec_init(codec *it, PyObject *keys) {
     } else if (keys == (PyObject *)&PyLong_Type) {
         it->kind = OF_INT;
     } else if (PyTuple_Check(keys) && PyTuple_Size(keys) == 2) {
-        it->kind = OF_CALLS;
         it->encode = PyTuple_GetItem(keys, 0);
         it->decode = PyTuple_GetItem(keys, 1);
+        it->kinds = kinds_of(it->encode, it->decode);
+        it->kind = it->kinds ? OF_KINDS : OF_CALLS;
         Py_INCREF(it->encode);
         Py_INCREF(it->decode);
+        Py_XINCREF(it->kinds);
     } else {
         PyErr_SetString(PyExc_TypeError, "keys is str, bytes, int or a Codec");
         return -1;
@@ -25,8 +27,7 @@ int codec_init(codec *it, PyObject *keys) {
     return 0;
 }
 
-/* TypeError for an object that is of another type than is wanted. */
-static int raise_type(const char *wanted, PyObject *object) {
+int raise_type(const char *wanted, PyObject *object) {
     PyObject *name = PyObject_GetAttrString((PyObject *)Py_TYPE(object), "__name__");
     if (name)
         PyErr_Format(PyExc_TypeError, "%s, not %S", wanted, name);
@@ -34,8 +35,7 @@ static int raise_type(const char *wanted, PyObject *object) {
     return -1;
 }
 
-/* Takes the bytes of a bytes object, whose own length they have, whatever a subclass says. The reference is taken over. */
-static int code_own(code *to, PyObject *owner) {
+int code_own(code *to, PyObject *owner) {
     char *bytes;
     Py_ssize_t length;
     if (!owner || PyBytes_AsStringAndSize(owner, &bytes, &length) < 0) {
@@ -69,11 +69,12 @@ static size_t put_point(uint8_t *to, Py_UCS4 point) {
 }
 
 /* The order of these bytes is that of the code points, as of str. */
-static int code_str(PyObject *key, code *to) {
+int code_str(PyObject *key, code *to, const char *wanted) {
     enum { LONGEST_POINT = 4 };
     Py_UCS4 points[HOT_MAX_KEY];
+    to->owner = NULL;
     if (!PyUnicode_Check(key))
-        return raise_type("a key must be str", key);
+        return raise_type(wanted, key);
     Py_ssize_t count = PyUnicode_GetLength(key);
     if (count < 0)
         return -1;
@@ -97,14 +98,33 @@ static int code_str(PyObject *key, code *to) {
     return code_own(to, PyUnicode_AsEncodedString(key, "utf-8", "surrogatepass"));
 }
 
-static int code_bytes(PyObject *key, code *to) {
+int code_bytes(PyObject *key, code *to, const char *wanted) {
+    to->owner = NULL;
     if (PyBytes_Check(key)) {
         Py_INCREF(key);
         return code_own(to, key);
     }
     if (PyByteArray_Check(key) || PyMemoryView_Check(key))
         return code_own(to, PyBytes_FromObject(key));
-    return raise_type("a key must be bytes", key);
+    return raise_type(wanted, key);
+}
+
+void put_word(uint8_t *to, uint64_t word, size_t size) {
+    for (size_t i = size; i > 0; word >>= 8)
+        to[--i] = (uint8_t)word;
+}
+
+uint64_t word_at(const uint8_t *bytes, size_t size) {
+    uint64_t word = 0;
+    for (size_t i = 0; i < size; i++)
+        word = word << 8 | bytes[i];
+    return word;
+}
+
+PyObject *signed_of(uint64_t word) {
+    long long number;
+    memcpy(&number, &word, sizeof number);
+    return PyLong_FromLongLong(number);
 }
 
 static int code_int(PyObject *key, code *to) {
@@ -113,9 +133,7 @@ static int code_int(PyObject *key, code *to) {
     long long number = PyLong_AsLongLong(key);
     if (number == -1 && PyErr_Occurred())
         return -1;
-    uint64_t word = (uint64_t)number + INT_ZERO;
-    for (int i = 0; i < INT_BYTES; i++)
-        to->room[i] = (uint8_t)(word >> (8 * (INT_BYTES - 1 - i)));
+    put_word(to->room, (uint64_t)number + INT_ZERO, INT_BYTES);
     to->bytes = to->room;
     to->length = INT_BYTES;
     return 0;
@@ -133,9 +151,10 @@ static int code_called(PyObject *encode, PyObject *key, code *to) {
 int code_of(const codec *it, PyObject *key, code *to) {
     to->owner = NULL;
     switch (it->kind) {
-    case OF_STR: return code_str(key, to);
-    case OF_BYTES: return code_bytes(key, to);
+    case OF_STR: return code_str(key, to, "a key must be str");
+    case OF_BYTES: return code_bytes(key, to, "a key must be bytes");
     case OF_INT: return code_int(key, to);
+    case OF_KINDS: return code_kinds(it->kinds, key, to);
     default: return code_called(it->encode, key, to);
     }
 }
@@ -157,22 +176,13 @@ void code_end(code *it) {
     Py_CLEAR(it->owner);
 }
 
-static PyObject *int_of(const uint8_t *bytes, size_t length) {
-    uint64_t word = 0;
-    for (size_t i = 0; i < length; i++)
-        word = word << 8 | bytes[i];
-    word -= INT_ZERO;
-    long long number;
-    memcpy(&number, &word, sizeof number);
-    return PyLong_FromLongLong(number);
-}
-
 PyObject *key_of(const codec *it, const uint8_t *bytes, size_t length) {
     const char *text = (const char *)bytes;
     switch (it->kind) {
     case OF_STR: return PyUnicode_DecodeUTF8(text, (Py_ssize_t)length, "surrogatepass");
     case OF_BYTES: return PyBytes_FromStringAndSize(text, (Py_ssize_t)length);
-    case OF_INT: return int_of(bytes, length);
+    case OF_INT: return signed_of(word_at(bytes, length) - INT_ZERO);
+    case OF_KINDS: return key_of_kinds(it->kinds, bytes, length);
     default: break;
     }
     PyObject *given = PyBytes_FromStringAndSize(text, (Py_ssize_t)length);

@@ -241,6 +241,7 @@ static void map_dealloc(PyObject *self) {
     store *in = it->forks == atomic_load(&forks) ? it->store : NULL;
     PyObject_GC_UnTrack(self);
     map_clear(self);
+    Py_CLEAR(it->codec.kinds); /* in no cycle, and so there up to the end */
     if (in) {
         Py_BEGIN_ALLOW_THREADS store_close(in);
         Py_END_ALLOW_THREADS

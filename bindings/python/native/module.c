@@ -21,10 +21,11 @@ static PyObject *add_type(PyObject *module, const char *name, PyType_Spec *spec)
 
 static int add_all(PyObject *module) {
     module_state *state = PyModule_GetState(module);
-    PyObject *map = add_type(module, "Map", &map_spec);
+    PyObject *map = add_type(module, "Map", &map_spec), *kinds = add_type(module, "Kinds", &kinds_spec);
     Py_XDECREF(map);
+    Py_XDECREF(kinds);
     state->pairs = PyType_FromModuleAndSpec(module, &pairs_spec, NULL);
-    if (!map || !state->pairs)
+    if (!map || !kinds || !state->pairs)
         return -1;
     return PyModule_AddIntConstant(module, "MAX_KEY", HOT_MAX_KEY) < 0 || PyModule_AddIntConstant(module, "KEYS", KEYS) < 0 ||
                    PyModule_AddIntConstant(module, "VALUES", VALUES) < 0 || PyModule_AddIntConstant(module, "ITEMS", ITEMS) < 0
@@ -52,6 +53,7 @@ static void state_free(void *module) {
 
 static PyMethodDef functions[] = {
     {"forked", forked, METH_NOARGS, "forked()\n--\n\nLets no map be used that there is. A child calls it after a fork of threads."},
+    {"key_of", code_of_values, METH_VARARGS, "key_of(*values)\n--\n\nThe bytes of values of the types bool, int, float, str and bytes."},
     {NULL, NULL, 0, NULL},
 };
 

@@ -24,10 +24,10 @@ typedef struct module_state {
 
 /* ---- Keys as bytes: codes.c ---- */
 
-/* Which keys a map has. A Codec has two functions. */
+/* Which keys a map has. A Codec has two functions; those of Codec.of are its kinds'. */
 typedef struct codec {
-    enum { OF_STR, OF_BYTES, OF_INT, OF_CALLS } kind;
-    PyObject *encode, *decode;
+    enum { OF_STR, OF_BYTES, OF_INT, OF_KINDS, OF_CALLS } kind;
+    PyObject *kinds, *encode, *decode;
 } codec;
 
 /* A key's bytes: in `room`, or those of `owner`, which is a bytes object. */
@@ -40,6 +40,23 @@ typedef struct code {
 
 /* -1 with TypeError unless `keys` is str, bytes, int or a pair of functions. */
 int codec_init(codec *it, PyObject *keys);
+
+/* The bytes of a str or of bytes: TypeError, which says what is wanted, for what is neither. */
+int code_str(PyObject *key, code *to, const char *wanted);
+int code_bytes(PyObject *key, code *to, const char *wanted);
+
+/* Takes the bytes of a bytes object, whose own length they have, whatever a subclass says. The reference is taken over. */
+int code_own(code *to, PyObject *owner);
+
+/* TypeError for an object that is of another type than is wanted: -1. */
+int raise_type(const char *wanted, PyObject *object);
+
+/* An unsigned number of so many bytes, the greatest byte first. */
+void put_word(uint8_t *to, uint64_t word, size_t size);
+uint64_t word_at(const uint8_t *bytes, size_t size);
+
+/* The number whose bits, as of two's complement, are these. */
+PyObject *signed_of(uint64_t word);
 
 /* Writes a key's bytes: -1 with an exception if it is no key. It may run any Python code. */
 int code_of(const codec *it, PyObject *key, code *to);
@@ -62,6 +79,20 @@ void raise_own(const char *name, const char *text);
 
 /* Raises what a refusal becomes. */
 void raise_status(hot_status status);
+
+/* ---- Keys from values of several kinds: kinds.c ---- */
+
+extern PyType_Spec kinds_spec;
+
+/* The kinds whose functions these are, or NULL. */
+PyObject *kinds_of(PyObject *encode, PyObject *decode);
+
+/* As code_of and key_of. */
+int code_kinds(PyObject *kinds, PyObject *key, code *to);
+PyObject *key_of_kinds(PyObject *kinds, const uint8_t *bytes, size_t length);
+
+/* key_of(*values), a function of the module. */
+PyObject *code_of_values(PyObject *module, PyObject *values);
 
 /* ---- Maps: map.c ---- */
 

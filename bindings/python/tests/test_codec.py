@@ -41,6 +41,13 @@ class Examples(unittest.TestCase):
         self.assertGreater(count, 80)
 
 
+class Number:
+    """What raises as it is asked which it is."""
+
+    def __index__(self):
+        return 1 // 0
+
+
 class Values(unittest.TestCase):
     def test_types(self):
         key = key_of("oak", -2, 1.5, True, b"a\0")
@@ -69,11 +76,30 @@ class Values(unittest.TestCase):
             codec = Codec.of(kind)
             self.assertRaises(error, codec.encode, value)
             self.assertNotIn(value, SortedMap(keys=codec))
+        self.assertRaises(ZeroDivisionError, Codec.of(int).encode, Number())
         for key in ("a", ["a", 1], ("a", 1, 2), (1,)):
             self.assertRaises(TypeError, Codec.of(str, int).encode, key)
         for kinds in ([complex], ["u128"], [None]):
             self.assertRaises(TypeError, Codec.of, *kinds)
         self.assertRaises(TypeError, key_of, None)
+
+    def test_long(self):
+        """Keys that are longer than a map's have all their bytes, too."""
+        for text in ("x" * 238, "x" * 239, "\0" * 120, "é" * 500):
+            code = text.encode().replace(b"\0", b"\0\1") + b"\0\0\1\xff"
+            self.assertEqual(Codec.of(str, "u16").encode((text, 511)), code)
+            self.assertEqual(Codec.of(str, "u16").decode(code), (text, 511))
+            mine = SortedMap(keys=Codec.of(str, "u16"))
+            self.assertNotIn((text, 511), mine)
+            self.assertEqual([*mine.irange((text,), (text, 511))], [])
+            self.assertRaises(ValueError, mine.__setitem__, (text, 511), 1)
+
+    def test_equal_numbers(self):
+        """A float's key is that of an int that is equal to it, or rounded to it."""
+        mine = SortedMap({1: 1, 2**53 + 1: 2}, keys=Codec.of(float))
+        self.assertEqual((mine[1.0], mine[2**53]), (1, 2))
+        self.assertNotIn(1.0, SortedMap({1: 1}, keys=int))
+        self.assertIn(True, SortedMap({1: 1}, keys=int))
 
     def test_what_is_no_key(self):
         for key, kind in [

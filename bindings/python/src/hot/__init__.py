@@ -8,7 +8,8 @@ except ModuleNotFoundError as error:
 
 from . import _forks
 from ._errors import FullError, HotError, LoadError
-from .codec import Codec, key_of, values_of
+from ._hot import key_of
+from .codec import Codec, values_of
 from .sortedmap import SortedMap, Stats
 
 __all__ = [
