@@ -1,6 +1,5 @@
 /* Map: a mapping over a store. */
 #include "module.h"
-#include <stdlib.h>
 
 static atomic_int forks;
 
@@ -56,91 +55,6 @@ static PyObject *map_encode(PyObject *self, PyObject *key) {
     PyObject *bytes = PyBytes_FromStringAndSize((const char *)to.bytes, (Py_ssize_t)to.length);
     code_end(&to);
     return bytes;
-}
-
-static PyObject *map_pairs(PyObject *self, PyObject *words) {
-    map *it = (map *)self;
-    PyObject *from, *upto, *made = NULL;
-    int falls, what;
-    code start = {.owner = NULL}, end = {.owner = NULL};
-    codec bytes = {.kind = OF_BYTES};
-    if (!usable(it) || !PyArg_ParseTuple(words, "OOpi:_pairs", &from, &upto, &falls, &what))
-        return NULL;
-    if (code_of(&bytes, from, &start) == 0 && code_of(&bytes, upto, &end) == 0) {
-        if (start.length > HOT_MAX_KEY || end.length > HOT_MAX_KEY)
-            raise_status(HOT_KEY_TOO_LONG);
-        else
-            made = pairs_new(it, &start, &end, falls, what);
-    }
-    code_end(&start);
-    code_end(&end);
-    return made;
-}
-
-/* The keys from one to another, how many they are, and their values. */
-typedef struct span {
-    code from, upto;
-    size_t count;
-    uint64_t *values;
-} span;
-
-static hot_status count_span(hot_handle *handle, void *what) {
-    span *it = what;
-    return hot_count(handle, it->from.bytes, it->from.length, it->upto.bytes, it->upto.length, &it->count);
-}
-
-/* Lists the values by a scan with room for some more keys than there were, and for twice as many as long as that has more. */
-static hot_status list_values(hot_handle *handle, void *what) {
-    enum { MORE = 64 };
-    span *it = what;
-    uint32_t more = 1;
-    hot_status status = count_span(handle, what);
-    for (size_t room = it->count + MORE; status == HOT_DONE && more; room *= 2) {
-        uint64_t *values = realloc(it->values, room * sizeof *values);
-        if (!values)
-            return HOT_NO_MEMORY;
-        it->values = values;
-        status = hot_scan_values(handle, it->from.bytes, it->from.length, it->upto.bytes, it->upto.length, values, room, &it->count,
-                                 &more);
-    }
-    return status;
-}
-
-/* Makes a long call for the keys from one key's bytes to another's: -1 with an exception. */
-static int call_span(PyObject *self, PyObject *words, store_call *call, span *what) {
-    PyObject *from, *upto;
-    codec bytes = {.kind = OF_BYTES};
-    store *in = usable((map *)self);
-    hot_status status = HOT_NO_MEMORY;
-    int is_made = 0;
-    if (!in || !PyArg_ParseTuple(words, "OO:span", &from, &upto))
-        return -1;
-    if (code_of(&bytes, from, &what->from) == 0 && code_of(&bytes, upto, &what->upto) == 0) {
-        Py_BEGIN_ALLOW_THREADS status = store_long(in, call, what);
-        Py_END_ALLOW_THREADS is_made = status == HOT_DONE;
-        if (!is_made)
-            raise_status(status);
-    }
-    code_end(&what->from);
-    code_end(&what->upto);
-    return is_made ? 0 : -1;
-}
-
-static PyObject *map_count(PyObject *self, PyObject *words) {
-    span what = {.from = {.owner = NULL}, .upto = {.owner = NULL}};
-    return call_span(self, words, count_span, &what) < 0 ? NULL : PyLong_FromSize_t(what.count);
-}
-
-static PyObject *map_values(PyObject *self, PyObject *words) {
-    span what = {.from = {.owner = NULL}, .upto = {.owner = NULL}};
-    PyObject *list = call_span(self, words, list_values, &what) < 0 ? NULL : PyList_New((Py_ssize_t)what.count);
-    for (size_t at = 0; list && at < what.count; at++) {
-        PyObject *value = PyLong_FromUnsignedLongLong(what.values[at]);
-        if (!value || PyList_SetItem(list, (Py_ssize_t)at, value) < 0)
-            Py_CLEAR(list);
-    }
-    free(what.values);
-    return list;
 }
 
 static PyObject *map_stats(PyObject *self, PyObject *unused) {
@@ -287,6 +201,9 @@ static PyMethodDef methods[] = {
      "_load_map($self, other, /)\n--\n\nTakes the pairs of a map, whose keys have the same bytes, in the place of what there is."},
     {"_encode", METHOD(map_encode), METH_O, "_encode($self, key, /)\n--\n\nThe key's bytes."},
     {"_count", METHOD(map_count), METH_VARARGS, "_count($self, start, end, /)\n--\n\nHow many keys there are from one key's bytes to another's."},
+    {"_clear", METHOD(map_clear_range), METH_VARARGS, "_clear($self, start, end, /)\n--\n\nDeletes the keys from one key's bytes to another's."},
+    {"_pop", METHOD(map_pop_range), METH_VARARGS,
+     "_pop($self, start, end, reverse, /)\n--\n\nDeletes the first or last pair from one key's bytes to another's: the pair, or None."},
     {"_values", METHOD(map_values), METH_VARARGS, "_values($self, start, end, /)\n--\n\nThe values from one key's bytes to another's."},
     {"_stats", METHOD(map_stats), METH_NOARGS, "_stats($self)\n--\n\nHow often tries were busy, held back and full."},
     {"_pairs", METHOD(map_pairs), METH_VARARGS,

@@ -28,7 +28,8 @@ static int add_all(PyObject *module) {
     if (!map || !kinds || !state->pairs)
         return -1;
     return PyModule_AddIntConstant(module, "MAX_KEY", HOT_MAX_KEY) < 0 || PyModule_AddIntConstant(module, "KEYS", KEYS) < 0 ||
-                   PyModule_AddIntConstant(module, "VALUES", VALUES) < 0 || PyModule_AddIntConstant(module, "ITEMS", ITEMS) < 0
+                   PyModule_AddIntConstant(module, "VALUES", VALUES) < 0 || PyModule_AddIntConstant(module, "ITEMS", ITEMS) < 0 ||
+                   PyModule_AddIntConstant(module, "CODES", CODES) < 0
                ? -1
                : 0;
 }

@@ -116,7 +116,7 @@ PyTypeObject *map_type(PyObject *it);
 /* After a fork, in the child of a process with threads: the maps that there are can't be used. */
 void map_forked(void);
 
-/* Its methods: one_key.c, many_keys.c, loads.c. */
+/* Its methods: one_key.c, many_keys.c, ranges.c, loads.c. */
 PyObject *map_subscript(PyObject *self, PyObject *key);
 int map_contains(PyObject *self, PyObject *key);
 int map_ass_subscript(PyObject *self, PyObject *key, PyObject *value);
@@ -128,6 +128,11 @@ PyObject *map_remove_if(PyObject *self, PyObject *words, PyObject *named);
 PyObject *map_add(PyObject *self, PyObject *words, PyObject *named);
 PyObject *map_fetch_add(PyObject *self, PyObject *words, PyObject *named);
 PyObject *map_get_many(PyObject *self, PyObject *keys);
+PyObject *map_pairs(PyObject *self, PyObject *words);
+PyObject *map_count(PyObject *self, PyObject *words);
+PyObject *map_values(PyObject *self, PyObject *words);
+PyObject *map_clear_range(PyObject *self, PyObject *words);
+PyObject *map_pop_range(PyObject *self, PyObject *words);
 PyObject *map_load(PyObject *self, PyObject *pairs);
 PyObject *map_load_map(PyObject *self, PyObject *other);
 
@@ -135,8 +140,11 @@ PyObject *map_load_map(PyObject *self, PyObject *other);
 
 extern PyType_Spec pairs_spec;
 
-/* What an iterator lists. */
-enum { KEYS, VALUES, ITEMS };
+/* What an iterator lists: CODES are the bytes of keys. */
+enum { KEYS, VALUES, ITEMS, CODES };
+
+/* A pair, or NULL with an exception if either is NULL. The references are taken over. */
+PyObject *pair_of(PyObject *key, PyObject *value);
 
 /* The iterator of a map from one key's bytes to another's. */
 PyObject *pairs_new(map *of, const code *from, const code *upto, int falls, int what);

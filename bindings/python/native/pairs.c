@@ -102,7 +102,7 @@ PyObject *pairs_new(map *of, const code *from, const code *upto, int falls, int 
     return (PyObject *)it;
 }
 
-static PyObject *pair_of(PyObject *key, PyObject *value) {
+PyObject *pair_of(PyObject *key, PyObject *value) {
     PyObject *pair = key && value ? PyTuple_Pack(2, key, value) : NULL;
     Py_XDECREF(key);
     Py_XDECREF(value);
@@ -120,6 +120,7 @@ static PyObject *shown(pairs *it, const codec *in) {
     switch (it->what) {
     case KEYS: return key_of(in, key, length);
     case VALUES: return PyLong_FromUnsignedLongLong(value);
+    case CODES: return PyBytes_FromStringAndSize((const char *)key, (Py_ssize_t)length);
     default: return pair_of(key_of(in, key, length), PyLong_FromUnsignedLongLong(value));
     }
 }

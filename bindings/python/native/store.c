@@ -301,8 +301,8 @@ static hot_status change_alone(store *it, store_call *call, void *what, size_t l
     return status == HOT_HELD_BACK ? HOT_FULL_NODES : status;
 }
 
-hot_status store_change(store *it, store_call *call, void *what, size_t length) {
-    hot_status status = quick(it, call, what);
+/* Makes a change whose first try came out so. */
+static hot_status change_on(store *it, store_call *call, void *what, size_t length, hot_status status) {
     while (is_in_the_way(status) || is_full(status, length)) {
         int is_mine = !is_in_the_way(status) && hold(it);
         void *ended = it->turns.end();
@@ -317,6 +317,14 @@ hot_status store_change(store *it, store_call *call, void *what, size_t length) 
             status = HOT_FULL_NODES; /* so the store is held next */
     }
     return status;
+}
+
+hot_status store_change(store *it, store_call *call, void *what, size_t length) {
+    return change_on(it, call, what, length, quick(it, call, what));
+}
+
+hot_status store_change_long(store *it, store_call *call, void *what) {
+    return change_on(it, call, what, 0, HOT_BUSY);
 }
 
 /* Within a turn, which it ends: holds the store once nobody else does and all other calls have returned. Returns what begins the next turn. */

@@ -75,6 +75,9 @@ hot_status store_read(store *it, store_call *call, void *what);
  * is full. A store that grows then makes it in a larger index. So it is never HOT_BUSY or HOT_HELD_BACK. */
 hot_status store_change(store *it, store_call *call, void *what, size_t length);
 
+/* Makes a change that may take long, and wait for others: without a turn, and without growth as far as it makes no room. */
+hot_status store_change_long(store *it, store_call *call, void *what);
+
 /* Removes all keys at once. HOT_DONE or HOT_NO_MEMORY. */
 hot_status store_clear(store *it);
 

@@ -55,8 +55,9 @@ class Objects(SortedMap):
     def pop(self, key, *default):
         return self.held[super().pop(key, *map(self.place, default))]
 
-    def remove_if(self, key, expected):
-        return super().remove_if(key, self.place(expected))
+    def _pop(self, *words):
+        pair = super()._pop(*words)
+        return pair and (pair[0], self.held[pair[1]])
 
     def popitem(self):
         return SortedMap.popitem(self)

@@ -32,6 +32,12 @@ static hot_status make(hot_handle *handle, void *what) {
                        : hot_try_upsert(handle, it->key, it->length, it->length, &it->had);
 }
 
+/* Removes all keys, or the one that is named. */
+static hot_status clear(hot_handle *handle, void *what) {
+    change *it = what;
+    return it ? hot_clear_range(handle, it->key, it->length, it->key, it->length) : hot_clear(handle);
+}
+
 static hot_status count_keys(hot_handle *handle, void *what) {
     return hot_len(handle, what);
 }
@@ -66,7 +72,7 @@ static void shape(change *to, int kind, unsigned number) {
     }
 }
 
-/* Fills an index until it is refused, and empties it; each key that was put in is there, and can be removed. */
+/* Fills an index until it is refused, and empties it; each key that was put in is there, and can be removed, alone or with all others. */
 static void fill(uint32_t nodes, int kind, int grows) {
     enum { KEYS = 1000 };
     wanted_store wanted = {.threads = 1, .grows = grows};
@@ -88,6 +94,8 @@ static void fill(uint32_t nodes, int kind, int grows) {
         shape(&it, kind, i);
         assert(store_read(in, look_up, &it) == HOT_FOUND && it.had == it.length);
     }
+    if (nodes % 2)
+        assert(store_change_long(in, clear, NULL) == HOT_DONE && count_of(in) == 0);
     for (unsigned i = 0; i < count; i++) {
         shape(&it, kind, i);
         it.removes = 1;
@@ -146,6 +154,8 @@ static void *work(void *place) {
         it.removes = i % 3 == 2;
         hot_status status = store_change(shared, make, &it, it.length);
         assert(status == HOT_NEW || status == HOT_WAS || status == HOT_REMOVED || status == HOT_ABSENT);
+        if (i % 50 == 49)
+            assert(store_change_long(shared, clear, &it) == HOT_DONE);
         if (own == 0 && i % 500 == 499)
             assert(store_clear(shared) == HOT_DONE);
         end_turn();

@@ -158,6 +158,21 @@ class Ranges(unittest.TestCase):
         mine.irange_clear()
         self.assertRaises(KeyError, mine.irange_pop)
 
+    def test_codec_that_loses(self):
+        """One that gives back other keys than it took, or none: bytes are taken."""
+        codec = Codec(str.encode, lambda code: code.decode().upper())
+        mine = SortedMap.fromkeys("abcde", 1, keys=codec)
+        mine.irange_clear("b", "c")
+        self.assertEqual([*mine], ["A", "D", "E"])
+        self.assertEqual(mine.irange_pop(), ("A", 1))
+        self.assertEqual(mine.popitem(1), ("E", 1))
+        self.assertEqual(mine.popitem(), ("D", 1))
+        self.assertRaises(KeyError, mine.popitem)
+        mine = SortedMap({b"a": 1}, keys=Codec(bytes, lambda code: 1 // 0))
+        for pop in mine.irange_pop, mine.popitem:
+            self.assertRaises(ZeroDivisionError, pop)
+        self.assertEqual(len(mine), 1)
+
 
 if __name__ == "__main__":
     unittest.main()

@@ -219,6 +219,8 @@ class Refusals(unittest.TestCase):
         self.assertGreater(len(mine), 500)
         told = mine.stats()
         self.assertGreater(told.full, 0)
+        mine.irange_clear()
+        self.assertFalse(mine)
         mine.clear()
         mine["a"] = 1
         self.assertEqual((mine, mine.stats()), ({"a": 1}, told))

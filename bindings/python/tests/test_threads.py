@@ -110,6 +110,20 @@ class Threads(unittest.TestCase):
         finally:
             sys.setswitchinterval(was)
 
+    def test_ranges_are_cleared(self):
+        """Each thread clears keys of its own, while the map grows."""
+        mine = SortedMap(keys=int, threads=2)
+
+        def work(thread):
+            for turn in range(20):
+                first = thread * 1000000 + turn * 1000
+                mine.update((first + number, number) for number in range(300))
+                mine.irange_clear(first + 10, first + 299)
+                self.assertEqual(mine.count_range(first, first + 999), 10)
+
+        together(4, work)
+        self.assertEqual(len(mine), 4 * 20 * 10)
+
     def test_one_winner(self):
         """Of threads that take the last pair at the same time one gets it."""
         mine = SortedMap(((number, number) for number in range(2000)), keys=int)

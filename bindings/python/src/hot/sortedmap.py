@@ -8,7 +8,7 @@ from itertools import chain, islice
 from typing import Any, Generic, NamedTuple, Optional, TypeVar, Union
 
 from ._errors import FullError
-from ._hot import ITEMS, KEYS, MAX_KEY, VALUES, Map
+from ._hot import CODES, ITEMS, KEYS, MAX_KEY, VALUES, Map
 from .codec import Codec
 
 K = TypeVar("K")
@@ -193,13 +193,11 @@ class SortedMap(Map[K], MutableMapping[K, int], Generic[K]):
     ) -> tuple[K, int]:
         """Deletes the first pair whose key `irange` lists, and returns it. No two calls
         get the same pair."""
-        while True:
-            pairs = self.irange_items(minimum, maximum, inclusive, reverse)
-            pair = next(pairs, None)
-            if pair is None:
-                raise KeyError("irange_pop(): there is no such pair")
-            if self.remove_if(*pair):
-                return pair
+        bounds = self._bounds(minimum, maximum, inclusive)
+        pair = None if bounds is None else self._pop(*bounds, reverse)
+        if pair is None:
+            raise KeyError("irange_pop(): there is no such pair")
+        return pair
 
     def irange_clear(
         self,
@@ -208,8 +206,9 @@ class SortedMap(Map[K], MutableMapping[K, int], Generic[K]):
         inclusive: tuple[bool, bool] = (True, True),
     ) -> None:
         """Deletes the keys that `irange` lists."""
-        for key in self.irange(minimum, maximum, inclusive):
-            self.pop(key, None)
+        bounds = self._bounds(minimum, maximum, inclusive)
+        if bounds is not None:
+            self._clear(*bounds)
 
     def floor_item(
         self, key: Bound[K], inclusive: bool = True
@@ -226,21 +225,28 @@ class SortedMap(Map[K], MutableMapping[K, int], Generic[K]):
     def peekitem(self, index: int = -1) -> tuple[K, int]:
         """The pair of this place. It takes a walk from the nearer end that is named:
         from the first pair on, or for a negative place from the last one back."""
-        pairs: Iterator[tuple[K, int]] = self._list(ITEMS, ALL, index < 0)
-        at = -1 - index if index < 0 else index
-        for pair in islice(pairs, at, None):
+        pairs: Iterator[tuple[K, int]] = self._from_place(ITEMS, index)
+        for pair in pairs:
             return pair
         raise IndexError("list index out of range")
+
+    def _from_place(self, what: int, index: int) -> Iterator[Any]:
+        """What is listed from a place on, or for a negative one from there back."""
+        at = -1 - index if index < 0 else index
+        return islice(self._list(what, ALL, index < 0), at, None)
 
     def popitem(self, index: int = -1) -> tuple[K, int]:
         """Deletes the pair of this place, and returns it."""
         while True:
-            try:
-                key, value = self.peekitem(index)
-            except IndexError:
-                raise KeyError("popitem(): there is no such pair") from None
-            if self.remove_if(key, value):
-                return key, value
+            bounds: Optional[tuple[bytes, bytes]] = ALL
+            if index not in (0, -1):
+                code = next(self._from_place(CODES, index), None)
+                bounds = None if code is None else (code, code)
+            pair = None if bounds is None else self._pop(*bounds, index < 0)
+            if pair is not None:
+                return pair
+            if bounds is None or bounds is ALL:
+                raise KeyError("popitem(): there is no such pair")
 
     def islice(
         self,
