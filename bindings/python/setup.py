@@ -12,7 +12,7 @@ HERE = Path(__file__).resolve().parent
 def library() -> dict[str, list[str]]:
     """What the compiler is told of hot.h and libhot."""
     # PACKAGE/share/hot/bindings/python
-    at = Path(os.environ.get("HOT_DIR") or HERE.parents[3])
+    at = Path(os.environ.get("HOT_DIR") or HERE / "../../../..")
     archive = at / "lib" / "libhot.a"
     if archive.exists():
         return {"include_dirs": [str(at / "include")], "extra_objects": [str(archive)]}
