@@ -2,6 +2,9 @@
 #include "module.h"
 #include <string.h>
 
+/* How many pairs are taken until signals are heard: it may be no Python code that gives them. */
+enum { BETWEEN_SIGNALS = 4096 };
+
 /* Pairs in the order in which they came, one behind another. */
 typedef struct packed {
     uint8_t *bytes;
@@ -100,6 +103,8 @@ static int packed_take_all(packed *it, const codec *in, PyObject *pairs) {
     while (status == 0 && (pair = PyIter_Next(each))) {
         status = packed_take(it, in, pair);
         Py_DECREF(pair);
+        if (status == 0 && it->count % BETWEEN_SIGNALS == 0)
+            status = PyErr_CheckSignals();
     }
     Py_XDECREF(each);
     return PyErr_Occurred() ? -1 : status;

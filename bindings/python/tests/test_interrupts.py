@@ -110,6 +110,40 @@ class Signals(unittest.TestCase):
         """)
 
 
+    def test_interrupted_making(self):
+        """Of a map with much room, and of one with pairs that no Python code gives."""
+        run_apart("""
+            import signal, time
+            from hot import SortedMap
+
+            class Alarm(Exception):
+                pass
+
+            def stop(*_):
+                raise Alarm
+
+            def seconds(make, until=0):
+                begun = time.monotonic()
+                signal.setitimer(signal.ITIMER_REAL, until)
+                try:
+                    make()
+                    assert not until
+                except Alarm:
+                    pass
+                return time.monotonic() - begun
+
+            signal.signal(signal.SIGALRM, stop)
+            pairs = [(number, number) for number in range(500000)]
+            for make in (
+                lambda: SortedMap(capacity=5000000),
+                lambda: SortedMap(pairs, keys=int, sorted=True),
+            ):
+                whole = seconds(make)
+                heard = min(seconds(make, whole / 10) for _ in range(3))
+                assert heard < whole / 2, (heard, whole)
+        """)
+
+
 class Own(unittest.TestCase):
     """Code of the program that runs in the middle of a call."""
 
