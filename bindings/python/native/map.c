@@ -174,7 +174,7 @@ static PyMethodDef methods[] = {
     {"get", METHOD(map_get), METH_VARARGS | METH_KEYWORDS, "get($self, key, default=None)\n--\n\nThe key's value, or the default."},
     {"setdefault", METHOD(map_setdefault), METH_VARARGS | METH_KEYWORDS,
      "setdefault($self, key, default=None)\n--\n\nThe key's value, after it was set to the default if it was absent."},
-    {"pop", METHOD(map_pop), METH_VARARGS,
+    {"pop", METHOD(map_pop), METH_VARARGS | METH_KEYWORDS,
      "pop($self, key, *default)\n--\n\nDeletes a key: its value, or the default if it was absent."},
     {"exchange", METHOD(map_exchange), METH_VARARGS | METH_KEYWORDS,
      "exchange($self, key, expected, value)\n--\n\nSets a key if it has the expected value: whether it had."},

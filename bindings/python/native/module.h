@@ -122,7 +122,7 @@ int map_contains(PyObject *self, PyObject *key);
 int map_ass_subscript(PyObject *self, PyObject *key, PyObject *value);
 PyObject *map_get(PyObject *self, PyObject *words, PyObject *named);
 PyObject *map_setdefault(PyObject *self, PyObject *words, PyObject *named);
-PyObject *map_pop(PyObject *self, PyObject *words);
+PyObject *map_pop(PyObject *self, PyObject *words, PyObject *named);
 PyObject *map_exchange(PyObject *self, PyObject *words, PyObject *named);
 PyObject *map_remove_if(PyObject *self, PyObject *words, PyObject *named);
 PyObject *map_add(PyObject *self, PyObject *words, PyObject *named);

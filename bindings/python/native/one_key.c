@@ -136,11 +136,11 @@ PyObject *map_setdefault(PyObject *self, PyObject *words, PyObject *named) {
     return value_or(status, &what, other);
 }
 
-PyObject *map_pop(PyObject *self, PyObject *words) {
+PyObject *map_pop(PyObject *self, PyObject *words, PyObject *named) {
     PyObject *key, *other = NULL;
     key_call what;
     what.kind = REMOVE;
-    if (!PyArg_UnpackTuple(words, "pop", 1, 2, &key, &other))
+    if (!key_and(words, named, "default", "pop", &key, &other))
         return NULL;
     int status = call_if_known((map *)self, key, &what);
     return status == HOT_ABSENT && !other ? raise_absent(key) : value_or(status, &what, other);

@@ -5,13 +5,15 @@ from __future__ import annotations
 from collections.abc import Collection, ItemsView, Iterable, Iterator, KeysView, Mapping
 from collections.abc import MutableMapping, ValuesView
 from itertools import chain, islice
-from typing import Any, Generic, NamedTuple, Optional, TypeVar, Union
+from typing import TYPE_CHECKING, Any, Generic, NamedTuple, Optional, TypeVar, Union
+from typing import overload
 
 from ._errors import FullError
 from ._hot import CODES, ITEMS, KEYS, MAX_KEY, VALUES, Map
 from .codec import Codec
 
 K = TypeVar("K")
+T = TypeVar("T", covariant=True)
 Self = TypeVar("Self", bound="SortedMap[Any]")
 
 # An end of a range: a key, or of a map with Codec.of the first values of one.
@@ -69,12 +71,39 @@ class SortedMap(Map[K], MutableMapping[K, int], Generic[K]):
     threads the maps of the parent raise HotError.
     """
 
+    @overload
     def __init__(
-        self,
-        data: Union[Mapping[K, int], Iterable[tuple[K, int]]] = (),
+        self: SortedMap[str],
+        data: Union[Mapping[str, int], Iterable[tuple[str, int]]] = ...,
         /,
         *,
-        keys: Union[type, Codec] = str,
+        capacity: Optional[int] = ...,
+        longest: int = ...,
+        threads: int = ...,
+        grow: bool = ...,
+        sorted: bool = ...,
+    ) -> None: ...
+
+    @overload
+    def __init__(
+        self,
+        data: Union[Mapping[K, int], Iterable[tuple[K, int]]] = ...,
+        /,
+        *,
+        keys: Union[type[K], Codec],
+        capacity: Optional[int] = ...,
+        longest: int = ...,
+        threads: int = ...,
+        grow: bool = ...,
+        sorted: bool = ...,
+    ) -> None: ...
+
+    def __init__(
+        self,
+        data: Any = (),
+        /,
+        *,
+        keys: Any = str,
         capacity: Optional[int] = None,
         longest: int = 24,
         threads: int = 8,
@@ -84,14 +113,17 @@ class SortedMap(Map[K], MutableMapping[K, int], Generic[K]):
         kind: Union[type, Codec] = keys if isinstance(keys, type) else Codec(*keys)
         super().__init__(kind, capacity, longest, threads, grow)
         self._options: dict[str, Any] = {"keys": keys, "threads": threads, "grow": grow}
-        given: Any = data
         # isinstance believes what an object says of its class.
-        if issubclass(type(given), SortedMap) and given._options["keys"] == keys:
-            self._copy_of(given)
+        if issubclass(type(data), SortedMap) and data._options["keys"] == keys:
+            self._copy_of(data)
         elif sorted:
             self._load(data.items() if isinstance(data, Mapping) else data)
         else:
             self.update(data)
+
+    if TYPE_CHECKING:
+
+        def setdefault(self, key: K, default: Optional[int] = None) -> int: ...
 
     def _copy_of(self, other: SortedMap[K]) -> None:
         """Takes the pairs of a map with the same keys."""
@@ -350,18 +382,24 @@ def _rebuilt(kind: Any, data: Any, options: dict[str, Any]) -> Any:
     return kind(data, **options)
 
 
-class _SortedView(Collection[Any]):
+class _SortedView(Collection[T]):
     """What the views add to those of the standard library: both orders, and places,
     each found by a walk."""
 
     _mapping: SortedMap[Any]
     _what: int
 
-    def __iter__(self) -> Iterator[Any]:
+    def __iter__(self) -> Iterator[T]:
         return self._mapping._list(self._what, ALL)
 
-    def __reversed__(self) -> Iterator[Any]:
+    def __reversed__(self) -> Iterator[T]:
         return self._mapping._list(self._what, ALL, True)
+
+    @overload
+    def __getitem__(self, index: int) -> T: ...
+
+    @overload
+    def __getitem__(self, index: slice) -> list[T]: ...
 
     def __getitem__(self, index: Any) -> Any:
         if isinstance(index, slice):
@@ -369,31 +407,31 @@ class _SortedView(Collection[Any]):
         pair = self._mapping.peekitem(index)
         return pair if self._what == ITEMS else pair[self._what]
 
-    def index(self, value: Any) -> int:
+    def index(self, value: object) -> int:
         """The first place of a value."""
         for at, it in enumerate(self):
             if it == value:
                 return at
         raise ValueError(f"{value!r} is not in the view")
 
-    def count(self, value: Any) -> int:
+    def count(self, value: object) -> int:
         """At how many places a value is."""
         return sum(it == value for it in self)
 
 
-class SortedKeysView(_SortedView, KeysView[K]):
+class SortedKeysView(_SortedView[K], KeysView[K]):
     """The keys of a map, in order."""
 
     _what = KEYS
 
 
-class SortedItemsView(_SortedView, ItemsView[K, int]):
+class SortedItemsView(_SortedView[tuple[K, int]], ItemsView[K, int]):
     """The pairs of a map, in the order of their keys."""
 
     _what = ITEMS
 
 
-class SortedValuesView(_SortedView, ValuesView[int]):
+class SortedValuesView(_SortedView[int], ValuesView[int]):
     """The values of a map, in the order of their keys."""
 
     _what = VALUES
