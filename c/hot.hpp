@@ -64,6 +64,8 @@ class key_view : public std::string_view {
     using std::string_view::string_view;
     /// The empty key, which comes before all others.
     constexpr key_view() = default;
+    /// No key is made of a null pointer, or of a 0, which would be one.
+    key_view(std::nullptr_t) = delete;
     /// All bytes of a text, 0 bytes among them.
     constexpr key_view(std::string_view text) : std::string_view(text) {}
     key_view(const std::string &text) : std::string_view(text) {}
@@ -432,8 +434,18 @@ class packed {
     /// A page that is empty until a scan fills it, with room for `pairs` pairs whose keys have `bytes` bytes together at most. `pairs`
     /// times HOT_MAX_KEY bytes are always enough, and HOT_MAX_KEY bytes for one pair. Throws std::bad_alloc, or std::length_error if no
     /// vector has so many.
-    // One more of both, so that they point somewhere with no room too.
-    packed(std::size_t pairs, std::size_t bytes) : keys_(bytes + 1), heads_(pairs + 1) {}
+    packed(std::size_t pairs, std::size_t bytes) : keys_(bytes), heads_(pairs) {}
+    packed(const packed &) = default;
+    /// A move leaves the other page empty and without room: a scan fills it with no pairs.
+    packed(packed &&other) noexcept
+        : keys_(std::move(other.keys_)), heads_(std::move(other.heads_)), count_(std::exchange(other.count_, 0)),
+          used_(std::exchange(other.used_, 0)), more_(std::exchange(other.more_, 0)) {}
+    packed &operator=(packed other) noexcept {
+        keys_.swap(other.keys_);
+        heads_.swap(other.heads_);
+        std::tie(count_, used_, more_) = std::tie(other.count_, other.used_, other.more_);
+        return *this;
+    }
     iterator begin() const { return {keys_.data(), heads_.data()}; }
     iterator end() const { return {keys_.data() + used_, heads_.data() + count_}; }
     std::size_t size() const { return count_; }
@@ -555,23 +567,29 @@ class handle {
     change try_remove_if(key_view key, std::uint64_t expected) { return put(hot_try_remove_if, key, expected); }
     change try_add(key_view key, std::uint64_t delta) { return put(hot_try_add, key, delta); }
 
-    /// The pairs from one key to another, both included; those from a key on; those whose keys begin with a prefix.
-    [[nodiscard]] range scan(key_view from, key_view upto, std::size_t pairs = page) { return range(it(), from, upto, pairs); }
-    [[nodiscard]] range scan(key_view from = {}) { return scan(from, greatest()); }
-    [[nodiscard]] range scan_prefix(key_view prefix) {
+    /// The pairs from one key to another, both included; those from a key on; those whose keys begin with a prefix. A handle that is a
+    /// temporary has no range, which would last longer.
+    [[nodiscard]] range scan(key_view from, key_view upto, std::size_t pairs = page) & { return range(it(), from, upto, pairs); }
+    [[nodiscard]] range scan(key_view from = {}) & { return scan(from, greatest()); }
+    [[nodiscard]] range scan_prefix(key_view prefix) & {
         return scan(prefix, last_with(prefix));
     }
+    range scan(key_view, key_view, std::size_t = page) && = delete;
+    range scan(key_view = {}) && = delete;
+    range scan_prefix(key_view) && = delete;
 
     /// The pairs whose keys begin with a prefix, the greatest key first.
-    [[nodiscard]] range scan_prefix_reverse(key_view prefix) {
+    [[nodiscard]] range scan_prefix_reverse(key_view prefix) & {
         return scan_reverse(prefix, last_with(prefix));
     }
+    range scan_prefix_reverse(key_view) && = delete;
 
     /// The pairs from one key on and below another, which is not included.
-    [[nodiscard]] range scan_half_open(key_view from, key_view below, std::size_t pairs = page) {
+    [[nodiscard]] range scan_half_open(key_view from, key_view below, std::size_t pairs = page) & {
         const std::optional<std::string> upto = before(below);
         return upto ? scan(from, *upto, pairs) : scan(std::string_view("\0", 1), {}, pairs);
     }
+    range scan_half_open(key_view, key_view, std::size_t = page) && = delete;
 
     /// Fill a page with the first pairs from one key to another, both included, or with the last ones, the greatest key first:
     /// hot_scan_packed, hot_scan_packed_reverse.
@@ -579,15 +597,18 @@ class handle {
     void scan_packed_reverse(key_view from, key_view upto, packed &into) { fill(hot_scan_packed_reverse, from, upto, into); }
 
     /// The pairs from one key to another, both included, the greatest key first; and all pairs in that order.
-    [[nodiscard]] range scan_reverse(key_view from, key_view upto, std::size_t pairs = page) {
+    [[nodiscard]] range scan_reverse(key_view from, key_view upto, std::size_t pairs = page) & {
         return range(it(), from, upto, pairs, order::falling);
     }
-    [[nodiscard]] range scan_reverse() { return scan_reverse({}, greatest()); }
+    [[nodiscard]] range scan_reverse() & { return scan_reverse({}, greatest()); }
+    range scan_reverse(key_view, key_view, std::size_t = page) && = delete;
+    range scan_reverse() && = delete;
 
     /// The last `count` pairs from one key to another, both included, in rising order: hot_scan_last. `count` is at least 1.
-    [[nodiscard]] range scan_last(key_view from, key_view upto, std::size_t count) {
+    [[nodiscard]] range scan_last(key_view from, key_view upto, std::size_t count) & {
         return range(it(), from, upto, count, order::last);
     }
+    range scan_last(key_view, key_view, std::size_t) && = delete;
 
     /// How many keys there are from one key to another, both included: hot_count. And how many begin with a prefix: hot_count_prefix.
     [[nodiscard]] std::size_t count(key_view from, key_view upto) {
@@ -657,8 +678,8 @@ class handle {
         check(hot_retired(it(), &made));
         return made;
     }
-    [[nodiscard]] bool is_past(const retirement &moment) {
-        const hot_status status = hot_is_past(it(), &moment);
+    [[nodiscard]] bool is_past(const retirement &noted) {
+        const hot_status status = hot_is_past(it(), &noted);
         check(status);
         return status == HOT_DONE;
     }
@@ -708,8 +729,11 @@ class handle {
         return last;
     }
     template <class Call> void fill(Call call, key_view from, key_view upto, packed &into) {
-        check(call(it(), bytes(from), from.size(), bytes(upto), upto.size(), into.keys_.data(), into.keys_.size() - 1, into.heads_.data(),
-                   into.heads_.size() - 1, &into.count_, &into.more_));
+        // What has no room may point nowhere.
+        std::uint8_t no_byte;
+        hot_head no_head;
+        check(call(it(), bytes(from), from.size(), bytes(upto), upto.size(), into.keys_.empty() ? &no_byte : into.keys_.data(),
+                   into.keys_.size(), into.heads_.empty() ? &no_head : into.heads_.data(), into.heads_.size(), &into.count_, &into.more_));
         into.used_ = 0;
         for (std::size_t i = 0; i < into.count_; i++)
             into.used_ += into.heads_[i].length;
@@ -727,11 +751,18 @@ class handle {
         if (change{static_cast<hot::status>(status), {}}.is_refused())
             throw std::runtime_error(hot_status_text(status));
     }
+    // Room for the key comes first: once the pair is removed, nothing may be refused.
     template <class Call> std::optional<entry> pop(Call call, key_view from, key_view upto) {
         hot_pair found;
+        std::optional<entry> popped(std::in_place);
+        popped->key.reserve(HOT_MAX_KEY);
         const hot_status status = call(it(), bytes(from), from.size(), bytes(upto), upto.size(), &found);
         made(status);
-        return status == HOT_REMOVED ? std::optional(copied(found)) : std::nullopt;
+        if (status != HOT_REMOVED)
+            return std::nullopt;
+        popped->key.assign(reinterpret_cast<const char *>(found.key), found.length);
+        popped->value = found.value;
+        return popped;
     }
     template <class Call> change put(Call call, key_view key, std::uint64_t value) {
         std::uint64_t had = 0;
@@ -802,7 +833,7 @@ class section {
 /// Why a load ended at a pair: a status of hot_load, and the pair's number, from 0 on.
 class load_error : public std::runtime_error {
   public:
-    load_error(hot_status why, std::size_t number) : std::runtime_error(hot_status_text(why)), why(why), number(number) {}
+    load_error(hot_status status, std::size_t place) : std::runtime_error(hot_status_text(status)), why(status), number(place) {}
     hot_status why;
     std::size_t number;
 };
@@ -948,8 +979,9 @@ class growing {
             return call(handle_);
         }
 
-        /// Calls `call` with a handle, by which it makes a change; and if that is refused as full, again in a larger index. Returns what came
-        /// of it. Where the larger one can't be made it throws as the constructor of `index`, and all stays as it was.
+        /// Calls `call` with a handle, by which it makes a change; and if that is refused as full, again in a larger index, which has all that
+        /// an earlier call of it changed. So `call` may run several times. Returns what came of it. Where the larger one can't be made it
+        /// throws as the constructor of `index`, and all stays as it was.
         template <class Call> hot::change change(Call call) {
             for (;;) {
                 if (of_->is_copied_)

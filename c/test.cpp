@@ -31,6 +31,29 @@ template <class Error, class Call> static bool throws(Call call) {
 }
 
 static_assert(!std::is_copy_constructible_v<hot::handle> && std::is_nothrow_move_constructible_v<hot::handle>);
+// Whether a call of a handle compiles, or of one that is a temporary.
+#define COMPILES(NAME, ...)                                     \
+    template <class, class = void> constexpr bool NAME = false; \
+    template <class Of> constexpr bool NAME<Of, std::void_t<decltype(std::declval<Of>().__VA_ARGS__)>> = true
+COMPILES(scans_all, scan());
+COMPILES(scans, scan("a", "b"));
+COMPILES(scans_prefix, scan_prefix("a"));
+COMPILES(scans_prefix_reverse, scan_prefix_reverse("a"));
+COMPILES(scans_half_open, scan_half_open("a", "b"));
+COMPILES(scans_reverse, scan_reverse("a", "b"));
+COMPILES(scans_all_reverse, scan_reverse());
+COMPILES(scans_last, scan_last("a", "b", 1));
+COMPILES(finds_text, contains("0"));
+COMPILES(finds_number, contains(0));
+COMPILES(finds_null, contains(nullptr));
+using open = hot::handle &;
+static_assert(scans_all<open> && scans<open> && scans_prefix<open> && scans_prefix_reverse<open>);
+static_assert(scans_half_open<open> && scans_reverse<open> && scans_all_reverse<open> && scans_last<open> && finds_text<open>);
+// The range of a temporary handle would outlive it.
+static_assert(!scans_all<hot::handle> && !scans<hot::handle> && !scans_prefix<hot::handle> && !scans_prefix_reverse<hot::handle>);
+static_assert(!scans_half_open<hot::handle> && !scans_reverse<hot::handle> && !scans_all_reverse<hot::handle> && !scans_last<hot::handle>);
+// A 0 would be a null pointer, where a key's text begins.
+static_assert(!finds_number<open> && !finds_null<open>);
 // A pair would keep the key of a page that is gone.
 static_assert(!std::is_constructible_v<hot::pair, hot::range::item> && std::is_convertible_v<hot::range::item, hot::entry>);
 
@@ -278,6 +301,17 @@ static void test_containers() {
     const std::vector<hot::entry> kept = last.entries();
     handle.scan_packed({}, "ab", last);
     CHECK((*last.begin()).key == "ab" && kept.size() == 1 && kept[0] == hot::entry{"ac", 2});
+    // A page that is moved goes on, and leaves one that has no room. A copy is another page.
+    hot::packed moved = std::move(page), copy(moved);
+    CHECK(page.empty() && !page.has_more() && page.entries().empty() && moved.entries() == copied);
+    handle.scan_packed({}, hot::greatest(), page);
+    CHECK(page.empty() && page.has_more());
+    handle.scan_packed_reverse({}, "aa", page);
+    CHECK(page.empty() && !page.has_more());
+    page = std::move(moved);
+    handle.scan_packed({}, "ab", page);
+    CHECK(moved.empty() && page.size() == 1 && copy.entries() == copied);
+    handle.scan_packed({}, hot::greatest(), page);
     // Clang has views of other libraries from its version 16 on.
 #if __cplusplus >= 202002L && (!defined __clang__ || __clang_major__ >= 16)
     CHECK(handle.get_many(std::span(keys)).at(0) == 2 && handle.get(std::span(bytes)) == 1);

@@ -76,8 +76,8 @@ impl User {
         Ok(&self.handle)
     }
 
-    /// Makes a change by a handle; and if that is refused as full, again in a larger index. Returns what came of it, or why no larger one could
-    /// be made.
+    /// Makes a change by a handle; and if that is refused as full, again in a larger index, which has all that was changed before. So the
+    /// closure may run several times. Returns what came of it, or why no larger one could be made.
     pub fn change<T>(&mut self, mut change: impl FnMut(&Handle) -> Result<T, Error>) -> Result<T, Error> {
         loop {
             let shared = self.all.changing.read().unwrap_or_else(PoisonError::into_inner);
