@@ -300,11 +300,18 @@ static void pause_for(unsigned times) {
         __builtin_ia32_pause();
 }
 
+/* How often a call that finds another in its way pauses, and how often it yields, before it sleeps. */
+enum { PAUSES = 7, YIELDS = 2 };
+
+/* The waits with which a call begins that changes a value alone. That takes so little that a call in the way mostly is one of many, which want
+ * the same key: so it yields once, and then sleeps. */
+#define LAST_YIELD { PAUSES + YIELDS - 1, 0 }
+
 /* Waits for another call that is in the way. That mostly needs a microsecond more, so the first tries come soon. If it is there still, its
  * thread may not run, and others run first. Else many want the same nodes: each try then takes lines of the cache from the one that is at
  * work, so this thread sleeps, which lets that one make many calls. */
 static __attribute__((cold, noinline)) void wait_for_call(hot_waits *so_far) {
-    enum { PAUSES = 7, YIELDS = 2, SLEEP = 20000 };
+    enum { SLEEP = 20000 };
     if (so_far->tries >= PAUSES + YIELDS) {
         rest(so_far, SLEEP);
         return;
@@ -356,7 +363,7 @@ hot_status hot_remove(hot_handle *handle, const uint8_t *key, size_t length, uin
 }
 
 hot_status hot_exchange(hot_handle *handle, const uint8_t *key, size_t length, uint64_t expected, uint64_t value, uint64_t *had) {
-    hot_waits so_far = HOT_NO_WAITS;
+    hot_waits so_far = LAST_YIELD;
     hot_status status;
     while (is_to_wait(status = hot_try_exchange(handle, key, length, expected, value, had), &so_far))
         ;
@@ -372,7 +379,7 @@ hot_status hot_remove_if(hot_handle *handle, const uint8_t *key, size_t length, 
 }
 
 hot_status hot_add(hot_handle *handle, const uint8_t *key, size_t length, uint64_t delta, uint64_t *had) {
-    hot_waits so_far = HOT_NO_WAITS;
+    hot_waits so_far = LAST_YIELD;
     hot_status status;
     while (is_to_wait(status = hot_try_add(handle, key, length, delta, had), &so_far))
         ;

@@ -338,7 +338,8 @@ hot_status hot_insert(hot_handle *handle, const uint8_t *key, size_t length, uin
 hot_status hot_upsert(hot_handle *handle, const uint8_t *key, size_t length, uint64_t value, uint64_t *had);
 hot_status hot_remove(hot_handle *handle, const uint8_t *key, size_t length, uint64_t *had);
 
-/* The same for hot_try_exchange, hot_try_add and hot_try_remove_if. */
+/* The same for hot_try_exchange, hot_try_add and hot_try_remove_if. hot_exchange and hot_add sleep after one sched_yield: where another call is
+ * in their way, mostly many want the same key. */
 hot_status hot_exchange(hot_handle *handle, const uint8_t *key, size_t length, uint64_t expected, uint64_t value, uint64_t *had);
 hot_status hot_add(hot_handle *handle, const uint8_t *key, size_t length, uint64_t delta, uint64_t *had);
 hot_status hot_remove_if(hot_handle *handle, const uint8_t *key, size_t length, uint64_t expected, uint64_t *had);
