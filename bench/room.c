@@ -181,28 +181,43 @@ static void *insert_part(void *of)
     return NULL;
 }
 
-/* Bytes a key that several threads put into a table for many more. */
-static void by_threads(int kind, uint32_t keys)
+/* Bytes a key that several threads put into a table for so many. */
+static void insert_by(const char *what, int threads, uint32_t room, int kind, uint32_t keys)
 {
-    static struct part parts[THREADS];
+    static struct part parts[HANDLES];
     hot_handle handle = HOT_HANDLE;
     double before = now_resident();
-    hot_index *index;
+    hot_index *index = make(kind, room, &handle);
     int place;
-    take_small_pages();
-    index = make(kind, 5000000, &handle);
-    for (place = 0; place < THREADS; place++) {
-        parts[place].from = (uint64_t)keys / THREADS * place;
-        parts[place].upto = parts[place].from + keys / THREADS;
+    must(hot_close(&handle), HOT_DONE);
+    for (place = 0; place < threads; place++) {
+        parts[place].from = (uint64_t)keys / (uint64_t)threads * (uint64_t)place;
+        parts[place].upto = parts[place].from + keys / (uint64_t)threads;
         must(hot_open(index, &parts[place].handle), HOT_DONE);
     }
-    for (place = 0; place < THREADS; place++) {
+    for (place = 0; place < threads; place++) {
         pthread_create(&parts[place].thread, NULL, insert_part, &parts[place]);
     }
-    for (place = 0; place < THREADS; place++) {
+    for (place = 0; place < threads; place++) {
         pthread_join(parts[place].thread, NULL);
     }
-    tell("by four threads", kind_names[kind], keys, (now_resident() - before) / keys);
+    tell(what, kind_names[kind], keys, (now_resident() - before) / keys);
+}
+
+static void by_threads(int kind, uint32_t keys)
+{
+    take_small_pages();
+    insert_by("by four threads", THREADS, 5000000, kind, keys);
+}
+
+static void by_threads_huge(int kind, uint32_t keys)
+{
+    insert_by("by four threads, huge pages", THREADS, 5000000, kind, keys);
+}
+
+static void by_handles_huge(int kind, uint32_t keys)
+{
+    insert_by("by 64 threads, in a table for 10,000,000, huge pages", HANDLES, 10000000, kind, keys);
 }
 
 /* What a handle takes once it is open, and once it has changed the index. */
@@ -275,7 +290,8 @@ int main(int words, char **word)
     }
     failed |= apart(fresh, PAGES, 200000) | apart(fresh, DENSE, 200000) | apart(replaced, RANDOM, 200000);
     failed |= apart(loaded, RANDOM, 1000000) | apart(loaded, PAGES, 200000);
-    failed |= apart(by_threads, RANDOM, 300000) | apart(handles, RANDOM, 10000);
+    failed |= apart(by_threads, RANDOM, 300000) | apart(by_threads_huge, RANDOM, 300000) | apart(by_handles_huge, RANDOM, 1000000);
+    failed |= apart(handles, RANDOM, 10000);
     for (keys = 1000000; keys <= most; keys *= 10) {
         failed |= apart(making, RANDOM, (uint32_t)keys);
     }

@@ -12,6 +12,9 @@
  * The lists of a handle begin as 0, too: once they are made, each page of them in which there is nothing but 0 is given back, and reads
  * as 0 again.
  *
+ * A large table asks for huge pages, but not where the records of a kind begin: there a few keys would take whole ones. Pieces of this part get
+ * huge pages once they have filled, which heap_fill looks for.
+ *
  * Where the system refuses any of this, a block comes from malloc, and takes all of its memory.
  *
  * While hot.c lends a room, blocks come from there, as far as they fit: so a call asks for no memory. */
@@ -23,8 +26,11 @@
 #include <sys/mman.h>
 
 /* Blocks of so many bytes have pages of their own, while something is made. A smaller table is a block as any other; a large one asks for
- * huge pages. */
-enum { PAGE = 4096, HUGE_PAGE = 2 << 20, LEAST_BLOCK = 64 << 10, LEAST_TABLE = 1 << 20, LEAST_HUGE_TABLE = 64 << 20 };
+ * huge pages, but for so many bytes where the records of a kind begin. */
+enum { PAGE = 4096, HUGE_PAGE = 2 << 20, LEAST_BLOCK = 64 << 10, LEAST_TABLE = 1 << 20, LEAST_HUGE_TABLE = 16 << 20, SMALL_PART = 8 << 20 };
+
+/* So many pages of a piece may be missing where it counts as filled; and a record has so many bytes at most. */
+enum { MOST_MISSING = HUGE_PAGE / PAGE / 8, LONGEST_RECORD = 464 };
 
 /* A chunk has at least so many bytes, and stands at most so often in a block: the system limits how many pieces of memory a process maps. */
 enum { LEAST_CHUNK = 1 << 20, MOST_CHUNKS = 512 };
@@ -32,6 +38,11 @@ enum { LEAST_CHUNK = 1 << 20, MOST_CHUNKS = 512 };
 /* Advice of Linux 5.14 and later: pages are there before they are read one by one. Else each is found when it is touched. */
 #ifndef MADV_POPULATE_READ
 #define MADV_POPULATE_READ 22
+#endif
+
+/* Advice of Linux 6.1 and later: a huge page takes the place of pages at once. Else the system does that when it comes by. */
+#ifndef MADV_COLLAPSE
+#define MADV_COLLAPSE 25
 #endif
 
 /* Where a block begins in its pages: 8 bytes behind a multiple of 16. All that malloc gives begins at one, if it is asked for so many
@@ -49,7 +60,9 @@ typedef struct pages {
 /* What this thread makes. */
 static __thread struct {
     int is_on;
-    size_t table;  /* the size of the table that is still to be made, or 0 */
+    size_t left;   /* the size of the table that is still to be made, or 0 */
+    heap_table of; /* the table */
+    pages *made;   /* it, once it has pages of its own */
     pages *zeros;  /* of which the table is made; what a load has filled, if that goes on */
     pages *copied; /* the table, while the zeros are there */
     pages *last;   /* the last other block, in which pages of 0 are to be given back */
@@ -127,14 +140,40 @@ static int stand_in(pages *for_these) {
     return 1;
 }
 
+/* Writes the pieces of the table in which the first records of each kind are, in their order. */
+static void find_pieces(heap_pieces *found) {
+    size_t next = 0;
+    int kind;
+    found->left = 0;
+    for (kind = 0; kind < HEAP_KINDS && making.of.bytes >= LEAST_HUGE_TABLE; kind++) {
+        size_t from = IN_PAGES + making.of.from[kind], upto = IN_PAGES + making.of.from[kind + 1];
+        upto = upto - from > SMALL_PART ? from + SMALL_PART : upto;
+        next = next > from / HUGE_PAGE ? next : from / HUGE_PAGE;
+        for (; from < upto && next * HUGE_PAGE < upto; next++)
+            found->numbers[found->left++] = (uint32_t)next;
+    }
+}
+
+/* Asks for huge pages for all of the table but these pieces, if it has any. */
+static void ask_for_huge_pages(pages *table) {
+    heap_pieces but;
+    size_t from, upto;
+    uint32_t place;
+    find_pieces(&but);
+    for (place = 0; place < but.left; place++) {
+        from = ((size_t)but.numbers[place] + 1) * HUGE_PAGE;
+        upto = place + 1 < but.left ? (size_t)but.numbers[place + 1] * HUGE_PAGE : table->size;
+        if (from < upto)
+            madvise((char *)table + from, upto - from, MADV_HUGEPAGE);
+    }
+}
+
 /* Puts fresh pages in the place of all of a block but the first. Returns whether it could. */
 static int renew(pages *block) {
-    size_t rest = block->size - PAGE;
-    char *at = (char *)block + PAGE;
-    if (mmap(at, rest, PROT_READ | PROT_WRITE, MAP_PRIVATE | MAP_ANONYMOUS | MAP_NORESERVE | MAP_FIXED, -1, 0) == MAP_FAILED)
+    if (mmap((char *)block + PAGE, block->size - PAGE, PROT_READ | PROT_WRITE, MAP_PRIVATE | MAP_ANONYMOUS | MAP_NORESERVE | MAP_FIXED, -1, 0) ==
+        MAP_FAILED)
         return 0;
-    if (rest >= LEAST_HUGE_TABLE)
-        madvise(at, rest, MADV_HUGEPAGE);
+    ask_for_huge_pages(block);
     return 1;
 }
 
@@ -146,7 +185,7 @@ static pages *map_table(size_t bytes) {
         made = NULL;
     }
     if (made == NULL || making.zeros != NULL)
-        making.table = 0;
+        making.left = 0;
     if (making.zeros == NULL)
         making.zeros = made;
     else
@@ -154,38 +193,52 @@ static pages *map_table(size_t bytes) {
     return made;
 }
 
-/* Gives a table its pages, which then hold what it holds: those of what was filled, which is as large, or fresh ones. Returns whether they were
- * moved. Where the system refuses that, which may have taken the table's own pages away, what was filled is copied. */
-static int move_pages(pages *table, char *from, size_t rest) {
+/* Moves pages to a table, as far as the system lets it, and returns how many bytes they have. Those for which huge pages were asked, and those
+ * for which they were not, are moved apart: so old systems want it. */
+static size_t move_pages(pages *table, char *from, size_t rest) {
     char *to = (char *)table + PAGE;
-    if (making.is_filled && mremap(from, rest, rest, MREMAP_MAYMOVE | MREMAP_FIXED, to) != MAP_FAILED)
-        return 1;
-    making.is_broken = !renew(table);
-    if (making.is_filled && !making.is_broken)
-        memcpy(to, from, rest);
-    return 0;
+    size_t moved, part;
+    for (moved = 0; moved < rest; moved += part) {
+        part = HUGE_PAGE - (PAGE + moved) % HUGE_PAGE;
+        part = part < rest - moved ? part : rest - moved;
+        if (mremap(from + moved, part, part, MREMAP_MAYMOVE | MREMAP_FIXED, to + moved) == MAP_FAILED)
+            break;
+    }
+    return moved;
+}
+
+/* Gives a table its pages, which then hold what it holds: those of what was filled, which is as large, or fresh ones. Returns how many bytes were
+ * moved. Where the system refuses that, which may have taken the table's own pages away, what was filled is copied. If it has refused a part,
+ * the table is no use. */
+static size_t give_pages(pages *table, char *from, size_t rest) {
+    size_t moved = making.is_filled ? move_pages(table, from, rest) : 0;
+    if (moved == 0) {
+        making.is_broken = !renew(table);
+        if (making.is_filled && !making.is_broken)
+            memcpy((char *)table + PAGE, from, rest);
+    } else {
+        making.is_broken = moved < rest;
+    }
+    return moved;
 }
 
 /* Frees the zeros, or what was filled. If they were copied to a table, that gets pages of its own. */
 static void free_zeros(void) {
     pages *table = making.copied, left = *making.zeros;
-    char *from = (char *)making.zeros + PAGE, *end = (char *)making.zeros + left.size;
-    int is_moved = table != NULL && move_pages(table, from, left.size - PAGE);
+    char *from = (char *)making.zeros + PAGE, *end = left.begin + left.length;
+    size_t moved = table != NULL ? give_pages(table, from, left.size - PAGE) : 0;
+    making.made = table;
     making.zeros = making.copied = NULL;
-    if (!is_moved) {
-        munmap(left.begin, left.length);
-        return;
-    }
     munmap(left.begin, (size_t)(from - left.begin));
-    if (end < left.begin + left.length)
-        munmap(end, (size_t)(left.begin + left.length - end));
+    if (from + moved < end)
+        munmap(from + moved, (size_t)(end - from) - moved);
 }
 
 /* A block with pages of its own, or NULL. */
 static void *map_block(size_t bytes) {
     pages *made;
     give_zeros_back();
-    if (bytes == making.table)
+    if (bytes == making.left)
         made = map_table(bytes);
     else
         making.last = made = map_pages(bytes, PAGE);
@@ -270,16 +323,19 @@ tried rattle_realloc(void *at, size_t kept, size_t size, size_t align) {
     return told(to);
 }
 
-void heap_begin(size_t table) {
+void heap_begin(const heap_table *table) {
+    static const heap_table none = {0, {0, 0, 0, 0, 0, 0, 0}};
     making.is_on = 1;
-    making.table = table < LEAST_TABLE ? 0 : table;
+    making.of = table == NULL || table->bytes < LEAST_TABLE ? none : *table;
+    making.left = making.of.bytes;
+    making.made = NULL;
     making.is_filled = making.is_broken = 0;
 }
 
 int heap_end(void) {
     give_zeros_back();
     making.is_on = 0;
-    making.table = 0;
+    making.left = 0;
     return !making.is_broken;
 }
 
@@ -291,11 +347,52 @@ int heap_pause(void **words) {
     return heap_end();
 }
 
-void heap_go_on(void *words) {
+void heap_go_on(const heap_table *table, void *words) {
     pages *filled = words;
-    heap_begin(filled == NULL ? 0 : filled->bytes);
+    heap_begin(filled == NULL ? NULL : table);
     making.zeros = filled;
     making.is_filled = 1;
     if (filled != NULL)
         madvise((char *)filled + PAGE, filled->size - PAGE, MADV_POPULATE_READ);
+}
+
+void heap_take_pieces(heap_pieces *pieces) {
+    pieces->table = (char *)making.made;
+    pieces->left = 0;
+    if (making.made != NULL)
+        find_pieces(pieces);
+}
+
+/* Whether something stands where a page begins, as it does once its records have been in use. Other threads may write there. */
+static int is_begun(const char *page) {
+    const uint64_t *word = (const uint64_t *)page, *end = word + LONGEST_RECORD / sizeof *word;
+    while (word < end && __atomic_load_n(word, __ATOMIC_RELAXED) == 0)
+        word++;
+    return word < end;
+}
+
+/* Whether nearly all pages of a piece have been written to. Those that were only read are there, too, and 0. The last one mostly comes last. */
+static int is_filled(char *piece) {
+    unsigned char there[HUGE_PAGE / PAGE];
+    int page = HUGE_PAGE / PAGE - 1, missing = 0;
+    if (mincore(piece + page * PAGE, PAGE, there) != 0 || (there[0] & 1) == 0 || !is_begun(piece + page * PAGE) ||
+        mincore(piece, HUGE_PAGE, there) != 0)
+        return 0;
+    for (; page >= 0 && missing <= MOST_MISSING; page--)
+        missing += (there[page] & 1) == 0 || !is_begun(piece + page * PAGE);
+    return missing <= MOST_MISSING;
+}
+
+int heap_fill(heap_pieces *pieces) {
+    uint32_t place;
+    for (place = 0; place < pieces->left; place++) {
+        char *piece = pieces->table + (size_t)pieces->numbers[place] * HUGE_PAGE;
+        if (!is_filled(piece))
+            continue;
+        madvise(piece, HUGE_PAGE, MADV_HUGEPAGE);
+        madvise(piece, HUGE_PAGE, MADV_COLLAPSE);
+        pieces->numbers[place] = pieces->numbers[--pieces->left];
+        return 1;
+    }
+    return 0;
 }

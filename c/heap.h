@@ -3,19 +3,41 @@
 #define HEAP_H
 
 #include <stddef.h>
+#include <stdint.h>
 
-/* Between these two calls the proved calls make handles, and a table of so many bytes, if that is not 0: what is 0 in them is to take no
- * memory. */
-void heap_begin(size_t table);
+/* A table that is made: how many bytes it has, or 0 if none is made; and where in it the records of each kind begin, in this order, and the
+ * last ones end. */
+enum { HEAP_KINDS = 6 };
+typedef struct heap_table {
+    size_t bytes;
+    size_t from[HEAP_KINDS + 1];
+} heap_table;
+
+/* Between these two calls the proved calls make handles, and a table, if its size is not 0: what is 0 in them is to take no memory. */
+void heap_begin(const heap_table *table);
 
 /* Returns whether the table may be used. If not, memory was refused. */
 int heap_end(void);
+
+/* The pieces of a table, each of the size of a huge page, that get one once they have filled. */
+enum { HEAP_PIECES = 48 };
+typedef struct heap_pieces {
+    char *table;
+    uint32_t left;
+    uint32_t numbers[HEAP_PIECES];
+} heap_pieces;
+
+/* Writes those of the table that this thread has made last. */
+void heap_take_pieces(heap_pieces *pieces);
+
+/* Puts a huge page in the place of a piece that has filled since, if there is one, and the system has one. Returns whether one had filled. */
+int heap_fill(heap_pieces *pieces);
 
 /* A load fills the words of a table before the table is made of them. Between heap_begin and heap_pause it gets words that are 0 but for a few
  * at their beginning, and between heap_go_on and heap_end the table is made of the filled ones. heap_pause writes what heap_go_on takes, and
  * returns whether the words may be filled: if not, memory was refused. In between this thread may make other things. */
 int heap_pause(void **words);
-void heap_go_on(void *words);
+void heap_go_on(const heap_table *table, void *words);
 
 /* Between these two calls blocks of this thread come from a room, as far as they fit, and each of them is freed. The room begins at a
  * multiple of 16, and its size is one. */

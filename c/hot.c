@@ -195,6 +195,7 @@ typedef struct hot_place {
     hot_refusals refusals;    /* of its calls */
     void *room;               /* for keys that are looked up by one call; NULL before the first such call */
     size_t room_size;         /* in bytes */
+    uint32_t looks_at;        /* the keys, modulo 2 to the power of 32, at which it looks next whether a piece of the table has filled */
     uint32_t state;
 } hot_place;
 
@@ -213,6 +214,8 @@ struct hot_index {
     uint32_t opening;        /* locked while a call opens a handle that the keeper keeps, or closes the index */
     hot_handle teller;       /* once there is a moment of the index: it has seen all that any moment tells of */
     uint32_t telling;        /* locked while a call uses the teller */
+    uint32_t filling;        /* locked while a call looks at the pieces */
+    heap_pieces pieces;      /* of its table */
 };
 
 /* Writes the index of a handle. HOT_DONE; or HOT_CLOSED, and then nothing is written: a closed handle has none. */
@@ -246,10 +249,30 @@ static __inline__ hot_status noted(hot_handle *handle, hot_status status) {
     return status;
 }
 
+/* A handle looks at the pieces of the table each time it has put so many more keys in. */
+enum { KEYS_TO_A_LOOK = 4096 };
+
+/* Looks whether a piece of the table has filled, unless another call does. */
+static __attribute__((cold, noinline)) void look_at_pieces(hot_place *place) {
+    hot_index *index = place->index;
+    place->looks_at = (uint32_t)place->keys + KEYS_TO_A_LOOK;
+    if (__atomic_exchange_n(&index->filling, 1, __ATOMIC_ACQUIRE) == 0) {
+        heap_fill(&index->pieces);
+        __atomic_store_n(&index->filling, 0, __ATOMIC_RELEASE);
+    }
+}
+
+/* Notes that a try has put a key in. */
+static __inline__ void count_key(hot_place *place) {
+    add_to(&place->keys, 1);
+    if ((uint32_t)place->keys == place->looks_at)
+        look_at_pieces(place);
+}
+
 /* Notes what a try has done with the number of keys, too. */
 static __inline__ hot_status counted(hot_handle *handle, hot_status status) {
     if (status == HOT_INSERTED || status == HOT_NEW)
-        add_to(&handle->place->keys, 1);
+        count_key(handle->place);
     else if (status == HOT_REMOVED)
         add_to(&handle->place->keys, (uint64_t)-1);
     return noted(handle, status);
@@ -604,7 +627,8 @@ static hot_index *new_index(size_t count) {
     index->sections = index->next = none;
     index->left = 0;
     index->keeper = index->teller = closed;
-    index->opening = index->telling = 0;
+    index->opening = index->telling = index->filling = 0;
+    index->pieces.left = 0;
     index->places = calloc(count, sizeof *index->places);
     if (index->places == NULL) {
         free(index);
@@ -612,6 +636,7 @@ static hot_index *new_index(size_t count) {
     }
     for (place = 0; place < count; place++) {
         index->places[place].index = index;
+        index->places[place].looks_at = KEYS_TO_A_LOOK;
         index->places[place].state = UNOPENED;
     }
     if (proved_make_sections(count, &index->sections) != HOT_DONE) {
@@ -649,14 +674,36 @@ static hot_status placed(hot_status status, hot_handle *handles, size_t count) {
             handles[place].place = &index->places[place];
     if (index == NULL)
         return HOT_NO_MEMORY;
+    heap_take_pieces(&index->pieces);
     index->left = count;
     return HOT_DONE;
 }
 
+/* The table of an index with this stock and so many handles: its records end where it does, and stand there in this order. None if a number is
+ * out of range. */
+static heap_table table_of(const hot_stock *stock, size_t count) {
+    static const size_t sizes[HEAP_KINDS] = {464, 32, 48, 80, 112, 264};
+    size_t counts[HEAP_KINDS];
+    heap_table table = {0, {0, 0, 0, 0, 0, 0, 0}};
+    int kind;
+    if (proved_stock_bytes(stock, count, &table.bytes) != HOT_DONE)
+        return table;
+    counts[0] = stock->nodes;
+    counts[1] = stock->short_leaves;
+    counts[2] = stock->medium_leaves;
+    counts[3] = stock->large_leaves;
+    counts[4] = stock->wide_leaves;
+    counts[5] = stock->long_leaves;
+    table.from[HEAP_KINDS] = table.bytes;
+    for (kind = HEAP_KINDS; kind-- > 0;)
+        table.from[kind] = table.from[kind + 1] - counts[kind] * sizes[kind];
+    return table;
+}
+
 /* Begins to make an index with this stock and so many handles. */
 static void begin_making(const hot_stock *stock, size_t count) {
-    size_t bytes;
-    heap_begin(proved_stock_bytes(stock, count, &bytes) == HOT_DONE ? bytes : 0);
+    heap_table table = table_of(stock, count);
+    heap_begin(&table);
 }
 
 /* Ends that. If the table that was made may not be used, it closes the handles that were opened with it: memory was refused. */
@@ -697,6 +744,7 @@ hot_status hot_open_index(const hot_stock *stock, size_t handles, hot_index **in
         return HOT_NO_MEMORY;
     begin_making(stock, handles);
     status = end_making(proved_create_keeping(stock, handles, &made->keeper), &made->keeper, 1);
+    heap_take_pieces(&made->pieces);
     if (status == HOT_DONE)
         *index = made;
     else
@@ -719,10 +767,10 @@ static hot_status take_pairs(loading *load, hot_source *next, void *context, siz
     return status;
 }
 
-/* Begins a load, and writes the words that it fills. */
-static hot_status begin_load(const hot_stock *stock, size_t handles, loading *load, void **words) {
+/* Begins a load, and writes the words that it fills. `table` is what is made of them. */
+static hot_status begin_load(const hot_stock *stock, size_t handles, const heap_table *table, loading *load, void **words) {
     hot_status status;
-    begin_making(stock, handles);
+    heap_begin(table);
     status = proved_begin_load(stock, handles, load);
     if (heap_pause(words) || status != HOT_DONE)
         return status;
@@ -730,19 +778,31 @@ static hot_status begin_load(const hot_stock *stock, size_t handles, loading *lo
     return HOT_NO_MEMORY;
 }
 
+/* Gives an index that was loaded the pieces of its table, and those that were filled huge pages. */
+static void fill_pieces(hot_index *index) {
+    heap_take_pieces(&index->pieces);
+    while (heap_fill(&index->pieces))
+        ;
+}
+
 /* Makes an index of what a load has taken, and opens its keeper. */
-static hot_status end_load(loading *load, void *words, hot_index *index) {
-    heap_go_on(words);
-    return end_making(proved_end_load(load, &index->keeper), &index->keeper, 1);
+static hot_status end_load(const heap_table *table, loading *load, void *words, hot_index *index) {
+    hot_status status;
+    heap_go_on(table, words);
+    status = end_making(proved_end_load(load, &index->keeper), &index->keeper, 1);
+    if (status == HOT_DONE)
+        fill_pieces(index);
+    return status;
 }
 
 /* Gives an index its keeper, and the pairs, which its first handle counts; and writes why the next one was refused, or HOT_DONE. The stock is
  * read before `next` is called, which may change it. HOT_DONE, or HOT_NO_MEMORY. */
 static hot_status fill_index(const hot_stock *stock, hot_source *next, void *context, hot_index *index, hot_status *refused) {
     loading load = {0, {NULL}};
+    heap_table table = table_of(stock, index->count);
     void *words;
     size_t count;
-    hot_status status = begin_load(stock, index->count, &load, &words);
+    hot_status status = begin_load(stock, index->count, &table, &load, &words);
     if (status != HOT_DONE)
         return status;
     *refused = take_pairs(&load, next, context, &count);
@@ -751,7 +811,8 @@ static hot_status fill_index(const hot_stock *stock, hot_source *next, void *con
         return HOT_NO_MEMORY;
     }
     index->places[0].keys = count;
-    return end_load(&load, words, index);
+    index->places[0].looks_at = (uint32_t)count + KEYS_TO_A_LOOK;
+    return end_load(&table, &load, words, index);
 }
 
 hot_status hot_load(const hot_stock *stock, size_t handles, hot_source *next, void *context, hot_index **index, size_t *count) {
@@ -838,7 +899,7 @@ static hot_status open_kept(hot_index *index, hot_handle *handle) {
     lock(&index->opening);
     status = open_next_section(index);
     if (status == HOT_DONE) {
-        heap_begin(0);
+        heap_begin(NULL);
         status = proved_open_kept(&index->keeper, handle);
         heap_end();
     }

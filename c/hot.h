@@ -40,8 +40,9 @@
  *
  * Memory. An index has its records from the beginning, and a handle 118 KB of lists from when it is first opened, so that no change asks
  * for memory. But a page of 4 KiB takes memory only once something is written there: so an index takes what its keys need, and a handle
- * some 40 KB. A page that was written stays when keys go. Tables of 64 MB and more ask for huge pages, of 2 MiB, where the system lets
- * them. If memory runs out when a page is first written, the system ends the program. So take a stock whose hot_stock_bytes the machine has
+ * some 40 KB. A page that was written stays when keys go. Tables of 16 MiB and more ask for huge pages, of 2 MiB, where the system lets
+ * them; but for the first 8 MiB of each size of records only once so much of them has been written. Then an insertion has the system put
+ * 2 MiB into one, which takes some milliseconds: at most 5 times for each size. If memory runs out when a page is first written, the system ends the program. So take a stock whose hot_stock_bytes the machine has
  * to spare; or call mlockall once the index is made, which takes all of it at once. Making an index takes a processor some 0.1 s for each
  * 100 MB of the table, as much address space as two tables, and in memory 2 MB or a 250th of one. Where the system refuses such pages, all
  * memory comes from malloc, and an index takes all of it at once.

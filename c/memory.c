@@ -96,7 +96,11 @@ void *__wrap_mremap(void *at, size_t size, size_t new_size, int flags, ...) {
     return __real_mremap(at, size, new_size, flags, to);
 }
 
+/* How often huge pages were asked for, in the place of pages that had filled. */
+static long filled;
+
 int __wrap_madvise(void *at, size_t size, int advice) {
+    filled += advice == 25;
     return is_refused(1) ? -1 : __real_madvise(at, size, advice);
 }
 
@@ -312,6 +316,38 @@ static void test_huge(void) {
     CHECK(hot_close(&handle) == HOT_DONE && hot_close_index(index) == HOT_DONE && in_use == 0);
 }
 
+static void insert_numbers(hot_handle *handle, uint32_t from, uint32_t upto) {
+    uint8_t key[8];
+    for (; from < upto; from++) {
+        spell(from * 0x9E3779B9u, key);
+        CHECK(hot_insert(handle, key, 8, from, NULL) == HOT_INSERTED);
+    }
+}
+
+/* Few keys take little of a table that asks for huge pages, and so do many: it gets them where it has filled, also when it is loaded. */
+static void test_filled(void) {
+    enum { FEW = 1000, MANY = 150000, MOST = 70 };
+    numbers all = {{0}, 0, MANY};
+    hot_handle handle = HOT_HANDLE;
+    hot_index *index = NULL;
+    hot_stock roomy;
+    size_t count;
+    long opened;
+    hot_stock_for_keys(1000000, 8, &roomy);
+    CHECK(hot_open_index(&roomy, 2, &index) == HOT_DONE && hot_open(index, &handle) == HOT_DONE);
+    opened = resident();
+    filled = 0;
+    insert_numbers(&handle, 0, FEW);
+    CHECK(resident() - opened < 1000000 && filled == 0);
+    insert_numbers(&handle, FEW, MANY);
+    CHECK(resident() - opened < MANY * MOST && filled > 0);
+    CHECK(hot_close(&handle) == HOT_DONE && hot_close_index(index) == HOT_DONE);
+    filled = 0;
+    CHECK(hot_load(&roomy, 1, next_number, &all, &index, &count) == HOT_DONE && count == MANY && filled > 0);
+    CHECK(hot_open(index, &handle) == HOT_DONE && has_numbers(&handle, MANY));
+    CHECK(hot_close(&handle) == HOT_DONE && hot_close_index(index) == HOT_DONE && in_use == 0);
+}
+
 /* Where there are too few addresses, memory is refused, and nothing is left behind. */
 static void test_addresses(void) {
     hot_handle handle = HOT_HANDLE;
@@ -423,6 +459,7 @@ int main(void) {
     test_kept();
     test_looked_up();
     test_huge();
+    test_filled();
     test_addresses();
     test_fork();
     few = test_each_refused(&stock);
