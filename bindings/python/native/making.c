@@ -107,7 +107,7 @@ static int is_large(const wanted_store *wanted) {
 
 int make_store(const wanted_store *wanted, const turns *turns, store **made) {
     making *it = is_large(wanted) ? making_begin(wanted, turns) : NULL;
-    hot_status status;
+    hot_status status = HOT_NO_MEMORY;
     int is_done = !it;
     if (!it) {
         Py_BEGIN_ALLOW_THREADS status = store_open(wanted, turns, made);
