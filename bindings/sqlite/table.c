@@ -23,6 +23,10 @@ SQLITE_EXTENSION_INIT1
 enum { EQUAL = 1, FROM = 2, UPTO = 4, CASELESS = 8, FALLING = 16, ABOVE = 32, BELOW = 64, LIMITED = 128 };
 enum { FIRST_PAGE = 4, PAGE = 128 };
 
+/* Of how many rows one is in a range with one end, and with both: as SQLite guesses of its own trees. With more in a range it would begin a join
+ * at this table, and read all of it: it takes such a plan for one that sorts nothing. */
+enum { OF_HALF = 4, OF_RANGE = 64 };
+
 /* A table of a connection. */
 typedef struct table {
     sqlite3_vtab base;
@@ -328,10 +332,10 @@ static int choose(const table *of, sqlite3_index_info *plan, double *rows) {
             return 0;
         plan->aConstraintUsage[from].argvIndex = 1;
         plan->aConstraintUsage[upto].argvIndex = 2;
-        *rows /= 16;
+        *rows /= OF_RANGE;
         return CASELESS;
     }
-    *rows /= from >= 0 && upto >= 0 ? 16 : 4;
+    *rows /= from >= 0 && upto >= 0 ? OF_RANGE : OF_HALF;
     if (from >= 0)
         way |= use_bound(of, plan, from, 1);
     if (upto >= 0)

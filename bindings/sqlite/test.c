@@ -913,6 +913,82 @@ static void full_tables(void) {
     }
 }
 
+/* ---- Plans ---- */
+
+/* A line of a query plan in words that tables of both kinds have: "t key>?" or "t all keys". It is to be freed. */
+static char *plan_line(const char *line) {
+    static const char *const ordinary = " USING PRIMARY KEY (";
+    const char *name = strchr(line, ' ') + 1, *end = strstr(line, " VIRTUAL TABLE INDEX "), *words;
+    if (end)
+        return sqlite3_mprintf("%.*s %s", (int)(end - name), name, strchr(end, ':') + 1);
+    if ((end = strstr(line, ordinary)) != NULL) {
+        words = end + strlen(ordinary);
+        return sqlite3_mprintf("%.*s %.*s%s", (int)(end - name), name, (int)strcspn(words, ")"), words, strchr(words, ')') + 1);
+    }
+    return strncmp(line, "SCAN", 4) == 0 ? sqlite3_mprintf("%s all keys", name) : sqlite3_mprintf("%s", line);
+}
+
+/* The lines of a query's plan, which are to be freed. */
+static char *plan_of(sqlite3 *db, const char *sql) {
+    sqlite3_stmt *query;
+    char *text = sqlite3_mprintf("EXPLAIN QUERY PLAN %s", sql), *plan = sqlite3_mprintf("");
+    if (sqlite3_prepare_v2(db, text, -1, &query, NULL) != SQLITE_OK)
+        fail(sql, sqlite3_errmsg(db));
+    while (sqlite3_step(query) == SQLITE_ROW) {
+        char *line = plan_line((const char *)sqlite3_column_text(query, 3));
+        plan = sqlite3_mprintf("%z%s\n", plan, line);
+        sqlite3_free(line);
+    }
+    sqlite3_finalize(query);
+    sqlite3_free(text);
+    return plan;
+}
+
+/* Queries have the plans that they have with an ordinary table, of which SQLite guesses that it has a million rows. */
+static void plans(void) {
+    static const char *const queries[] = {
+        "SELECT who, count(*) FROM a JOIN t ON key BETWEEN sym || '1' AND sym || '2' GROUP BY who",
+        "SELECT who, value FROM a JOIN t ON key BETWEEN sym || '1' AND sym || '2' ORDER BY who",
+        "SELECT who, value FROM a JOIN t ON key BETWEEN sym || '1' AND sym || '2'",
+        "SELECT who, key FROM a JOIN t ON key BETWEEN sym || '1' AND sym || '2' ORDER BY key",
+        "SELECT DISTINCT who FROM a JOIN t ON key > sym AND key < sym || '~'",
+        "SELECT key, count(*) FROM a JOIN t ON key BETWEEN sym AND sym || '~' GROUP BY key",
+        "SELECT who, value FROM a JOIN t ON key = sym",
+        "SELECT who, value FROM a JOIN t ON key = sym ORDER BY who",
+        "SELECT who, count(*) FROM a JOIN t ON key = sym GROUP BY who",
+        "SELECT who, value FROM a JOIN t ON key = sym ORDER BY key",
+        "SELECT who, value FROM a LEFT JOIN t ON key = sym ORDER BY id",
+        "SELECT who, (SELECT count(*) FROM t WHERE key BETWEEN sym AND sym || '~') FROM a",
+        "SELECT who FROM a WHERE EXISTS (SELECT 1 FROM t WHERE key = sym)",
+        "SELECT who, key FROM t JOIN a ON id = value WHERE key >= 'a' AND key < 'b'",
+        "SELECT who, key FROM t JOIN a ON id = value ORDER BY key",
+        "SELECT t.key, count(*) FROM t JOIN t AS u ON u.key > t.key AND u.key < t.key || '~' GROUP BY t.key",
+        "SELECT who, t.value, u.value FROM a JOIN t ON t.key = sym JOIN t AS u ON u.key BETWEEN t.key AND t.key || '~' ORDER BY id",
+        "SELECT who, u.value FROM a, t, t AS u WHERE t.key BETWEEN sym AND sym || '~' AND u.key = t.key || 'x' ORDER BY who",
+        "SELECT who, sum(value) FROM a, t WHERE key > sym || ' ' AND key < sym || '!' AND value > 5 GROUP BY id ORDER BY 2",
+        "SELECT value FROM t WHERE key BETWEEN 'a' AND 'b' ORDER BY value",
+        "SELECT value FROM t WHERE key IN (SELECT sym FROM a)",
+        "SELECT key, count(*) FROM t GROUP BY key",
+    };
+    static const char *const a = "CREATE TABLE a(id INTEGER PRIMARY KEY, who TEXT, sym TEXT)";
+    sqlite3 *db = open_file(":memory:"), *other = open_file(":memory:");
+    want(db, SQLITE_OK, "CREATE VIRTUAL TABLE t USING hot(keys=1000000)");
+    want(other, SQLITE_OK, "CREATE TABLE t(key TEXT PRIMARY KEY NOT NULL, value INTEGER NOT NULL) WITHOUT ROWID");
+    want(db, SQLITE_OK, a);
+    want(other, SQLITE_OK, a);
+    for (size_t at = 0; at < sizeof queries / sizeof *queries; at++) {
+        char *mine = plan_of(db, queries[at]), *others = plan_of(other, queries[at]);
+        if (strcmp(mine, others) != 0) {
+            fprintf(stderr, "hot:\n%sordinary:\n%s", mine, others);
+            fail("another plan", queries[at]);
+        }
+        sqlite3_free(mine);
+        sqlite3_free(others);
+    }
+    sqlite3_close(db);
+    sqlite3_close(other);
+}
+
 /* ---- The application's own functions ---- */
 
 /* Is true of all keys but those that begin with the pattern's first letter. */
@@ -987,6 +1063,7 @@ int main(int count, char **words) {
     rollback_without_room("ROLLBACK");
     rollback_without_room("ROLLBACK TO s; ROLLBACK");
     one_file();
+    plans();
     listed_transactions("keys=100");
     listed_transactions("keys=100, connections=3");
     random_tables();
