@@ -4,6 +4,7 @@
  * back. So a connection that creates or drops a table makes one more, in temp: it takes part in the transaction, and hears of all.
  */
 #include "connection.h"
+#include <pthread.h>
 #include <string.h>
 SQLITE_EXTENSION_INIT3
 
@@ -30,7 +31,8 @@ struct connection {
     definition *definitions;
 };
 
-static connection *connections; /* under SQLite's mutex for applications */
+static connection *connections; /* under this mutex: */
+static pthread_mutex_t connections_mutex = PTHREAD_MUTEX_INITIALIZER;
 
 /* ---- What a connection has ---- */
 
@@ -90,9 +92,8 @@ static held *hold(connection *of, shared_index *index, int *code, char **error) 
 }
 
 connection *connection_use(sqlite3 *db) {
-    sqlite3_mutex *mutex = sqlite3_mutex_alloc(SQLITE_MUTEX_STATIC_APP1);
     connection *of;
-    sqlite3_mutex_enter(mutex);
+    pthread_mutex_lock(&connections_mutex);
     for (of = connections; of && of->db != db; of = of->next) {
     }
     if (!of && (of = sqlite3_malloc(sizeof *of)) != NULL) {
@@ -104,20 +105,19 @@ connection *connection_use(sqlite3 *db) {
     }
     if (of)
         of->uses++;
-    sqlite3_mutex_leave(mutex);
+    pthread_mutex_unlock(&connections_mutex);
     return of;
 }
 
 void connection_end_use(void *used) {
     connection *of = used, **place = &connections;
-    sqlite3_mutex *mutex = sqlite3_mutex_alloc(SQLITE_MUTEX_STATIC_APP1);
     if (--of->uses > 0)
         return;
-    sqlite3_mutex_enter(mutex);
+    pthread_mutex_lock(&connections_mutex);
     while (*place != of)
         place = &(*place)->next;
     *place = of->next;
-    sqlite3_mutex_leave(mutex);
+    pthread_mutex_unlock(&connections_mutex);
     while (of->definitions)
         end_definition(of, &of->definitions);
     sqlite3_free(of);

@@ -1,5 +1,6 @@
 /* Indexes by their names, and what a rollback could not put back into one. */
 #include "index.h"
+#include <pthread.h>
 #include <stdatomic.h>
 #include <string.h>
 SQLITE_EXTENSION_INIT3
@@ -19,9 +20,7 @@ struct shared_index {
 };
 
 static shared_index *all; /* under this mutex: */
-static sqlite3_mutex *all_mutex(void) {
-    return sqlite3_mutex_alloc(SQLITE_MUTEX_STATIC_APP1);
-}
+static pthread_mutex_t all_mutex = PTHREAD_MUTEX_INITIALIZER;
 
 /* ---- The tree ---- */
 
@@ -160,52 +159,64 @@ static int is_as(const wanted_index *one, const wanted_index *other) {
            one->is_text == other->is_text;
 }
 
+/* The index that is there and may be used. Under the mutex. */
+static shared_index *fitting(const char *name, enum which which, const wanted_index *wanted) {
+    shared_index *has = named(name);
+    return has && (which == ANY_INDEX || (which != NEW_INDEX && is_as(&has->made_as, wanted))) ? has : NULL;
+}
+
 shared_index *shared_use(const char *name, enum which which, const wanted_index *wanted, int *code, char **error) {
-    sqlite3_mutex *mutex = all_mutex();
-    shared_index *has, *of = NULL;
-    sqlite3_mutex_enter(mutex);
-    has = named(name);
-    if (has && (which == ANY_INDEX || (which != NEW_INDEX && is_as(&has->made_as, wanted)))) {
-        of = has;
-    } else if (which != OLD_INDEX && (of = made(name, wanted, code, error)) != NULL) {
-        of->is_named = !has;
-        of->next = all;
-        all = of;
+    shared_index *of, *new = NULL;
+    pthread_mutex_lock(&all_mutex);
+    of = fitting(name, which, wanted);
+    if (!of && which != OLD_INDEX) {
+        /* It may take seconds, in which others go on. One of them may make the same. */
+        pthread_mutex_unlock(&all_mutex);
+        if (!(new = made(name, wanted, code, error)))
+            return NULL;
+        pthread_mutex_lock(&all_mutex);
+        if (!(of = fitting(name, which, wanted))) {
+            new->is_named = !named(name);
+            new->next = all;
+            all = of = new;
+            new = NULL;
+        }
     }
     if (of)
         of->uses++;
-    sqlite3_mutex_leave(mutex);
+    pthread_mutex_unlock(&all_mutex);
+    if (new)
+        free_shared(new);
     return of;
 }
 
 void shared_end_use(shared_index *of) {
-    sqlite3_mutex *mutex = all_mutex();
     shared_index **place = &all;
-    sqlite3_mutex_enter(mutex);
-    if (--of->uses == 0) {
+    int is_last;
+    pthread_mutex_lock(&all_mutex);
+    if ((is_last = --of->uses == 0)) {
         while (*place != of)
             place = &(*place)->next;
         *place = of->next;
-        free_shared(of);
     }
-    sqlite3_mutex_leave(mutex);
+    pthread_mutex_unlock(&all_mutex);
+    if (is_last)
+        free_shared(of);
 }
 
 void shared_name(shared_index *of) {
-    sqlite3_mutex *mutex = all_mutex();
     shared_index *has;
-    sqlite3_mutex_enter(mutex);
+    pthread_mutex_lock(&all_mutex);
     if ((has = named(of->name)) != NULL)
         has->is_named = 0;
     of->is_named = 1;
-    sqlite3_mutex_leave(mutex);
+    pthread_mutex_unlock(&all_mutex);
 }
 
 void shared_unname(shared_index *of) {
-    sqlite3_mutex *mutex = all_mutex();
-    sqlite3_mutex_enter(mutex);
+    pthread_mutex_lock(&all_mutex);
     of->is_named = 0;
-    sqlite3_mutex_leave(mutex);
+    pthread_mutex_unlock(&all_mutex);
 }
 
 int shared_is_named(const shared_index *of) {

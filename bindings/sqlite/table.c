@@ -14,6 +14,7 @@
  * goes with the last connection that has used it. A table of a name whose index is there is refused if it says another number of
  * keys= or longest=. */
 #include "connection.h"
+#include <pthread.h>
 #include <stdlib.h>
 #include <string.h>
 SQLITE_EXTENSION_INIT1
@@ -769,11 +770,11 @@ static const sqlite3_module module = {
 
 /* Sets what SQLite's calls go by, once for all connections, since other threads may make such calls already. */
 static void set_api(const sqlite3_api_routines *api) {
-    sqlite3_mutex *mutex = api->mutex_alloc(SQLITE_MUTEX_STATIC_APP1);
-    api->mutex_enter(mutex);
+    static pthread_mutex_t mutex = PTHREAD_MUTEX_INITIALIZER;
+    pthread_mutex_lock(&mutex);
     if (!sqlite3_api)
         SQLITE_EXTENSION_INIT2(api);
-    api->mutex_leave(mutex);
+    pthread_mutex_unlock(&mutex);
 }
 
 /* What .load and sqlite3_load_extension call: the only name that the library shows. A connection may load it again. */

@@ -1037,6 +1037,16 @@ static void one_file(void) {
     }
 }
 
+/* An application may have its own mutexes while it uses tables. */
+static void mutexes_of_applications(void) {
+    static const int kinds[] = {SQLITE_MUTEX_STATIC_APP1, SQLITE_MUTEX_STATIC_APP2, SQLITE_MUTEX_STATIC_APP3};
+    for (int at = 0; at < 3; at++)
+        sqlite3_mutex_enter(sqlite3_mutex_alloc(kinds[at]));
+    sqlite3_close(connect_to("keys=100"));
+    for (int at = 0; at < 3; at++)
+        sqlite3_mutex_leave(sqlite3_mutex_alloc(kinds[at]));
+}
+
 int main(int count, char **words) {
     if (count < 2)
         fail("usage", "test HOT_TABLE.so [threads]");
@@ -1063,6 +1073,7 @@ int main(int count, char **words) {
     rollback_without_room("ROLLBACK");
     rollback_without_room("ROLLBACK TO s; ROLLBACK");
     one_file();
+    mutexes_of_applications();
     plans();
     listed_transactions("keys=100");
     listed_transactions("keys=100, connections=3");
