@@ -6,6 +6,7 @@
 #include "connection.h"
 #include <pthread.h>
 #include <string.h>
+#include <sys/stat.h>
 SQLITE_EXTENSION_INIT3
 
 /* No savepoint: of what was done outside all, and of what the open transaction hasn't done. */
@@ -21,6 +22,13 @@ typedef struct definition {
     size_t schema_length;
 } definition;
 
+/* A file of a database, as it was when it was last at its path: only the system knows it by its device and number. */
+typedef struct open_file {
+    struct open_file *next;
+    const sqlite3_file *is;
+    sqlite3_uint64 device, number;
+} open_file;
+
 struct connection {
     connection *next;
     sqlite3 *db;
@@ -29,6 +37,7 @@ struct connection {
     int point; /* the last savepoint that is open */
     held *all;
     definition *definitions;
+    open_file *files;
 };
 
 static connection *connections; /* under this mutex: */
@@ -111,6 +120,7 @@ connection *connection_use(sqlite3 *db) {
 
 void connection_end_use(void *used) {
     connection *of = used, **place = &connections;
+    open_file *file;
     if (--of->uses > 0)
         return;
     pthread_mutex_lock(&connections_mutex);
@@ -120,6 +130,10 @@ void connection_end_use(void *used) {
     pthread_mutex_unlock(&connections_mutex);
     while (of->definitions)
         end_definition(of, &of->definitions);
+    while ((file = of->files) != NULL) {
+        of->files = file->next;
+        sqlite3_free(file);
+    }
     sqlite3_free(of);
 }
 
@@ -320,13 +334,42 @@ static int hear(connection *of, sqlite3 *db) {
 
 /* ---- Tables ---- */
 
+/* The name of a table's index in a file, whatever paths lead there; and none of another file that has come to its path. One that isn't at its
+ * path any more is what it was there; or what no other connection has, if it was never seen there. */
+static char *name_in_file(connection *of, sqlite3 *db, const table_words *words, const char *path) {
+    struct stat at;
+    sqlite3_file *file = NULL;
+    open_file *it = of->files;
+    int has_moved = 0, is_there = stat(path, &at) == 0;
+    sqlite3_file_control(db, words->schema, SQLITE_FCNTL_FILE_POINTER, &file);
+    sqlite3_file_control(db, words->schema, SQLITE_FCNTL_HAS_MOVED, &has_moved);
+    while (it && it->is != file)
+        it = it->next;
+    if (!it && !is_there)
+        return sqlite3_mprintf("path\n%d %s\n%s", (int)strlen(path), path, words->table);
+    if (!it) {
+        if (!(it = sqlite3_malloc(sizeof *it)))
+            return NULL;
+        it->next = of->files;
+        it->is = file;
+        it->device = UINT64_MAX;
+        it->number = (uintptr_t)file;
+        of->files = it;
+    }
+    if (is_there && !has_moved) {
+        it->device = at.st_dev;
+        it->number = at.st_ino;
+    }
+    return sqlite3_mprintf("file\n%llu %llu\n%s", it->device, it->number, words->table);
+}
+
 /* The name of an index whose table says none: that of the table in its file, or in this connection's memory. */
-static char *own_name(sqlite3 *db, const table_words *words) {
-    const char *file = sqlite3_db_filename(db, words->schema);
+static char *own_name(connection *of, sqlite3 *db, const table_words *words) {
+    const char *path = sqlite3_db_filename(db, words->schema);
     if (words->name)
         return sqlite3_mprintf("name\n%s", words->name);
-    if (file && *file)
-        return sqlite3_mprintf("file\n%d %s\n%s", (int)strlen(file), file, words->table);
+    if (path && *path)
+        return name_in_file(of, db, words, path);
     return sqlite3_mprintf("memory\n%p\n%d %s\n%s", (void *)db, (int)strlen(words->schema), words->schema, words->table);
 }
 
@@ -389,8 +432,8 @@ static char *mismatch(const table_words *words, const wanted_index *made_as) {
 }
 
 /* Uses the index that the table is to have: NULL if it is refused. */
-static shared_index *index_of(sqlite3 *db, const table_words *words, int is_new, int *code, char **error) {
-    char *name = own_name(db, words);
+static shared_index *index_of(connection *of, sqlite3 *db, const table_words *words, int is_new, int *code, char **error) {
+    char *name = own_name(of, db, words);
     shared_index *index = NULL;
     *code = SQLITE_NOMEM;
     if (name)
@@ -405,7 +448,7 @@ static shared_index *index_of(sqlite3 *db, const table_words *words, int is_new,
 }
 
 static held *join(connection *of, sqlite3 *db, const table_words *words, int is_new, int *code, char **error) {
-    shared_index *index = index_of(db, words, is_new, code, error);
+    shared_index *index = index_of(of, db, words, is_new, code, error);
     held *has = index ? hold(of, index, code, error) : NULL;
     definition *it;
     if (!has)
@@ -451,7 +494,7 @@ int connection_renew(connection *of, sqlite3 *db, const table_words *words, int 
     int code = SQLITE_OK;
     if (words->name || (*has)->part.log.last || (it && it->made_in != NOT_NOW))
         return SQLITE_OK;
-    if (!(name = own_name(db, words)))
+    if (!(name = own_name(of, db, words)))
         return SQLITE_NOMEM;
     index = shared_use(name, OLD_INDEX, &words->wanted, &code, error);
     sqlite3_free(name);

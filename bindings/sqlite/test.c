@@ -1037,6 +1037,46 @@ static void one_file(void) {
     }
 }
 
+/* Copies a file to the place of another one. */
+static void copy_file(const char *from, const char *to) {
+    static char bytes[1 << 20];
+    FILE *in = fopen(from, "rb"), *out = fopen(to, "wb");
+    size_t length = in ? fread(bytes, 1, sizeof bytes, in) : 0;
+    if (!out || length == 0 || length == sizeof bytes || fwrite(bytes, 1, length, out) != length || fclose(out) != 0)
+        fail("copy", to);
+    fclose(in);
+}
+
+/* A file is one by whatever path, and another one that comes to its path is another. */
+static void files_and_paths(void) {
+    char *beside = sqlite3_mprintf("%s.beside", scratch);
+    sqlite3 *db, *linked, *other;
+    new_scratch();
+    remove(beside);
+    db = open_file(scratch);
+    want(db, SQLITE_OK, "CREATE VIRTUAL TABLE t USING hot(keys=100); INSERT INTO t VALUES ('a', 1)");
+    if (link(scratch, beside) != 0)
+        fail("link", beside);
+    linked = open_file(beside);
+    if (number(linked, "SELECT count(*) FROM t") != 1)
+        fail("a path", "a file has another index by another path");
+    sqlite3_close(linked);
+    remove(beside);
+    copy_file(scratch, beside);
+    if (rename(beside, scratch) != 0)
+        fail("rename", beside);
+    other = open_file(scratch);
+    if (number(other, "SELECT count(*) FROM t") != 0)
+        fail("a path", "a file has the rows of the one that it replaced");
+    want(other, SQLITE_OK, "INSERT INTO t VALUES ('b', 1), ('c', 1)");
+    want(db, SQLITE_OK, "PRAGMA writable_schema = RESET");
+    if (number(db, "SELECT count(*) FROM t") != 1)
+        fail("a path", "a file has the rows of the one that replaced it");
+    sqlite3_close(db);
+    sqlite3_close(other);
+    sqlite3_free(beside);
+}
+
 /* An application may have its own mutexes while it uses tables. */
 static void mutexes_of_applications(void) {
     static const int kinds[] = {SQLITE_MUTEX_STATIC_APP1, SQLITE_MUTEX_STATIC_APP2, SQLITE_MUTEX_STATIC_APP3};
@@ -1073,6 +1113,7 @@ int main(int count, char **words) {
     rollback_without_room("ROLLBACK");
     rollback_without_room("ROLLBACK TO s; ROLLBACK");
     one_file();
+    files_and_paths();
     mutexes_of_applications();
     plans();
     listed_transactions("keys=100");
