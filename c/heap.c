@@ -9,8 +9,8 @@
  * A load fills the first of the two blocks, which gets such pages before that. They are copied to the table, too, but it then takes them over
  * as they are, all but the first. So a load takes no more memory than the index that it makes.
  *
- * The lists of a handle begin as 0, too: once they are made, each page of them in which there is nothing but 0 is given back, and reads
- * as 0 again.
+ * What else is large begins as 0, too: once it is made, each page of it in which there is nothing but 0 is given back, and reads as 0
+ * again. The lists of a handle come from malloc, and nothing is written there before they are used.
  *
  * A large table asks for huge pages, but not where the records of a kind begin: there a few keys would take whole ones. Pieces of this part get
  * huge pages once they have filled, which heap_fill looks for.

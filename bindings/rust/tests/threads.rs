@@ -24,6 +24,20 @@ fn counters_lose_nothing() -> Result<(), Error> {
     Ok(())
 }
 
+/// A thread with a small stack makes an index and opens its handles.
+#[test]
+fn a_small_stack_is_enough() -> Result<(), Error> {
+    let small = thread::Builder::new().stack_size(64 << 10);
+    let work = small.spawn(|| {
+        let index = Hot::with_capacity(1_000, 8, 2)?;
+        let (one, other) = (index.handle()?, index.handle()?);
+        one.insert(b"a", 1)?;
+        Ok::<_, Error>(other.get(b"a"))
+    });
+    assert_eq!(work.unwrap().join().unwrap()?, Some(1));
+    Ok(())
+}
+
 /// Two threads put keys in, and two find each key that was put in.
 #[test]
 fn an_index_grows_while_threads_read() -> Result<(), Error> {

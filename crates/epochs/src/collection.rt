@@ -307,7 +307,9 @@ fn visit_limbo<G: Gate>(
 {
     let count = limbo.count().min(MOST_VISITED);
     for index in 0..count {
-        let rec = limbo.waiting_record(index);
+        let Some(rec) = limbo.waiting_record(index) else {
+            break;
+        };
         let seen = visit_if_there(table, seat, gate, rec, bound);
         if !limbo.take_visit(rec, seen) {
             limbo.drop_oldest_records(index);

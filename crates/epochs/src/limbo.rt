@@ -1,12 +1,14 @@
 //! Limbo: the records that a pass has retired and not given back yet.
 
-ghost use Rattle.std.specs.Prelude.{◌≡◌, ◌≢◌, ◌≤◌, ◌<◌, ◌+◌, ◌-◌, ◌^◌, min, true, false};
+ghost use Rattle.std.specs.Prelude.{◌≡◌, ◌≢◌, ◌≤◌, ◌<◌, ◌+◌, ◌-◌, ◌^◌, min, true, false, IfOk};
 ghost use Rattle.epochs.specs.Limbo.{due_after};
 ghost use Rattle.epochs.specs.declared.limbo.Visited.TheVariants.{Waits};
 
 use arrayvec::ArrayVec;
+use bounded_vec::BoundedVec;
 use record_words::Layout;
 use rowex_core::Rec;
+use std::alloc::{AllocError, Global};
 
 /// How many records a limbo list keeps at most.
 const MOST_WAITING: usize = 4_096;
@@ -49,8 +51,8 @@ fn records_between_rounds(layout: Layout) -> u32
 /// another. One that finds no place in the list is left to such rounds.
 #[derive(Drop)]
 pub struct Limbo {
-    /// The ring of the records that wait.
-    waiting: [Rec; MOST_WAITING],
+    /// The ring of the records that wait, as far as it has been used.
+    waiting: BoundedVec<Rec, MOST_WAITING>,
     /// Where the oldest stands.
     first: usize,
     /// How many wait.
@@ -64,18 +66,18 @@ pub struct Limbo {
 }
 
 impl Limbo {
-    /// An empty list of a pass that has retired no record.
-    pub fn new() -> Limbo
-        ensures { (result.count ≡ 0) × (result.retired ≡ 0) }
+    /// An empty list of a pass that has retired no record; an error if its memory is refused.
+    pub fn new(alloc: Global) -> Result<Limbo, AllocError>
+        ensures { IfOk result (λ limbo. (limbo.count ≡ 0) × (limbo.retired ≡ 0)) }
     {
-        Limbo {
-            waiting: [Rec::Node(0); MOST_WAITING],
+        Ok(Limbo {
+            waiting: BoundedVec::new(alloc)?,
             first: 0,
             count: 0,
             retired: 0,
             swept: 0,
             given: ArrayVec::new(),
-        }
+        })
     }
 
     /// Puts `rec`, which the pass has just retired, at the end of the list. If the list is full, the record is left to full rounds. Either
@@ -87,7 +89,12 @@ impl Limbo {
     {
         self.retired = self.retired.saturating_add(1);
         if self.count < MOST_WAITING {
-            self.waiting[self.first.wrapping_add(self.count) % MOST_WAITING] = rec;
+            let place = self.first.wrapping_add(self.count) % MOST_WAITING;
+            if place < self.waiting.len() {
+                self.waiting.set(place, rec);
+            } else {
+                self.waiting.push(rec);
+            }
             self.count += 1;
         }
     }
@@ -116,9 +123,10 @@ impl Limbo {
         self.count
     }
 
-    /// The record that waits at `index`, which is below `count` and counted from 0 at the oldest.
-    pub(crate) fn waiting_record(&self, index: usize) -> Rec {
-        self.waiting[self.first.wrapping_add(index) % MOST_WAITING]
+    /// The record that waits at `index`, counted from 0 at the oldest; `None` if no place of the ring has ever been used for it.
+    pub(crate) fn waiting_record(&self, index: usize) -> Option<Rec> {
+        let place = self.first.wrapping_add(index) % MOST_WAITING;
+        self.waiting.as_slice().get(place).copied()
     }
 
     /// Adds `rec` to `given`, if `seen`, what its visit came to, is `Given` and there is room. Returns whether `rec` is to leave the list:

@@ -2,7 +2,7 @@
 
 ghost use Rattle.std.specs.Prelude.{◌≡◌, [], IfOk};
 
-use arrayvec::ArrayVec;
+use bounded_vec::BoundedVec;
 use epochs::Limbo;
 use insert_cases::PathNode;
 use record_words::{LEAF_CLASSES, Layout, LeafClass};
@@ -16,7 +16,7 @@ use std::alloc::{AllocError, Global};
 #[derive(Drop)]
 pub struct Scratch {
     /// The nodes on the way of the last search or scan.
-    pub way: ArrayVec<PathNode, MOST_NODES>,
+    pub way: BoundedVec<PathNode, MOST_NODES>,
     /// What the last change has built, and where the next claims begin.
     pub build: Build,
     /// What the pass has retired and not given back yet.
@@ -90,8 +90,8 @@ pub fn new_scratch(alloc: Global, layout: Layout, number: u16) -> Result<Box<Scr
         Hint::begin_at(first_number_to_claim(number, layout.passes, upto.saturating_sub(from)))
     };
     let build = Build {
-        made: ArrayVec::new(),
-        gone: ArrayVec::new(),
+        made: BoundedVec::new(alloc)?,
+        gone: BoundedVec::new(alloc)?,
         nodes: part(0, layout.nodes),
         left_nodes: layout.nodes,
         leaves: [
@@ -103,9 +103,9 @@ pub fn new_scratch(alloc: Global, layout: Layout, number: u16) -> Result<Box<Scr
         ],
     };
     let scratch = Scratch {
-        way: ArrayVec::new(),
+        way: BoundedVec::new(alloc)?,
         build,
-        limbo: Limbo::new(),
+        limbo: Limbo::new(alloc)?,
     };
     Ok(Box::new(alloc, scratch)?)
 }

@@ -8,7 +8,7 @@ ghost use Rattle.rowex_reading.specs.Seen.{since};
 ghost use Rattle.rowex_reading.specs.Ways.{IsWayOf, value_of};
 
 use crate::reading::{load_entry, load_leaf, load_root, search_node};
-use arrayvec::ArrayVec;
+use bounded_vec::BoundedVec;
 use compound_node::Entry;
 use insert_cases::PathNode;
 use key_bits::{Key, MAX_BYTES, mismatch_of_bytes};
@@ -41,7 +41,7 @@ pub fn search_way<G: Gate>(
     seat: &mut TableSeat,
     gate: &mut G,
     key: &Key,
-    way: &mut ArrayVec<PathNode, MOST_NODES>,
+    way: &mut BoundedVec<PathNode, MOST_NODES>,
 ) -> Found
     requires own { IsSeatOf table.now seat.old }
     requires pinned { IsSome seat.old.known.pin }

@@ -18,7 +18,7 @@ use crate::scan::{Range, Scan, Verdict, is_past_range};
 use crate::scanning::walk_root;
 use crate::sinks::Sink;
 use crate::tallies::Tallies;
-use arrayvec::ArrayVec;
+use bounded_vec::BoundedVec;
 use insert_cases::PathNode;
 use key_bits::MAX_BYTES;
 use rowex_core::{Gate, Rec};
@@ -95,7 +95,7 @@ pub fn count_root<G: Gate>(
     table: &HotTable,
     seat: &mut TableSeat,
     gate: &mut G,
-    way: &mut ArrayVec<PathNode, MOST_NODES>,
+    way: &mut BoundedVec<PathNode, MOST_NODES>,
     range: &Range,
 ) -> (usize, bool)
     requires own { IsSeatOf table.now seat.old }

@@ -24,7 +24,7 @@ use crate::scan::{Range, Scan, Verdict, first_key};
 use crate::sinks::Sink;
 use crate::start::{SearchEnd, find_start};
 use crate::taking::{take_leaf, take_pair_in_range};
-use arrayvec::ArrayVec;
+use bounded_vec::BoundedVec;
 use insert_cases::PathNode;
 use key_bits::MAX_BYTES;
 use packed_pairs::{Direction, Pairs};
@@ -44,7 +44,7 @@ pub fn scan_root<G: Gate>(
     table: &HotTable,
     seat: &mut TableSeat,
     gate: &mut G,
-    way: &mut ArrayVec<PathNode, MOST_NODES>,
+    way: &mut BoundedVec<PathNode, MOST_NODES>,
     range: &Range,
     pairs: &mut Pairs,
 ) -> Result<bool, AllocError>
@@ -65,7 +65,7 @@ pub fn scan_values<G: Gate>(
     table: &HotTable,
     seat: &mut TableSeat,
     gate: &mut G,
-    way: &mut ArrayVec<PathNode, MOST_NODES>,
+    way: &mut BoundedVec<PathNode, MOST_NODES>,
     range: &Range,
     values: &mut Vec<u64>,
 ) -> Result<bool, AllocError>
@@ -87,7 +87,7 @@ pub(crate) fn walk_root<G: Gate, S: Sink>(
     table: &HotTable,
     seat: &mut TableSeat,
     gate: &mut G,
-    way: &mut ArrayVec<PathNode, MOST_NODES>,
+    way: &mut BoundedVec<PathNode, MOST_NODES>,
     range: &Range,
     sink: &mut S,
 ) -> Result<bool, AllocError>
@@ -171,7 +171,7 @@ fn scan_node<G: Gate, S: Sink>(
     scan: &Scan,
     seat: &mut TableSeat,
     gate: &mut G,
-    way: &mut ArrayVec<PathNode, MOST_NODES>,
+    way: &mut BoundedVec<PathNode, MOST_NODES>,
     found: SearchEnd,
     sink: &mut S,
 ) -> Result<bool, AllocError>
@@ -185,7 +185,7 @@ fn scan_node<G: Gate, S: Sink>(
     ensures refused { OnErr result S.may_refuse }
 {
     let direction = scan.range.direction;
-    let start = find_start(scan, seat, gate, way, found);
+    let start = find_start(scan, seat, gate, way.as_slice(), found);
     let mut top = start.top;
     way.truncate(start.level);
     if start.leaf {
@@ -210,7 +210,7 @@ fn walk_slots<G: Gate, S: Sink>(
     scan: &Scan,
     seat: &mut TableSeat,
     gate: &mut G,
-    way: &mut ArrayVec<PathNode, MOST_NODES>,
+    way: &mut BoundedVec<PathNode, MOST_NODES>,
     sink: &mut S,
 ) -> Result<bool, AllocError>
     requires reader { IsReader scan.now.table.now seat.old }

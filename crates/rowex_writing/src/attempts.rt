@@ -38,7 +38,7 @@ use crate::publishing::publish_change;
 use crate::rising::load_without_leaf;
 use crate::taking::{claim_for_left, fill_left, put_in_place};
 use crate::valuing::{is_unchanged, load_found_again, store_value};
-use arrayvec::ArrayVec;
+use bounded_vec::BoundedVec;
 use finite_map::{Call, Reply};
 use insert_cases::PathNode;
 use record_words::NODE_FIELDS;
@@ -78,7 +78,7 @@ pub fn attempt<G: Gate>(
     table: &HotTable,
     seat: &mut TableSeat,
     gate: &mut G,
-    way: &mut ArrayVec<PathNode, MOST_NODES>,
+    way: &mut BoundedVec<PathNode, MOST_NODES>,
     build: &mut Build,
     call: &Call,
 ) -> Result<Reply, TryFault>

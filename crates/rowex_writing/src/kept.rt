@@ -3,7 +3,7 @@
 ghost use Rattle.std.specs.Prelude.{◌≡◌};
 
 use crate::hints::Hint;
-use arrayvec::ArrayVec;
+use bounded_vec::BoundedVec;
 use record_words::LEAF_CLASSES;
 use rowex_core::Rec;
 
@@ -17,9 +17,9 @@ pub(crate) const MOST_GONE: usize = 2_161;
 #[derive(Drop)]
 pub struct Build {
     /// The records made for the change, claimed and filled with their words, the first one made first.
-    pub made: ArrayVec<Rec, MOST_MADE>,
+    pub made: BoundedVec<Rec, MOST_MADE>,
     /// The records that the change unlinks, as it lists them.
-    pub gone: ArrayVec<Rec, MOST_GONE>,
+    pub gone: BoundedVec<Rec, MOST_GONE>,
     /// Where claims of node records begin.
     pub nodes: Hint,
     /// How many node records the claims of the change may still try, but for spare ones.

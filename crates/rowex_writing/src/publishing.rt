@@ -26,6 +26,7 @@ use crate::kept::{Build, MOST_MADE};
 use crate::plan::Span;
 use crate::store::Store;
 use arrayvec::ArrayVec;
+use bounded_vec::BoundedVec;
 use compound_node::Entry;
 use insert_cases::PathNode;
 use record_words::pack_entry;
@@ -38,7 +39,7 @@ fn ready_records<G: Gate>(
     table: &HotTable,
     seat: &mut TableSeat,
     gate: &mut G,
-    made: &mut ArrayVec<Rec, MOST_MADE>,
+    made: &mut BoundedVec<Rec, MOST_MADE>,
 )
     requires building { (news : List Made) × IsBuilding table.now seat.old made.old.items news }
     ensures goes { WorksOn table.now G.becomes (seat.old, gate.old) (seat.new, gate.new) }

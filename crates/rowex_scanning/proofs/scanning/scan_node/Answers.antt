@@ -18,20 +18,20 @@ use Rattle.rowex_scanning.proofs.scanning.scan_node.Goals.{After-take_leaf, Afte
 -- where the scan begins
 begins : (g : given.Over) (c : After-truncate g) →
     HasBegun c.args.scan.now.range.now.direction c.args.scan.now.table.now.layout c.find_start-start.new.seat.known (since c.args.seat.now.known) (asked_range c.args.scan.now.range.now) c.args.found.number c.find_start-start.result c.truncate.new.self.items (g.S.Tallies.tally c.args.sink.now)
-begins g c = begun c.args.found (asked_range c.args.scan.now.range.now) c.requires.way c.deref.ensures.0 c.find_start-start.ensures.start c.truncate.ensures.items c.requires.empty
+begins g c = begun c.args.found (asked_range c.args.scan.now.range.now) c.requires.way c.as_slice.ensures.value c.find_start-start.ensures.start c.truncate.ensures.items c.requires.empty
 
 -- the leaf that comes first; and since the search the root was not loaded
 first : (g : given.Over) (c : After-take_leaf g) →
     IsAtEntry c.args.scan.now.range.now.direction c.find_start-start.new.seat.known (since c.args.seat.now.known) (asked_range c.args.scan.now.range.now) c.find_start-start.result.top c.truncate.new.self.items (g.S.Tallies.tally c.args.sink.now) (Leaf c.args.found.number) ×
     (since c.take_leaf.new.seat.known ≡ since c.args.seat.now.known)
 first g c = (
-  (begun c.args.found (asked_range c.args.scan.now.range.now) c.requires.way c.deref.ensures.0 c.find_start-start.ensures.start c.truncate.ensures.items c.requires.empty).entry c.if-start.true,
+  (begun c.args.found (asked_range c.args.scan.now.range.now) c.requires.way c.as_slice.ensures.value c.find_start-start.ensures.start c.truncate.ensures.items c.requires.empty).entry c.if-start.true,
   same_since (reads_trans c.find_start-start.ensures.reads.2 c.take_leaf.ensures.reads.2),
 )
 
 pub find_start-start-requires-clause-way : goal.find_start-start-requires-clause-way
 find_start-start-requires-clause-way g c =
-    (since c.args.seat.now.known, rw c.deref.ensures.0 c.requires.way)
+    (since c.args.seat.now.known, rw c.as_slice.ensures.value c.requires.way)
 
 pub take_leaf-requires-clause-reader : goal.take_leaf-requires-clause-reader
 take_leaf-requires-clause-reader g c = reader_then c.requires.reader c.find_start-start.ensures.reads.2
@@ -69,8 +69,8 @@ returns-in-Full-clause-scanned g c =
 
 pub push-requires : goal.push-requires
 push-requires g c =
-    let (some, v, w) = c.requires.way in let deep = w.depth in let items = ap length c.deref.ensures.0 in
-    let within = (c.find_start-start.ensures.start (since c.args.seat.now.known) (rw c.deref.ensures.0 c.requires.way)).within in
+    let (some, v, w) = c.requires.way in let deep = w.depth in let items = ap length c.as_slice.ensures.value in
+    let within = (c.find_start-start.ensures.start (since c.args.seat.now.known) (rw c.as_slice.ensures.value c.requires.way)).within in
     let cut = ap length c.truncate.ensures.items ∙ length-take-le c.find_start-start.result.level c.args.way.now.items (omega (arith, within, items)) in
     (omega arith, omega (arith, within, deep, items, cut))
 

@@ -41,7 +41,7 @@ scan_leaf-requires-clause-reader g c = ((looks_same c.search_way.ensures.searche
 pub scan_leaf-requires-clause-root : goal.scan_leaf-requires-clause-root
 scan_leaf-requires-clause-root g c =
     let w = subst (IsWayOf c.args.table.now.layout c.search_way.new.seat.known (since c.search_way.new.seat.known) c.first_key.result.now c.search_way.new.way.items) c.in-Leaf.is c.search_way.ensures.way in
-    leaf_rooted _ _ _ c.search_way.new.way.items c.in-Leaf.number _ _ (empty_is c.search_way.new.way.items (let n = c.len.ensures.value in let e = c.if-len-eq0.true in omega (arith, n, e))) w
+    leaf_rooted _ _ _ c.search_way.new.way.items c.in-Leaf.number _ _ (empty_is c.search_way.new.way.items (let n = c.len.ensures in let e = c.if-len-eq0.true in omega (arith, n, e))) w
 
 pub returns-then-len-eq0-clause-looks : goal.returns-then-len-eq0-clause-looks
 returns-then-len-eq0-clause-looks g c = searched_scans c.args.range.now.limit c.search_way.ensures.searched (omega arith) (walks_alone c.args.range.now.limit c.scan_leaf.ensures.reads)
@@ -55,7 +55,7 @@ scan_node-requires-clause-reader g c = ((looks_same c.search_way.ensures.searche
 
 pub scan_node-requires-clause-way : goal.scan_node-requires-clause-way
 scan_node-requires-clause-way g c =
-    let n = c.len.ensures.value in let e = c.if-len-eq0.false in
+    let n = c.len.ensures in let e = c.if-len-eq0.false in
     let found = subst (IsWayOf c.args.table.now.layout c.search_way.new.seat.known (since c.search_way.new.seat.known) c.first_key.result.now c.search_way.new.way.items) c.in-Leaf.is c.search_way.ensures.way in
     (omega (arith, n, e), _, subst (λ key. IsWayOf c.args.table.now.layout c.search_way.new.seat.known (since c.search_way.new.seat.known) key c.search_way.new.way.items (Leaf c.in-Leaf.number c.in-Leaf.value c.in-Leaf.mismatch)) c.first_key.ensures found)
 
