@@ -5,11 +5,65 @@ ghost use Rattle.std.specs.Prelude.{◌≡◌, [], IfOk};
 use bounded_vec::BoundedVec;
 use epochs::Limbo;
 use insert_cases::PathNode;
-use record_words::{LEAF_CLASSES, Layout, LeafClass};
+use record_words::{
+    LARGE_WORDS, LEAF_CLASSES, LEAF_WORDS, Layout, LeafClass, MEDIUM_WORDS, NODE_WORDS,
+    SHORT_WORDS, WIDE_WORDS,
+};
 use rowex_core::Rec;
 use rowex_reading::MOST_NODES;
-use rowex_writing::{Build, Hint};
+use rowex_writing::{Build, Hint, Stretch};
 use std::alloc::{AllocError, Global};
+
+/// The records that a pass claims first of a kind or class have so many words at most: 128 KiB.
+const FIRST_WORDS: u32 = 16_384;
+
+/// What a pass claims of the records of one kind or class. These are plain numbers, which promise nothing.
+///
+/// A pass has a part of its own, so that two that claim many records don't try for the same ones. But it begins with a small part. Those of
+/// all passes stand side by side where the records begin: passes that claim few share pages, huge ones too.
+#[derive(Clone, Copy)]
+struct Share {
+    /// The number of the first record of the small part.
+    first: u32,
+    /// The number behind its last one; the greatest one, once the pass has left it.
+    end: u32,
+    /// The number of the first record of the pass's own part.
+    own: u32,
+}
+
+impl Share {
+    /// What pass `number` claims, if `passes` passes share `records` records, and a small part has `most` at most.
+    fn of(number: u16, passes: u32, records: u32, most: u32) -> Share {
+        let number = u32::from(number);
+        let share = records.checked_div(passes).unwrap_or(0);
+        let small = share.min(most);
+        let first = number.saturating_mul(small);
+        Share {
+            first,
+            end: first.saturating_add(if share > most { small } else { u32::MAX }),
+            own: (passes.saturating_mul(small)).saturating_add(number.saturating_mul(
+                share - small,
+            )),
+        }
+    }
+
+    /// A hint whose claims begin with the small part.
+    fn begin_claims(&self) -> Hint {
+        Hint::begin_at(self.first)
+    }
+
+    /// Lets the claims of `hint` go on in the pass's own part, if they have come by the small one. Returns what is to stand here then.
+    fn leave_first_part(self, hint: &mut Hint) -> Share {
+        if hint.stretch.start() < self.end {
+            return self;
+        }
+        hint.stretch = Stretch::begin_at(self.own);
+        Share {
+            end: u32::MAX,
+            ..self
+        }
+    }
+}
 
 /// The lists that a pass's scans and changes work with. They are large, so they are made once, with the pass, and reused by each
 /// call.
@@ -21,6 +75,10 @@ pub struct Scratch {
     pub build: Build,
     /// What the pass has retired and not given back yet.
     pub limbo: Limbo,
+    /// What it claims of the node records.
+    nodes: Share,
+    /// What it claims of the leaf records of each class, the smallest first.
+    leaves: [Share; LEAF_CLASSES],
 }
 
 impl Scratch {
@@ -34,7 +92,8 @@ impl Scratch {
         }
     }
 
-    /// Lets the next claims begin with the records that the last small round gave back. `layout` is that of the table.
+    /// Lets the next claims begin with the records that the last small round gave back, and those behind them in the pass's own parts, if
+    /// it has come by its first ones. `layout` is that of the table.
     pub fn reuse_given_records(&mut self, layout: Layout)
         ensures made { self.new.build.made.items ≡ self.old.build.made.items }
         ensures gone { self.new.build.gone.items ≡ self.old.build.gone.items }
@@ -42,6 +101,20 @@ impl Scratch {
         let build = &mut self.build;
         for rec in self.limbo.given.as_slice() {
             keep_spare(build, layout, *rec);
+        }
+        self.leave_first_parts();
+    }
+
+    /// Lets claims that have come by the pass's first part of a kind or class go on in its own part.
+    fn leave_first_parts(&mut self)
+        ensures made { self.new.build.made.items ≡ self.old.build.made.items }
+        ensures gone { self.new.build.gone.items ≡ self.old.build.gone.items }
+    {
+        let nodes = self.nodes;
+        self.nodes = nodes.leave_first_part(&mut self.build.nodes);
+        for place in 0..LEAF_CLASSES {
+            let share = self.leaves[place];
+            self.leaves[place] = share.leave_first_part(&mut self.build.leaves[place]);
         }
     }
 
@@ -81,39 +154,56 @@ fn first_leaf_of_class(layout: Layout, number: u32) -> u32 {
     }
 }
 
-/// Empty scratch lists for pass `number` of a table with this layout; an error if memory is refused. The pass's claims begin at a part of
-/// the records of its own, so that passes begin apart.
+/// Empty scratch lists for pass `number` of a table with this layout; an error if memory is refused.
 pub fn new_scratch(alloc: Global, layout: Layout, number: u16) -> Result<Box<Scratch>, AllocError>
     ensures { IfOk result (λ scratch. (scratch.value.way.items ≡ []) × (scratch.value.build.made.items ≡ []) × (scratch.value.build.gone.items ≡ [])) }
 {
-    let part = |from: u32, upto: u32| {
-        Hint::begin_at(first_number_to_claim(number, layout.passes, upto.saturating_sub(from)))
+    let share = |from: u32, upto: u32, first: u32| {
+        Share::of(number, layout.passes, upto.saturating_sub(from), first)
     };
+    let nodes = share(0, layout.nodes, FIRST_WORDS / NODE_WORDS as u32);
+    let leaves = [
+        share(0, layout.medium_from, FIRST_WORDS / SHORT_WORDS as u32),
+        share(
+            layout.medium_from,
+            layout.large_from,
+            FIRST_WORDS / MEDIUM_WORDS as u32,
+        ),
+        share(
+            layout.large_from,
+            layout.wide_from,
+            FIRST_WORDS / LARGE_WORDS as u32,
+        ),
+        share(
+            layout.wide_from,
+            layout.long_from,
+            FIRST_WORDS / WIDE_WORDS as u32,
+        ),
+        share(
+            layout.long_from,
+            layout.leaves,
+            FIRST_WORDS / LEAF_WORDS as u32,
+        ),
+    ];
     let build = Build {
         made: BoundedVec::new(alloc)?,
         gone: BoundedVec::new(alloc)?,
-        nodes: part(0, layout.nodes),
+        nodes: nodes.begin_claims(),
         left_nodes: layout.nodes,
         leaves: [
-            part(0, layout.medium_from),
-            part(layout.medium_from, layout.large_from),
-            part(layout.large_from, layout.wide_from),
-            part(layout.wide_from, layout.long_from),
-            part(layout.long_from, layout.leaves),
+            leaves[0].begin_claims(),
+            leaves[1].begin_claims(),
+            leaves[2].begin_claims(),
+            leaves[3].begin_claims(),
+            leaves[4].begin_claims(),
         ],
     };
     let scratch = Scratch {
         way: BoundedVec::new(alloc)?,
         build,
         limbo: Limbo::new(alloc)?,
+        nodes,
+        leaves,
     };
     Ok(Box::new(alloc, scratch)?)
-}
-
-/// The number, from 0 on, at which the claims of pass `number` begin, if `passes` passes share `records` records. 0 if `passes` is 0.
-fn first_number_to_claim(number: u16, passes: u32, records: u32) -> u32 {
-    let first = (u64::from(number) * u64::from(records))
-        .checked_div(u64::from(passes))
-        .unwrap_or(0);
-    u32::try_from(first).unwrap_or(0)
 }
