@@ -29,8 +29,11 @@
  * What the library relies on, and doesn't check. No pointer is NULL but `had`, `context` and where a call says so, not even a key's if its
  * length is 0. Each points to what its type says, and what a call writes overlaps no other argument. A handle is zeroed before it is
  * opened, and the program never copies, moves or writes its bytes. malloc, realloc and free belong to one allocator, and 16 bytes or more
- * begin at a multiple of 16. No call is made from a signal handler, or after a fork in the child of a process with threads. A call has 48
- * KiB of stack.
+ * begin at a multiple of 16. No call is made from a signal handler. A call has 48 KiB of stack.
+ *
+ * Forks. The child of a fork has an index of its own, as it was then. If other threads were in calls, the child only looks up, scans and
+ * counts, through a handle of which no call was under way. All else may find a change in its way whose thread the child hasn't: hot_try_insert
+ * and the like then return HOT_BUSY or HOT_HELD_BACK, and calls that wait never return.
  *
  * A call fails only by its status. None waits for another, except hot_insert, hot_upsert, hot_exchange, hot_remove, hot_remove_if and
  * hot_add; hot_copy, hot_clear, hot_clear_range, hot_pop_first and hot_pop_last, which make such calls; hot_open and hot_stamp, for each

@@ -1,7 +1,7 @@
-/* Tests of the library by threads: two that change keys of all lengths beside two that look up, scan and list; four that make calls
- * by chance where few records are to spare, or none; eight on one core, so that each is stopped in the middle of its calls; eight that
- * share three handles; four that send each other moments; two that take most keys out and put them in again beside two that scan;
- * and four that give held keys new values in a full index. */
+/* Tests of the library by threads: two that change keys of all lengths beside two that look up, scan and list, and beside children of forks
+ * that do so; four that make calls by chance where few records are to spare, or none; eight on one core, so that each is stopped in the middle
+ * of its calls; eight that share three handles; four that send each other moments; two that take most keys out and put them in again beside
+ * two that scan; and four that give held keys new values in a full index. */
 #define _GNU_SOURCE
 #include "hot.h"
 #include "check.h"
@@ -9,6 +9,7 @@
 #include <sched.h>
 #include <stdio.h>
 #include <string.h>
+#include <sys/wait.h>
 #include <unistd.h>
 
 #define NUMBERS 2000
@@ -181,17 +182,48 @@ typedef struct worker {
     unsigned half;
 } worker;
 
+static void read_once(worker *me) {
+    read_many(me->handle, &me->state);
+    read_scans(me->handle, &me->state);
+    read_prefix(me->handle, &me->state);
+    read_ends(me->handle, &me->state);
+    read_counts(me->handle, me->stock);
+}
+
 static void *read_all(void *given) {
-    worker *me = given;
     int round;
-    for (round = 0; round < ROUNDS; round++) {
-        read_many(me->handle, &me->state);
-        read_scans(me->handle, &me->state);
-        read_prefix(me->handle, &me->state);
-        read_ends(me->handle, &me->state);
-        read_counts(me->handle, me->stock);
-    }
+    for (round = 0; round < ROUNDS; round++)
+        read_once(given);
     return NULL;
+}
+
+/* In the child of a fork: reads through a handle that was at rest, and then tries to give each key a value, which changes may stand in the way of
+ * whose threads it hasn't. */
+static void read_and_try(worker *me) {
+    static const unsigned returned = 1u << HOT_NEW | 1u << HOT_WAS | 1u << HOT_BUSY | 1u << HOT_HELD_BACK | 1u << HOT_FULL_NODES | 1u << HOT_FULL_LEAVES;
+    size_t count = 0;
+    unsigned number;
+    alarm(100);
+    for (number = 0; number < 10; number++)
+        read_once(me);
+    CHECK(hot_count(me->handle, bytes(""), 0, HOT_TO_END, &count) == HOT_DONE && count > NUMBERS / 2);
+    for (number = 0; number < NUMBERS; number++) {
+        key at = key_of(number);
+        CHECK(returned >> hot_try_upsert(me->handle, at.bytes, at.length, number, NULL) & 1);
+    }
+}
+
+/* Forks some times while other threads are in calls. */
+static void fork_readers(worker *me) {
+    int times, status = 1;
+    for (times = 0; times < 20; times++) {
+        pid_t child = fork();
+        if (child == 0) {
+            read_and_try(me);
+            _exit(failures);
+        }
+        CHECK(child > 0 && waitpid(child, &status, 0) == child && status == 0);
+    }
 }
 
 /* Adds one to a value that both writers count with, whatever it was: the one writer by an addition, the other by exchanges. */
@@ -258,26 +290,27 @@ static void *change_all(void *given) {
 static void test_readers(void) {
     static const hot_stock stock = {600, 500, 500, 500, 500, 500};
     static void *(*const does[4])(void *) = {change_all, change_all, read_all, read_all};
-    hot_handle handles[4] = {HOT_HANDLE, HOT_HANDLE, HOT_HANDLE, HOT_HANDLE};
-    worker workers[4];
+    hot_handle handles[5] = {HOT_HANDLE, HOT_HANDLE, HOT_HANDLE, HOT_HANDLE, HOT_HANDLE};
+    worker workers[5];
     pthread_t threads[4];
     uint64_t had = 0;
     unsigned i;
-    CHECK(hot_create_with(&stock, handles, 4) == HOT_DONE);
+    CHECK(hot_create_with(&stock, handles, 5) == HOT_DONE);
     for (i = 0; i < NUMBERS; i += 2)
         put_in(&handles[0], i);
     CHECK(hot_insert(&handles[0], (const uint8_t *)"~", 1, 0, &had) == HOT_INSERTED);
-    for (i = 0; i < 4; i++) {
+    for (i = 0; i < 5; i++) {
         workers[i].handle = &handles[i];
         workers[i].stock = &stock;
         workers[i].state = 88172645463325252u + i;
         workers[i].half = i % 2;
-        CHECK(pthread_create(&threads[i], NULL, does[i], &workers[i]) == 0);
+        CHECK(i == 4 || pthread_create(&threads[i], NULL, does[i], &workers[i]) == 0);
     }
+    fork_readers(&workers[4]);
     for (i = 0; i < 4; i++)
         CHECK(pthread_join(threads[i], NULL) == 0);
     CHECK(hot_get(&handles[0], (const uint8_t *)"~", 1, &had) == HOT_FOUND && had == 2 * ADDS);
-    for (i = 0; i < 4; i++)
+    for (i = 0; i < 5; i++)
         CHECK(hot_destroy(&handles[i]) == HOT_DONE);
 }
 
