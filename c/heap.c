@@ -83,11 +83,12 @@ static void unmap(pages *old) {
     munmap(old->begin, old->length);
 }
 
-/* Maps pages for a block of so many bytes, which are 0. They begin at a multiple of `step`. Or NULL. */
+/* Maps pages for a block of so many bytes, which are 0. They begin at a multiple of `step`. Or NULL, as where there is not so much memory in
+ * the machine. */
 static pages *map_pages(size_t bytes, size_t step) {
     size_t size = (IN_PAGES + bytes + PAGE - 1) / PAGE * PAGE, length = size + step - PAGE;
     pages *made;
-    char *begin = bytes > SIZE_MAX / 2 ? MAP_FAILED : mmap(NULL, length, PROT_READ | PROT_WRITE, MAP_PRIVATE | MAP_ANONYMOUS | MAP_NORESERVE, -1, 0);
+    char *begin = bytes > SIZE_MAX / 2 ? MAP_FAILED : mmap(NULL, length, PROT_READ | PROT_WRITE, MAP_PRIVATE | MAP_ANONYMOUS, -1, 0);
     if (begin == MAP_FAILED)
         return NULL;
     made = (pages *)(((uintptr_t)begin + step - 1) / step * step);

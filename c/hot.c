@@ -791,6 +791,14 @@ static hot_status end_load(const heap_table *table, loading *load, void *words, 
     heap_go_on(table, words);
     status = end_making(proved_end_load(load, &index->keeper), &index->keeper, 1);
     if (status == HOT_DONE)
+hot_status hot_open_index_within(const hot_stock *stock, size_t handles, size_t most, hot_index **index) {
+    size_t bytes;
+    hot_status status = hot_stock_bytes(stock, handles, &bytes);
+    if (status != HOT_DONE)
+        return status;
+    return bytes > most ? HOT_NO_MEMORY : hot_open_index(stock, handles, index);
+}
+
         fill_pieces(index);
     return status;
 }

@@ -45,10 +45,14 @@
  * for memory. But a page of 4 KiB takes memory only once something is written there: so an index takes what its keys need, and a handle
  * some 40 KB. A page that was written stays when keys go. Tables of 16 MiB and more ask for huge pages, of 2 MiB, where the system lets
  * them; but for the first 8 MiB of each size of records only once so much of them has been written. Then an insertion has the system put
- * 2 MiB into one, which takes some milliseconds: at most 5 times for each size. If memory runs out when a page is first written, the system ends the program. So take a stock whose hot_stock_bytes the machine has
- * to spare; or call mlockall once the index is made, which takes all of it at once. Making an index takes a processor some 0.1 s for each
- * 100 MB of the table, as much address space as two tables, and in memory 2 MB or a 250th of one. Where the system refuses such pages, all
- * memory comes from malloc, and an index takes all of it at once.
+ * 2 MiB into one, which takes some milliseconds: at most 5 times for each size. If memory runs out when a page is first written, the system
+ * ends the program. So take a stock whose hot_stock_bytes the machine has to spare; or call mlockall once the index is made, which takes all
+ * of it at once.
+ *
+ * Making an index isn't free: it takes a processor 0.04 to 0.08 s for each 100 MB of the table, as much address space as two tables, and in
+ * memory a 125th of the table, or 2 MB, with page tables. Meanwhile the system may count both tables as resident. A table that is larger than
+ * all memory with its swap is refused at once, unless the system is set to promise any amount. Where the system refuses such pages, all memory
+ * comes from malloc, and an index takes all of it at once.
  *
  * Each handle has memory for the pairs of its scans, too, which the next scan uses again. After a scan it goes if the keys have more than
  * 32 KiB of it, or the rest has. So a handle keeps 64 KiB of it at most between its calls. After a hot_get_many of up to 256 keys it keeps
@@ -56,8 +60,8 @@
  *
  * The library starts no threads and keeps no data outside its indexes. It needs Linux, and an x86-64 processor of the level for which it
  * was compiled: x86-64-v3, which has AVX2, unless the machine that compiled it had not, or x86-64-v2 was asked for. On an older one
- * hot_create, hot_create_with, hot_open_index, hot_load, hot_load_packed and hot_stock_bytes return HOT_OLD_PROCESSOR and write nothing, and
- * stocks have no records; any other call may end the program there.
+ * hot_create, hot_create_with, hot_open_index, hot_open_index_within, hot_load, hot_load_packed and hot_stock_bytes return HOT_OLD_PROCESSOR
+ * and write nothing, and stocks have no records; any other call may end the program there.
  * `pkg-config --cflags --libs hot` tells how to link it. */
 #ifndef HOT_H
 #define HOT_H
@@ -193,6 +197,10 @@ hot_status hot_stock_bytes(const hot_stock *stock, size_t handles, size_t *bytes
  * bytes; the handle's lists and its section are made when hot_open first opens it, and the lists of the last one at once.
  * HOT_DONE; or HOT_OUT_OF_RANGE, HOT_NO_MEMORY or HOT_OLD_PROCESSOR, and then nothing is written. */
 hot_status hot_open_index(const hot_stock *stock, size_t handles, hot_index **index);
+
+/* hot_open_index, if the records and pins of the index have `most` bytes or fewer: else it is HOT_NO_MEMORY at once. So a stock that comes
+ * from elsewhere, as out of a damaged file, has nobody wait for a table that is too large. */
+hot_status hot_open_index_within(const hot_stock *stock, size_t handles, size_t most, hot_index **index);
 
 /* What a load takes its pairs from: a call writes the next one, whose key is there until the function is called again or the load returns.
  * It returns 0 if there is none. It does return: neither longjmp nor an exception leads out of it. */

@@ -10,6 +10,7 @@
 #include <string.h>
 #include <sys/mman.h>
 #include <sys/prctl.h>
+#include <sys/sysinfo.h>
 #include <sys/wait.h>
 #include <unistd.h>
 
@@ -371,6 +372,37 @@ static void test_fork(void) {
     uint64_t value = 0;
     int status = 1;
     pid_t child;
+/* Whether the system promises any amount of memory. */
+static int promises_all(void) {
+    FILE *file = fopen("/proc/sys/vm/overcommit_memory", "r");
+    int how = file != NULL ? fgetc(file) : '1';
+    if (file != NULL)
+        fclose(file);
+    return how == '1';
+}
+
+/* A table that is larger than all memory is refused at once, unless the system promises any amount; and one that is larger than what the caller
+ * names, always. */
+static void test_most(void) {
+    hot_handle handle = HOT_HANDLE;
+    hot_index *index = NULL;
+    hot_stock most;
+    struct sysinfo machine;
+    size_t bytes;
+    CHECK(sysinfo(&machine) == 0);
+    memset(&most, 0, sizeof most);
+    most.nodes = UINT32_MAX;
+    most.long_leaves = UINT32_MAX;
+    CHECK(hot_stock_bytes(&most, 1, &bytes) == HOT_DONE);
+    CHECK(hot_open_index_within(&most, 1, bytes - 1, &index) == HOT_NO_MEMORY && index == NULL);
+    if (!promises_all() && (machine.totalram + machine.totalswap) * machine.mem_unit < bytes)
+        CHECK(hot_open_index_within(&most, 1, bytes, &index) == HOT_NO_MEMORY && hot_create_with(&most, &handle, 1) == HOT_NO_MEMORY);
+    CHECK(hot_stock_bytes(&large_stock, 1, &bytes) == HOT_DONE);
+    CHECK(hot_open_index_within(&large_stock, 1, bytes - 1, &index) == HOT_NO_MEMORY && index == NULL && in_use == 0);
+    CHECK(hot_open_index_within(&large_stock, 1025, bytes, &index) == HOT_OUT_OF_RANGE && index == NULL);
+    CHECK(hot_open_index_within(&large_stock, 1, bytes, &index) == HOT_DONE && hot_close_index(index) == HOT_DONE && in_use == 0);
+}
+
     CHECK(hot_create_with(&large_stock, &handle, 1) == HOT_DONE);
     CHECK(hot_upsert(&handle, (const uint8_t *)"both", 4, 1, NULL) == HOT_NEW);
     child = fork();
@@ -467,5 +499,6 @@ int main(void) {
     CHECK(few > 15 && more > few);
     if (!failures)
         printf("passed: each of %ld allocations was refused in turn, and nothing was lost\n", few + more);
+    test_most();
     return failures;
 }

@@ -12,6 +12,7 @@ int main(void) {
     hot_index *index = NULL;
     size_t bytes = 7;
     int is_right = hot_open_index(&stock, 1, &index) == HOT_OLD_PROCESSOR && index == NULL;
+    is_right &= hot_open_index_within(&stock, 1, SIZE_MAX, &index) == HOT_OLD_PROCESSOR && index == NULL;
     is_right &= hot_create(10, 10, &handle, 1) == HOT_OLD_PROCESSOR && hot_create_with(&stock, &handle, 1) == HOT_OLD_PROCESSOR;
     is_right &= handle.tag == 0 && hot_stock_bytes(&stock, 1, &bytes) == HOT_OLD_PROCESSOR && bytes == 7;
     is_right &= hot_load_packed(&stock, 1, NULL, NULL, 0, &index, &bytes) == HOT_OLD_PROCESSOR && index == NULL && bytes == 7;
