@@ -7,7 +7,7 @@
  * of a table takes two chunks, and an index what it holds.
  *
  * A load fills the first of the two blocks, which gets such pages before that. They are copied to the table, too, but it then takes them over
- * as they are, all but the first. So a load takes no more memory than the index that it makes.
+ * as they are, all but the first and those that were only read. So a load takes no more memory than the index that it makes.
  *
  * What else is large begins as 0, too: once it is made, each page of it in which there is nothing but 0 is given back, and reads as 0
  * again. The lists of a handle come from malloc, and nothing is written there before they are used.
@@ -61,6 +61,7 @@ typedef struct pages {
 static __thread struct {
     int is_on;
     size_t left;   /* the size of the table that is still to be made, or 0 */
+    size_t asked;  /* bytes, without those of the table */
     heap_table of; /* the table */
     pages *made;   /* it, once it has pages of its own */
     pages *zeros;  /* of which the table is made; what a load has filled, if that goes on */
@@ -233,6 +234,10 @@ static void free_zeros(void) {
     munmap(left.begin, (size_t)(from - left.begin));
     if (from + moved < end)
         munmap(from + moved, (size_t)(end - from) - moved);
+    if (moved > 0) {
+        give_zeros_back();
+        making.last = table;
+    }
 }
 
 /* A block with pages of its own, or NULL. */
@@ -292,7 +297,9 @@ static size_t for_malloc(size_t size) {
 }
 
 tried rattle_alloc(size_t size, size_t align) {
-    void *at = making.is_on && size >= LEAST_BLOCK && align <= 8 ? map_block(size) : lent_block(size);
+    void *at;
+    making.asked += size == making.of.bytes ? 0 : size;
+    at = making.is_on && size >= LEAST_BLOCK && align <= 8 ? map_block(size) : lent_block(size);
     return told(at != NULL ? at : malloc(for_malloc(size)));
 }
 
@@ -327,8 +334,9 @@ tried rattle_realloc(void *at, size_t kept, size_t size, size_t align) {
 void heap_begin(const heap_table *table) {
     static const heap_table none = {0, {0, 0, 0, 0, 0, 0, 0}};
     making.is_on = 1;
-    making.of = table == NULL || table->bytes < LEAST_TABLE ? none : *table;
-    making.left = making.of.bytes;
+    making.of = table == NULL ? none : *table;
+    making.left = making.of.bytes < LEAST_TABLE ? 0 : making.of.bytes;
+    making.asked = 0;
     making.made = NULL;
     making.is_filled = making.is_broken = 0;
 }
@@ -355,6 +363,23 @@ void heap_go_on(const heap_table *table, void *words) {
     making.is_filled = 1;
     if (filled != NULL)
         madvise((char *)filled + PAGE, filled->size - PAGE, MADV_POPULATE_READ);
+}
+
+size_t heap_asked(void) {
+    return making.asked;
+}
+
+size_t heap_held(const heap_pieces *pieces, size_t bytes) {
+    unsigned char there[PAGE];
+    size_t pages = (IN_PAGES + bytes + PAGE - 1) / PAGE, held = 0, from, part, page;
+    for (from = 0; from < pages; from += part) {
+        part = pages - from < sizeof there ? pages - from : sizeof there;
+        if (mincore(pieces->table + from * PAGE, part * PAGE, there) != 0)
+            return bytes;
+        for (page = 0; page < part; page++)
+            held += there[page] & 1;
+    }
+    return held * PAGE;
 }
 
 void heap_take_pieces(heap_pieces *pieces) {

@@ -19,6 +19,9 @@ void heap_begin(const heap_table *table);
 /* Returns whether the table may be used. If not, memory was refused. */
 int heap_end(void);
 
+/* How many bytes were asked for between them, without those of the table. */
+size_t heap_asked(void);
+
 /* The pieces of a table, each of the size of a huge page, that get one once they have filled. */
 enum { HEAP_PIECES = 48 };
 typedef struct heap_pieces {
@@ -29,6 +32,9 @@ typedef struct heap_pieces {
 
 /* Writes those of the table that this thread has made last. */
 void heap_take_pieces(heap_pieces *pieces);
+
+/* How many bytes of the pages of a table, if it has pages of its own, take memory. The system may count those that were only read. */
+size_t heap_held(const heap_pieces *pieces, size_t bytes);
 
 /* Puts a huge page in the place of a piece that has filled since, if there is one, and the system has one. Returns whether one had filled. */
 int heap_fill(heap_pieces *pieces);

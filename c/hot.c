@@ -216,6 +216,9 @@ struct hot_index {
     uint32_t telling;        /* locked while a call uses the teller */
     uint32_t filling;        /* locked while a call looks at the pieces */
     heap_pieces pieces;      /* of its table */
+    size_t table;            /* the bytes of that */
+    size_t lists;            /* those that a handle has from when it is first opened */
+    size_t scanned;          /* those that a handle keeps of its scans at most */
 };
 
 /* Writes the index of a handle. HOT_DONE; or HOT_CLOSED, and then nothing is written: a closed handle has none. */
@@ -512,6 +515,27 @@ void hot_stats(const hot_index *index, hot_refusals *stats) {
     }
 }
 
+/* For so many keys at most a handle keeps room, of so many bytes for each. */
+enum { FOR_A_KEY = 272, MOST_KEPT_KEYS = 256 };
+
+/* The bytes of an index without its table, if so many handles have been opened, each of which keeps so many for keys that are looked up by one
+ * call. */
+static size_t bytes_beside_table(const hot_index *index, size_t opened, size_t kept) {
+    enum { SECTION = 128 };
+    return sizeof *index + index->count * (sizeof *index->places + SECTION) + opened * (index->lists + index->scanned) + kept;
+}
+
+void hot_bytes(const hot_index *index, hot_memory *bytes) {
+    size_t place, opened = 1, kept = 0;
+    for (place = 0; place < index->count; place++) {
+        opened += __atomic_load_n(&index->places[place].state, __ATOMIC_SEQ_CST) != UNOPENED;
+        kept += __atomic_load_n(&index->places[place].room_size, __ATOMIC_RELAXED);
+    }
+    opened = opened < index->count ? opened : index->count;
+    bytes->most = index->table + bytes_beside_table(index, index->count, index->count * MOST_KEPT_KEYS * FOR_A_KEY);
+    bytes->now = (index->pieces.table == NULL ? index->table : heap_held(&index->pieces, index->table)) + bytes_beside_table(index, opened, kept);
+}
+
 void hot_stock_for_lengths(const uint32_t *keys, hot_stock *stock) {
     static const size_t longest[5] = {8, 24, 56, 88, HOT_MAX_KEY};
     hot_stock each[5], all;
@@ -535,17 +559,16 @@ void hot_stock_for_lengths(const uint32_t *keys, hot_stock *stock) {
 /* Has a handle's room take so many keys, and what is found, unless they are many: those of such a call have memory of their own. Returns
  * whether memory was refused. */
 static int lacks_room(hot_place *place, size_t count) {
-    enum { FOR_A_KEY = 272, MOST_KEYS = 256 };
     size_t size = count * FOR_A_KEY;
     void *room;
-    if (count > MOST_KEYS || size <= place->room_size)
+    if (count > MOST_KEPT_KEYS || size <= place->room_size)
         return 0;
     room = malloc(size);
     if (room == NULL)
         return 1;
     free(place->room);
     place->room = room;
-    place->room_size = size;
+    __atomic_store_n(&place->room_size, size, __ATOMIC_RELAXED);
     return 0;
 }
 
@@ -660,25 +683,6 @@ static hot_index *new_opened_index(size_t count) {
     return index;
 }
 
-/* Gives handles that were opened together, with an index, their places in one; or closes them where memory is refused. */
-static hot_status placed(hot_status status, hot_handle *handles, size_t count) {
-    hot_index *index;
-    size_t place;
-    if (status != HOT_DONE)
-        return status;
-    index = new_opened_index(count);
-    for (place = 0; place < count; place++)
-        if (index == NULL)
-            proved_destroy(&handles[place]);
-        else
-            handles[place].place = &index->places[place];
-    if (index == NULL)
-        return HOT_NO_MEMORY;
-    heap_take_pieces(&index->pieces);
-    index->left = count;
-    return HOT_DONE;
-}
-
 /* The table of an index with this stock and so many handles: its records end where it does, and stand there in this order. None if a number is
  * out of range. */
 static heap_table table_of(const hot_stock *stock, size_t count) {
@@ -698,6 +702,40 @@ static heap_table table_of(const hot_stock *stock, size_t count) {
     for (kind = HEAP_KINDS; kind-- > 0;)
         table.from[kind] = table.from[kind + 1] - counts[kind] * sizes[kind];
     return table;
+}
+
+/* Notes what an index with this stock takes. */
+static void note_stock(hot_index *index, const hot_stock *stock) {
+    enum { MOST_SCANNED = 64 << 10, FOR_A_PAIR = 300 };
+    uint64_t leaves = (uint64_t)stock->short_leaves + stock->medium_leaves + stock->large_leaves + stock->wide_leaves + stock->long_leaves;
+    index->table = table_of(stock, index->count).bytes;
+    index->scanned = leaves < MOST_SCANNED / FOR_A_PAIR ? (size_t)leaves * FOR_A_PAIR : MOST_SCANNED;
+}
+
+/* Notes what this thread has made: the index's table, and so many handles. */
+static void note_made(hot_index *index, size_t handles) {
+    heap_take_pieces(&index->pieces);
+    index->lists = heap_asked() / handles;
+}
+
+/* Gives handles that were opened together, with an index, their places in one; or closes them where memory is refused. */
+static hot_status placed(hot_status status, const hot_stock *stock, hot_handle *handles, size_t count) {
+    hot_index *index;
+    size_t place;
+    if (status != HOT_DONE)
+        return status;
+    index = new_opened_index(count);
+    for (place = 0; place < count; place++)
+        if (index == NULL)
+            proved_destroy(&handles[place]);
+        else
+            handles[place].place = &index->places[place];
+    if (index == NULL)
+        return HOT_NO_MEMORY;
+    note_stock(index, stock);
+    note_made(index, count);
+    index->left = count;
+    return HOT_DONE;
 }
 
 /* Begins to make an index with this stock and so many handles. */
@@ -723,14 +761,14 @@ hot_status hot_create(uint32_t nodes, uint32_t leaves, hot_handle *handles, size
     stock.nodes = nodes;
     stock.long_leaves = leaves;
     begin_making(&stock, count);
-    return placed(end_making(proved_create(nodes, leaves, handles, count), handles, count), handles, count);
+    return placed(end_making(proved_create(nodes, leaves, handles, count), handles, count), &stock, handles, count);
 }
 
 hot_status hot_create_with(const hot_stock *stock, hot_handle *handles, size_t count) {
     if (!is_processor_new())
         return HOT_OLD_PROCESSOR;
     begin_making(stock, count);
-    return placed(end_making(proved_create_with(stock, handles, count), handles, count), handles, count);
+    return placed(end_making(proved_create_with(stock, handles, count), handles, count), stock, handles, count);
 }
 
 hot_status hot_open_index(const hot_stock *stock, size_t handles, hot_index **index) {
@@ -744,12 +782,21 @@ hot_status hot_open_index(const hot_stock *stock, size_t handles, hot_index **in
         return HOT_NO_MEMORY;
     begin_making(stock, handles);
     status = end_making(proved_create_keeping(stock, handles, &made->keeper), &made->keeper, 1);
-    heap_take_pieces(&made->pieces);
+    note_stock(made, stock);
+    note_made(made, 1);
     if (status == HOT_DONE)
         *index = made;
     else
         free_index(made);
     return status;
+}
+
+hot_status hot_open_index_within(const hot_stock *stock, size_t handles, size_t most, hot_index **index) {
+    size_t bytes;
+    hot_status status = hot_stock_bytes(stock, handles, &bytes);
+    if (status != HOT_DONE)
+        return status;
+    return bytes > most ? HOT_NO_MEMORY : hot_open_index(stock, handles, index);
 }
 
 /* Takes pairs into a load, until there is none or one is refused. Writes how many it took, and returns why the next one was refused, or
@@ -780,7 +827,7 @@ static hot_status begin_load(const hot_stock *stock, size_t handles, const heap_
 
 /* Gives an index that was loaded the pieces of its table, and those that were filled huge pages. */
 static void fill_pieces(hot_index *index) {
-    heap_take_pieces(&index->pieces);
+    note_made(index, 1);
     while (heap_fill(&index->pieces))
         ;
 }
@@ -791,14 +838,6 @@ static hot_status end_load(const heap_table *table, loading *load, void *words, 
     heap_go_on(table, words);
     status = end_making(proved_end_load(load, &index->keeper), &index->keeper, 1);
     if (status == HOT_DONE)
-hot_status hot_open_index_within(const hot_stock *stock, size_t handles, size_t most, hot_index **index) {
-    size_t bytes;
-    hot_status status = hot_stock_bytes(stock, handles, &bytes);
-    if (status != HOT_DONE)
-        return status;
-    return bytes > most ? HOT_NO_MEMORY : hot_open_index(stock, handles, index);
-}
-
         fill_pieces(index);
     return status;
 }
@@ -810,7 +849,9 @@ static hot_status fill_index(const hot_stock *stock, hot_source *next, void *con
     heap_table table = table_of(stock, index->count);
     void *words;
     size_t count;
-    hot_status status = begin_load(stock, index->count, &table, &load, &words);
+    hot_status status;
+    note_stock(index, stock);
+    status = begin_load(stock, index->count, &table, &load, &words);
     if (status != HOT_DONE)
         return status;
     *refused = take_pairs(&load, next, context, &count);

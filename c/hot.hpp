@@ -937,6 +937,14 @@ class index {
         hot_stats(at_.get(), &told);
         return told;
     }
+    /// What the index takes of memory, with all of its handles: hot_bytes. Throws std::logic_error if the index was moved from.
+    [[nodiscard]] hot_memory bytes() const {
+        if (!at_)
+            throw std::logic_error("the index was moved away");
+        hot_memory told{};
+        hot_bytes(at_.get(), &told);
+        return told;
+    }
 
   private:
     explicit index(std::shared_ptr<hot_index> at) : at_(std::move(at)) {}

@@ -210,6 +210,7 @@ static void test_resident(void) {
     hot_handle handle = HOT_HANDLE, other = HOT_HANDLE;
     hot_index *index = NULL;
     hot_stock roomy;
+    hot_memory bytes;
     long first, made, opened, filled;
     uint32_t key;
     CHECK(prctl(PR_SET_THP_DISABLE, 1, 0, 0, 0) == 0);
@@ -227,6 +228,8 @@ static void test_resident(void) {
     }
     filled = resident();
     CHECK(filled - opened < FEW * MOST);
+    hot_bytes(index, &bytes);
+    CHECK((long)bytes.now >= filled - first && (long)bytes.now < filled - first + 700000 && bytes.most > bytes.now);
     CHECK(hot_close(&handle) == HOT_DONE && hot_close(&other) == HOT_DONE && hot_close_index(index) == HOT_DONE && in_use == 0);
     CHECK(prctl(PR_SET_THP_DISABLE, 0, 0, 0, 0) == 0);
     printf("resident: %ld bytes once the index is made, %ld for each handle, %ld for each of %d keys\n", made - first,
@@ -282,6 +285,7 @@ static void test_load_resident(void) {
         hot_handle handle = HOT_HANDLE;
         hot_index *index = NULL;
         hot_stock roomy = {20, 200, 0, 0, 0, 0};
+        hot_memory bytes;
         long first = resident(), loaded;
         size_t count = 0;
         if (place > 0)
@@ -290,6 +294,8 @@ static void test_load_resident(void) {
         CHECK(hot_load(&roomy, 4, next_number, &all, &index, &count) == HOT_DONE && count == counts[place]);
         loaded = resident() - first;
         CHECK(loaded < MOST * (long)count + FOR_HANDLE && (place < 2 || when_moved > first));
+        hot_bytes(index, &bytes);
+        CHECK((long)bytes.now >= loaded && (long)bytes.now < loaded + 2 * FOR_HANDLE && bytes.most >= bytes.now);
         CHECK(when_moved - first < loaded + CHUNK);
         CHECK(hot_open(index, &handle) == HOT_DONE && has_numbers(&handle, counts[place]));
         CHECK(hot_close(&handle) == HOT_DONE && hot_close_index(index) == HOT_DONE && in_use == 0);
@@ -366,12 +372,6 @@ static void test_addresses(void) {
     CHECK(setrlimit(RLIMIT_AS, &before) == 0 && in_use == 0);
 }
 
-/* After a fork, of a process with one thread, parent and child have an index each. */
-static void test_fork(void) {
-    hot_handle handle = HOT_HANDLE;
-    uint64_t value = 0;
-    int status = 1;
-    pid_t child;
 /* Whether the system promises any amount of memory. */
 static int promises_all(void) {
     FILE *file = fopen("/proc/sys/vm/overcommit_memory", "r");
@@ -403,6 +403,12 @@ static void test_most(void) {
     CHECK(hot_open_index_within(&large_stock, 1, bytes, &index) == HOT_DONE && hot_close_index(index) == HOT_DONE && in_use == 0);
 }
 
+/* After a fork, of a process with one thread, parent and child have an index each. */
+static void test_fork(void) {
+    hot_handle handle = HOT_HANDLE;
+    uint64_t value = 0;
+    int status = 1;
+    pid_t child;
     CHECK(hot_create_with(&large_stock, &handle, 1) == HOT_DONE);
     CHECK(hot_upsert(&handle, (const uint8_t *)"both", 4, 1, NULL) == HOT_NEW);
     child = fork();
@@ -493,12 +499,12 @@ int main(void) {
     test_huge();
     test_filled();
     test_addresses();
+    test_most();
     test_fork();
     few = test_each_refused(&stock);
     more = test_each_refused(&large_stock);
     CHECK(few > 15 && more > few);
     if (!failures)
         printf("passed: each of %ld allocations was refused in turn, and nothing was lost\n", few + more);
-    test_most();
     return failures;
 }

@@ -144,7 +144,8 @@ static void test_full() {
     CHECK(index.stats().full == 0 && !handle.insert("a", 1).is_refused() && handle.insert("b", 2).is_refused());
     const hot::index moved = std::move(index);
     CHECK(moved.stats().full == 1 && moved.stats().busy == 0 && moved.stats().held_back == 0);
-    CHECK(throws<std::logic_error>([&] { return index.stats(); }));
+    CHECK(moved.bytes().now > 0 && moved.bytes().now <= moved.bytes().most);
+    CHECK(throws<std::logic_error>([&] { return index.stats(); }) && throws<std::logic_error>([&] { return index.bytes(); }));
 }
 
 // Small indexes are filled to their last node record, and emptied again.

@@ -6,7 +6,7 @@ use std::{env, fs, process};
 
 /// The version from which on the library has the calls of `ffi.rs`.
 const MAJOR: u32 = 3;
-const MINOR: u32 = 0;
+const MINOR: u32 = 1;
 
 fn main() {
     for name in ["HOT_DIR", "HOT_SHARED", "PKG_CONFIG", "PKG_CONFIG_PATH"] {

@@ -1,6 +1,6 @@
 //! `hot.h`, and over it calls that are safe: no other module has unsafe code.
 #![allow(unsafe_code)]
-use crate::{Census, Error, Stats, Stock, MAX_KEY};
+use crate::{Census, Error, Memory, Stats, Stock, MAX_KEY};
 use std::any::Any;
 use std::cell::UnsafeCell;
 use std::collections::VecDeque;
@@ -215,6 +215,7 @@ extern "C" {
     fn hot_census(handle: *mut RawHandle, counts: *mut Census) -> Status;
     fn hot_len(handle: *mut RawHandle, count: *mut usize) -> Status;
     fn hot_stats(index: *const RawIndex, stats: *mut Stats);
+    fn hot_bytes(index: *const RawIndex, bytes: *mut Memory);
     fn hot_meet(one: *mut RawHandle, other: *mut RawHandle) -> Status;
     fn hot_stamp(handle: *mut RawHandle, moment: *mut RawMoment) -> Status;
     fn hot_follow(handle: *mut RawHandle, moment: *const RawMoment) -> Status;
@@ -357,6 +358,14 @@ impl Index {
         // SAFETY: the index is there, and it writes three numbers.
         unsafe { hot_stats(self.at, &mut stats) };
         stats
+    }
+
+    /// What the index takes of memory.
+    pub(crate) fn bytes(&self) -> Memory {
+        let mut bytes = Memory::default();
+        // SAFETY: the index is there, and it writes two numbers.
+        unsafe { hot_bytes(self.at, &mut bytes) };
+        bytes
     }
 
     /// Opens a handle.

@@ -274,6 +274,8 @@ fn a_full_index_says_so_and_goes_on_when_a_key_is_gone() {
         ..Stats::default()
     };
     assert_eq!(handle.index().stats(), full_alone);
+    let bytes = handle.index().bytes();
+    assert!(bytes.now > 0 && bytes.now <= bytes.most);
     assert_eq!(handle.remove(3u64.to_be_bytes()), Ok(Some(3)));
     assert_eq!(handle.insert("another", 99), Ok(None));
     assert_eq!((handle.len(), handle.census().short_leaves.live), (10, 10));
