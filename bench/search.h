@@ -1,4 +1,4 @@
-/* A node's search by hand, with AVX2, over the words of its record: what floor.c and hand.c measure the index beside. docs/FORMATS.md has the
+/* A node's search by hand, with AVX2, over the words of its record: what hand.c measures the index beside. docs/FORMATS.md has the
  * words of heads of each kind. */
 #ifndef BENCH_SEARCH_H
 #define BENCH_SEARCH_H
