@@ -7,6 +7,8 @@ import unittest
 
 from hot import SortedMap
 
+from apart import run_apart
+
 
 def together(count, work):
     """Runs threads, and raises what one of them raises."""
@@ -139,6 +141,32 @@ class Threads(unittest.TestCase):
         together(4, work)
         self.assertEqual(sorted(taken), [(number, number) for number in range(2000)])
         self.assertEqual(len(mine), 0)
+
+    def test_small_stacks(self):
+        """Calls in threads of 128 KiB, which they have in some systems."""
+        run_apart("""
+            import threading
+            from hot import Codec, SortedMap
+
+            def work():
+                for codec in int, Codec(lambda key: b"%09d" % key, int), Codec.of(int):
+                    mine = SortedMap(keys=codec, threads=2)
+                    mine.update((number, number) for number in range(2000))
+                    mine.get_many(range(2000)), mine.values_range(), len(mine)
+                    both = SortedMap(mine.items(), keys=codec, sorted=True), mine.copy()
+                    assert both[0] == both[1] == mine == dict(mine.items())
+                    mine.irange_clear(3, 1900), mine.irange_pop(), mine.popitem(5)
+                    mine.exchange(1, 1, 2), mine.fetch_add(1), mine.pop(1), mine.clear()
+                SortedMap(capacity=1000000)
+                done.append(1)
+
+            threading.stack_size(131072)
+            done = []
+            thread = threading.Thread(target=work)
+            thread.start()
+            thread.join()
+            assert done
+        """)
 
 
 if __name__ == "__main__":
