@@ -516,6 +516,7 @@ class Objects(unittest.TestCase):
         self.assertEqual(mine.add("b", number=-2), 9)
         self.assertTrue(mine.exchange(key="a", expected=1, value=2))
         self.assertTrue(mine.remove_if("a", expected=2))
+        self.assertEqual(mine.pop("a", default=3), 3)
         for call in (mine.get, mine.setdefault, mine.add, mine.pop, mine.exchange):
             self.assertRaises(TypeError, call)
             self.assertRaises(TypeError, call, "b", 1, 2, 3)
