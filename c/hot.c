@@ -94,8 +94,8 @@ const char *hot_status_text(hot_status status) {
     case HOT_WAS: return "replaced";
     case HOT_REMOVED: return "removed";
     case HOT_BUSY: return "another call stood in the way";
-    case HOT_FULL_NODES: return "all node records are in use";
-    case HOT_FULL_LEAVES: return "all leaf records are in use";
+    case HOT_FULL_NODES: return "too few node records are free";
+    case HOT_FULL_LEAVES: return "no leaf record with room for the key is free";
     case HOT_KEY_TOO_LONG: return "a key is too long";
     case HOT_CLOSED: return "the handle is closed";
     case HOT_OPEN: return "a handle is open";

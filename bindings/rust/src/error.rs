@@ -6,9 +6,9 @@ use std::{error, fmt};
 #[derive(Clone, Copy, Debug, PartialEq, Eq, Hash)]
 #[non_exhaustive]
 pub enum Error {
-    /// Too few node records were free, and the others were all in use: keys must be removed first.
+    /// Too few node records were free, and none comes back until keys are removed.
     FullNodes,
-    /// All leaf records that the key fits in were in use: keys must be removed first.
+    /// No leaf record that the key fits in was free, and none comes back until keys are removed.
     FullLeaves,
     /// The key has more than [`MAX_KEY`](crate::MAX_KEY) bytes, or more than any leaf record of the index has room for.
     KeyTooLong,

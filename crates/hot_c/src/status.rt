@@ -24,9 +24,9 @@ pub const WAS: u32 = 6;
 pub const REMOVED: u32 = 7;
 /// Another call was in the way; nothing was changed.
 pub const BUSY: u32 = 8;
-/// All node records are in use; nothing was changed.
+/// Too few node records are free; nothing was changed.
 pub const FULL_NODES: u32 = 9;
-/// All leaf records with room for the key are in use; nothing was changed.
+/// No leaf record with room for the key is free; nothing was changed.
 pub const FULL_LEAVES: u32 = 10;
 /// A key has more than 240 bytes, or more than any leaf record of the index has room for.
 pub const KEY_TOO_LONG: u32 = 11;
@@ -42,7 +42,7 @@ pub const NO_MEMORY: u32 = 15;
 pub const EXCHANGED: u32 = 16;
 /// The key has the value that was written, which is not the expected one, and keeps it.
 pub const DIFFERS: u32 = 17;
-/// No record was free, but other calls hold some back; nothing was changed.
+/// Too few records are free, but other calls hold some back; nothing was changed.
 pub const HELD_BACK: u32 = 18;
 /// No handle is kept that could be opened.
 pub const NO_HANDLE: u32 = 19;
