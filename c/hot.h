@@ -18,10 +18,13 @@
  * where that may help. Then it counts all records. If fewer are free than it needs, and none is retired or claimed by a change that is
  * under way, it returns HOT_FULL_NODES or HOT_FULL_LEAVES, until keys are removed. So it does where the index has one handle. Else other
  * calls hold records back, and it is to be tried again: hot_insert and the like do so, and hot_try_insert and the like return
- * HOT_HELD_BACK. An index has one node record more than asked, up to 4294967295, which insertions leave free for removals: so a full index
- * can be emptied. A thread that is stopped in the middle of a call, even of a look-up or a scan, may hold back everything that is retired
- * meanwhile. The count loads one record after another: with a handful of records to spare, changes that are under way may have a few of
- * them in use for a moment.
+ * HOT_HELD_BACK. The count loads one record after another: with a handful of records to spare, changes that are under way may have a few
+ * of them in use for a moment. A thread that is stopped in the middle of a call, even of a look-up or a scan, may hold back everything that
+ * is retired meanwhile.
+ *
+ * Removals are never full, so that a full index can be emptied. Insertions leave one node record free for them, and an index has one more
+ * than asked, up to 4294967295. With one handle a removal finds that record, within 2^60 steps of the index. With several handles another
+ * call may have it, or hold back what was retired instead: then removals are held back, and no count is made.
  *
  * Keys in calls. A key, a prefix or an end of a range that has more than HOT_MAX_KEY bytes is refused as HOT_KEY_TOO_LONG by each call. The
  * value that a key had is written to `had` if the call says so, and else `had` stays as it is. It may be NULL, if it is not wanted.
@@ -104,7 +107,7 @@ enum {
     HOT_WAS = 6,           /* the key had this value, and has the new one */
     HOT_REMOVED = 7,       /* the key had this value, and is gone */
     HOT_BUSY = 8,          /* another call is in the way: try again */
-    HOT_FULL_NODES = 9,    /* too few node records were free, and by a count none comes back */
+    HOT_FULL_NODES = 9,    /* too few node records were free, and by a count none comes back: never of a removal */
     HOT_FULL_LEAVES = 10,  /* no leaf record with room for the key was free, and by a count none comes back */
     HOT_KEY_TOO_LONG = 11, /* a key has more than HOT_MAX_KEY bytes, or is to be put in and no leaf record has room for it */
     HOT_CLOSED = 12,       /* the handle is closed */
@@ -113,7 +116,7 @@ enum {
     HOT_NO_MEMORY = 15,
     HOT_EXCHANGED = 16,    /* the key had the expected value, and has the new one */
     HOT_DIFFERS = 17,      /* the key has this value, which is not the expected one, and keeps it */
-    HOT_HELD_BACK = 18,    /* too few records were free, but by a count some may come back: try again */
+    HOT_HELD_BACK = 18,    /* too few records were free, but some may come back: try again */
     HOT_NO_HANDLE = 19,    /* all handles of the index are open */
     HOT_OTHER_INDEX = 20,  /* the handle, or the moment, is of another index */
     HOT_OLD_PROCESSOR = 21, /* the library was compiled for newer processors */
@@ -336,11 +339,11 @@ hot_status hot_try_exchange(hot_handle *handle, const uint8_t *key, size_t lengt
 hot_status hot_try_add(hot_handle *handle, const uint8_t *key, size_t length, uint64_t delta, uint64_t *had);
 
 /* Removes a key. If it had a value, that is written to `had`.
- * HOT_REMOVED, HOT_ABSENT; or HOT_BUSY, HOT_HELD_BACK, HOT_FULL_NODES, HOT_KEY_TOO_LONG, HOT_CLOSED. */
+ * HOT_REMOVED, HOT_ABSENT; or HOT_BUSY, HOT_HELD_BACK, HOT_KEY_TOO_LONG, HOT_CLOSED. */
 hot_status hot_try_remove(hot_handle *handle, const uint8_t *key, size_t length, uint64_t *had);
 
 /* Removes a key if it has the expected value. The value that it had, or has and keeps, is written to `had`.
- * HOT_REMOVED, HOT_DIFFERS, HOT_ABSENT; or HOT_BUSY, HOT_HELD_BACK, HOT_FULL_NODES, HOT_KEY_TOO_LONG, HOT_CLOSED. */
+ * HOT_REMOVED, HOT_DIFFERS, HOT_ABSENT; or HOT_BUSY, HOT_HELD_BACK, HOT_KEY_TOO_LONG, HOT_CLOSED. */
 hot_status hot_try_remove_if(hot_handle *handle, const uint8_t *key, size_t length, uint64_t expected, uint64_t *had);
 
 /* hot_try_insert, hot_try_upsert and hot_try_remove, repeated as long as another call is in the way or holds records back. Between two
@@ -369,11 +372,11 @@ typedef struct hot_waits {
 int hot_wait(hot_status status, hot_waits *so_far);
 
 /* Removes all keys, page by page, as hot_remove does. A key that another call puts in meanwhile may stay.
- * HOT_DONE; or HOT_CLOSED, HOT_NO_MEMORY or HOT_FULL_NODES, and then some keys are left. */
+ * HOT_DONE; or HOT_CLOSED or HOT_NO_MEMORY, and then some keys are left. */
 hot_status hot_clear(hot_handle *handle);
 
 /* hot_clear of the keys from `from` to `upto`, both included.
- * HOT_DONE; or HOT_KEY_TOO_LONG, HOT_CLOSED; or HOT_NO_MEMORY or HOT_FULL_NODES, and then some keys are left. */
+ * HOT_DONE; or HOT_KEY_TOO_LONG, HOT_CLOSED; or HOT_NO_MEMORY, and then some keys are left. */
 hot_status hot_clear_range(hot_handle *handle, const uint8_t *from, size_t from_length, const uint8_t *upto, size_t upto_length);
 
 /* Gives each key of one index its value in another, in key order and page by page, as hot_scan and hot_upsert do. What other calls
@@ -490,8 +493,7 @@ hot_status hot_scan_values(hot_handle *handle, const uint8_t *from, size_t from_
  * and then hot_remove of its key, and both again where another call has removed that key meanwhile. So one call alone gets a pair, with the
  * value that its key had when it was removed. No key of the range before it, or behind it for hot_pop_last, was there all along from the
  * beginning of that scan to the removal. One that another call puts in meanwhile may be.
- * HOT_REMOVED; or HOT_ABSENT if a scan found no pair, or HOT_FULL_NODES, HOT_KEY_TOO_LONG, HOT_CLOSED, HOT_NO_MEMORY, and then nothing was
- * written. */
+ * HOT_REMOVED; or HOT_ABSENT if a scan found no pair, or HOT_KEY_TOO_LONG, HOT_CLOSED, HOT_NO_MEMORY, and then nothing was written. */
 hot_status hot_pop_first(hot_handle *handle, const uint8_t *from, size_t from_length, const uint8_t *upto, size_t upto_length, hot_pair *pair);
 hot_status hot_pop_last(hot_handle *handle, const uint8_t *from, size_t from_length, const uint8_t *upto, size_t upto_length, hot_pair *pair);
 
@@ -537,12 +539,12 @@ hot_status hot_len(hot_handle *handle, size_t *count);
  * as busy or held back, and each counts. */
 typedef struct hot_refusals {
     uint64_t busy;      /* HOT_BUSY: another call was in the way */
-    uint64_t held_back; /* HOT_HELD_BACK: too few records were free, but by a count some may come back */
+    uint64_t held_back; /* HOT_HELD_BACK: too few records were free, but some may come back */
     uint64_t full;      /* HOT_FULL_NODES or HOT_FULL_LEAVES: too few records were free, and by a count none comes back */
 } hot_refusals;
 
 /* Writes how often tries were refused since the index was made, through any of its handles, open or closed. Each that was held back or
- * full has counted all records. One that found a record free after it had collected counts nowhere. Each handle keeps numbers of its own,
+ * full has counted all records, but for removals. One that found a record free after it had collected counts nowhere. Each handle keeps numbers of its own,
  * and this adds them up; it makes no steps. The sums are exact if no change runs meanwhile. Else they are of no single moment. Any thread
  * may make this call until the index is closed. */
 void hot_stats(const hot_index *index, hot_refusals *stats);

@@ -104,6 +104,39 @@ static void test_filled(void) {
     CHECK(hot_destroy(&large) == HOT_DONE);
 }
 
+/* Fills the index, and takes all keys out by calls that wait, beside a handle that is open and makes no call. Closes the index. */
+static void fill_and_empty(hot_index *index) {
+    hot_handle mine = HOT_HANDLE, idle = HOT_HANDLE;
+    hot_pair pair;
+    CHECK(hot_open(index, &idle) == HOT_DONE && hot_open(index, &mine) == HOT_DONE);
+    fill(&mine, 1);
+    CHECK(hot_pop_first(&mine, bytes(""), 0, HOT_TO_END, &pair) == HOT_REMOVED && hot_clear(&mine) == HOT_DONE);
+    CHECK(hot_first(&mine, bytes(""), 0, &pair) == HOT_ABSENT);
+    CHECK(hot_close(&idle) == HOT_DONE && hot_close(&mine) == HOT_DONE && hot_close_index(index) == HOT_DONE);
+}
+
+/* Where no other call is under way a removal doesn't wait: in a full index, and in one that a load has filled. */
+static void test_emptied(void) {
+    enum { MANY = 10000 };
+    static const hot_stock stock = {30, 2 * MANY, 0, 0, 0, 0};
+    static uint8_t keys[2 * MANY];
+    static hot_head heads[MANY];
+    hot_index *index = NULL;
+    size_t count;
+    unsigned left = alarm(60); /* it takes no time */
+    for (unsigned i = 0; i < MANY; i++) {
+        keys[2 * i] = (uint8_t)(i >> 8);
+        keys[2 * i + 1] = (uint8_t)i;
+        heads[i].length = 2;
+        heads[i].value = i;
+    }
+    CHECK(hot_open_index(&stock, 2, &index) == HOT_DONE);
+    fill_and_empty(index);
+    CHECK(hot_load_packed(&stock, 2, keys, heads, MANY, &index, &count) == HOT_FULL_NODES && count > 100 && count < MANY);
+    fill_and_empty(index);
+    alarm(left);
+}
+
 /* Leaves of several sizes: a key takes the smallest with room that is free. */
 static void test_stock(void) {
     hot_handle handle = HOT_HANDLE;
@@ -300,6 +333,7 @@ int main(void) {
     test_small_rounds();
     test_full();
     test_filled();
+    test_emptied();
     test_stock();
     test_stock_sizes();
     test_any_keys();

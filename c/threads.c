@@ -1,7 +1,7 @@
 /* Tests of the library by threads: two that change keys of all lengths beside two that look up, scan and list, and beside children of forks
  * that do so; four that make calls by chance where few records are to spare, or none; eight on one core, so that each is stopped in the middle
  * of its calls; eight that share three handles; four that send each other moments; two that take most keys out and put them in again beside
- * two that scan; and four that give held keys new values in a full index. */
+ * two that scan; four that give held keys new values in a full index; and many that empty a full one. */
 #define _GNU_SOURCE
 #include "hot.h"
 #include "check.h"
@@ -807,6 +807,94 @@ static void test_values(void) {
         CHECK(hot_destroy(&handles[i]) == HOT_DONE);
 }
 
+/* Ninth test: threads fill an index of few nodes, and take half of their keys out again. One node record is left for the removals of all of
+ * them, and none is refused, whoever has that record. */
+#define EMPTIERS 24
+#define FEW_NODES 40
+#define REMOVALS 10000
+#define MOST_OWN 512
+
+typedef struct emptier {
+    hot_index *index;
+    uint64_t keys[MOST_OWN], state;
+    unsigned number, count, removals;
+} emptier;
+
+/* A key of this thread alone, beside others where nodes have few entries: its bytes are those of a number, the highest first. */
+static uint64_t own_key(emptier *me) {
+    uint64_t number = (uint64_t)(next(&me->state) % 4) << 48 | (uint64_t)1 << (16 + next(&me->state) % 31) | next(&me->state) % 4 << 6 | me->number;
+    return __builtin_bswap64(number);
+}
+
+/* Removes the key by one of the calls that do. */
+static void empty_one(hot_handle *handle, const uint8_t *key, unsigned turn) {
+    hot_pair pair;
+    switch (turn % 8) {
+    case 0: CHECK(hot_pop_first(handle, key, 8, key, 8, &pair) == HOT_REMOVED && pair.value == 1); break;
+    case 1: CHECK(hot_pop_last(handle, key, 8, key, 8, &pair) == HOT_REMOVED && pair.value == 1); break;
+    case 2: CHECK(hot_clear_range(handle, key, 8, key, 8) == HOT_DONE); break;
+    case 3: CHECK(hot_remove_if(handle, key, 8, 1, NULL) == HOT_REMOVED); break;
+    default: CHECK(hot_remove(handle, key, 8, NULL) == HOT_REMOVED); break;
+    }
+}
+
+/* Puts keys in until the index is full. */
+static void fill_own(emptier *me, hot_handle *handle) {
+    hot_status status = HOT_INSERTED;
+    while (me->count < MOST_OWN && (status == HOT_INSERTED || status == HOT_EXISTS)) {
+        uint64_t key = own_key(me);
+        status = hot_insert(handle, (uint8_t *)&key, 8, 1, NULL);
+        if (status == HOT_INSERTED)
+            me->keys[me->count++] = key;
+    }
+    CHECK(status == HOT_INSERTED || status == HOT_EXISTS || status == HOT_FULL_NODES);
+}
+
+/* Takes keys out, until so many are left. */
+static void empty_own(emptier *me, hot_handle *handle, unsigned left) {
+    while (me->count > left) {
+        uint64_t *key = &me->keys[next(&me->state) % me->count];
+        empty_one(handle, (uint8_t *)key, me->removals++);
+        *key = me->keys[--me->count];
+    }
+}
+
+static void *fill_and_empty(void *given) {
+    emptier *me = given;
+    hot_handle handle = HOT_HANDLE;
+    CHECK(hot_open(me->index, &handle) == HOT_DONE);
+    while (me->removals < REMOVALS) {
+        fill_own(me, &handle);
+        if (me->count == 0)
+            sched_yield();
+        empty_own(me, &handle, me->count / 2);
+    }
+    empty_own(me, &handle, 0);
+    CHECK(hot_close(&handle) == HOT_DONE);
+    return NULL;
+}
+
+static void test_emptying(void) {
+    static const hot_stock stock = {FEW_NODES, EMPTIERS * MOST_OWN, 0, 0, 0, 0};
+    static emptier emptiers[EMPTIERS];
+    pthread_t threads[EMPTIERS];
+    hot_handle handle = HOT_HANDLE;
+    size_t keys = 1;
+    unsigned i;
+    hot_index *index = NULL;
+    CHECK(hot_open_index(&stock, EMPTIERS, &index) == HOT_DONE);
+    for (i = 0; i < EMPTIERS; i++) {
+        emptiers[i].index = index;
+        emptiers[i].number = i;
+        emptiers[i].state = 1442695040888963407u + i;
+        CHECK(pthread_create(&threads[i], NULL, fill_and_empty, &emptiers[i]) == 0);
+    }
+    for (i = 0; i < EMPTIERS; i++)
+        CHECK(pthread_join(threads[i], NULL) == 0);
+    CHECK(hot_open(index, &handle) == HOT_DONE && hot_len(&handle, &keys) == HOT_DONE && keys == 0);
+    CHECK(hot_close(&handle) == HOT_DONE && hot_close_index(index) == HOT_DONE);
+}
+
 int main(void) {
     /* Keys, nodes and leaves: room for all; more keys than leaves; one node, which comes and goes. */
     static const unsigned crowds[5][3] = {{500, 60, 520}, {12, 16, 8}, {5, 1, 16}, {3, 1, 2}, {2, 1, 1}};
@@ -824,8 +912,9 @@ int main(void) {
     test_jobs();
     test_waves();
     test_values();
+    test_emptying();
     if (!failures)
-        puts("passed: threads that read while others change keys of all lengths, or make nodes merge, threads where few records are to spare, and "
-             "threads that are stopped");
+        puts("passed: threads that read while others change keys of all lengths, or make nodes merge, threads where few records are to spare, "
+             "threads that are stopped, and threads that empty a full index");
     return failures;
 }

@@ -1,6 +1,6 @@
 //! Calls that expect a key to have a certain value, and change nothing if it has another or none.
 
-ghost use Rattle.std.specs.Prelude.{◌≡◌, ◌≢◌, Err, IfErr, IsOk};
+ghost use Rattle.std.specs.Prelude.{◌≡◌, ◌≢◌, ◌<◌, Err, IfErr, IsOk};
 ghost use Rattle.finite_map.specs.declared.Call.TheVariants.{Exchange, RemoveIf};
 ghost use Rattle.rowex_writing.specs.declared.attempts.TryFault.TheVariants.{Busy, FullLeaves};
 ghost use Rattle.rowex_writing.specs.declared.plan.Full.TheVariants.{Leaves};
@@ -133,8 +133,8 @@ impl Index {
     /// Removes `key` if it has the value `expected` (`Removed` with that value). Else it changes nothing, and returns `Differs` with the
     /// key's value, or `Absent`.
     ///
-    /// Where `try_remove_if` would return `Busy`, or records may come back, the call begins again, as `insert` does. It is refused only
-    /// with `Full::Nodes`: a removal needs no leaf record. In an index of one pass it is not refused, as `remove` isn't.
+    /// Where `try_remove_if` would return `Busy`, or records are held back, the call begins again, as `remove` does, and it is refused as
+    /// seldom.
     pub fn remove_if<R: Wait>(
         &self,
         rt: &R,
@@ -147,6 +147,7 @@ impl Index {
         ensures call { IsOutcome (RemoveIf key.now expected) (last_try result) self.now pass.old pass.new }
         ensures cause { HasCause (RemoveIf key.now expected) (last_try result) self.now pass.old pass.new }
         ensures leafless { result ≢ Err Leaves }
+        ensures kept { 1 < self.now.layout.passes → IsOk result }
         ensures tries { MakesTries (RemoveIf key.now expected) result self.now untold (pass.old, tt) (pass.new, tt) }
         ensures told { HasTold self.now untold (pass.old, tt) (pass.new, tt) }
         ensures room { LeavesRoom self.now.layout (RemoveIf key.now expected) (last_try result) pass.old.seat pass.new.seat }

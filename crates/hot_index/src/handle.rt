@@ -1,6 +1,6 @@
 //! A handle: a pass at its index. Its calls don't ask that the pass belong to the index, since it does.
 
-ghost use Rattle.std.specs.Prelude.{◌-◌, ◌^◌, ◌≡◌, ◌≢◌, [], All, Err, IfErr, IfOk, IsOk, length, map};
+ghost use Rattle.std.specs.Prelude.{◌-◌, ◌^◌, ◌<◌, ◌≡◌, ◌≢◌, [], All, Err, IfErr, IfOk, IsOk, length, map};
 ghost use Rattle.finite_map.specs.declared.Call.TheVariants.{Add, Exchange, Get, Insert, Remove, RemoveIf, Upsert};
 ghost use Rattle.finite_map.specs.Calls.{LegalCalls};
 ghost use Rattle.finite_map.specs.Reverse.{IsLawfulReverseScan};
@@ -196,6 +196,7 @@ impl<I: ShowsIndex> Handle<I> {
         ensures told { Stays (λ index k j. HasTold index untold (k, tt) (j, tt)) self.old self.new }
         ensures room { Stays (λ index k j. LeavesRoom index.layout (Remove key.now) (last_try result) k.seat j.seat) self.old self.new }
         ensures leafless { result ≢ Err Full.Leaves }
+        ensures kept { 1 < self.old.index.layout.passes → IsOk result }
     {
         self.index.show().remove(rt, &mut self.pass, key)
     }
@@ -208,6 +209,7 @@ impl<I: ShowsIndex> Handle<I> {
         ensures told { Stays (λ index k j. HasTold index untold (k, tt) (j, tt)) self.old self.new }
         ensures room { Stays (λ index k j. LeavesRoom index.layout (RemoveIf key.now expected) (last_try result) k.seat j.seat) self.old self.new }
         ensures leafless { result ≢ Err Full.Leaves }
+        ensures kept { 1 < self.old.index.layout.passes → IsOk result }
     {
         self.index
             .show()

@@ -1,6 +1,6 @@
 //! The index and the passes by which threads use it, and the calls on it.
 
-ghost use Rattle.std.specs.Prelude.{◌≡◌, ◌≢◌, Err, length};
+ghost use Rattle.std.specs.Prelude.{◌≡◌, ◌≢◌, ◌<◌, Err, IsOk, length};
 ghost use Rattle.finite_map.specs.declared.Call.TheVariants.{Get, Insert, Remove, Upsert};
 ghost use Rattle.finite_map.specs.Calls.{LegalCalls};
 ghost use Rattle.hot_index.specs.KeyCounts.{IsCountOf};
@@ -14,7 +14,7 @@ ghost use Rattle.hot_index_calls.specs.Asked.{last_try};
 ghost use Rattle.hot_index_calls.specs.Calls.{HasCause, IsOutcome, IsTriedAndCounted, MakesTries};
 ghost use Rattle.hot_index_calls.specs.Census.{HasCounted};
 ghost use Rattle.hot_index_calls.specs.Many.{AreNoted, HasGotMany, gets};
-ghost use Rattle.hot_index_calls.specs.Refusals.{as_tried};
+ghost use Rattle.hot_index_calls.specs.Refusals.{IsLeftOne, as_tried};
 ghost use Rattle.hot_index_calls.specs.Rooms.{LeavesRoom};
 ghost use Rattle.hot_index_calls.specs.Traces.{HasCollected, HasGot, HasMade, HasTold, untold};
 ghost use Rattle.hot_index.specs.Stamps.{HasSeenMore};
@@ -232,7 +232,8 @@ impl Index {
     /// Where `try_remove` would return `Busy`, or records may come back, the call begins again, as `insert` does. It is refused only with
     /// `Full::Nodes`: a removal needs no leaf record.
     ///
-    /// In an index of one pass it is not refused while fewer than 2^60 steps have been made: insertions leave a node record for it (`room`,
+    /// Insertions leave a node record for it. So in an index of several passes it begins again wherever it finds none free, and gets a reply
+    /// in the end. In an index of one pass it is not refused while fewer than 2^60 steps have been made (`room`,
     /// `laws::one_pass_keeps_spare`).
     pub fn remove<R: Wait>(&self, rt: &R, pass: &mut Pass, key: &Key) -> Result<Reply, Full>
         requires { Owns self.now pass.old }
@@ -240,6 +241,7 @@ impl Index {
         ensures call { IsOutcome (Remove key.now) (last_try result) self.now pass.old pass.new }
         ensures cause { HasCause (Remove key.now) (last_try result) self.now pass.old pass.new }
         ensures leafless { result ≢ Err Leaves }
+        ensures kept { 1 < self.now.layout.passes → IsOk result }
         ensures tries { MakesTries (Remove key.now) result self.now untold (pass.old, tt) (pass.new, tt) }
         ensures told { HasTold self.now untold (pass.old, tt) (pass.new, tt) }
         ensures room { LeavesRoom self.now.layout (Remove key.now) (last_try result) pass.old.seat pass.new.seat }
@@ -436,7 +438,7 @@ impl Index {
     }
 
     /// Tries to make the change `call`, as `try_change_with` does. If no record was free, it counts all records then, and the refusal says
-    /// what the count says. `count` changes as in `try_change_with`.
+    /// what the count says. A removal in an index of several passes is held back then, with no count. `count` changes as in `try_change_with`.
     pub(crate) fn try_and_count_with<G: Gate>(
         &self,
         pass: &mut Pass,
@@ -455,8 +457,8 @@ impl Index {
         answer
     }
 
-    /// Makes the change `call`, and reports each step to `gate`. It begins again as long as another pass is in its way, or records may
-    /// come back. Returns the reply, or the kind of records of which none was free. `count` changes as in `try_change_with`.
+    /// Makes the change `call`, and reports each step to `gate`. It begins again as long as another pass is in its way, or records are held
+    /// back. Returns the reply, or the kind of records of which none was free. `count` changes as in `try_change_with`.
     pub(crate) fn retry_change_with<R: Wait, G: Gate>(
         &self,
         rt: &R,
@@ -469,6 +471,7 @@ impl Index {
         ensures call { IsOutcome call.now (last_try result) self.now pass.old pass.new }
         ensures cause { HasCause call.now (last_try result) self.now pass.old pass.new }
         ensures leafless { IsLeafless Leaves call.now result }
+        ensures kept { IsLeftOne self.now.layout.passes call.now → IsOk result }
         ensures tries { MakesTries call.now result self.now G.becomes (pass.old, gate.old) (pass.new, gate.new) }
         ensures told { HasTold self.now G.becomes (pass.old, gate.old) (pass.new, gate.new) }
         ensures room { LeavesRoom self.now.layout call.now (last_try result) pass.old.seat pass.new.seat }

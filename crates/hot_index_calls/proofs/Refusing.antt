@@ -1,5 +1,5 @@
 -- A count of all records, after a try that found none free.
-use Rattle.std.proofs.Common.{◌≡◌, ℕ, zero, suc, take, get_or, ◌+◌, ◌<◌, ◌≤◌, List, [], ◌∷◌, ◌++◌, length, Err, inl, ⊎_elim, refl, sym, ap, subst, ◌∙◌, arith}
+use Rattle.std.proofs.Common.{◌≡◌, ℕ, zero, suc, take, get_or, ◌+◌, ◌<◌, ◌≤◌, List, [], ◌∷◌, ◌++◌, length, Err, inl, inr, ⊎_elim, refl, sym, ap, subst, ◌∙◌, arith}
 use Rattle.finite_map.specs.declared.Call.{Call}
 use Rattle.finite_map.specs.Maps.{key_of}
 use Rattle.record_words.specs.declared.layout.Layout.{Layout}
@@ -28,7 +28,7 @@ use Rattle.hot_index_calls.specs.Asked.{HasLacked, HasReplied}
 use Rattle.hot_index_calls.specs.Calls.{IsTriedAndCounted}
 use Rattle.hot_index_calls.specs.Census.{CountsAll}
 use Rattle.hot_index_calls.specs.Passes.{PassView, pass_of}
-use Rattle.hot_index_calls.specs.Refusals.{IsPassing, IsToldAfter, Judges, NeedsBeside, fault_in}
+use Rattle.hot_index_calls.specs.Refusals.{IsLeftOne, IsPassing, IsToldAfter, Judges, NeedsBeside, fault_in}
 use Rattle.hot_index_calls.specs.Traces.{HasStepped}
 use Rattle.hot_index_calls.specs.declared.census.RecordCounts.{RecordCounts}
 use Rattle.hot_index_calls.specs.declared.refusals.Refusal.{Refusal}
@@ -107,23 +107,26 @@ judged_fault passes lacks needs size counts (HeldBack full) j = ap fault_of j.0
 judged_fault passes lacks needs size counts (IsFull full shown) j = ap fault_of j.0
 
 pub told_after : {G : Type 0} {table : TableView} {becomes : G → Event → G → Type 0} {counts : RecordCounts} {m b : SeatView × G} (all : CountsAll table becomes counts m b) (some : 1 ≤ table.layout.nodes) (call : Call) (s : SeatView) (g : G) (lacks : Full) (made : List Rec) (needs : ℕ) →
-    HasLacked table made (Err (fault_of lacks)) s m.0 → needs ≡ length (nodes_among made) + 1 → (refusal : Refusal) → Judges table.layout.passes lacks needs (length (key_of call)) counts refusal →
+    HasLacked table made (Err (fault_of lacks)) s m.0 → needs ≡ length (nodes_among made) + 1 → ¬ (IsLeftOne table.layout.passes call) → (refusal : Refusal) → Judges table.layout.passes lacks needs (length (key_of call)) counts refusal →
     IsToldAfter call table becomes (pass_of s, g) (pass_of m.0, m.1) (pass_of b.0, b.1) refusal
-told_after {table = table} all some call s g lacks made needs lacked is IsBusy j = absurd j
-told_after {table = table} {becomes = becomes} {counts = counts} {m = m} {b = b} all some call s g lacks made needs lacked is (HeldBack full) j = record {
+told_after {table = table} all some call s g lacks made needs lacked is other IsBusy j = absurd j
+told_after {table = table} {becomes = becomes} {counts = counts} {m = m} {b = b} all some call s g lacks made needs lacked is other (HeldBack full) j = inr (record {
   needs = needs;
   needed = subst (λ z. NeedsBeside table.layout (pass_of s) (pass_of m.0) z needs) (sym j.0) (needed table made lacks s m.0 needs lacked is);
   counts = counts;
   counted = has_counted all some;
   judged = subst (λ z. Judges table.layout.passes z needs (length (key_of call)) counts (HeldBack full)) (sym j.0) j;
-}
-told_after {table = table} {becomes = becomes} {counts = counts} {m = m} {b = b} all some call s g lacks made needs lacked is (IsFull full shown) j = record {
-  needs = needs;
-  needed = subst (λ z. NeedsBeside table.layout (pass_of s) (pass_of m.0) z needs) (sym j.0) (needed table made lacks s m.0 needs lacked is);
-  counts = counts;
-  counted = has_counted all some;
-  judged = subst (λ z. Judges table.layout.passes z needs (length (key_of call)) counts (IsFull full shown)) (sym j.0) j;
-}
+})
+told_after {table = table} {becomes = becomes} {counts = counts} {m = m} {b = b} all some call s g lacks made needs lacked is other (IsFull full shown) j = (
+  other,
+  record {
+    needs = needs;
+    needed = subst (λ z. NeedsBeside table.layout (pass_of s) (pass_of m.0) z needs) (sym j.0) (needed table made lacks s m.0 needs lacked is);
+    counts = counts;
+    counted = has_counted all some;
+    judged = subst (λ z. Judges table.layout.passes z needs (length (key_of call)) counts (IsFull full shown)) (sym j.0) j;
+  },
+)
 
 -- ---- in an index of one pass
 pub no_other : (passes pass other : ℕ) → passes ≡ 1 → pass < passes → other < passes → other ≡ pass
@@ -140,8 +143,13 @@ never_busy layout k j one conflict =
 pub passes_never : {G : Type 0} (call : Call) (refusal : Refusal) (table : TableView) (becomes : G → Event → G → Type 0) (a b : PassView × G) → table.layout.passes ≡ 1 →
     IsTriedAndCounted call (Err refusal) table becomes a b → IsPassing refusal → ⊥
 passes_never call IsBusy table becomes a b one it passing = never_busy table.layout a.0 it.mid.0 one it.tried.cause
-passes_never call (HeldBack lacks) table becomes a b one it passing = it.told.judged.1 (inl one)
+passes_never call (HeldBack lacks) table becomes a b one it passing = elim it.told [ inl (left, same) ↦ omega (arith, left.0, one) | inr counted ↦ counted.judged.1 (inl one) ]
 passes_never call (IsFull lacks counts) table becomes a b one it passing = passing
+
+-- a removal in one of several is never full
+pub left_never : {G : Type 0} (call : Call) (lacks : Full) (counts : RecordCounts) (table : TableView) (becomes : G → Event → G → Type 0) (a b : PassView × G) → IsLeftOne table.layout.passes call →
+    IsTriedAndCounted call (Err (IsFull lacks counts)) table becomes a b → ⊥
+left_never call lacks counts table becomes a b left it = it.told.0 left
 
 -- ---- node records of a list
 same_more : (r : Rec) (xs ys : List Rec) (n : ℕ) → length (nodes_among xs) ≡ length (nodes_among ys) + n → length (nodes_among (r ∷ xs)) ≡ length (nodes_among (r ∷ ys)) + n

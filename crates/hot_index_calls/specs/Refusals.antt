@@ -8,6 +8,7 @@ use Rattle.record_words.specs.declared.layout.Layout.{Layout}
 use Rattle.rowex_core.specs.declared.event.Event.{Event}
 use Rattle.rowex_table.specs.Seats.{TableView}
 use Rattle.rowex_writing.specs.Changes.{LacksNodes}
+use Rattle.rowex_writing.specs.Spare.{IsRemoval}
 use Rattle.rowex_writing.specs.declared.attempts.TryFault.{TryFault}
 use Rattle.rowex_writing.specs.declared.attempts.TryFault.TheVariants.{Busy}
 use Rattle.rowex_writing.specs.declared.plan.Full.{Full}
@@ -81,11 +82,18 @@ pub record IsCountedAfter {G : Type 0} (call : Call) (lacks : Full) (refusal : R
   pub counted : HasCounted index becomes m b counts
   pub judged : Judges index.layout.passes lacks needs (length (key_of call)) counts refusal
 
--- where it was busy, nothing was counted
+-- The call removes a key in an index of so many passes, which are several. Insertions leave a node record for it: where it finds none free,
+-- another call has that one, or holds back one that was retired since.
+abbrev pub IsLeftOne : (passes : ℕ) → Call → Type 0
+IsLeftOne passes call = (1 < passes) × IsRemoval call
+
+-- Where it was busy, nothing was counted, nor where a removal lacked the record that is left for it: that is held back, and never full.
 abbrev pub IsToldAfter : {G : Type 0} → Call → TableView → (G → Event → G → Type 0) → (a m b : PassView × G) → Refusal → Type 0
 IsToldAfter call index becomes a m b IsBusy = b ≡ m
-IsToldAfter call index becomes a m b (HeldBack lacks) = IsCountedAfter call lacks (HeldBack lacks) index becomes a m b
-IsToldAfter call index becomes a m b (IsFull lacks counts) = IsCountedAfter call lacks (IsFull lacks counts) index becomes a m b
+IsToldAfter call index becomes a m b (HeldBack lacks) =
+    (IsLeftOne index.layout.passes call × (b ≡ m)) ⊎ IsCountedAfter call lacks (HeldBack lacks) index becomes a m b
+IsToldAfter call index becomes a m b (IsFull lacks counts) =
+    ¬ (IsLeftOne index.layout.passes call) × IsCountedAfter call lacks (IsFull lacks counts) index becomes a m b
 
 -- after one that was answered neither
 abbrev pub IsCountTold : {G : Type 0} → Call → Result Reply Refusal → TableView → (G → Event → G → Type 0) → (a m b : PassView × G) → Type 0

@@ -1,6 +1,6 @@
 //! A call that may change the index, made with a pass's seat and scratch lists: its attempts, and the note of an answer.
 
-ghost use Rattle.std.specs.Prelude.{◌≡◌, ◌⊎◌, ◌+◌, ◌<◌, ◌≤◌, ◌↔◌, List, Err, None, IfSome, IsSome, IsTrue, false, ◌≢◌, length};
+ghost use Rattle.std.specs.Prelude.{◌≡◌, ◌⊎◌, ◌+◌, ◌<◌, ◌≤◌, ◌↔◌, List, Err, None, IfSome, IsOk, IsSome, IsTrue, false, ◌≢◌, length};
 ghost use Rattle.finite_map.specs.declared.Note.{Note};
 ghost use Rattle.rowex_core.specs.declared.event.Act.TheVariants.{ClearPin};
 ghost use Rattle.rowex_core.specs.declared.known.Known.{Known};
@@ -17,7 +17,7 @@ ghost use Rattle.hot_index_calls.specs.Calls.{IsTriedAndCounted, MakesTries};
 ghost use Rattle.hot_index_calls.specs.Counts.{once_steps, try_steps, twice_steps};
 ghost use Rattle.hot_index_calls.specs.Noting.{change_notes};
 ghost use Rattle.hot_index_calls.specs.Passes.{pass_of};
-ghost use Rattle.hot_index_calls.specs.Refusals.{as_tried};
+ghost use Rattle.hot_index_calls.specs.Refusals.{IsLeftOne, as_tried};
 ghost use Rattle.hot_index_calls.specs.Traces.{AreAttempts, AreTries, Collects, HasStepped, IsOneAttempt, Tidies, is_full};
 
 use crate::census::count_records;
@@ -167,7 +167,7 @@ fn may_find_free_record(passes: u32, given: u32, found: bool, removes: bool) -> 
 
 /// Whether `call` removes a key.
 fn is_removal(call: &Call) -> bool
-    ensures { result ≡ false → ¬ (IsRemoval call.now) }
+    ensures { IsTrue result ↔ IsRemoval call.now }
 {
     match call {
         Call::Remove(_) | Call::RemoveIf(_, _) => true,
@@ -177,6 +177,13 @@ fn is_removal(call: &Call) -> bool
         | Call::Add(_, _)
         | Call::Get(_) => false,
     }
+}
+
+/// Whether a node record is left for `call` in an index of `passes` passes: it removes a key, and there are several passes.
+fn is_left_one(passes: u32, call: &Call) -> bool
+    ensures { IsTrue result ↔ IsLeftOne passes call.now }
+{
+    passes > 1 && is_removal(call)
 }
 
 /// Pins the pass and clears the pin: an attempt of three steps that does nothing. It is made in place of a second try that could find no
@@ -191,7 +198,8 @@ fn pin_and_unpin<G: Gate>(table: &HotTable, seat: &mut TableSeat, gate: &mut G)
 }
 
 /// Tries to make the change `call` as [`try_change`] does. `Busy` if another pass was in its way. If no record was free, it counts all
-/// records then, and returns `Full` or `HeldBack` by the counts. `gate` is told each step. The pass is between two calls, before and after.
+/// records then, and returns `Full` or `HeldBack` by the counts. But a removal in an index of several passes is `HeldBack` at once, since
+/// insertions leave a node record for it. `gate` is told each step. The pass is between two calls, before and after.
 pub fn try_and_count<G: Gate>(
     table: &HotTable,
     seat: &mut TableSeat,
@@ -213,17 +221,22 @@ pub fn try_and_count<G: Gate>(
             let Some(lacks) = lack_of(fault) else {
                 return Err(Refusal::Busy);
             };
+            let passes = table.layout().passes;
+            if is_left_one(passes, call) {
+                return Err(Refusal::HeldBack(lacks));
+            }
             let needs = count_node_records(scratch.build.made.as_slice()).saturating_add(1);
             let counts = count_records(table, seat, gate);
-            let (passes, size) = (table.layout().passes, call.key().as_bytes().len());
+            let size = call.key().as_bytes().len();
             Err(judge_lack(passes, lacks, needs, size, counts))
         }
     }
 }
 
 /// Tries to make the change `call` until it is made, or refused for want of records. It tries again as long as another pass is in its
-/// way, or by a count records may come back. `gate` is told each step; `rt` allows it to wait. Returns the reply, or the kind of records of
-/// which none was free: it has changed nothing then. The pass is between two calls, before and after.
+/// way, or records are held back. `gate` is told each step; `rt` allows it to wait. Returns the reply, or the kind of records of which none
+/// was free: it has changed nothing then. A removal in an index of several passes always gets a reply. The pass is between two calls, before
+/// and after.
 pub fn retry_change<R: Wait, G: Gate>(
     rt: &R,
     table: &HotTable,
@@ -236,6 +249,7 @@ pub fn retry_change<R: Wait, G: Gate>(
     ensures replied { HasReplied table.now call.now (last_try result) seat.old seat.new }
     ensures stepped { HasStepped table.now G.becomes (change_notes call.now (last_try result)) (seat.old, gate.old) (seat.new, gate.new) }
     ensures tries { MakesTries call.now result table.now G.becomes (pass_of seat.old, gate.old) (pass_of seat.new, gate.new) }
+    ensures kept { IsLeftOne table.now.layout.passes call.now → IsOk result }
     ensures spares { KeepsSpare table.now.layout seat.old seat.new }
     ensures room { FindsRoom table.now.layout call.now (last_try result) seat.old seat.new }
 {

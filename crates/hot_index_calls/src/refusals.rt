@@ -19,7 +19,8 @@ pub enum Refusal {
     /// Another pass was in its way.
     Busy,
     /// No record of the kind was free. But by the count one may come back: another pass has claimed one, or one is retired, or enough are
-    /// free.
+    /// free. Or the call removes a key, and the index has several passes: insertions leave a node record for it, which another call has, or
+    /// holds back.
     HeldBack(Full),
     /// No record of the kind was free. By the count fewer are free than the change needs, and none may come back; or the index has one
     /// pass.

@@ -8,7 +8,7 @@ use Rattle.hot_index_calls.specs.Refusals.{fault_in}
 use Rattle.hot_index_calls.specs.Rooms.{FindsRoom}
 use Rattle.hot_index_calls.specs.declared.refusals.Refusal.{Refusal}
 use Rattle.hot_index_calls.specs.declared.refusals.Refusal.TheVariants.{Full as IsFull}
-use Rattle.hot_index_calls.proofs.Refusing.{passes_never, stepped_out, stepped_then}
+use Rattle.hot_index_calls.proofs.Refusing.{left_never, passes_never, stepped_out, stepped_then}
 use Rattle.hot_index_calls.proofs.Trying.{refused_again, waited_from_before, waited_out}
 use Rattle.hot_index_calls.proofs.changing.retry_change.Goals as goal
 
@@ -25,6 +25,7 @@ returns-in-Ok g c =
       replied = waited_out c.args.table.now c.args.seat.now c.loop.seat c.try_and_count.new.seat c.args.call.now (Ok c.in-Ok.reply) c.loop.invariant.waited c.in-Ok.ensures.replied;
       stepped = stepped_out _ _ _ c.loop.invariant.ran c.in-Ok.ensures.stepped;
       tries = record { refusals = refusals; last = (pass_of c.loop.seat, c.loop.gate); refused = so_far; alone = alone; outcome = Ok c.in-Ok.reply; tried = c.in-Ok.ensures.tried; is_last = refl };
+      kept = λ left. refl;
       spares = λ was. c.in-Ok.ensures.spares (c.loop.invariant.spares was);
       room = λ removal one was early is. cc;
     }
@@ -49,6 +50,7 @@ returns-in-Some-final_refusal g c =
         tried = subst (λ (r : Refusal). IsTriedAndCounted call (Err r) table g.G.Gate.becomes (pass_of c.loop.seat, c.loop.gate) (pass_of c.try_and_count.new.seat, c.try_and_count.new.gate)) is c.in-Err.ensures.tried;
         is_last = (counts, refl);
       };
+      kept = λ left. absurd (left_never call full counts table g.G.Gate.becomes _ _ left (subst (λ (r : Refusal). IsTriedAndCounted call (Err r) table g.G.Gate.becomes (pass_of c.loop.seat, c.loop.gate) (pass_of c.try_and_count.new.seat, c.try_and_count.new.gate)) is c.in-Err.ensures.tried));
       spares = λ was. c.in-Err.ensures.spares (c.loop.invariant.spares was);
       room = λ removal one was early.
           subst (λ (r : Refusal). FindsRoom table.layout call (Err (fault_in r)) c.loop.seat c.try_and_count.new.seat) is c.in-Err.ensures.room removal one (c.loop.invariant.spares was) early;

@@ -1,7 +1,8 @@
 -- The try, and the count after it.
 use Rattle.rowex_writing.specs.declared.attempts.TryFault.TheVariants.{FullNodes}
 use Rattle.hot_index_calls.proofs.Roomy.{counts_spare, runs_longer}
-use Rattle.std.proofs.Common.{◌≡◌, ◌+◌, ◌∙◌, ℕ, List, Err, length, ap, refl, sym, subst, arith}
+use Rattle.std.proofs.Common.{◌≡◌, ◌+◌, ◌∙◌, ℕ, List, Err, length, ap, inl, refl, sym, subst, arith}
+use Rattle.std.proofs.lemmas.Bool.{false≢true}
 use Rattle.finite_map.specs.Maps.{key_of}
 use Rattle.record_words.specs.declared.layout.Layout.{Layout}
 use Rattle.record_words.specs.declared.records.Rec.{Rec}
@@ -14,7 +15,8 @@ use Rattle.hot_index_calls.specs.Asked.{HasAsked, HasLacked, HasReplied}
 use Rattle.hot_index_calls.specs.Calls.{IsTried}
 use Rattle.hot_index_calls.specs.Census.{loads_in}
 use Rattle.hot_index_calls.specs.Passes.{pass_of}
-use Rattle.hot_index_calls.specs.Refusals.{Judges, fault_in}
+use Rattle.hot_index_calls.specs.Refusals.{IsLeftOne, Judges, fault_in}
+use Rattle.hot_index_calls.specs.Rooms.{FindsRoom}
 use Rattle.hot_index_calls.specs.Traces.{AreAttempts}
 use Rattle.hot_index_calls.proofs.Refusing.{counted_replied, judged_fault, nodes_most, stepped_on, told_after}
 use Rattle.hot_index_calls.proofs.Trying.{has_tried}
@@ -54,51 +56,69 @@ returns-in_default g c =
 pub count_records-counts-requires : goal.count_records-counts-requires
 count_records-counts-requires g c = c.in-Err.ensures.asked.replied.idle.0
 
-pub returns-in-Some-clause-replied : goal.returns-in-Some-clause-replied
-returns-in-Some-clause-replied g c =
+pub returns-then-is_left_one : goal.returns-then-is_left_one
+returns-then-is_left_one g c =
+    let table = c.args.table.now in
+    let call = c.args.call.now in
+    let asked = subst (λ (f : TryFault). HasAsked table g.G.Gate.becomes (AreAttempts table g.G.Gate.becomes call (Err f)) call (Err f) (c.args.seat.now, c.args.gate.now) (c.try_change.new.seat, c.try_change.new.gate)) c.in-Some.ensures.some c.in-Err.ensures.asked in
+    let (acts, are, ends) = asked.ended in
+    let finds : FindsRoom table.layout call (Err (fault_of c.in-Some.lacks)) c.args.seat.now c.try_change.new.seat = λ removal one was early is. c.in-Err.ensures.room removal one was early (ap Err c.in-Some.ensures.some ∙ is) in
+    let left = subst (λ (l : Layout). IsLeftOne l.passes call) c.layout-passes.ensures (c.is_left_one.ensures.0 c.if-is_left_one.true) in
+    record {
+      replied = asked.replied;
+      stepped = (acts, ClearPin, ends);
+      later = asked.later;
+      tried = record { mid = (pass_of c.try_change.new.seat, c.try_change.new.gate); tried = has_tried asked c.in-Err.ensures.few c.in-Err.ensures.spares finds; told = inl (left, refl) };
+      spares = c.in-Err.ensures.spares;
+      room = finds;
+    }
+
+pub returns-else-is_left_one-clause-replied : goal.returns-else-is_left_one-clause-replied
+returns-else-is_left_one-clause-replied g c =
     let table = c.args.table.now in
     let call = c.args.call.now in
     let asked = subst (λ (f : TryFault). HasAsked table g.G.Gate.becomes (AreAttempts table g.G.Gate.becomes call (Err f)) call (Err f) (c.args.seat.now, c.args.gate.now) (c.try_change.new.seat, c.try_change.new.gate)) c.in-Some.ensures.some c.in-Err.ensures.asked in
     subst (λ (f : TryFault). HasReplied table call (Err f) c.args.seat.now c.count_records-counts.new.seat) (sym (judged_fault _ _ _ _ _ c.judge_lack.result c.judge_lack.ensures))
     (counted_replied {m = (c.try_change.new.seat, c.try_change.new.gate)} {b = (c.count_records-counts.new.seat, c.count_records-counts.new.gate)} c.count_records-counts.ensures.steps table.layout.nodes_in_range.0 c.count_records-counts.ensures.pin call c.args.seat.now c.in-Some.lacks asked.replied asked.later)
 
-pub returns-in-Some-clause-stepped : goal.returns-in-Some-clause-stepped
-returns-in-Some-clause-stepped g c =
+pub returns-else-is_left_one-clause-stepped : goal.returns-else-is_left_one-clause-stepped
+returns-else-is_left_one-clause-stepped g c =
     let (acts, are, ends) = c.in-Err.ensures.asked.ended in
     stepped_on acts (loads_in c.args.table.now.layout c.count_records-counts.ensures.steps.0) ClearPin (c.args.seat.now, c.args.gate.now) (c.try_change.new.seat, c.try_change.new.gate) (c.count_records-counts.new.seat, c.count_records-counts.new.gate) ends
     c.count_records-counts.ensures.steps.3.steps
 
-pub returns-in-Some-clause-later : goal.returns-in-Some-clause-later
-returns-in-Some-clause-later g c =
+pub returns-else-is_left_one-clause-later : goal.returns-else-is_left_one-clause-later
+returns-else-is_left_one-clause-later g c =
     let n : c.count_records-counts.new.seat.known.steps ≡ c.try_change.new.seat.known.steps + length (loads_in c.args.table.now.layout c.count_records-counts.ensures.steps.0) = ap (λ (z : Known). z.steps) c.count_records-counts.ensures.steps.3.rest in
     omega (arith, n, c.in-Err.ensures.asked.later)
 
-pub returns-in-Some-clause-tried : goal.returns-in-Some-clause-tried
-returns-in-Some-clause-tried g c =
+pub returns-else-is_left_one-clause-tried : goal.returns-else-is_left_one-clause-tried
+returns-else-is_left_one-clause-tried g c =
     let table = c.args.table.now in
     let call = c.args.call.now in
     let fault = fault_of c.in-Some.lacks in
     let asked = subst (λ (f : TryFault). HasAsked table g.G.Gate.becomes (AreAttempts table g.G.Gate.becomes call (Err f)) call (Err f) (c.args.seat.now, c.args.gate.now) (c.try_change.new.seat, c.try_change.new.gate)) c.in-Some.ensures.some c.in-Err.ensures.asked in
     let lacked = subst (λ (f : TryFault). HasLacked table c.try_change.new.scratch.build.made.items (Err f) c.args.seat.now c.try_change.new.seat) c.in-Some.ensures.some c.in-Err.ensures.lacks in
     let judged : Judges table.layout.passes c.in-Some.lacks c.saturating_add-needs.result (length (key_of call)) c.count_records-counts.result c.judge_lack.result =
-    subst (λ (l : Layout). Judges l.passes c.in-Some.lacks c.saturating_add-needs.result (length (key_of call)) c.count_records-counts.result c.judge_lack.result) c.layout.ensures
-    (subst (λ (k : List ℕ). Judges c.layout.result.passes c.in-Some.lacks c.saturating_add-needs.result (length k) c.count_records-counts.result c.judge_lack.result) (c.as_bytes.ensures.bytes ∙ c.key.ensures) c.judge_lack.ensures) in
+    subst (λ (l : Layout). Judges l.passes c.in-Some.lacks c.saturating_add-needs.result (length (key_of call)) c.count_records-counts.result c.judge_lack.result) c.layout-passes.ensures
+    (subst (λ (k : List ℕ). Judges c.layout-passes.result.passes c.in-Some.lacks c.saturating_add-needs.result (length k) c.count_records-counts.result c.judge_lack.result) (c.as_bytes-size.ensures.bytes ∙ c.key.ensures) c.judge_lack.ensures) in
     let needs : c.saturating_add-needs.result ≡ length (nodes_among c.try_change.new.scratch.build.made.items) + 1 =
     omega (arith, c.saturating_add-needs.ensures, c.count_node_records.ensures, ap (λ (l : List Rec). length (nodes_among l)) c.as_slice.ensures.value, nodes_most c.as_slice.result.now, c.as_slice.ensures.fits) in
+    let other = λ (left : IsLeftOne table.layout.passes call). false≢true (sym c.if-is_left_one.false ∙ c.is_left_one.ensures.1 (subst (λ (l : Layout). IsLeftOne l.passes call) (sym c.layout-passes.ensures) left)) in
     record {
       mid = (pass_of c.try_change.new.seat, c.try_change.new.gate);
       tried = subst (λ (f : TryFault). IsTried call (Err f) table g.G.Gate.becomes (pass_of c.args.seat.now, c.args.gate.now) (pass_of c.try_change.new.seat, c.try_change.new.gate)) (sym (judged_fault _ _ _ _ _ c.judge_lack.result c.judge_lack.ensures))
           (has_tried asked c.in-Err.ensures.few c.in-Err.ensures.spares (λ removal one was early is. c.in-Err.ensures.room removal one was early (ap Err c.in-Some.ensures.some ∙ is)));
       told = told_after {m = (c.try_change.new.seat, c.try_change.new.gate)} {b = (c.count_records-counts.new.seat, c.count_records-counts.new.gate)} c.count_records-counts.ensures.steps table.layout.nodes_in_range.0 call c.args.seat.now c.args.gate.now c.in-Some.lacks
-          c.try_change.new.scratch.build.made.items c.saturating_add-needs.result lacked needs c.judge_lack.result judged;
+          c.try_change.new.scratch.build.made.items c.saturating_add-needs.result lacked needs other c.judge_lack.result judged;
     }
 
-pub returns-in-Some-clause-spares : goal.returns-in-Some-clause-spares
-returns-in-Some-clause-spares g c = λ was.
+pub returns-else-is_left_one-clause-spares : goal.returns-else-is_left_one-clause-spares
+returns-else-is_left_one-clause-spares g c = λ was.
     counts_spare c.args.table.now g.G.Gate.becomes c.count_records-counts.ensures.steps.0 (c.try_change.new.seat, c.try_change.new.gate) (c.count_records-counts.new.seat, c.count_records-counts.new.gate) c.count_records-counts.ensures.steps.3.steps (c.in-Err.ensures.spares was)
 
-pub returns-in-Some-clause-room : goal.returns-in-Some-clause-room
-returns-in-Some-clause-room g c = λ removal one was early is.
+pub returns-else-is_left_one-clause-room : goal.returns-else-is_left_one-clause-room
+returns-else-is_left_one-clause-room g c = λ removal one was early is.
     let longer = runs_longer c.args.table.now g.G.Gate.becomes (loads_in c.args.table.now.layout c.count_records-counts.ensures.steps.0) (c.try_change.new.seat, c.try_change.new.gate) (c.count_records-counts.new.seat, c.count_records-counts.new.gate) c.count_records-counts.ensures.steps.3.steps in
     let judged = judged_fault _ _ _ _ _ c.judge_lack.result c.judge_lack.ensures in
     let same : fault_in c.judge_lack.result ≡ FullNodes = cc in

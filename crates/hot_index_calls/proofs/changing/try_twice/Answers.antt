@@ -113,6 +113,6 @@ returns g c =
           omega (arith, c.make_attempt-first.ensures.few, count, again.steps, twice)
           );
       spares = λ was. c.pin_and_unpin.ensures.spares (collects_spare c.args.table.now g.G.Gate.becomes (c.make_attempt-first.new.seat, c.make_attempt-first.new.gate) (c.collect_between.new.seat, c.collect_between.new.gate) c.collect_between.ensures.collects (c.make_attempt-first.ensures.spares was));
-      room = λ removal one was early is. elim (c.collect_between.ensures.not c.if-collect_between.false) [ inl plain ↦ absurd (c.is_removal.ensures plain removal) | inr several ↦ absurd (omega (arith, several, one)) ];
+      room = λ removal one was early is. elim (c.collect_between.ensures.not c.if-collect_between.false) [ inl plain ↦ absurd (false≢true (sym plain ∙ c.is_removal.ensures.1 removal)) | inr several ↦ absurd (omega (arith, several, one)) ];
       asked = subst (λ (z : Result Reply TryFault). HasAsked table g.G.Gate.becomes (AreTries table g.G.Gate.becomes call z) call z (c.args.seat.now, c.args.gate.now) (c.pin_and_unpin.new.seat, c.pin_and_unpin.new.gate)) (sym c.in-Some.ensures.some) whole;
     }

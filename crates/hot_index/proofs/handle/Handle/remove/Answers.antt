@@ -2,8 +2,16 @@
 use Rattle.finite_map.specs.declared.Call.TheVariants.{Remove}
 use Rattle.hot_index_calls.specs.Asked.{last_try}
 use Rattle.hot_index_calls.specs.Calls.{HasCause}
+use Rattle.std.specs.Prelude.{◌<◌, IsOk}
+use Rattle.std.proofs.Common.{subst}
+use Rattle.rowex_table.specs.Seats.{TableView}
+use Rattle.hot_index.specs.Handles.{HandleView}
 use Rattle.hot_index.proofs.Staying.{stays}
 use Rattle.hot_index.proofs.handle.Handle.remove.Goals as goal
 
 pub returns-clause-cause : goal.returns-clause-cause
 returns-clause-cause g c = stays (HasCause (Remove c.args.key.now) (last_try c.remove.result)) _ _ _ _ _ c.show.ensures c.self.view_is c.remove.ensures.cause
+
+pub returns-clause-kept : goal.returns-clause-kept
+returns-clause-kept g c =
+    subst (λ (h : HandleView). 1 < h.index.layout.passes → IsOk c.remove.result) c.self.view_is (subst (λ (i : TableView). 1 < i.layout.passes → IsOk c.remove.result) c.show.ensures c.remove.ensures.kept)
