@@ -4,6 +4,7 @@
 pub mod asked;
 pub mod one;
 pub mod scripts;
+pub mod stack;
 #[cfg(test)]
 mod waiting;
 
@@ -11,6 +12,7 @@ use asked::run_command_line;
 use hot_command_line::arguments::read_words;
 use hot_command_line::ending::Ending;
 use hot_command_line::files::Disk;
+use stack::{LEAST_STACK, too_low_limit};
 use std::io;
 use std::process::ExitCode;
 use std::rt::{Env, Files};
@@ -28,8 +30,14 @@ where
     run_command_line(rt, &Disk { rt }, &words, &mut reader, &mut writer)
 }
 
-/// The program. Its exit status is 0, or else that of the `Ending`, whose text goes to standard error.
+/// The program. Its exit status is 0, or else that of the `Ending`, whose text goes to standard error; 70, if its stack is too small.
 fn main(rt: HostRuntime) -> ExitCode {
+    if let Some(limit) = too_low_limit(&rt) {
+        let _ = eprintln!(rt;
+            "hot-run: it needs a stack of {LEAST_STACK} KiB, and the limit is {limit} (ulimit -s)"
+        );
+        return ExitCode::from(70);
+    }
     match run_program(&rt) {
         Ok(()) => ExitCode::SUCCESS,
         Err(ending) => {

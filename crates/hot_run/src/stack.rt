@@ -1,0 +1,24 @@
+//! The stack that the program needs: with less it would end by a signal.
+
+use std::fs::File;
+use std::io::Read;
+use std::rt::Files;
+
+/// How many KiB of stack the program needs. The threads of FILEs have as much each.
+pub const LEAST_STACK: u64 = 256;
+
+/// The limit of the program's stack in KiB, if the system tells one that is below `LEAST_STACK`. It asks for no memory.
+pub fn too_low_limit<R: Files>(rt: &R) -> Option<u64> {
+    let mut places = [0; 2_048];
+    let mut file = File::open(rt, "/proc/self/limits").ok()?;
+    let count = file.read(&mut places).ok()?;
+    let limits = str::from_utf8(places.get(..count)?).ok()?;
+    stack_limit(limits).filter(|limit| *limit < LEAST_STACK)
+}
+
+/// The limit of the stack, in KiB, that is in the table of a process's limits; `None` if there is none.
+fn stack_limit(limits: &str) -> Option<u64> {
+    let (_, rest) = limits.split_once("Max stack size")?;
+    let bytes = rest.split_whitespace().next()?.parse::<u64>().ok()?;
+    Some(bytes / 1_024)
+}
