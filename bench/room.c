@@ -181,8 +181,8 @@ static void *insert_part(void *of)
     return NULL;
 }
 
-/* Bytes a key that several threads put into a table for so many. */
-static void insert_by(const char *what, int threads, uint32_t room, int kind, uint32_t keys)
+/* Bytes a key that several handles put into a table for so many: each of a thread, or one after the other. */
+static void insert_by(const char *what, int handles, int by_threads, uint32_t room, int kind, uint32_t keys)
 {
     static struct part parts[HANDLES];
     hot_handle handle = HOT_HANDLE;
@@ -190,15 +190,19 @@ static void insert_by(const char *what, int threads, uint32_t room, int kind, ui
     hot_index *index = make(kind, room, &handle);
     int place;
     must(hot_close(&handle), HOT_DONE);
-    for (place = 0; place < threads; place++) {
-        parts[place].from = (uint64_t)keys / (uint64_t)threads * (uint64_t)place;
-        parts[place].upto = parts[place].from + keys / (uint64_t)threads;
+    for (place = 0; place < handles; place++) {
+        parts[place].from = (uint64_t)keys / (uint64_t)handles * (uint64_t)place;
+        parts[place].upto = parts[place].from + keys / (uint64_t)handles;
         must(hot_open(index, &parts[place].handle), HOT_DONE);
     }
-    for (place = 0; place < threads; place++) {
-        pthread_create(&parts[place].thread, NULL, insert_part, &parts[place]);
+    for (place = 0; place < handles; place++) {
+        if (by_threads) {
+            pthread_create(&parts[place].thread, NULL, insert_part, &parts[place]);
+        } else {
+            insert_part(&parts[place]);
+        }
     }
-    for (place = 0; place < threads; place++) {
+    for (place = 0; by_threads && place < handles; place++) {
         pthread_join(parts[place].thread, NULL);
     }
     tell(what, kind_names[kind], keys, (now_resident() - before) / keys);
@@ -207,17 +211,17 @@ static void insert_by(const char *what, int threads, uint32_t room, int kind, ui
 static void by_threads(int kind, uint32_t keys)
 {
     take_small_pages();
-    insert_by("by four threads", THREADS, 5000000, kind, keys);
+    insert_by("by four threads", THREADS, 1, 5000000, kind, keys);
 }
 
 static void by_threads_huge(int kind, uint32_t keys)
 {
-    insert_by("by four threads, huge pages", THREADS, 5000000, kind, keys);
+    insert_by("by four threads, huge pages", THREADS, 1, 5000000, kind, keys);
 }
 
 static void by_handles_huge(int kind, uint32_t keys)
 {
-    insert_by("by 64 threads, in a table for 10,000,000, huge pages", HANDLES, 10000000, kind, keys);
+    insert_by("by 64 handles, in a table for 10,000,000, huge pages", HANDLES, 0, 10000000, kind, keys);
 }
 
 /* What a handle takes once it is open, and once it has changed the index. */

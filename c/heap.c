@@ -12,8 +12,8 @@
  * What else is large begins as 0, too: once it is made, each page of it in which there is nothing but 0 is given back, and reads as 0
  * again. The lists of a handle come from malloc, and nothing is written there before they are used.
  *
- * A large table asks for huge pages, but not where the records of a kind begin: there a few keys would take whole ones. Pieces of this part get
- * huge pages once they have filled, which heap_fill looks for.
+ * A large table asks for huge pages, but not where the records of a kind begin, or those of it that a handle has of its own: there a few keys
+ * would take whole ones. Pieces of these parts get huge pages once they have filled, which heap_fill looks for.
  *
  * Where the system refuses any of this, a block comes from malloc, and takes all of its memory.
  *
@@ -26,11 +26,12 @@
 #include <sys/mman.h>
 
 /* Blocks of so many bytes have pages of their own, while something is made. A smaller table is a block as any other; a large one asks for
- * huge pages, but for so many bytes where the records of a kind begin. */
+ * huge pages, but for so many bytes where the records of a kind begin, and where a handle's own do. */
 enum { PAGE = 4096, HUGE_PAGE = 2 << 20, LEAST_BLOCK = 64 << 10, LEAST_TABLE = 1 << 20, LEAST_HUGE_TABLE = 16 << 20, SMALL_PART = 8 << 20 };
 
-/* So many pages of a piece may be missing where it counts as filled; and a record has so many bytes at most. */
-enum { MOST_MISSING = HUGE_PAGE / PAGE / 8, LONGEST_RECORD = 464 };
+/* So many pages of a piece may be missing where it counts as filled; a record has so many bytes at most; and one call of heap_fill looks at so
+ * many pieces. */
+enum { MOST_MISSING = HUGE_PAGE / PAGE / 8, LONGEST_RECORD = 464, MOST_LOOKS = 16 };
 
 /* A chunk has at least so many bytes, and stands at most so often in a block: the system limits how many pieces of memory a process maps. */
 enum { LEAST_CHUNK = 1 << 20, MOST_CHUNKS = 512 };
@@ -142,29 +143,34 @@ static int stand_in(pages *for_these) {
     return 1;
 }
 
-/* Writes the pieces of the table in which the first records of each kind are, in their order. */
-static void find_pieces(heap_pieces *found) {
-    size_t next = 0;
-    int kind;
-    found->left = 0;
-    for (kind = 0; kind < HEAP_KINDS && making.of.bytes >= LEAST_HUGE_TABLE; kind++) {
-        size_t from = IN_PAGES + making.of.from[kind], upto = IN_PAGES + making.of.from[kind + 1];
-        upto = upto - from > SMALL_PART ? from + SMALL_PART : upto;
-        next = next > from / HUGE_PAGE ? next : from / HUGE_PAGE;
-        for (; from < upto && next * HUGE_PAGE < upto; next++)
-            found->numbers[found->left++] = (uint32_t)next;
-    }
+/* Whether a piece that begins so many bytes behind the first record of a kind has some that a handle claims early: there few keys would take a
+ * whole huge page. */
+static int is_early(const heap_table *of, int kind, size_t at) {
+    size_t own = of->own[kind];
+    if (at < SMALL_PART || at < of->first[kind])
+        return 1;
+    at = own == 0 ? at : (at - of->first[kind]) % own;
+    return own > 0 && (at < SMALL_PART || own - at < HUGE_PAGE);
 }
 
-/* Asks for huge pages for all of the table but these pieces, if it has any. */
+/* Whether a piece of the table that is made takes small pages until it has filled: one with early records, or where a kind begins. */
+static int is_small(size_t piece) {
+    const heap_table *of = &making.of;
+    size_t begin = piece * HUGE_PAGE, end = begin + HUGE_PAGE;
+    int kind = HEAP_KINDS;
+    while (kind > 0 && of->from[kind - 1] + IN_PAGES >= end)
+        kind--;
+    return kind == 0 || of->from[kind - 1] + IN_PAGES >= begin || is_early(of, kind - 1, begin - IN_PAGES - of->from[kind - 1]);
+}
+
+/* Asks for huge pages for all other pieces of the table, if it is large. */
 static void ask_for_huge_pages(pages *table) {
-    heap_pieces but;
-    size_t from, upto;
-    uint32_t place;
-    find_pieces(&but);
-    for (place = 0; place < but.left; place++) {
-        from = ((size_t)but.numbers[place] + 1) * HUGE_PAGE;
-        upto = place + 1 < but.left ? (size_t)but.numbers[place + 1] * HUGE_PAGE : table->size;
+    size_t piece, from, upto;
+    for (piece = 0; making.of.bytes >= LEAST_HUGE_TABLE && piece * HUGE_PAGE < table->size; piece++) {
+        from = piece * HUGE_PAGE;
+        while (piece * HUGE_PAGE < table->size && !is_small(piece))
+            piece++;
+        upto = piece * HUGE_PAGE < table->size ? piece * HUGE_PAGE : table->size;
         if (from < upto)
             madvise((char *)table + from, upto - from, MADV_HUGEPAGE);
     }
@@ -332,7 +338,7 @@ tried rattle_realloc(void *at, size_t kept, size_t size, size_t align) {
 }
 
 void heap_begin(const heap_table *table) {
-    static const heap_table none = {0, {0, 0, 0, 0, 0, 0, 0}};
+    static const heap_table none;
     making.is_on = 1;
     making.of = table == NULL ? none : *table;
     making.left = making.of.bytes < LEAST_TABLE ? 0 : making.of.bytes;
@@ -383,10 +389,17 @@ size_t heap_held(const heap_pieces *pieces, size_t bytes) {
 }
 
 void heap_take_pieces(heap_pieces *pieces) {
+    size_t piece;
     pieces->table = (char *)making.made;
-    pieces->left = 0;
-    if (making.made != NULL)
-        find_pieces(pieces);
+    pieces->count = making.of.bytes / HUGE_PAGE + 1;
+    pieces->next = 0;
+    pieces->marks = making.made == NULL || making.of.bytes < LEAST_HUGE_TABLE ? NULL : calloc(pieces->count / 8 + 1, 1);
+    for (piece = 0; pieces->marks != NULL && piece < pieces->count; piece++)
+        pieces->marks[piece / 8] = (uint8_t)(pieces->marks[piece / 8] | is_small(piece) << piece % 8);
+}
+
+void heap_free_pieces(heap_pieces *pieces) {
+    free(pieces->marks);
 }
 
 /* Whether something stands where a page begins, as it does once its records have been in use. Other threads may write there. */
@@ -409,16 +422,34 @@ static int is_filled(char *piece) {
     return missing <= MOST_MISSING;
 }
 
-int heap_fill(heap_pieces *pieces) {
-    uint32_t place;
-    for (place = 0; place < pieces->left; place++) {
-        char *piece = pieces->table + (size_t)pieces->numbers[place] * HUGE_PAGE;
-        if (!is_filled(piece))
-            continue;
-        madvise(piece, HUGE_PAGE, MADV_HUGEPAGE);
-        madvise(piece, HUGE_PAGE, MADV_COLLAPSE);
-        pieces->numbers[place] = pieces->numbers[--pieces->left];
-        return 1;
+static int is_marked(const heap_pieces *of, size_t piece) {
+    return of->marks[piece / 8] >> piece % 8 & 1;
+}
+
+/* Gives a marked piece a huge page if it has filled. Returns whether it had. */
+static int fill(heap_pieces *of, size_t piece) {
+    char *begin = of->table + piece * HUGE_PAGE;
+    if (!is_filled(begin))
+        return 0;
+    madvise(begin, HUGE_PAGE, MADV_HUGEPAGE);
+    madvise(begin, HUGE_PAGE, MADV_COLLAPSE);
+    of->marks[piece / 8] = (uint8_t)(of->marks[piece / 8] & ~(1 << piece % 8));
+    return 1;
+}
+
+void heap_fill(heap_pieces *pieces) {
+    size_t seen, looks = 0, piece;
+    for (seen = 0; pieces->marks != NULL && seen < pieces->count && looks < MOST_LOOKS; seen++) {
+        piece = pieces->next;
+        pieces->next = piece + 1 < pieces->count ? piece + 1 : 0;
+        if (is_marked(pieces, piece) && (++looks, fill(pieces, piece)))
+            return;
     }
-    return 0;
+}
+
+void heap_fill_all(heap_pieces *pieces) {
+    size_t piece;
+    for (piece = 0; pieces->marks != NULL && piece < pieces->count; piece++)
+        if (is_marked(pieces, piece))
+            fill(pieces, piece);
 }

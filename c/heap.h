@@ -5,12 +5,12 @@
 #include <stddef.h>
 #include <stdint.h>
 
-/* A table that is made: how many bytes it has, or 0 if none is made; and where in it the records of each kind begin, in this order, and the
- * last ones end. */
+/* A table that is made: how many bytes it has, or 0 if none is made; where in it the records of each kind begin, in this order, and the last ones
+ * end; how many bytes those have of a kind that all handles claim first, which stand side by side; and how many those behind them that each
+ * handle has of its own. */
 enum { HEAP_KINDS = 6 };
 typedef struct heap_table {
-    size_t bytes;
-    size_t from[HEAP_KINDS + 1];
+    size_t bytes, from[HEAP_KINDS + 1], first[HEAP_KINDS], own[HEAP_KINDS];
 } heap_table;
 
 /* Between these two calls the proved calls make handles, and a table, if its size is not 0: what is 0 in them is to take no memory. */
@@ -22,22 +22,25 @@ int heap_end(void);
 /* How many bytes were asked for between them, without those of the table. */
 size_t heap_asked(void);
 
-/* The pieces of a table, each of the size of a huge page, that get one once they have filled. */
-enum { HEAP_PIECES = 48 };
+/* The pieces of a table, each of the size of a huge page, of which those marked get one once they have filled. */
 typedef struct heap_pieces {
     char *table;
-    uint32_t left;
-    uint32_t numbers[HEAP_PIECES];
+    uint8_t *marks; /* a bit for each piece; NULL if none is marked */
+    size_t count, next;
 } heap_pieces;
 
-/* Writes those of the table that this thread has made last. */
+/* Writes those of the table that this thread has made last. Without memory none is marked. */
 void heap_take_pieces(heap_pieces *pieces);
+void heap_free_pieces(heap_pieces *pieces);
 
 /* How many bytes of the pages of a table, if it has pages of its own, take memory. The system may count those that were only read. */
 size_t heap_held(const heap_pieces *pieces, size_t bytes);
 
-/* Puts a huge page in the place of a piece that has filled since, if there is one, and the system has one. Returns whether one had filled. */
-int heap_fill(heap_pieces *pieces);
+/* Puts a huge page in the place of a marked piece that has filled, if the next few that it looks at have one, and the system has one. */
+void heap_fill(heap_pieces *pieces);
+
+/* The same for all pieces. */
+void heap_fill_all(heap_pieces *pieces);
 
 /* A load fills the words of a table before the table is made of them. Between heap_begin and heap_pause it gets words that are 0 but for a few
  * at their beginning, and between heap_go_on and heap_end the table is made of the filled ones. heap_pause writes what heap_go_on takes, and

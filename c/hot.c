@@ -620,6 +620,7 @@ static void free_index(hot_index *index) {
     }
     proved_close_section(&index->next);
     proved_close_section(&index->sections);
+    heap_free_pieces(&index->pieces);
     free(index->places);
     free(index);
 }
@@ -651,7 +652,8 @@ static hot_index *new_index(size_t count) {
     index->left = 0;
     index->keeper = index->teller = closed;
     index->opening = index->telling = index->filling = 0;
-    index->pieces.left = 0;
+    index->pieces.marks = NULL;
+    index->pieces.table = NULL;
     index->places = calloc(count, sizeof *index->places);
     if (index->places == NULL) {
         free(index);
@@ -683,24 +685,30 @@ static hot_index *new_opened_index(size_t count) {
     return index;
 }
 
+/* Writes where in the table the records of a kind stand that handles claim first, 128 KiB each, and those that each has of its own: as
+ * crates/hot_index_calls/src/scratch.rt shares them out. */
+static void share_out(heap_table *table, int kind, size_t records, size_t size, size_t handles) {
+    enum { FIRST_BYTES = 128 << 10 };
+    size_t share = records / handles, small = share < FIRST_BYTES / size ? share : FIRST_BYTES / size;
+    table->from[kind] = table->from[kind + 1] - records * size;
+    table->first[kind] = handles * small * size;
+    table->own[kind] = (share - small) * size;
+}
+
 /* The table of an index with this stock and so many handles: its records end where it does, and stand there in this order. None if a number is
  * out of range. */
-static heap_table table_of(const hot_stock *stock, size_t count) {
-    static const size_t sizes[HEAP_KINDS] = {464, 32, 48, 80, 112, 264};
-    size_t counts[HEAP_KINDS];
-    heap_table table = {0, {0, 0, 0, 0, 0, 0, 0}};
-    int kind;
-    if (proved_stock_bytes(stock, count, &table.bytes) != HOT_DONE)
+static heap_table table_of(const hot_stock *stock, size_t handles) {
+    static const heap_table none;
+    heap_table table = none;
+    if (proved_stock_bytes(stock, handles, &table.bytes) != HOT_DONE)
         return table;
-    counts[0] = stock->nodes;
-    counts[1] = stock->short_leaves;
-    counts[2] = stock->medium_leaves;
-    counts[3] = stock->large_leaves;
-    counts[4] = stock->wide_leaves;
-    counts[5] = stock->long_leaves;
     table.from[HEAP_KINDS] = table.bytes;
-    for (kind = HEAP_KINDS; kind-- > 0;)
-        table.from[kind] = table.from[kind + 1] - counts[kind] * sizes[kind];
+    share_out(&table, 5, stock->long_leaves, 264, handles);
+    share_out(&table, 4, stock->wide_leaves, 112, handles);
+    share_out(&table, 3, stock->large_leaves, 80, handles);
+    share_out(&table, 2, stock->medium_leaves, 48, handles);
+    share_out(&table, 1, stock->short_leaves, 32, handles);
+    share_out(&table, 0, stock->nodes, 464, handles);
     return table;
 }
 
@@ -828,8 +836,7 @@ static hot_status begin_load(const hot_stock *stock, size_t handles, const heap_
 /* Gives an index that was loaded the pieces of its table, and those that were filled huge pages. */
 static void fill_pieces(hot_index *index) {
     note_made(index, 1);
-    while (heap_fill(&index->pieces))
-        ;
+    heap_fill_all(&index->pieces);
 }
 
 /* Makes an index of what a load has taken, and opens its keeper. */

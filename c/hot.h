@@ -47,8 +47,8 @@
  * Memory. An index has its records from the beginning, and a handle 118 KB of lists from when it is first opened, so that no change asks
  * for memory. But a page of 4 KiB takes memory only once something is written there: so an index takes what its keys need, and a handle
  * some 40 KB. A page that was written stays when keys go. Tables of 16 MiB and more ask for huge pages, of 2 MiB, where the system lets
- * them; but for the first 8 MiB of each size of records only once so much of them has been written. Then an insertion has the system put
- * 2 MiB into one, which takes some milliseconds: at most 5 times for each size. If memory runs out when a page is first written, the system
+ * them: at once, but for the first 8 MiB of the records of a size, and of those that each handle claims for itself. There 2 MiB get a huge page
+ * once they have been written, by an insertion that then takes some milliseconds. If memory runs out when a page is first written, the system
  * ends the program. So take a stock whose hot_stock_bytes the machine has to spare; or call mlockall once the index is made, which takes all
  * of it at once.
  *
