@@ -85,8 +85,12 @@ static int stock_for(PyObject *capacity, Py_ssize_t longest, hot_stock *stock) {
     long long count = PyLong_AsLongLong(capacity);
     if (count == -1 && PyErr_Occurred() && !PyErr_ExceptionMatches(PyExc_OverflowError))
         return -1;
-    if (count < 0 || count > UINT32_MAX || longest < 0 || longest > HOT_MAX_KEY) {
-        PyErr_Format(PyExc_ValueError, "keys are below 2**32, and their bytes at most %d", HOT_MAX_KEY);
+    if (count < 0 || count > UINT32_MAX) {
+        PyErr_SetString(PyExc_ValueError, "capacity is from 0 to 2**32 - 1");
+        return -1;
+    }
+    if (longest < 0 || longest > HOT_MAX_KEY) {
+        PyErr_Format(PyExc_ValueError, "longest is from 0 to %d", HOT_MAX_KEY);
         return -1;
     }
     hot_stock_for_keys((uint32_t)count, (size_t)longest, stock);

@@ -235,9 +235,16 @@ class Refusals(unittest.TestCase):
         self.assertEqual((told.busy, told.held_back, told.full > 2), (0, 0, True))
 
     def test_options(self):
-        for words in ({"threads": 0}, {"threads": 1025}, {"capacity": -1}):
-            self.assertRaises(ValueError, SortedMap, **words)
-        self.assertRaises(ValueError, SortedMap, capacity=1, longest=241)
+        """The one that is refused is named."""
+        for name, value in [
+            ("threads", 0),
+            ("threads", 1025),
+            ("capacity", -1),
+            ("capacity", 2**64),
+            ("longest", 241),
+        ]:
+            with self.assertRaisesRegex(ValueError, f"^{name} "):
+                SortedMap(**{"capacity": 1, name: value})
 
 
 SCARCE = """
