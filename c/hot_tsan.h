@@ -55,6 +55,7 @@ static inline hot_status hot_told_each(hot_handle *handle, const uint8_t *from, 
 #define hot_create(...) HOT_TELL(hot_create(__VA_ARGS__))
 #define hot_create_with(...) HOT_TELL(hot_create_with(__VA_ARGS__))
 #define hot_open_index(...) HOT_TELL(hot_open_index(__VA_ARGS__))
+#define hot_open_index_within(...) HOT_TELL(hot_open_index_within(__VA_ARGS__))
 #define hot_load(...) HOT_TELL(hot_load(__VA_ARGS__))
 #define hot_open(...) HOT_TELL(hot_open(__VA_ARGS__))
 #define hot_close(...) HOT_TELL(hot_close(__VA_ARGS__))

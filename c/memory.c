@@ -381,8 +381,7 @@ static int promises_all(void) {
     return how == '1';
 }
 
-/* A table that is larger than all memory is refused at once, unless the system promises any amount; and one that is larger than what the caller
- * names, always. */
+/* A table that is larger than all memory is refused at once, unless the system promises any amount. */
 static void test_most(void) {
     hot_handle handle = HOT_HANDLE;
     hot_index *index = NULL;
@@ -394,13 +393,9 @@ static void test_most(void) {
     most.nodes = UINT32_MAX;
     most.long_leaves = UINT32_MAX;
     CHECK(hot_stock_bytes(&most, 1, &bytes) == HOT_DONE);
-    CHECK(hot_open_index_within(&most, 1, bytes - 1, &index) == HOT_NO_MEMORY && index == NULL);
     if (!promises_all() && (machine.totalram + machine.totalswap) * machine.mem_unit < bytes)
-        CHECK(hot_open_index_within(&most, 1, bytes, &index) == HOT_NO_MEMORY && hot_create_with(&most, &handle, 1) == HOT_NO_MEMORY);
-    CHECK(hot_stock_bytes(&large_stock, 1, &bytes) == HOT_DONE);
-    CHECK(hot_open_index_within(&large_stock, 1, bytes - 1, &index) == HOT_NO_MEMORY && index == NULL && in_use == 0);
-    CHECK(hot_open_index_within(&large_stock, 1025, bytes, &index) == HOT_OUT_OF_RANGE && index == NULL);
-    CHECK(hot_open_index_within(&large_stock, 1, bytes, &index) == HOT_DONE && hot_close_index(index) == HOT_DONE && in_use == 0);
+        CHECK(hot_open_index(&most, 1, &index) == HOT_NO_MEMORY && hot_create_with(&most, &handle, 1) == HOT_NO_MEMORY);
+    CHECK(in_use == 0);
 }
 
 /* After a fork, of a process with one thread, parent and child have an index each. */

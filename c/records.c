@@ -327,6 +327,25 @@ static void test_small_rounds(void) {
     }
 }
 
+/* What an index takes of memory, and one that may take no more. */
+static void test_bytes(void) {
+    static const hot_stock stock = {20, 40, 0, 0, 0, 10};
+    hot_index *index = NULL;
+    hot_handle handle = HOT_HANDLE;
+    hot_memory made, opened;
+    size_t table;
+    CHECK(hot_stock_bytes(&stock, 3, &table) == HOT_DONE);
+    CHECK(hot_open_index_within(&stock, 3, table - 1, &index) == HOT_NO_MEMORY && index == NULL);
+    CHECK(hot_open_index_within(&stock, 1025, table, &index) == HOT_OUT_OF_RANGE && index == NULL);
+    CHECK(hot_open_index_within(&stock, 3, table, &index) == HOT_DONE);
+    hot_bytes(index, &made);
+    CHECK(made.now >= table && made.most > made.now);
+    CHECK(hot_open(index, &handle) == HOT_DONE && hot_close(&handle) == HOT_DONE);
+    hot_bytes(index, &opened);
+    CHECK(opened.now > made.now && opened.most == made.most);
+    CHECK(hot_close_index(index) == HOT_DONE);
+}
+
 int main(void) {
     alarm(900); /* a call that never returns ends the test */
     test_census();
@@ -338,6 +357,7 @@ int main(void) {
     test_stock_sizes();
     test_any_keys();
     test_sizes();
+    test_bytes();
     puts(failures ? "c/records.c failed" : "passed: c/records.c");
     return failures;
 }
