@@ -2,78 +2,11 @@
  * by a load, calls for many keys, an index that opens its handles one by one, and the calls that wait: the proved library may neither wait
  * nor yield, so it says when to try again, and the wait is here. */
 #define _POSIX_C_SOURCE 199309L
-#include "hot.h"
-#include "heap.h"
+#include "index.h"
 #include <sched.h>
 #include <stdlib.h>
 #include <string.h>
 #include <time.h>
-
-/* The proved calls of which c/object changes the names: there `had` is never NULL, and a handle is closed for good. Two of them are used
- * here alone: one opens a handle of a new index, which keeps the passes of the others, and one opens the next of these. */
-hot_status proved_create(uint32_t nodes, uint32_t leaves, hot_handle *handles, size_t count);
-hot_status proved_create_with(const hot_stock *stock, hot_handle *handles, size_t count);
-hot_status proved_create_keeping(const hot_stock *stock, size_t passes, hot_handle *keeper);
-hot_status proved_open_kept(hot_handle *keeper, hot_handle *handle);
-hot_status proved_try_insert(hot_handle *handle, const uint8_t *key, size_t length, uint64_t value, uint64_t *had);
-hot_status proved_try_upsert(hot_handle *handle, const uint8_t *key, size_t length, uint64_t value, uint64_t *had);
-hot_status proved_try_exchange(hot_handle *handle, const uint8_t *key, size_t length, uint64_t expected, uint64_t value, uint64_t *had);
-hot_status proved_try_add(hot_handle *handle, const uint8_t *key, size_t length, uint64_t delta, uint64_t *had);
-hot_status proved_try_remove(hot_handle *handle, const uint8_t *key, size_t length, uint64_t *had);
-hot_status proved_try_remove_if(hot_handle *handle, const uint8_t *key, size_t length, uint64_t expected, uint64_t *had);
-hot_status proved_destroy(hot_handle *handle);
-hot_status proved_get_many(hot_handle *handle, hot_lookup *lookups, size_t count);
-
-/* Those that list the pairs of a prefix: of all keys that begin with it, or of those above a key, or below it. */
-hot_status proved_scan_whole_prefix(hot_handle *handle, const uint8_t *prefix, size_t length, hot_pair *pairs, size_t limit, size_t *count,
-                                    uint32_t *more);
-hot_status proved_scan_whole_prefix_reverse(hot_handle *handle, const uint8_t *prefix, size_t length, hot_pair *pairs, size_t limit,
-                                            size_t *count, uint32_t *more);
-hot_status proved_scan_prefix_after(hot_handle *handle, const uint8_t *prefix, size_t length, const uint8_t *after, size_t after_length,
-                                    hot_pair *pairs, size_t limit, size_t *count, uint32_t *more);
-hot_status proved_scan_prefix_before(hot_handle *handle, const uint8_t *prefix, size_t length, const uint8_t *before, size_t before_length,
-                                     hot_pair *pairs, size_t limit, size_t *count, uint32_t *more);
-
-/* And those that a program may call before it has a handle: there the processor is known to be one for which they were compiled. */
-void proved_stock_for_keys(uint32_t keys, size_t longest, hot_stock *stock);
-void proved_stock_for_any_keys(uint32_t keys, size_t longest, size_t handles, hot_stock *stock);
-hot_status proved_stock_bytes(const hot_stock *stock, size_t handles, size_t *bytes);
-
-/* Lets a handle see all that another has seen; both are of one index. */
-hot_status proved_see(hot_handle *handle, hot_handle *leader);
-
-/* A handle of a section. Zeroed bytes are a closed one. */
-typedef struct section_handle {
-    uint32_t tag;
-    struct {
-        void *at;
-    } slot;
-} section_handle;
-
-/* The proved calls of sections. The first makes a table and opens a handle that keeps its sections, and the second opens the next of these. */
-hot_status proved_make_sections(size_t count, section_handle *keeper);
-hot_status proved_open_section(section_handle *keeper, section_handle *section);
-hot_status proved_close_section(section_handle *section);
-hot_status proved_is_inside(section_handle *section);
-hot_status proved_enter_section(section_handle *section);
-hot_status proved_leave_section(section_handle *section);
-hot_status proved_take_moment(section_handle *section, uint64_t *moment);
-hot_status proved_is_moment_past(section_handle *section, uint64_t moment);
-
-/* A load of the proved calls. Zeroed bytes are a closed one. */
-typedef struct loading {
-    uint32_t tag;
-    struct {
-        void *at;
-    } slot;
-} loading;
-
-/* The proved calls of loads. The first begins one, the second takes a pair, the third makes an index of what was taken, and opens its keeper as
- * proved_create_keeping does. It closes the load, which is given up where memory is refused, as by the last one. */
-hot_status proved_begin_load(const hot_stock *stock, size_t passes, loading *load);
-hot_status proved_load_pair(loading *load, const uint8_t *key, size_t length, uint64_t value);
-hot_status proved_end_load(loading *load, hot_handle *keeper);
-hot_status proved_give_up_load(loading *load);
 
 uint32_t hot_version(void) {
     return HOT_VERSION_MAJOR << 16 | HOT_VERSION_MINOR << 8 | HOT_VERSION_PATCH;
@@ -111,6 +44,7 @@ const char *hot_status_text(hot_status status) {
     case HOT_OUTSIDE: return "the handle's section is not open";
     case HOT_NOT_PAST: return "a section that was open then may still be open";
     case HOT_NOT_RISING: return "the key is not above the one before";
+    case HOT_FIXED: return "the index does not grow";
     default: return "not a status";
     }
 }
@@ -145,6 +79,75 @@ hot_status hot_stock_bytes(const hot_stock *stock, size_t handles, size_t *bytes
     return is_processor_new() ? proved_stock_bytes(stock, handles, bytes) : HOT_OLD_PROCESSOR;
 }
 
+/* The proved calls that look something up, as they are: in the table of now, if the index grows. */
+
+hot_status hot_get(hot_handle *handle, const uint8_t *key, size_t length, uint64_t *value) {
+    return looked(handle, proved_get(look(handle), key, length, value));
+}
+
+hot_status hot_scan(hot_handle *handle, const uint8_t *from, size_t from_length, const uint8_t *upto, size_t upto_length, hot_pair *pairs,
+                    size_t limit, size_t *count, uint32_t *more) {
+    return looked(handle, proved_scan(look(handle), from, from_length, upto, upto_length, pairs, limit, count, more));
+}
+
+hot_status hot_scan_reverse(hot_handle *handle, const uint8_t *from, size_t from_length, const uint8_t *upto, size_t upto_length,
+                            hot_pair *pairs, size_t limit, size_t *count, uint32_t *more) {
+    return looked(handle, proved_scan_reverse(look(handle), from, from_length, upto, upto_length, pairs, limit, count, more));
+}
+
+hot_status hot_scan_last(hot_handle *handle, const uint8_t *from, size_t from_length, const uint8_t *upto, size_t upto_length,
+                         hot_pair *pairs, size_t limit, size_t *count, uint32_t *more) {
+    return looked(handle, proved_scan_last(look(handle), from, from_length, upto, upto_length, pairs, limit, count, more));
+}
+
+hot_status hot_scan_packed(hot_handle *handle, const uint8_t *from, size_t from_length, const uint8_t *upto, size_t upto_length,
+                           uint8_t *bytes, size_t room, hot_head *heads, size_t limit, size_t *count, uint32_t *more) {
+    return looked(handle, proved_scan_packed(look(handle), from, from_length, upto, upto_length, bytes, room, heads, limit, count, more));
+}
+
+hot_status hot_scan_packed_reverse(hot_handle *handle, const uint8_t *from, size_t from_length, const uint8_t *upto, size_t upto_length,
+                                   uint8_t *bytes, size_t room, hot_head *heads, size_t limit, size_t *count, uint32_t *more) {
+    return looked(handle, proved_scan_packed_reverse(look(handle), from, from_length, upto, upto_length, bytes, room, heads, limit, count, more));
+}
+
+hot_status hot_scan_values(hot_handle *handle, const uint8_t *from, size_t from_length, const uint8_t *upto, size_t upto_length,
+                           uint64_t *values, size_t limit, size_t *count, uint32_t *more) {
+    return looked(handle, proved_scan_values(look(handle), from, from_length, upto, upto_length, values, limit, count, more));
+}
+
+hot_status hot_first(hot_handle *handle, const uint8_t *from, size_t length, hot_pair *pair) {
+    return looked(handle, proved_first(look(handle), from, length, pair));
+}
+
+hot_status hot_last(hot_handle *handle, const uint8_t *upto, size_t length, hot_pair *pair) {
+    return looked(handle, proved_last(look(handle), upto, length, pair));
+}
+
+hot_status hot_count(hot_handle *handle, const uint8_t *from, size_t from_length, const uint8_t *upto, size_t upto_length, size_t *count) {
+    return looked(handle, proved_count(look(handle), from, from_length, upto, upto_length, count));
+}
+
+hot_status hot_count_prefix(hot_handle *handle, const uint8_t *prefix, size_t length, size_t *count) {
+    return looked(handle, proved_count_prefix(look(handle), prefix, length, count));
+}
+
+hot_status hot_census(hot_handle *handle, hot_counts *counts) {
+    return looked(handle, proved_census(look(handle), counts));
+}
+
+hot_status hot_collect(hot_handle *handle, uint32_t *nodes, uint32_t *leaves) {
+    if (handle->tag == GROWS)
+        free_left(handle->place->index->grower);
+    return looked(handle, proved_collect(look(handle), nodes, leaves));
+}
+
+hot_status hot_number(hot_handle *handle, uint16_t *number) {
+    if (handle->tag != GROWS)
+        return proved_number(handle, number);
+    *number = (uint16_t)(handle->place - handle->place->index->places);
+    return HOT_DONE;
+}
+
 /* A key of no bytes may be NULL here, but not where a proved call takes it. */
 static const uint8_t *not_null(const uint8_t *key, size_t length) {
     return length > 0 ? key : hot_last_key;
@@ -154,16 +157,16 @@ hot_status hot_scan_prefix(hot_handle *handle, const uint8_t *prefix, size_t len
                            hot_pair *pairs, size_t limit, size_t *count, uint32_t *more) {
     prefix = not_null(prefix, length);
     if (after == NULL)
-        return proved_scan_whole_prefix(handle, prefix, length, pairs, limit, count, more);
-    return proved_scan_prefix_after(handle, prefix, length, after, after_length, pairs, limit, count, more);
+        return looked(handle, proved_scan_whole_prefix(look(handle), prefix, length, pairs, limit, count, more));
+    return looked(handle, proved_scan_prefix_after(look(handle), prefix, length, after, after_length, pairs, limit, count, more));
 }
 
 hot_status hot_scan_prefix_reverse(hot_handle *handle, const uint8_t *prefix, size_t length, const uint8_t *before, size_t before_length,
                                    hot_pair *pairs, size_t limit, size_t *count, uint32_t *more) {
     prefix = not_null(prefix, length);
     if (before == NULL)
-        return proved_scan_whole_prefix_reverse(handle, prefix, length, pairs, limit, count, more);
-    return proved_scan_prefix_before(handle, prefix, length, before, before_length, pairs, limit, count, more);
+        return looked(handle, proved_scan_whole_prefix_reverse(look(handle), prefix, length, pairs, limit, count, more));
+    return looked(handle, proved_scan_prefix_before(look(handle), prefix, length, before, before_length, pairs, limit, count, more));
 }
 
 hot_status hot_each(hot_handle *handle, const uint8_t *from, size_t from_length, const uint8_t *upto, size_t upto_length,
@@ -184,42 +187,6 @@ hot_status hot_each(hot_handle *handle, const uint8_t *from, size_t from_length,
     }
     return status;
 }
-
-/* What an index keeps of each handle, by its number. Two `keys` are more than 64 bytes apart, so that they are never in one line of a
- * processor's cache. */
-typedef struct hot_place {
-    hot_index *index;
-    hot_handle closed;        /* the handle, while it is given back */
-    section_handle section;   /* from when the handle is first opened */
-    uint64_t keys;            /* how many keys its calls have put in, less those that they have taken out */
-    hot_refusals refusals;    /* of its calls */
-    void *room;               /* for keys that are looked up by one call; NULL before the first such call */
-    size_t room_size;         /* in bytes */
-    uint32_t looks_at;        /* the keys, modulo 2 to the power of 32, at which it looks next whether a piece of the table has filled */
-    uint32_t state;
-} hot_place;
-
-/* A place's state: no program has its handle, which is there; one has it, or another call looks after it; or it is still to be opened. */
-enum { GIVEN_BACK, TAKEN, UNOPENED };
-
-/* An index. Either it opens its handles one by one, and those that were not opened yet are kept by `keeper`; or they were opened with it,
- * and the last one that is closed frees it. */
-struct hot_index {
-    size_t count;
-    hot_place *places;
-    section_handle sections; /* keeps the sections, until each handle has its own */
-    section_handle next;     /* that of the handle that is opened next, once there is one */
-    size_t left;             /* how many handles are open that were opened with it, or 0 */
-    hot_handle keeper;       /* it is the last one to be opened itself */
-    uint32_t opening;        /* locked while a call opens a handle that the keeper keeps, or closes the index */
-    hot_handle teller;       /* once there is a moment of the index: it has seen all that any moment tells of */
-    uint32_t telling;        /* locked while a call uses the teller */
-    uint32_t filling;        /* locked while a call looks at the pieces */
-    heap_pieces pieces;      /* of its table */
-    size_t table;            /* the bytes of that */
-    size_t lists;            /* those that a handle has from when it is first opened */
-    size_t scanned;          /* those that a handle keeps of its scans at most */
-};
 
 /* Writes the index of a handle. HOT_DONE; or HOT_CLOSED, and then nothing is written: a closed handle has none. */
 static hot_status find_index(hot_handle *handle, hot_index **index) {
@@ -244,14 +211,6 @@ static __attribute__((cold, noinline)) void note_refusal(hot_refusals *to, hot_s
     }
 }
 
-/* Notes that a try was refused, if it was. */
-static __inline__ hot_status noted(hot_handle *handle, hot_status status) {
-    static const uint32_t refused = 1u << HOT_BUSY | 1u << HOT_HELD_BACK | 1u << HOT_FULL_NODES | 1u << HOT_FULL_LEAVES;
-    if (refused >> status & 1)
-        note_refusal(&handle->place->refusals, status);
-    return status;
-}
-
 /* A handle looks at the pieces of the table each time it has put so many more keys in. */
 enum { KEYS_TO_A_LOOK = 4096 };
 
@@ -260,7 +219,7 @@ static __attribute__((cold, noinline)) void look_at_pieces(hot_place *place) {
     hot_index *index = place->index;
     place->looks_at = (uint32_t)place->keys + KEYS_TO_A_LOOK;
     if (__atomic_exchange_n(&index->filling, 1, __ATOMIC_ACQUIRE) == 0) {
-        heap_fill(&index->pieces);
+        heap_fill(&index->holds.pieces);
         __atomic_store_n(&index->filling, 0, __ATOMIC_RELEASE);
     }
 }
@@ -272,43 +231,53 @@ static __inline__ void count_key(hot_place *place) {
         look_at_pieces(place);
 }
 
-/* Notes what a try has done with the number of keys, too. */
-static __inline__ hot_status counted(hot_handle *handle, hot_status status) {
+/* What a try has come to. Notes what it has done with the number of keys, or that it was refused. */
+static __inline__ hot_status tried(hot_handle *handle, const uint8_t *key, size_t length, hot_status status) {
+    static const uint32_t refused = 1u << HOT_BUSY | 1u << HOT_HELD_BACK | 1u << HOT_FULL_NODES | 1u << HOT_FULL_LEAVES;
+    if (handle->tag == GROWS)
+        status = end_change(handle, key, length, status);
     if (status == HOT_INSERTED || status == HOT_NEW)
         count_key(handle->place);
     else if (status == HOT_REMOVED)
         add_to(&handle->place->keys, (uint64_t)-1);
-    return noted(handle, status);
+    else if (refused >> status & 1)
+        note_refusal(&handle->place->refusals, status);
+    return status;
+}
+
+/* The handle by which it is made. */
+static __inline__ hot_handle *by(hot_handle *handle, const uint8_t *key, size_t length) {
+    return handle->tag == GROWS ? begin_change(handle, key, length) : handle;
 }
 
 hot_status hot_try_insert(hot_handle *handle, const uint8_t *key, size_t length, uint64_t value, uint64_t *had) {
     uint64_t unread;
-    return counted(handle, proved_try_insert(handle, key, length, value, had ? had : &unread));
+    return tried(handle, key, length, proved_try_insert(by(handle, key, length), key, length, value, had ? had : &unread));
 }
 
 hot_status hot_try_upsert(hot_handle *handle, const uint8_t *key, size_t length, uint64_t value, uint64_t *had) {
     uint64_t unread;
-    return counted(handle, proved_try_upsert(handle, key, length, value, had ? had : &unread));
+    return tried(handle, key, length, proved_try_upsert(by(handle, key, length), key, length, value, had ? had : &unread));
 }
 
 hot_status hot_try_remove(hot_handle *handle, const uint8_t *key, size_t length, uint64_t *had) {
     uint64_t unread;
-    return counted(handle, proved_try_remove(handle, key, length, had ? had : &unread));
+    return tried(handle, key, length, proved_try_remove(by(handle, key, length), key, length, had ? had : &unread));
 }
 
 hot_status hot_try_exchange(hot_handle *handle, const uint8_t *key, size_t length, uint64_t expected, uint64_t value, uint64_t *had) {
     uint64_t unread;
-    return noted(handle, proved_try_exchange(handle, key, length, expected, value, had ? had : &unread));
+    return tried(handle, key, length, proved_try_exchange(by(handle, key, length), key, length, expected, value, had ? had : &unread));
 }
 
 hot_status hot_try_add(hot_handle *handle, const uint8_t *key, size_t length, uint64_t delta, uint64_t *had) {
     uint64_t unread;
-    return noted(handle, proved_try_add(handle, key, length, delta, had ? had : &unread));
+    return tried(handle, key, length, proved_try_add(by(handle, key, length), key, length, delta, had ? had : &unread));
 }
 
 hot_status hot_try_remove_if(hot_handle *handle, const uint8_t *key, size_t length, uint64_t expected, uint64_t *had) {
     uint64_t unread;
-    return counted(handle, proved_try_remove_if(handle, key, length, expected, had ? had : &unread));
+    return tried(handle, key, length, proved_try_remove_if(by(handle, key, length), key, length, expected, had ? had : &unread));
 }
 
 /* Sleeps so many nanoseconds, and twice as long for each time that it has slept before, up to 32 times as long. */
@@ -364,51 +333,64 @@ int hot_wait(hot_status status, hot_waits *so_far) {
     return is_to_wait(status, so_far);
 }
 
+/* The same for a change of a key of this length, whose index may grow: it does so where it is full, or where records are held back for long. */
+static int is_to_try(hot_handle *handle, size_t length, hot_status *status, hot_waits *so_far) {
+    enum { LONG = 4 };
+    int is_full = *status == HOT_FULL_NODES || *status == HOT_FULL_LEAVES || (*status == HOT_HELD_BACK && so_far->sleeps >= LONG);
+    return (is_full && handle->tag == GROWS && grow_for(handle, length, status)) || is_to_wait(*status, so_far);
+}
+
 hot_status hot_insert(hot_handle *handle, const uint8_t *key, size_t length, uint64_t value, uint64_t *had) {
     hot_waits so_far = HOT_NO_WAITS;
     hot_status status;
-    while (is_to_wait(status = hot_try_insert(handle, key, length, value, had), &so_far))
-        ;
+    do
+        status = hot_try_insert(handle, key, length, value, had);
+    while (is_to_try(handle, length, &status, &so_far));
     return status;
 }
 
 hot_status hot_upsert(hot_handle *handle, const uint8_t *key, size_t length, uint64_t value, uint64_t *had) {
     hot_waits so_far = HOT_NO_WAITS;
     hot_status status;
-    while (is_to_wait(status = hot_try_upsert(handle, key, length, value, had), &so_far))
-        ;
+    do
+        status = hot_try_upsert(handle, key, length, value, had);
+    while (is_to_try(handle, length, &status, &so_far));
     return status;
 }
 
 hot_status hot_remove(hot_handle *handle, const uint8_t *key, size_t length, uint64_t *had) {
     hot_waits so_far = HOT_NO_WAITS;
     hot_status status;
-    while (is_to_wait(status = hot_try_remove(handle, key, length, had), &so_far))
-        ;
+    do
+        status = hot_try_remove(handle, key, length, had);
+    while (is_to_try(handle, length, &status, &so_far));
     return status;
 }
 
 hot_status hot_exchange(hot_handle *handle, const uint8_t *key, size_t length, uint64_t expected, uint64_t value, uint64_t *had) {
     hot_waits so_far = LAST_YIELD;
     hot_status status;
-    while (is_to_wait(status = hot_try_exchange(handle, key, length, expected, value, had), &so_far))
-        ;
+    do
+        status = hot_try_exchange(handle, key, length, expected, value, had);
+    while (is_to_try(handle, length, &status, &so_far));
     return status;
 }
 
 hot_status hot_remove_if(hot_handle *handle, const uint8_t *key, size_t length, uint64_t expected, uint64_t *had) {
     hot_waits so_far = HOT_NO_WAITS;
     hot_status status;
-    while (is_to_wait(status = hot_try_remove_if(handle, key, length, expected, had), &so_far))
-        ;
+    do
+        status = hot_try_remove_if(handle, key, length, expected, had);
+    while (is_to_try(handle, length, &status, &so_far));
     return status;
 }
 
 hot_status hot_add(hot_handle *handle, const uint8_t *key, size_t length, uint64_t delta, uint64_t *had) {
     hot_waits so_far = LAST_YIELD;
     hot_status status;
-    while (is_to_wait(status = hot_try_add(handle, key, length, delta, had), &so_far))
-        ;
+    do
+        status = hot_try_add(handle, key, length, delta, had);
+    while (is_to_try(handle, length, &status, &so_far));
     return status;
 }
 
@@ -522,18 +504,26 @@ enum { FOR_A_KEY = 272, MOST_KEPT_KEYS = 256 };
  * call. */
 static size_t bytes_beside_table(const hot_index *index, size_t opened, size_t kept) {
     enum { SECTION = 128 };
-    return sizeof *index + index->count * (sizeof *index->places + SECTION) + opened * (index->lists + index->scanned) + kept;
+    return sizeof *index + index->count * (sizeof *index->places + SECTION) + opened * (index->holds.lists + index->holds.scanned) + kept;
 }
 
 void hot_bytes(const hot_index *index, hot_memory *bytes) {
+    const heap_pieces *pieces = &index->holds.pieces;
+    uint32_t *filling = (uint32_t *)&index->filling;
     size_t place, opened = 1, kept = 0;
     for (place = 0; place < index->count; place++) {
         opened += __atomic_load_n(&index->places[place].state, __ATOMIC_SEQ_CST) != UNOPENED;
         kept += __atomic_load_n(&index->places[place].room_size, __ATOMIC_RELAXED);
     }
     opened = opened < index->count ? opened : index->count;
-    bytes->most = index->table + bytes_beside_table(index, index->count, index->count * MOST_KEPT_KEYS * FOR_A_KEY);
-    bytes->now = (index->pieces.table == NULL ? index->table : heap_held(&index->pieces, index->table)) + bytes_beside_table(index, opened, kept);
+    if (index->grower != NULL)
+        lock_word(filling);
+    bytes->most = index->holds.table + bytes_beside_table(index, index->count, index->count * MOST_KEPT_KEYS * FOR_A_KEY);
+    bytes->now = (pieces->table == NULL ? index->holds.table : heap_held(pieces, index->holds.table)) + bytes_beside_table(index, opened, kept);
+    if (index->grower != NULL)
+        unlock_word(filling);
+    bytes->most += grower_bytes(index);
+    bytes->now += grower_bytes(index);
 }
 
 void hot_stock_for_lengths(const uint32_t *keys, hot_stock *stock) {
@@ -580,7 +570,7 @@ hot_status hot_get_many(hot_handle *handle, hot_lookup *lookups, size_t count) {
     if (lacks_room(handle->place, count))
         return HOT_NO_MEMORY;
     heap_lend(handle->place->room, handle->place->room_size);
-    status = proved_get_many(handle, lookups, count);
+    status = looked(handle, proved_get_many(look(handle), lookups, count));
     heap_take_back();
     return status;
 }
@@ -612,22 +602,23 @@ hot_status hot_get_packed(hot_handle *handle, const uint8_t *bytes, const size_t
     return status;
 }
 
-static void free_index(hot_index *index) {
+void free_index(hot_index *index) {
     size_t place;
+    if (index->grower != NULL)
+        free_grower(index->grower);
     for (place = 0; place < index->count; place++) {
         proved_close_section(&index->places[place].section);
         free(index->places[place].room);
     }
     proved_close_section(&index->next);
     proved_close_section(&index->sections);
-    heap_free_pieces(&index->pieces);
+    if (index->grower == NULL)
+        heap_free_pieces(&index->holds.pieces);
     free(index->places);
     free(index);
 }
 
-/* Opens the section of the handle that is opened next, if none is kept open for it. HOT_DONE; or HOT_NO_HANDLE if all handles have one, or
- * HOT_NO_MEMORY. */
-static hot_status open_next_section(hot_index *index) {
+hot_status open_next_section(hot_index *index) {
     hot_status status = proved_open_section(&index->sections, &index->next);
     return status == HOT_OPEN ? HOT_DONE : status;
 }
@@ -639,8 +630,7 @@ static void give_section(hot_place *place) {
     place->index->next = none;
 }
 
-/* An index with so many places, none of which has a handle; or NULL where memory is refused. */
-static hot_index *new_index(size_t count) {
+hot_index *new_index(size_t count) {
     static const hot_handle closed = HOT_HANDLE;
     static const section_handle none = {0, {NULL}};
     hot_index *index = malloc(sizeof *index);
@@ -652,8 +642,9 @@ static hot_index *new_index(size_t count) {
     index->left = 0;
     index->keeper = index->teller = closed;
     index->opening = index->telling = index->filling = 0;
-    index->pieces.marks = NULL;
-    index->pieces.table = NULL;
+    index->holds.pieces.marks = NULL;
+    index->holds.pieces.table = NULL;
+    index->grower = NULL;
     index->places = calloc(count, sizeof *index->places);
     if (index->places == NULL) {
         free(index);
@@ -712,18 +703,18 @@ static heap_table table_of(const hot_stock *stock, size_t handles) {
     return table;
 }
 
-/* Notes what an index with this stock takes. */
-static void note_stock(hot_index *index, const hot_stock *stock) {
+/* Notes what a table with this stock takes. */
+static void note_stock(holding *holds, const hot_stock *stock, size_t handles) {
     enum { MOST_SCANNED = 64 << 10, FOR_A_PAIR = 300 };
     uint64_t leaves = (uint64_t)stock->short_leaves + stock->medium_leaves + stock->large_leaves + stock->wide_leaves + stock->long_leaves;
-    index->table = table_of(stock, index->count).bytes;
-    index->scanned = leaves < MOST_SCANNED / FOR_A_PAIR ? (size_t)leaves * FOR_A_PAIR : MOST_SCANNED;
+    holds->table = table_of(stock, handles).bytes;
+    holds->scanned = leaves < MOST_SCANNED / FOR_A_PAIR ? (size_t)leaves * FOR_A_PAIR : MOST_SCANNED;
 }
 
-/* Notes what this thread has made: the index's table, and so many handles. */
-static void note_made(hot_index *index, size_t handles) {
-    heap_take_pieces(&index->pieces);
-    index->lists = heap_asked() / handles;
+/* Notes what this thread has made: the table, and so many handles. */
+static void note_made(holding *holds, size_t handles) {
+    heap_take_pieces(&holds->pieces);
+    holds->lists = heap_asked() / handles;
 }
 
 /* Gives handles that were opened together, with an index, their places in one; or closes them where memory is refused. */
@@ -740,8 +731,8 @@ static hot_status placed(hot_status status, const hot_stock *stock, hot_handle *
             handles[place].place = &index->places[place];
     if (index == NULL)
         return HOT_NO_MEMORY;
-    note_stock(index, stock);
-    note_made(index, count);
+    note_stock(&index->holds, stock, count);
+    note_made(&index->holds, count);
     index->left = count;
     return HOT_DONE;
 }
@@ -779,6 +770,17 @@ hot_status hot_create_with(const hot_stock *stock, hot_handle *handles, size_t c
     return placed(end_making(proved_create_with(stock, handles, count), handles, count), stock, handles, count);
 }
 
+hot_status make_table(const hot_stock *stock, size_t handles, hot_handle *keeper, holding *holds) {
+    hot_status status;
+    begin_making(stock, handles);
+    status = end_making(proved_create_keeping(stock, handles, keeper), keeper, 1);
+    if (status == HOT_DONE) {
+        note_stock(holds, stock, handles);
+        note_made(holds, 1);
+    }
+    return status;
+}
+
 hot_status hot_open_index(const hot_stock *stock, size_t handles, hot_index **index) {
     size_t bytes;
     hot_index *made;
@@ -788,10 +790,7 @@ hot_status hot_open_index(const hot_stock *stock, size_t handles, hot_index **in
     made = new_index(handles);
     if (made == NULL)
         return HOT_NO_MEMORY;
-    begin_making(stock, handles);
-    status = end_making(proved_create_keeping(stock, handles, &made->keeper), &made->keeper, 1);
-    note_stock(made, stock);
-    note_made(made, 1);
+    status = make_table(stock, handles, &made->keeper, &made->holds);
     if (status == HOT_DONE)
         *index = made;
     else
@@ -822,57 +821,52 @@ static hot_status take_pairs(loading *load, hot_source *next, void *context, siz
     return status;
 }
 
-/* Begins a load, and writes the words that it fills. `table` is what is made of them. */
-static hot_status begin_load(const hot_stock *stock, size_t handles, const heap_table *table, loading *load, void **words) {
+hot_status begin_load(const hot_stock *stock, size_t handles, begun_load *begun, holding *holds) {
     hot_status status;
-    heap_begin(table);
-    status = proved_begin_load(stock, handles, load);
-    if (heap_pause(words) || status != HOT_DONE)
+    note_stock(holds, stock, handles);
+    begun->table = table_of(stock, handles);
+    heap_begin(&begun->table);
+    status = proved_begin_load(stock, handles, &begun->load);
+    if (heap_pause(&begun->words) || status != HOT_DONE)
         return status;
-    proved_give_up_load(load);
+    proved_give_up_load(&begun->load);
     return HOT_NO_MEMORY;
 }
 
-/* Gives an index that was loaded the pieces of its table, and those that were filled huge pages. */
-static void fill_pieces(hot_index *index) {
-    note_made(index, 1);
-    heap_fill_all(&index->pieces);
-}
-
-/* Makes an index of what a load has taken, and opens its keeper. */
-static hot_status end_load(const heap_table *table, loading *load, void *words, hot_index *index) {
+/* Those pieces that a load has filled get huge pages. */
+hot_status end_load(begun_load *begun, hot_handle *keeper, holding *holds) {
     hot_status status;
-    heap_go_on(table, words);
-    status = end_making(proved_end_load(load, &index->keeper), &index->keeper, 1);
-    if (status == HOT_DONE)
-        fill_pieces(index);
-    return status;
-}
-
-/* Gives an index its keeper, and the pairs, which its first handle counts; and writes why the next one was refused, or HOT_DONE. The stock is
- * read before `next` is called, which may change it. HOT_DONE, or HOT_NO_MEMORY. */
-static hot_status fill_index(const hot_stock *stock, hot_source *next, void *context, hot_index *index, hot_status *refused) {
-    loading load = {0, {NULL}};
-    heap_table table = table_of(stock, index->count);
-    void *words;
-    size_t count;
-    hot_status status;
-    note_stock(index, stock);
-    status = begin_load(stock, index->count, &table, &load, &words);
+    heap_go_on(&begun->table, begun->words);
+    status = end_making(proved_end_load(&begun->load, keeper), keeper, 1);
     if (status != HOT_DONE)
         return status;
-    *refused = take_pairs(&load, next, context, &count);
-    if (*refused == HOT_NO_MEMORY) {
-        proved_give_up_load(&load);
-        return HOT_NO_MEMORY;
-    }
+    note_made(holds, 1);
+    heap_fill_all(&holds->pieces);
+    return HOT_DONE;
+}
+
+void count_loaded(hot_index *index, size_t count) {
     index->places[0].keys = count;
     index->places[0].looks_at = (uint32_t)count + KEYS_TO_A_LOOK;
-    return end_load(&table, &load, words, index);
+}
+
+/* The stock is read before `next` is called, which may change it. */
+hot_status load_table(const hot_stock *stock, size_t handles, hot_source *next, void *context, hot_handle *keeper, holding *holds,
+                      hot_status *refused, size_t *count) {
+    static const begun_load none;
+    begun_load begun = none;
+    hot_status status = begin_load(stock, handles, &begun, holds);
+    if (status != HOT_DONE)
+        return status;
+    *refused = take_pairs(&begun.load, next, context, count);
+    if (*refused != HOT_NO_MEMORY)
+        return end_load(&begun, keeper, holds);
+    proved_give_up_load(&begun.load);
+    return HOT_NO_MEMORY;
 }
 
 hot_status hot_load(const hot_stock *stock, size_t handles, hot_source *next, void *context, hot_index **index, size_t *count) {
-    size_t bytes;
+    size_t bytes, loaded;
     hot_index *made;
     hot_status refused, status = hot_stock_bytes(stock, handles, &bytes);
     if (status != HOT_DONE)
@@ -880,24 +874,18 @@ hot_status hot_load(const hot_stock *stock, size_t handles, hot_source *next, vo
     made = new_index(handles);
     if (made == NULL)
         return HOT_NO_MEMORY;
-    status = fill_index(stock, next, context, made, &refused);
+    status = load_table(stock, handles, next, context, &made->keeper, &made->holds, &refused, &loaded);
     if (status != HOT_DONE) {
         free_index(made);
         return status;
     }
+    count_loaded(made, loaded);
     *index = made;
-    *count = made->places[0].keys;
+    *count = loaded;
     return refused;
 }
 
-/* Pairs that lie packed. */
-typedef struct packed {
-    const uint8_t *bytes;
-    const hot_head *heads;
-    size_t count;
-} packed;
-
-static int next_packed(void *context, const uint8_t **key, size_t *length, uint64_t *value) {
+int next_packed(void *context, const uint8_t **key, size_t *length, uint64_t *value) {
     packed *left = context;
     if (left->count == 0)
         return 0;
@@ -937,38 +925,50 @@ static void move_handle(hot_handle *to, hot_handle *from) {
     *from = closed;
 }
 
-/* Waits until the word is 0, and makes it 1. Two are locked at once by hot_stamp alone, which takes `telling` first. */
-static void lock(uint32_t *word) {
+int try_to_lock(uint32_t *word) {
+    return __atomic_exchange_n(word, 1, __ATOMIC_SEQ_CST) == 0;
+}
+
+void lock_word(uint32_t *word) {
     hot_waits so_far = HOT_NO_WAITS;
-    while (__atomic_exchange_n(word, 1, __ATOMIC_SEQ_CST) != 0)
+    while (!try_to_lock(word))
         wait_for_call(&so_far);
 }
 
-static void unlock(uint32_t *word) {
+void unlock_word(uint32_t *word) {
     __atomic_store_n(word, 0, __ATOMIC_SEQ_CST);
 }
 
-/* Opens a handle that was not opened yet: the next of those that the keeper keeps, and at last the keeper itself. */
+hot_status open_next(hot_handle *keeper, hot_handle *handle) {
+    uint16_t number;
+    hot_status status;
+    heap_begin(NULL);
+    status = proved_open_kept(keeper, handle);
+    heap_end();
+    if (status == HOT_NO_HANDLE && hot_number(keeper, &number) == HOT_DONE) {
+        move_handle(handle, keeper);
+        status = HOT_DONE;
+    }
+    return status;
+}
+
+void give_place(hot_place *place, hot_handle *handle) {
+    handle->place = place;
+    give_section(place);
+    set_state(place, TAKEN);
+}
+
+/* Opens a handle that was not opened yet. */
 static hot_status open_kept(hot_index *index, hot_handle *handle) {
     uint16_t number;
     hot_status status;
-    lock(&index->opening);
+    lock_word(&index->opening);
     status = open_next_section(index);
-    if (status == HOT_DONE) {
-        heap_begin(NULL);
-        status = proved_open_kept(&index->keeper, handle);
-        heap_end();
-    }
-    if (status == HOT_NO_HANDLE && hot_number(&index->keeper, &number) == HOT_DONE) {
-        move_handle(handle, &index->keeper);
-        status = HOT_DONE;
-    }
-    if (status == HOT_DONE && hot_number(handle, &number) == HOT_DONE) {
-        handle->place = &index->places[number];
-        give_section(handle->place);
-        set_state(handle->place, TAKEN);
-    }
-    unlock(&index->opening);
+    if (status == HOT_DONE)
+        status = open_next(&index->keeper, handle);
+    if (status == HOT_DONE && hot_number(handle, &number) == HOT_DONE)
+        give_place(&index->places[number], handle);
+    unlock_word(&index->opening);
     return status == HOT_CLOSED ? HOT_NO_HANDLE : status;
 }
 
@@ -982,7 +982,7 @@ hot_status hot_open(hot_index *index, hot_handle *handle) {
             move_handle(handle, &index->places[place].closed);
             return HOT_DONE;
         }
-    return open_kept(index, handle);
+    return index->grower != NULL ? open_growing(index, handle) : open_kept(index, handle);
 }
 
 hot_status hot_close(hot_handle *handle) {
@@ -1025,9 +1025,9 @@ static int take_all(hot_index *index) {
 
 hot_status hot_close_index(hot_index *index) {
     size_t place;
-    lock(&index->opening);
+    lock_word(&index->opening);
     if (!take_all(index)) {
-        unlock(&index->opening);
+        unlock_word(&index->opening);
         return HOT_OPEN;
     }
     for (place = 0; place < index->count; place++)
@@ -1042,6 +1042,16 @@ hot_status hot_destroy(hot_handle *handle) {
     return hot_close(handle);
 }
 
+/* Lets a handle see all that another one of its index has seen. If that grows, it does so in one table for both. */
+static hot_status see(hot_handle *handle, hot_handle *leader) {
+    hot_handle *its = look(handle), *leaders = look(leader);
+    hot_status status = HOT_NOT_PAST;
+    if (handle->tag != GROWS || ((growing_place *)handle->slot.at)->in == ((growing_place *)leader->slot.at)->in)
+        status = proved_see(its, leaders);
+    looked(leader, status);
+    return looked(handle, status) == HOT_NOT_PAST ? see(handle, leader) : status;
+}
+
 hot_status hot_meet(hot_handle *one, hot_handle *other) {
     hot_index *index, *its_index;
     hot_status status = find_index(one, &index);
@@ -1052,8 +1062,8 @@ hot_status hot_meet(hot_handle *one, hot_handle *other) {
     if (index != its_index)
         return HOT_OTHER_INDEX;
     if (one != other) {
-        proved_see(one, other);
-        proved_see(other, one);
+        see(one, other);
+        see(other, one);
     }
     return HOT_DONE;
 }
@@ -1063,14 +1073,14 @@ hot_status hot_stamp(hot_handle *handle, hot_moment *moment) {
     hot_status status = find_index(handle, &index);
     if (status != HOT_DONE)
         return status;
-    lock(&index->telling);
+    lock_word(&index->telling);
     if (index->teller.place == NULL)
         status = hot_open(index, &index->teller);
     if (status == HOT_DONE) {
-        proved_see(&index->teller, handle);
+        see(&index->teller, handle);
         moment->index = index;
     }
-    unlock(&index->telling);
+    unlock_word(&index->telling);
     return status;
 }
 
@@ -1081,9 +1091,9 @@ hot_status hot_follow(hot_handle *handle, const hot_moment *moment) {
         return status;
     if (index != moment->index)
         return HOT_OTHER_INDEX;
-    lock(&index->telling);
-    status = proved_see(handle, &index->teller);
-    unlock(&index->telling);
+    lock_word(&index->telling);
+    status = see(handle, &index->teller);
+    unlock_word(&index->telling);
     return status;
 }
 

@@ -40,7 +40,7 @@
  *
  * A call fails only by its status. None waits for another, except hot_insert, hot_upsert, hot_exchange, hot_remove, hot_remove_if and
  * hot_add; hot_copy, hot_clear, hot_clear_range, hot_pop_first and hot_pop_last, which make such calls; hot_open and hot_stamp, for each
- * other; and hot_stamp and hot_follow, too.
+ * other; hot_stamp and hot_follow, too; and hot_grow, hot_trim, hot_grow_begin and hot_grow_step.
  * Each other call ends after a bounded number of steps, whatever other threads do: a step is one atomic access to a word of the index.
  * Each call below that makes steps gives its bound, for the worst tree that there can be.
  *
@@ -63,7 +63,8 @@
  *
  * The library starts no threads and keeps no data outside its indexes. It needs Linux, and an x86-64 processor of the level for which it
  * was compiled: x86-64-v3, which has AVX2, unless the machine that compiled it had not, or x86-64-v2 was asked for. On an older one
- * hot_create, hot_create_with, hot_open_index, hot_open_index_within, hot_load, hot_load_packed and hot_stock_bytes return HOT_OLD_PROCESSOR
+ * hot_create, hot_create_with, hot_open_index, hot_open_index_within, hot_open_growing, hot_load, hot_load_packed, hot_load_growing and
+ * hot_stock_bytes return HOT_OLD_PROCESSOR
  * and write nothing, and stocks have no records; any other call may end the program there.
  * `pkg-config --cflags --libs hot` tells how to link it. */
 #ifndef HOT_H
@@ -123,7 +124,8 @@ enum {
     HOT_INSIDE = 22,       /* the handle's section is open */
     HOT_OUTSIDE = 23,      /* the handle's section is not open */
     HOT_NOT_PAST = 24,     /* a section that was open at the moment may still be open: ask again */
-    HOT_NOT_RISING = 25    /* the key of a pair that is loaded is not above the one before */
+    HOT_NOT_RISING = 25,   /* the key of a pair that is loaded is not above the one before */
+    HOT_FIXED = 26         /* the index does not grow */
 };
 
 /* A few words of English for a status. The text is static; a number that is no status has a text too. */
@@ -233,6 +235,48 @@ hot_status hot_close(hot_handle *handle);
 /* Frees an index of hot_open_index. No other call with it or a moment of it may be under way, or follow.
  * HOT_DONE; or HOT_OPEN if a handle is open, and then it stays as it is. */
 hot_status hot_close_index(hot_index *index);
+
+/* An index that grows, for keys of which nobody can say how many there will be. Where there is no room a larger table is made beside the one that
+ * it has, takes the pairs from it while other calls go on, and takes over: no pair is lost or there twice. All calls are as with any other index,
+ * but for this. hot_insert, hot_upsert, hot_remove, hot_remove_if, and calls that make them, make the larger table where they find no room or
+ * records are held back for long, or wait for who makes it. They return HOT_NO_MEMORY where that fails, and that the index is full where it may
+ * not be larger; then it is as it was. hot_try_insert and the like return that it is full. Look-ups and scans never wait. Other changes go on: one
+ * may be made twice meanwhile, ask for memory for its key, and wait, as for another one in its way, for a change whose key falls under the same
+ * lock of 64, and for the hand-over. Sections, moments, hot_len and hot_stats are of the index, and go on across growths; hot_census is of the
+ * table of now. The old table goes once all calls that ran in it have returned. */
+
+/* Makes an empty index that grows, with room for so many handles, 1 to 1023. Its first table has this stock, or a small one if it is NULL. No
+ * table has more than `most` bytes, as hot_stock_bytes counts them; SIZE_MAX is no bound. While the index grows it has two.
+ * HOT_DONE; or HOT_OUT_OF_RANGE, also where `most` is too few for the first table, HOT_NO_MEMORY or HOT_OLD_PROCESSOR, and then nothing is
+ * written. */
+hot_status hot_open_growing(const hot_stock *stock, size_t most, size_t handles, hot_index **index);
+
+/* Makes such an index of pairs, of which nobody need know how many there are, as hot_load does. It keeps them packed until there are no more,
+ * and makes a table that fits. A pair for which that would have more than `most` bytes is refused as HOT_FULL_LEAVES.
+ * It returns what hot_load does. */
+hot_status hot_load_growing(size_t most, size_t handles, hot_source *next, void *context, hot_index **index, size_t *count);
+
+/* Has the index grow: its next table has room for twice the keys that there are, and the time is this thread's. It ends a growth that is under way
+ * in place of another, and waits until the old table has gone. This and the calls below may be made by any thread until the index is closed, and
+ * wait for each other.
+ * HOT_DONE; or HOT_FIXED if the index doesn't grow; or HOT_NO_MEMORY, HOT_FULL_NODES or HOT_FULL_LEAVES, and then it is as it was. */
+hot_status hot_grow(hot_index *index);
+
+/* The same with a table that fits the keys that there are, so that memory comes back when keys have gone. Where too many come meanwhile, it is
+ * HOT_FULL_NODES or HOT_FULL_LEAVES. */
+hot_status hot_trim(hot_index *index);
+
+/* A growth by portions. hot_grow_begin begins one, unless one is under way. hot_grow_step makes a portion of it, and writes 1 to `more` if there
+ * is more to do, else 0: it loads 512 pairs, opens a handle, or looks after 256 keys that were changed meanwhile. But to make a table can't be
+ * parted: hot_grow_begin and one portion take half of its time each. A change that has noted 8 KiB of keys makes a portion, too, and one that
+ * finds no room makes all that are left.
+ * They return what hot_grow does. Where hot_grow_step isn't HOT_DONE, the growth was given up. */
+hot_status hot_grow_begin(hot_index *index);
+hot_status hot_grow_step(hot_index *index, uint32_t *more);
+
+/* Whether it is time for hot_grow, so that no change finds the index full: 1 if five eighths of the leaf records of a size are in use, or by
+ * an estimate of the nodes; 0 if not, if the index doesn't grow, or if it is growing. It waits for nothing. */
+int hot_is_filling(hot_index *index);
 
 /* Order in time. A handle has seen its own calls, and all that was published when a call of it loaded the root. Whatever a handle has
  * seen comes before its later calls. These calls let a handle see what another has seen. */

@@ -76,7 +76,7 @@ static void test_texts(void) {
     for (hot_status one = HOT_DONE; one <= HOT_NOT_RISING + 1; one++)
         for (hot_status other = HOT_DONE; other < one; other++)
             CHECK(strcmp(hot_status_text(one), hot_status_text(other)));
-    CHECK(!strcmp(hot_status_text(UINT32_MAX), hot_status_text(HOT_NOT_RISING + 1)));
+    CHECK(!strcmp(hot_status_text(UINT32_MAX), hot_status_text(HOT_FIXED + 1)));
 }
 
 /* Keys of the greatest length and beyond. */

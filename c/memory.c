@@ -484,8 +484,120 @@ static long test_each_refused(const hot_stock *asks) {
     return number - 1;
 }
 
+/* Opens a handle of an index that grows, again where memory was refused. */
+static size_t open_growing_handle(hot_index *index, hot_handle *handle) {
+    size_t tries = 0;
+    hot_status status;
+    while ((status = hot_open(index, handle)) == HOT_NO_MEMORY)
+        tries++;
+    CHECK(status == HOT_DONE);
+    return tries;
+}
+
+/* Puts in the next number, again where memory was refused: then the index has what it had. */
+static size_t put_next(hot_handle *handle, uint32_t *number) {
+    uint8_t key[8];
+    size_t tries = 0;
+    hot_status status;
+    spell(*number, key);
+    while ((status = hot_insert(handle, key, 8, *number, NULL)) == HOT_NO_MEMORY) {
+        CHECK(has_numbers(handle, *number));
+        tries++;
+    }
+    CHECK(status == HOT_INSERTED);
+    ++*number;
+    return tries;
+}
+
+/* Grows an index by portions, with a change before each, and a handle that is opened at one of them; again where memory was refused. */
+static size_t grow_by_portions(hot_index *index, hot_handle *handles, uint32_t *number) {
+    enum { CHANGES = 40 };
+    size_t tries = 0, portion, change;
+    uint32_t more = 1;
+    while (hot_grow_begin(index) == HOT_NO_MEMORY)
+        tries++;
+    for (portion = 0; more; portion++) {
+        hot_status status;
+        for (change = 0; change < CHANGES; change++)
+            tries += put_next(&handles[0], number);
+        if (portion == 2)
+            tries += open_growing_handle(index, &handles[1]);
+        status = hot_grow_step(index, &more);
+        CHECK(status == HOT_DONE || status == HOT_NO_MEMORY);
+        tries += status == HOT_NO_MEMORY;
+    }
+    return tries;
+}
+
+/* The same for an index that grows. Once a growth has asked in vain for memory, it is given up, and another one is made. */
+static int test_growing_refused(long number) {
+    hot_handle handles[2] = {HOT_HANDLE, HOT_HANDLE};
+    hot_index *index = NULL;
+    numbers all = {{0}, 0, 0};
+    hot_status status;
+    size_t count = 0, tries;
+    asked = is_spared = 0;
+    refused = number;
+    for (tries = 0; (status = hot_open_growing(NULL, SIZE_MAX, 2, &index)) == HOT_NO_MEMORY; tries++)
+        CHECK(index == NULL && in_use == 0);
+    CHECK(status == HOT_DONE);
+    tries += open_growing_handle(index, &handles[0]);
+    while (all.end < LOADED)
+        tries += put_next(&handles[0], &all.end);
+    tries += grow_by_portions(index, handles, &all.end);
+    while ((status = hot_trim(index)) == HOT_NO_MEMORY)
+        tries++;
+    CHECK(status == HOT_DONE && has_numbers(&handles[0], all.end) && (handles[1].tag == 0 || has_numbers(&handles[1], all.end)));
+    CHECK(hot_close(&handles[0]) == HOT_DONE && hot_close(&handles[1]) <= HOT_CLOSED && hot_close_index(index) == HOT_DONE && in_use == 0);
+    for (index = NULL; (status = hot_load_growing(SIZE_MAX, 1, next_number, &all, &index, &count)) == HOT_NO_MEMORY; tries++) {
+        CHECK(index == NULL && in_use == 0);
+        all.next = 0;
+    }
+    CHECK(status == HOT_DONE && count == all.end);
+    tries += open_growing_handle(index, &handles[0]);
+    CHECK(has_numbers(&handles[0], all.end) && hot_close(&handles[0]) == HOT_DONE && hot_close_index(index) == HOT_DONE && in_use == 0);
+    CHECK(tries <= (size_t)(asked >= number) && (tries > 0 || is_spared || asked < number));
+    refused = 0;
+    return asked >= number;
+}
+
+/* An index that has grown takes little more than one that was made for as many keys; once its keys are gone, and it is trimmed, hardly any. */
+static void test_growing_resident(void) {
+    enum { KEYS = 200000, FEW = 300000 };
+    hot_handle handle = HOT_HANDLE;
+    hot_index *index = NULL;
+    hot_stock roomy;
+    long first = resident(), made, grown;
+    hot_memory bytes;
+    uint32_t number, more = 1;
+    CHECK(prctl(PR_SET_THP_DISABLE, 1, 0, 0, 0) == 0);
+    hot_stock_for_keys(KEYS, 8, &roomy);
+    CHECK(hot_open_index(&roomy, 1, &index) == HOT_DONE && hot_open(index, &handle) == HOT_DONE);
+    for (number = 0; number < KEYS;)
+        put_next(&handle, &number);
+    made = resident() - first;
+    CHECK(hot_close(&handle) == HOT_DONE && hot_close_index(index) == HOT_DONE && in_use == 0);
+    first = resident();
+    CHECK(hot_open_growing(NULL, SIZE_MAX, 1, &index) == HOT_DONE && hot_open(index, &handle) == HOT_DONE);
+    for (number = 0; number < KEYS;)
+        put_next(&handle, &number);
+    grown = resident() - first;
+    hot_bytes(index, &bytes);
+    CHECK(grown < made / 10 * 11 && (long)bytes.now >= grown && bytes.now < bytes.most && (long)bytes.now < grown / 4 * 5);
+    CHECK(hot_grow_begin(index) == HOT_DONE);
+    while (more) {
+        CHECK(hot_grow_step(index, &more) == HOT_DONE);
+        hot_bytes(index, &bytes);
+        CHECK((long)bytes.now >= resident() - first);
+    }
+    CHECK(hot_clear(&handle) == HOT_DONE && hot_trim(index) == HOT_DONE && resident() - first < FEW);
+    CHECK(hot_close(&handle) == HOT_DONE && hot_close_index(index) == HOT_DONE && in_use == 0);
+    CHECK(prctl(PR_SET_THP_DISABLE, 0, 0, 0, 0) == 0);
+    printf("resident: %ld bytes of an index that has grown to %d keys, %ld of one that was made for them\n", grown, KEYS, made);
+}
+
 int main(void) {
-    long few, more;
+    long few, more, growing = 1;
     test_resident();
     test_load_resident();
     test_light();
@@ -496,10 +608,13 @@ int main(void) {
     test_addresses();
     test_most();
     test_fork();
+    test_growing_resident();
+    while (test_growing_refused(growing))
+        growing++;
     few = test_each_refused(&stock);
     more = test_each_refused(&large_stock);
-    CHECK(few > 15 && more > few);
+    CHECK(few > 15 && more > few && growing > 50);
     if (!failures)
-        printf("passed: each of %ld allocations was refused in turn, and nothing was lost\n", few + more);
+        printf("passed: each of %ld allocations was refused in turn, and nothing was lost\n", few + more + growing - 1);
     return failures;
 }

@@ -1,5 +1,5 @@
 /* Tests of the calls with which a program begins, on a processor older than that for which the library was compiled. It is built of c/hot.c
- * alone, for a level that no processor has: so none of them makes a proved call, which might not run there. */
+ * and c/growing.c alone, for a level that no processor has: so none of them makes a proved call, which might not run there. */
 #include "hot.h"
 #include <stdio.h>
 #include <string.h>
@@ -15,6 +15,7 @@ int main(void) {
     is_right &= hot_open_index_within(&stock, 1, SIZE_MAX, &index) == HOT_OLD_PROCESSOR && index == NULL;
     is_right &= hot_create(10, 10, &handle, 1) == HOT_OLD_PROCESSOR && hot_create_with(&stock, &handle, 1) == HOT_OLD_PROCESSOR;
     is_right &= handle.tag == 0 && hot_stock_bytes(&stock, 1, &bytes) == HOT_OLD_PROCESSOR && bytes == 7;
+    is_right &= hot_open_growing(NULL, SIZE_MAX, 1, &index) == HOT_OLD_PROCESSOR && index == NULL;
     is_right &= hot_load_packed(&stock, 1, NULL, NULL, 0, &index, &bytes) == HOT_OLD_PROCESSOR && index == NULL && bytes == 7;
     hot_stock_for_lengths(keys, &stock);
     is_right &= memcmp(&stock, &none, sizeof none) == 0;
