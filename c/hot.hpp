@@ -4,7 +4,6 @@
 
 #include "hot.h"
 #include <algorithm>
-#include <atomic>
 #include <cstddef>
 #include <cstdint>
 #include <cstring>
@@ -13,10 +12,8 @@
 #include <iterator>
 #include <limits>
 #include <memory>
-#include <mutex>
 #include <new>
 #include <optional>
-#include <shared_mutex>
 #include <stdexcept>
 #include <string>
 #include <string_view>
@@ -125,7 +122,7 @@ inline void call_ends() {}
 
 /// Throws for each refusal that isn't returned as a value: std::length_error for a key of more than HOT_MAX_KEY bytes, or one for which no leaf
 /// record has room; std::bad_alloc; std::invalid_argument for numbers out of range, and for what is of another index; std::logic_error for
-/// handles that are closed or open, and sections that are open; std::runtime_error where no handle is free, or the processor is too old.
+/// handles that are closed or open, sections that are open, and an index that doesn't grow; std::runtime_error where no handle is free, or the processor is too old.
 inline void check(hot_status status) {
     detail::call_ends();
     switch (status) {
@@ -136,6 +133,7 @@ inline void check(hot_status status) {
     case HOT_OLD_PROCESSOR:
     case HOT_NO_HANDLE: throw std::runtime_error(hot_status_text(status));
     case HOT_CLOSED:
+    case HOT_FIXED:
     case HOT_INSIDE:
     case HOT_OPEN: throw std::logic_error(hot_status_text(status));
     default: break;
@@ -890,22 +888,32 @@ class index {
     /// std::map, a vector of entries, or the range of a scan in another index. Throws as the constructor does,
     /// load_error where a pair is refused, and what the iterators throw. Nothing is left then.
     template <class Pairs> [[nodiscard]] static index load(const hot_stock &stock, Pairs &&pairs, std::size_t handles = 64) {
-        using std::begin, std::end;
-        detail::source<decltype(begin(pairs)), decltype(end(pairs))> from{begin(pairs), end(pairs)};
-        hot_index *made = nullptr;
-        std::size_t count = 0;
-        detail::call_begins();
-        const hot_status status = hot_load(&stock, handles, from.next, &from, &made, &count);
-        if (!made)
-            check(status);
-        index loaded(std::shared_ptr<hot_index>(made, hot_close_index));
-        detail::call_ends();
-        if (from.thrown)
-            std::rethrow_exception(from.thrown);
-        if (status != HOT_DONE)
-            throw load_error(status, count);
-        return loaded;
+        return load_by([&](auto... with) { return hot_load(&stock, handles, with...); }, pairs);
     }
+
+    /// An empty index that grows, for keys of which nobody can say how many there will be, with room for so many handles, 1 to 1023:
+    /// hot_open_growing. It begins with this stock, or a small one, and no table of it has more than `most` bytes.
+    [[nodiscard]] static index growing(const hot_stock &stock, std::size_t handles = 64, std::size_t most = SIZE_MAX) {
+        return open_growing(&stock, handles, most);
+    }
+    [[nodiscard]] static index growing(std::size_t handles = 64, std::size_t most = SIZE_MAX) { return open_growing(nullptr, handles, most); }
+    /// Such an index of pairs, as `load` makes one: hot_load_growing.
+    template <class Pairs> [[nodiscard]] static index load_growing(Pairs &&pairs, std::size_t handles = 64, std::size_t most = SIZE_MAX) {
+        return load_by([&](auto... with) { return hot_load_growing(most, handles, with...); }, pairs);
+    }
+    /// Have such an index grow ahead of need, or give memory back; begin a growth, and make a portion of it, which returns whether there is more to
+    /// do; and whether it is time to grow: hot_grow, hot_trim, hot_grow_begin, hot_grow_step, hot_is_filling. They throw std::logic_error if
+    /// the index doesn't grow or was moved from, std::bad_alloc, and std::runtime_error where it may not be larger. It is as it was then.
+    void grow() { made(hot_grow(at())); }
+    void trim() { made(hot_trim(at())); }
+    void grow_begin() { made(hot_grow_begin(at())); }
+    bool grow_step() {
+        std::uint32_t more = 0;
+        made(hot_grow_step(at(), &more));
+        return more != 0;
+    }
+    [[nodiscard]] bool is_filling() { return hot_is_filling(at()) != 0; }
+
     /// A move leaves the other index with nothing: its `open` throws std::logic_error, which says so. Handles stay open.
     index(index &&) = default;
     index &operator=(index &&) = default;
@@ -920,10 +928,9 @@ class index {
     }
     /// The same, or none if all are open.
     [[nodiscard]] std::optional<handle> try_open() {
-        if (!at_)
-            throw std::logic_error("the index was moved away");
+        hot_index *of = at();
         handle one(at_);
-        const hot_status status = hot_open(at_.get(), one.it());
+        const hot_status status = hot_open(of, one.it());
         if (status == HOT_NO_HANDLE)
             return std::nullopt;
         check(status);
@@ -932,10 +939,8 @@ class index {
 
     /// How often tries to change the index were refused: hot_stats. Throws std::logic_error if the index was moved from.
     [[nodiscard]] hot_refusals stats() const {
-        if (!at_)
-            throw std::logic_error("the index was moved away");
         hot_refusals told{};
-        hot_stats(at_.get(), &told);
+        hot_stats(at(), &told);
         return told;
     }
     /// What the index takes of memory, with all of its handles: hot_bytes. Throws std::logic_error if the index was moved from.
@@ -949,6 +954,40 @@ class index {
 
   private:
     explicit index(std::shared_ptr<hot_index> at) : at_(std::move(at)) {}
+    hot_index *at() const {
+        if (!at_)
+            throw std::logic_error("the index was moved away");
+        detail::call_begins();
+        return at_.get();
+    }
+    static void made(hot_status status) {
+        check(status);
+        if (status != HOT_DONE)
+            throw std::runtime_error(hot_status_text(status));
+    }
+    static index open_growing(const hot_stock *stock, std::size_t handles, std::size_t most) {
+        hot_index *made = nullptr;
+        check(hot_open_growing(stock, most, handles, &made));
+        return index(std::shared_ptr<hot_index>(made, hot_close_index));
+    }
+    // Makes an index by a load of C, which takes what comes after its numbers.
+    template <class Load, class Pairs> static index load_by(Load load, Pairs &pairs) {
+        using std::begin, std::end;
+        detail::source<decltype(begin(pairs)), decltype(end(pairs))> from{begin(pairs), end(pairs)};
+        hot_index *made = nullptr;
+        std::size_t count = 0;
+        detail::call_begins();
+        const hot_status status = load(from.next, &from, &made, &count);
+        if (!made)
+            check(status);
+        index loaded(std::shared_ptr<hot_index>(made, hot_close_index));
+        detail::call_ends();
+        if (from.thrown)
+            std::rethrow_exception(from.thrown);
+        if (status != HOT_DONE)
+            throw load_error(status, count);
+        return loaded;
+    }
     std::shared_ptr<hot_index> at_;
 };
 
@@ -967,97 +1006,39 @@ class index {
     return create(hot_stock{nodes, 0, 0, 0, 0, leaves}, count);
 }
 
-/// An index that grows, for who can't say how many keys there will be at most. Few need it, since a stock takes no memory until it is used.
-/// Where a change finds it full, it is copied into an index with twice the records. Changes wait for that, and look-ups go on in the old one.
+/// An index that grows, as `index::growing` makes one, with handles that are called users.
 class growing {
   public:
     /// An empty index that begins with this stock, and has room for so many users at a time, 1 to 1023. Throws as the constructor of `index`.
-    explicit growing(const hot_stock &stock, std::size_t users = 63)
-        : users_(users), stock_(stock), now_(stock, users + 1), copier_(now_.open()) {}
+    explicit growing(const hot_stock &stock, std::size_t users = 63) : at_(index::growing(stock, users)) {}
 
-    /// The right to use the index, for one thread at a time. It must be gone before the index. It keeps the memory of an index that has been
-    /// copied until its next call.
+    /// The right to use the index, for one thread at a time. It must be gone before the index.
     class user {
       public:
         /// Throws std::runtime_error if there are too many users.
-        explicit user(growing &of) : of_(&of) { follow(); }
+        explicit user(growing &of) : of_(&of), handle_(of.at_.open()) {}
 
-        /// Calls `call` with a handle, for look-ups and scans, and returns what it returns. What it changes may be lost.
-        template <class Call> auto read(Call call) {
-            follow();
-            return call(handle_);
-        }
+        /// Calls `call` with a handle, and returns what it returns.
+        template <class Call> auto read(Call call) { return call(handle_); }
 
-        /// Calls `call` with a handle, by which it makes a change; and if that is refused as full, again in a larger index, which has all that
-        /// an earlier call of it changed. So `call` may run several times. Returns what came of it. Where the larger one can't be made it
-        /// throws as the constructor of `index`, and all stays as it was.
+        /// The same for a change, which `call` returns. Where that is full, as only those of `try_..` are, the index grows, and `call` runs again.
+        /// Throws what hot::index::grow does.
         template <class Call> hot::change change(Call call) {
             for (;;) {
-                if (of_->is_copied_)
-                    const std::lock_guard<std::mutex> wait(of_->copying_);
-                std::shared_lock<std::shared_mutex> lock(of_->changing_);
-                follow();
                 const hot::change made = call(handle_);
                 if (made.what != status::full_nodes && made.what != status::full_leaves)
                     return made;
-                lock.unlock();
-                of_->grow(turn_);
+                of_->at_.grow();
             }
         }
 
       private:
-        // Goes over to the index of now.
-        void follow() {
-            if (handle_ && turn_ == of_->turn_)
-                return;
-            const handle left = std::move(handle_);
-            const std::lock_guard<std::mutex> lock(of_->opening_);
-            handle_ = of_->now_.open();
-            turn_ = of_->turn_;
-        }
-
         growing *of_;
         handle handle_;
-        std::uint64_t turn_ = 0;
     };
 
   private:
-    struct raised {
-        explicit raised(std::atomic<bool> &flag) : flag_(flag) { flag_ = true; }
-        ~raised() { flag_ = false; }
-        std::atomic<bool> &flag_;
-    };
-
-    // Makes a larger index, unless another user has done so since this turn. No change begins while it waits for those that run.
-    void grow(std::uint64_t turn) {
-        const std::lock_guard<std::mutex> copying(copying_);
-        const raised flag(is_copied_);
-        const std::lock_guard<std::shared_mutex> lock(changing_);
-        if (turn != turn_)
-            return;
-        hot_stock larger = stock_;
-        for (std::uint32_t *count : {&larger.nodes, &larger.short_leaves, &larger.medium_leaves, &larger.large_leaves, &larger.wide_leaves,
-                                     &larger.long_leaves})
-            *count = *count > UINT32_MAX / 2 ? UINT32_MAX : *count * 2;
-        index next(larger, users_ + 1);
-        handle copier = next.open();
-        copier_.copy_to(copier);
-        const std::lock_guard<std::mutex> opening(opening_);
-        now_ = std::move(next);
-        copier_ = std::move(copier);
-        stock_ = larger;
-        ++turn_;
-    }
-
-    const std::size_t users_;
-    hot_stock stock_;
-    index now_;
-    handle copier_;
-    std::atomic<std::uint64_t> turn_{0};
-    std::atomic<bool> is_copied_{false};
-    std::mutex copying_;         // held by who copies the index, or waits to do so
-    std::mutex opening_;         // held by who opens a handle, and by who takes another index
-    std::shared_mutex changing_; // shared by who changes the index, and held by who copies it
+    index at_;
 };
 
 /// How many bytes the records of an index with this stock and this number of handles take: hot_stock_bytes. Throws std::invalid_argument.

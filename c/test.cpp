@@ -411,8 +411,39 @@ static void test_growing() {
         thread.join();
     hot::growing::user me(index);
     CHECK(wrong == 0 && me.read([](hot::handle &at) { return at.size(); }) == 2 * many);
-    CHECK(throws<std::length_error>([&] { return me.change([](hot::handle &at) { return at.upsert("longer than 8 bytes", 1); }); }));
+    CHECK(me.change([](hot::handle &at) { return at.upsert("longer than 8 bytes", 1); }).what == hot::status::added);
     CHECK(throws<std::invalid_argument>([] { return hot::growing(hot_stock{4, 20, 0, 0, 0, 0}, 1024); }));
+}
+
+// Each change runs once, also where the index has grown for it, but one that is only tried. And what an index has besides, if it grows.
+static void test_changes_once() {
+    hot::growing index(hot_stock{4, 20, 0, 0, 0, 0}, 1);
+    hot::growing::user me(index);
+    std::uint32_t runs = 0, tried = 0;
+    for (std::uint32_t number = 0; number < 1000; number++)
+        CHECK(me.change([&](hot::handle &at) { return runs++, at.insert(hot::key_of(number), 1); }).what == hot::status::inserted);
+    CHECK(runs == 1000);
+    for (std::uint32_t number = 1000; number < 9000; number++)
+        CHECK(me.change([&](hot::handle &at) { return tried++, at.try_insert(hot::key_of(number), 1); }).what == hot::status::inserted);
+    CHECK(tried > 8000 && tried < 8020);
+    hot::index grows = hot::index::growing(2), fixed(10, 8, 1), bounded = hot::index::growing(1, 100000);
+    hot::handle handle = grows.open(), other = bounded.open();
+    for (std::uint32_t number = 0; number < 1000; number++)
+        CHECK(handle.insert(hot::key_of(number), number).what == hot::status::inserted);
+    for (grows.grow_begin(); grows.grow_step();)
+        CHECK(handle.get(hot::key_of(std::uint32_t{7})) == 7);
+    const std::size_t large = handle.census().bytes;
+    handle.clear();
+    grows.trim();
+    CHECK(handle.empty() && handle.census().bytes < large / 4 && !grows.is_filling());
+    grows.grow();
+    hot::index loaded = hot::index::load_growing(std::vector<hot::entry>{{"a", 1}, {"b", 2}}, 1);
+    CHECK(loaded.open().get("b") == 2);
+    CHECK(throws<std::logic_error>([&] { fixed.grow(); }) && throws<std::logic_error>([&] { fixed.trim(); }));
+    std::uint32_t number = 0;
+    while (!other.insert(hot::key_of(number), 1).is_refused())
+        number++;
+    CHECK(number > 500 && throws<std::runtime_error>([&] { bounded.grow(); }) && other.size() == number);
 }
 
 // A section holds back the moments of its time, and its handle can't be closed in it.
@@ -526,6 +557,7 @@ int main() {
     test_threads();
     test_counting();
     test_growing();
+    test_changes_once();
     test_loads();
     std::puts(failures ? "the C++ test failed" : "the C++ test passed");
     return failures;
