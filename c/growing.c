@@ -28,7 +28,7 @@
 enum { SIZES = 5, STRIPES = 64 };
 
 /* A table is made with room for so many eighths of the keys: one that is larger, one that fits, and the least. */
-enum { LARGER = 16, FITTING = 10, LEAST_EIGHTHS = 9 };
+enum { LARGER = 24, FITTING = 13, LEAST_EIGHTHS = 9 };
 
 /* The phases, and that of a change that found its stripe locked. */
 enum { STILL, LOGGING, BOTH, IN_THE_WAY };

@@ -256,7 +256,7 @@ hot_status hot_open_growing(const hot_stock *stock, size_t most, size_t handles,
  * It returns what hot_load does. */
 hot_status hot_load_growing(size_t most, size_t handles, hot_source *next, void *context, hot_index **index, size_t *count);
 
-/* Has the index grow: its next table has room for twice the keys that there are, and the time is this thread's. It ends a growth that is under way
+/* Has the index grow: its next table has room for three times the keys that there are, and the time is this thread's. It ends a growth that is under way
  * in place of another, and waits until the old table has gone. This and the calls below may be made by any thread until the index is closed, and
  * wait for each other.
  * HOT_DONE; or HOT_FIXED if the index doesn't grow; or HOT_NO_MEMORY, HOT_FULL_NODES or HOT_FULL_LEAVES, and then it is as it was. */
