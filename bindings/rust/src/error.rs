@@ -22,6 +22,8 @@ pub enum Error {
     OldProcessor,
     /// The handle is inside its section already.
     Inside,
+    /// The index doesn't grow.
+    NotGrowing,
     /// The number of keys, records or handles is out of range.
     OutOfRange,
     /// There is no memory.
@@ -44,6 +46,7 @@ impl Error {
             ffi::OTHER_INDEX => Error::OtherIndex,
             ffi::OLD_PROCESSOR => Error::OldProcessor,
             ffi::INSIDE => Error::Inside,
+            ffi::FIXED => Error::NotGrowing,
             0..=ffi::REMOVED | ffi::EXCHANGED | ffi::DIFFERS | ffi::NOT_PAST => return Ok(status),
             _ => Error::Unexpected(status),
         })
@@ -66,6 +69,7 @@ impl fmt::Display for Error {
             Error::OtherIndex => ffi::text(ffi::OTHER_INDEX),
             Error::OldProcessor => ffi::text(ffi::OLD_PROCESSOR),
             Error::Inside => ffi::text(ffi::INSIDE),
+            Error::NotGrowing => ffi::text(ffi::FIXED),
             Error::OutOfRange => ffi::text(ffi::OUT_OF_RANGE),
             Error::NoMemory => ffi::text(ffi::NO_MEMORY),
             Error::Unexpected(status) => ffi::text(status),

@@ -30,6 +30,7 @@ pub(crate) const OLD_PROCESSOR: Status = 21;
 pub(crate) const INSIDE: Status = 22;
 pub(crate) const NOT_PAST: Status = 24;
 pub(crate) const NOT_RISING: Status = 25;
+pub(crate) const FIXED: Status = 26;
 
 /// What only the library sees.
 #[repr(C)]
@@ -120,6 +121,18 @@ extern "C" {
         index: *mut *mut RawIndex,
         count: *mut usize,
     ) -> Status;
+    fn hot_open_growing(stock: *const Stock, most: usize, handles: usize, index: *mut *mut RawIndex) -> Status;
+    fn hot_load_growing(
+        most: usize,
+        handles: usize,
+        next: Source,
+        context: *mut c_void,
+        index: *mut *mut RawIndex,
+        count: *mut usize,
+    ) -> Status;
+    fn hot_grow(index: *mut RawIndex) -> Status;
+    fn hot_trim(index: *mut RawIndex) -> Status;
+    fn hot_is_filling(index: *mut RawIndex) -> c_int;
     fn hot_close_index(index: *mut RawIndex) -> Status;
     fn hot_open(index: *mut RawIndex, handle: *mut RawHandle) -> Status;
     fn hot_close(handle: *mut RawHandle) -> Status;
@@ -296,6 +309,12 @@ fn next_of<K: AsRef<[u8]>, I: Iterator<Item = (K, u64)>>(_: &Sorted<I, K>) -> So
     Sorted::<I, K>::next
 }
 
+/// The room of an index that is loaded: this stock, or as much as its pairs need, in tables of at most so many bytes.
+pub(crate) enum Room<'a> {
+    Fixed(&'a Stock),
+    Grows(usize),
+}
+
 /// An index, which is there as long as each of its handles.
 pub(crate) struct Index {
     at: *mut RawIndex,
@@ -315,9 +334,35 @@ impl Index {
         Ok(Index { at, handles })
     }
 
+    /// Makes an index that grows, whose tables have at most so many bytes; the first one has this stock, or a small one.
+    pub(crate) fn growing(stock: Option<&Stock>, most: usize, handles: usize) -> Result<Index, Error> {
+        let (stock, mut at) = (stock.map_or(ptr::null(), |it| ptr::addr_of!(*it)), ptr::null_mut());
+        // SAFETY: it reads a stock, if there is one, and writes a pointer.
+        Error::check(unsafe { hot_open_growing(stock, most, handles, &mut at) })?;
+        Ok(Index { at, handles })
+    }
+
+    /// Has an index grow that does so.
+    pub(crate) fn grow(&self) -> Status {
+        // SAFETY: the index is there, and any thread may make the call.
+        unsafe { hot_grow(self.at) }
+    }
+
+    /// Gives the memory back that its keys don't need.
+    pub(crate) fn trim(&self) -> Status {
+        // SAFETY: the index is there, and any thread may make the call.
+        unsafe { hot_trim(self.at) }
+    }
+
+    /// Whether it is time to grow.
+    pub(crate) fn is_filling(&self) -> bool {
+        // SAFETY: the index is there, and any thread may make the call.
+        unsafe { hot_is_filling(self.at) != 0 }
+    }
+
     /// Makes an index of these pairs, whose keys rise, with room for so many handles; or returns why one was refused, and how many came before.
     pub(crate) fn load<K: AsRef<[u8]>>(
-        stock: &Stock,
+        room: &Room<'_>,
         handles: usize,
         pairs: impl Iterator<Item = (K, u64)>,
     ) -> Result<Index, (Error, usize)> {
@@ -327,16 +372,13 @@ impl Index {
             panic: None,
         };
         let (next, mut at, mut count) = (next_of(&pairs), ptr::null_mut(), 0);
-        // SAFETY: it reads a stock, hands `next` the pairs, which nothing else uses meanwhile, and writes a pointer and a number.
+        let context = ptr::addr_of_mut!(pairs).cast();
+        // SAFETY: it reads a stock, if there is one, hands `next` the pairs, which nothing else uses meanwhile, and writes a pointer and a number.
         let status = unsafe {
-            hot_load(
-                stock,
-                handles,
-                next,
-                ptr::addr_of_mut!(pairs).cast(),
-                &mut at,
-                &mut count,
-            )
+            match *room {
+                Room::Fixed(stock) => hot_load(stock, handles, next, context, &mut at, &mut count),
+                Room::Grows(most) => hot_load_growing(most, handles, next, context, &mut at, &mut count),
+            }
         };
         let index = (!at.is_null()).then(|| Index { at, handles });
         if let Some(panic) = pairs.panic {

@@ -1,7 +1,8 @@
 //! An ordered map from keys of up to 240 bytes to `u64`, in memory, which many threads read and change at once with no lock around it.
 //!
-//! [`Hot`] is the index, which all threads share. Calls are made by a [`Handle`], of which each thread has its own. The room for keys
-//! and the number of handles are fixed when the index is made. The names are those of `BTreeMap`, where the meaning is the same.
+//! [`Hot`] is the index, which all threads share. Calls are made by a [`Handle`], of which each thread has its own. The number of handles is fixed
+//! when the index is made, and so is the room for keys, unless it grows ([`Hot::growing`]). The names are those of `BTreeMap`, where the
+//! meaning is the same.
 //!
 //! ```
 //! use hot::Hot;
@@ -31,7 +32,7 @@ pub use growing::{Growing, User};
 pub use key::{key_of, values_of, FromKey, ToKey};
 pub use range::{KeyRange, Range};
 
-use ffi::{Index, Lease, Seen, Taken};
+use ffi::{Index, Lease, Room, Seen, Taken};
 use std::fmt;
 use std::sync::Arc;
 
@@ -181,10 +182,59 @@ impl Hot {
         handles: usize,
         pairs: impl IntoIterator<Item = (K, u64)>,
     ) -> Result<Hot, LoadError> {
-        let index =
-            Index::load(stock, handles, pairs.into_iter()).map_err(|(error, count)| LoadError { error, count })?;
-        let index = Arc::new(index);
+        Hot::loaded(Index::load(&Room::Fixed(stock), handles, pairs.into_iter()))
+    }
+
+    /// Makes an empty index that grows, for keys of which nobody can say how many there will be, with room for 1 to 1,023 handles at a time. It
+    /// begins small, and its calls are those of any other. No table of it has more than `most` bytes; while it grows it has two.
+    ///
+    /// ```
+    /// let index = hot::Hot::growing(usize::MAX, 2)?;
+    /// let handle = index.handle()?;
+    /// for number in 0..5000u64 {
+    ///     handle.insert(number.to_be_bytes(), number)?;
+    /// }
+    /// handle.clear_range(10u64.to_be_bytes()..)?;
+    /// index.trim()?;
+    /// assert_eq!((handle.len(), handle.census().bytes < 100_000), (10, true));
+    /// # Ok::<(), hot::Error>(())
+    /// ```
+    pub fn growing(most: usize, handles: usize) -> Result<Hot, Error> {
+        Hot::growing_with(None, most, handles)
+    }
+
+    pub(crate) fn growing_with(stock: Option<&Stock>, most: usize, handles: usize) -> Result<Hot, Error> {
+        let index = Arc::new(Index::growing(stock, most, handles)?);
         Ok(Hot { index })
+    }
+
+    /// Makes an index that grows of these pairs, whose keys rise, as [`Hot::from_sorted_iter`] makes one.
+    pub fn growing_from_sorted_iter<K: AsRef<[u8]>>(
+        most: usize,
+        handles: usize,
+        pairs: impl IntoIterator<Item = (K, u64)>,
+    ) -> Result<Hot, LoadError> {
+        Hot::loaded(Index::load(&Room::Grows(most), handles, pairs.into_iter()))
+    }
+
+    fn loaded(index: Result<Index, (Error, usize)>) -> Result<Hot, LoadError> {
+        let index = Arc::new(index.map_err(|(error, count)| LoadError { error, count })?);
+        Ok(Hot { index })
+    }
+
+    /// Has an index that grows do so ahead of need; the time is this thread's. [`Error::NotGrowing`] if it doesn't grow.
+    pub fn grow(&self) -> Result<(), Error> {
+        Error::check(self.index.grow()).map(|_| ())
+    }
+
+    /// Gives back the memory that the keys of an index that grows don't need. [`Error::NotGrowing`] if it doesn't grow.
+    pub fn trim(&self) -> Result<(), Error> {
+        Error::check(self.index.trim()).map(|_| ())
+    }
+
+    /// Whether it is time for [`Hot::grow`], so that no change finds the index full.
+    pub fn is_filling(&self) -> bool {
+        self.index.is_filling()
     }
 
     /// Opens a handle, at any time and from any thread. It is closed when it is dropped. [`Error::NoHandle`] if all are open.

@@ -78,12 +78,43 @@ fn an_index_grows_while_threads_read() -> Result<(), Error> {
     });
     let mut user = index.user()?;
     assert_eq!(user.read()?.len(), 2 * MANY as usize);
-    assert_eq!(
-        user.change(|handle| handle.insert("longer than 8", 1)),
-        Err(Error::KeyTooLong)
-    );
+    assert_eq!(user.change(|handle| handle.insert("longer than 8", 1)), Ok(None));
     assert_eq!(index.clone().user().map(|_| ()), Ok(()));
     assert_eq!(Growing::with_stock(&stock, 1024).err(), Some(Error::OutOfRange));
+    Ok(())
+}
+
+/// A closure that makes a change runs once, also where the index grows for it. An index that may not be larger is full, and one that doesn't
+/// grow says so.
+#[test]
+fn each_change_runs_once() -> Result<(), Error> {
+    let stock = Stock {
+        nodes: 4,
+        short_leaves: 20,
+        ..Stock::default()
+    };
+    let (mut user, mut runs) = (Growing::with_stock(&stock, 1)?.user()?, 0);
+    for number in 0..1000u32 {
+        user.change(|handle| {
+            runs += 1;
+            handle.insert(key_of(number), 1)
+        })?;
+    }
+    assert_eq!(runs, 1000);
+    let bounded = Hot::growing_from_sorted_iter(100_000, 1, (0..100u32).map(|number| (key_of(number), 1)))?;
+    let handle = bounded.handle()?;
+    assert_eq!((handle.len(), bounded.is_filling()), (100, false));
+    let pairs = (100..10_000u32).map(|number| (key_of(number), 1));
+    assert!(matches!(handle.extend(pairs), Err(why) if why.is_full()) && handle.len() > 500);
+    assert!(matches!(bounded.grow(), Err(why) if why.is_full()));
+    handle.clear()?;
+    bounded.trim()?;
+    assert!(handle.is_empty() && handle.census().bytes < 25_000);
+    let fixed = Hot::with_capacity(10, 8, 1)?;
+    assert_eq!(
+        (fixed.grow(), fixed.trim()),
+        (Err(Error::NotGrowing), Err(Error::NotGrowing))
+    );
     Ok(())
 }
 
