@@ -16,8 +16,8 @@ enum { KEYS = 20000, LOADED = 2000, HANDLES = 8, PAIRS = 200 };
 /* What calls read and write. */
 static struct {
     hot_stock stock;
-    hot_index *index, *loaded;
-    hot_handle few[HANDLES], handle, other, copy;
+    hot_index *index, *loaded, *within, *growing;
+    hot_handle few[HANDLES], handle, other, copy, grown;
     uint8_t key[HOT_MAX_KEY], next[HOT_MAX_KEY], bytes[PAIRS * HOT_MAX_KEY];
     size_t length, count, next_length, lengths[PAIRS];
     uint64_t had, values[PAIRS];
@@ -31,6 +31,7 @@ static struct {
     hot_moment moment;
     hot_retirement retirement;
     hot_refusals refusals;
+    hot_memory memory;
     hot_waits waits;
 } it;
 
@@ -147,7 +148,19 @@ static void write_keys(size_t turn) {
     CALL(2, hot_clear(&it.handle) == HOT_DONE)                                                                                     \
     CALL(2, hot_collect(&it.handle, &it.nodes, &it.leaves) == HOT_DONE)                                                            \
     CALL(1, hot_close(&it.copy) == HOT_DONE)                                                                                       \
-    CALL(1, hot_open(it.loaded, &it.copy) == HOT_DONE)
+    CALL(1, hot_open(it.loaded, &it.copy) == HOT_DONE)                                                                             \
+    CALL(2, (hot_bytes(it.index, &it.memory), 1))                                                                                  \
+    CALL(1, hot_open_index_within(&it.stock, 2, SIZE_MAX, &it.within) == HOT_DONE)                                                 \
+    CALL(1, hot_open_growing(NULL, SIZE_MAX, 4, &it.growing) == HOT_DONE)                                                          \
+    CALL(1, hot_open(it.growing, &it.grown) == HOT_DONE)                                                                           \
+    CALL(KEYS, hot_insert(&it.grown, KEY, turn, NULL) == HOT_INSERTED)                                                             \
+    CALL(2, hot_is_filling(it.growing) <= 1)                                                                                       \
+    CALL(2, hot_grow(it.growing) == HOT_DONE)                                                                                      \
+    CALL(1, hot_grow_begin(it.growing) == HOT_DONE)                                                                                \
+    CALL(100, hot_grow_step(it.growing, &it.more) == HOT_DONE)                                                                     \
+    CALL(2, hot_trim(it.growing) == HOT_DONE)                                                                                      \
+    CALL(1, hot_close(&it.grown) == HOT_DONE && hot_close_index(it.growing) == HOT_DONE)                                           \
+    CALL(1, hot_load_growing(SIZE_MAX, 2, write_next, &turn, &it.growing, &it.count) == HOT_DONE && it.count == LOADED)
 
 /* The calls as text, and how often each is made. */
 static const struct {
@@ -214,5 +227,6 @@ int main(void) {
     }
     CHECK(hot_close(&it.copy) == HOT_DONE && hot_close(&it.other) == HOT_DONE && hot_close(&it.handle) == HOT_DONE);
     CHECK(hot_close_index(it.index) == HOT_DONE && hot_close_index(it.loaded) == HOT_DONE);
+    CHECK(hot_close_index(it.within) == HOT_DONE && hot_close_index(it.growing) == HOT_DONE);
     return failures;
 }
