@@ -177,10 +177,10 @@ typedef struct hot_stock {
 hot_status hot_create_with(const hot_stock *stock, hot_handle *handles, size_t count);
 
 /* Writes a stock for `keys` keys of at most `longest` bytes each. It has 4 leaves for 3 keys, of the smallest size with room for such a
- * key, one node for 4 keys, and 512 more of both. Take the most keys that there will ever be: what isn't used takes no memory. That was
- * enough for random keys, URLs, numbers and text with a rising number, also where keys came and went for long. It is enough for eight
- * threads that change the index. Numbers with few bits set may take more, and keys that somebody chose to do harm up to one node each:
- * hot_stock_for_any_keys has room for them. */
+ * key, one node for 4 keys, and 512 more of both. Take the most keys that there will ever be: what isn't used takes no memory, only time when
+ * the table is made. That was enough for random keys, URLs, numbers and text with a rising number, also where keys came and went for long. It
+ * is enough for eight threads that change the index. Numbers with few bits set may take more, and keys that somebody chose to do harm up to
+ * one node each: hot_stock_for_any_keys has room for them. */
 void hot_stock_for_keys(uint32_t keys, size_t longest, hot_stock *stock);
 
 /* Writes a stock that is always enough for `keys` keys of at most `longest` bytes each, whatever they are, in an index of so many handles:
