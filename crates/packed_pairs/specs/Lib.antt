@@ -2,3 +2,4 @@
 pub mod Packed
 pub mod Last
 pub mod Parts
+pub mod Filled

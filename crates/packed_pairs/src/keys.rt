@@ -74,35 +74,36 @@ impl KeyBytes {
         }
     }
 
-    /// Adds the first `length` bytes of `places` at the end. An error if memory is refused: the bytes stay as they are.
-    ///
-    /// A copy of a number of bytes that is known beforehand needs no call. So it copies eight bytes for a key of eight, and 64 for another of
-    /// up to 64.
+    /// The bytes with others behind them, which mean nothing, and how many of these there are.
     #[inline(always)]
-    pub(crate) fn append(
-        &mut self,
-        places: &[u8; MAX_BYTES],
-        length: usize,
-    ) -> Result<(), AllocError>
-        requires { length ≤ MAX_BYTES }
-        ensures { self.new ≡ if is_ok result then self.old ++ take length places.now else self.old }
+    pub(crate) fn into_parts(self) -> (Vec<u8>, usize)
+        ensures bytes { take result.1 result.0.items ≡ self }
+        ensures fit { result.1 ≤ length result.0.items }
     {
-        if self.bytes.len() - self.used < MAX_BYTES {
-            add_room(&mut self.bytes, self.used)?;
-        }
-        copy_key(&mut self.bytes, self.used, places, length);
-        self.used += length;
-        Ok(())
+        let KeyBytes { bytes, used } = self;
+        (bytes, used)
+    }
+
+    /// The first `used` of `bytes`.
+    #[inline(always)]
+    pub(crate) fn of_parts(bytes: Vec<u8>, used: usize) -> KeyBytes
+        requires { used ≤ length bytes.items }
+        ensures { result ≡ take used bytes.items }
+    {
+        KeyBytes { bytes, used }
     }
 }
 
 /// Copies the first `size` bytes of `places` to `bytes`, from byte `used` on. All before it stay.
+///
+/// A copy of a number of bytes that is known beforehand needs no call. So it copies eight bytes for a key of eight, and 64 for another of
+/// up to 64.
 #[inline(always)]
-fn copy_key(bytes: &mut Vec<u8>, used: usize, places: &[u8; MAX_BYTES], size: usize)
+pub(crate) fn copy_key(bytes: &mut Vec<u8>, used: usize, places: &[u8; MAX_BYTES], size: usize)
     requires room { used + MAX_BYTES ≤ length bytes.old.items }
     requires fits { size ≤ MAX_BYTES }
     ensures copied { take (used + size) bytes.new.items ≡ take used bytes.old.items ++ take size places.now }
-    ensures long { used + size ≤ length bytes.new.items }
+    ensures long { length bytes.new.items ≡ length bytes.old.items }
 {
     let room = &mut bytes[used..];
     if size == 8 {
@@ -136,21 +137,8 @@ fn copy_to_front(room: &mut [u8], key: &[u8])
     room[..key.len()].copy_from_slice(key);
 }
 
-/// Makes room for one more key behind the first `used` of `bytes`, which stay. An error if memory is refused. Never inline, so that callers
-/// have less code.
-#[inline(never)]
-fn add_room(bytes: &mut Vec<u8>, used: usize) -> Result<(), AllocError>
-    requires { used ≤ length bytes.old.items }
-    ensures room { OnOk result (used + MAX_BYTES ≤ length bytes.new.items) }
-    ensures long { used ≤ length bytes.new.items }
-    ensures same { take used bytes.new.items ≡ take used bytes.old.items }
-{
-    bytes.reserve(MAX_BYTES)?;
-    let all = bytes.capacity();
-    bytes.resize(all, 0)
-}
-
-/// Copies the first `size` bytes of `places` to the first places of `room`. Never inline, as [`add_room`] is.
+/// Copies the first `size` bytes of `places` to the first places of `room`. Never inline, so that
+/// callers have less code.
 #[inline(never)]
 fn copy_any_length(room: &mut [u8], places: &[u8; MAX_BYTES], size: usize)
     requires room { MAX_BYTES ≤ length room.old }

@@ -3,6 +3,7 @@
 
 mod back;
 mod direction;
+mod filling;
 mod head;
 mod iter;
 mod keys;
@@ -10,6 +11,7 @@ mod pairs;
 mod parts;
 
 pub use direction::Direction;
+pub use filling::Filling;
 pub use head::Head;
 pub use iter::Iter;
 pub use pairs::Pairs;

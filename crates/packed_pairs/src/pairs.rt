@@ -66,29 +66,6 @@ impl Pairs {
         self.heads.clear();
     }
 
-    /// Adds a pair of a key and `value` at the end. The key has the first `length` bytes of `places`, `MAX_BYTES` at most. An error if
-    /// memory is refused: the pairs stay as they are.
-    #[inline(always)]
-    pub fn push(
-        &mut self,
-        places: &[u8; MAX_BYTES],
-        length: usize,
-        value: u64,
-    ) -> Result<(), AllocError>
-        requires key { IsKey (take length places.now) }
-        requires fits { length ≤ MAX_BYTES }
-        ensures ok { OnOk result (self.new ≡ self.old ++ (take length places.now, value) ∷ []) }
-        ensures err { OnErr result (self.new ≡ self.old) }
-    {
-        self.heads.reserve(1)?;
-        self.bytes.append(places, length)?;
-        self.heads.push_reserved(Head {
-            count: length as u8,
-            value,
-        });
-        Ok(())
-    }
-
     /// The key of the last pair; `None` if there is no pair.
     pub fn last_key(&self) -> Option<Key>
         ensures { MatchOption result (self.now ≡ []) (IsLastKey self.now) }

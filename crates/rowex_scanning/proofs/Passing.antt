@@ -1,5 +1,5 @@
 -- What a walk has seen at the places that come next, and what it comes to behind their leaves.
-use Rattle.std.proofs.Common.{◌≡◌, ℕ, ◌+◌, ◌<◌, ◌≤◌, List, length, Bool, get_or, set, take, ap, sym, subst, arith, ⊎_elim}
+use Rattle.std.proofs.Common.{◌≡◌, ℕ, ◌+◌, ◌<◌, ◌≤◌, List, length, Bool, true, false, get_or, set, take, ap, sym, subst, arith, ⊎_elim}
 use Rattle.std.proofs.lemmas.Bool.{cases_lt}
 use Rattle.std.proofs.lemmas.List.{get_or-set_other, get_or-take, length-take-le}
 use Rattle.std.proofs.lemmas.Grind.{get_or-set_at}
@@ -11,17 +11,17 @@ use Rattle.record_words.specs.declared.layout.Layout.{Layout}
 use Rattle.rowex_core.specs.declared.known.Known.{Known}
 use Rattle.rowex_table.specs.Made.{IsLater}
 use Rattle.version_laws.specs.Scan.{Range, EntryStoodSince, IsPlaced}
-use Rattle.rowex_reading.specs.Seen.{HasPlace, HasMorePlaces, IsLedTo, Sure}
+use Rattle.rowex_reading.specs.Seen.{HasPlace, HasMorePlaces, IsLedTo, Sure, since}
 use Rattle.rowex_reading.proofs.Seeing.{placed_stable, room_stable, seen_stable, since_later, sure_later}
-use Rattle.rowex_scanning.specs.Ahead.{AreAhead, AreTaken, HasPlaces, HavePassed, IsNodeAhead}
+use Rattle.rowex_scanning.specs.Ahead.{AreAhead, AreNext, AreTaken, HasPlaces, HavePassed, IsNodeAhead}
 use Rattle.version_laws.specs.Directions.{first_key, gap_after, gap_before, gap_behind, place_ahead, to_come}
-use Rattle.rowex_scanning.specs.Scanning.{IsBound, IsLeafTaken, IsReached, IsWalk}
-use Rattle.rowex_scanning.specs.Tallies.{Tally}
+use Rattle.rowex_scanning.specs.Scanning.{IsBound, IsLeafTaken, IsReached, IsWalk, Request}
+use Rattle.rowex_scanning.specs.Tallies.{IsKept, Tally}
 use Rattle.packed_pairs.specs.declared.direction.Direction.{Direction}
 use Rattle.rowex_scanning.specs.declared.scan.Verdict.{Verdict}
-use Rattle.rowex_scanning.specs.declared.scan.Verdict.TheVariants.{Further}
-use Rattle.rowex_scanning.proofs.Directed.{gap_before_place, gap_behind_place, gap_none}
-use Rattle.rowex_scanning.proofs.Walking.{IsAtEntry, bound_later, bound_leaf, bound_next, entry_led, taken_more, walk_at_place, walk_further}
+use Rattle.rowex_scanning.specs.declared.scan.Verdict.TheVariants.{Further, Past as IsPast, Full}
+use Rattle.rowex_scanning.proofs.Directed.{come_most, gap_before_place, gap_behind_place, gap_none}
+use Rattle.rowex_scanning.proofs.Walking.{IsAtEntry, bound_later, bound_leaf, bound_next, bound_since, entry_led, taken_more, tallied_kept, walk_at_place, walk_fits, walk_further, walk_later, walk_since, walk_tallied}
 
 -- a node with another gap
 abbrev at_gap : PathNode → ℕ → PathNode
@@ -102,6 +102,45 @@ module _ {d : Direction} {k : Known} {m : ℕ} {g : Range} {top : PathNode} {fra
 -- All were taken.
 pub taken_all : (Passed : Type 0) (Ended : Bool → Type 0) {verdict : Verdict} → AreTaken Passed Ended verdict → verdict ≡ Further → Passed
 taken_all Passed Ended taken is = subst (λ z. AreTaken Passed Ended z) is taken
+
+-- The scan has ended at one.
+pub taken_past : (Passed : Type 0) (Ended : Bool → Type 0) {verdict : Verdict} → AreTaken Passed Ended verdict → verdict ≡ IsPast → Ended false
+taken_past Passed Ended taken is = subst (λ z. AreTaken Passed Ended z) is taken
+
+pub taken_full : (Passed : Type 0) (Ended : Bool → Type 0) {verdict : Verdict} → AreTaken Passed Ended verdict → verdict ≡ Full → Ended true
+taken_full Passed Ended taken is = subst (λ z. AreTaken Passed Ended z) is taken
+
+-- After more loads.
+pub passed_later : {k j : Known} {m : ℕ} {r : Request} {frames : List PathNode} {top : PathNode} {size count : ℕ} {t : Tally} → IsLater k j → HavePassed k m r frames top size count t → HavePassed j m r frames top size count t
+passed_later {m = m} {r = r} l p = record { more = p.more; walk = walk_later l p.walk; bound = bound_later r.0 m (first_key r.0 r.1) l p.bound }
+
+-- Since another load of the root that is the same, and for another number of pairs before that is the same.
+pub passed_as : {j : Known} {m n : ℕ} {r : Request} {frames : List PathNode} {top : PathNode} {size before count : ℕ} {t : Tally} → m ≡ n → size ≡ before → HavePassed j m r frames top size count t → HavePassed j n r frames top before count t
+passed_as {j} {m} {n} {r} {frames} {top} {size} {before} {count} {t} same is p = subst (λ z. HavePassed j n r frames top z count t) is (subst (λ z. HavePassed j z r frames top size count t) same p)
+
+-- Leaves that come next come next after more loads, where as much is said of the pairs so far, and the first of them alone.
+pub next_later : {k j : Known} {r : Request} {top : PathNode} {frames : List PathNode} {t : Tally} {leaves : List ℕ} → IsLater k j → since j ≡ since k → AreNext k r top frames t leaves → AreNext j r top frames t leaves
+next_later {k} {j} {r} {top} {frames} {t} {leaves} l same n = record {
+  bound = (walk_since same (walk_later l n.bound.0), bound_since r.0 (since k) (first_key r.0 r.1) same (bound_later r.0 (since k) (first_key r.0 r.1) l n.bound.1));
+  ahead = subst (λ z. AreAhead r.0 j z top (length leaves) leaves) (sym same) (ahead_later r.0 (since k) top l (length leaves) leaves n.ahead);
+  come = n.come;
+}
+
+pub next_kept : {k : Known} {r : Request} {top : PathNode} {frames : List PathNode} {t u : Tally} {leaves : List ℕ} → IsKept t u → AreNext k r top frames t leaves → AreNext k r top frames u leaves
+next_kept {t = t} {u = u} kept n = record { bound = (walk_tallied (tallied_kept t u kept) n.bound.0, n.bound.1); ahead = n.ahead; come = n.come }
+
+pub next_first : {k : Known} {r : Request} {top : PathNode} {frames : List PathNode} {t : Tally} {leaves : List ℕ} (count : ℕ) → count ≤ length leaves → AreNext k r top frames t leaves → AreNext k r top frames t (take count leaves)
+next_first {k} {r} {top} {leaves = leaves} count fits n = record {
+  bound = n.bound;
+  ahead = ahead_first r.0 (since k) top count leaves fits (λ i low. n.ahead i (omega (arith, low, fits)));
+  come = let long = length-take-le count leaves fits in let come = n.come in omega (arith, long, come, fits);
+}
+
+-- They are no more than a node has entries.
+pub next_few : {k : Known} {r : Request} {top : PathNode} {frames : List PathNode} {t : Tally} {leaves : List ℕ} → AreNext k r top frames t leaves → length leaves ≤ 32
+next_few {r = r} {top = top} n =
+    let w = n.bound.0 in let room : top.count ≤ 32 = subst (λ z. z ≤ 32) (sym (ap (λ (z : PathNode). z.count) w.top_is)) w.room in
+    let most = come_most r.0 top.count top.slot (walk_fits w) in let come = n.come in omega (arith, come, most, room)
 
 -- At the node that comes behind them.
 pub node_at : {d : Direction} {k : Known} {m : ℕ} {g : Range} {top : PathNode} {frames : List PathNode} {size count number : ℕ} {t : Tally} → top.slot ≤ top.count → count < to_come d top.count top.slot → HavePassed k m (d, g) frames top size count t →

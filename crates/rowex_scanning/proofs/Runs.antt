@@ -19,9 +19,10 @@ use Rattle.rowex_reading.specs.Seen.{Sure, IsLedTo, seen, since}
 use Rattle.rowex_reading.proofs.Led.{placed_led}
 use Rattle.rowex_reading.proofs.Seeing.{later_reflexive, read_stable, recalls_before, seen_grown, seen_steady, since_later, sure_later}
 use Rattle.rowex_scanning.specs.Ahead.{AreBehindGap, AreNext, AreWithin, HavePassed, IsLeafNotPast, IsLeafPast}
-use Rattle.rowex_scanning.specs.Scanning.{HasTaken, Request}
-use Rattle.rowex_scanning.specs.Tallies.{IsOneMore, Tally, tally_of_number}
+use Rattle.rowex_scanning.specs.Scanning.{HasTaken, HasTakenPart, Request}
+use Rattle.rowex_scanning.specs.Tallies.{IsKept, IsOneMore, Tally, tally_of_number}
 use Rattle.rowex_scanning.proofs.Directed.{in_range}
+use Rattle.rowex_scanning.proofs.Parts.{before_limited, part_is}
 use Rattle.rowex_scanning.proofs.Starting.{read_same}
 use Rattle.rowex_scanning.proofs.Passing.{ahead_later, leaf_at, passed_none, passed_on}
 use Rattle.rowex_scanning.proofs.Walking.{IsAtEntry, bound_later, walk_cut, walk_done, walk_fits, walk_later, walk_on}
@@ -136,6 +137,12 @@ module _ {k : Known} {r : Request} {top : PathNode} {frames : List PathNode} {t 
       pub run_cut : since j ≡ since k → AreWithin j (since k) r.1 leaves (i + 1) → u.size ≡ r.1.limit → HasTaken r.0 j r.1 u true
       run_cut same are full = walk_cut at_leaf here u same (refl, λ taken said. said) (λ c lawful recalls.
           let (key, value, read) = read_at c lawful recalls in (key, value, read, are i (omega arith) c lawful recalls key value read)) full
+
+      -- or there is no memory for it,
+      pub run_part : {v : Tally} → since j ≡ since k → AreWithin j (since k) r.1 leaves (i + 1) → IsKept u v → u.size < r.1.limit → HasTakenPart r.0 j r.1 v
+      run_part {v} same are kept room = part_is u v kept room
+          (walk_cut (record { walk = before_limited at_leaf.walk; placed = at_leaf.placed }) here v same kept (λ c lawful recalls.
+          let (key, value, read) = read_at c lawful recalls in (key, value, read, are i (omega arith) c lawful recalls key value read)) refl)
 
       -- or it is past the range.
       pub run_done : since j ≡ since k → IsLeafPast j (since k) r (get_or leaves i 0) → HasTaken r.0 j r.1 u false

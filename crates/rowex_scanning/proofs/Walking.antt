@@ -257,6 +257,10 @@ tallied_kept t u kept taken tallied = (kept.0 ∙ tallied.0, kept.1 taken tallie
 pub tallied_more : (t u : Tally) (key : Key) (value : ℕ) → IsOneMore t key value u → (taken : List Pair) → AreTallied t taken → AreTallied u (record { key = key; value = value } ∷ taken)
 tallied_more t u key value more taken tallied = (let e = more.0 in let n = tallied.0 in omega (arith, e, n), more.1 taken tallied.1)
 
+-- none more, and then one more
+pub kept_more : (t u v : Tally) (key : Key) (value : ℕ) → IsKept t u → IsOneMore u key value v → IsOneMore t key value v
+kept_more t u v key value kept more = (let e = more.0 in let n = kept.0 in omega (arith, e, n), λ taken said. more.1 taken (kept.1 taken said))
+
 -- of none there are no pairs
 pub tallied_none : (t : Tally) → IsNone t → (taken : List Pair) → AreTallied (tally_of_number 0) taken → AreTallied t taken
 tallied_none t none taken tallied = subst (AreTallied t) (sym (no_pairs taken (sym tallied.0))) none

@@ -9,7 +9,7 @@ ghost use Rattle.record_words.specs.declared.records.Rec.TheVariants.{Leaf as a_
 
 use crate::direction::{entries_to_come, slot_ahead};
 use crate::scan::Scan;
-use crate::tallies::Tallies;
+use crate::sinks::Tallies;
 use compound_node::Entry;
 use insert_cases::PathNode;
 use record_words::{Origins, VALUE_OFFSET};

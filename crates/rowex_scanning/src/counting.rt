@@ -14,16 +14,16 @@ ghost use Rattle.rowex_scanning.specs.Scanning.{HasTaken, asked_range, request_o
 ghost use Rattle.rowex_scanning.specs.Tallies.{tally_of_number};
 ghost use Rattle.rowex_table.specs.Seats.{IsSeatOf};
 
-use crate::scan::{Range, Scan, Verdict, is_past_range};
+use crate::scan::{Places, Range, Scan, Verdict, is_past_range};
 use crate::scanning::walk_root;
-use crate::sinks::Sink;
-use crate::tallies::Tallies;
+use crate::sinks::{Sink, Tallies};
+use crate::taking::load_scanned_leaf;
 use bounded_vec::BoundedVec;
 use insert_cases::PathNode;
 use key_bits::MAX_BYTES;
-use rowex_core::{Gate, Rec};
-use rowex_reading::{MOST_NODES, load_leaf};
-use rowex_table::{HotTable, RecordAt, TableSeat};
+use rowex_core::Gate;
+use rowex_reading::MOST_NODES;
+use rowex_table::{HotTable, TableSeat};
 use std::alloc::AllocError;
 
 /// How many pairs a walk has taken, and nothing else of them.
@@ -33,9 +33,12 @@ struct Number {
 }
 
 impl Tallies for Number {
+    ghost use Rattle.std.specs.Prelude.{◌-◌, ◌^◌};
     ghost use Rattle.rowex_scanning.specs.Tallies.{tally_of_number};
 
     ghost tally = { λ number. tally_of_number number.count };
+
+    ghost room = { λ number. 2 ^ 64 - 1 - number.count };
 
     ghost may_refuse = { ⊥ };
 
@@ -50,14 +53,13 @@ impl Tallies for Number {
     }
 
     #[inline(always)]
-    fn take_pair(
-        &mut self,
-        _places: &[u8; MAX_BYTES],
-        _length: usize,
-        _value: u64,
-    ) -> Result<(), AllocError> {
-        self.count += 1;
+    fn make_room(&mut self, _count: usize) -> Result<(), AllocError> {
         Ok(())
+    }
+
+    #[inline(always)]
+    fn take_pair(&mut self, _places: &[u8; MAX_BYTES], _length: usize, _value: u64) {
+        self.count += 1;
     }
 }
 
@@ -69,9 +71,9 @@ impl Sink for Number {
         seat: &mut TableSeat,
         gate: &mut G,
         leaves: &[u32],
-        places: &mut [u8; MAX_BYTES],
+        places: &mut Places,
     ) -> Result<Verdict, AllocError> {
-        let within = count_leaves_within(scan, seat, gate, leaves, places);
+        let within = count_leaves_within(scan, seat, gate, leaves, &mut places.next);
         let room = scan.range.limit - self.count;
         if room < within {
             self.count += room;
@@ -166,7 +168,6 @@ fn is_leaf_past<G: Gate>(
     ensures past { IsTrue result → (m : ℕ) → IsLedTo seat.old.known m (LeafEntry number) → IsLeafPast seat.new.known m (request_of scan.now.range.now) number }
     ensures not_past { result ≡ false → (m : ℕ) → IsLedTo seat.old.known m (LeafEntry number) → IsLeafNotPast seat.new.known m (request_of scan.now.range.now) number }
 {
-    let leaf = RecordAt::find(scan.origins, Rec::Leaf(number));
-    let (length, _) = load_leaf(scan.table, seat, gate, leaf, places);
+    let (length, _) = load_scanned_leaf(scan, seat, gate, number, places);
     is_past_range(scan.range, &places[..length])
 }

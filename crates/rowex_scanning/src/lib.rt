@@ -10,7 +10,6 @@ mod scanning;
 mod sinks;
 mod start;
 mod taking;
-mod tallies;
 
 pub use counting::count_root;
 pub use packed_pairs::Direction;

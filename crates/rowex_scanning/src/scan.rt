@@ -7,7 +7,7 @@ ghost use Rattle.rowex_scanning.specs.Scanning.{first_key_of, last_key_of};
 ghost use Rattle.version_laws.specs.Directions.{IsEarlier, IsNoLater};
 
 use crate::direction::is_key_before;
-use key_bits::Key;
+use key_bits::{Key, MAX_BYTES};
 use packed_pairs::Direction;
 use record_words::{Origins, key_word_at};
 use rowex_table::HotTable;
@@ -34,6 +34,15 @@ pub(crate) struct Scan<'a> {
     pub origins: &'a Origins,
     /// The range of keys.
     pub range: &'a Range<'a>,
+}
+
+/// Room for the bytes of two keys.
+#[derive(Drop)]
+pub(crate) struct Places {
+    /// Of the last leaf of a group, which is read first.
+    pub last: [u8; MAX_BYTES],
+    /// Of one of the others.
+    pub next: [u8; MAX_BYTES],
 }
 
 /// What becomes of a scan at a pair.

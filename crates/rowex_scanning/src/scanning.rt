@@ -20,17 +20,17 @@ use crate::direction::{
     entries_to_come, first_gap, gap_after_entries, gap_behind_slot, is_earlier_key, is_key_before,
     slot_ahead,
 };
-use crate::scan::{Range, Scan, Verdict, first_key};
+use crate::scan::{Places, Range, Scan, Verdict, first_key};
 use crate::sinks::Sink;
 use crate::start::{SearchEnd, find_start};
-use crate::taking::{take_leaf, take_pair_in_range};
+use crate::taking::{load_scanned_leaf, take_leaf, take_pair_in_range};
 use bounded_vec::BoundedVec;
 use insert_cases::PathNode;
 use key_bits::MAX_BYTES;
-use packed_pairs::{Direction, Pairs};
-use rowex_core::{Gate, Rec};
-use rowex_reading::{Found, MOST_NODES, load_leaf, load_path_node, load_root, search_way};
-use rowex_table::{HotTable, RecordAt, TableSeat};
+use packed_pairs::{Direction, Filling, Pairs};
+use rowex_core::Gate;
+use rowex_reading::{Found, MOST_NODES, load_path_node, load_root, search_way};
+use rowex_table::{HotTable, TableSeat};
 use std::alloc::AllocError;
 
 /// Lists the first pairs of `range` in its direction, `range.limit` at most, in place of those in `pairs`. Returns whether there is a
@@ -56,7 +56,10 @@ pub fn scan_root<G: Gate>(
     ensures part { OnErr result (HasScannedPart range.now.direction seat.new.known (asked_range range.now) pairs.new) }
     ensures few { seat.new.known.steps ≤ seat.old.known.steps + (1 + scan_loads range.now.limit) }
 {
-    walk_root(table, seat, gate, way, range, pairs)
+    let mut filling = Filling::take(pairs);
+    let scan = walk_root(table, seat, gate, way, range, &mut filling);
+    filling.put_back(pairs);
+    scan
 }
 
 /// Does what [`scan_root`] does, but lists the values of the pairs alone.
@@ -149,8 +152,7 @@ fn scan_leaf<G: Gate, S: Sink>(
 {
     let range = scan.range;
     let mut places = [0; MAX_BYTES];
-    let leaf = RecordAt::find(scan.origins, Rec::Leaf(number));
-    let (length, value) = load_leaf(scan.table, seat, gate, leaf, &mut places);
+    let (length, value) = load_scanned_leaf(scan, seat, gate, number, &mut places);
     if is_earlier_key(
         range.direction,
         &places[..length],
@@ -222,7 +224,10 @@ fn walk_slots<G: Gate, S: Sink>(
     ensures refused { OnErr result S.may_refuse }
 {
     let direction = scan.range.direction;
-    let places = &mut [0; MAX_BYTES];
+    let places = &mut Places {
+        last: [0; MAX_BYTES],
+        next: [0; MAX_BYTES],
+    };
     let Some(mut top) = way.pop() else {
         return Ok(false);
     };

@@ -1,29 +1,106 @@
 //! How the leaves that come next on a walk are read, and their pairs taken.
 
-ghost use Rattle.std.specs.Prelude.{◌≡◌, ◌≤◌, ◌*◌, ℕ, IfOk, List, OnErr, length, take};
+ghost use Rattle.std.specs.Prelude.{◌≡◌, ◌≤◌, ◌<◌, ◌+◌, ◌-◌, ◌*◌, ℕ, IfOk, List, OnErr, length, slice_index, take};
 ghost use Rattle.compound_node.specs.declared.entries.Entry.TheVariants.{Leaf as LeafEntry};
 ghost use Rattle.insert_cases.specs.declared.choice.PathNode.{PathNode};
 ghost use Rattle.key_bits.specs.Key.{IsKey};
 ghost use Rattle.key_bits.specs.declared.TheConstants.{MAX_BYTES};
 ghost use Rattle.record_words.specs.declared.TheConstants.{LEAF_FIELDS};
 ghost use Rattle.rowex_reading.specs.Reads.{IsReader, Reads};
-ghost use Rattle.rowex_reading.specs.Seen.{IsLedTo};
-ghost use Rattle.rowex_scanning.specs.Ahead.{AreNext, AreTakenOnWays};
+ghost use Rattle.rowex_reading.specs.Seen.{IsLedTo, Sure, since};
+ghost use Rattle.rowex_scanning.specs.Ahead.{AreNext, AreTakenOnWays, HavePassed, IsLeafNotPast};
 ghost use Rattle.rowex_scanning.specs.Scanning.{HasTakenPart, IsLeafRefused, IsLeafTaken, IsPairRefused, IsPairTaken, IsReached, asked_range, first_key_of, request_of};
 ghost use Rattle.version_laws.specs.Directions.{IsNoLater};
+ghost use Rattle.version_laws.specs.Scan.{IsRead};
 
 use crate::ahead::touch_leaves;
-use crate::scan::{Range, Scan, Verdict, is_past_range};
-use crate::tallies::Tallies;
+use crate::scan::{Places, Range, Scan, Verdict, is_past_range};
+use crate::sinks::Tallies;
 use key_bits::MAX_BYTES;
 use rowex_core::{Gate, Rec};
 use rowex_reading::load_leaf;
 use rowex_table::{RecordAt, TableSeat};
 use std::alloc::AllocError;
 
-/// Takes the pairs of `leaves` one by one, as `Sink::take_leaves` says. It touches them before.
+/// Takes the pairs of `leaves`, as `Sink::take_leaves` says. It touches them before.
+///
+/// The last leaf is read first. Keys rise with the walk, or fall: where its key is not past the range, no other is, and none of them is
+/// compared. Only leaves of which the last is past go one by one.
 #[inline(always)]
 pub(crate) fn take_each_leaf<G: Gate, S: Tallies>(
+    scan: &Scan,
+    seat: &mut TableSeat,
+    gate: &mut G,
+    leaves: &[u32],
+    places: &mut Places,
+    sink: &mut S,
+) -> Result<Verdict, AllocError>
+    requires reader { IsReader scan.now.table.now seat.old }
+    requires origins { scan.now.origins.now.layout ≡ scan.now.table.now.layout }
+    requires next { (top : PathNode) × (frames : List PathNode) × AreNext seat.old.known (request_of scan.now.range.now) top frames (S.tally sink.old) leaves.now }
+    requires few { (S.tally sink.old).size + length leaves.now ≤ scan.now.range.now.limit + 1 }
+    ensures reads { (n : ℕ) × (n ≤ LEAF_FIELDS * length leaves.now) × Reads scan.now.table.now G.becomes 0 n (seat.old, gate.old) (seat.new, gate.new) }
+    ensures taken { IfOk result (AreTakenOnWays seat.old.known seat.new.known (request_of scan.now.range.now) (S.tally sink.old) leaves.now (S.tally sink.new)) }
+    ensures part { OnErr result (HasTakenPart scan.now.range.now.direction seat.new.known (asked_range scan.now.range.now) (S.tally sink.new)) }
+    ensures refused { OnErr result S.may_refuse }
+{
+    touch_leaves(scan, leaves);
+    let count = leaves.len();
+    if count == 0 {
+        return Ok(Verdict::Further);
+    }
+    let others = count - 1;
+    let (length, value) = load_scanned_leaf(scan, seat, gate, leaves[others], &mut places.last);
+    if is_past_range(scan.range, &places.last[..length]) {
+        let next = &leaves[..others];
+        return match take_leaves_to_end(scan, seat, gate, next, &mut places.next, sink)? {
+            Verdict::Full => Ok(Verdict::Full),
+            Verdict::Further | Verdict::Past => Ok(Verdict::Past),
+        };
+    }
+    let room = scan.range.limit - sink.size();
+    sink.make_room(count.min(room))?;
+    take_leaves_before_last(scan, seat, gate, leaves, &mut places.next, sink);
+    if room < count {
+        return Ok(Verdict::Full);
+    }
+    sink.take_pair(&places.last, length, value);
+    Ok(Verdict::Further)
+}
+
+/// Takes the pairs of `leaves` but that of the last one, whose key is not past the range, so that none of the others is compared. There is room
+/// for them, by the limit and in `sink`.
+#[inline(always)]
+fn take_leaves_before_last<G: Gate, S: Tallies>(
+    scan: &Scan,
+    seat: &mut TableSeat,
+    gate: &mut G,
+    leaves: &[u32],
+    places: &mut [u8; MAX_BYTES],
+    sink: &mut S,
+)
+    requires reader { IsReader scan.now.table.now seat.old }
+    requires origins { scan.now.origins.now.layout ≡ scan.now.table.now.layout }
+    requires next { (top : PathNode) × (frames : List PathNode) × AreNext seat.old.known (request_of scan.now.range.now) top frames (S.tally sink.old) leaves.now }
+    requires some { 0 < length leaves.now }
+    requires last { IsLeafNotPast seat.old.known (since seat.old.known) (request_of scan.now.range.now) (slice_index leaves.now (length leaves.now - 1)) }
+    requires few { (S.tally sink.old).size + (length leaves.now - 1) ≤ scan.now.range.now.limit }
+    requires room { length leaves.now - 1 ≤ S.room sink.old }
+    ensures reads { (n : ℕ) × (n ≤ LEAF_FIELDS * (length leaves.now - 1)) × Reads scan.now.table.now G.becomes 0 n (seat.old, gate.old) (seat.new, gate.new) }
+    ensures passed { (top : PathNode) (frames : List PathNode) → AreNext seat.old.known (request_of scan.now.range.now) top frames (S.tally sink.old) leaves.now →
+        HavePassed seat.new.known (since seat.old.known) (request_of scan.now.range.now) frames top (S.tally sink.old).size (length leaves.now - 1) (S.tally sink.new) }
+    ensures room { S.room sink.old ≤ S.room sink.new + (length leaves.now - 1) }
+{
+    let others = leaves.len() - 1;
+    for index in 0..others {
+        let (length, value) = load_scanned_leaf(scan, seat, gate, leaves[index], places);
+        sink.take_pair(places, length, value);
+    }
+}
+
+/// Takes the pairs of `leaves` one by one, and compares each with the range's end, as `Sink::take_leaves` says.
+#[inline(always)]
+fn take_leaves_to_end<G: Gate, S: Tallies>(
     scan: &Scan,
     seat: &mut TableSeat,
     gate: &mut G,
@@ -39,7 +116,6 @@ pub(crate) fn take_each_leaf<G: Gate, S: Tallies>(
     ensures part { OnErr result (HasTakenPart scan.now.range.now.direction seat.new.known (asked_range scan.now.range.now) (S.tally sink.new)) }
     ensures refused { OnErr result S.may_refuse }
 {
-    touch_leaves(scan, leaves);
     for index in 0..leaves.len() {
         match take_leaf(scan, seat, gate, leaves[index], places, sink)? {
             Verdict::Further => (),
@@ -50,10 +126,29 @@ pub(crate) fn take_each_leaf<G: Gate, S: Tallies>(
     Ok(Verdict::Further)
 }
 
+/// Loads leaf `number`, to which the walk was led. Returns its key's length in bytes and its value. Writes the bytes of the key to the first
+/// of `places`.
+#[inline(always)]
+pub(crate) fn load_scanned_leaf<G: Gate>(
+    scan: &Scan,
+    seat: &mut TableSeat,
+    gate: &mut G,
+    number: u32,
+    places: &mut [u8; MAX_BYTES],
+) -> (usize, u64)
+    requires reader { IsReader scan.now.table.now seat.old }
+    requires origins { scan.now.origins.now.layout ≡ scan.now.table.now.layout }
+    requires led { (m : ℕ) × IsLedTo seat.old.known m (LeafEntry number) }
+    ensures reads { (n : ℕ) × (n ≤ LEAF_FIELDS) × Reads scan.now.table.now G.becomes 0 n (seat.old, gate.old) (seat.new, gate.new) }
+    ensures key { IsKey (take result.0 places.new) × (result.0 ≤ MAX_BYTES) }
+    ensures leaf { (m : ℕ) → IsLedTo seat.old.known m (LeafEntry number) → Sure seat.new.known (λ s. IsRead s m number (take result.0 places.new) result.1) }
+{
+    let leaf = RecordAt::find(scan.origins, Rec::Leaf(number));
+    load_leaf(scan.table, seat, gate, leaf, places)
+}
+
 /// Loads leaf `number`, whose key does not come before `scan.range`, and gives its pair to `sink`, as [`take_pair_in_range`] does. Returns
 /// what becomes of the scan. An error if memory is refused. `places` is room for the key's bytes.
-///
-/// Keys of eight bytes are common: what is compiled for them alone has each as a number.
 #[inline(always)]
 pub(crate) fn take_leaf<G: Gate, S: Tallies>(
     scan: &Scan,
@@ -73,11 +168,7 @@ pub(crate) fn take_leaf<G: Gate, S: Tallies>(
     ensures refused { OnErr result (IsLeafRefused seat.old.known seat.new.known (asked_range scan.now.range.now) number (S.tally sink.old) (S.tally sink.new)) }
     ensures may { OnErr result S.may_refuse }
 {
-    let leaf = RecordAt::find(scan.origins, Rec::Leaf(number));
-    let (length, value) = load_leaf(scan.table, seat, gate, leaf, places);
-    if length == 8 {
-        return take_pair_in_range(sink, scan.range, places, 8, value);
-    }
+    let (length, value) = load_scanned_leaf(scan, seat, gate, number, places);
     take_pair_in_range(sink, scan.range, places, length, value)
 }
 
@@ -107,6 +198,7 @@ pub(crate) fn take_pair_in_range<S: Tallies>(
     if sink.size() == range.limit {
         return Ok(Verdict::Full);
     }
-    sink.take_pair(places, length, value)?;
+    sink.make_room(1)?;
+    sink.take_pair(places, length, value);
     Ok(Verdict::Further)
 }

@@ -3,61 +3,52 @@ use Rattle.std.proofs.Common.{◌∙◌, ◌≤◌, ℕ, subst, take}
 use Rattle.std.proofs.lemmas.Result.{err_from_is_err_and}
 use Rattle.compound_node.specs.declared.entries.Entry.TheVariants.{Leaf}
 use Rattle.record_words.specs.declared.TheConstants.{LEAF_FIELDS}
-use Rattle.rowex_reading.specs.Reads.{Reads, leaf_loads}
+use Rattle.rowex_reading.specs.Reads.{Reads}
 use Rattle.rowex_reading.specs.Seen.{since}
 use Rattle.rowex_reading.proofs.Led.{reads_later, rooted_led, same_since}
-use Rattle.rowex_reading.proofs.Naming.{leaf_led, leaf_told}
 use Rattle.version_laws.specs.Directions.{IsEarlier, IsNoLater}
 use Rattle.rowex_scanning.specs.Scanning.{asked_range}
-use Rattle.rowex_scanning.proofs.Begins.{leaf_begins, leaf_there}
 use Rattle.rowex_scanning.proofs.Parts.{leaf_part}
 use Rattle.rowex_scanning.proofs.Walking.{IsRootRead, leaf_early, leaf_full, leaf_unfilled}
 use Rattle.rowex_scanning.proofs.scanning.scan_leaf.Given as given
 use Rattle.rowex_scanning.proofs.scanning.scan_leaf.Goals as goal
-use Rattle.rowex_scanning.proofs.scanning.scan_leaf.Goals.{After-load_leaf-length}
+use Rattle.rowex_scanning.proofs.scanning.scan_leaf.Goals.{After-load_scanned_leaf-length}
 
 -- the leaf has been read
-root_read : (g : given.Over) (c : After-load_leaf-length g) →
-    IsRootRead c.args.seat.now.known c.load_leaf-length.new.seat.known c.args.number (take c.load_leaf-length.result.0 c.load_leaf-length.new.places) c.load_leaf-length.result.1
+root_read : (g : given.Over) (c : After-load_scanned_leaf-length g) →
+    IsRootRead c.args.seat.now.known c.load_scanned_leaf-length.new.seat.known c.args.number (take c.load_scanned_leaf-length.result.0 c.load_scanned_leaf-length.new.places) c.load_scanned_leaf-length.result.1
 root_read g c =
-    let e = c.load_leaf-length.ensures in
-    record { later = reads_later e.reads; root = c.requires.root; same = same_since e.reads; read = leaf_told c.args.number c.find-leaf.result.rec c.find-leaf.ensures.rec c.args.seat.now.known c.load_leaf-length.new.seat.known (take c.load_leaf-length.result.0 c.load_leaf-length.new.places) c.load_leaf-length.result.1 e.leaf (since c.args.seat.now.known) (rooted_led (Leaf c.args.number) c.requires.root) }
+    let e = c.load_scanned_leaf-length.ensures in
+    record { later = reads_later e.reads.2; root = c.requires.root; same = same_since e.reads.2; read = e.leaf (since c.args.seat.now.known) (rooted_led (Leaf c.args.number) c.requires.root) }
 
-loads : (g : given.Over) (c : After-load_leaf-length g) → (n : ℕ) × (n ≤ LEAF_FIELDS) × Reads c.args.scan.now.table.now g.G.Gate.becomes 0 n (c.args.seat.now, c.args.gate.now) (c.load_leaf-length.new.seat, c.load_leaf-length.new.gate)
-loads g c = let e = c.load_leaf-length.ensures in (leaf_loads (take c.load_leaf-length.result.0 c.load_leaf-length.new.places), e.few, e.reads)
+loads : (g : given.Over) (c : After-load_scanned_leaf-length g) → (n : ℕ) × (n ≤ LEAF_FIELDS) × Reads c.args.scan.now.table.now g.G.Gate.becomes 0 n (c.args.seat.now, c.args.gate.now) (c.load_scanned_leaf-length.new.seat, c.load_scanned_leaf-length.new.gate)
+loads g c = c.load_scanned_leaf-length.ensures.reads
 
-pub find-leaf-requires : goal.find-leaf-requires
-find-leaf-requires g c =
-    leaf_there c.args.scan.now.table.now.layout c.args.scan.now.origins.now.layout c.requires.origins c.args.seat.now.known (since c.args.seat.now.known) c.args.number c.requires.reader.1 (rooted_led (Leaf c.args.number) c.requires.root)
-
-pub load_leaf-length-requires-clause-led : goal.load_leaf-length-requires-clause-led
-load_leaf-length-requires-clause-led g c = (since c.args.seat.now.known, leaf_led c.args.number c.find-leaf.result.rec c.find-leaf.ensures.rec c.args.seat.now.known (since c.args.seat.now.known) (rooted_led (Leaf c.args.number) c.requires.root))
-
-pub load_leaf-length-requires-clause-leaf : goal.load_leaf-length-requires-clause-leaf
-load_leaf-length-requires-clause-leaf g c = leaf_begins c.args.scan.now.table.now.layout c.args.scan.now.origins.now.layout c.requires.origins c.args.number c.find-leaf.result c.find-leaf.ensures.rec c.find-leaf.ensures.start
+pub load_scanned_leaf-length-requires-clause-led : goal.load_scanned_leaf-length-requires-clause-led
+load_scanned_leaf-length-requires-clause-led g c = (since c.args.seat.now.known, rooted_led (Leaf c.args.number) c.requires.root)
 
 pub returns-then-is_earlier_key-clause-reads : goal.returns-then-is_earlier_key-clause-reads
-returns-then-is_earlier_key-clause-reads g c = loads g (goal.at.returns-then-is_earlier_key-clause-reads g c).After-load_leaf-length
+returns-then-is_earlier_key-clause-reads g c = loads g (goal.at.returns-then-is_earlier_key-clause-reads g c).After-load_scanned_leaf-length
 
 pub returns-then-is_earlier_key-clause-scanned : goal.returns-then-is_earlier_key-clause-scanned
 returns-then-is_earlier_key-clause-scanned g c =
-    leaf_early c.args.scan.now.range.now.direction (asked_range c.args.scan.now.range.now) (root_read g (goal.at.returns-then-is_earlier_key-clause-scanned g c).After-load_leaf-length) _ c.requires.empty
-    (subst (IsEarlier c.args.scan.now.range.now.direction (take c.load_leaf-length.result.0 c.load_leaf-length.new.places)) (c.as_bytes.ensures.bytes ∙ c.first_key.ensures) (c.is_earlier_key.ensures.earlier c.if-is_earlier_key.true))
+    leaf_early c.args.scan.now.range.now.direction (asked_range c.args.scan.now.range.now) (root_read g (goal.at.returns-then-is_earlier_key-clause-scanned g c).After-load_scanned_leaf-length) _ c.requires.empty
+    (subst (IsEarlier c.args.scan.now.range.now.direction (take c.load_scanned_leaf-length.result.0 c.load_scanned_leaf-length.new.places)) (c.as_bytes.ensures.bytes ∙ c.first_key.ensures) (c.is_earlier_key.ensures.earlier c.if-is_earlier_key.true))
 
 pub take_pair_in_range-requires-clause-reached : goal.take_pair_in_range-requires-clause-reached
 take_pair_in_range-requires-clause-reached g c =
-    subst (λ z. IsNoLater c.args.scan.now.range.now.direction z (take c.load_leaf-length.result.0 c.load_leaf-length.new.places)) (c.as_bytes.ensures.bytes ∙ c.first_key.ensures) (c.is_earlier_key.ensures.no_later c.if-is_earlier_key.false)
+    subst (λ z. IsNoLater c.args.scan.now.range.now.direction z (take c.load_scanned_leaf-length.result.0 c.load_scanned_leaf-length.new.places)) (c.as_bytes.ensures.bytes ∙ c.first_key.ensures) (c.is_earlier_key.ensures.no_later c.if-is_earlier_key.false)
 
 pub returns-in_err-take_pair_in_range-clause-reads : goal.returns-in_err-take_pair_in_range-clause-reads
-returns-in_err-take_pair_in_range-clause-reads g c = loads g (goal.at.returns-in_err-take_pair_in_range-clause-reads g c).After-load_leaf-length
+returns-in_err-take_pair_in_range-clause-reads g c = loads g (goal.at.returns-in_err-take_pair_in_range-clause-reads g c).After-load_scanned_leaf-length
 
 pub returns-in_err-take_pair_in_range-clause-part : goal.returns-in_err-take_pair_in_range-clause-part
 returns-in_err-take_pair_in_range-clause-part g c =
     rw (err_from_is_err_and c.from_residual.result c.from_residual.ensures.1).1
-    (leaf_part c.args.scan.now.range.now.direction (asked_range c.args.scan.now.range.now) (root_read g (goal.at.returns-in_err-take_pair_in_range-clause-part g c).After-load_leaf-length) _ _ c.requires.empty c.in_err-take_pair_in_range.ensures.refused)
+    (leaf_part c.args.scan.now.range.now.direction (asked_range c.args.scan.now.range.now) (root_read g (goal.at.returns-in_err-take_pair_in_range-clause-part g c).After-load_scanned_leaf-length) _ _ c.requires.empty c.in_err-take_pair_in_range.ensures.refused)
 
 pub returns-in-Full : goal.returns-in-Full
-returns-in-Full g c = let at = (goal.at.returns-in-Full g c).After-load_leaf-length in record {
+returns-in-Full g c = let at = (goal.at.returns-in-Full g c).After-load_scanned_leaf-length in record {
   reads = loads g at;
   part = tt;
   refused = tt;
@@ -65,7 +56,7 @@ returns-in-Full g c = let at = (goal.at.returns-in-Full g c).After-load_leaf-len
 }
 
 pub returns-in-Further : goal.returns-in-Further
-returns-in-Further g c = let at = (goal.at.returns-in-Further g c).After-load_leaf-length in record {
+returns-in-Further g c = let at = (goal.at.returns-in-Further g c).After-load_scanned_leaf-length in record {
   reads = loads g at;
   part = tt;
   refused = tt;

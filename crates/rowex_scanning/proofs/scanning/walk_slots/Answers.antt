@@ -100,6 +100,10 @@ take_leaves-requires-clause-reader g c = reader_then c.loop-seat.invariant.reade
 pub take_leaves-requires-clause-next : goal.take_leaves-requires-clause-next
 take_leaves-requires-clause-next g c = (c.loop-seat.top, c.loop-seat.way.items, next g (goal.at.take_leaves-requires-clause-next g c).After-load_entries_ahead-ahead)
 
+pub take_leaves-requires-clause-few : goal.take_leaves-requires-clause-few
+take_leaves-requires-clause-few g c =
+    let few = c.load_entries_ahead-ahead.ensures.few in let n = long g (goal.at.take_leaves-requires-clause-few g c).After-load_entries_ahead-ahead in omega (arith, few, n)
+
 pub returns-in_err-take_leaves-clause-reads : goal.returns-in_err-take_leaves-clause-reads
 returns-in_err-take_leaves-clause-reads g c = let at = goal.at.returns-in_err-take_leaves-clause-reads g c in paid g at.After-take_leaves (long g at.After-load_entries_ahead-ahead)
 

@@ -1,41 +1,25 @@
--- No leaf, and one more.
-use Rattle.std.proofs.Common.{◌≡◌, ℕ, ◌+◌, ◌*◌, ◌≤◌, List, arith, length, get_or, subst}
+-- The last leaf is read, and then those before it: without a test where it is not past the range, or one by one.
+use Rattle.std.proofs.Common.{◌≡◌, ℕ, ◌+◌, ◌-◌, ◌*◌, ◌<◌, ◌≤◌, List, arith, length, false, get_or, refl, ⊎_elim, subst, sym, take}
+use Rattle.std.proofs.lemmas.List.{length-take-le}
 use Rattle.std.proofs.lemmas.Result.{err_from_is_err_and}
 use Rattle.compound_node.specs.declared.entries.Entry.TheVariants.{Leaf}
-use Rattle.record_words.specs.declared.TheConstants.{LEAF_FIELDS}
 use Rattle.insert_cases.specs.declared.choice.PathNode.{PathNode}
+use Rattle.record_words.specs.declared.TheConstants.{LEAF_FIELDS}
 use Rattle.rowex_reading.specs.Reads.{Reads}
-use Rattle.rowex_reading.specs.Seen.{since}
+use Rattle.rowex_reading.specs.Seen.{IsLedTo, Sure, since}
 use Rattle.rowex_reading.proofs.Led.{placed_led, reader_then, reads_later, reads_none, reads_trans, same_since}
+use Rattle.rowex_reading.proofs.Seeing.{later_reflexive, read_stable, sure_later}
 use Rattle.rowex_reading.proofs.Standing.{led_in_table}
-use Rattle.rowex_scanning.specs.Ahead.{AreNext, HavePassed}
-use Rattle.version_laws.specs.Directions.{place_ahead}
-use Rattle.rowex_scanning.specs.Scanning.{asked_range, request_of}
-use Rattle.rowex_scanning.proofs.Parts.{walk_part}
-use Rattle.rowex_scanning.proofs.Passing.{ahead_later, leaf_at, leaf_reached, passed_more, passed_none}
-use Rattle.rowex_scanning.proofs.Walking.{IsAtEntry, walk_fits, walk_full, walk_past, walk_places, walk_short}
+use Rattle.version_laws.specs.Directions.{IsNoLater, place_ahead}
+use Rattle.version_laws.specs.Scan.{IsRead}
+use Rattle.rowex_scanning.specs.Ahead.{AreNext, AreWithin, HavePassed, IsLeafNotPast, IsLeafPast}
+use Rattle.rowex_scanning.specs.Scanning.{HasTaken, asked_range, first_key_of, last_key_of, request_of}
+use Rattle.rowex_scanning.proofs.Passing.{next_few, next_first, next_kept, next_later, passed_as, passed_none, taken_all, taken_full, taken_past}
+use Rattle.rowex_scanning.proofs.Runs.{behind_led, next_behind, not_past_later, past_later, run_cut, run_done, run_on, run_part, within_up_to}
+use Rattle.rowex_scanning.proofs.Walking.{bound_later, reads_both, walk_later, walk_places}
 use Rattle.rowex_scanning.proofs.taking.take_each_leaf.Given as given
 use Rattle.rowex_scanning.proofs.taking.take_each_leaf.Goals as goal
-use Rattle.rowex_scanning.proofs.taking.take_each_leaf.Goals.{After-take_leaf}
-
--- The walk is at the leaf that was read.
-leaf : (g : given.Over) (c : After-take_leaf g) (top : PathNode) (frames : List PathNode) → AreNext c.args.seat.now.known (request_of c.args.scan.now.range.now) top frames (g.S.Tallies.tally c.args.sink.now) c.args.leaves.now →
-    IsAtEntry c.args.scan.now.range.now.direction c.loop-index.seat.known (since c.args.seat.now.known) (asked_range c.args.scan.now.range.now)
-    (record top { slot = place_ahead c.args.scan.now.range.now.direction top.slot c.loop-index.index })
-    frames (g.S.Tallies.tally c.loop-index.sink) (Leaf (get_or c.args.leaves.now c.loop-index.index 0))
-leaf g c top frames next =
-    let (ahead, p) = c.loop-index.invariant.passed top frames next in leaf_at (walk_fits next.bound.0) (let come = next.come in omega (arith, come, c.loop-index-test.true)) p (ahead c.loop-index.index c.loop-index-test.true)
-
--- So many loads were made; and the root has not been loaded again.
-loads : (g : given.Over) (c : After-take_leaf g) → (n : ℕ) × (n ≤ LEAF_FIELDS * (c.loop-index.index + 1)) × Reads c.args.scan.now.table.now g.G.Gate.becomes 0 n (c.args.seat.now, c.args.gate.now) (c.take_leaf.new.seat, c.take_leaf.new.gate)
-loads g c = let (n, few, before) = c.loop-index.invariant.reads in let (m, less, read) = c.take_leaf.ensures.reads in (n + m, omega (arith, few, less), reads_trans before read)
-
--- which is no more than for all leaves
-ended : (g : given.Over) (c : After-take_leaf g) → (n : ℕ) × (n ≤ LEAF_FIELDS * length c.args.leaves.now) × Reads c.args.scan.now.table.now g.G.Gate.becomes 0 n (c.args.seat.now, c.args.gate.now) (c.take_leaf.new.seat, c.take_leaf.new.gate)
-ended g c = let (n, few, reads) = loads g c in (n, omega (arith, few, c.loop-index-test.true), reads)
-
-same : (g : given.Over) (c : After-take_leaf g) → since c.take_leaf.new.seat.known ≡ since c.args.seat.now.known
-same g c = same_since (loads g c).2
+use Rattle.rowex_scanning.proofs.taking.take_each_leaf.Goals.{After-load_scanned_leaf-length, After-take_leaves_before_last}
 
 -- the leaves are of the table
 pub touch_leaves-requires-clause-records : goal.touch_leaves-requires-clause-records
@@ -44,64 +28,164 @@ touch_leaves-requires-clause-records g c = λ i low.
     led_in_table c.args.scan.now.table.now.layout c.args.seat.now.known (since c.args.seat.now.known) (Leaf n) c.requires.reader.1
     (placed_led top.number place (Leaf n) (walk_places next.bound.0 i (omega (arith, come, low))).0.0 (next.ahead i low))
 
-pub loop-index-init : goal.loop-index-init
-loop-index-init g c = record {
-  reader = c.requires.reader;
-  reads = (0, omega arith, reads_none (c.args.seat.now, c.args.gate.now));
-  passed = λ top frames next. (next.ahead, passed_none next.bound.0 next.bound.1);
-}
+-- where there is none,
+pub returns-then-count-eq0-clause-reads : goal.returns-then-count-eq0-clause-reads
+returns-then-count-eq0-clause-reads g c = (0, omega arith, reads_none (c.args.seat.now, c.args.gate.now))
 
-pub take_leaf-requires-clause-leaf : goal.take_leaf-requires-clause-leaf
-take_leaf-requires-clause-leaf g c =
-    let (top, frames, next) = c.requires.next in let (ahead, p) = c.loop-index.invariant.passed top frames next in
-    let (led, reached) =
-    leaf_reached (walk_fits next.bound.0) (let come = next.come in omega (arith, come, c.loop-index-test.true)) p (ahead c.loop-index.index c.loop-index-test.true) c.args.scan.now.table.now.layout in
-    (since c.args.seat.now.known, led, reached)
+pub returns-then-count-eq0-clause-taken : goal.returns-then-count-eq0-clause-taken
+returns-then-count-eq0-clause-taken g c = λ top frames next.
+    subst (λ z. HavePassed c.args.seat.now.known (since c.args.seat.now.known) (request_of c.args.scan.now.range.now) frames top (g.S.Tallies.tally c.args.sink.now).size z (g.S.Tallies.tally c.args.sink.now))
+    (sym c.if-count-eq0.true) (passed_none next.bound.0 next.bound.1)
 
-pub take_leaf-requires-clause-few : goal.take_leaf-requires-clause-few
-take_leaf-requires-clause-few g c = let (top, frames, next) = c.requires.next in let i = c.loop-index.invariant in walk_short (i.passed top frames next).1.walk i.reader.1
+-- and where there is a last leaf,
+low : (g : given.Over) (c : After-load_scanned_leaf-length g) → length c.args.leaves.now - 1 < length c.args.leaves.now
+low g c = omega (arith, c.if-count-eq0.false)
 
-pub returns-in_err-take_leaf-clause-reads : goal.returns-in_err-take_leaf-clause-reads
-returns-in_err-take_leaf-clause-reads g c = ended g (goal.at.returns-in_err-take_leaf-clause-reads g c).After-take_leaf
+-- which was read
+told : (g : given.Over) (c : After-load_scanned_leaf-length g) (top : PathNode) (frames : List PathNode) → AreNext c.args.seat.now.known (request_of c.args.scan.now.range.now) top frames (g.S.Tallies.tally c.args.sink.now) c.args.leaves.now →
+    Sure c.load_scanned_leaf-length.new.seat.known (λ s. IsRead s (since c.args.seat.now.known) (get_or c.args.leaves.now (length c.args.leaves.now - 1) 0) (take c.load_scanned_leaf-length.result.0 c.load_scanned_leaf-length.new.places) c.load_scanned_leaf-length.result.1)
+told g c top frames next =
+    c.load_scanned_leaf-length.ensures.leaf (since c.args.seat.now.known) (behind_led (next_behind next) (later_reflexive c.args.seat.now.known) (length c.args.leaves.now - 1) (low g c))
 
-pub returns-in_err-take_leaf-clause-part : goal.returns-in_err-take_leaf-clause-part
-returns-in_err-take_leaf-clause-part g c =
-    let at = (goal.at.returns-in_err-take_leaf-clause-part g c).After-take_leaf in let i = c.loop-index.invariant in let (top, frames, next) = c.requires.next in
-    rw (err_from_is_err_and c.from_residual.result c.from_residual.ensures.1).1
-    (walk_part (reads_later c.take_leaf.ensures.reads.2) c.in_err-take_leaf.ensures.refused (walk_short (i.passed top frames next).1.walk i.reader.1) (same g at) (leaf g at top frames next))
+pub load_scanned_leaf-length-requires-clause-led : goal.load_scanned_leaf-length-requires-clause-led
+load_scanned_leaf-length-requires-clause-led g c =
+    let (top, frames, next) = c.requires.next in (since c.args.seat.now.known, behind_led (next_behind next) (later_reflexive c.args.seat.now.known) (length c.args.leaves.now - 1) (omega (arith, c.if-count-eq0.false)))
 
-pub returns-in-Past-clause-reads : goal.returns-in-Past-clause-reads
-returns-in-Past-clause-reads g c = ended g (goal.at.returns-in-Past-clause-reads g c).After-take_leaf
+pub take_leaves_to_end-requires-clause-reader : goal.take_leaves_to_end-requires-clause-reader
+take_leaves_to_end-requires-clause-reader g c = reader_then c.requires.reader c.load_scanned_leaf-length.ensures.reads.2
 
-pub returns-in-Past-clause-taken : goal.returns-in-Past-clause-taken
-returns-in-Past-clause-taken g c = λ top frames next.
-    let at = (goal.at.returns-in-Past-clause-taken g c).After-take_leaf in walk_past (leaf g at top frames next) (reads_later c.take_leaf.ensures.reads.2) c.in_ok-take_leaf.ensures.taken (same g at) c.in-Past.is
+pub take_leaves_to_end-requires-clause-next : goal.take_leaves_to_end-requires-clause-next
+take_leaves_to_end-requires-clause-next g c =
+    let (top, frames, next) = c.requires.next in let load = c.load_scanned_leaf-length.ensures.reads.2 in
+    (top, frames, next_first (length c.args.leaves.now - 1) (omega arith) (next_later (reads_later load) (same_since load) next))
+
+-- So many loads were made, where it went to the end one by one.
+ended : (count : ℕ) (leaves : List ℕ) → (length leaves ≡ 0 → ⊥) → count ≡ length leaves - 1 → LEAF_FIELDS + LEAF_FIELDS * length (take count leaves) ≤ LEAF_FIELDS * length leaves
+ended count leaves some is = let long = length-take-le count leaves (omega (arith, is)) in omega (arith, long, some, is)
+
+pub returns-in_err-take_leaves_to_end-clause-reads : goal.returns-in_err-take_leaves_to_end-clause-reads
+returns-in_err-take_leaves_to_end-clause-reads g c = reads_both c.load_scanned_leaf-length.ensures.reads c.take_leaves_to_end.ensures.reads (ended (length c.args.leaves.now - 1) c.args.leaves.now c.if-count-eq0.false refl)
 
 pub returns-in-Full-clause-reads : goal.returns-in-Full-clause-reads
-returns-in-Full-clause-reads g c = ended g (goal.at.returns-in-Full-clause-reads g c).After-take_leaf
+returns-in-Full-clause-reads g c = reads_both c.load_scanned_leaf-length.ensures.reads c.take_leaves_to_end.ensures.reads (ended (length c.args.leaves.now - 1) c.args.leaves.now c.if-count-eq0.false refl)
 
 pub returns-in-Full-clause-taken : goal.returns-in-Full-clause-taken
 returns-in-Full-clause-taken g c = λ top frames next.
-    let at = (goal.at.returns-in-Full-clause-taken g c).After-take_leaf in walk_full (leaf g at top frames next) (reads_later c.take_leaf.ensures.reads.2) c.in_ok-take_leaf.ensures.taken (same g at) c.in-Full.is
+    let load = c.load_scanned_leaf-length.ensures.reads.2 in
+    rw c.in-Full.is at (c.in_ok-take_leaves_to_end.ensures.taken top frames (next_first (length c.args.leaves.now - 1) (omega arith) (next_later (reads_later load) (same_since load) next)))
 
-pub loop-index-preserved : goal.loop-index-preserved
-loop-index-preserved g c =
-    let i = c.loop-index.invariant in let d = c.args.scan.now.range.now.direction in let m = since c.args.seat.now.known in let read = c.take_leaf.ensures.reads.2 in
-    record {
-      reader = reader_then i.reader read;
-      reads = loads g (goal.at.loop-index-preserved g c).After-take_leaf;
-      passed = λ top frames next.
-          let (ahead, p) = i.passed top frames next in (
-            ahead_later d m top (reads_later read) (length c.args.leaves.now) c.args.leaves.now ahead,
-            passed_more (walk_fits next.bound.0) (let come = next.come in omega (arith, come, c.loop-index-test.true)) p (ahead c.loop-index.index c.loop-index-test.true) (reads_later read) c.in_ok-take_leaf.ensures.taken
-                c.in-Further.is,
-          );
-    }
+pub returns-in-Further-clause-reads : goal.returns-in-Further-clause-reads
+returns-in-Further-clause-reads g c = reads_both c.load_scanned_leaf-length.ensures.reads c.take_leaves_to_end.ensures.reads (ended (length c.args.leaves.now - 1) c.args.leaves.now c.if-count-eq0.false refl)
+
+pub returns-in-Further-clause-taken : goal.returns-in-Further-clause-taken
+returns-in-Further-clause-taken g c = λ top frames next.
+    let at = (goal.at.returns-in-Further-clause-taken g c).After-load_scanned_leaf-length in
+    let r = request_of c.args.scan.now.range.now in let leaves = c.args.leaves.now in let last = length leaves - 1 in
+    let load = c.load_scanned_leaf-length.ensures.reads.2 in let rest = c.take_leaves_to_end.ensures.reads.2 in let same = same_since load in
+    let j = c.take_leaves_to_end.new.seat.known in let u = g.S.Tallies.tally c.take_leaves_to_end.new.sink in let size = (g.S.Tallies.tally c.args.sink.now).size in
+    let taken = c.in_ok-take_leaves_to_end.ensures.taken top frames (next_first last (omega arith) (next_later (reads_later load) same next)) in
+    let Passed : Type 0 = HavePassed j (since c.load_scanned_leaf-length.new.seat.known) r frames top size (length (take last leaves)) u in
+    ⊎_elim
+    (λ is.
+    let p = passed_as same refl (subst (λ z. HavePassed j (since c.load_scanned_leaf-length.new.seat.known) r frames top size z u) (length-take-le last leaves (omega arith)) (taken_all Passed (HasTaken r.0 j r.1 u) taken is)) in
+    let past : IsLeafPast c.load_scanned_leaf-length.new.seat.known (since c.args.seat.now.known) r (get_or leaves last 0) =
+    λ core lawful recalls. (_, _, told g at top frames next core lawful recalls, c.is_past_range.ensures.past c.if-is_past_range.true) in
+    run_done next (reads_later (reads_trans load rest)) (low g at) p (same_since (reads_trans load rest)) (past_later r (reads_later rest) past))
+    (λ is. taken_past Passed (HasTaken r.0 j r.1 u) taken is) c.in-Further.is
+
+-- The last leaf is not past the range.
+not_past : (g : given.Over) (c : After-load_scanned_leaf-length g) →
+    IsNoLater c.args.scan.now.range.now.direction (take c.load_scanned_leaf-length.result.0 c.load_scanned_leaf-length.new.places) (last_key_of c.args.scan.now.range.now) →
+    (top : PathNode) (frames : List PathNode) → AreNext c.args.seat.now.known (request_of c.args.scan.now.range.now) top frames (g.S.Tallies.tally c.args.sink.now) c.args.leaves.now →
+    IsLeafNotPast c.load_scanned_leaf-length.new.seat.known (since c.args.seat.now.known) (request_of c.args.scan.now.range.now) (get_or c.args.leaves.now (length c.args.leaves.now - 1) 0)
+not_past g c late top frames next core lawful recalls =
+    (take c.load_scanned_leaf-length.result.0 c.load_scanned_leaf-length.new.places, c.load_scanned_leaf-length.result.1, told g c top frames next core lawful recalls, late)
+
+pub make_room-requires-clause-few : goal.make_room-requires-clause-few
+make_room-requires-clause-few g c = let (top, frames, next) = c.requires.next in let few = next_few next in omega (arith, few, c.min.ensures)
+
+pub returns-in_err-make_room-clause-reads : goal.returns-in_err-make_room-clause-reads
+returns-in_err-make_room-clause-reads g c = let (n, few, reads) = c.load_scanned_leaf-length.ensures.reads in (n, omega (arith, few, c.if-count-eq0.false), reads)
+
+pub returns-in_err-make_room-clause-part : goal.returns-in_err-make_room-clause-part
+returns-in_err-make_room-clause-part g c =
+    let at = (goal.at.returns-in_err-make_room-clause-part g c).After-load_scanned_leaf-length in let (top, frames, next) = c.requires.next in
+    let r = request_of c.args.scan.now.range.now in let load = c.load_scanned_leaf-length.ensures.reads.2 in let last = length c.args.leaves.now - 1 in
+    let later = reads_later load in let late = c.is_past_range.ensures.inside c.if-is_past_range.false in
+    let inside = within_up_to (next_behind next) later last (low g at) (not_past g at late top frames next) in
+    let none = passed_none (walk_later later next.bound.0) (bound_later r.0 (since c.args.seat.now.known) (first_key_of c.args.scan.now.range.now) later next.bound.1) in
+    rw (err_from_is_err_and c.from_residual-in_err-make_room.result c.from_residual-in_err-make_room.ensures.1).1
+    (run_part next later (omega (arith, c.if-count-eq0.false)) none (same_since load) (λ o less. inside o (omega (arith, less))) c.make_room.ensures.kept (let some = c.in_err-make_room.ensures.some in omega (arith, some, c.min.ensures, c.size.ensures)))
+
+pub take_leaves_before_last-requires-clause-reader : goal.take_leaves_before_last-requires-clause-reader
+take_leaves_before_last-requires-clause-reader g c = reader_then c.requires.reader c.load_scanned_leaf-length.ensures.reads.2
+
+pub take_leaves_before_last-requires-clause-next : goal.take_leaves_before_last-requires-clause-next
+take_leaves_before_last-requires-clause-next g c =
+    let (top, frames, next) = c.requires.next in let load = c.load_scanned_leaf-length.ensures.reads.2 in (top, frames, next_kept c.make_room.ensures.kept (next_later (reads_later load) (same_since load) next))
+
+pub take_leaves_before_last-requires-clause-some : goal.take_leaves_before_last-requires-clause-some
+take_leaves_before_last-requires-clause-some g c = omega (arith, c.if-count-eq0.false)
+
+pub take_leaves_before_last-requires-clause-last : goal.take_leaves_before_last-requires-clause-last
+take_leaves_before_last-requires-clause-last g c =
+    let at = (goal.at.take_leaves_before_last-requires-clause-last g c).After-load_scanned_leaf-length in let (top, frames, next) = c.requires.next in
+    subst (λ m. IsLeafNotPast c.load_scanned_leaf-length.new.seat.known m (request_of c.args.scan.now.range.now) (get_or c.args.leaves.now (length c.args.leaves.now - 1) 0)) (sym (same_since c.load_scanned_leaf-length.ensures.reads.2))
+    (not_past g at (c.is_past_range.ensures.inside c.if-is_past_range.false) top frames next)
+
+pub take_leaves_before_last-requires-clause-few : goal.take_leaves_before_last-requires-clause-few
+take_leaves_before_last-requires-clause-few g c = let same = c.make_room.ensures.kept.0 in let few = c.requires.few in omega (arith, same, few, c.if-count-eq0.false)
+
+pub take_leaves_before_last-requires-clause-room : goal.take_leaves_before_last-requires-clause-room
+take_leaves_before_last-requires-clause-room g c =
+    let has = c.in_ok-make_room.ensures.room in let few = c.requires.few in omega (arith, has, few, c.min.ensures, c.size.ensures)
+
+-- The loads, where no key is compared with the range's end but the last one.
+loads : (g : given.Over) (c : After-take_leaves_before_last g) →
+    (n : ℕ) × (n ≤ LEAF_FIELDS * length c.args.leaves.now) × Reads c.args.scan.now.table.now g.G.Gate.becomes 0 n (c.args.seat.now, c.args.gate.now) (c.take_leaves_before_last.new.seat, c.take_leaves_before_last.new.gate)
+loads g c = reads_both c.load_scanned_leaf-length.ensures.reads c.take_leaves_before_last.ensures.reads (omega (arith, c.if-count-eq0.false))
+
+-- All others were passed,
+passed : (g : given.Over) (c : After-take_leaves_before_last g) (top : PathNode) (frames : List PathNode) → AreNext c.args.seat.now.known (request_of c.args.scan.now.range.now) top frames (g.S.Tallies.tally c.args.sink.now) c.args.leaves.now →
+    HavePassed c.take_leaves_before_last.new.seat.known (since c.args.seat.now.known) (request_of c.args.scan.now.range.now) frames top (g.S.Tallies.tally c.args.sink.now).size (length c.args.leaves.now - 1) (g.S.Tallies.tally c.take_leaves_before_last.new.sink)
+passed g c top frames next =
+    let load = c.load_scanned_leaf-length.ensures.reads.2 in let same = same_since load in
+    passed_as same c.make_room.ensures.kept.0 (c.take_leaves_before_last.ensures.passed top frames (next_kept c.make_room.ensures.kept (next_later (reads_later load) same next)))
+
+-- and all of them belong to the range.
+inside : (g : given.Over) (c : After-take_leaves_before_last g) (top : PathNode) (frames : List PathNode) → AreNext c.args.seat.now.known (request_of c.args.scan.now.range.now) top frames (g.S.Tallies.tally c.args.sink.now) c.args.leaves.now →
+    IsLeafNotPast c.load_scanned_leaf-length.new.seat.known (since c.args.seat.now.known) (request_of c.args.scan.now.range.now) (get_or c.args.leaves.now (length c.args.leaves.now - 1) 0) →
+    AreWithin c.take_leaves_before_last.new.seat.known (since c.args.seat.now.known) (asked_range c.args.scan.now.range.now) c.args.leaves.now (length c.args.leaves.now - 1 + 1)
+inside g c top frames next last =
+    let load = c.load_scanned_leaf-length.ensures.reads.2 in let rest = c.take_leaves_before_last.ensures.reads.2 in
+    within_up_to (next_behind next) (reads_later (reads_trans load rest)) (length c.args.leaves.now - 1) (omega (arith, c.if-count-eq0.false)) (not_past_later (request_of c.args.scan.now.range.now) (reads_later rest) last)
+
+pub returns-then-room-count-clause-reads : goal.returns-then-room-count-clause-reads
+returns-then-room-count-clause-reads g c = loads g (goal.at.returns-then-room-count-clause-reads g c).After-take_leaves_before_last
+
+pub returns-then-room-count-clause-taken : goal.returns-then-room-count-clause-taken
+returns-then-room-count-clause-taken g c = λ top frames next.
+    let at = goal.at.returns-then-room-count-clause-taken g c in let here = at.After-load_scanned_leaf-length in let there = at.After-take_leaves_before_last in
+    let reads = (loads g there).2 in let p = passed g there top frames next in let more = p.more in let few = c.requires.few in
+    let last = not_past g here (c.is_past_range.ensures.inside c.if-is_past_range.false) top frames next in
+    run_cut next (reads_later reads) (low g here) p (same_since reads) (inside g there top frames next last) (omega (arith, more, few, c.if-room-count.true, c.size.ensures, c.if-count-eq0.false))
+
+pub take_pair-requires-clause-room : goal.take_pair-requires-clause-room
+take_pair-requires-clause-room g c =
+    let has = c.in_ok-make_room.ensures.room in let kept = c.take_leaves_before_last.ensures.room in omega (arith, has, kept, c.min.ensures, c.if-room-count.false, c.if-count-eq0.false)
 
 pub returns-clause-reads : goal.returns-clause-reads
-returns-clause-reads g c = let (n, few, reads) = c.loop-index.invariant.reads in (n, omega (arith, few, c.loop-index.auto.index-end), reads)
+returns-clause-reads g c = loads g (goal.at.returns-clause-reads g c).After-take_leaves_before_last
 
 pub returns-clause-taken : goal.returns-clause-taken
 returns-clause-taken g c = λ top frames next.
-    subst (λ z. HavePassed c.loop-index.seat.known (since c.args.seat.now.known) (request_of c.args.scan.now.range.now) frames top (g.S.Tallies.tally c.args.sink.now).size z (g.S.Tallies.tally c.loop-index.sink))
-    (omega (arith, c.loop-index-test.false, c.loop-index.auto.index-end)) (c.loop-index.invariant.passed top frames next).1
+    let at = goal.at.returns-clause-taken g c in let here = at.After-load_scanned_leaf-length in let there = at.After-take_leaves_before_last in
+    let leaves = c.args.leaves.now in let last = length leaves - 1 in let key = take c.load_scanned_leaf-length.result.0 c.load_scanned_leaf-length.new.places in let value = c.load_scanned_leaf-length.result.1 in
+    let reads = (loads g there).2 in let rest = c.take_leaves_before_last.ensures.reads.2 in let p = passed g there top frames next in let more = p.more in let few = c.requires.few in
+    let late = not_past g here (c.is_past_range.ensures.inside c.if-is_past_range.false) top frames next in
+    let read = sure_later (read_stable (since c.args.seat.now.known) (get_or leaves last 0) key value) (reads_later rest) (told g here top frames next) in
+    let q = run_on next (reads_later reads) (low g here) p
+    (λ core lawful recalls. let is = read core lawful recalls in (key, value, is, inside g there top frames next late last (omega arith) core lawful recalls key value is, c.take_pair.ensures.taken))
+    (omega (arith, more, few, c.if-room-count.false, c.size.ensures, c.if-count-eq0.false)) c.take_pair.ensures.taken.0 in
+    subst (λ z. HavePassed c.take_leaves_before_last.new.seat.known (since c.args.seat.now.known) (request_of c.args.scan.now.range.now) frames top (g.S.Tallies.tally c.args.sink.now).size z (g.S.Tallies.tally c.take_pair.new.self))
+    (omega (arith, c.if-count-eq0.false)) q

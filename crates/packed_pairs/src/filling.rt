@@ -1,0 +1,170 @@
+//! A list while it is filled. Room is made for several pairs at once, and then each is added without a test.
+
+ghost use Rattle.std.specs.Prelude.{◌≡◌, ◌++◌, ◌∷◌, ◌+◌, ◌*◌, ◌<◌, ◌≤◌, [], IsTrue, OnErr, OnOk, length, take};
+ghost use Rattle.std.specs.Vec.{vec_capacity, vec_len};
+ghost use Rattle.key_bits.specs.Key.{IsKey};
+ghost use Rattle.key_bits.specs.declared.TheConstants.{MAX_BYTES};
+
+use crate::head::Head;
+use crate::keys::{KeyBytes, copy_key};
+use crate::pairs::Pairs;
+use key_bits::MAX_BYTES;
+use std::alloc::{AllocError, Global};
+use std::marker::Model;
+use std::mem;
+
+/// The pairs of a list while it is filled, with the list's memory. A value of its own, and no reference to the list, stays in registers
+/// while a walk fills it.
+///
+/// Contracts see the pairs, and for how many more it has room.
+#[derive(Drop)]
+pub struct Filling {
+    bytes: Vec<u8>,
+    used: usize,
+    heads: Vec<Head>,
+    room: usize,
+}
+
+impl Model for Filling {
+    ghost use Rattle.std.specs.Prelude.{◌≤◌, ◌+◌, ◌*◌, length, take};
+    ghost use Rattle.std.specs.Vec.{vec_capacity, vec_len};
+    ghost use Rattle.key_bits.specs.declared.TheConstants.{MAX_BYTES};
+    ghost use Rattle.packed_pairs.specs.Packed.{ArePacked, unpacked};
+    ghost use Rattle.packed_pairs.specs.Filled.{Filled};
+
+    ghost Value = { Filled };
+
+    ghost view = { λ f. record { pairs = unpacked f.heads.items (take f.used f.bytes.items); room = f.room } };
+
+    ghost invariant = { λ f. ArePacked f.heads.items (take f.used f.bytes.items) × (f.used + MAX_BYTES * f.room ≤ length f.bytes.items)
+        × (vec_len f.heads + f.room ≤ vec_capacity f.heads) };
+}
+
+impl Filling {
+    /// Takes the pairs of `pairs` with their memory. `pairs` has none then.
+    #[inline(always)]
+    pub fn take(pairs: &mut Pairs) -> Filling
+        ensures pairs { result.pairs ≡ pairs.old }
+        ensures none { pairs.new ≡ [] }
+    {
+        let empty = Pairs::new(*pairs.bytes.allocator());
+        let Pairs { bytes, heads } = mem::replace(pairs, empty);
+        let (bytes, used) = bytes.into_parts();
+        Filling {
+            bytes,
+            used,
+            heads,
+            room: 0,
+        }
+    }
+
+    /// Puts the pairs and their memory back into `pairs`, in place of what is there.
+    #[inline(always)]
+    pub fn put_back(self, pairs: &mut Pairs)
+        ensures { pairs.new ≡ self.pairs }
+    {
+        let Filling {
+            bytes,
+            used,
+            heads,
+            room: _,
+        } = self;
+        let bytes = KeyBytes::of_parts(bytes, used);
+        *pairs = Pairs { bytes, heads };
+    }
+
+    /// How many pairs there are.
+    #[inline(always)]
+    pub fn len(&self) -> usize
+        ensures { result ≡ length self.now.pairs }
+    {
+        self.heads.len()
+    }
+
+    /// Takes out all pairs. The memory stays.
+    #[inline(always)]
+    pub fn clear(&mut self)
+        ensures { self.new.pairs ≡ [] }
+    {
+        self.used = 0;
+        self.heads.clear();
+    }
+
+    /// Makes room for `count` more pairs. An error if memory is refused.
+    #[inline(always)]
+    pub fn reserve(&mut self, count: usize) -> Result<(), AllocError>
+        requires { count ≤ 32 }
+        ensures pairs { self.new.pairs ≡ self.old.pairs }
+        ensures room { OnOk result (self.new.room ≡ count) }
+        ensures some { OnErr result (0 < count) }
+    {
+        self.room = 0;
+        let alloc = *self.heads.allocator();
+        if self.heads.capacity() - self.heads.len() < count {
+            let (heads, has_room) = add_heads_room(
+                mem::replace(&mut self.heads, Vec::new(alloc)),
+                count,
+            );
+            self.heads = heads;
+            if !has_room {
+                return Err(AllocError);
+            }
+        }
+        if self.bytes.len() - self.used < MAX_BYTES * count {
+            let bytes = mem::replace(&mut self.bytes, Vec::new(alloc));
+            let (bytes, has_room) = add_bytes_room(bytes, self.used, MAX_BYTES * count);
+            self.bytes = bytes;
+            if !has_room {
+                return Err(AllocError);
+            }
+        }
+        self.room = count;
+        Ok(())
+    }
+
+    /// Adds a pair of a key and `value` at the end, for which there is room. The key has the first `length` bytes of `places`.
+    #[inline(always)]
+    pub fn push(&mut self, places: &[u8; MAX_BYTES], length: usize, value: u64)
+        requires key { IsKey (take length places.now) }
+        requires fits { length ≤ MAX_BYTES }
+        requires room { 0 < self.old.room }
+        ensures pairs { self.new.pairs ≡ self.old.pairs ++ (take length places.now, value) ∷ [] }
+        ensures room { self.new.room + 1 ≡ self.old.room }
+    {
+        copy_key(&mut self.bytes, self.used, places, length);
+        self.used += length;
+        self.heads.push_reserved(Head {
+            count: length as u8,
+            value,
+        });
+        self.room -= 1;
+    }
+}
+
+/// Returns `heads` with room for `count` more, and whether memory was there for it. Never inline, so that callers have less code; and by
+/// value, so that a caller's list still lies in registers.
+#[inline(never)]
+fn add_heads_room(mut heads: Vec<Head>, count: usize) -> (Vec<Head>, bool)
+    ensures same { result.0.items ≡ heads.items }
+    ensures room { IsTrue result.1 → vec_len result.0 + count ≤ vec_capacity result.0 }
+{
+    let has_room = heads.reserve(count).is_ok();
+    (heads, has_room)
+}
+
+/// Returns `bytes` with room for `count` more behind the first `used`, which stay, and whether memory was there for it. Never inline, and by
+/// value, as [`add_heads_room`] is.
+#[inline(never)]
+fn add_bytes_room(mut bytes: Vec<u8>, used: usize, count: usize) -> (Vec<u8>, bool)
+    requires { used ≤ length bytes.items }
+    ensures same { take used result.0.items ≡ take used bytes.items }
+    ensures long { used ≤ length result.0.items }
+    ensures room { IsTrue result.1 → used + count ≤ length result.0.items }
+{
+    if bytes.reserve(count).is_err() {
+        return (bytes, false);
+    }
+    let all = bytes.capacity();
+    let has_room = bytes.resize(all, 0).is_ok();
+    (bytes, has_room)
+}
