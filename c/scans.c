@@ -215,6 +215,67 @@ static void test_large_scan(void) {
     CHECK(hot_destroy(&handle) == HOT_DONE);
 }
 
+/* Keys of every class of leaves side by side, in their order: each has its number, and other bytes behind it. */
+enum { SIDE_BY_SIDE = 80 };
+
+static size_t side_by_side(size_t number, uint8_t *key) {
+    static const size_t lengths[] = {2, 8, 9, 16, 17, 24, 25, 56, 57, 88, 89, HOT_MAX_KEY};
+    memset(key, (int)number, HOT_MAX_KEY);
+    key[0] = (uint8_t)(number >> 3), key[1] = (uint8_t)(number << 5);
+    return lengths[number % (sizeof lengths / sizeof lengths[0])];
+}
+
+/* Asserts that a scan has listed so many of these keys, from a number on upwards or downwards: as pairs, and packed. */
+static void check_listed(const hot_pair *pairs, const uint8_t *packed, const hot_head *heads, size_t count, size_t first, int step) {
+    uint8_t key[HOT_MAX_KEY];
+    size_t place, number = first;
+    for (place = 0; place < count; place++, number += (size_t)step) {
+        size_t length = side_by_side(number, key);
+        CHECK(pairs[place].length == length && pairs[place].value == number && !memcmp(pairs[place].key, key, length));
+        CHECK(heads[place].length == length && heads[place].value == number && !memcmp(packed, key, length));
+        packed += length;
+    }
+}
+
+/* Each range of these keys, whose end comes inside a group of leaves that the walk reads together, at its end or behind it; with a limit of
+ * one less than it has, as many, and one more; upwards and downwards; and its number. */
+static void test_groups(void) {
+    static const uint32_t each[5] = {SIDE_BY_SIDE, SIDE_BY_SIDE, SIDE_BY_SIDE, SIDE_BY_SIDE, SIDE_BY_SIDE};
+    static hot_pair pairs[SIDE_BY_SIDE + 2];
+    static hot_head heads[SIDE_BY_SIDE + 2];
+    static uint8_t packed[(SIDE_BY_SIDE + 2) * HOT_MAX_KEY], from[HOT_MAX_KEY], upto[HOT_MAX_KEY];
+    static uint64_t values[SIDE_BY_SIDE + 2];
+    hot_handle handle = HOT_HANDLE;
+    hot_stock stock;
+    size_t first, last, count, limit, size, from_length, upto_length;
+    uint32_t more;
+    hot_stock_for_lengths(each, &stock);
+    CHECK(hot_create_with(&stock, &handle, 1) == HOT_DONE);
+    for (first = 0; first < SIDE_BY_SIDE; first++)
+        CHECK(hot_insert(&handle, from, side_by_side(first, from), first, NULL) == HOT_INSERTED);
+    for (first = 0; first < SIDE_BY_SIDE; first++)
+        for (last = first; last < SIDE_BY_SIDE; last++) {
+            from_length = side_by_side(first, from), upto_length = side_by_side(last, upto), size = last - first + 1;
+            CHECK(hot_count(&handle, from, from_length, upto, upto_length, &count) == HOT_DONE && count == size);
+            for (limit = size - 1; limit <= size + 1; limit++) {
+                size_t listed = limit < size ? limit : size;
+                uint32_t cut = limit < size;
+                CHECK(hot_scan(&handle, from, from_length, upto, upto_length, pairs, limit, &count, &more) == HOT_DONE && count == listed && more == cut);
+                CHECK(hot_scan_packed(&handle, from, from_length, upto, upto_length, packed, sizeof packed, heads, limit, &count, &more) == HOT_DONE);
+                CHECK(count == listed && more == cut);
+                check_listed(pairs, packed, heads, listed, first, 1);
+                CHECK(hot_scan_reverse(&handle, from, from_length, upto, upto_length, pairs, limit, &count, &more) == HOT_DONE);
+                CHECK(count == listed && more == cut);
+                CHECK(hot_scan_packed_reverse(&handle, from, from_length, upto, upto_length, packed, sizeof packed, heads, limit, &count, &more) == HOT_DONE);
+                CHECK(count == listed && more == cut);
+                check_listed(pairs, packed, heads, listed, last, -1);
+                CHECK(hot_scan_values(&handle, from, from_length, upto, upto_length, values, limit, &count, &more) == HOT_DONE);
+                CHECK(count == listed && more == cut && (listed == 0 || (values[0] == first && values[listed - 1] == first + listed - 1)));
+            }
+        }
+    CHECK(hot_destroy(&handle) == HOT_DONE);
+}
+
 /* What pairs are handed to: it looks whether their values rise one by one up to the last, and may remove them by a handle. */
 typedef struct visit {
     hot_handle *handle;
@@ -370,6 +431,7 @@ int main(void) {
     test_scan();
     test_packed();
     test_large_scan();
+    test_groups();
     test_each();
     test_scan_reverse();
     test_scan_last();
