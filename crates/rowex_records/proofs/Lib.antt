@@ -5,4 +5,3 @@ pub mod GivenUp
 pub mod Making
 pub mod Named
 pub mod SetAll
-pub mod Used

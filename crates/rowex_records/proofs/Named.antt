@@ -1,22 +1,21 @@
 -- What is told of a located record is told of the record by which it was located.
 use Rattle.std.proofs.Common.{◌≡◌, ℕ, List, subst, sym}
 use Rattle.record_words.specs.declared.records.Rec.{Rec}
+use Rattle.rowex_core.specs.declared.event.Act.TheVariants.{Fill}
 use Rattle.rowex_core.specs.declared.event.Event.{Event}
 use Rattle.rowex_core.specs.declared.known.Known.{Known}
 use Rattle.rowex_table.specs.Rights.{IsClaimed}
+use Rattle.rowex_table.specs.Runs.{Steps}
 use Rattle.rowex_table.specs.Seats.{TableView, SeatView}
-use Rattle.rowex_records.specs.Records.{IsLookedAt, Sets, SetsMore}
+use Rattle.rowex_records.specs.Records.{SetsMore}
 
 module _ {r q : Rec} (is : r ≡ q) where
   pub claimed_at : (k : Known) → IsClaimed k q → IsClaimed k r
   claimed_at k held = subst (IsClaimed k) (sym is) held
 
-  pub unseen_at : (offset word : ℕ) → ¬ (IsLookedAt q offset word) → ¬ (IsLookedAt r offset word)
-  unseen_at offset word unseen = subst (λ z. ¬ (IsLookedAt z offset word)) (sym is) unseen
-
-  pub sets_of : {G : Type 0} {table : TableView} {becomes : G → Event → G → Type 0} {offset word : ℕ} {a b : SeatView × G} →
-      Sets table becomes r offset word a b → Sets table becomes q offset word a b
-  sets_of {table = table} {becomes = becomes} {offset = offset} {word = word} {a = a} {b = b} sets = subst (λ z. Sets table becomes z offset word a b) is sets
+  pub stores_of : {G : Type 0} {table : TableView} {becomes : G → Event → G → Type 0} {offset word : ℕ} {a b : SeatView × G} →
+      Steps table becomes (Fill r offset word) a b → Steps table becomes (Fill q offset word) a b
+  stores_of {table = table} {becomes = becomes} {offset = offset} {word = word} {a = a} {b = b} step = subst (λ z. Steps table becomes (Fill z offset word) a b) is step
 
   pub more_of : {G : Type 0} {table : TableView} {becomes : G → Event → G → Type 0} {a b : SeatView × G} (words : List ℕ) (i : ℕ) →
       SetsMore table becomes r words i 8 a b → SetsMore table becomes q words i 8 a b

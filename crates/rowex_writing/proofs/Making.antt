@@ -1,5 +1,5 @@
 -- One record more for a change, or none.
-use Rattle.std.proofs.Common.{◌≡◌, ◌≢◌, inl, inr, ℕ, zero, suc, ◌+◌, ◌-◌, ◌≤◌, List, [], ◌∷◌, ◌++◌, length, get_or, map, refl, sym, ap, ap₂, subst, ◌∙◌, arith, Bool, true, false, nat_eq, nat_lt, if◌then◌else◌, Option, Some, None}
+use Rattle.std.proofs.Common.{◌≡◌, ◌≢◌, inl, inr, ℕ, zero, suc, ◌+◌, ◌-◌, ◌≤◌, List, [], ◌∷◌, ◌++◌, length, get_or, map, refl, sym, ap, ap₂, subst, ◌∙◌, arith, Bool, true, false, nat_eq, if◌then◌else◌, Option, Some, None}
 use Rattle.std.specs.Prelude.{All, MatchOption}
 use Rattle.std.proofs.lemmas.Grind.{reverse_onto}
 use Rattle.std.proofs.lemmas.List.Elements.{All-append, All-cons}
@@ -12,7 +12,6 @@ use Rattle.rowex_table.proofs.ActsLeave.{act_leaves}
 use Rattle.record_words.specs.Layout.{leaf_size}
 use Rattle.record_words.specs.Leaf.{HasLeafWords, leaf_words, words_for}
 use Rattle.record_words.specs.Node.{HasNodeWords}
-use Rattle.record_words.specs.declared.TheConstants.{FIRST_ENTRY}
 use Rattle.tries.specs.Content.{Item}
 use Rattle.tries.specs.Tree.{Subtrie}
 use Rattle.versions.specs.Trades.{IsOneOf}
@@ -22,8 +21,7 @@ use Rattle.versions.specs.Steps.{same_rec}
 use Rattle.versions.proofs.Legal.{same_rec_refl}
 use Rattle.versions.proofs.Members.{all_of, of_map, map_of}
 use Rattle.rowex_core.specs.declared.event.Act.{Act}
-use Rattle.rowex_core.specs.declared.event.Act.TheVariants.{Claim, Fill, LoadFixed, LoadRef, LoadState}
-use Rattle.rowex_core.specs.declared.event.Spot.TheVariants.{Slot}
+use Rattle.rowex_core.specs.declared.event.Act.TheVariants.{Claim, Fill, LoadState}
 use Rattle.rowex_core.specs.declared.event.Event.{Event}
 use Rattle.rowex_core.specs.declared.known.Holding.TheVariants.{Held}
 use Rattle.rowex_core.specs.declared.known.Known.{Known}
@@ -39,7 +37,7 @@ use Rattle.rowex_table.specs.Runs.{Runs, Does, InTurn, Steps}
 use Rattle.rowex_table.specs.Seats.{TableView, SeatView, IsSeatOf}
 use Rattle.rowex_table.proofs.Running.{runs_same}
 use Rattle.rowex_records.specs.Claims.{claiming, wrapped, Misses, MissesOne, MissesNumber, HoldsOneMore, ClaimsOne, FindsFree, FindsNone, Claims}
-use Rattle.rowex_records.specs.Records.{fill_with, filling, load_of_word, fill_unless_found, owning, stored, stored_in, SetsAll, SetsSome, SetsWord}
+use Rattle.rowex_records.specs.Records.{fill_with, owning, stored, stored_in, SetsAll, SetsSome, StoresWord}
 use Rattle.rowex_records.proofs.Filled.{leaf_stored, left_beside}
 use Rattle.rowex_records.proofs.Making.{counted, looks_one}
 use Rattle.publish_laws.specs.Loops.{StaysLocked}
@@ -77,27 +75,11 @@ miss_plain r acts (word, low, inr is) = subst (All TriesNoLock) (sym is) (try_pl
 misses_plain : (kind : ℕ → Rec) (n from m : ℕ) (acts : List Act) → InTurn (λ i. Misses (kind (wrapped n from i))) m acts → All TriesNoLock acts
 misses_plain kind n from m acts turn = in_turn_plain (λ i. Misses (kind (wrapped n from i))) (λ i. miss_plain (kind (wrapped n from i))) m acts turn
 
-sets_plain : (r : Rec) (words : List ℕ) (n : ℕ) (acts : List Act) → InTurn (λ i. SetsWord r (i + 1) (get_or words i 0)) n acts → All TriesNoLock acts
-sets_plain r words n acts turn = in_turn_plain (λ i. SetsWord r (i + 1) (get_or words i 0)) (λ i. plain (i + 1) (get_or words i 0)) n acts turn
+sets_plain : (r : Rec) (words : List ℕ) (n : ℕ) (acts : List Act) → InTurn (λ i. StoresWord r (i + 1) (get_or words i 0)) n acts → All TriesNoLock acts
+sets_plain r words n acts turn = in_turn_plain (λ i. StoresWord r (i + 1) (get_or words i 0)) (λ i. stored (i + 1) (get_or words i 0)) n acts turn
   where
-    stored : (offset word : ℕ) → All TriesNoLock (Fill r offset word ∷ [])
-    stored offset word = All-cons TriesNoLock (Fill r offset word) [] tt (λ i d low. absurd (omega arith))
-
-    looked : (s : Rec) (offset found : ℕ) → TriesNoLock (load_of_word s offset found)
-    looked (a_leaf n) offset found = tt
-    looked (a_node n) offset found = either (nat_lt offset FIRST_ENTRY)
-      where
-        either : (b : Bool) → TriesNoLock (if b then LoadFixed (a_node n) offset found else LoadRef (Slot n (offset - FIRST_ENTRY)) found)
-        either true = tt
-        either false = tt
-
-    mended : (offset word : ℕ) (b : Bool) → All TriesNoLock (if b then [] else Fill r offset word ∷ [])
-    mended offset word true = λ i d low. absurd (omega arith)
-    mended offset word false = stored offset word
-
-    plain : (offset word : ℕ) (acts : List Act) → SetsWord r offset word acts → All TriesNoLock acts
-    plain offset word acts (inl (used, is)) = subst (All TriesNoLock) (sym is) (stored offset word)
-    plain offset word acts (inr (unused, found, is)) = subst (All TriesNoLock) (sym is) (All-cons TriesNoLock (load_of_word r offset found) (fill_unless_found r offset word found) (looked r offset found) (mended offset word (nat_eq found word)))
+    stored : (offset word : ℕ) (acts : List Act) → StoresWord r offset word acts → All TriesNoLock acts
+    stored offset word acts is = subst (All TriesNoLock) (sym is) (All-cons TriesNoLock (Fill r offset word) [] tt (λ i d low. absurd (omega arith)))
 
 module _ {G : Type 0} (table : TableView) (becomes : G → Event → G → Type 0) where
   stays_on : {j : Known} (acts : List Act) (a b : SeatView × G) → All TriesNoLock acts → Runs table becomes acts a b → b.0.known ≡ j → StaysLocked a.0.known j → WorksOn table becomes a b
@@ -155,7 +137,7 @@ module _ {G : Type 0} (table : TableView) (becomes : G → Event → G → Type 
   pub claim_on : (kind : ℕ → Rec) (n from m : ℕ) (a b : SeatView × G) → Claims table becomes kind n from m a b → WorksOn table becomes a b
   claim_on kind n from m a b claim = goes_more table becomes a claim.before b (none_on kind n from claim.tried a claim.before claim.none) (one_on (kind m) claim.before b claim.one)
 
-  set_on : (r : Rec) (words : List ℕ) (n : ℕ) (acts : List Act) (a b : SeatView × G) → InTurn (λ i. SetsWord r (i + 1) (get_or words i 0)) n acts → Does table becomes filling acts a b →
+  set_on : (r : Rec) (words : List ℕ) (n : ℕ) (acts : List Act) (a b : SeatView × G) → InTurn (λ i. StoresWord r (i + 1) (get_or words i 0)) n acts → Does table becomes owning acts a b →
       IsLater a.0.known b.0.known → WorksOn table becomes a b
   set_on r words n acts a b in_turn does later = record {
     acts = acts;
