@@ -57,15 +57,15 @@ pub record Leaves (s t : SectionView) : Type 0 where
   pub others : OthersRunOn s.known.number s.known.run before
   pub run : t.known.run ≡ Left s.known.number ∷ before
 
--- The number is that of a moment: there was a run during the call in which fewer had been taken. It has been taken when the call ends, unless it is
--- beyond the most that a table tells apart.
+-- The number is that of a moment: there was a run during the call in which fewer had been taken. It has been taken when the call ends; or all
+-- that a table tells apart have been taken, and it is the next number.
 pub record TakesMoment (moment : ℕ) (s t : SectionView) : Type 0 where
   pub one : IsOneSection s t
   pub before : List Event
   pub others : OthersRunOn s.known.number s.known.run before
   pub fewer : moments_in before < moment
   pub until : OthersRunOn s.known.number before t.known.run
-  pub taken : (moment ≤ moments_in t.known.run) ⊎ (moment ≡ MOST_MOMENTS + 1)
+  pub taken : (moment ≤ moments_in t.known.run) ⊎ ((moment ≡ MOST_MOMENTS + 1) × (moments_in t.known.run ≡ MOST_MOMENTS))
 
 -- Looks take the section in from now on. Its owner has made no event.
 pub record StartsCounting (s t : SectionView) : Type 0 where
