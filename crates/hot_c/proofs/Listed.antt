@@ -8,7 +8,7 @@ use Rattle.finite_map.specs.Reverse.{IsLawfulReverseScan}
 use Rattle.finite_map.specs.Scans.{IsLawfulScan}
 use Rattle.record_words.specs.declared.layout.Layout.{Layout}
 use Rattle.version_laws.specs.Scan.{Range}
-use Rattle.version_laws.specs.Directions.{ScanLaw}
+use Rattle.version_laws.specs.Directions.{IsLawfulBy, ScanLaw}
 use Rattle.hot_index_calls.specs.Answers.{HasFoundPair, IsListed, IsListedBy, IsUnnoted, range_from}
 use Rattle.hot_index_calls.specs.Calls.{IsListReadBy, IsRangeRead}
 use Rattle.hot_index.specs.Handles.{HandleView, Stays}
@@ -17,7 +17,7 @@ use Rattle.hot_index_calls.specs.Reverse.{IsReverseListed}
 use Rattle.hot_index_calls.specs.Traces.{HasGotRange, untold}
 use Rattle.hot_index.proofs.Reading.{range_whole}
 use Rattle.hot_c.specs.Calls.{FitsInKey, KeepsAll, StaysOpen}
-use Rattle.hot_c.specs.Orders.{Answer, IsFilledIn, IsListedIn, in_order}
+use Rattle.hot_c.specs.Orders.{Answer, IsFilledIn, IsListedIn, direction_of, in_order}
 use Rattle.slots.specs.Owning.{heap}
 use Rattle.hot_c.specs.Packs.{IsListedByParts}
 use Rattle.hot_c.specs.Scans.{HasFilled, ListsInto, ListsNothing}
@@ -66,10 +66,12 @@ pub without_part : {IsLawful : ScanLaw} {range : Range} {pairs : List (List ℕ 
     → Stays (λ index k j. IsListReadBy IsLawful range pairs r index untold (k, tt) (j, tt)) old new → Stays (IsRangeRead (λ layout k j. IsListedBy IsLawful layout k j range pairs) range r) old new
 without_part {r = r} h = record { index = h.index; pass = range_whole r h.pass }
 
--- what is left in one order is left in the same one
-pub filled_as : (order other : Order) → order ≡ other → (range : Range) (pairs : List (List ℕ × ℕ)) (r : Result Bool AllocError) (old new : HandleView)
-    → Stays (IsRangeRead (λ layout k j. IsFilledIn other layout k j range pairs) range r) old new → Stays (IsRangeRead (λ layout k j. IsFilledIn order layout k j range pairs) range r) old new
-filled_as order other same range pairs r old new h = subst (λ (o : Order). Stays (IsRangeRead (λ layout k j. IsFilledIn o layout k j range pairs) range r) old new) (sym same) h
+-- what is left by a scan in the direction of an order is left in that order
+pub filled_in : (order : Order) {range : Range} {pairs : List (List ℕ × ℕ)} {r : Result Bool AllocError} {old new : HandleView}
+    → Stays (λ index k j. IsListReadBy (IsLawfulBy (direction_of order)) range pairs r index untold (k, tt) (j, tt)) old new → Stays (IsRangeRead (λ layout k j. IsFilledIn order layout k j range pairs) range r) old new
+filled_in Upwards h = without_part h
+filled_in Downwards h = without_part h
+filled_in LastUpwards h = without_part h
 
 pub as_many : (order : Order) (pairs : List (List ℕ × ℕ)) → length (in_order order pairs) ≡ length pairs
 as_many Upwards pairs = refl

@@ -5,6 +5,8 @@ use Rattle.version_laws.specs.Scan.{Range}
 use Rattle.hot_index_calls.specs.Answers.{IsListed}
 use Rattle.hot_index_calls.specs.Passes.{PassView}
 use Rattle.hot_index_calls.specs.Reverse.{IsReverseListed}
+use Rattle.packed_pairs.specs.declared.direction.Direction.{Direction}
+use Rattle.packed_pairs.specs.declared.direction.Direction.TheVariants.{Upwards as Rising, Downwards as Falling}
 use Rattle.hot_c.specs.declared.pairs.Order.{Order}
 use Rattle.hot_c.specs.declared.pairs.Order.TheVariants.{Upwards, Downwards, LastUpwards}
 
@@ -27,6 +29,12 @@ abbrev pub in_order : Order → List (List ℕ × ℕ) → List (List ℕ × ℕ
 in_order Upwards pairs = pairs
 in_order Downwards pairs = pairs
 in_order LastUpwards pairs = reverse pairs
+
+-- the direction in which a scan finds them
+abbrev pub direction_of : Order → Direction
+direction_of Upwards = Rising
+direction_of Downwards = Falling
+direction_of LastUpwards = Falling
 
 -- a scan that found these pairs, one after the other, was answered
 abbrev pub IsFilledIn : Order → Answer

@@ -18,7 +18,7 @@ ghost use Rattle.hot_c.specs.Statuses.{value_after};
 use crate::pairs::Order;
 use crate::refusals::tell_refusal;
 use crate::status::write_reply;
-use hot_index::{Call, ClosedHandle, Handle, Index, Reply, ShowsIndex, Stamp};
+use hot_index::{Call, ClosedHandle, Handle, Index, Range, Reply, ShowsIndex, Stamp};
 use key_bits::Key;
 use packed_pairs::Pairs;
 use std::alloc::{AllocError, Global};
@@ -99,13 +99,13 @@ impl Opened {
             (range_from from.now upto.now limit) result) self.old.handle self.new.handle }
         ensures keeps { self.new.kept.items ≡ self.old.kept.items }
     {
-        match order {
-            Order::Upwards => self.handle.scan_into(from, upto, limit, &mut self.list),
-            Order::Downwards | Order::LastUpwards => {
-                self.handle
-                    .scan_reverse_into(from, upto, limit, &mut self.list)
-            }
-        }
+        let range = Range {
+            from,
+            upto,
+            direction: order.direction(),
+            limit,
+        };
+        self.handle.range_into(&range, &mut self.list)
     }
 
     /// A stamp of all that the handle has seen.

@@ -1,11 +1,12 @@
 //! The pairs of a scan in an array of C, and one pair at a place of C's.
 
 ghost use Rattle.std.specs.Prelude.{◌≡◌, ◌+◌, ◌≤◌, length, drop, reverse, slice_get};
-ghost use Rattle.hot_c.specs.Orders.{in_order};
+ghost use Rattle.hot_c.specs.Orders.{direction_of, in_order};
 ghost use Rattle.hot_c.specs.Pairs.{AreSpelled, IsPairTold, Spells};
 ghost use Rattle.key_bits.specs.Key.{IsKey};
 
 use crate::status::{ABSENT, FOUND};
+use hot_index::Direction;
 use key_bits::MAX_BYTES;
 use packed_pairs::Pairs;
 
@@ -26,6 +27,18 @@ pub enum Order {
     Downwards,
     /// The last ones, in rising order.
     LastUpwards,
+}
+
+impl Order {
+    /// The direction in which a scan finds these pairs.
+    pub fn direction(self) -> Direction
+        ensures { result ≡ direction_of self }
+    {
+        match self {
+            Order::Upwards => Direction::Upwards,
+            Order::Downwards | Order::LastUpwards => Direction::Downwards,
+        }
+    }
 }
 
 /// Which pairs a scan is asked for: those with keys from one to another, both included, in this order.

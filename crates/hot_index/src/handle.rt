@@ -22,6 +22,8 @@ ghost use Rattle.hot_index_calls.specs.Refusals.{as_tried};
 ghost use Rattle.hot_index_calls.specs.Rooms.{LeavesRoom};
 ghost use Rattle.hot_index_calls.specs.Traces.{HasCollected, HasGot, HasMade, HasTold, untold};
 ghost use Rattle.key_ranges.specs.Ranges.{last_with};
+ghost use Rattle.rowex_scanning.specs.Scanning.{asked_range};
+ghost use Rattle.version_laws.specs.Directions.{IsLawfulBy};
 
 use crate::index::{Index, Pass};
 use crate::key_counts::KeyCount;
@@ -30,6 +32,7 @@ use finite_map::{Call, Reply, Scan};
 use hot_index_calls::{RecordCounts, Refusal};
 use key_bits::Key;
 use packed_pairs::Pairs;
+use rowex_scanning::Range;
 use rowex_writing::{Full, TryFault};
 use std::alloc::{AllocError, Global};
 use std::marker::Model;
@@ -335,6 +338,15 @@ impl<I: ShowsIndex> Handle<I> {
         self.index
             .show()
             .scan_into(&mut self.pass, from, upto, limit, pairs)
+    }
+
+    /// Replaces what `pairs` holds with the first pairs of `range` in its direction, as many as its limit at most, and returns whether there
+    /// are more. If memory is refused, an error: `pairs` then holds the first of these pairs, fewer than the limit. As `Index::range_into`.
+    pub fn range_into(&mut self, range: &Range, pairs: &mut Pairs) -> Result<bool, AllocError>
+        ensures call { Stays (λ index k j. IsListReadBy (IsLawfulBy range.now.direction) (asked_range range.now) pairs.new result index untold (k, tt) (j, tt))
+            self.old self.new }
+    {
+        self.index.show().range_into(&mut self.pass, range, pairs)
     }
 
     /// Replaces what `values` holds with the values of the first `limit` pairs from `from` to `upto`, and returns whether there are more.

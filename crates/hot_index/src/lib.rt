@@ -68,5 +68,6 @@ pub use loading::Load;
 pub use packed_pairs::Pairs;
 pub use record_words::{LayoutFault, Stock};
 pub use rowex_core::{Event, Gate, NoGate};
+pub use rowex_scanning::{Direction, Range};
 pub use rowex_writing::{Full, TryFault};
 pub use stamp::Stamp;

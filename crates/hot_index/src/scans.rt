@@ -5,6 +5,7 @@ ghost use Rattle.rowex_scanning.specs.Scanning.{asked_range};
 ghost use Rattle.hot_index_calls.specs.Answers.{IsFoundBy, range_from};
 ghost use Rattle.hot_index_calls.specs.Calls.{IsListRead, IsListReadBy, IsListReadWith, IsRangeRead, IsScanRead, IsScanReadBy, IsScanReadWith};
 ghost use Rattle.hot_index_calls.specs.Passes.{Owns};
+ghost use Rattle.hot_index_calls.specs.Traces.{untold};
 
 use crate::index::{Index, Pass};
 use epochs::{pin, unpin};
@@ -104,6 +105,22 @@ impl Index {
             limit,
         };
         self.list_range(pass, &range, pairs, gate)
+    }
+
+    /// Lists the first pairs of `range` in its direction, as many as its limit at most, into `pairs`, and drops earlier ones. Returns whether
+    /// the range has more in that direction.
+    ///
+    /// It is a `scan_into` or a `scan_reverse_into`, for callers of both: so they have one walk for the two directions.
+    pub fn range_into(
+        &self,
+        pass: &mut Pass,
+        range: &Range,
+        pairs: &mut Pairs,
+    ) -> Result<bool, AllocError>
+        requires { Owns self.now pass.old }
+        ensures { IsListReadBy (IsLawfulBy range.now.direction) (asked_range range.now) pairs.new result self.now untold (pass.old, tt) (pass.new, tt) }
+    {
+        self.list_range(pass, range, pairs, &mut NoGate)
     }
 
     /// Lists the first pairs of `range` in its direction, as many as its limit at most, into `pairs`, and drops earlier ones. `gate` is

@@ -1,17 +1,15 @@
 -- The scan of the index fills the list.
-use Rattle.std.proofs.Common.{⊎_elim, refl}
-use Rattle.hot_c.specs.declared.pairs.Order.TheVariants.{Upwards, Downwards, LastUpwards}
-use Rattle.hot_c.proofs.Listed.{filled_as, without_part}
+use Rattle.std.proofs.Common.{subst}
+use Rattle.packed_pairs.specs.declared.direction.Direction.{Direction}
+use Rattle.hot_index.specs.Handles.{Stays}
+use Rattle.hot_index_calls.specs.Answers.{range_from}
+use Rattle.hot_index_calls.specs.Calls.{IsListReadBy}
+use Rattle.hot_index_calls.specs.Traces.{untold}
+use Rattle.version_laws.specs.Directions.{IsLawfulBy}
+use Rattle.hot_c.proofs.Listed.{filled_in}
 use Rattle.hot_c.proofs.opened.Opened.scan.Goals as goal
 
-pub returns-in-Upwards : goal.returns-in-Upwards
-returns-in-Upwards c = record { call = filled_as c.args.order Upwards c.in-Upwards.is _ _ _ _ _ (without_part c.scan_into.ensures.call); keeps = refl }
-
-pub returns-in-Downwards : goal.returns-in-Downwards
-returns-in-Downwards c = record {
-  call = ⊎_elim
-      (λ is. filled_as c.args.order Downwards is _ _ _ _ _ (without_part c.scan_reverse_into.ensures.call))
-      (λ is. filled_as c.args.order LastUpwards is _ _ _ _ _ (without_part c.scan_reverse_into.ensures.call))
-      c.in-Downwards.is;
-  keeps = refl;
-}
+pub returns-clause-call : goal.returns-clause-call
+returns-clause-call c =
+    filled_in c.args.order (subst (λ (d : Direction). Stays (λ index k j. IsListReadBy (IsLawfulBy d) (range_from c.args.from.now c.args.upto.now c.args.limit) c.range_into.new.pairs c.range_into.result index untold (k, tt) (j, tt)) c.args.self.now.handle c.range_into.new.self)
+    c.direction.ensures c.range_into.ensures.call)
