@@ -154,38 +154,31 @@ fn first_leaf_of_class(layout: Layout, number: u32) -> u32 {
     }
 }
 
-/// Empty scratch lists for pass `number` of a table with this layout; an error if memory is refused.
-pub fn new_scratch(alloc: Global, layout: Layout, number: u16) -> Result<Box<Scratch>, AllocError>
-    ensures { IfOk result (λ scratch. (scratch.value.way.items ≡ []) × (scratch.value.build.made.items ≡ []) × (scratch.value.build.gone.items ≡ [])) }
-{
-    let share = |from: u32, upto: u32, first: u32| {
-        Share::of(number, layout.passes, upto.saturating_sub(from), first)
+/// What pass `number` claims of the leaf records of each class, in a table with this layout.
+fn share_leaves(layout: Layout, number: u16) -> [Share; LEAF_CLASSES] {
+    let share = |from: u32, upto: u32, words: u32| {
+        let most = FIRST_WORDS.checked_div(words).unwrap_or(0);
+        Share::of(number, layout.passes, upto.saturating_sub(from), most)
     };
-    let nodes = share(0, layout.nodes, FIRST_WORDS / NODE_WORDS as u32);
-    let leaves = [
-        share(0, layout.medium_from, FIRST_WORDS / SHORT_WORDS as u32),
-        share(
-            layout.medium_from,
-            layout.large_from,
-            FIRST_WORDS / MEDIUM_WORDS as u32,
-        ),
-        share(
-            layout.large_from,
-            layout.wide_from,
-            FIRST_WORDS / LARGE_WORDS as u32,
-        ),
-        share(
-            layout.wide_from,
-            layout.long_from,
-            FIRST_WORDS / WIDE_WORDS as u32,
-        ),
-        share(
-            layout.long_from,
-            layout.leaves,
-            FIRST_WORDS / LEAF_WORDS as u32,
-        ),
-    ];
-    let build = Build {
+    [
+        share(0, layout.medium_from, SHORT_WORDS as u32),
+        share(layout.medium_from, layout.large_from, MEDIUM_WORDS as u32),
+        share(layout.large_from, layout.wide_from, LARGE_WORDS as u32),
+        share(layout.wide_from, layout.long_from, WIDE_WORDS as u32),
+        share(layout.long_from, layout.leaves, LEAF_WORDS as u32),
+    ]
+}
+
+/// Empty lists of a change, and hints whose claims begin as `nodes` and `leaves` say; an error if memory is refused.
+fn new_build(
+    alloc: Global,
+    layout: Layout,
+    nodes: Share,
+    leaves: [Share; LEAF_CLASSES],
+) -> Result<Build, AllocError>
+    ensures { IfOk result (λ build. (build.made.items ≡ []) × (build.gone.items ≡ [])) }
+{
+    Ok(Build {
         made: BoundedVec::new(alloc)?,
         gone: BoundedVec::new(alloc)?,
         nodes: nodes.begin_claims(),
@@ -197,10 +190,23 @@ pub fn new_scratch(alloc: Global, layout: Layout, number: u16) -> Result<Box<Scr
             leaves[3].begin_claims(),
             leaves[4].begin_claims(),
         ],
-    };
+    })
+}
+
+/// Empty scratch lists for pass `number` of a table with this layout; an error if memory is refused.
+pub fn new_scratch(alloc: Global, layout: Layout, number: u16) -> Result<Box<Scratch>, AllocError>
+    ensures { IfOk result (λ scratch. (scratch.value.way.items ≡ []) × (scratch.value.build.made.items ≡ []) × (scratch.value.build.gone.items ≡ [])) }
+{
+    let nodes = Share::of(
+        number,
+        layout.passes,
+        layout.nodes,
+        FIRST_WORDS / NODE_WORDS as u32,
+    );
+    let leaves = share_leaves(layout, number);
     let scratch = Scratch {
         way: BoundedVec::new(alloc)?,
-        build,
+        build: new_build(alloc, layout, nodes, leaves)?,
         limbo: Limbo::new(alloc)?,
         nodes,
         leaves,
