@@ -77,6 +77,13 @@ int __wrap_munmap(void *at, size_t size) {
     return __real_munmap(at, size);
 }
 
+/* What a sanitizer holds for itself beside the memory that it watches. */
+#ifdef IS_WATCHED
+enum { WATCHING = 64 << 20 };
+#else
+enum { WATCHING = 0 };
+#endif
+
 static long resident(void);
 
 /* What was resident when pages were last moved. */
@@ -221,7 +228,7 @@ static void test_resident(void) {
     CHECK(made - first < 1000000);
     CHECK(hot_open(index, &handle) == HOT_DONE && hot_open(index, &other) == HOT_DONE);
     opened = resident();
-    CHECK(opened - made < 60000);
+    CHECK(opened - made < 60000 + WATCHING);
     for (key = 0; key < FEW; key++) {
         uint64_t mixed = key * 0x9E3779B97F4A7C15u;
         CHECK(hot_insert(&handle, (const uint8_t *)&mixed, 8, key, NULL) == HOT_INSERTED);
@@ -583,14 +590,14 @@ static void test_growing_resident(void) {
         put_next(&handle, &number);
     grown = resident() - first;
     hot_bytes(index, &bytes);
-    CHECK(grown < made / 10 * 11 && (long)bytes.now >= grown && bytes.now < bytes.most && (long)bytes.now < grown / 4 * 5);
+    CHECK(grown < made / 10 * 11 + WATCHING && (long)bytes.now + WATCHING >= grown && bytes.now < bytes.most && (long)bytes.now < grown / 4 * 5 + WATCHING);
     CHECK(hot_grow_begin(index) == HOT_DONE);
     while (more) {
         CHECK(hot_grow_step(index, &more) == HOT_DONE);
         hot_bytes(index, &bytes);
-        CHECK((long)bytes.now >= resident() - first);
+        CHECK((long)bytes.now + WATCHING >= resident() - first);
     }
-    CHECK(hot_clear(&handle) == HOT_DONE && hot_trim(index) == HOT_DONE && resident() - first < FEW);
+    CHECK(hot_clear(&handle) == HOT_DONE && hot_trim(index) == HOT_DONE && resident() - first < FEW + WATCHING);
     CHECK(hot_close(&handle) == HOT_DONE && hot_close_index(index) == HOT_DONE && in_use == 0);
     CHECK(prctl(PR_SET_THP_DISABLE, 0, 0, 0, 0) == 0);
     printf("resident: %ld bytes of an index that has grown to %d keys, %ld of one that was made for them\n", grown, KEYS, made);
