@@ -8,7 +8,8 @@
 // How many more times memory is given, and how many times it was given and isn't back.
 static long given = LONG_MAX, held = 0;
 
-void *operator new(std::size_t size) {
+// Not inline: a compiler that sees through them warns of what new and free have mixed.
+[[gnu::noinline]] void *operator new(std::size_t size) {
     void *const at = given > 0 ? std::malloc(size ? size : 1) : nullptr;
     if (!at)
         throw std::bad_alloc();
@@ -16,7 +17,7 @@ void *operator new(std::size_t size) {
     held++;
     return at;
 }
-void operator delete(void *at) noexcept {
+[[gnu::noinline]] void operator delete(void *at) noexcept {
     held -= at != nullptr;
     std::free(at);
 }
