@@ -35,6 +35,13 @@
 //!
 //! A pass that is stopped while it is pinned holds back what others retire from then on, and nothing else: nobody waits for it
 //! here. Whoever needs records learns by [`Collected`] whether a round gave some back, or found some free.
+//!
+//! # What carries the proof
+//!
+//! Contracts are lists of steps, since others go on meanwhile. A pin is the epoch loaded right before. A round (`docs/ARCHITECTURE.md`)
+//! exchanges exactly the records obsolete below its bound. It may, since each pin was loaded after the epoch. A small round begins so, and
+//! visits at most 128 records; no clause says which (`IsSmallRound`). `laws::reach_is_kept` and `given_is_out_of_reach` hold before and
+//! after each step.
 #![tactic(auto)]
 
 mod collection;

@@ -1,5 +1,15 @@
 //! A finite map from keys to numbers, and histories of it: the calls, their replies, and what makes the calls of many passes legal
 //! together.
+//!
+//! # What carries the proof
+//!
+//! A map is the list of its pairs in key order. One table (`step`) gives each call's reply and the map that it leaves. A front is a list of
+//! changes; it is legal if each change fits the map of those before. A note has a place, a call and a reply. `LegalCalls` says of a pass's
+//! notes in a front: each reply is the map's at its place. A call that changed the map is the change there. The front's changes of this
+//! pass are exactly those of its notes. Places never fall, and rise after each change of its own.
+//!
+//! A weave puts notes into a front: a change whose call is among the notes stands as that call, another as the bare change. Calls that
+//! changed nothing stand between them, by their places.
 #![tactic(auto)]
 
 ghost use Rattle.std.specs.Prelude.{◌≡◌};

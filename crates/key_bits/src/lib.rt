@@ -1,4 +1,10 @@
 //! Byte keys of bounded length, their bits, the first bit at which two keys differ, and bits gathered into a word.
+//!
+//! # What carries the proof
+//!
+//! In contracts a key is the list of its bytes, with nine bits for each: a 1, then the byte's bits; then all are 0. So where one key ends
+//! and another goes on, they differ, and the order of bits is the order of bytes. `mismatch` finds the first difference of two keys; the
+//! key with a 0 there is the smaller (`less`, `greater` of `Key`'s `cmp`).
 #![tactic(auto)]
 
 ghost use Rattle.std.specs.Prelude.{[], ◌≡◌, ◌≢◌, ℕ, ◌+◌, ◌*◌, ◌≤◌, ◌<◌, ◌↔◌, ◌++◌, drop, length, replicate, take, IsTrue, IsOk, IsNone, IfOk, IfErr, IfSome, false, if◌then◌else◌};

@@ -1,4 +1,8 @@
 //! Ranges of keys: which key comes next, and which keys begin with a prefix.
+//!
+//! # What carries the proof
+//!
+//! `next_key` and `previous_key` are the keys beside one. The keys with a prefix are a range (`laws::prefix_is_a_range`).
 #![tactic(auto)]
 
 ghost use Rattle.std.specs.Prelude.{◌≡◌, ◌<◌, ◌++◌, ◌∷◌, [], IfSome, None, length};

@@ -1,4 +1,8 @@
 //! Lists of keys with their values, packed: the bytes of all keys one after another, so that no pair takes more room than it needs.
+//!
+//! # What carries the proof
+//!
+//! `push` of `Pairs` adds a pair, or out of memory nothing.
 #![tactic(auto)]
 
 mod back;

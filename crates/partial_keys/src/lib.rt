@@ -1,4 +1,11 @@
 //! Columns of a compound node and the search of its rows: HOT's discriminative bits and sparse partial keys (Binna and others 2018).
+//!
+//! # What carries the proof
+//!
+//! A row is the code of a path over the columns. It complies exactly if the dense key has a 1 at each position of the path
+//! (`complies-row`), so the search lemma carries over. `shown` reads rows back: column by column, the rows with 0 are the front part of a
+//! fork. Reading the rows of a lawful piece gives that piece (`piece_of_shown`). `search_plain` and `search_lanes` state one function;
+//! `extract_dense_key_by_lanes` gathers bits by vectors as if one by one (`lane_tells`, `mask_is`).
 #![tactic(auto)]
 
 ghost use Rattle.std.specs.Prelude.{◌≡◌, ◌+◌, ◌-◌, ◌++◌, ◌∷◌, ◌<◌, ◌≤◌, drop, insert, length, map, remove, replicate, slice_index, take};

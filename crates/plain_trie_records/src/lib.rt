@@ -13,6 +13,10 @@
 //!    between the two, or into a new root ([`make_root`]). [`place`] is this rule by itself.
 //!
 //! A scan ([`scan_below`]) goes through the leaves in the order of their keys, and copies the pairs of its range.
+//!
+//! # What carries the proof
+//!
+//! The records of a `PlainTrie` show a bit trie.
 #![tactic(auto)]
 
 mod leaf;

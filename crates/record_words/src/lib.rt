@@ -59,6 +59,20 @@
 //! A search loads the first word, and then as many as its kind says. Whoever reads one row or position of a locked node loads the first word
 //! before. A word of rows can be all ones although it has a row: that row is, and all behind it are unused. So whoever stores only the words
 //! that say something may leave it out, too. A replay decodes by the kind, makes the words anew and compares all of them.
+//!
+//! # What carries the proof
+//!
+//! The format is stated by spelling: for each value, which word stands where (`state_word`, `entry_word`, `leaf_words`, `node_words`).
+//! `IsReading` says once what reading is, for states, entries, leaves, nodes and heads. Each value that words spell is the result, and a
+//! result is a value that they spell. Both directions and the exact `Bad` follow. A leaf is spelled by its words up to the end of its key
+//! (`up_to_key`).
+//!
+//! A node's columns decide the kind of its head (`kind_of`), so its words are a function of the head. Two decoders (`positions_in`,
+//! `rows_in`) read every kind as lanes, and all but the search goes through them; the search has one form for each kind.
+//!
+//! Changes of words as they stand are equal to packing the changed value: `add_leaf`, `drop_entry`, `affected_slots` and others. A word
+//! belongs to at most one location (`Layout::location`). `Layout`'s and `Stock`'s functions give exactly the asked numbers, or refuse the
+//! first out of range.
 #![tactic(auto)]
 
 mod affected;

@@ -31,6 +31,19 @@
 //!
 //! What a pass has learned by its loads is kept as facts about versions of the past, which no step of another pass makes false.
 //! So a contract says: the value was the key's at a moment between the call's load of the root and its end.
+//!
+//! # What carries the proof
+//!
+//! A pass is *sure* of what holds in every lawful core that agrees with what it recalls (`Sure`, `Recalls`): the changes seen, facts, its
+//! pin. It stays sure whatever others publish (`IsLater`). `load_root`, `search_node`, `load_entry`, `load_value` leave facts; a head's
+//! words are of one node, in whichever version each was loaded (`AreHeadWords`). `look_up` ends in `HasFound`: the value was the key's in a
+//! version since the root's load, or the key was absent in one. `search_way` keeps the path. `look_up_all` keeps for each key the entry to
+//! which its way has led since the root's load (`HasComeTo`). Each node entered lowers the heights' sum (`heights_in`).
+//!
+//! A pass sees no core. A step says that there was one in which its knowledge was true and the step legal (`IsPossible`). So a conclusion
+//! has to hold in all that are possible. Facts are of versions since the pin. One fact serves readers that count from their root's load and
+//! writers that count from their locks (`IsPinnedSince`). A key and a leaf are compared as words, since no two keys have the same words
+//! (`IsCompared`).
 #![tactic(auto)]
 
 mod affected;

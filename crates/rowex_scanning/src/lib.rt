@@ -1,5 +1,11 @@
 //! Scans of a shared trie: a pinned pass walks from the first key of a range on, or from the last one downwards. It is sure of what it
 //! lists, whatever other passes publish meanwhile.
+//!
+//! # What carries the proof
+//!
+//! The walk keeps its way as frames, and is sure of `IsScanBy`. It starts before or behind the entries that the first difference affects;
+//! if that is one, its place is never loaded again (`IsPastKey`). The walk is proved once for both directions. A count knows its pairs by
+//! their number alone (`Tally`): leaves before one of the range belong to it.
 #![tactic(auto)]
 
 mod ahead;

@@ -34,6 +34,21 @@
 //! Nobody waits for a lock while holding one, so no order of locks can block. Lowest first means that those that more passes want
 //! are held for the shortest time.
 //!
+//! `attempt` begins and ends with a pinned pass that has nothing (`IsAtRest`). Its parts (`docs/ARCHITECTURE.md`) hand on facts that last
+//! (`IsWayOf`), a plan (`IsPlan`), locks (`HasTriedOnce`, `HasMetLock`), what was checked (`IsChecked`, or the front is longer) and the
+//! change (`HasChanged`). A leaf for a node of leaves goes into its words (`make_node_with_leaf`, `SpellBuilt`); other nodes are made as
+//! values (`raise_with_leaf`). All claims of a change share one walk (`IsClaimWalk`). `AreAttemptSteps` bounds it by entries, locks and
+//! records.
+//!
+//! No lock is tried twice: heights fall along a path, and a record to which a pass was led since its pin has one height. Under the locks
+//! the path of the search is the path in the present tree, from the topmost locked node to the entry of the lowest. Below that only the
+//! found leaf's value is loaded again: it is the key's after all changes that the pass has seen (`HoldsFound`). If a check fails, the front
+//! is longer than at the root's load, which is another pass's change.
+//!
+//! The plan comes from reads without locks, and the laws speak of words under them. `locked_shape` ties the two: a node's forks, height,
+//! count and affected entries stay for its life. What a node becomes is no higher than it was, or one higher if it was full. Then the node
+//! above is at least two higher, or the plan would have gone on upwards.
+//!
 //! # What is kept between calls
 //!
 //! [`Build`] (`kept`) has the lists that a change fills, and hints where free records are ([`Hint`], `hints`). The hints are plain numbers

@@ -1,4 +1,12 @@
 //! The versions of the index: the trees that publishes make one after the other, the lives of records, fates and epochs.
+//!
+//! # What carries the proof
+//!
+//! What passes share, without words: versions, changes, lives and fates of records, locks, the epoch, pins, rounds. Steps are one relation
+//! (`IsCoreStep`), and each keeps the state lawful (`steps_stay_lawful`). Main laws: `hindsight` (a search goes on in a record that was
+//! unlinked), `keys_part_at_fork_between_slots` (keys below two entries part at their fork, in whichever versions), `content_is_map`
+//! (version n holds the map of n changes), `nodes_in_tree_are_fewer_than_keys`, `reach_is_kept`. `HasTraded` says exactly which records a
+//! publish links and unlinks.
 #![tactic(auto)]
 
 pub mod laws;
