@@ -193,8 +193,8 @@ void hot_stock_for_any_keys(uint32_t keys, size_t longest, size_t handles, hot_s
  * that is not 0 it has as many leaves as hot_stock_for_keys would give, and nodes for all keys together. */
 void hot_stock_for_lengths(const uint32_t *keys, hot_stock *stock);
 
-/* Writes how many bytes the records and pins of an index with this stock and this number of handles have. The 118 KB of each handle come
- * to it.
+/* Writes how many bytes the records and pins of an index with this stock and this number of handles have. The lists of handles, 118 KB each,
+ * are not counted.
  * HOT_DONE; or HOT_OUT_OF_RANGE or HOT_OLD_PROCESSOR, where hot_create_with would return that. */
 hot_status hot_stock_bytes(const hot_stock *stock, size_t handles, size_t *bytes);
 
