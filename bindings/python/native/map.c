@@ -48,6 +48,18 @@ static PyObject *map_clear_all(PyObject *self, PyObject *unused) {
     return NULL;
 }
 
+static PyObject *map_trim(PyObject *self, PyObject *unused) {
+    (void)unused;
+    store *in = usable((map *)self);
+    if (!in)
+        return NULL;
+    hot_status status = store_trim(in);
+    if (status == HOT_DONE)
+        Py_RETURN_NONE;
+    raise_status(status);
+    return NULL;
+}
+
 static PyObject *map_encode(PyObject *self, PyObject *key) {
     code to;
     if (code_of(&((map *)self)->codec, key, &to) < 0)
@@ -196,6 +208,8 @@ static PyMethodDef methods[] = {
      "keys in one call, in which other threads run."},
     {"__class_getitem__", Py_GenericAlias, METH_O | METH_CLASS, NULL},
     {"clear", METHOD(map_clear_all), METH_NOARGS, "clear($self)\n--\n\nDeletes all keys at once."},
+    {"trim", METHOD(map_trim), METH_NOARGS,
+     "trim($self)\n--\n\nGives memory back that the keys of a map that grows don't need, while other threads go on."},
     {"_load", METHOD(map_load), METH_O, "_load($self, pairs, /)\n--\n\nTakes pairs whose keys rise in the place of what there is."},
     {"_load_map", METHOD(map_load_map), METH_O,
      "_load_map($self, other, /)\n--\n\nTakes the pairs of a map, whose keys have the same bytes, in the place of what there is."},

@@ -7,12 +7,16 @@ typedef struct key_call {
     uint64_t value, expected, had;
 } key_call;
 
+static hot_status look_up(hot_handle *handle, void *what) {
+    key_call *it = what;
+    return hot_get(handle, it->key.bytes, it->key.length, &it->had);
+}
+
 static hot_status attempt(hot_handle *handle, void *what) {
     key_call *it = what;
     const uint8_t *key = it->key.bytes;
     size_t length = it->key.length;
     switch (it->kind) {
-    case GET: return hot_get(handle, key, length, &it->had);
     case INSERT: return hot_try_insert(handle, key, length, it->value, &it->had);
     case UPSERT: return hot_try_upsert(handle, key, length, it->value, &it->had);
     case REMOVE: return hot_try_remove(handle, key, length, &it->had);
@@ -21,12 +25,26 @@ static hot_status attempt(hot_handle *handle, void *what) {
     }
 }
 
+/* The same, but it waits. */
+static hot_status change(hot_handle *handle, void *what) {
+    key_call *it = what;
+    const uint8_t *key = it->key.bytes;
+    size_t length = it->key.length;
+    switch (it->kind) {
+    case INSERT: return hot_insert(handle, key, length, it->value, &it->had);
+    case UPSERT: return hot_upsert(handle, key, length, it->value, &it->had);
+    case REMOVE: return hot_remove(handle, key, length, &it->had);
+    case EXCHANGE: return hot_exchange(handle, key, length, it->expected, it->value, &it->had);
+    default: return hot_remove_if(handle, key, length, it->expected, &it->had);
+    }
+}
+
 /* Makes a call: its status, or -1 with an exception. */
 static int call(map *it, key_call *what) {
     store *in = usable(it);
     if (!in)
         return -1;
-    hot_status status = what->kind == GET ? store_read(in, attempt, what) : store_change(in, attempt, what, what->key.length);
+    hot_status status = what->kind == GET ? store_read(in, look_up, what) : store_change(in, attempt, change, what);
     if (status < HOT_BUSY || status == HOT_EXCHANGED || status == HOT_DIFFERS)
         return (int)status;
     raise_status(status);
@@ -173,10 +191,10 @@ PyObject *map_remove_if(PyObject *self, PyObject *words, PyObject *named) {
 /* ---- Additions ---- */
 
 /* A number that is added: its distance from 0, which may be beyond all values, and on which side it lies. */
-typedef struct change {
+typedef struct addend {
     uint64_t distance;
     int is_down, is_beyond;
-} change;
+} addend;
 
 /* The magnitude of an int, if it is that of a value: 0, or -1 without an exception. */
 static int magnitude_of(PyObject *number, uint64_t *distance) {
@@ -187,7 +205,7 @@ static int magnitude_of(PyObject *number, uint64_t *distance) {
     return -1;
 }
 
-static int change_of(PyObject *object, change *to) {
+static int addend_of(PyObject *object, addend *to) {
     PyObject *number = PyNumber_Index(object), *negative = NULL;
     if (!number)
         return -1;
@@ -204,7 +222,7 @@ static int change_of(PyObject *object, change *to) {
 }
 
 /* The sum, if it is a value: else -1 with an exception. */
-static int sum(uint64_t had, const change *by, uint64_t *to) {
+static int sum(uint64_t had, const addend *by, uint64_t *to) {
     *to = by->is_down ? had - by->distance : had + by->distance;
     if (!by->is_beyond && (by->is_down ? by->distance <= had : *to >= had))
         return 0;
@@ -214,7 +232,7 @@ static int sum(uint64_t had, const change *by, uint64_t *to) {
 
 /* Adds to a key's value, which is then `had`; an absent key gets the number if `puts`. HOT_ABSENT if it stays absent, HOT_INSERTED
  * if it was; else HOT_EXCHANGED. */
-static int add(map *it, key_call *what, const change *by, int puts) {
+static int add(map *it, key_call *what, const addend *by, int puts) {
     what->kind = GET;
     int status = call(it, what);
     for (;;) {
@@ -235,12 +253,12 @@ static int add(map *it, key_call *what, const change *by, int puts) {
 static PyObject *added(PyObject *self, PyObject *words, PyObject *named, const char *name, int puts) {
     PyObject *key, *number = NULL;
     map *it = (map *)self;
-    change by = {.distance = 1};
+    addend by = {.distance = 1};
     key_call what;
     if (!key_and(words, named, "number", name, &key, &number) || code_of(&it->codec, key, &what.key) < 0)
         return NULL;
     int status = -1;
-    if (!number || change_of(number, &by) == 0)
+    if (!number || addend_of(number, &by) == 0)
         status = !puts && what.key.length > HOT_MAX_KEY ? HOT_ABSENT : add(it, &what, &by, puts);
     code_end(&what.key);
     if (status == HOT_ABSENT)

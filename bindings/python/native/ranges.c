@@ -69,40 +69,30 @@ static hot_status clear_keys(hot_handle *handle, void *what) {
     return hot_clear_range(handle, it->from.bytes, it->from.length, it->upto.bytes, it->upto.length);
 }
 
-/* store_long or store_change_long. */
-typedef hot_status long_call(store *it, store_call *call, void *what);
-
-/* Makes a long call: -1 with an exception. */
-static int call_span(PyObject *self, PyObject *words, long_call *make, store_call *call, span *what) {
+/* Makes a long call, while other threads of Python run: -1 with an exception. */
+static int call_span(PyObject *self, PyObject *words, store_call *call, span *what) {
     PyObject *from, *upto;
     store *in = usable((map *)self);
     hot_status status;
     if (!in || !PyArg_ParseTuple(words, "OO:span", &from, &upto) || span_init(what, from, upto) < 0)
         return -1;
-    status = make(in, call, what);
+    status = store_long_in_turn(in, call, what);
     if (status == HOT_DONE)
         return 0;
     raise_status(status);
     return -1;
 }
 
-/* store_long within a turn, which ends meanwhile. */
-static hot_status look_long(store *it, store_call *call, void *what) {
-    hot_status status;
-    Py_BEGIN_ALLOW_THREADS status = store_long(it, call, what);
-    Py_END_ALLOW_THREADS return status;
-}
-
 PyObject *map_count(PyObject *self, PyObject *words) {
     span what = {.falls = 0};
-    PyObject *count = call_span(self, words, look_long, count_keys, &what) < 0 ? NULL : PyLong_FromSize_t(what.count);
+    PyObject *count = call_span(self, words, count_keys, &what) < 0 ? NULL : PyLong_FromSize_t(what.count);
     span_end(&what);
     return count;
 }
 
 PyObject *map_values(PyObject *self, PyObject *words) {
     span what = {.falls = 0};
-    PyObject *list = call_span(self, words, look_long, list_values, &what) < 0 ? NULL : PyList_New((Py_ssize_t)what.count);
+    PyObject *list = call_span(self, words, list_values, &what) < 0 ? NULL : PyList_New((Py_ssize_t)what.count);
     for (size_t at = 0; list && at < what.count; at++) {
         PyObject *value = PyLong_FromUnsignedLongLong(what.values[at]);
         if (!value || PyList_SetItem(list, (Py_ssize_t)at, value) < 0)
@@ -114,7 +104,7 @@ PyObject *map_values(PyObject *self, PyObject *words) {
 
 PyObject *map_clear_range(PyObject *self, PyObject *words) {
     span what = {.falls = 0};
-    int status = call_span(self, words, store_change_long, clear_keys, &what);
+    int status = call_span(self, words, clear_keys, &what);
     span_end(&what);
     if (status < 0)
         return NULL;
@@ -126,17 +116,22 @@ PyObject *map_clear_range(PyObject *self, PyObject *words) {
 static hot_status list_end(hot_handle *handle, void *what) {
     span *it = what;
     uint32_t more;
-    return (it->falls ? hot_scan_reverse : hot_scan)(handle, it->from.bytes, it->from.length, it->upto.bytes, it->upto.length, &it->pair,
-                                                     1, &it->count, &more);
+    return (it->falls ? hot_scan_reverse : hot_scan)(handle, it->from.bytes, it->from.length, it->upto.bytes, it->upto.length,
+                                                     &it->pair, 1, &it->count, &more);
 }
 
-static hot_status remove_listed(hot_handle *handle, void *what) {
+static hot_status try_remove_listed(hot_handle *handle, void *what) {
     span *it = what;
     return hot_try_remove_if(handle, it->pair.key, it->pair.length, it->pair.value, NULL);
 }
 
-/* Removes the pair at the end, as hot_pop_first does, but only once Python has it: so none is lost if that raises. Returns it or None; or NULL
- * with an exception. */
+static hot_status remove_listed(hot_handle *handle, void *what) {
+    span *it = what;
+    return hot_remove_if(handle, it->pair.key, it->pair.length, it->pair.value, NULL);
+}
+
+/* Removes the pair at the end, as hot_pop_first does, but only once Python has it: so none is lost if that raises. Returns it or
+ * None; or NULL with an exception. */
 static PyObject *pop(map *it, span *what) {
     hot_status status;
     do {
@@ -148,10 +143,11 @@ static PyObject *pop(map *it, span *what) {
             break;
         if (what->count == 0)
             Py_RETURN_NONE;
-        PyObject *pair = pair_of(key_of(&it->codec, what->pair.key, what->pair.length), PyLong_FromUnsignedLongLong(what->pair.value));
+        PyObject *pair =
+            pair_of(key_of(&it->codec, what->pair.key, what->pair.length), PyLong_FromUnsignedLongLong(what->pair.value));
         if (!pair)
             return NULL;
-        status = usable(it) ? store_change(in, remove_listed, what, what->pair.length) : HOT_CLOSED;
+        status = usable(it) ? store_change(in, try_remove_listed, remove_listed, what) : HOT_CLOSED;
         if (status == HOT_REMOVED)
             return pair;
         Py_DECREF(pair);

@@ -1,14 +1,6 @@
-/* The handles of an index that threads share, and its growth. */
+/* The handles of an index that threads share. */
 #include "store.h"
 #include <stdlib.h>
-
-enum {
-    LONG_TRIES = 16, /* of a change that others are in the way of */
-    HELD_TRIES = 3,  /* of a change in a store that is held: the first one may have to collect what was retired */
-    CLASSES = 5,
-    LEAST_LEAVES = 256,
-    LISTED = 64 /* pairs that are listed at a time */
-};
 
 /* ---- An index with its handles ---- */
 
@@ -30,14 +22,22 @@ typedef struct supply {
     size_t count;
 } supply;
 
-/* Makes an index, which is empty if no pairs are named. */
-static hot_status room_open(const hot_stock *stock, size_t threads, supply *pairs, room **made) {
-    room *it = calloc(1, sizeof *it + threads * sizeof *it->leases);
+/* Makes a store's index, which is empty if no pairs are named. */
+static hot_status make_index(const wanted_store *as, supply *pairs, hot_index **made) {
+    size_t handles = as->threads + 1;
+    if (!as->grows)
+        return pairs ? hot_load(&as->stock, handles, pairs->next, pairs->context, made, &pairs->count)
+                     : hot_open_index(&as->stock, handles, made);
+    return pairs ? hot_load_growing(SIZE_MAX, handles, pairs->next, pairs->context, made, &pairs->count)
+                 : hot_open_growing(as->stock.nodes ? &as->stock : NULL, SIZE_MAX, handles, made);
+}
+
+/* The same with its handles. */
+static hot_status room_open(const wanted_store *as, supply *pairs, room **made) {
+    room *it = calloc(1, sizeof *it + as->threads * sizeof *it->leases);
     if (!it)
         return HOT_NO_MEMORY;
-    it->stock = *stock;
-    hot_status status = pairs ? hot_load(stock, threads + 1, pairs->next, pairs->context, &it->index, &pairs->count)
-                              : hot_open_index(stock, threads + 1, &it->index);
+    hot_status status = make_index(as, pairs, &it->index);
     if (status == HOT_DONE)
         status = hot_open(it->index, &it->quick);
     if (status == HOT_DONE)
@@ -45,47 +45,6 @@ static hot_status room_open(const hot_stock *stock, size_t threads, supply *pair
     else
         room_close(it);
     return status;
-}
-
-/* ---- Room to grow ---- */
-
-static hot_stock small_stock(void) {
-    hot_stock stock = {0};
-    stock.nodes = 64;
-    stock.short_leaves = stock.medium_leaves = 128;
-    return stock;
-}
-
-/* Whether a change was refused that a larger index makes. One without leaves for keys of this length says that the key is too long.
- * In a store that is held nobody holds records back: what is held back there is full. */
-static int is_full(hot_status status, size_t length) {
-    return status == HOT_FULL_NODES || status == HOT_FULL_LEAVES || status == HOT_HELD_BACK ||
-           (status == HOT_KEY_TOO_LONG && length <= HOT_MAX_KEY);
-}
-
-static uint32_t doubled(uint32_t count) {
-    return count > UINT32_MAX / 2 ? UINT32_MAX : count < LEAST_LEAVES / 2 ? LEAST_LEAVES : 2 * count;
-}
-
-/* Doubles the records that were refused: nodes, or the leaves of keys of this length, or if it is not known all leaves that there
- * are. */
-static void enlarge(hot_stock *stock, hot_status why, const size_t *length) {
-    static const size_t longest[CLASSES] = {8, 24, 56, 88, HOT_MAX_KEY};
-    uint32_t *counts[CLASSES] = {&stock->short_leaves, &stock->medium_leaves, &stock->large_leaves, &stock->wide_leaves,
-                                 &stock->long_leaves};
-    uint64_t leaves = 0;
-    int begins = 1; /* whether no smaller leaf has room for the key */
-    for (int i = 0; i < CLASSES; i++) {
-        int is_meant = length ? begins && *length <= longest[i] : *counts[i] > 0;
-        begins = begins && !(length && *length <= longest[i]);
-        if (is_meant && why != HOT_FULL_NODES)
-            *counts[i] = doubled(*counts[i]);
-        leaves += *counts[i];
-    }
-    if (why == HOT_FULL_NODES || why == HOT_HELD_BACK)
-        stock->nodes = doubled(stock->nodes);
-    if (stock->nodes < leaves / 6)
-        stock->nodes = leaves / 6 > UINT32_MAX ? UINT32_MAX : (uint32_t)(leaves / 6);
 }
 
 /* Adds what an index tells of refusals. */
@@ -104,6 +63,8 @@ static void replace_room(store *it, room *new) {
 }
 
 /* The pairs of an index, page by page. */
+enum { LISTED = 64 };
+
 typedef struct listing {
     hot_handle *of;
     uint8_t bytes[LISTED * HOT_MAX_KEY];
@@ -118,11 +79,13 @@ typedef struct listing {
 static int list_page(listing *it) {
     uint8_t from[HOT_MAX_KEY];
     size_t length = 0;
-    if (it->count > 0 && hot_after(it->key - it->heads[it->count - 1].length, it->heads[it->count - 1].length, from, &length) != HOT_DONE)
+    if (it->count > 0 &&
+        hot_after(it->key - it->heads[it->count - 1].length, it->heads[it->count - 1].length, from, &length) != HOT_DONE)
         return 0;
     it->key = it->bytes;
     it->at = it->count = 0;
-    it->status = hot_scan_packed(it->of, from, length, HOT_TO_END, it->bytes, sizeof it->bytes, it->heads, LISTED, &it->count, &it->more);
+    it->status =
+        hot_scan_packed(it->of, from, length, HOT_TO_END, it->bytes, sizeof it->bytes, it->heads, LISTED, &it->count, &it->more);
     return it->status == HOT_DONE && it->count > 0;
 }
 
@@ -137,36 +100,6 @@ static int next_listed(void *context, const uint8_t **key, size_t *length, uint6
     return 1;
 }
 
-/* Makes an index with this stock that has the pairs of another. */
-static hot_status room_copy(const hot_stock *stock, size_t threads, hot_handle *from, room **made) {
-    listing pairs = {.of = from, .more = 1, .status = HOT_DONE};
-    supply all = {next_listed, &pairs, 0};
-    hot_status status = room_open(stock, threads, &all, made);
-    if (status == HOT_DONE && pairs.status != HOT_DONE) {
-        room_close(*made);
-        status = pairs.status;
-    }
-    return status;
-}
-
-/* The same with a stock that is enlarged until it is enough, if the index may grow. */
-static hot_status room_copy_all(const store *to, hot_stock stock, hot_handle *from, room **made) {
-    hot_status status;
-    while (is_full(status = room_copy(&stock, to->threads, from, made), 0) && to->grows)
-        enlarge(&stock, status, NULL);
-    return status;
-}
-
-static hot_status grow(store *it, hot_status why, size_t length) {
-    hot_stock stock = it->room->stock;
-    room *new;
-    enlarge(&stock, why, &length);
-    hot_status status = room_copy_all(it, stock, &it->room->quick, &new);
-    if (status == HOT_DONE)
-        replace_room(it, new);
-    return status;
-}
-
 /* ---- Leases ---- */
 
 /* A lease that is free, or has a handle opened for it; NULL if there is none, and why. Under the mutex. */
@@ -176,7 +109,7 @@ static lease *free_lease(store *it, hot_status *why) {
     *why = HOT_NO_HANDLE;
     if (found) {
         in->free = found->next;
-    } else if (in->opened < it->threads && (*why = hot_open(in->index, &in->leases[in->opened].handle)) == HOT_DONE) {
+    } else if (in->opened < it->made_as.threads && (*why = hot_open(in->index, &in->leases[in->opened].handle)) == HOT_DONE) {
         found = &in->leases[in->opened++];
     }
     return found;
@@ -248,10 +181,6 @@ static void let_go(store *it) {
 
 /* ---- Calls ---- */
 
-static int is_in_the_way(hot_status status) {
-    return status == HOT_BUSY || status == HOT_HELD_BACK;
-}
-
 /* Within a turn: makes a call at once, or returns HOT_BUSY if somebody holds the store. */
 static hot_status quick(store *it, store_call *call, void *what) {
     return atomic_load_explicit(&it->is_held, memory_order_acquire) ? HOT_BUSY : call(&it->room->quick, what);
@@ -260,74 +189,43 @@ static hot_status quick(store *it, store_call *call, void *what) {
 hot_status store_long(store *it, store_call *call, void *what) {
     lease *taken;
     hot_status status = take(it, &taken);
-    hot_waits so_far = HOT_NO_WAITS;
-    if (!taken)
-        return status;
-    status = call(&taken->handle, what);
-    for (int tries = 1; tries < LONG_TRIES && hot_wait(status, &so_far); tries++)
+    if (taken) {
         status = call(&taken->handle, what);
-    give_back(it, taken);
+        give_back(it, taken);
+    }
+    return status;
+}
+
+hot_status store_long_in_turn(store *it, store_call *call, void *what) {
+    void *ended = it->turns.end();
+    hot_status status = store_long(it, call, what);
+    it->turns.begin(ended);
     return status;
 }
 
 hot_status store_read(store *it, store_call *call, void *what) {
     hot_status status = quick(it, call, what);
-    if (status == HOT_BUSY) {
-        void *ended = it->turns.end();
-        status = store_long(it, call, what);
-        it->turns.begin(ended);
-    }
-    return status;
+    return status == HOT_BUSY ? store_long_in_turn(it, call, what) : status;
 }
 
-/* Makes a change in a store that is held. */
-static hot_status held_call(store *it, store_call *call, void *what, size_t length) {
-    hot_status status = HOT_BUSY;
-    for (int tries = 0; tries < HELD_TRIES && (status == HOT_BUSY || is_full(status, length)); tries++)
-        status = call(&it->room->quick, what);
-    return status;
+hot_status store_change(store *it, store_call *attempt, store_call *change, void *what) {
+    hot_status status = quick(it, attempt, what);
+    int is_full = status == HOT_FULL_NODES || status == HOT_FULL_LEAVES;
+    int is_in_the_way = status == HOT_BUSY || status == HOT_HELD_BACK || (is_full && it->made_as.grows);
+    return is_in_the_way ? store_long_in_turn(it, change, what) : status;
 }
 
-/* Makes a change once all other calls have returned, in a store that is held. */
-static hot_status change_alone(store *it, store_call *call, void *what, size_t length) {
-    wait_for_leases(it);
-    hot_status status = held_call(it, call, what, length);
-    while (it->grows && is_full(status, length)) {
-        status = grow(it, status, length);
-        if (status == HOT_DONE)
-            status = held_call(it, call, what, length);
-    }
-    let_go(it);
-    return status == HOT_HELD_BACK ? HOT_FULL_NODES : status;
+static hot_status trim(hot_handle *handle, void *what) {
+    (void)handle; /* while it is lent the index stays */
+    return hot_trim(((store *)what)->room->index);
 }
 
-/* Makes a change whose first try came out so. */
-static hot_status change_on(store *it, store_call *call, void *what, size_t length, hot_status status) {
-    while (is_in_the_way(status) || is_full(status, length)) {
-        int is_mine = !is_in_the_way(status) && hold(it);
-        void *ended = it->turns.end();
-        if (is_mine)
-            status = change_alone(it, call, what, length);
-        else
-            status = store_long(it, call, what);
-        it->turns.begin(ended);
-        if (is_mine)
-            return status;
-        if (is_in_the_way(status))
-            status = HOT_FULL_NODES; /* so the store is held next */
-    }
-    return status;
+hot_status store_trim(store *it) {
+    return store_long_in_turn(it, trim, it);
 }
 
-hot_status store_change(store *it, store_call *call, void *what, size_t length) {
-    return change_on(it, call, what, length, quick(it, call, what));
-}
-
-hot_status store_change_long(store *it, store_call *call, void *what) {
-    return change_on(it, call, what, 0, HOT_BUSY);
-}
-
-/* Within a turn, which it ends: holds the store once nobody else does and all other calls have returned. Returns what begins the next turn. */
+/* Within a turn, which it ends: holds the store once nobody else does and all other calls have returned. Returns what begins the
+ * next turn. */
 static void *hold_alone(store *it) {
     int is_mine = hold(it);
     void *ended = it->turns.end();
@@ -353,37 +251,11 @@ static hot_status take_room(store *it, hot_status status, room *made, void *ende
 hot_status store_clear(store *it) {
     room *new = NULL;
     void *ended = hold_alone(it);
-    hot_status status = room_open(&it->room->stock, it->threads, NULL, &new);
+    hot_status status = room_open(&it->made_as, NULL, &new);
     return take_room(it, status, new, ended);
 }
 
 /* ---- Loads ---- */
-
-static uint32_t larger(uint32_t one, uint32_t other) {
-    return one > other ? one : other;
-}
-
-/* Has a stock at least so many records of each kind as another. */
-static void take_larger(hot_stock *it, const hot_stock *than) {
-    it->nodes = larger(it->nodes, than->nodes);
-    it->short_leaves = larger(it->short_leaves, than->short_leaves);
-    it->medium_leaves = larger(it->medium_leaves, than->medium_leaves);
-    it->large_leaves = larger(it->large_leaves, than->large_leaves);
-    it->wide_leaves = larger(it->wide_leaves, than->wide_leaves);
-    it->long_leaves = larger(it->long_leaves, than->long_leaves);
-}
-
-/* Enlarges a stock for pairs, if it is too small for them. */
-static void make_room_for(const sorted_pairs *pairs, hot_stock *stock) {
-    uint32_t lengths[CLASSES] = {0};
-    hot_stock needed;
-    for (size_t at = 0; at < pairs->count; at++) {
-        size_t length = pairs->heads[at].length;
-        lengths[(length > 8) + (length > 24) + (length > 56) + (length > 88)]++;
-    }
-    hot_stock_for_lengths(lengths, &needed);
-    take_larger(stock, &needed);
-}
 
 static int next_packed(void *context, const uint8_t **key, size_t *length, uint64_t *value) {
     sorted_pairs *left = context;
@@ -398,54 +270,38 @@ static int next_packed(void *context, const uint8_t **key, size_t *length, uint6
     return 1;
 }
 
-/* Makes an index of these pairs, with a stock that is enlarged until it is enough, if the index may grow. Writes how many went in. */
-static hot_status room_load(const store *to, hot_stock stock, const sorted_pairs *pairs, size_t *number, room **made) {
-    for (;;) {
-        sorted_pairs left = *pairs;
-        supply all = {next_packed, &left, 0};
-        hot_status status = room_open(&stock, to->threads, &all, made);
-        *number = all.count;
-        if (!to->grows || !is_full(status, 0))
-            return status;
-        enlarge(&stock, status, NULL);
-    }
-}
-
 hot_status store_load(store *it, const sorted_pairs *pairs, size_t *number) {
     room *new = NULL;
+    sorted_pairs left = *pairs;
+    supply all = {next_packed, &left, 0};
     void *ended = hold_alone(it);
-    hot_stock stock = it->room->stock;
-    if (it->grows)
-        make_room_for(pairs, &stock);
-    hot_status status = room_load(it, stock, pairs, number, &new);
+    hot_status status = room_open(&it->made_as, &all, &new);
+    *number = all.count;
     return take_room(it, status, new, ended);
 }
 
-/* Two stores, and the index that is made for one with the pairs of the other. */
+/* An index that is made with the pairs of another store. */
 typedef struct copying {
-    const store *from, *to;
-    hot_stock stock;
+    const wanted_store *as;
     room *made;
 } copying;
 
 static hot_status copy_to_room(hot_handle *handle, void *what) {
     copying *it = what;
-    if (it->to->grows)
-        take_larger(&it->stock, &it->from->room->stock);
-    return room_copy_all(it->to, it->stock, handle, &it->made);
+    listing pairs = {.of = handle, .more = 1, .status = HOT_DONE};
+    supply all = {next_listed, &pairs, 0};
+    hot_status status = room_open(it->as, &all, &it->made);
+    if (status == HOT_DONE && pairs.status != HOT_DONE) {
+        room_close(it->made);
+        status = pairs.status;
+    }
+    return status;
 }
 
 hot_status store_copy(store *it, store *from) {
-    copying what = {.from = from, .to = it};
-    void *ended = it->turns.end();
-    lock_free(it);
-    what.stock = it->room->stock;
-    pthread_mutex_unlock(&it->mutex);
-    hot_status status = store_long(from, copy_to_room, &what);
-    it->turns.begin(ended);
-    if (status != HOT_DONE)
-        return status;
-    return take_room(it, status, what.made, hold_alone(it));
+    copying what = {&it->made_as, NULL};
+    hot_status status = store_long_in_turn(from, copy_to_room, &what);
+    return status == HOT_DONE ? take_room(it, status, what.made, hold_alone(it)) : status;
 }
 
 void store_stats(store *it, hot_refusals *stats) {
@@ -457,15 +313,26 @@ void store_stats(store *it, hot_refusals *stats) {
 
 /* ---- A store ---- */
 
+/* As it was asked for: in an index that doesn't grow few records are a stock, too. */
+static wanted_store as_it_can_be(const wanted_store *wanted) {
+    wanted_store as = *wanted;
+    if (!as.grows && as.stock.nodes == 0) {
+        as.stock.nodes = 64;
+        as.stock.short_leaves = as.stock.medium_leaves = 128;
+    }
+    if (as.grows && as.threads == MOST_THREADS)
+        as.threads--;
+    return as;
+}
+
 hot_status store_open(const wanted_store *wanted, const turns *turns, store **made) {
-    hot_stock stock = wanted->stock.nodes ? wanted->stock : small_stock();
-    store *it = wanted->threads < 1 || wanted->threads > MOST_THREADS ? NULL : calloc(1, sizeof *it);
+    int is_in_range = wanted->threads >= 1 && wanted->threads <= MOST_THREADS;
+    store *it = is_in_range ? calloc(1, sizeof *it) : NULL;
     if (!it)
-        return wanted->threads < 1 || wanted->threads > MOST_THREADS ? HOT_OUT_OF_RANGE : HOT_NO_MEMORY;
+        return is_in_range ? HOT_NO_MEMORY : HOT_OUT_OF_RANGE;
     it->turns = *turns;
-    it->threads = wanted->threads;
-    it->grows = wanted->grows;
-    hot_status status = room_open(&stock, it->threads, NULL, &it->room);
+    it->made_as = as_it_can_be(wanted);
+    hot_status status = room_open(&it->made_as, NULL, &it->room);
     if (status == HOT_DONE) {
         pthread_mutex_init(&it->mutex, NULL);
         pthread_cond_init(&it->changed, NULL);

@@ -7,7 +7,8 @@
 #include <pthread.h>
 #include <stdatomic.h>
 
-/* The most threads whose long calls run at once. The quick calls have one handle more. */
+/* The most threads whose long calls run at once. The quick calls have one handle more, and an index that grows has one for itself:
+ * so of such a store one thread less. */
 enum { MOST_THREADS = 1023 };
 
 typedef struct lease {
@@ -18,7 +19,6 @@ typedef struct lease {
 /* An index with its handles. They stay where they are. */
 typedef struct room {
     hot_index *index;
-    hot_stock stock;
     hot_handle quick;
     lease *free;
     size_t opened; /* how many of the leases have a handle */
@@ -31,10 +31,17 @@ typedef struct turns {
     void (*begin)(void *ended);
 } turns;
 
-typedef struct store {
-    turns turns;
+/* What a store is made as: with room for this stock of records at first, or for few if it has none, for long calls of at most this
+ * many threads at once, 1 to MOST_THREADS. */
+typedef struct wanted_store {
+    hot_stock stock;
     size_t threads;
     int grows;
+} wanted_store;
+
+typedef struct store {
+    turns turns;
+    wanted_store made_as;
     atomic_int is_held; /* set within a turn and under the mutex, cleared under the mutex */
     pthread_mutex_t mutex;
     pthread_cond_t changed;
@@ -44,16 +51,8 @@ typedef struct store {
     size_t out;           /* how many leases calls have */
 } store;
 
-/* What is done with a handle. It waits for nobody. */
+/* What is done with a handle. */
 typedef hot_status store_call(hot_handle *handle, void *what);
-
-/* What a store is made as: with this stock of records, or a small one if it has none, for long calls of at most this many threads
- * at once, 1 to MOST_THREADS. */
-typedef struct wanted_store {
-    hot_stock stock;
-    size_t threads;
-    int grows;
-} wanted_store;
 
 /* Pairs whose keys rise and lie one after another. */
 typedef struct sorted_pairs {
@@ -68,15 +67,18 @@ void store_close(store *it);
 
 /* These are made within a turn, which ends meanwhile only if they must wait. */
 
-/* Makes a call that changes nothing. */
+/* Makes a call that changes nothing, and waits for nobody. */
 hot_status store_read(store *it, store_call *call, void *what);
 
-/* Makes a change of a key of this length: beside other calls, and once they have all returned if they are in the way or the index
- * is full. A store that grows then makes it in a larger index. So it is never HOT_BUSY or HOT_HELD_BACK. */
-hot_status store_change(store *it, store_call *call, void *what, size_t length);
+/* Makes a change: by `attempt`, which waits for nobody; and where that finds another one in its way, records held back, or in a
+ * store that grows no room, by `change`, which waits and has the index grow. */
+hot_status store_change(store *it, store_call *attempt, store_call *change, void *what);
 
-/* Makes a change that may take long, and wait for others: without a turn, and without growth as far as it makes no room. */
-hot_status store_change_long(store *it, store_call *call, void *what);
+/* Makes a call that may wait or take long, without a turn. */
+hot_status store_long_in_turn(store *it, store_call *call, void *what);
+
+/* Has a store that grows keep no more memory than its keys need. HOT_DONE, HOT_FIXED or HOT_NO_MEMORY. */
+hot_status store_trim(store *it);
 
 /* Removes all keys at once. HOT_DONE or HOT_NO_MEMORY. */
 hot_status store_clear(store *it);
@@ -88,7 +90,7 @@ hot_status store_load(store *it, const sorted_pairs *pairs, size_t *number);
 /* Has the store hold the pairs of another, and no others. It returns what store_load does, but is never HOT_NOT_RISING. */
 hot_status store_copy(store *it, store *from);
 
-/* Without a turn: makes a call with a handle that no other thread has, and waits for one if it must. */
+/* Without a turn: makes a call, which may wait, with a handle that no other thread has, and waits for one if it must. */
 hot_status store_long(store *it, store_call *call, void *what);
 
 /* Without a turn: hot_stats of all indexes that it has had. It waits while the store is held. */

@@ -26,10 +26,20 @@ typedef struct change {
     uint64_t had;
 } change;
 
-static hot_status make(hot_handle *handle, void *what) {
+static hot_status try(hot_handle *handle, void *what) {
     change *it = what;
     return it->removes ? hot_try_remove(handle, it->key, it->length, &it->had)
                        : hot_try_upsert(handle, it->key, it->length, it->length, &it->had);
+}
+
+static hot_status wait(hot_handle *handle, void *what) {
+    change *it = what;
+    return it->removes ? hot_remove(handle, it->key, it->length, &it->had)
+                       : hot_upsert(handle, it->key, it->length, it->length, &it->had);
+}
+
+static hot_status make(store *in, change *what) {
+    return store_change(in, try, wait, what);
 }
 
 /* Removes all keys, or the one that is named. */
@@ -72,7 +82,8 @@ static void shape(change *to, int kind, unsigned number) {
     }
 }
 
-/* Fills an index until it is refused, and empties it; each key that was put in is there, and can be removed, alone or with all others. */
+/* Fills an index until it is refused, and empties it; each key that was put in is there, and can be removed, alone or with all
+ * others. */
 static void fill(uint32_t nodes, int kind, int grows) {
     enum { KEYS = 1000 };
     wanted_store wanted = {.threads = 1, .grows = grows};
@@ -85,7 +96,7 @@ static void fill(uint32_t nodes, int kind, int grows) {
     assert(store_open(&wanted, &of_lock, &in) == HOT_DONE);
     for (; count < KEYS; count++) {
         shape(&it, kind, count);
-        status = store_change(in, make, &it, it.length);
+        status = make(in, &it);
         if (status != HOT_NEW && status != HOT_WAS)
             break;
     }
@@ -95,11 +106,11 @@ static void fill(uint32_t nodes, int kind, int grows) {
         assert(store_read(in, look_up, &it) == HOT_FOUND && it.had == it.length);
     }
     if (nodes % 2)
-        assert(store_change_long(in, clear, NULL) == HOT_DONE && count_of(in) == 0);
+        assert(store_long_in_turn(in, clear, NULL) == HOT_DONE && count_of(in) == 0);
     for (unsigned i = 0; i < count; i++) {
         shape(&it, kind, i);
         it.removes = 1;
-        status = store_change(in, make, &it, it.length);
+        status = make(in, &it);
         assert(status == HOT_REMOVED || status == HOT_ABSENT);
     }
     assert(count_of(in) == 0);
@@ -125,7 +136,7 @@ static void load(void) {
     assert(store_open(&grows, &of_lock, &in) == HOT_DONE && store_open(&grows, &of_lock, &copy) == HOT_DONE);
     assert(store_open(&stays, &of_lock, &small) == HOT_DONE);
     shape(&it, 0, 1);
-    assert(store_change(small, make, &it, it.length) == HOT_NEW);
+    assert(make(small, &it) == HOT_NEW);
     assert(store_load(in, &pairs, &number) == HOT_DONE && number == KEYS && count_of(in) == KEYS);
     assert(store_copy(copy, in) == HOT_DONE && count_of(copy) == KEYS && count_of(in) == KEYS);
     for (size_t place = at = 0; place < KEYS; at += heads[place++].length) {
@@ -152,10 +163,10 @@ static void *work(void *place) {
         shape(&it, 2, i * THREADS + own);
         it.length = i % 5 ? 8 : 100;
         it.removes = i % 3 == 2;
-        hot_status status = store_change(shared, make, &it, it.length);
+        hot_status status = make(shared, &it);
         assert(status == HOT_NEW || status == HOT_WAS || status == HOT_REMOVED || status == HOT_ABSENT);
         if (i % 50 == 49)
-            assert(store_change_long(shared, clear, &it) == HOT_DONE);
+            assert(store_long_in_turn(shared, clear, &it) == HOT_DONE);
         if (own == 0 && i % 500 == 499)
             assert(store_clear(shared) == HOT_DONE);
         end_turn();
