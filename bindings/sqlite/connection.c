@@ -428,6 +428,8 @@ static char *mismatch(const table_words *words, const wanted_index *made_as) {
     if ((words->has_keys && made_as->keys != words->wanted.keys) ||
         (words->has_longest && made_as->longest != words->wanted.longest))
         return sqlite3_mprintf("hot: the index was made with keys=%lld, longest=%lld", made_as->keys, made_as->longest);
+    if (words->has_grow && made_as->grows != words->wanted.grows)
+        return sqlite3_mprintf("hot: the index was made with grow=%lld", made_as->grows);
     return NULL;
 }
 

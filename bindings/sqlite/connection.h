@@ -19,7 +19,7 @@ typedef struct table_words {
     const char *schema, *table;
     const char *name;          /* that of the index, or NULL */
     wanted_index wanted;       /* what a new index is to be */
-    int has_keys, has_longest; /* whether it says so */
+    int has_keys, has_longest, has_grow; /* whether it says so */
 } table_words;
 
 /* The one of this connection to a database, with a use more: NULL if there is no memory. */

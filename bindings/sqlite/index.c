@@ -121,9 +121,19 @@ static void free_shared(shared_index *of) {
     sqlite3_free(of);
 }
 
+/* Makes the index itself. One that grows has a handle of its own. */
+static hot_status open_index(const wanted_index *wanted, hot_index **index) {
+    enum { MOST_TO_GROW = 1023 };
+    size_t handles = (size_t)wanted->handles;
+    hot_stock stock;
+    hot_stock_for_keys((uint32_t)wanted->keys, (size_t)wanted->longest, &stock);
+    if (!wanted->grows)
+        return hot_open_index(&stock, handles, index);
+    return hot_open_growing(&stock, SIZE_MAX, handles < MOST_TO_GROW ? handles : MOST_TO_GROW, index);
+}
+
 static shared_index *made(const char *name, const wanted_index *wanted, int *code, char **error) {
     shared_index *of = sqlite3_malloc64(sizeof *of);
-    hot_stock stock;
     hot_status status = HOT_NO_MEMORY;
     *code = SQLITE_NOMEM;
     if (!of)
@@ -132,10 +142,8 @@ static shared_index *made(const char *name, const wanted_index *wanted, int *cod
     of->made_as = *wanted;
     of->name = sqlite3_mprintf("%s", name);
     of->mutex = sqlite3_mutex_alloc(SQLITE_MUTEX_FAST);
-    if (of->name && of->mutex) {
-        hot_stock_for_keys((uint32_t)wanted->keys, (size_t)wanted->longest, &stock);
-        status = hot_open_index(&stock, (size_t)wanted->handles, &of->index);
-    }
+    if (of->name && of->mutex)
+        status = open_index(wanted, &of->index);
     if (status != HOT_DONE) {
         *code = status == HOT_NO_MEMORY ? SQLITE_NOMEM : SQLITE_ERROR;
         *error = sqlite3_mprintf("hot: %s", hot_status_text(status));
@@ -155,7 +163,7 @@ static shared_index *named(const char *name) {
 }
 
 static int is_as(const wanted_index *one, const wanted_index *other) {
-    return one->keys == other->keys && one->longest == other->longest && one->handles == other->handles &&
+    return one->keys == other->keys && one->longest == other->longest && one->grows == other->grows && one->handles == other->handles &&
            one->is_text == other->is_text;
 }
 

@@ -27,7 +27,7 @@ typedef struct shared_index shared_index;
 
 /* What a new index is to be. */
 typedef struct wanted_index {
-    sqlite3_int64 keys, longest, handles;
+    sqlite3_int64 keys, longest, grows, handles;
     int is_text;
 } wanted_index;
 

@@ -3,16 +3,17 @@
  *     .load ./hot_table
  *     CREATE VIRTUAL TABLE t USING hot(keys=1000000, longest=24);
  *
- * has the columns key TEXT PRIMARY KEY and value INTEGER, and room for so many keys of at most so many bytes: by default
+ * has the columns key TEXT PRIMARY KEY and value INTEGER, and room at first for so many keys of at most so many bytes: by default
  * 10,000 of 24. More arguments:
  *
+ *     grow=0            it has no more room than that, as a fixed index: by default it grows
  *     type=blob         the keys are blobs
  *     name=words        tables of this name, in any database of the process, have one index
  *     connections=16    how many connections may have the index at a time: by default 16
  *
  * Without a name, connections to one file have one index for a table of it; a table of a database in memory has its own. An index
  * goes with the last connection that has used it. A table of a name whose index is there is refused if it says another number of
- * keys= or longest=. */
+ * keys=, longest= or grow=. */
 #include "connection.h"
 #include <pthread.h>
 #include <stdlib.h>
@@ -66,7 +67,7 @@ static int refused(sqlite3_vtab *vtab, hot_status status) {
     switch (status) {
     case HOT_NO_MEMORY: return SQLITE_NOMEM;
     case HOT_FULL_NODES:
-    case HOT_FULL_LEAVES: return fails(vtab, SQLITE_FULL, "the index is full: make it with more keys=");
+    case HOT_FULL_LEAVES: return fails(vtab, SQLITE_FULL, "the index is full: make it with more keys=, or without grow=0");
     case HOT_KEY_TOO_LONG: return fails(vtab, SQLITE_TOOBIG, "the key is too long");
     default: return fails(vtab, SQLITE_ERROR, hot_status_text(status));
     }
@@ -108,6 +109,8 @@ static int read_argument(const char *text, table_words *to) {
         return to->has_keys = read_number(value, 0, UINT32_MAX, &to->wanted.keys);
     if ((value = value_of(text, "longest")) != NULL)
         return to->has_longest = read_number(value, 0, HOT_MAX_KEY, &to->wanted.longest);
+    if ((value = value_of(text, "grow")) != NULL)
+        return to->has_grow = read_number(value, 0, 1, &to->wanted.grows);
     if ((value = value_of(text, "connections")) != NULL)
         return read_number(value, 1, 1024, &to->wanted.handles);
     if ((value = value_of(text, "type")) != NULL) {
@@ -189,7 +192,7 @@ static int make_table(sqlite3 *db, connection *of, const table_words *words, int
 /* Reads what the table is made with, and makes it. */
 static int read_table(sqlite3 *db, connection *of, int count, const char *const *words, int is_new, sqlite3_vtab **made,
                       char **error) {
-    table_words with = {words[1], words[2], NULL, {10000, 24, 16, 1}, 0, 0};
+    table_words with = {words[1], words[2], NULL, {10000, 24, 1, 16, 1}, 0, 0, 0};
     table *it = NULL;
     int at, code;
     for (at = 3; at < count; at++) {
@@ -220,7 +223,7 @@ static int disconnect_table(sqlite3_vtab *vtab) {
 }
 
 static table_words words_of(const table *it) {
-    table_words words = {it->schema, it->name, it->index_name, *shared_made_as(it->in->part.of), 0, 0};
+    table_words words = {it->schema, it->name, it->index_name, *shared_made_as(it->in->part.of), 0, 0, 0};
     return words;
 }
 

@@ -5,6 +5,7 @@
  *
  * HOT_TABLE.so takes its memory from this program: -Wl,--wrap=malloc,--wrap=calloc,--wrap=realloc.
  */
+#include <limits.h>
 #include <pthread.h>
 #include <sqlite3.h>
 #include <stdarg.h>
@@ -378,12 +379,12 @@ static void counted_rows(void) {
 
 static const char *const all_rows = "SELECT group_concat(key || ' ' || value) FROM (SELECT * FROM t WHERE key < 'm' ORDER BY key)";
 
-/* How many keys could be inserted, one by one, until the index was full. */
-static int fill(sqlite3 *db, const char *begin) {
-    int count = 0, code;
-    while ((code = run(db, "INSERT INTO t VALUES ('%s%06d', %d)", begin, count, count)) == SQLITE_OK)
+/* How many keys could be inserted, one by one, until there were so many or the index was full. */
+static int fill(sqlite3 *db, const char *begin, int most) {
+    int count = 0, code = SQLITE_OK;
+    while (count < most && (code = run(db, "INSERT INTO t VALUES ('%s%06d', %d)", begin, count, count)) == SQLITE_OK)
         count++;
-    if (code != SQLITE_FULL)
+    if (count < most && code != SQLITE_FULL)
         fail("fill", sqlite3_errmsg(db));
     return count;
 }
@@ -399,13 +400,13 @@ static void wants_rows(sqlite3 *db, const char *rows, int others) {
 
 /* One connection takes all that another has removed, and that one rolls back: each sees the rows of both, also after changes. */
 static void rollback_without_room(const char *undone) {
-    sqlite3 *one = connect_to("name=rollback, keys=0, longest=24"), *other = connect_to("name=rollback");
-    int count = fill(one, "a"), others;
+    sqlite3 *one = connect_to("name=rollback, keys=0, longest=24, grow=0"), *other = connect_to("name=rollback");
+    int count = fill(one, "a", INT_MAX), others;
     char *rows;
     run(one, "DELETE FROM t WHERE key >= 'a%06d'", count - 20);
     rows = answer(one, "%s", all_rows);
     want(one, SQLITE_OK, "BEGIN; UPDATE t SET value = -1; SAVEPOINT s; DELETE FROM t WHERE key >= 'a000001'");
-    others = fill(other, "z");
+    others = fill(other, "z", INT_MAX);
     if (others < count / 2)
         fail("rollback", "the room that was left was not taken");
     want(one, SQLITE_OK, undone);
@@ -429,11 +430,17 @@ static void rollback_without_room(const char *undone) {
 
 /* ---- Threads ---- */
 
+/* What a thread of those at once has: its letter, and what the table is made with. */
+typedef struct one_thread {
+    char begin[2];
+    const char *arguments;
+} one_thread;
+
 /* Transactions of changes to keys that begin with the thread's letter: those of the ordinary table are the same, whatever is
  * refused. */
 static void *work(void *argument) {
-    const char *begin = argument;
-    sqlite3 *db = connect_to("name=threads, keys=0, longest=24, connections=5");
+    const char *begin = ((one_thread *)argument)->begin;
+    sqlite3 *db = connect_to(((one_thread *)argument)->arguments);
     unsigned seed = (unsigned char)*begin;
     for (int round = 0; round < ROUNDS; round++) {
         int is_full = 0;
@@ -456,21 +463,32 @@ static void *work(void *argument) {
     return NULL;
 }
 
-/* The room is tight: a key that all threads want is there, and keys that fill the index come and go. */
-static void threads_at_once(void) {
-    static char letters[THREADS][2] = {"b", "c", "d", "e"};
-    sqlite3 *db = connect_to("name=threads, keys=0, longest=24, connections=5");
+/* A key that all threads want is there, and keys come and go that fill the index, or have it grow to so many. */
+static void threads_at_once(const char *arguments, int most) {
+    sqlite3 *db = connect_to(arguments);
     pthread_t threads[THREADS];
-    for (int at = 0; at < THREADS; at++)
-        if (pthread_create(&threads[at], NULL, work, letters[at]) != 0)
+    one_thread each[THREADS];
+    for (int at = 0; at < THREADS; at++) {
+        each[at] = (one_thread){{(char)('b' + at), '\0'}, arguments};
+        if (pthread_create(&threads[at], NULL, work, &each[at]) != 0)
             fail("threads", "none can be made");
+    }
     for (int round = 0; round < 8; round++) {
-        fill(db, "z");
-        want(db, SQLITE_OK, "BEGIN; DELETE FROM t WHERE key > 'm'; ROLLBACK; DELETE FROM t WHERE key > 'm'");
+        int count = fill(db, "z", most);
+        want(db, SQLITE_OK, "BEGIN; DELETE FROM t WHERE key > 'm'; ROLLBACK");
+        if (number(db, "SELECT count(*) FROM t WHERE key > 'm'") != count)
+            fail("threads", "a rollback did not put all back");
+        want(db, SQLITE_OK, "DELETE FROM t WHERE key > 'm'");
     }
     for (int at = 0; at < THREADS; at++)
         pthread_join(threads[at], NULL);
     sqlite3_close(db);
+}
+
+/* Where the room is tight, and where it grows. */
+static void all_threads(void) {
+    threads_at_once("name=threads, keys=0, longest=24, connections=5, grow=0", INT_MAX);
+    threads_at_once("name=threads, keys=0, longest=24, connections=5", 3000);
 }
 
 /* ---- Tables that come and go ---- */
@@ -899,7 +917,7 @@ static int fill_with_blobs(sqlite3 *db) {
 static void full_tables(void) {
     static const int keys[] = {0, 1, 100, 1000};
     for (size_t at = 0; at < sizeof keys / sizeof *keys; at++) {
-        char *arguments = sqlite3_mprintf("type=blob, longest=8, keys=%d", keys[at]);
+        char *arguments = sqlite3_mprintf("type=blob, longest=8, grow=0, keys=%d", keys[at]);
         sqlite3 *db = connect_to(arguments);
         int count = fill_with_blobs(db);
         want(db, SQLITE_OK, "UPDATE t SET value = value + 1; BEGIN; DELETE FROM t; ROLLBACK");
@@ -911,6 +929,23 @@ static void full_tables(void) {
         sqlite3_close(db);
         sqlite3_free(arguments);
     }
+}
+
+/* A table has room for more and longer keys than it was made for; a rollback takes them back. */
+static void grown_tables(void) {
+    static const char *const numbers = "WITH RECURSIVE n(x) AS (SELECT 1 UNION ALL SELECT x + 1 FROM n LIMIT 20000)";
+    sqlite3 *db = connect_to("keys=0, longest=8");
+    for (int is_kept = 0; is_kept < 2; is_kept++) {
+        want(db, SQLITE_OK, "BEGIN");
+        if (run(db, "%s INSERT INTO t SELECT printf('%%0*d', 1 + x %% 240, x), x FROM n WHERE length(x) <= 1 + x %% 240", numbers) != SQLITE_OK)
+            fail("a table that grows", sqlite3_errmsg(db));
+        want(db, SQLITE_OK, is_kept ? "COMMIT" : "ROLLBACK");
+        if ((number(db, "SELECT count(*) FROM t") > 19000) != is_kept)
+            fail("a table that grows", "it has other rows");
+    }
+    if (number(db, "SELECT count(*) FROM t WHERE key <> printf('%0*d', 1 + value % 240, value)") != 0)
+        fail("a table that grows", "a key has another value");
+    sqlite3_close(db);
 }
 
 /* ---- Plans ---- */
@@ -1095,7 +1130,7 @@ int main(int count, char **words) {
     make_memory_scarce();
     scratch = sqlite3_mprintf("%s.db", library);
     if (count > 2) {
-        threads_at_once();
+        all_threads();
         puts("the test of threads passed");
         return 0;
     }
@@ -1131,7 +1166,8 @@ int main(int count, char **words) {
     names_and_handles();
     own_functions();
     full_tables();
-    threads_at_once();
+    grown_tables();
+    all_threads();
     remove(scratch);
     sqlite3_free((void *)scratch);
     if (sqlite3_memory_used() != 0)

@@ -87,9 +87,12 @@ ROLLBACK;
 SELECT 'the schema put back', group_concat(key || value, ' ') FROM t;
 
 -- Indexes, names and types
-CREATE VIRTUAL TABLE small USING hot(keys=0, longest=8);
+CREATE VIRTUAL TABLE small USING hot(keys=0, longest=8, grow=0);
 INSERT INTO small WITH RECURSIVE c(n) AS (SELECT 1 UNION ALL SELECT n + 1 FROM c WHERE n < 100000) SELECT 'k' || n, n FROM c;
 SELECT 'full', count(*) FROM small;
+CREATE VIRTUAL TABLE grown USING hot(keys=0, longest=8);
+INSERT INTO grown WITH RECURSIVE c(n) AS (SELECT 1 UNION ALL SELECT n + 1 FROM c WHERE n < 100000) SELECT 'key ' || n, n FROM c;
+SELECT 'grown', count(*), sum(value) FROM grown;
 CREATE VIRTUAL TABLE one USING hot(name='words', connections=2);
 CREATE VIRTUAL TABLE other USING hot( NAME = 'words' );
 INSERT INTO one VALUES ('shared', 1);
@@ -99,6 +102,7 @@ CREATE VIRTUAL TABLE third USING hot(name='words');
 CREATE VIRTUAL TABLE typed USING hot(name='words', type=blob);
 CREATE VIRTUAL TABLE larger USING hot(name='words', keys=20000);
 CREATE VIRTUAL TABLE longer USING hot(name='words', keys=10000, longest=25);
+CREATE VIRTUAL TABLE fixed USING hot(name='words', grow=0);
 ALTER TABLE one RENAME TO first;
 SELECT 'renamed', value FROM first;
 ALTER TABLE t RENAME TO tt;
