@@ -6,6 +6,7 @@
 #include "check.h"
 #include <pthread.h>
 #include <sched.h>
+#include <signal.h>
 #include <stdlib.h>
 #include <string.h>
 #include <time.h>
@@ -429,6 +430,197 @@ static void test_members(unsigned count, unsigned calls, unsigned growths_wanted
     printf("%u threads made %u calls or more, in %u growths\n", count, calls, growths);
 }
 
+/* ---- Changes that meet a growth ---- */
+
+enum { MET = 200 };
+
+static key met_key(unsigned at) {
+    return key_of(5 * at);
+}
+
+/* A thread that makes changes in each growth, of keys that no other changes then. */
+typedef struct meeting {
+    hot_handle handle;
+    unsigned turn;   /* the growth in which it is to make them */
+    unsigned begun;  /* the last one that has begun */
+    unsigned first;  /* the last one in which it has made a change */
+    unsigned made;   /* and all */
+    uint64_t value;  /* of the last change */
+} meeting;
+
+static void pause_for(unsigned times) {
+    while (times-- > 0)
+        __builtin_ia32_pause();
+}
+
+static void set_turn(unsigned *to, unsigned turn) {
+    __atomic_store_n(to, turn, __ATOMIC_SEQ_CST);
+}
+
+static int has_come(const unsigned *to, unsigned turn) {
+    return __atomic_load_n(to, __ATOMIC_SEQ_CST) >= turn;
+}
+
+static void wait_for(const unsigned *to, unsigned turn) {
+    unsigned turns = 0;
+    while (!has_come(to, turn))
+        if (++turns % 1024 == 0)
+            sched_yield();
+}
+
+static void change_met(meeting *me, unsigned at, uint64_t value) {
+    key it = met_key(at);
+    CHECK(hot_upsert(&me->handle, it.bytes, it.length, value, NULL) == HOT_WAS);
+    me->value = value;
+}
+
+/* Makes stores that take long, since no cache has what they change: those behind them wait until others see them, while loads don't. */
+static void store_far_away(uint64_t *state) {
+    enum { LINES = 40, LINE = 64, ALL = 1 << 25 };
+    static uint8_t far[ALL];
+    unsigned at;
+    for (at = 0; at < LINES; at++)
+        ((volatile uint8_t *)far)[next(state) % (ALL / LINE) * LINE] = (uint8_t)at;
+}
+
+/* Changes the first key until a growth has begun: what it stores at the last time is seen late. */
+static void *change_until_it_begins(void *given) {
+    meeting *me = given;
+    uint64_t state = 88172645463325252u, value = 0;
+    unsigned turn;
+    for (turn = 1; wait_for(&me->turn, turn), !is_done(); turn++) {
+        do {
+            store_far_away(&state);
+            change_met(me, 0, ++value);
+            set_turn(&me->first, turn);
+        } while (!has_come(&me->begun, turn));
+        set_turn(&me->made, turn);
+    }
+    return NULL;
+}
+
+/* Changes each key once. */
+static void *change_each(void *given) {
+    meeting *me = given;
+    unsigned turn, at;
+    for (turn = 1; wait_for(&me->turn, turn), !is_done(); turn++) {
+        for (at = 0; at < MET; at++) {
+            change_met(me, at, turn);
+            set_turn(&me->first, turn);
+        }
+        set_turn(&me->made, turn);
+    }
+    return NULL;
+}
+
+/* Whether there is to be a further growth: so many, but on a machine where threads wait for processors none after some seconds. */
+static int is_time_left(time_t began, unsigned turn, unsigned rounds) {
+    enum { MOST_SECONDS = 10 };
+    return !failures && turn <= rounds && time(NULL) - began <= MOST_SECONDS;
+}
+
+static void begin_meetings(meeting *with, hot_handle *handle, pthread_t *thread, void *(*change)(void *)) {
+    static const meeting none = {HOT_HANDLE, 0, 0, 0, 0, 0};
+    unsigned at;
+    share(open_small(2, handle), 0);
+    *with = none;
+    CHECK(hot_open(shared, &with->handle) == HOT_DONE);
+    for (at = 0; at < MET; at++) {
+        key it = met_key(at);
+        CHECK(hot_insert(handle, it.bytes, it.length, 0, NULL) == HOT_INSERTED);
+    }
+    CHECK(pthread_create(thread, NULL, change, with) == 0);
+}
+
+static void end_meetings(meeting *with, hot_handle *handle, pthread_t thread) {
+    set_turn(&is_over, 1);
+    set_turn(&with->turn, UINT32_MAX);
+    CHECK(pthread_join(thread, NULL) == 0 && hot_close(&with->handle) == HOT_DONE);
+    close_all(handle, shared);
+}
+
+static void check_met(hot_handle *handle, unsigned at, uint64_t value) {
+    key it = met_key(at);
+    uint64_t found = 0;
+    CHECK(hot_get(handle, it.bytes, it.length, &found) == HOT_FOUND && found == value);
+}
+
+/* A change that is under way when a growth begins isn't lost, also where its thread has stored that it is and no other sees that yet: without
+ * membarrier the growth would list the key before it is changed, and the change would not know that it is to be noted. */
+static void test_beginnings(unsigned rounds) {
+    static meeting with;
+    hot_handle handle = HOT_HANDLE;
+    pthread_t writer;
+    uint64_t state = 362436069u;
+    time_t began = time(NULL);
+    unsigned turn;
+    uint32_t more;
+    begin_meetings(&with, &handle, &writer, change_until_it_begins);
+    for (turn = 1; is_time_left(began, turn, rounds); turn++) {
+        set_turn(&with.turn, turn);
+        wait_for(&with.first, turn);
+        pause_for(next(&state) % 64);
+        CHECK(hot_grow_begin(shared) == HOT_DONE);
+        set_turn(&with.begun, turn);
+        for (more = 1; more;)
+            CHECK(hot_grow_step(shared, &more) == HOT_DONE);
+        wait_for(&with.made, turn);
+        check_met(&handle, 0, with.value);
+    }
+    end_meetings(&with, &handle, writer);
+    printf("changes were under way when %u growths began\n", turn - 1);
+}
+
+/* What a thread does that is stopped within a portion, as the system may stop it. */
+static void stop_for_a_moment(int number) {
+    (void)number;
+    pause_for(200);
+}
+
+static void *stop_again_and_again(void *thread) {
+    while (!is_done()) {
+        pause_for(100);
+        CHECK(pthread_kill(*(pthread_t *)thread, SIGUSR1) == 0);
+    }
+    return NULL;
+}
+
+/* Keys that were noted are given the state that they have now, while a thread changes them in both tables. Where that is stopped between its look
+ * and its change, the thread must wait. */
+static void test_catching_up(unsigned rounds) {
+    static meeting with;
+    hot_handle handle = HOT_HANDLE;
+    pthread_t writer, stopper, self = pthread_self();
+    uint64_t state = 362436069u;
+    time_t began = time(NULL);
+    unsigned turn, at, portion, begin;
+    uint32_t more;
+    begin_meetings(&with, &handle, &writer, change_each);
+    CHECK(signal(SIGUSR1, stop_for_a_moment) != SIG_ERR && pthread_create(&stopper, NULL, stop_again_and_again, &self) == 0);
+    for (turn = 1; is_time_left(began, turn, rounds); turn++) {
+        begin = next(&state) % 10;
+        CHECK(hot_grow_begin(shared) == HOT_DONE);
+        for (at = 0; at < MET; at++) {
+            key it = met_key(at);
+            CHECK(hot_upsert(&handle, it.bytes, it.length, 0, NULL) == HOT_WAS);
+        }
+        for (portion = 0, more = 1; more; portion++) {
+            if (portion == begin) {
+                set_turn(&with.turn, turn);
+                wait_for(&with.first, turn);
+            }
+            CHECK(hot_grow_step(shared, &more) == HOT_DONE);
+        }
+        set_turn(&with.turn, turn);
+        wait_for(&with.made, turn);
+        for (at = 0; at < MET; at++)
+            check_met(&handle, at, turn);
+    }
+    end_meetings(&with, &handle, writer);
+    CHECK(pthread_join(stopper, NULL) == 0);
+    printf("keys were changed within %u growths that were stopped for moments\n", turn - 1);
+}
+
 /* ---- Histories ---- */
 
 /* A call with one key, when it was made, and what came of it. */
@@ -687,6 +879,8 @@ int main(int count, char **words) {
     test_bound();
     test_sections();
     test_load();
+    test_beginnings(50 * times);
+    test_catching_up(20 * times);
     test_judge();
     test_histories(40 * times, 5 * times);
     test_members(4, 200 * times, 2 * times);

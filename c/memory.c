@@ -1,6 +1,6 @@
 /* Tests of what memory the library takes: how many bytes handles have before and after they are opened and between calls, what is resident,
- * that none is lost, and what calls return where memory is refused, each allocation in turn. It is linked with --wrap for malloc, calloc,
- * realloc, free, mmap, munmap, mremap and madvise. */
+ * that none is lost, and what calls return where memory is refused, each allocation in turn; and that an index which grows asks the system for
+ * each fence that it relies on. It is linked with --wrap for malloc, calloc, realloc, free, mmap, munmap, mremap, madvise and syscall. */
 #define _GNU_SOURCE
 #include "hot.h"
 #include "check.h"
@@ -10,6 +10,7 @@
 #include <string.h>
 #include <sys/mman.h>
 #include <sys/prctl.h>
+#include <sys/syscall.h>
 #include <sys/sysinfo.h>
 #include <sys/wait.h>
 #include <unistd.h>
@@ -603,6 +604,33 @@ static void test_growing_resident(void) {
     printf("resident: %ld bytes of an index that has grown to %d keys, %ld of one that was made for them\n", grown, KEYS, made);
 }
 
+/* How often threads were to make a fence, and whether the system has such a call. */
+static long fences;
+static int has_fences;
+
+long __real_syscall(long number, long command, long flags, long processor);
+
+long __wrap_syscall(long number, long command, long flags, long processor) {
+    enum { EXPEDITED = 1 << 3, REGISTER = 1 << 4 };
+    long status = __real_syscall(number, command, flags, processor);
+    fences += number == SYS_membarrier && command == EXPEDITED && status == 0;
+    has_fences |= number == SYS_membarrier && command == REGISTER && status == 0;
+    return status;
+}
+
+/* Calls don't make a fence where they begin: so each thread is to make one when changes are to be noted, when they are to be made in both tables,
+ * and when the next table has taken over. That a growth sees each call, or is seen by it, rests on that, and hardly a run would tell. */
+static void test_fences(void) {
+    hot_handle handle = HOT_HANDLE;
+    hot_index *index = NULL;
+    CHECK(hot_open_growing(NULL, SIZE_MAX, 1, &index) == HOT_DONE && hot_open(index, &handle) == HOT_DONE);
+    fences = 0;
+    CHECK(hot_grow(index) == HOT_DONE && fences == (has_fences ? 3 : 0));
+    CHECK(hot_close(&handle) == HOT_DONE && hot_close_index(index) == HOT_DONE);
+    if (!has_fences)
+        puts("not tried, since the system has no membarrier: fences of an index that grows");
+}
+
 int main(void) {
     long few, more, growing = 1;
     test_resident();
@@ -616,6 +644,7 @@ int main(void) {
     test_most();
     test_fork();
     test_growing_resident();
+    test_fences();
     while (test_growing_refused(growing))
         growing++;
     few = test_each_refused(&stock);
