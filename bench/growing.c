@@ -1,10 +1,11 @@
 /* Measures an index that grows beside one with a table for all keys: insertions by one thread, from few keys on, and look-ups, in nanoseconds of a
  * processor for each; what is resident at the end, and at most while it grows, in bytes for each key; how long a growth takes, and how much of
- * that makes the table, in milliseconds; and the longest call of a thread that inserts and of one that looks up, in milliseconds of the clock:
- * alone, and beside a thread that has the index grow ahead of need. On a busy machine the last ones, of both indexes, have the system's pauses in
- * them. Each is done some times, by turns, in a process of its own; the median counts. A line has four cells, as bench/room.py reads them. `bench/run
- * growing` builds and runs it. */
+ * that makes the table, in milliseconds; and the longest call of a thread that inserts and of one that looks up, in milliseconds of the clock
+ * but for those in which it waited for a processor: alone, and beside a thread that has the index grow ahead of need. Each is done some times, by
+ * turns, in a process of its own; the median counts. A line has four cells, as bench/room.py reads them. `bench/run growing` builds and runs
+ * it. */
 #include "keys.h"
+#include <fcntl.h>
 #include <pthread.h>
 #include <stdatomic.h>
 #include <sys/wait.h>
@@ -30,6 +31,26 @@ static void need(int is_so)
         fprintf(stderr, "growing: a call went wrong\n");
         exit(1);
     }
+}
+
+/* How long the clock has run, less the time in which this thread waited for a processor. */
+static double running(int schedstat)
+{
+    char text[96];
+    double ran, waited = 0, now;
+    ssize_t length = pread(schedstat, text, sizeof text - 1, 0);
+    now = clock_of(CLOCK_MONOTONIC);
+    need(length > 0);
+    text[length] = 0;
+    need(sscanf(text, "%lf %lf", &ran, &waited) == 2);
+    return now - waited;
+}
+
+static int open_schedstat(void)
+{
+    int file = open("/proc/thread-self/schedstat", O_RDONLY);
+    need(file >= 0);
+    return file;
 }
 
 static double resident(void)
@@ -58,17 +79,21 @@ static double insert_all(hot_handle *handle, int is_timed)
 {
     uint8_t key[LONGEST];
     uint32_t number;
-    double longest = 0, before = clock_of(CLOCK_MONOTONIC), now;
+    int schedstat = is_timed ? open_schedstat() : -1;
+    double longest = 0, before = 0, took;
     for (number = 0; number < count; number++) {
         size_t length = key_of(RANDOM, number, key);
+        if (is_timed)
+            before = running(schedstat);
         need(hot_insert(handle, key, length, number, NULL) == HOT_INSERTED);
         if (is_timed) {
-            now = clock_of(CLOCK_MONOTONIC);
-            longest = now - before > longest ? now - before : longest;
-            before = now;
+            took = running(schedstat) - before;
+            longest = took > longest ? took : longest;
             atomic_store_explicit(&written, number + 1, memory_order_relaxed);
         }
     }
+    if (is_timed)
+        close(schedstat);
     return longest / 1e6;
 }
 
@@ -101,16 +126,18 @@ static void *look_up_on(void *longest)
     hot_handle handle = HOT_HANDLE;
     uint8_t key[LONGEST];
     uint64_t value = 0, turn;
+    int schedstat = open_schedstat();
     need(hot_open(at, &handle) == HOT_DONE);
     for (turn = 0; !is_over; turn++) {
         uint32_t there = (uint32_t)atomic_load_explicit(&written, memory_order_relaxed);
         size_t length = key_of(RANDOM, mixed(turn) % (there ? there : 1), key);
-        double before = clock_of(CLOCK_MONOTONIC), took;
+        double before = running(schedstat), took;
         need(hot_get(&handle, key, length, &value) == HOT_FOUND || there == 0);
-        took = (clock_of(CLOCK_MONOTONIC) - before) / 1e6;
+        took = (running(schedstat) - before) / 1e6;
         *(double *)longest = took > *(double *)longest ? took : *(double *)longest;
     }
     need(hot_close(&handle) == HOT_DONE);
+    close(schedstat);
     return NULL;
 }
 

@@ -1,6 +1,6 @@
 #!/usr/bin/env python3
-"""Makes a table of the lines that bench/room.c, own.c, counter.c and `bench/run count` write, as they come on standard input: what memory an
-index takes, its calls beside others of its own, or their instructions. It makes a CSV of the same figures, which bench/pages reads."""
+"""Makes a table of the lines that bench/room.c, own.c, counter.c and others write, and `bench/run count`, as they come on standard input: what memory
+an index takes, its calls beside others, or their instructions. It makes a CSV of the same figures, which bench/pages reads."""
 import argparse
 import csv
 import sys
