@@ -635,12 +635,14 @@ static hot_status make_all(grower *of) {
     return status;
 }
 
-/* Makes a portion by a change that has logged many keys, unless another call does so. */
+/* Makes a portion by a change that has logged many keys, unless another call does so. One that makes the table, which takes long, is left to others
+ * as long as the logs are short. */
 static void help(grower *of) {
+    enum { SHORT = 1 << 20 };
     int is_waiting;
     if (!try_to_lock(&of->lock))
         return;
-    if (of->job != NULL)
+    if (of->job != NULL && (of->job->next != MAKE || __atomic_load_n(&of->head.logged, __ATOMIC_RELAXED) > SHORT))
         make_portion(of, &is_waiting);
     unlock_word(&of->lock);
 }

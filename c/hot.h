@@ -268,8 +268,8 @@ hot_status hot_trim(hot_index *index);
 
 /* A growth by portions. hot_grow_begin begins one, unless one is under way. hot_grow_step makes a portion of it, and writes 1 to `more` if there
  * is more to do, else 0: it loads 512 pairs, opens a handle, or looks after 256 keys that were changed meanwhile. But to make a table can't be
- * parted: hot_grow_begin and one portion take half of its time each. A change that has noted 8 KiB of keys makes a portion, too, and one that
- * finds no room makes all that are left.
+ * parted: hot_grow_begin and one portion take half of its time each. A change that has noted 8 KiB of keys makes a portion, too, but the table
+ * only where 1 MiB was noted; and one that finds no room makes all that are left.
  * They return what hot_grow does. Where hot_grow_step isn't HOT_DONE, the growth was given up. */
 hot_status hot_grow_begin(hot_index *index);
 hot_status hot_grow_step(hot_index *index, uint32_t *more);
