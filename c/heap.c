@@ -9,6 +9,10 @@
  * A load fills the first of the two blocks, which gets such pages before that. They are copied to the table, too, but it then takes them over
  * as they are, all but the first and those that were only read. So a load takes no more memory than the index that it makes.
  *
+ * So it relies on three things. A table is made of two blocks of its size and no more. The second becomes what the first is; and that is 0
+ * behind the first page, if no load has filled it. The first is freed before the second is used, moved or freed. It looks whether they are so.
+ * If not, the table may not be used, as if memory were refused.
+ *
  * What else is large begins as 0, too: once it is made, each page of it in which there is nothing but 0 is given back, and reads as 0
  * again. The lists of a handle come from malloc, and nothing is written there before they are used.
  *
@@ -69,7 +73,7 @@ static __thread struct {
     pages *copied; /* the table, while the zeros are there */
     pages *last;   /* the last other block, in which pages of 0 are to be given back */
     int is_filled; /* the zeros have their pages, and are no zeros any more */
-    int is_broken; /* the table has no pages of its own, since memory was refused */
+    int is_broken; /* the table may not be used: it has no pages of its own, since memory was refused, or was made in another way */
 } making;
 
 static char *block_in(pages *of) {
@@ -124,11 +128,16 @@ static void give_zeros_back(void) {
     making.last = NULL;
 }
 
+/* The size of the chunk that stands for so many bytes of pages. */
+static size_t chunk_size(size_t rest) {
+    size_t size = (rest / MOST_CHUNKS + PAGE) / PAGE * PAGE;
+    return size < LEAST_CHUNK ? LEAST_CHUNK : size;
+}
+
 /* Lets one chunk stand for all these pages but the first. Returns whether it could; some may be it if not. */
 static int stand_in(pages *for_these) {
-    size_t rest = for_these->size - PAGE, size = (rest / MOST_CHUNKS + PAGE) / PAGE * PAGE, at, part;
+    size_t rest = for_these->size - PAGE, size = chunk_size(rest), at, part;
     void *chunk, *put = NULL;
-    size = size < LEAST_CHUNK ? LEAST_CHUNK : size;
     chunk = mmap(NULL, size, PROT_READ | PROT_WRITE, MAP_SHARED | MAP_ANONYMOUS | MAP_NORESERVE, -1, 0);
     if (chunk == MAP_FAILED)
         return 0;
@@ -141,6 +150,19 @@ static int stand_in(pages *for_these) {
         return 0;
     madvise((char *)for_these + PAGE, rest, MADV_POPULATE_READ);
     return 1;
+}
+
+/* Whether the chunk that stands for the pages of a block holds nothing but 0. */
+static int is_chunk_zero(const pages *block) {
+    size_t rest = block->size - PAGE, size = chunk_size(rest), at = 0;
+    while (at < rest && at < size && is_zero((const char *)block + PAGE + at))
+        at += PAGE;
+    return at == rest || at == size;
+}
+
+/* Whether a table has become what the zeros are, or what a load has filled. Of that only the first page tells. */
+static int is_copy(pages *table, pages *of) {
+    return memcmp(block_in(table), block_in(of), PAGE - IN_PAGES) == 0 && (making.is_filled || is_chunk_zero(table));
 }
 
 /* Whether a piece that begins so many bytes behind the first record of a kind has some that a handle claims early: there few keys would take a
@@ -221,11 +243,11 @@ static size_t move_pages(pages *table, char *from, size_t rest) {
 static size_t give_pages(pages *table, char *from, size_t rest) {
     size_t moved = making.is_filled ? move_pages(table, from, rest) : 0;
     if (moved == 0) {
-        making.is_broken = !renew(table);
+        making.is_broken |= !renew(table);
         if (making.is_filled && !making.is_broken)
             memcpy((char *)table + PAGE, from, rest);
     } else {
-        making.is_broken = moved < rest;
+        making.is_broken |= moved < rest;
     }
     return moved;
 }
@@ -234,7 +256,9 @@ static size_t give_pages(pages *table, char *from, size_t rest) {
 static void free_zeros(void) {
     pages *table = making.copied, left = *making.zeros;
     char *from = (char *)making.zeros + PAGE, *end = left.begin + left.length;
+    int is_so = (making.is_filled || is_chunk_zero(making.zeros)) && (table == NULL || is_copy(table, making.zeros));
     size_t moved = table != NULL ? give_pages(table, from, left.size - PAGE) : 0;
+    making.is_broken |= !is_so;
     making.made = table;
     making.zeros = making.copied = NULL;
     munmap(left.begin, (size_t)(from - left.begin));
@@ -318,6 +342,7 @@ void rattle_dealloc(void *at) {
     } else if (old == making.zeros) {
         free_zeros();
     } else {
+        making.is_broken |= old == making.copied;
         making.copied = old == making.copied ? NULL : making.copied;
         making.last = old == making.last ? NULL : making.last;
         unmap(old);
@@ -343,7 +368,7 @@ void heap_begin(const heap_table *table) {
     making.of = table == NULL ? none : *table;
     making.left = making.of.bytes < LEAST_TABLE ? 0 : making.of.bytes;
     making.asked = 0;
-    making.made = NULL;
+    making.made = making.zeros = making.copied = NULL;
     making.is_filled = making.is_broken = 0;
 }
 
@@ -351,14 +376,14 @@ int heap_end(void) {
     give_zeros_back();
     making.is_on = 0;
     making.left = 0;
-    return !making.is_broken;
+    return !making.is_broken && making.zeros == NULL;
 }
 
 int heap_pause(void **words) {
     pages *filled = making.zeros;
     *words = filled;
     making.zeros = NULL;
-    making.is_broken = filled != NULL && !renew(filled);
+    making.is_broken |= filled != NULL && (making.copied != NULL || !is_chunk_zero(filled) || !renew(filled));
     return heap_end();
 }
 
