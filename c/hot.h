@@ -183,10 +183,11 @@ hot_status hot_create_with(const hot_stock *stock, hot_handle *handles, size_t c
  * one node each: hot_stock_for_any_keys has room for them. */
 void hot_stock_for_keys(uint32_t keys, size_t longest, hot_stock *stock);
 
-/* Writes a stock that is always enough for `keys` keys of at most `longest` bytes each, whatever they are, in an index of so many handles:
- * a tree has fewer nodes than keys. It has a node and a leaf for each key, and for each handle those that one change claims at most: a
- * leaf, 18 nodes for each byte of `longest`, and one. So they are never all in use while there are no more keys; a change may have to
- * wait for retired ones. More than 240 bytes count as 240, more than 1024 handles as 1024, and no number exceeds 4294967295. */
+/* Writes a stock that is always enough for `keys` keys of at most `longest` bytes each, whatever they are, in an index of so many handles: a
+ * tree has fewer nodes than keys. It has a node and a leaf for each key, and for each handle those that one change claims at most: a leaf, 18
+ * nodes for each byte of `longest`, and one. So they are never all in use while there are no more keys; that is counted, and not proved. A
+ * change may have to wait for retired ones. More than 240 bytes count as 240, more than 1024 handles as 1024, and no number exceeds
+ * 4294967295. */
 void hot_stock_for_any_keys(uint32_t keys, size_t longest, size_t handles, hot_stock *stock);
 
 /* Writes a stock for keys of different lengths: `keys` has five numbers, of keys of up to 8, 24, 56, 88 and HOT_MAX_KEY bytes. For each
@@ -312,11 +313,11 @@ hot_status hot_number(hot_handle *handle, uint16_t *number);
 hot_status hot_get(hot_handle *handle, const uint8_t *key, size_t length, uint64_t *value);
 
 /* What values point to. A reader may still follow a value that another thread has just taken out of the index. So readers look up, and use
- * what they found, inside a section of their handle. They see what was written to it before the call that stored the value. No
- * ThreadSanitizer sees the library's steps: hot.hpp tells it of calls and sections, and in C hot_tsan.h. Who takes a value out, or replaces
- * it, notes a moment behind that, and frees what the value points to once the moment is past. Sections hold no records of the index back,
- * and calls inside one are as any other. A handle that never enters a section costs nothing then. These calls wait for none; their loads
- * and stores count as no steps. */
+ * what they found, inside a section of their handle. They see what was written to it before the call that stored the value: calls read and
+ * store it as C11's memory_order_seq_cst, which no theorem says. No ThreadSanitizer sees the library's steps: hot.hpp tells it of calls and
+ * sections, and in C hot_tsan.h. Who takes a value out, or replaces it, notes a moment behind that, and frees what the value points to once
+ * the moment is past. Sections hold no records of the index back, and calls inside one are as any other. A handle that never enters a section
+ * costs nothing then. These calls wait for none; their loads and stores count as no steps. */
 
 /* Enters the handle's section. It makes one load and one store, and one exchange more at the first time.
  * HOT_DONE; or HOT_INSIDE if it is open already, or HOT_CLOSED. */
@@ -337,9 +338,10 @@ typedef struct hot_retirement {
  * HOT_DONE; or HOT_CLOSED. */
 hot_status hot_retired(hot_handle *handle, hot_retirement *moment);
 
-/* Whether each section that was open at the moment has been left since: then no reader has what was out of the index by then. A section that is
- * entered later doesn't count; one of the same handle does, so leave it before. A section that was open holds later moments back, too. It
- * makes 2 loads, and one for each handle up to the last that ever entered a section.
+/* Whether each section that was open at the moment has been left since: that is proved. Then no reader has what was out of the index by then,
+ * if each looks up and uses it inside a section. A section that is entered later doesn't count; one of the same handle does, so leave it
+ * before. A section that was open holds later moments back, too. It makes 2 loads, and one for each handle up to the last that ever entered a
+ * section.
  * HOT_DONE, HOT_NOT_PAST; or HOT_CLOSED, HOT_OTHER_INDEX. */
 hot_status hot_is_past(hot_handle *handle, const hot_retirement *moment);
 

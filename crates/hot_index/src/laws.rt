@@ -16,7 +16,7 @@ pub fn one_pass_is_never_busy()
 {}
 
 /// In an index of one pass a call returns `FullLeaves` only if each leaf record with room for the key was in the tree or retired. It
-/// returns `FullNodes` only if at least a third of the node records were so, and all but 4,320, which it may have claimed itself.
+/// returns `FullNodes` only if at least a third of the node records were so, and all but 4,321, which it may have claimed itself.
 pub fn one_pass_full_is_full()
     ensures { OnePassFullIsFull }
 {}
