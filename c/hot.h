@@ -146,7 +146,7 @@ typedef struct hot_handle {
 /* A closed handle: hot_handle handles[2] = { HOT_HANDLE, HOT_HANDLE }; */
 #define HOT_HANDLE { 0, { NULL }, NULL }
 
-/* A key with its value. The first `length` bytes of `key` are the key. */
+/* A key with its value. The first `length` bytes of `key` are the key; a call that writes a pair leaves the others as they were. */
 typedef struct hot_pair {
     uint8_t key[HOT_MAX_KEY];
     uint32_t length;

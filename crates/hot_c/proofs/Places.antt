@@ -1,6 +1,7 @@
 -- Lists of passes, pairs and handles, a place after the other.
 use Rattle.std.proofs.Common.{◌≡◌, ℕ, zero, suc, ◌+◌, ◌<◌, List, [], ◌∷◌, ◌++◌, length, map, take, drop, All, Some, get_or, refl, sym, ap, ◌∙◌, subst, arith, slice_set}
 use Rattle.std.specs.List.{slice_get}
+use Rattle.std.proofs.lemmas.List.{length-drop}
 
 -- what holds of each item by its number, the first of which is this one
 abbrev pub AreFrom : {A : Type 0} → (ℕ → A → Type 0) → ℕ → List A → Type 0
@@ -60,16 +61,24 @@ first_after P zero (x ∷ xs) d low h = h 0 d (omega arith)
 first_after P (suc n) (x ∷ xs) d low h = first_after P n xs d (omega (arith, low)) h
 
 -- one more item is written, at the place after those that were
-pub written : {A B : Type 0} (S : A → B → Type 0) (xs : List A) (room : List B) (n : ℕ) (b : B) → n < length room
-    → ((q : ℕ) (e : A) → q < n → slice_get xs q ≡ Some e → (x : B) × (slice_get room q ≡ Some x) × S e x) → ((e : A) → slice_get xs n ≡ Some e → S e b)
-    → (q : ℕ) (e : A) → q < n + 1 → slice_get xs q ≡ Some e → (x : B) × (slice_get (slice_set room n b) q ≡ Some x) × S e x
+pub written : {A B : Type 0} (S : ℕ → A → B → Type 0) (xs : List A) (room : List B) (n : ℕ) (b : B) → n < length room
+    → ((q : ℕ) (e : A) → q < n → slice_get xs q ≡ Some e → (x : B) × (slice_get room q ≡ Some x) × S q e x) → ((e : A) → slice_get xs n ≡ Some e → S n e b)
+    → (q : ℕ) (e : A) → q < n + 1 → slice_get xs q ≡ Some e → (x : B) × (slice_get (slice_set room n b) q ≡ Some x) × S q e x
 written S xs [] n b low h s q e below got = absurd (omega (arith, low))
 written S [] (r ∷ room) n b low h s q e below got = absurd cc
 written S (x ∷ xs) (r ∷ room) zero b low h s zero e below got = (b, refl, s e got)
 written S (x ∷ xs) (r ∷ room) zero b low h s (suc q) e below got = absurd (omega (arith, below))
 written S (x ∷ xs) (r ∷ room) (suc n) b low h s zero e below got = h zero e (omega arith) got
 written S (x ∷ xs) (r ∷ room) (suc n) b low h s (suc q) e below got =
-    written S xs room n b (omega (arith, low)) (λ i f l g. h (suc i) f (omega (arith, l)) g) (λ f g. s f g) q e (omega (arith, below)) got
+    written (λ i. S (suc i)) xs room n b (omega (arith, low)) (λ i f l g. h (suc i) f (omega (arith, l)) g) (λ f g. s f g) q e (omega (arith, below)) got
+
+-- the item at a place from which on the two lists have the same
+pub at_both : {A : Type 0} (n : ℕ) (xs ys : List A) (d : A) → n < length xs → drop n xs ≡ drop n ys → slice_get ys n ≡ Some (get_or xs n d)
+at_both n [] ys d low e = absurd (omega (arith, low))
+at_both zero (x ∷ xs) [] d low e = absurd cc
+at_both zero (x ∷ xs) (y ∷ ys) d low e = ap Some (sym (head x y xs ys e))
+at_both (suc n) (x ∷ xs) [] d low e = absurd (let many : length (drop n xs) ≡ 0 = ap length e in omega (arith, low, many, length-drop n xs))
+at_both (suc n) (x ∷ xs) (y ∷ ys) d low e = at_both n xs ys d (omega (arith, low)) e
 
 same_images : {A B C : Type 0} (f : A → C) (g : B → C) (n : ℕ) (xs : List A) (ys : List B) (x : A) (y : B) (rest : List B) → n < length xs → drop n ys ≡ y ∷ rest → f x ≡ g y
     → take n (map f xs) ≡ take n (map g ys) → take (suc n) (map f (slice_set xs n x)) ≡ take (suc n) (map g ys)

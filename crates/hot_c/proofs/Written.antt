@@ -1,13 +1,13 @@
 -- The pairs of a list are written to an array, one after the other.
-use Rattle.std.proofs.Common.{◌≡◌, ℕ, zero, suc, ◌+◌, ◌<◌, ◌≤◌, List, [], ◌∷◌, ◌++◌, length, drop, reverse, All, Some, sym, ap, ◌∙◌, subst, arith, slice_set}
+use Rattle.std.proofs.Common.{◌≡◌, ℕ, zero, suc, ◌+◌, ◌<◌, ◌≤◌, List, [], ◌∷◌, ◌++◌, length, drop, reverse, All, Some, sym, ap, ◌∙◌, subst, arith, get_or, slice_set}
 use Rattle.std.specs.List.{slice_get}
 use Rattle.std.proofs.lemmas.List.{drop-set-lt, length-drop, length-set, reverse-append}
 use Rattle.std.proofs.lemmas.List.Elements.{All-head, All-tail}
 use Rattle.std.proofs.lemmas.Option.{slice_get_within}
 use Rattle.key_bits.specs.Key.{IsKey}
-use Rattle.hot_c.specs.Pairs.{AreSpelled, Spells}
+use Rattle.hot_c.specs.Pairs.{AreSpelled, BecomesAt, Spells}
 use Rattle.hot_c.specs.declared.pairs.Pair.{Pair}
-use Rattle.hot_c.proofs.Places.{one_less, written}
+use Rattle.hot_c.proofs.Places.{at_both, one_less, written}
 
 -- the keys of pairs are keys
 abbrev pub HaveKeys : List (List ℕ × ℕ) → Type 0
@@ -19,7 +19,7 @@ pub record HasWritten (pairs left : List (List ℕ × ℕ)) (n : ℕ) (before af
   pub short : n ≤ length pairs
   pub keys : HaveKeys left
   pub count : length after ≡ length before
-  pub written : (q : ℕ) (e : List ℕ × ℕ) → q < n → slice_get pairs q ≡ Some e → (pair : Pair) × (slice_get after q ≡ Some pair) × Spells e pair
+  pub written : (q : ℕ) (e : List ℕ × ℕ) → q < n → slice_get pairs q ≡ Some e → (pair : Pair) × (slice_get after q ≡ Some pair) × BecomesAt before q e pair
   pub others : drop n after ≡ drop n before
 
 same : {A : Type 0} (x y : A) → Some x ≡ Some y → x ≡ y
@@ -41,15 +41,17 @@ module _ (pairs : List (List ℕ × ℕ)) (left : List (List ℕ × ℕ)) (n : �
     is_inside room = let low = (at_place n pairs e rest (h.left_are ∙ is)).0 in let count = h.count in omega (arith, low, count, room)
 
     -- one pair more is written
-    pub one_more : length pairs ≤ length before → (pair : Pair) → Spells e pair → HasWritten pairs rest (n + 1) before (slice_set after n pair)
-    one_more room pair spelled =
+    pub one_more : length pairs ≤ length before → (d pair : Pair) → Spells e (get_or after n d) pair → HasWritten pairs rest (n + 1) before (slice_set after n pair)
+    one_more room d pair spelled =
         let (low, got) = at_place n pairs e rest (h.left_are ∙ is) in
+        let was = at_both n after before d (is_inside room) h.others in
         record {
           left_are = one_less n pairs ∙ ap (drop 1) (h.left_are ∙ is);
           short = omega (arith, low);
           keys = All-tail (λ (pair : List ℕ × ℕ). IsKey pair.0) e rest (subst HaveKeys is h.keys);
           count = length-set after n pair ∙ h.count;
-          written = written Spells pairs after n pair (is_inside room) h.written (λ f g. subst (λ (x : List ℕ × ℕ). Spells x pair) (same e f (sym got ∙ g)) spelled);
+          written = written (BecomesAt before) pairs after n pair (is_inside room) h.written
+              (λ f g. (get_or after n d, was, subst (λ (x : List ℕ × ℕ). Spells x (get_or after n d) pair) (same e f (sym got ∙ g)) spelled));
           others = drop-set-lt (n + 1) after n pair (omega arith) ∙ one_less n after ∙ ap (drop 1) h.others ∙ sym (one_less n before);
         }
 
@@ -58,7 +60,7 @@ module _ (pairs : List (List ℕ × ℕ)) (left : List (List ℕ × ℕ)) (n : �
     many = let l = length-drop n pairs in let z : length (drop n pairs) ≡ 0 = ap length (h.left_are ∙ none) in let short = h.short in omega (arith, l, z, short)
 
     -- all are written
-    pub all_written : AreSpelled pairs after
+    pub all_written : AreSpelled pairs before after
     all_written q e got = let low = slice_get_within pairs q e got in let all = many in h.written q e (omega (arith, low, all)) got
 
     pub others_kept : drop (length pairs) after ≡ drop (length pairs) before

@@ -59,10 +59,10 @@ pub record Listing : Type 0 where
 abbrev pub listing : List Pair → ℕ → ℕ → Listing
 listing room count more = record { room = room; count = count; more = more }
 
--- the array begins with the scan's pairs, for which it has room, and is otherwise as it was
+-- the array begins with the scan's pairs, for which it has room, and is otherwise as it was: behind them, and behind the key of each
 pub record IsArrayListed (pairs : List (List ℕ × ℕ)) (is_more : Bool) (before after : Listing) : Type 0 where
   pub short : length pairs ≤ length before.room
-  pub written : AreSpelled pairs after.room
+  pub written : AreSpelled pairs before.room after.room
   pub others : drop (length pairs) after.room ≡ drop (length pairs) before.room
   pub count : after.count ≡ length pairs
   pub more : after.more ≡ from_bool is_more

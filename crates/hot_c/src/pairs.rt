@@ -52,7 +52,7 @@ pub struct Query<'a> {
 /// Writes `pairs`, as a scan found them, to the first places of `room`, which has room for all. For `LastUpwards` the last one comes first.
 pub fn write_pairs_in_order(order: Order, pairs: &Pairs, room: &mut [Pair])
     requires { length pairs.now ≤ length room.old }
-    ensures written { AreSpelled (in_order order pairs.now) room.new }
+    ensures written { AreSpelled (in_order order pairs.now) room.old room.new }
     ensures others { drop (length pairs.now) room.new ≡ drop (length pairs.now) room.old }
 {
     match order {
@@ -64,7 +64,7 @@ pub fn write_pairs_in_order(order: Order, pairs: &Pairs, room: &mut [Pair])
 /// Writes `pairs` to the first places of `room`, which has room for all, the first one first.
 fn write_pairs(pairs: &Pairs, room: &mut [Pair])
     requires { length pairs.now ≤ length room.old }
-    ensures written { AreSpelled pairs.now room.new }
+    ensures written { AreSpelled pairs.now room.old room.new }
     ensures others { drop (length pairs.now) room.new ≡ drop (length pairs.now) room.old }
 {
     for (place, (key, value)) in pairs.iter().enumerate() {
@@ -75,7 +75,7 @@ fn write_pairs(pairs: &Pairs, room: &mut [Pair])
 /// Writes `pairs` to the first places of `room`, which has room for all, the last one first.
 fn write_pairs_backwards(pairs: &Pairs, room: &mut [Pair])
     requires { length pairs.now ≤ length room.old }
-    ensures written { AreSpelled (reverse pairs.now) room.new }
+    ensures written { AreSpelled (reverse pairs.now) room.old room.new }
     ensures others { drop (length pairs.now) room.new ≡ drop (length pairs.now) room.old }
 {
     for (place, (key, value)) in pairs.iter().rev().enumerate() {
@@ -83,11 +83,11 @@ fn write_pairs_backwards(pairs: &Pairs, room: &mut [Pair])
     }
 }
 
-/// Writes `key`, its length and `value` to `pair`. Keys of 8 and of 16 to 64 bytes, the common ones, are copied through arrays. Such a copy
+/// Writes `key`, its length and `value` to `pair`; the bytes behind the key stay. Keys of 8 and of 16 to 64 bytes, the common ones, are copied through arrays. Such a copy
 /// needs no call and no test for overlap.
 fn write_pair(key: &[u8], value: u64, pair: &mut Pair)
     requires { IsKey key.now }
-    ensures { Spells (key.now, value) pair.new }
+    ensures { Spells (key.now, value) pair.old pair.new }
 {
     match key.len() {
         8 => {
@@ -108,7 +108,7 @@ fn write_pair(key: &[u8], value: u64, pair: &mut Pair)
 fn write_pair_by_ends<const N: usize>(key: &[u8], value: u64, pair: &mut Pair)
     requires key { IsKey key.now }
     requires covered { (N ≤ length key.now) × (length key.now ≤ N + N) }
-    ensures { Spells (key.now, value) pair.new }
+    ensures { Spells (key.now, value) pair.old pair.new }
 {
     let last = key.len() - N;
     let mut part = [0; N];
@@ -124,7 +124,7 @@ fn write_pair_by_ends<const N: usize>(key: &[u8], value: u64, pair: &mut Pair)
 #[inline(never)]
 fn write_pair_of_any_length(key: &[u8], value: u64, pair: &mut Pair)
     requires { IsKey key.now }
-    ensures { Spells (key.now, value) pair.new }
+    ensures { Spells (key.now, value) pair.old pair.new }
 {
     pair.key[..key.len()].copy_from_slice(key);
     pair.length = key.len() as u32;

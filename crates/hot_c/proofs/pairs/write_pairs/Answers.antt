@@ -4,7 +4,7 @@ use Rattle.hot_c.proofs.pairs.write_pairs.Goals as goal
 
 pub loop-place-preserved : goal.loop-place-preserved
 loop-place-preserved c = record {
-  written = one_more c.args.pairs.now _ c.loop-place.place c.args.room.now c.loop-place.room c.loop-place.invariant.written _ _ c.in-Some.ensures.steps c.requires c.write_pair.new.pair c.write_pair.ensures;
+  written = one_more c.args.pairs.now _ c.loop-place.place c.args.room.now c.loop-place.room c.loop-place.invariant.written _ _ c.in-Some.ensures.steps c.requires _ c.write_pair.new.pair c.write_pair.ensures;
 }
 
 pub returns-clause-written : goal.returns-clause-written
