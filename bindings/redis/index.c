@@ -1,0 +1,263 @@
+/* Maps with an index: what values lead to, tables that grow ahead of need, and what the server is told of their memory. */
+#define _DEFAULT_SOURCE
+#include "index.h"
+#include "jobs.h"
+#include "server.h"
+#include <sched.h>
+#include <string.h>
+#include <sys/mman.h>
+
+/* From so many pairs on a job makes the larger tables; and so many pairs at least a table is given back by one. */
+enum { LARGE = 4096 };
+
+long long memory_limit;
+atomic_ullong index_count, index_bytes, growth_count;
+
+int is_over_limit(void) {
+    return memory_limit > 0 && atomic_load(&index_bytes) >= (unsigned long long)memory_limit;
+}
+
+/* ---- Memory ---- */
+
+/* Gives the pages of what was never used back to the system: those that lie in it as a whole. */
+static void forget_pages(void *at, size_t bytes) {
+    enum { PAGE_BYTES = 4096 };
+    uintptr_t begin = ((uintptr_t)at + PAGE_BYTES - 1) / PAGE_BYTES * PAGE_BYTES,
+              end = ((uintptr_t)at + bytes) / PAGE_BYTES * PAGE_BYTES;
+    if (begin < end)
+        madvise((void *)begin, end - begin, MADV_DONTNEED);
+}
+
+/* Tells the server how much memory an index takes. No call does that: so the server gives out as much, which is never used and
+ * takes address space alone. So it counts in used_memory, keys are evicted for it, and deny-oom commands are refused. */
+static void tell_server(indexed_map *of) {
+    hot_memory bytes;
+    size_t far;
+    hot_bytes(of->index, &bytes);
+    far = bytes.now > of->told_bytes ? bytes.now - of->told_bytes : of->told_bytes - bytes.now;
+    if (far < of->told_bytes / 16)
+        return;
+    RedisModule_Free(of->told);
+    of->told = RedisModule_TryAlloc(bytes.now);
+    if (of->told != NULL)
+        forget_pages(of->told, bytes.now);
+    atomic_fetch_add(&index_bytes, bytes.now - of->told_bytes);
+    of->told_bytes = bytes.now;
+}
+
+void index_leave(indexed_map *of) {
+    RedisModule_Free(of->told);
+    atomic_fetch_sub(&index_bytes, of->told_bytes);
+    of->told = NULL;
+    of->told_bytes = 0;
+}
+
+size_t index_memory(const indexed_map *of) {
+    hot_memory bytes;
+    hot_bytes(of->index, &bytes);
+    return sizeof *of + bytes.now + of->text_bytes + of->gone_room * sizeof *of->gone;
+}
+
+/* ---- Making and freeing ---- */
+
+/* Pairs whose values an index takes: a copy of what they lead to. Until the index is there they are noted. */
+typedef struct taking {
+    hot_source *next;
+    void *context;
+    indexed_map *of;
+    word *made;
+    size_t count, room;
+    int is_refused;
+} taking;
+
+static int note_word(taking *from, word made) {
+    if (from->count == from->room) {
+        size_t room = from->room * 2 + PAGE;
+        word *more = RedisModule_TryAlloc(room * sizeof *more);
+        if (more == NULL)
+            return 0;
+        if (from->count > 0)
+            memcpy(more, from->made, from->count * sizeof *more);
+        RedisModule_Free(from->made);
+        from->made = more;
+        from->room = room;
+    }
+    from->made[from->count++] = made;
+    return 1;
+}
+
+static int take_next(void *context, const uint8_t **key, size_t *length, uint64_t *value) {
+    taking *from = context;
+    char room[TEXT_ROOM];
+    word given;
+    if (!from->next(from->context, key, length, &given))
+        return 0;
+    *value = given;
+    if (word_kind(given) == PACKED || word_kind(given) == LONG_TEXT) {
+        from->is_refused = !word_make(word_text(given, room), value);
+        if (!from->is_refused && !note_word(from, *value)) {
+            word_free(*value);
+            from->is_refused = 1;
+        }
+        if (from->is_refused)
+            return 0;
+    }
+    from->of->text_bytes += word_bytes(*value);
+    return 1;
+}
+
+/* Opens the handle of the main thread, once there is an index. */
+static int begin_use(indexed_map *of, size_t count) {
+    if (hot_open(of->index, &of->handle) != HOT_DONE) {
+        hot_close_index(of->index);
+        return 0;
+    }
+    of->form = INDEXED;
+    of->uses = 1;
+    of->count = of->most = count;
+    of->next_look = 1;
+    atomic_fetch_add(&index_count, 1);
+    tell_server(of);
+    return 1;
+}
+
+indexed_map *index_new(hot_source *next, void *context) {
+    indexed_map *made = RedisModule_TryAlloc(sizeof *made);
+    taking from = {next, context, made, NULL, 0, 0, 0};
+    size_t count = 0;
+    int is_made;
+    if (made == NULL)
+        return NULL;
+    memset(made, 0, sizeof *made);
+    is_made = hot_load_growing(SIZE_MAX, jobs_threads() + 2, take_next, &from, &made->index, &count) == HOT_DONE;
+    if ((!is_made || from.is_refused) && made->index != NULL) {
+        hot_close_index(made->index);
+        is_made = 0;
+    }
+    if (!is_made || !begin_use(made, count)) {
+        while (from.count > 0)
+            word_free(from.made[--from.count]);
+        RedisModule_Free(made);
+        made = NULL;
+    }
+    RedisModule_Free(from.made);
+    return made;
+}
+
+/* Frees what the values of the index lead to, page by page. */
+static void free_texts(indexed_map *of) {
+    key_page *page = RedisModule_TryAlloc(sizeof *page);
+    key_range range;
+    size_t at;
+    range_of_all(&range);
+    while (page != NULL && map_list((map *)of, &of->handle, &range, 0, PAGE, page) == HOT_DONE) {
+        for (at = 0; at < page->count; at++)
+            word_free(page->heads[at].value);
+        if (!page->more || !range_go_on(&range, 0, page))
+            break;
+    }
+    RedisModule_Free(page);
+}
+
+void index_free(indexed_map *of) {
+    size_t at;
+    if (of->text_bytes > 0)
+        free_texts(of);
+    for (at = 0; at < of->gone_count; at++)
+        word_free(of->gone[at].value);
+    RedisModule_Free(of->gone);
+    hot_close(&of->handle);
+    hot_close_index(of->index);
+    index_leave(of);
+    atomic_fetch_sub(&index_count, 1);
+    RedisModule_Free(of);
+}
+
+/* ---- Retired values ---- */
+
+/* Frees the retired values that no job reads any more. */
+static void free_past(indexed_map *of) {
+    size_t at = 0;
+    while (at < of->gone_count && hot_is_past(&of->handle, &of->gone[at].moment) == HOT_DONE)
+        word_free(of->gone[at++].value);
+    if (at == 0)
+        return;
+    of->gone_count -= at;
+    memmove(of->gone, of->gone + at, of->gone_count * sizeof *of->gone);
+}
+
+/* Has room for one more retired value: 0 if there is no memory. */
+static int has_room(indexed_map *of) {
+    size_t room = of->gone_room * 2 + PAGE;
+    retired *more;
+    if (of->gone_count < of->gone_room)
+        return 1;
+    more = RedisModule_TryAlloc(room * sizeof *more);
+    if (more == NULL)
+        return 0;
+    if (of->gone_count > 0)
+        memcpy(more, of->gone, of->gone_count * sizeof *more);
+    RedisModule_Free(of->gone);
+    of->gone = more;
+    of->gone_room = room;
+    return 1;
+}
+
+void index_retire(indexed_map *of, word value) {
+    retired it = {value, {NULL, 0}};
+    if (word_kind(value) != LONG_TEXT)
+        return;
+    of->text_bytes -= word_bytes(value);
+    if (atomic_load(&of->uses) == 1 && of->gone_count == 0) {
+        word_free(value);
+        return;
+    }
+    if (of->gone_count == of->gone_room)
+        free_past(of);
+    hot_retired(&of->handle, &it.moment);
+    if (has_room(of)) {
+        of->gone[of->gone_count++] = it;
+        return;
+    }
+    /* A job stays in its section for a page. */
+    while (hot_is_past(&of->handle, &it.moment) == HOT_NOT_PAST)
+        sched_yield();
+    word_free(value);
+}
+
+/* ---- Changes ---- */
+
+/* Has a job give it a table that has room, so that no change of the main thread finds it full. */
+static void look(indexed_map *of) {
+    of->next_look = (uint32_t)(of->count / 64 < UINT32_MAX ? of->count / 64 : UINT32_MAX) + 64;
+    tell_server(of);
+    if (of->count > of->most)
+        of->most = of->count;
+    if (of->count >= LARGE && !of->is_growing && hot_is_filling(of->index))
+        jobs_resize(of, 0);
+}
+
+hot_status index_put(indexed_map *of, field key, word value, word *had) {
+    hot_status status = hot_upsert(&of->handle, key.at, key.length, value, had);
+    if (status != HOT_NEW && status != HOT_WAS)
+        return status;
+    of->text_bytes += word_bytes(value);
+    if (status == HOT_NEW) {
+        of->count++;
+        if (--of->next_look == 0)
+            look(of);
+    }
+    return status;
+}
+
+int index_take(indexed_map *of, field key, word *had) {
+    if (hot_remove(&of->handle, key.at, key.length, had) != HOT_REMOVED)
+        return 0;
+    of->count--;
+    return 1;
+}
+
+void index_trim(indexed_map *of) {
+    if (of->most >= LARGE && of->count < of->most / 8 && !of->is_growing && jobs_resize(of, 1))
+        of->most = of->count;
+}

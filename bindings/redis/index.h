@@ -1,0 +1,40 @@
+/* Maps with an index. */
+#ifndef INDEX_H
+#define INDEX_H
+
+#include "map.h"
+
+/* What the module was told by its configuration. */
+extern long long memory_limit; /* of all indexes, in bytes; 0 is none */
+
+/* What it tells of itself. */
+extern atomic_ullong index_count, index_bytes, growth_count;
+
+/* Whether the indexes have more bytes than they may. */
+int is_over_limit(void);
+
+/* A map of pairs, as map_of_pairs makes it. */
+indexed_map *index_new(hot_source *next, void *context);
+
+/* Gives a field a value, as hot_upsert does, and looks from time to time whether the table fills. The value that it had is not
+ * retired. */
+hot_status index_put(indexed_map *of, field key, word value, word *had);
+
+/* Removes a field: 1 if it was there. */
+int index_take(indexed_map *of, field key, word *had);
+
+/* Frees a value that is out of the index, once no job reads it. */
+void index_retire(indexed_map *of, word value);
+
+/* Has a job give the table room for the pairs that there are, if few are left. */
+void index_trim(indexed_map *of);
+
+/* Tells the server that its memory is on its way back: so no further key is evicted for it, and no change is refused. */
+void index_leave(indexed_map *of);
+
+/* Frees it at once. No job has it. */
+void index_free(indexed_map *of);
+
+size_t index_memory(const indexed_map *of);
+
+#endif

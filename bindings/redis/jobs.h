@@ -1,0 +1,37 @@
+/* Work beside the main thread: long reads by threads of their own, each with a handle of its own; and one thread that keeps
+ * indexes, which makes larger tables and frees what nobody uses any more. */
+#ifndef JOBS_H
+#define JOBS_H
+
+#include "map.h"
+#include "server.h"
+
+/* A read for a client that waits. What `read` replies with goes to it. It ends early once `is_gone` says that the client has left.
+ */
+typedef struct read_job {
+    struct read_job *next;
+    void (*read)(struct read_job *it, RedisModuleCtx *ctx, hot_handle *handle);
+    indexed_map *of;
+    RedisModuleBlockedClient *client;
+    atomic_int is_gone;
+} read_job;
+
+extern atomic_ullong read_count, gone_count;
+
+/* How many threads read, which is set before they begin. */
+extern long long reader_threads;
+size_t jobs_threads(void);
+
+/* Starts the threads: 0 if that is refused. */
+int jobs_start(void);
+
+/* Has the client wait for a read, whose memory is freed when it has ended. The map stays until then. */
+void jobs_read(RedisModuleCtx *ctx, read_job *it, indexed_map *of);
+
+/* Has a table made with room for more pairs, or for those that there are: 0 if it can't be asked for. */
+int jobs_resize(indexed_map *of, int is_trim);
+
+/* Has a map freed. */
+void jobs_free(indexed_map *of);
+
+#endif

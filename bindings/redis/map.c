@@ -1,0 +1,428 @@
+/* Ordered maps of both forms. */
+#include "map.h"
+#include "index.h"
+#include "jobs.h"
+#include "server.h"
+#include <string.h>
+
+/* A pair has so many bytes at most besides its value's. */
+enum { PAIR_MORE = ENTRY_HEAD + HOT_MAX_KEY + PACKED_MORE };
+
+/* The room in which the main thread changes a block. */
+static uint8_t edited[SMALL_BYTES + PAIR_MORE];
+
+static small_map *small_of(const map *of) {
+    return (small_map *)of;
+}
+
+static indexed_map *indexed_of(const map *of) {
+    return (indexed_map *)of;
+}
+
+static text text_of(field value) {
+    text of = {(const char *)value.at, value.length};
+    return of;
+}
+
+hot_handle *map_handle(map *of) {
+    return of->form == SMALL ? NULL : &indexed_of(of)->handle;
+}
+
+uint64_t map_length(const map *of) {
+    return of->form == SMALL ? small_of(of)->count : indexed_of(of)->count;
+}
+
+size_t map_bytes(const map *of) {
+    return of->form == SMALL ? RedisModule_MallocSize((void *)of) : index_memory(indexed_of(of));
+}
+
+void map_drop(map *of) {
+    if (of->form == SMALL)
+        RedisModule_Free(of);
+    else if (atomic_fetch_sub(&indexed_of(of)->uses, 1) == 1)
+        jobs_free(indexed_of(of));
+}
+
+/* ---- Small maps ---- */
+
+map *map_of_block(const uint8_t *bytes, size_t used, size_t count) {
+    small_map *made = RedisModule_TryAlloc(sizeof *made + used);
+    if (made == NULL)
+        return NULL;
+    made->form = SMALL;
+    made->count = (uint8_t)count;
+    made->used = (uint16_t)used;
+    memcpy(made->bytes, bytes, used);
+    return (map *)made;
+}
+
+static block_edit edit_of(const small_map *of) {
+    block_edit it = {edited, of == NULL ? 0 : of->used, of == NULL ? 0 : of->count};
+    if (of != NULL)
+        memcpy(edited, of->bytes, of->used);
+    return it;
+}
+
+/* Sets a pair in a block: 0 if the block is too small for it. */
+static int set_in_block(block_edit *of, setting *it, field key, field value) {
+    int is_there = block_get(of->bytes, of->used, key.at, key.length) != NULL;
+    if (it->which == (is_there ? ABSENT_FIELD : HELD_FIELD))
+        return 1;
+    if (value.length > SMALL_BYTES || of->used + PAIR_MORE + value.length > SMALL_BYTES || (!is_there && of->count == SMALL_COUNT))
+        return 0;
+    block_put(of, key.at, key.length, text_of(value));
+    it->set++;
+    it->new_fields += (uint64_t)!is_there;
+    return 1;
+}
+
+/* Sets pairs of a small map, or of one that isn't there yet. HOT_FULL_LEAVES if they are too many for one. */
+static hot_status set_small(map *of, setting *it, map **made) {
+    block_edit edit = edit_of(small_of(of));
+    size_t at;
+    it->set = it->new_fields = 0;
+    for (at = 0; at < it->count; at++)
+        if (!set_in_block(&edit, it, it->words[2 * at], it->words[2 * at + 1]))
+            return HOT_FULL_LEAVES;
+    *made = of;
+    if (it->set > 0)
+        *made = map_of_block(edit.bytes, edit.used, edit.count);
+    return it->set > 0 && *made == NULL ? HOT_NO_MEMORY : HOT_DONE;
+}
+
+static size_t take_small(map *of, const field *fields, size_t count, map **made) {
+    block_edit edit = edit_of(small_of(of));
+    small_map *it = small_of(of);
+    size_t at, taken = 0;
+    for (at = 0; at < count; at++)
+        taken += (size_t)block_take(&edit, fields[at].at, fields[at].length);
+    *made = of;
+    if (taken == 0)
+        return 0;
+    *made = map_of_block(edit.bytes, edit.used, edit.count);
+    if (*made == NULL) {
+        /* What is left fits where it stood. */
+        it->count = (uint8_t)edit.count;
+        it->used = (uint16_t)edit.used;
+        memcpy(it->bytes, edit.bytes, edit.used);
+        *made = of;
+    }
+    return taken;
+}
+
+/* The pairs of a block as a source. */
+static int next_of_block(void *context, const uint8_t **key, size_t *length, uint64_t *value) {
+    block_reader *from = context;
+    const uint8_t *packed = block_next(from);
+    if (packed == NULL)
+        return 0;
+    *key = from->key;
+    *length = from->length;
+    *value = packed_word(packed);
+    return 1;
+}
+
+static block_reader reader_of(const small_map *of) {
+    block_reader from;
+    from.at = of->bytes;
+    from.end = of->bytes + of->used;
+    from.length = 0;
+    return from;
+}
+
+static indexed_map *index_of_small(const map *of) {
+    block_reader from = {0};
+    if (of != NULL)
+        from = reader_of(small_of(of));
+    return index_new(next_of_block, &from);
+}
+
+/* ---- Sets ---- */
+
+/* What setting a pair came to: the value that its field had, if it was not new. */
+typedef struct step {
+    enum { LEFT, MADE_NEW, REPLACED } did;
+    word had;
+} step;
+
+static hot_status set_in_index(indexed_map *of, setting *it, field key, field value, step *did) {
+    word made, held;
+    hot_status status;
+    did->did = LEFT;
+    if (it->which != ANY_FIELD) {
+        int is_there = hot_get(&of->handle, key.at, key.length, &held) == HOT_FOUND;
+        if (it->which == (is_there ? ABSENT_FIELD : HELD_FIELD))
+            return HOT_DONE;
+    }
+    if (!word_make(text_of(value), &made))
+        return HOT_NO_MEMORY;
+    status = index_put(of, key, made, &did->had);
+    if (status != HOT_NEW && status != HOT_WAS) {
+        word_free(made);
+        return status;
+    }
+    did->did = status == HOT_NEW ? MADE_NEW : REPLACED;
+    it->set++;
+    it->new_fields += status == HOT_NEW;
+    return HOT_DONE;
+}
+
+/* Takes back what was set of the first pairs. No part of that needs a record: so none is refused. */
+static void take_back(indexed_map *of, const setting *it, const step *did, size_t count) {
+    word put;
+    while (count-- > 0) {
+        field key = it->words[2 * count];
+        if (did[count].did == MADE_NEW && index_take(of, key, &put)) {
+            index_retire(of, put);
+        } else if (did[count].did == REPLACED) {
+            of->text_bytes -= word_bytes(did[count].had);
+            index_put(of, key, did[count].had, &put);
+            index_retire(of, put);
+        }
+    }
+}
+
+static hot_status set_indexed(indexed_map *of, setting *it) {
+    step one, *did = it->count == 1 ? &one : RedisModule_TryAlloc(it->count * sizeof *did);
+    hot_status status = did == NULL ? HOT_NO_MEMORY : HOT_DONE;
+    size_t at, count = 0;
+    it->set = it->new_fields = 0;
+    while (status == HOT_DONE && count < it->count) {
+        status = set_in_index(of, it, it->words[2 * count], it->words[2 * count + 1], &did[count]);
+        count += status == HOT_DONE;
+    }
+    if (did != NULL && status != HOT_DONE)
+        take_back(of, it, did, count);
+    else
+        for (at = 0; at < count; at++)
+            if (did[at].did == REPLACED)
+                index_retire(of, did[at].had);
+    if (did != &one)
+        RedisModule_Free(did);
+    return status;
+}
+
+hot_status map_set(map *of, setting *it, map **made) {
+    hot_status status;
+    indexed_map *larger;
+    *made = of;
+    if (of != NULL && of->form == INDEXED)
+        return set_indexed(indexed_of(of), it);
+    status = set_small(of, it, made);
+    if (status != HOT_FULL_LEAVES)
+        return status;
+    larger = index_of_small(of);
+    if (larger == NULL)
+        return HOT_NO_MEMORY;
+    status = set_indexed(larger, it);
+    if (status == HOT_DONE)
+        *made = (map *)larger;
+    else
+        map_drop((map *)larger);
+    return status;
+}
+
+/* ---- Removals ---- */
+
+/* Makes a small map of what is left in an index, if that fits in one. */
+static map *small_again(indexed_map *of) {
+    static key_page page;
+    block_edit to = {edited, 0, 0};
+    key_range range;
+    const uint8_t *key = page.bytes;
+    char room[TEXT_ROOM];
+    size_t at;
+    range_of_all(&range);
+    if (of->text_bytes > SMALL_BYTES / 2 || map_list((map *)of, &of->handle, &range, 0, PAGE, &page) != HOT_DONE || page.more)
+        return NULL;
+    for (at = 0; at < page.count; at++) {
+        size_t length = page.heads[at].length, before = at == 0 ? 0 : page.heads[at - 1].length;
+        to.used += block_write(edited + to.used, key, length, key - before, before, word_text(page.heads[at].value, room));
+        key += length;
+    }
+    return map_of_block(edited, to.used, page.count);
+}
+
+size_t map_take(map *of, const field *fields, size_t count, map **made) {
+    indexed_map *from = indexed_of(of);
+    size_t at, taken = 0;
+    word had;
+    if (of->form == SMALL)
+        return take_small(of, fields, count, made);
+    *made = of;
+    for (at = 0; at < count; at++)
+        if (index_take(from, fields[at], &had)) {
+            index_retire(from, had);
+            taken++;
+        }
+    if (taken > 0 && from->count > 0 && from->count <= SMALL_AGAIN) {
+        map *smaller = small_again(from);
+        if (smaller != NULL)
+            *made = smaller;
+    } else if (taken > 0) {
+        index_trim(from);
+    }
+    return taken;
+}
+
+/* ---- Look-ups ---- */
+
+int map_get(map *of, field key, word *value) {
+    const uint8_t *packed;
+    if (of->form == INDEXED)
+        return hot_get(&indexed_of(of)->handle, key.at, key.length, value) == HOT_FOUND;
+    packed = block_get(small_of(of)->bytes, small_of(of)->used, key.at, key.length);
+    if (packed == NULL)
+        return 0;
+    *value = packed_word(packed);
+    return 1;
+}
+
+hot_status map_get_many(map *of, hot_lookup *lookups, size_t count) {
+    enum { AT_ONCE = 256 };
+    hot_status status = HOT_DONE;
+    size_t at;
+    if (of->form == SMALL) {
+        for (at = 0; at < count; at++) {
+            field key = {lookups[at].key, lookups[at].length};
+            lookups[at].status = map_get(of, key, &lookups[at].value) ? HOT_FOUND : HOT_ABSENT;
+        }
+        return HOT_DONE;
+    }
+    for (at = 0; at < count && status == HOT_DONE; at += AT_ONCE)
+        status = hot_get_many(&indexed_of(of)->handle, lookups + at, count - at < AT_ONCE ? count - at : AT_ONCE);
+    return status;
+}
+
+/* ---- Ranges ---- */
+
+void range_of_all(key_range *to) {
+    to->from_length = 0;
+    to->upto_length = HOT_MAX_KEY;
+    memcpy(to->upto, hot_last_key, HOT_MAX_KEY);
+}
+
+static int compare(const uint8_t *one, size_t one_length, const uint8_t *other, size_t other_length) {
+    int by = memcmp(one, other, one_length < other_length ? one_length : other_length);
+    return by != 0 ? by : (one_length > other_length) - (one_length < other_length);
+}
+
+static void add_to_page(key_page *page, size_t *used, const uint8_t *key, hot_head head) {
+    memcpy(page->bytes + *used, key, head.length);
+    page->heads[page->count++] = head;
+    *used += head.length;
+}
+
+/* Turns a page of a small map around, and keeps so many of its pairs. */
+static void turn(const key_page *from, size_t used, size_t limit, key_page *to) {
+    size_t at = from->count, length, written = 0;
+    to->count = 0;
+    to->more = from->count > limit;
+    while (at-- > 0 && to->count < limit) {
+        length = from->heads[at].length;
+        used -= length;
+        add_to_page(to, &written, from->bytes + used, from->heads[at]);
+    }
+}
+
+static void list_small(const small_map *of, const key_range *range, int falls, size_t limit, key_page *to) {
+    static key_page rising;
+    key_page *page = falls ? &rising : to;
+    block_reader from = reader_of(of);
+    const uint8_t *packed;
+    size_t used = 0, most = falls ? PAGE : limit;
+    page->count = 0;
+    page->more = 0;
+    while ((packed = block_next(&from)) != NULL) {
+        hot_head head = {(uint8_t)from.length, packed_word(packed)};
+        if (compare(from.key, from.length, range->from, range->from_length) < 0)
+            continue;
+        if (compare(from.key, from.length, range->upto, range->upto_length) > 0)
+            break;
+        if (page->count == most) {
+            page->more = 1;
+            break;
+        }
+        add_to_page(page, &used, from.key, head);
+    }
+    if (falls)
+        turn(&rising, used, limit, to);
+}
+
+hot_status map_list(const map *of, hot_handle *handle, const key_range *range, int falls, size_t limit, key_page *page) {
+    limit = limit < PAGE ? limit : PAGE;
+    if (of->form == SMALL) {
+        list_small(small_of(of), range, falls, limit, page);
+        return HOT_DONE;
+    }
+    return (falls ? hot_scan_packed_reverse : hot_scan_packed)(handle, range->from, range->from_length, range->upto,
+                                                               range->upto_length, page->bytes, sizeof page->bytes, page->heads,
+                                                               limit, &page->count, &page->more);
+}
+
+int range_go_on(key_range *range, int falls, const key_page *page) {
+    const uint8_t *key = page->bytes;
+    size_t at, length;
+    if (page->count == 0)
+        return 0;
+    for (at = 0; at + 1 < page->count; at++)
+        key += page->heads[at].length;
+    length = page->heads[at].length;
+    if (falls)
+        return hot_before(key, length, range->upto, &range->upto_length) == HOT_DONE;
+    return hot_after(key, length, range->from, &range->from_length) == HOT_DONE;
+}
+
+/* ---- Whole maps ---- */
+
+map *map_of_pairs(hot_source *next, void *context) {
+    return (map *)index_new(next, context);
+}
+
+/* The pairs of a map with an index as a source. */
+typedef struct walk {
+    const map *of;
+    hot_handle *handle;
+    key_range range;
+    key_page *page;
+    size_t at;
+    const uint8_t *key;
+    int is_refused;
+} walk;
+
+static int next_page(walk *from) {
+    if (from->page->count > 0 && (!from->page->more || !range_go_on(&from->range, 0, from->page)))
+        return 0;
+    from->is_refused = map_list(from->of, from->handle, &from->range, 0, PAGE, from->page) != HOT_DONE;
+    from->at = 0;
+    from->key = from->page->bytes;
+    return !from->is_refused && from->page->count > 0;
+}
+
+static int next_of_walk(void *context, const uint8_t **key, size_t *length, uint64_t *value) {
+    walk *from = context;
+    if (from->at == from->page->count && !next_page(from))
+        return 0;
+    *key = from->key;
+    *length = from->page->heads[from->at].length;
+    *value = from->page->heads[from->at++].value;
+    from->key += *length;
+    return 1;
+}
+
+map *map_copy(const map *of) {
+    static key_page page;
+    walk from = {of, NULL, {0}, &page, 0, NULL, 0};
+    map *made;
+    if (of->form == SMALL)
+        return map_of_block(small_of(of)->bytes, small_of(of)->used, small_of(of)->count);
+    page.count = 0;
+    from.handle = &indexed_of(of)->handle;
+    range_of_all(&from.range);
+    made = map_of_pairs(next_of_walk, &from);
+    if (made != NULL && from.is_refused) {
+        map_drop(made);
+        made = NULL;
+    }
+    return made;
+}

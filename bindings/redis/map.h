@@ -1,0 +1,119 @@
+/* An ordered map: one block while it is small, and else an index whose long values stand in memory of their own. */
+#ifndef MAP_H
+#define MAP_H
+
+#include "block.h"
+#include "values.h"
+#include <hot.h>
+#include <stdatomic.h>
+
+/* A small map has so many pairs and bytes at most. One with an index becomes small again when it has half as many pairs. */
+enum { SMALL_COUNT = 128, SMALL_BYTES = 65535, SMALL_AGAIN = SMALL_COUNT / 2 };
+
+/* A field or a value of a command. */
+typedef struct field {
+    const uint8_t *at;
+    size_t length;
+} field;
+
+/* A map is either of the two below, which the first byte says. */
+enum form { SMALL, INDEXED };
+typedef struct map {
+    uint8_t form;
+} map;
+
+typedef struct small_map {
+    uint8_t form;
+    uint8_t count;
+    uint16_t used;
+    uint8_t bytes[];
+} small_map;
+
+/* A value that was taken out of an index, and by when. */
+typedef struct retired {
+    word value;
+    hot_retirement moment;
+} retired;
+
+typedef struct indexed_map {
+    uint8_t form;
+    atomic_uint uses;      /* the key's, until it is deleted, and that of each job */
+    atomic_int is_growing; /* a job gives it a larger table, or a smaller one */
+    hot_index *index;
+    hot_handle handle; /* of the main thread, which makes all changes */
+    uint64_t count, text_bytes;
+    uint64_t most;      /* so many pairs it had since its table was made */
+    uint32_t next_look; /* after so many further new pairs it is looked how full the table is */
+    retired *gone;      /* values that jobs may still read */
+    size_t gone_count, gone_room;
+    void *told; /* memory of the server that stands for the index's: see tell_server */
+    size_t told_bytes;
+} indexed_map;
+
+/* What a command sets: pairs, of all fields, or of those alone that are absent or held. */
+typedef struct setting {
+    const field *words; /* a field, its value, and so on */
+    size_t count;
+    enum { ANY_FIELD, ABSENT_FIELD, HELD_FIELD } which;
+    uint64_t new_fields, set; /* how many fields were new, and how many got a value */
+} setting;
+
+/* These change a map, or make one if there is none yet. They write the map that takes its place: if that is another one, the old
+ * one is as it was and is dropped by the caller, and a change that is refused leaves the old one as it was. A map may be left with
+ * no pair. */
+
+/* HOT_DONE; or HOT_NO_MEMORY, HOT_FULL_NODES or HOT_FULL_LEAVES, and then nothing is set. */
+hot_status map_set(map *of, setting *it, map **made);
+
+/* Removes the fields, and returns how many were there. */
+size_t map_take(map *of, const field *fields, size_t count, map **made);
+
+/* A range of fields, both ends included, and a page of it. */
+typedef struct key_range {
+    size_t from_length, upto_length;
+    uint8_t from[HOT_MAX_KEY], upto[HOT_MAX_KEY];
+} key_range;
+enum { PAGE = 128 };
+typedef struct key_page {
+    size_t count;
+    uint32_t more;
+    hot_head heads[PAGE];
+    uint8_t bytes[PAGE * HOT_MAX_KEY];
+} key_page;
+
+void range_of_all(key_range *to);
+
+/* Lists the first pairs of a range, PAGE or `limit` of them, or the last ones in falling order: HOT_DONE or HOT_NO_MEMORY. The
+ * handle is of the map's index; a small map needs none. Values that lead elsewhere are there until the map is changed, or for
+ * another thread within a section of the handle. */
+hot_status map_list(const map *of, hot_handle *handle, const key_range *range, int falls, size_t limit, key_page *page);
+
+/* What is left of the range behind a page that has more: 0 if nothing. */
+int range_go_on(key_range *range, int falls, const key_page *page);
+
+/* The handle of the main thread; NULL of a small map. */
+hot_handle *map_handle(map *of);
+
+uint64_t map_length(const map *of);
+
+/* Looks a field up: 1 if it is there. */
+int map_get(map *of, field key, word *value);
+
+/* The same of many, with a status for each: HOT_DONE or HOT_NO_MEMORY. */
+hot_status map_get_many(map *of, hot_lookup *lookups, size_t count);
+
+/* A map of the pairs that `next` gives, in rising order; NULL if there is no memory. Of the words that it gives it takes those that
+ * lead to memory of their own. A small one is made of a block. */
+map *map_of_pairs(hot_source *next, void *context);
+map *map_of_block(const uint8_t *bytes, size_t used, size_t count);
+
+/* A copy, or NULL if there is no memory. */
+map *map_copy(const map *of);
+
+/* Drops a use of a map. Who drops the last one frees it, a map with an index by a job. */
+void map_drop(map *of);
+
+/* How many bytes of memory it takes. */
+size_t map_bytes(const map *of);
+
+#endif

@@ -1,0 +1,243 @@
+/* Ranges of a map, and replies with them. */
+#include "ranges.h"
+#include "jobs.h"
+#include <string.h>
+
+/* So many pairs at most are read by the main thread. */
+enum { AT_ONCE = 1000 };
+
+field field_of(const RedisModuleString *of) {
+    field it;
+    it.at = (const uint8_t *)RedisModule_StringPtrLen(of, &it.length);
+    return it;
+}
+
+/* ---- Ends ---- */
+
+/* An end that is a field: `(` leaves the field itself out. 0 if it has none of the forms. */
+static int read_end(field from, int is_upper, uint8_t *to, size_t *length, int *is_empty) {
+    if (from.length == 0 || from.length > 1 + HOT_MAX_KEY || (from.at[0] != '[' && from.at[0] != '('))
+        return 0;
+    if (from.at[0] == '[') {
+        *length = from.length - 1;
+        memcpy(to, from.at + 1, *length);
+    } else if ((is_upper ? hot_before : hot_after)(from.at + 1, from.length - 1, to, length) != HOT_DONE) {
+        *is_empty = 1;
+    }
+    return 1;
+}
+
+int read_range(RedisModuleString *least, RedisModuleString *most, range_request *to) {
+    field from = field_of(least), upto = field_of(most);
+    range_of_all(&to->range);
+    to->is_empty = 0;
+    if (from.length == 1 && from.at[0] == '+')
+        to->is_empty = 1;
+    else if ((from.length != 1 || from.at[0] != '-') && !read_end(from, 0, to->range.from, &to->range.from_length, &to->is_empty))
+        return 0;
+    if (upto.length == 1 && upto.at[0] == '-')
+        to->is_empty = 1;
+    else if ((upto.length != 1 || upto.at[0] != '+') && !read_end(upto, 1, to->range.upto, &to->range.upto_length, &to->is_empty))
+        return 0;
+    return 1;
+}
+
+int read_prefix(RedisModuleString *prefix, range_request *to) {
+    field from = field_of(prefix);
+    range_of_all(&to->range);
+    to->is_empty = 0;
+    if (from.length > HOT_MAX_KEY)
+        return 0;
+    memcpy(to->range.from, from.at, from.length);
+    memcpy(to->range.upto, from.at, from.length);
+    to->range.from_length = from.length;
+    return 1;
+}
+
+/* ---- Replies ---- */
+
+void reply_with_word(RedisModuleCtx *ctx, word value) {
+    char room[TEXT_ROOM];
+    text of = word_text(value, room);
+    RedisModule_ReplyWithStringBuffer(ctx, of.at, of.length);
+}
+
+/* A reply with a range, which is made page by page. */
+typedef struct listing {
+    RedisModuleCtx *ctx;
+    const map *of;
+    hot_handle *handle;
+    const atomic_int *is_gone; /* NULL where nobody waits */
+    range_request asked;       /* what is left of it */
+    uint64_t told;             /* how many pairs it has replied with */
+    key_page *page;
+} listing;
+
+/* Replies with the pairs of a page that are asked for. */
+static void reply_with_page(listing *it) {
+    const uint8_t *key = it->page->bytes;
+    size_t at;
+    for (at = 0; at < it->page->count && it->asked.limit > 0; key += it->page->heads[at++].length) {
+        if (it->asked.skip > 0) {
+            it->asked.skip--;
+            continue;
+        }
+        RedisModule_ReplyWithStringBuffer(it->ctx, (const char *)key, it->page->heads[at].length);
+        if (it->asked.with_values)
+            reply_with_word(it->ctx, it->page->heads[at].value);
+        it->asked.limit--;
+        it->told++;
+    }
+}
+
+static long length_of_reply(const listing *it, uint64_t pairs) {
+    return (long)(it->asked.with_values ? 2 * pairs : pairs);
+}
+
+static hot_status list_next(listing *it) {
+    uint64_t most = it->asked.skip < PAGE && it->asked.limit < PAGE ? it->asked.skip + it->asked.limit : PAGE;
+    return map_list(it->of, it->handle, &it->asked.range, it->asked.falls, most, it->page);
+}
+
+static int is_last_page(const listing *it) {
+    return !it->page->more || it->asked.skip + it->asked.limit <= it->page->count;
+}
+
+/* How many of a page's pairs are asked for. */
+static uint64_t asked_of_page(const listing *it) {
+    uint64_t left = it->page->count > it->asked.skip ? it->page->count - it->asked.skip : 0;
+    return left < it->asked.limit ? left : it->asked.limit;
+}
+
+/* The cursor of the next page: the last field of this one behind a `(`; or `0` if there is none. */
+static void reply_with_cursor(listing *it) {
+    char cursor[1 + HOT_MAX_KEY] = "(";
+    size_t at, length;
+    const uint8_t *key = it->page->bytes;
+    if (!it->page->more) {
+        RedisModule_ReplyWithStringBuffer(it->ctx, "0", 1);
+        return;
+    }
+    for (at = 0; at + 1 < it->page->count; at++)
+        key += it->page->heads[at].length;
+    length = it->page->heads[at].length;
+    memcpy(cursor + 1, key, length);
+    RedisModule_ReplyWithStringBuffer(it->ctx, cursor, 1 + length);
+}
+
+/* Replies with all pages but the first, which is listed. Another thread reads each within a section, and stops once the client has
+ * left. */
+static void reply_with_pages(listing *it) {
+    hot_status status = HOT_DONE;
+    RedisModule_ReplyWithArray(it->ctx, REDISMODULE_POSTPONED_LEN);
+    for (;;) {
+        int is_last = is_last_page(it);
+        reply_with_page(it);
+        if (is_last || (it->is_gone != NULL && *it->is_gone) || !range_go_on(&it->asked.range, it->asked.falls, it->page))
+            break;
+        if (it->is_gone != NULL) {
+            hot_leave(it->handle);
+            hot_enter(it->handle);
+        }
+        status = list_next(it);
+        if (status != HOT_DONE)
+            break;
+    }
+    if (status != HOT_DONE) {
+        /* The pairs before were sent as part of the reply: so the error is its last item. */
+        RedisModule_ReplyWithError(it->ctx, "OOM no memory for a page");
+        it->told++;
+    }
+    RedisModule_ReplySetArrayLength(it->ctx, length_of_reply(it, it->told) - (status != HOT_DONE && it->asked.with_values));
+}
+
+/* Replies with a range whose first page is listed. */
+static void reply_with_list(listing *it) {
+    if (it->asked.what == PAGES) {
+        RedisModule_ReplyWithArray(it->ctx, 2);
+        reply_with_cursor(it);
+    }
+    if (is_last_page(it)) {
+        RedisModule_ReplyWithArray(it->ctx, length_of_reply(it, asked_of_page(it)));
+        reply_with_page(it);
+    } else {
+        reply_with_pages(it);
+    }
+}
+
+static void reply_with_count(listing *it) {
+    const key_range *range = &it->asked.range;
+    size_t count = it->page->count;
+    if (it->page->more &&
+        hot_count(it->handle, range->from, range->from_length, range->upto, range->upto_length, &count) != HOT_DONE)
+        RedisModule_ReplyWithError(it->ctx, "ERR the count was refused");
+    else
+        RedisModule_ReplyWithLongLong(it->ctx, (long long)count);
+}
+
+static void reply_with_first(listing *it, hot_status status) {
+    if (status != HOT_DONE)
+        RedisModule_ReplyWithError(it->ctx, "OOM no memory for a page");
+    else if (it->asked.what == COUNTS)
+        reply_with_count(it);
+    else
+        reply_with_list(it);
+}
+
+/* ---- By a job ---- */
+
+typedef struct range_job {
+    read_job base;
+    range_request asked;
+    key_page page;
+} range_job;
+
+static void read_by_job(read_job *base, RedisModuleCtx *ctx, hot_handle *handle) {
+    range_job *it = (range_job *)base;
+    listing made = {ctx, (map *)base->of, handle, &base->is_gone, it->asked, 0, &it->page};
+    hot_enter(handle);
+    reply_with_first(&made, list_next(&made));
+    hot_leave(handle);
+}
+
+/* Has a job reply: 0 if there is no memory for one. */
+static int give_to_job(RedisModuleCtx *ctx, map *of, const range_request *asked) {
+    range_job *it = RedisModule_TryAlloc(sizeof *it);
+    if (it == NULL)
+        return 0;
+    it->base.read = read_by_job;
+    it->asked = *asked;
+    jobs_read(ctx, &it->base, (indexed_map *)of);
+    return 1;
+}
+
+/* Whether it may have so many pairs more than its first page that a job is to read them. */
+static int is_long(RedisModuleCtx *ctx, const map *of, const listing *it) {
+    uint64_t far = it->asked.skip + it->asked.limit < map_length(of) ? it->asked.skip + it->asked.limit : map_length(of);
+    if (of->form == SMALL || is_last_page(it) || far <= AT_ONCE || jobs_threads() == 0)
+        return 0;
+    return (RedisModule_GetContextFlags(ctx) & (IN_LUA | IN_MULTI | DENIES_BLOCKING)) == 0;
+}
+
+static int reply_with_none(RedisModuleCtx *ctx, const range_request *asked) {
+    if (asked->what == COUNTS)
+        return RedisModule_ReplyWithLongLong(ctx, 0);
+    if (asked->what == PAGES) {
+        RedisModule_ReplyWithArray(ctx, 2);
+        RedisModule_ReplyWithStringBuffer(ctx, "0", 1);
+    }
+    return RedisModule_ReplyWithArray(ctx, 0);
+}
+
+int reply_with_range(RedisModuleCtx *ctx, map *of, const range_request *asked) {
+    static key_page page;
+    listing it = {ctx, of, NULL, NULL, *asked, 0, &page};
+    hot_status status;
+    if (of == NULL || asked->is_empty || asked->limit == 0)
+        return reply_with_none(ctx, asked);
+    it.handle = map_handle(of);
+    status = list_next(&it);
+    if (status != HOT_DONE || !is_long(ctx, of, &it) || !give_to_job(ctx, of, asked))
+        reply_with_first(&it, status);
+    return REDISMODULE_OK;
+}

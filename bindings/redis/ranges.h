@@ -1,0 +1,30 @@
+/* Ranges of a map: how commands write them, and replies with their pairs or with their number. */
+#ifndef RANGES_H
+#define RANGES_H
+
+#include "map.h"
+#include "server.h"
+
+/* What a command asks of a range. */
+typedef struct range_request {
+    key_range range;
+    int is_empty; /* no field can be in it */
+    int falls, with_values;
+    enum { LISTS, COUNTS, PAGES } what; /* PAGES are lists behind the cursor of the next one */
+    uint64_t skip, limit;
+} range_request;
+
+/* Reads both ends, as ZRANGEBYLEX has them, or a prefix: 0 if they are wrong. */
+int read_range(RedisModuleString *least, RedisModuleString *most, range_request *to);
+int read_prefix(RedisModuleString *prefix, range_request *to);
+
+/* Replies with what is asked of a map, or of none if it is NULL. A map with an index that may have more than some thousand pairs of
+ * it is read by a job, where the client may wait. */
+int reply_with_range(RedisModuleCtx *ctx, map *of, const range_request *asked);
+
+void reply_with_word(RedisModuleCtx *ctx, word value);
+
+/* A string of a command. */
+field field_of(const RedisModuleString *of);
+
+#endif

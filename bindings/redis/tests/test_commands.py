@@ -1,0 +1,194 @@
+"""Each command by examples: replies, words that are refused, events, access."""
+import unittest
+
+import redis
+
+from servers import Server
+
+
+class Commands(unittest.TestCase):
+    server: Server
+
+    @classmethod
+    def setUpClass(cls) -> None:
+        cls.server = Server()
+
+    @classmethod
+    def tearDownClass(cls) -> None:
+        cls.server.end()
+
+    def setUp(self) -> None:
+        self.server.client.flushall()
+
+    def said(self, *words: object) -> object:
+        try:
+            return self.server.run(*words)
+        except redis.ResponseError as error:
+            return str(error)
+
+    def test_sets(self) -> None:
+        self.assertEqual(self.said("OM.SET", "m", "a", "1", "b", "two"), 2)
+        self.assertEqual(self.said("OM.SET", "m", "a", "2", "c", "3"), 1)
+        self.assertEqual(self.said("OM.SET", "m", "a", "9", "d", "4", "NX"), 1)
+        self.assertEqual(self.said("OM.SET", "m", "a", "5", "e", "5", "xx"), 1)
+        self.assertEqual(self.said("OM.RANGE", "m", "-", "+", "WITHVALUES"), [b"a", b"5", b"b", b"two", b"c", b"3", b"d", b"4"])
+        self.assertEqual(self.said("OM.SET", "none", "a", "1", "XX"), 0)
+        self.assertEqual(self.server.client.exists("none"), 0)
+
+    def test_single_fields(self) -> None:
+        self.said("OM.SET", "m", "a", "1", "", "empty")
+        self.assertEqual(self.said("OM.GET", "m", ""), b"empty")
+        self.assertIsNone(self.said("OM.GET", "m", "b"))
+        self.assertIsNone(self.said("OM.GET", "none", "b"))
+        self.assertEqual(self.said("OM.MGET", "m", "a", "b", ""), [b"1", None, b"empty"])
+        self.assertEqual(self.said("OM.MGET", "none", "a"), [None])
+        self.assertEqual([self.said("OM.EXISTS", name, "a") for name in ("m", "none")], [1, 0])
+        self.assertEqual([self.said("OM.LEN", name) for name in ("m", "none")], [2, 0])
+        self.assertEqual(self.said("OM.DEL", "m", "a", "a", "b"), 1)
+        self.assertEqual(self.said("OM.DEL", "m", ""), 1)
+        self.assertEqual(self.server.client.exists("m"), 0)
+
+    def test_additions(self) -> None:
+        most = 2**63 - 1
+        self.assertEqual(self.said("OM.ADD", "m", "a", 5), 5)
+        self.assertEqual(self.said("OM.ADD", "m", "a", -7), -2)
+        self.assertEqual(self.said("OM.ADD", "m", "b", most), most)
+        self.assertEqual(self.said("OM.ADD", "m", "b", 1), "increment or decrement would overflow")
+        self.assertEqual(self.said("OM.GET", "m", "b"), b"%d" % most)
+        self.said("OM.SET", "m", "c", "one")
+        self.assertEqual(self.said("OM.ADD", "m", "c", 1), "the value is not an integer")
+        self.assertEqual(self.said("OM.ADD", "m", "a", "x"), "value is not an integer or out of range")
+
+    def test_exchanges(self) -> None:
+        self.said("OM.SET", "m", "a", "1")
+        self.assertEqual([self.said("OM.CAS", "m", "a", old, new) for old, new in [("2", "3"), ("1", "2"), ("2", "x" * 300)]], [0, 1, 1])
+        self.assertEqual(self.said("OM.GET", "m", "a"), b"x" * 300)
+        self.assertIsNone(self.said("OM.CAS", "m", "b", "1", "2"))
+        self.assertIsNone(self.said("OM.CAS", "none", "b", "1", "2"))
+
+    def test_ranges(self) -> None:
+        self.said("OM.SET", "m", *[word for at in "abcde" for word in (at, at.upper())])
+        self.assertEqual(self.said("OM.RANGE", "m", "[b", "(d"), [b"b", b"c"])
+        self.assertEqual(self.said("OM.RANGE", "m", "(b", "[d", "REV"), [b"d", b"c"])
+        self.assertEqual(self.said("OM.RANGE", "m", "-", "+", "REV", "LIMIT", 1, 2, "WITHVALUES"), [b"d", b"D", b"c", b"C"])
+        self.assertEqual(self.said("OM.RANGE", "m", "+", "-"), [])
+        self.assertEqual(self.said("OM.RANGE", "m", "[d", "[b"), [])
+        self.assertEqual(self.said("OM.COUNT", "m", "[b", "+"), 4)
+        self.assertEqual(self.said("OM.COUNT", "none", "-", "+"), 0)
+        self.said("OM.SET", "m", "ba", "1", "b\xff", "2")
+        self.assertEqual(self.said("OM.PREFIX", "m", "b"), [b"b", b"ba", "b\xff".encode()])
+        self.assertEqual(self.said("OM.PREFIX", "m", "", "LIMIT", 0, 1), [b"a"])
+
+    def test_cursors(self) -> None:
+        self.said("OM.SET", "m", *[word for at in range(25) for word in ("f%02d" % at, at)])
+        cursor, pairs = self.server.run("OM.SCAN", "m", 0)
+        self.assertEqual((cursor, len(pairs)), (b"(f09", 20))
+        cursor, pairs = self.server.run("OM.SCAN", "m", cursor, "COUNT", 100, "PREFIX", "f1")
+        self.assertEqual((cursor, pairs[::2]), (b"0", [b"f%02d" % at for at in range(10, 20)]))
+        self.assertEqual(self.said("OM.SCAN", "none", 0), [b"0", []])
+        self.assertEqual(self.said("OM.SCAN", "m", "7"), "invalid cursor")
+
+    def test_removals_of_ranges(self) -> None:
+        self.said("OM.SET", "m", *[word for at in "abcdefg" for word in (at, at.upper())])
+        self.assertEqual(self.said("OM.POPMIN", "m"), [b"a", b"A"])
+        self.assertEqual(self.said("OM.POPMAX", "m", 2), [b"g", b"G", b"f", b"F"])
+        self.assertEqual(self.said("OM.POPMIN", "none"), [])
+        self.assertEqual(self.said("OM.DELRANGE", "m", "[b", "[d", "LIMIT", 2), 2)
+        self.assertEqual(self.said("OM.RANGE", "m", "-", "+"), [b"d", b"e"])
+        self.assertEqual(self.said("OM.DELRANGE", "m", "-", "+"), 2)
+        self.assertEqual(self.server.client.exists("m"), 0)
+
+    def test_refusals(self) -> None:
+        self.server.client.set("s", "text")
+        self.assertTrue(str(self.said("OM.GET", "s", "a")).startswith("WRONGTYPE"))
+        self.assertTrue(str(self.said("OM.SET", "s", "a", "1")).startswith("WRONGTYPE"))
+        self.said("OM.SET", "m", "a", "1")
+        self.assertTrue(str(self.said("GET", "m")).startswith("WRONGTYPE"))
+        long = "x" * 241
+        wrong: "dict[tuple[object, ...], str]" = {
+            ("OM.SET", "m", long, "1"): "a field has more than 240 bytes",
+            ("OM.GET", "m", long): "a field has more than 240 bytes",
+            ("OM.MGET", "m", "a", long): "a field has more than 240 bytes",
+            ("OM.DEL", "m", long): "a field has more than 240 bytes",
+            ("OM.ADD", "m", long, "1"): "a field has more than 240 bytes",
+            ("OM.PREFIX", "m", long): "a prefix has more than 240 bytes",
+            ("OM.RANGE", "m", "a", "+"): "min or max is not -, +, [field or (field of at most 240 bytes",
+            ("OM.COUNT", "m", "-", "[" + long): "min or max is not -, +, [field or (field of at most 240 bytes",
+            ("OM.RANGE", "m", "-", "+", "LIMIT", "0"): "syntax error",
+            ("OM.RANGE", "m", "-", "+", "LIMIT", "-1", "1"): "value is not an integer or out of range",
+            ("OM.RANGE", "m", "-", "+", "UP"): "syntax error",
+            ("OM.SET", "m", "a", "1", "YY"): "syntax error",
+            ("OM.POPMIN", "m", "-1"): "value is out of range, must be positive",
+            ("OM.SCAN", "m", "0", "COUNT", "0"): "value is not an integer or out of range",
+        }
+        for words, text in wrong.items():
+            self.assertEqual(self.said(*words), text, words)
+        for words in [("OM.SET", "m", "a"), ("OM.GET", "m"), ("OM.MGET", "m"), ("OM.ADD", "m", "a"), ("OM.LEN",), ("OM.RANGE", "m", "-")]:
+            self.assertIn("wrong number of arguments", str(self.said(*words)))
+        self.assertEqual(self.said("OM.RANGE", "m", "-", "+", "WITHVALUES"), [b"a", b"1"])
+
+    def test_sizes(self) -> None:
+        """A map gets an index with its 129th pair, or with a value too long for a block, and is small again with 64."""
+        for at in range(128):
+            self.said("OM.SET", "m", "f%03d" % at, at)
+        self.assertEqual(self.said("OM.STAT", "m")[5], 0)
+        self.said("OM.SET", "m", "f128", 128)
+        self.assertEqual(self.said("OM.STAT", "m")[5], 1)
+        self.said("OM.DEL", "m", *["f%03d" % at for at in range(65)])
+        self.assertEqual([self.said("OM.STAT", "m")[at] for at in (1, 5)], [64, 0])
+        self.said("OM.SET", "m", "long", "x" * 100_000)
+        self.assertEqual(self.said("OM.STAT", "m")[5], 1)
+        self.assertEqual(self.said("OM.GET", "m", "long"), b"x" * 100_000)
+        self.assertEqual(self.server.client.unlink("m"), 1)
+
+    def test_events(self) -> None:
+        client = self.server.client
+        client.config_set("notify-keyspace-events", "KEA")
+        listener = client.pubsub()
+        listener.psubscribe("__keyspace@0__:*")
+        listener.get_message(timeout=5)
+        self.said("OM.SET", "m", "a", "1")
+        self.said("OM.CAS", "m", "a", "2", "3")
+        self.said("OM.DEL", "m", "a")
+        said = [listener.get_message(timeout=5)["data"] for _ in range(3)]
+        self.assertEqual(said, [b"om.set", b"om.del", b"del"])
+        listener.close()
+        client.config_set("notify-keyspace-events", "")
+
+    def test_transactions_and_scripts(self) -> None:
+        """A refused exchange doesn't disturb who watches the key; a change does. A script sees its own changes, and long ranges at once."""
+        self.said("OM.SET", "m", *[word for at in range(2000) for word in ("f%04d" % at, at)])
+        with self.server.client.pipeline() as pipe:
+            pipe.watch("m")
+            self.said("OM.CAS", "m", "f0001", "no", "3")
+            pipe.multi()
+            pipe.execute_command("OM.RANGE", "m", "-", "+")
+            self.assertEqual(len(pipe.execute()[0]), 2000)
+            pipe.watch("m")
+            self.said("OM.SET", "m", "a", "2")
+            pipe.multi()
+            pipe.execute_command("OM.LEN", "m")
+            self.assertRaises(redis.WatchError, pipe.execute)
+        script = "redis.call('OM.SET', KEYS[1], 'a', 'b'); return #redis.call('OM.RANGE', KEYS[1], '-', '+')"
+        self.assertEqual(self.server.client.eval(script, 1, "m"), 2001)
+
+    def test_access(self) -> None:
+        """Users may read or write by commands and by keys."""
+        client = self.server.client
+        client.acl_setuser("reader", enabled=True, nopass=True, commands=["+om.get", "+om.set"], keys=[])
+        self.server.run("ACL", "SETUSER", "reader", "%R~m", "~w")
+        self.said("OM.SET", "m", "a", "1")
+        other = redis.Redis(port=self.server.port, username="reader", password="any")
+        self.assertEqual(other.execute_command("OM.GET", "m", "a"), b"1")
+        self.assertEqual(other.execute_command("OM.SET", "w", "a", "1"), 1)
+        for words in [("OM.SET", "m", "a", "2"), ("OM.GET", "x", "a"), ("OM.DEL", "w", "a")]:
+            with self.assertRaises(redis.exceptions.NoPermissionError):
+                other.execute_command(*words)
+        other.close()
+        self.assertIn("denyoom", client.execute_command("COMMAND", "INFO", "om.set")["om.set"]["flags"])
+        self.assertEqual(client.execute_command("COMMAND GETKEYS", "OM.SET", "m", "a", "1"), ["m"])
+        client.acl_deluser("reader")
+
+
+if __name__ == "__main__":
+    unittest.main()

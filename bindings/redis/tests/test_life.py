@@ -1,0 +1,328 @@
+"""A map through all of the server's life: files of both kinds, replicas, kills, a cluster, eviction, jobs beside changes.
+
+With ORDERED_MAP_LONG=1 in the environment each takes longer.
+"""
+import os
+import random
+import threading
+import time
+import unittest
+
+import redis
+
+import damaged
+import model
+from servers import Server, fill, flat
+
+IS_LONG = os.environ.get("ORDERED_MAP_LONG") == "1"
+
+
+def some_pairs(count: int, seed: int = 1) -> "dict[bytes, bytes]":
+    some = random.Random(seed)
+    return {b"user:%08d" % some.randrange(10**8): some.choice([b"%d" % at, b"a value of some length %d" % at]) for at in range(count)}
+
+
+def digest(server: Server) -> object:
+    return server.run("DEBUG", "DIGEST")
+
+
+class Files(unittest.TestCase):
+    def test_files(self) -> None:
+        """The digest is the same after a file of either kind, and the changes behind a rewrite are there."""
+        pairs = some_pairs(100_000 if IS_LONG else 5_000)
+        with Server() as server:
+            fill(server, "large", pairs)
+            fill(server, "small", dict(list(pairs.items())[:100]))
+            before = digest(server)
+            server.client.save()
+            server.stop()
+            server.start()
+            self.assertEqual(digest(server), before)
+            for form in ("yes", "no"):
+                server.client.config_set("aof-use-rdb-preamble", form)
+                server.client.config_set("appendonly", "yes")
+                server.until("persistence", "aof_rewrite_in_progress", 0)
+                server.until("persistence", "aof_rewrite_scheduled", 0)
+                server.run("OM.DEL", "large", *list(pairs)[:100])
+                server.run("OM.POPMIN", "large", 10)
+                server.run("OM.ADD", "counter", "a", 5)
+                server.run("OM.SET", "small", "x", "y" * 300, "z", -1)
+                server.run("OM.DELRANGE", "large", "[user:9", "+", "LIMIT", 50)
+                before = digest(server)
+                server.stop()
+                server.start("--appendonly", "yes", "--aof-use-rdb-preamble", form)
+                self.assertEqual(digest(server), before, form)
+                server.client.config_set("appendonly", "no")
+
+    def test_saved_beside_changes(self) -> None:
+        """A background save has the pairs of one moment, while changes, a growth and a read by a job go on."""
+        pairs = some_pairs(200_000 if IS_LONG else 20_000)
+        with Server("--rdb-key-save-delay", "200000") as server:
+            fill(server, "m", pairs)
+            before = digest(server)
+            server.client.bgsave()
+            fill(server, "m", some_pairs(len(pairs), 2))
+            self.assertGreaterEqual(len(server.run("OM.RANGE", "m", "-", "+")), len(pairs))
+            server.client.config_set("rdb-key-save-delay", "0")
+            server.until("persistence", "rdb_bgsave_in_progress", 0)
+            self.assertEqual(server.client.info("persistence")["rdb_last_bgsave_status"], "ok")
+            server.kill()
+            server.start()
+            self.assertEqual(digest(server), before)
+
+    def test_kill(self) -> None:
+        """Each write that was answered is there after kill -9, where each is synchronized."""
+        answered = 0
+        with Server("--appendonly", "yes", "--appendfsync", "always") as server:
+            for at in range(10 if IS_LONG else 2):
+                killer = threading.Timer(1.0 if IS_LONG else 0.4, server.process.kill)
+                killer.start()
+                with self.assertRaises(redis.ConnectionError):
+                    while True:
+                        server.client.execute_command("OM.SET", "m", b"f%09d" % answered, answered)
+                        answered += 1
+                killer.join()
+                server.process.wait()
+                server.client.connection_pool.disconnect()
+                server.start()
+                self.assertIn(server.run("OM.COUNT", "m", "-", b"(f%09d" % answered), [answered], f"kill {at}")
+                answered = server.run("OM.LEN", "m")
+        print(f"\nkill -9: {answered} writes, none lost", end=" ")
+
+
+class Copies(unittest.TestCase):
+    def test_replica(self) -> None:
+        pairs = some_pairs(100_000 if IS_LONG else 5_000)
+        with Server() as server, Server() as replica:
+            fill(server, "m", pairs)
+            replica.client.replicaof("127.0.0.1", server.port)
+            replica.until("replication", "master_link_status", "up")
+            fill(server, "m", some_pairs(2_000, 2))
+            for words in [("OM.POPMAX", "m", 100), ("OM.ADD", "c", "a", 3), ("OM.CAS", "c", "a", 3, 7), ("OM.DELRANGE", "m", "-", "[user:2")]:
+                server.run(*words)
+            self.assertEqual(server.client.wait(1, 30_000), 1)
+            self.assertEqual(digest(replica), digest(server))
+            self.assertRaises(redis.ReadOnlyError, replica.run, "OM.SET", "m", "a", "1")
+            server.client.flushall(asynchronous=True)
+            server.client.wait(1, 30_000)
+            self.assertEqual(replica.client.dbsize(), 0)
+
+    def test_cluster(self) -> None:
+        """Three masters; a slot with a map moves, and its digest is the same."""
+        servers = [Server("--cluster-enabled", "yes", "--cluster-node-timeout", "5000") for _ in range(3)]
+        try:
+            self.move_slot(servers)
+        finally:
+            for server in servers:
+                server.end()
+
+    def move_slot(self, servers: "list[Server]") -> None:
+        parts = [(0, 5460), (5461, 10922), (10923, 16383)]
+        for server, (first, last) in zip(servers, parts):
+            server.run("CLUSTER ADDSLOTSRANGE", first, last)
+            server.run("CLUSTER MEET", "127.0.0.1", servers[0].port)
+        for server in servers:
+            while server.run("CLUSTER INFO")["cluster_state"] != "ok":
+                time.sleep(0.05)
+        slot = servers[0].run("CLUSTER KEYSLOT", "m")
+        source = next(server for server, (first, last) in zip(servers, parts) if first <= slot <= last)
+        target = servers[(servers.index(source) + 1) % 3]
+        fill(source, "m", some_pairs(50_000 if IS_LONG else 5_000))
+        before = source.run("DEBUG", "DIGEST-VALUE", "m")
+        names = {server: server.run("CLUSTER MYID") for server in servers}
+        target.run("CLUSTER SETSLOT", slot, "IMPORTING", names[source])
+        source.run("CLUSTER SETSLOT", slot, "MIGRATING", names[target])
+        source.run("MIGRATE", "127.0.0.1", target.port, "", 0, 60_000, "KEYS", "m")
+        for server in servers:
+            server.run("CLUSTER SETSLOT", slot, "NODE", names[target])
+        self.assertEqual(target.run("DEBUG", "DIGEST-VALUE", "m"), before)
+        with self.assertRaisesRegex(redis.ResponseError, "MOVED|" + str(target.port)):
+            source.run("OM.LEN", "m")
+
+
+class Memory(unittest.TestCase):
+    def test_usage(self) -> None:
+        """The server knows what a map takes, and gets it back."""
+        with Server() as server:
+            before = server.figure("used_memory")
+            fill(server, "m", some_pairs(50_000))
+            used = server.figure("used_memory") - before
+            self.assertGreater(used, 50_000 * 30)
+            self.assertGreater(server.client.memory_usage("m"), used * 0.7)
+            server.client.unlink("m")
+            end = time.monotonic() + 20
+            while server.figure("ordered_map_indexes") > 0 and time.monotonic() < end:
+                time.sleep(0.02)
+            self.assertEqual(server.figure("ordered_map_index_bytes"), 0)
+            self.assertLess(server.figure("used_memory") - before, used / 3)
+
+    def test_eviction(self) -> None:
+        """Maps are evicted for their memory, and without eviction changes are refused."""
+        with Server("--maxmemory", "24mb", "--maxmemory-policy", "allkeys-lru") as server:
+            for at in range(40):
+                fill(server, f"m{at}", some_pairs(10_000, at))
+            self.assertLess(server.client.dbsize(), 40)
+            self.assertGreater(server.figure("evicted_keys"), 0)
+            server.client.config_set("maxmemory-policy", "noeviction")
+            with self.assertRaisesRegex(redis.ResponseError, "OOM|maxmemory"):
+                for at in range(40):
+                    fill(server, f"n{at}", some_pairs(10_000, at))
+
+    def test_limit(self) -> None:
+        """The module's own limit refuses changes that take memory, and no others."""
+        with Server("--ordered_map.memory-limit", "4mb") as server:
+            with self.assertRaisesRegex(redis.ResponseError, "ordered maps have no more memory"):
+                fill(server, "m", some_pairs(200_000))
+            length = server.run("OM.LEN", "m")
+            with self.assertRaises(redis.ResponseError):
+                server.run("OM.ADD", "m", "more", 1)
+            self.assertEqual(server.run("OM.LEN", "m"), length)
+            self.assertEqual(len(server.run("OM.POPMIN", "m", 5)), 10)
+            server.client.config_set("ordered_map.memory-limit", 0)
+            self.assertEqual(server.run("OM.ADD", "m", "more", 1), 1)
+            self.assertRaises(redis.ResponseError, server.client.config_set, "ordered_map.threads", 1)
+
+
+class Jobs(unittest.TestCase):
+    def test_reads_beside_changes(self) -> None:
+        """Reads by jobs are in order, have each field that stays, and each value whole, while values are replaced and fields come and go, maps are
+        copied, unlinked and saved."""
+        seconds = 60 if IS_LONG else 4
+        with Server() as server:
+            Stress(server, time.monotonic() + seconds).run(self)
+            self.assertGreater(server.figure("ordered_map_reads"), 0)
+
+    def test_growth(self) -> None:
+        count = 1_000_000 if IS_LONG else 60_000
+        some, pairs = random.Random(3), {}
+        with Server() as server:
+            with server.client.pipeline(transaction=False) as pipe:
+                for at in range(count):
+                    field = b"u:%d" % some.randrange(count)
+                    if some.random() < 0.8:
+                        pairs[field] = some.choice([b"%d" % at, b"a value of more than seven bytes %d" % at])
+                        pipe.execute_command("OM.SET", "m", field, pairs[field])
+                    else:
+                        pairs.pop(field, None)
+                        pipe.execute_command("OM.DEL", "m", field)
+                    if at % 300 == 299:
+                        pipe.execute()
+                pipe.execute()
+            self.assertEqual(server.run("OM.RANGE", "m", "-", "+", "WITHVALUES"), flat(sorted(pairs.items())))
+
+    def test_clients_that_go(self) -> None:
+        """A read for a client that has left ends, and the map goes with it."""
+        with Server("--ordered_map.threads", "1") as server:
+            fill(server, "m", some_pairs(300_000 if IS_LONG else 60_000))
+            for _ in range(20):
+                other = redis.Redis(port=server.port).connection_pool.get_connection("_")
+                for _ in range(3):
+                    other.send_command("OM.RANGE", "m", "-", "+", "WITHVALUES")
+                other.disconnect()
+            end = time.monotonic() + 60
+            while server.figure("blocked_clients") > 0 and time.monotonic() < end:
+                time.sleep(0.02)
+            self.assertEqual(server.figure("blocked_clients"), 0)
+            self.assertGreater(server.figure("ordered_map_clients_gone"), 0)
+            server.client.unlink("m")
+            while server.figure("ordered_map_indexes") > 0 and time.monotonic() < end:
+                time.sleep(0.02)
+            self.assertEqual(server.figure("ordered_map_indexes"), 0)
+
+    def test_without_threads(self) -> None:
+        with Server("--ordered_map.threads", "0") as server:
+            pairs = some_pairs(20_000)
+            fill(server, "m", pairs)
+            self.assertEqual(server.run("OM.RANGE", "m", "-", "+", "WITHVALUES"), flat(sorted(pairs.items())))
+
+
+class Stress:
+    """Readers of whole ranges beside a writer."""
+
+    FIELDS = 20_000
+
+    def __init__(self, server: Server, end: float):
+        self.server, self.end = server, end
+        self.wrong: "list[object]" = []
+
+    @staticmethod
+    def value(field: bytes) -> bytes:
+        return field + b":" + random.randbytes(20).hex().encode()
+
+    def read(self) -> None:
+        client = redis.Redis(port=self.server.port)
+        while time.monotonic() < self.end and not self.wrong:
+            falls = random.random() < 0.3
+            name = "m" if random.random() < 0.8 else "copy"
+            words = ["OM.RANGE", name, "-", "+", "WITHVALUES"] + (["REV"] if falls else [])
+            said = client.execute_command(*words)
+            fields = said[::2]
+            if not said and name == "copy":
+                continue
+            if fields != sorted(set(fields), reverse=falls):
+                self.wrong.append("not in order")
+            self.wrong += [pair for pair in zip(fields, said[1::2]) if not pair[1].startswith(pair[0] + b":")][:3]
+            if sum(field.startswith(b"k:") and int(field[2:]) % 2 == 0 for field in fields) != self.FIELDS // 2:
+                self.wrong.append("a field is missing")
+            if client.execute_command("OM.COUNT", name, "[k:", "(k;") < self.FIELDS // 2:
+                self.wrong.append("a field isn't counted")
+
+    def write(self) -> None:
+        client, more = redis.Redis(port=self.server.port), 0
+        while time.monotonic() < self.end and not self.wrong:
+            with client.pipeline(transaction=False) as pipe:
+                for _ in range(200):
+                    field = b"k:%06d" % random.randrange(self.FIELDS)
+                    if int(field[2:]) % 2 == 0 or random.random() < 0.5:
+                        pipe.execute_command("OM.SET", "m", field, self.value(field))
+                    else:
+                        pipe.execute_command("OM.DEL", "m", field)
+                for _ in range(20):
+                    field = b"x:%08d" % more
+                    more += 1
+                    pipe.execute_command("OM.SET", "m", field, self.value(field))
+                pipe.execute()
+            self.change_maps(client, more)
+
+    @staticmethod
+    def change_maps(client: redis.Redis, more: int) -> None:
+        rare = random.random()
+        if rare < 0.02:
+            client.copy("m", "copy", replace=True)
+        elif rare < 0.03:
+            client.unlink("copy")
+        elif rare < 0.035:
+            client.delete("copy")
+        elif rare < 0.04:
+            try:
+                client.bgsave()
+            except redis.ResponseError:
+                pass
+        elif rare < 0.043:
+            client.execute_command("OM.DEL", "m", *[b"x:%08d" % at for at in range(more)])
+
+    def run(self, test: unittest.TestCase) -> None:
+        fields = [b"k:%06d" % at for at in range(0, self.FIELDS, 2)]
+        fill(self.server, "m", {field: self.value(field) for field in fields})
+        threads = [threading.Thread(target=self.read) for _ in range(2)] + [threading.Thread(target=self.write)]
+        for thread in threads:
+            thread.start()
+        for thread in threads:
+            thread.join()
+        test.assertEqual(self.wrong[:3], [])
+
+
+class AtRandom(unittest.TestCase):
+    def test_model(self) -> None:
+        count = 1_000_000 if IS_LONG else 10_000
+        print(f"\nmodel: {count} commands, {dict(model.run(count, 1))}", end=" ")
+
+    def test_damaged(self) -> None:
+        count = 100_000 if IS_LONG else 1_000
+        taken, refused = damaged.run(count, 1)
+        self.assertGreater(refused, taken)
+        print(f"\ndamaged payloads: {refused} refused, {taken} maps", end=" ")
+
+
+if __name__ == "__main__":
+    unittest.main()
