@@ -1,6 +1,7 @@
 -- What a call says by which a handle of a program in C sees what another has seen.
 use Rattle.std.specs.Prelude.{◌≡◌, ◌⊎◌, ℕ, Option, Some, None, IsSome}
-use Rattle.hot_index.specs.Stamps.{HasCaughtUp}
+use Rattle.rowex_table.specs.Traces.{RunBeginsWith}
+use Rattle.hot_index.specs.Stamps.{HasCaughtUp, HasStamped}
 use Rattle.hot_index_calls.specs.Passes.{PassView}
 use Rattle.hot_c.specs.Calls.{StaysOpen}
 use Rattle.hot_c.specs.declared.opened.Opened.{Opened}
@@ -21,3 +22,9 @@ pub record SeesLeader (old new old_leader new_leader : Option Opened) (status : 
   pub seen : (leader : Opened) → IsSome old → old_leader ≡ Some leader →
       (status ≡ DONE) × StaysOpen (λ index k j. HasCaughtUp index.layout leader.handle.pass.front k j) old new
       × StaysOpen (λ index k j. IsAsTold k j) old_leader new_leader
+
+-- The steps of which a handle knows that sees a leader begin with those of which the leader knew, who has made one stamp, and nothing else.
+abbrev pub SeesSteps : (old new old_leader new_leader : Option Opened) → Type 0
+SeesSteps old new old_leader new_leader =
+    (was now led then : Opened) → old ≡ Some was → new ≡ Some now → old_leader ≡ Some led → new_leader ≡ Some then →
+    RunBeginsWith now.handle.pass.seat.trace led.handle.pass.seat.trace × HasStamped led.handle.pass then.handle.pass

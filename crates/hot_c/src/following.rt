@@ -1,7 +1,7 @@
 //! How a handle sees what another has seen, for programs in C: so their calls are ordered in time.
 
 ghost use Rattle.std.specs.Prelude.{◌≡◌};
-ghost use Rattle.hot_c.specs.Following.{AreAtOneIndex, SeesLeader};
+ghost use Rattle.hot_c.specs.Following.{AreAtOneIndex, SeesLeader, SeesSteps};
 
 use crate::handle::Handle;
 use crate::status::{CLOSED, DONE};
@@ -12,6 +12,7 @@ use crate::status::{CLOSED, DONE};
 pub extern "C" fn hot_see(handle: &mut Handle, leader: &mut Handle) -> u32
     requires { AreAtOneIndex handle.old.slot.opened leader.old.slot.opened }
     ensures call { SeesLeader handle.old.slot.opened handle.new.slot.opened leader.old.slot.opened leader.new.slot.opened result }
+    ensures traced { SeesSteps handle.old.slot.opened handle.new.slot.opened leader.old.slot.opened leader.new.slot.opened }
     ensures places { (handle.new.place ≡ handle.old.place) × (leader.new.place ≡ leader.old.place) }
 {
     if !handle.is_open() || !leader.is_open() {

@@ -8,7 +8,8 @@ ghost use Rattle.hot_index_calls.specs.Calls.{IsRangeRead};
 ghost use Rattle.hot_index_calls.specs.Refusals.{as_tried};
 ghost use Rattle.hot_index_calls.specs.declared.refusals.Refusal.{Refusal as RefusalView};
 ghost use Rattle.hot_index.specs.Handles.{Stays};
-ghost use Rattle.hot_index.specs.Stamps.{HasCaughtUp, IsStampFrom};
+ghost use Rattle.hot_index.specs.Stamps.{HasCaughtUp, HasStamped, IsStampFrom};
+ghost use Rattle.rowex_table.specs.Traces.{RunBeginsWith};
 ghost use Rattle.hot_index_calls.specs.Traces.{HasGot, untold};
 ghost use Rattle.hot_c.specs.Calls.{HasOpenedNext, KeepsAll, TellsOutcome};
 ghost use Rattle.hot_c.specs.Following.{IsAsTold};
@@ -111,6 +112,8 @@ impl Opened {
     /// A stamp of all that the handle has seen.
     pub fn stamp(&mut self) -> Stamp
         ensures same { Stays (λ index k j. IsAsTold k j) self.old.handle self.new.handle }
+        ensures stamped { Stays (λ index k j. HasStamped k j) self.old.handle self.new.handle }
+        ensures trace { result.trace ≡ self.old.handle.pass.seat.trace }
         ensures own { IsStampFrom self.old.handle.index result }
         ensures front { result.front ≡ self.old.handle.pass.front }
         ensures keeps { self.new.kept.items ≡ self.old.kept.items }
@@ -122,6 +125,7 @@ impl Opened {
     pub fn follow(&mut self, stamp: Stamp)
         requires { IsStampFrom self.old.handle.index stamp }
         ensures call { Stays (λ index k j. HasCaughtUp index.layout stamp.front k j) self.old.handle self.new.handle }
+        ensures traced { RunBeginsWith self.new.handle.pass.seat.trace stamp.trace }
         ensures keeps { self.new.kept.items ≡ self.old.kept.items }
     {
         self.handle

@@ -1,21 +1,26 @@
 -- Where passes have ended in one run, and that their calls are linearizable then.
-use Rattle.std.proofs.Common.{◌≡◌, ◌≢◌, ⊎_elim, ℕ, ◌<◌, List, [], ◌∷◌, if◌then◌else◌, None, Some, refl, sym, ap, subst, ◌∙◌, arith, le_refl}
+use Rattle.std.proofs.Common.{◌≡◌, ◌≢◌, ⊎_elim, ℕ, suc, ◌<◌, List, [], ◌∷◌, if◌then◌else◌, None, Some, refl, sym, ap, subst, ◌∙◌, arith, le_refl}
 use Rattle.std.proofs.lemmas.Bool.{cases_eq, ne_eqb}
 use Rattle.std.proofs.lemmas.List.Elements.{All-cons, All-nil}
 use Rattle.rowex_core.specs.declared.event.Event.{Event}
 use Rattle.rowex_core.specs.Events.{after}
 use Rattle.rowex_core.specs.Opening.{opening}
-use Rattle.rowex_table.specs.Rule.{load_of}
+use Rattle.rowex_table.specs.Rule.{load_of, with_front}
 use Rattle.rowex_table.specs.Runs.{StepsWith, silent}
 use Rattle.rowex_table.specs.Seats.{SeatView, TableView}
 use Rattle.rowex_table.specs.Traces.{OthersStepOn}
+use Rattle.finite_map.specs.declared.Change.{Change}
+use Rattle.finite_map.specs.Fronts.{BeginsWith}
+use Rattle.hot_index.specs.Handles.{HandleView}
+use Rattle.hot_index.specs.Stamps.{HasCaughtUp, HasStamped}
+use Rattle.hot_index_calls.specs.Passes.{PassView, pass_of}
 use Rattle.hot_index_calls.specs.Traces.{untold}
 use Rattle.linearizability.specs.Histories.{PendingEndOrChangeAsAsked}
 use Rattle.linearizability.specs.Moments.{Happening, Moment, Pending}
 use Rattle.hot_index_calls.proofs.Tracing.{ends_untold, runs_untold}
-use Rattle.index_laws.specs.Joined.{HasGoneThrough, LoadedHaveEnded, OneRunIsAnExecution, ShownHaveEnded, SilentStepsEnd, StepsNeedNoGate, TwoThatMeetHaveEnded, load_call, loader, new, of_two}
+use Rattle.index_laws.specs.Joined.{HandlesAreLinearizable, HasGoneThrough, HasSeen, LoadedHaveEnded, OneRunIsAnExecution, SeeingIsDone, ShownHaveEnded, SilentStepsEnd, StepsNeedNoGate, TwoThatMeetHaveEnded, load_call, loader, new, of_two, shown as is_shown, stamped as has_stamped}
 use Rattle.index_laws.specs.Traced.{moment_of}
-use Rattle.rowex_table.proofs.Onward.{others_none}
+use Rattle.rowex_table.proofs.Onward.{begins_on, others_none}
 use Rattle.index_laws.proofs.Interleaving.{named_by, one_execution}
 use Rattle.index_laws.proofs.Placing.{others_between}
 use Rattle.index_laws.proofs.Timed.{executions_are_linearizable}
@@ -39,6 +44,43 @@ shown_have_ended table run done seat shown led each begun later begins = record 
   others = λ q low. others_between q (seat q).trace run (shown q).trace
       (subst (λ p. OthersStepOn p (seat q).trace (shown q).trace) (named_by (each q low)) (later q low).run.others) (begun q low) (begins q low);
 }
+
+-- Handles
+
+-- what one has seen that follows, at the index
+caught_at : {index : TableView} {was now leader led : HandleView} → was.index ≡ index → HasSeen was now leader led → HasCaughtUp index.layout leader.pass.front was.pass now.pass
+caught_at {was = was} {now = now} {leader = leader} here x = subst (λ (t : TableView). HasCaughtUp t.layout leader.pass.front was.pass now.pass) here x.follows.pass
+
+pub seeing_is_done : SeeingIsDone
+seeing_is_done index p q ours theirs was now leader led (here, is_seat, gone) (there, is_too, went) x =
+    let caught = caught_at here x in
+    let seat : now.pass ≡ pass_of now.pass.seat = caught.rest ∙ ap pass_of (sym (ap (λ (k : PassView). k.seat) caught.rest)) in
+    let front : now.pass.front ≡ now.pass.seat.known.front = ap (λ (k : PassView). k.front) seat in
+    let known : now.pass.seat.known ≡ with_front now.pass.seat.known.front was.pass.seat.known =
+    ap (λ (k : PassView). k.seat.known) caught.rest ∙ ap (λ (l : List Change). with_front l was.pass.seat.known) front in
+    let begins : BeginsWith now.pass.seat.known.front was.pass.seat.known.front =
+    subst (λ (z : List Change × List Change). BeginsWith z.0 z.1) (λ i. (front i, ap (λ (k : PassView). k.front) is_seat i)) caught.unnoted.front in (
+      (x.follows.index ∙ here, seat, is_shown gone caught.shown begins known),
+      (
+        x.stamped.index ∙ there,
+        stamp is_too x.stamped.pass,
+        has_stamped went (ap (λ (k : PassView). k.seat) x.stamped.pass),
+      ),
+      (caught.shown.run.core, caught.shown.run.led),
+      x.traced,
+    )
+  where
+    stamp : {k j : PassView} → k ≡ pass_of k.seat → HasStamped k j → j ≡ pass_of j.seat
+    stamp {k} {j} is has =
+        let now : j ≡ pass_of (record k.seat { asides = suc k.seat.asides }) = has ∙ ap (λ (z : PassView). let y : PassView = record z { seat = record k.seat { asides = suc k.seat.asides } } in y) is in
+        now ∙ ap pass_of (sym (ap (λ (z : PassView). z.seat) now))
+
+pub handles_are_linearizable : HandlesAreLinearizable
+handles_are_linearizable index run done was now leader led table each begun seen leads =
+    one_run_is_an_execution index run done (λ q. (was q).pass.seat)
+    (shown_have_ended index run done (λ q. (was q).pass.seat) (λ q. (now q).pass.seat) table (λ q low. (each q low).2) begun
+    (λ q low. (caught_at (each q low).0 (seen q low)).shown)
+    (λ q low. begins_on run (leader q).pass.seat.trace (now q).pass.seat.trace (leads q low) (seen q low).traced))
 
 -- what is so of pass 0 and pass 1
 pub of_both : {A : Type 0} (P : ℕ → A → Type 0) (x y : A) → P 0 x → P 1 y → (passes : ℕ) → passes ≡ 2 → (q : ℕ) → q < passes → P q (of_two x y q)

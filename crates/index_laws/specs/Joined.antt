@@ -23,6 +23,8 @@ use Rattle.hot_index_calls.specs.Answers.{IsNoted, IsRefusedFor, MayRefuse}
 use Rattle.hot_index_calls.specs.Many.{AreNoted}
 use Rattle.hot_index_calls.specs.Passes.{pass_of}
 use Rattle.hot_index_calls.specs.Traces.{untold}
+use Rattle.hot_index.specs.Handles.{HandleView, Stays}
+use Rattle.hot_index.specs.Stamps.{HasCaughtUp, HasStamped}
 use Rattle.linearizability.specs.Moments.{Happening, invokes, refuses, responds, shows, steps}
 use Rattle.linearizability.specs.Statements.{IsLinearizable}
 use Rattle.index_laws.specs.Executions.{HasBulkLoaded, insertion_notes, insertions}
@@ -138,6 +140,40 @@ ShownHaveEnded =
     ((q : ℕ) → q < table.layout.passes → HasGoneThrough table q (done q) (seat q)) → ((q : ℕ) → q < table.layout.passes → RunBeginsWith run (seat q).trace) →
     ((q : ℕ) → q < table.layout.passes → IsShownAll table.layout (seat q) (shown q)) → ((q : ℕ) → q < table.layout.passes → RunBeginsWith (shown q).trace run) →
     HaveEndedInOneRun table run done seat
+
+-- Handles of one index
+
+-- The handle is at this index, and its pass, of this number, is that of its seat and has done this.
+abbrev pub HandleHasDone : TableView → ℕ → List Happening → HandleView → Type 0
+HandleHasDone index q done h = (h.index ≡ index) × (h.pass ≡ pass_of h.pass.seat) × HasGoneThrough index q done h.pass.seat
+
+-- A handle has seen what its leader had, as `hot_see` of C and `stamp` with `follow` say: the leader has made a stamp, and the handle has
+-- followed it.
+pub record HasSeen (was now leader led : HandleView) : Type 0 where
+  pub follows : Stays (λ index k j. HasCaughtUp index.layout leader.pass.front k j) was now
+  pub traced : RunBeginsWith now.pass.seat.trace leader.pass.seat.trace
+  pub stamped : Stays (λ index k j. HasStamped k j) leader led
+
+-- So each of the two has done one thing more. The steps of which the handle knows then are a run of the table, and begin with those of which the
+-- leader knew.
+abbrev pub SeeingIsDone : Type 0
+SeeingIsDone =
+    (index : TableView) (p q : ℕ) (ours theirs : List Happening) (was now leader led : HandleView) → HandleHasDone index p ours was →
+    HandleHasDone index q theirs leader → HasSeen was now leader led →
+    HandleHasDone index p (ours ++ shows p now.pass.seat.known.front ∷ []) now × HandleHasDone index q (theirs ++ shows q leader.pass.seat.known.front ∷ []) led ×
+    IsTableRun index.layout now.pass.seat.trace × RunBeginsWith now.pass.seat.trace leader.pass.seat.trace
+
+-- Each pass of an index has a handle, which has done this. A run of the table begins with the steps of which each knew. Then each has seen what a
+-- leader had whose steps begin with this run. The calls of all are one execution, in which each stands as its handle made it, and linearizable:
+-- look-ups and changes have one order that a map could have run, and of two calls that don't overlap the earlier stands first.
+abbrev pub HandlesAreLinearizable : Type 0
+HandlesAreLinearizable =
+    (index : TableView) (run : List Event) (done : ℕ → List Happening) (was now leader led : ℕ → HandleView) → IsTableRun index.layout run →
+    ((q : ℕ) → q < index.layout.passes → HandleHasDone index q (done q) (was q)) → ((q : ℕ) → q < index.layout.passes → RunBeginsWith run (was q).pass.seat.trace) →
+    ((q : ℕ) → q < index.layout.passes → HasSeen (was q) (now q) (leader q) (led q)) →
+    ((q : ℕ) → q < index.layout.passes → RunBeginsWith (leader q).pass.seat.trace run) →
+    (last : ℕ) × (at : ℕ → Instant) × (happens : ℕ → Happening) ×
+    IsExecutionOf index run done (λ q. (was q).pass.seat) last at happens × IsLinearizable index.layout last (λ t. moment_of index.layout (at t)) happens
 
 -- what is said of pass 0, and of the others
 abbrev pub of_two : {A : Type 0} → A → A → ℕ → A

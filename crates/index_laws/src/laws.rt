@@ -1,6 +1,6 @@
 //! Laws of the index over whole runs. The functions do nothing: their contracts are the laws.
 ghost use Rattle.index_laws.specs.Headline.{Headline};
-ghost use Rattle.index_laws.specs.Joined.{AnInsertIsFound, LoadedHaveEnded, OneRunIsAnExecution, ShownHaveEnded, SilentStepsEnd, StepsNeedNoGate, TwoThatMeetHaveEnded};
+ghost use Rattle.index_laws.specs.Joined.{AnInsertIsFound, HandlesAreLinearizable, LoadedHaveEnded, OneRunIsAnExecution, SeeingIsDone, ShownHaveEnded, SilentStepsEnd, StepsNeedNoGate, TwoThatMeetHaveEnded};
 ghost use Rattle.index_laws.specs.Statements.{AGetReturns, Responses};
 ghost use Rattle.index_laws.specs.Steps.{StepsAreMoments, StepsFollow};
 ghost use Rattle.index_laws.specs.Traced.{AGetIsTraced, CallsMakeNoAsides, EndedBeforeLoaded, EndedOrLoadedBefore, EndedOrShownBefore, LoadsAreMoments, LoadsSeeAll, MetAreOfOneRun, TracedAreExecutions};
@@ -50,6 +50,18 @@ pub fn calls_of_one_run_are_an_execution()
 /// traces have ended in it.
 pub fn shown_passes_have_ended_in_one_run()
     ensures { ShownHaveEnded }
+{}
+
+/// Let one handle of an index see what another has seen, as `hot_see` of C says. It is one thing more that each has done, and the handle knows
+/// of the leader's steps then.
+pub fn seeing_is_done()
+    ensures { SeeingIsDone }
+{}
+
+/// Let each pass of an index have a handle, from Rattle or from C. Let a run begin with the steps of which each knew, and let each then see what a
+/// leader has seen that knows of this run. The calls of all handles are linearizable.
+pub fn handles_that_see_are_linearizable()
+    ensures { HandlesAreLinearizable }
 {}
 
 /// Let the two passes of an index meet that has no other. Their traces have ended in the run of which both know then.
