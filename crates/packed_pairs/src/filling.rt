@@ -9,7 +9,7 @@ use crate::head::Head;
 use crate::keys::{KeyBytes, copy_key};
 use crate::pairs::Pairs;
 use key_bits::MAX_BYTES;
-use std::alloc::{AllocError, Global};
+use std::alloc::AllocError;
 use std::marker::Model;
 use std::mem;
 

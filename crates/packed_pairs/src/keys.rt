@@ -1,11 +1,11 @@
 //! The bytes of the keys of a list, with room behind them that is written already. So a key is copied by a few stores, and no length but one
 //! changes.
 
-ghost use Rattle.std.specs.Prelude.{◌≡◌, ◌++◌, ◌+◌, ◌≤◌, [], OnOk, drop, if◌then◌else◌, is_ok, length, take};
+ghost use Rattle.std.specs.Prelude.{◌≡◌, ◌++◌, ◌+◌, ◌≤◌, [], drop, length, take};
 ghost use Rattle.key_bits.specs.declared.TheConstants.{MAX_BYTES};
 
 use key_bits::MAX_BYTES;
-use std::alloc::{AllocError, Global};
+use std::alloc::Global;
 use std::marker::Model;
 
 /// The bytes of some keys, one key behind the other.

@@ -1,14 +1,13 @@
 //! A list of pairs that is filled, read, and used again.
 
-ghost use Rattle.std.specs.Prelude.{◌≡◌, ◌≢◌, ◌++◌, ◌∷◌, ◌<◌, ◌≤◌, ◌^◌, [], All, IfOk, MatchOption, OnErr, OnOk, length, nat_eq, take};
+ghost use Rattle.std.specs.Prelude.{◌≡◌, ◌≢◌, ◌<◌, ◌^◌, [], All, IfOk, MatchOption, OnErr, length, nat_eq};
 ghost use Rattle.key_bits.specs.Key.{IsKey};
-ghost use Rattle.key_bits.specs.declared.TheConstants.{MAX_BYTES};
 ghost use Rattle.packed_pairs.specs.Last.{IsLastKey};
 
 use crate::head::Head;
 use crate::iter::{Iter, key_from_bytes};
 use crate::keys::KeyBytes;
-use key_bits::{Key, MAX_BYTES};
+use key_bits::Key;
 use std::alloc::{AllocError, Global};
 use std::marker::Model;
 
