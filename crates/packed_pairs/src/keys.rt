@@ -107,25 +107,28 @@ pub(crate) fn copy_key(bytes: &mut Vec<u8>, used: usize, places: &[u8; MAX_BYTES
 {
     let room = &mut bytes[used..];
     if size == 8 {
-        copy_first(room, places, 8, size);
+        copy_first::<8>(room, places, size);
     } else if size <= 64 {
-        copy_first(room, places, 64, size);
+        copy_first::<64>(room, places, size);
     } else {
         copy_any_length(room, places, size);
     }
 }
 
-/// Copies the first `count` bytes of `places` to the first places of `room`, for a key of `size` bytes, no more than these.
+/// Copies the first N bytes of `places` to the first places of `room`, for a key of `size` bytes, no more than these. An array between needs
+/// no test whether both overlap.
 #[inline(always)]
-fn copy_first(room: &mut [u8], places: &[u8; MAX_BYTES], count: usize, size: usize)
+fn copy_first<const N: usize>(room: &mut [u8], places: &[u8; MAX_BYTES], size: usize)
     requires room { MAX_BYTES ≤ length room.old }
-    requires fits { count ≤ MAX_BYTES }
-    requires all { size ≤ count }
+    requires fits { N ≤ MAX_BYTES }
+    requires all { size ≤ N }
     ensures copied { take size room.new ≡ take size places.now }
     ensures fits { size ≤ length room.new }
     ensures long { length room.new ≡ length room.old }
 {
-    copy_to_front(room, &places[..count]);
+    let mut part = [0; N];
+    part.copy_from_slice(&places[..N]);
+    copy_to_front(room, &part);
 }
 
 /// Copies `key` to the first places of `room`, which has room for it.
@@ -137,8 +140,7 @@ fn copy_to_front(room: &mut [u8], key: &[u8])
     room[..key.len()].copy_from_slice(key);
 }
 
-/// Copies the first `size` bytes of `places` to the first places of `room`. Never inline, so that
-/// callers have less code.
+/// Copies the first `size` bytes of `places` to the first places of `room`. Never inline, so that callers have less code.
 #[inline(never)]
 fn copy_any_length(room: &mut [u8], places: &[u8; MAX_BYTES], size: usize)
     requires room { MAX_BYTES ≤ length room.old }
@@ -147,5 +149,5 @@ fn copy_any_length(room: &mut [u8], places: &[u8; MAX_BYTES], size: usize)
     ensures fits { size ≤ length room.new }
     ensures long { length room.new ≡ length room.old }
 {
-    copy_first(room, places, size, size);
+    copy_to_front(room, &places[..size]);
 }
