@@ -31,3 +31,6 @@ module _ (layout other : Layout) (same : other ≡ layout) where
 
   pub word_there : (n offset : ℕ) (at : RecordAt) → at.rec ≡ a_leaf n → offset < leaf_size other n → HasWord layout at.rec offset
   word_there n offset at is low = subst (λ r. HasWord layout r offset) (sym is) (subst (λ l. offset < leaf_size l n) same low)
+
+  pub begins_there : (n start : ℕ) → IsStartOf other (a_leaf n) start → IsStartOf layout (a_leaf n) start
+  begins_there n start is = subst (λ l. IsStartOf l (a_leaf n) start) same is

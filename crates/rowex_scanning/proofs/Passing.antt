@@ -1,5 +1,5 @@
 -- What a walk has seen at the places that come next, and what it comes to behind their leaves.
-use Rattle.std.proofs.Common.{◌≡◌, ℕ, ◌+◌, ◌<◌, ◌≤◌, List, length, Bool, true, false, get_or, set, take, ap, sym, subst, arith, ⊎_elim}
+use Rattle.std.proofs.Common.{◌≡◌, ℕ, ◌+◌, ◌<◌, ◌≤◌, List, length, Bool, true, false, get_or, set, take, ap, sym, ◌∙◌, subst, arith, ⊎_elim}
 use Rattle.std.proofs.lemmas.Bool.{cases_lt}
 use Rattle.std.proofs.lemmas.List.{get_or-set_other, get_or-take, length-take-le}
 use Rattle.std.proofs.lemmas.Grind.{get_or-set_at}
@@ -8,12 +8,14 @@ use Rattle.compound_node.specs.declared.entries.Entry.{Entry}
 use Rattle.compound_node.specs.declared.entries.Entry.TheVariants.{Leaf, Node}
 use Rattle.insert_cases.specs.declared.choice.PathNode.{PathNode}
 use Rattle.record_words.specs.declared.layout.Layout.{Layout}
+use Rattle.record_words.specs.declared.records.Rec.TheVariants.{Leaf as a_leaf}
 use Rattle.rowex_core.specs.declared.known.Known.{Known}
 use Rattle.rowex_table.specs.Made.{IsLater}
+use Rattle.rowex_table.specs.Rule.{IsStartOf}
 use Rattle.version_laws.specs.Scan.{Range, EntryStoodSince, IsPlaced}
 use Rattle.rowex_reading.specs.Seen.{HasPlace, HasMorePlaces, IsLedTo, Sure, since}
 use Rattle.rowex_reading.proofs.Seeing.{placed_stable, room_stable, seen_stable, since_later, sure_later}
-use Rattle.rowex_scanning.specs.Ahead.{AreAhead, AreNext, AreTaken, HasPlaces, HavePassed, IsNodeAhead}
+use Rattle.rowex_scanning.specs.Ahead.{AreAhead, AreNext, AreStarts, AreStartsOf, AreTaken, HasPlaces, HavePassed, IsNodeAhead}
 use Rattle.version_laws.specs.Directions.{first_key, gap_after, gap_before, gap_behind, place_ahead, to_come}
 use Rattle.rowex_scanning.specs.Scanning.{IsBound, IsLeafTaken, IsReached, IsWalk, Request}
 use Rattle.rowex_scanning.specs.Tallies.{IsKept, Tally}
@@ -61,6 +63,26 @@ module _ (d : Direction) (m : ℕ) (top : PathNode) where
       (λ (more : i ≤ o). let is : o ≡ i = omega (arith, more, low) in
       subst (λ z. Sure k (λ s. IsPlaced s m top.number (place_ahead d top.slot o) (Leaf z))) (sym (get_or-set_at leaves i o n 0 is room)) (subst (λ z. Sure k (λ s. IsPlaced s m top.number (place_ahead d top.slot z) (Leaf n))) (sym is) placed))
       (cases_lt o i)
+
+-- Where the records of leaves begin: one more, and the first of them with no others.
+module _ (layout : Layout) where
+  pub starts_more : (i : ℕ) (leaves starts : List ℕ) (n start : ℕ) → AreStartsOf layout i leaves starts → i < length leaves → i < length starts → IsStartOf layout (a_leaf n) start → AreStartsOf layout (i + 1) (set leaves i n) (set starts i start)
+  starts_more i leaves starts n start are room wide begins o low = ⊎_elim
+      (λ (less : o < i). subst (λ z. IsStartOf layout (a_leaf z) (get_or (set starts i start) o 0)) (sym (get_or-set_other leaves i o n 0 (omega arith)))
+      (subst (λ z. IsStartOf layout (a_leaf (get_or leaves o 0)) z) (sym (get_or-set_other starts i o start 0 (omega arith))) (are o less)))
+      (λ (more : i ≤ o). let is : o ≡ i = omega (arith, more, low) in
+      subst (λ z. IsStartOf layout (a_leaf z) (get_or (set starts i start) o 0)) (sym (get_or-set_at leaves i o n 0 is room))
+      (subst (λ z. IsStartOf layout (a_leaf n) z) (sym (get_or-set_at starts i o start 0 is wide)) begins))
+      (cases_lt o i)
+
+  pub starts_first : (count : ℕ) (leaves starts : List ℕ) → count ≤ length leaves → count ≤ length starts → AreStartsOf layout count leaves starts → AreStarts layout (take count leaves) (take count starts)
+  starts_first count leaves starts fits wide are =
+      let long = length-take-le count leaves fits in let more = length-take-le count starts wide in (
+        more ∙ sym long,
+        λ i low. let less : i < count = omega (arith, long, low) in
+            subst (λ z. IsStartOf layout (a_leaf z) (get_or (take count starts) i 0)) (sym (get_or-take count leaves i 0 less))
+            (subst (λ z. IsStartOf layout (a_leaf (get_or leaves i 0)) z) (sym (get_or-take count starts i 0 less)) (are i less)),
+      )
 
 -- Before any leaf.
 pub passed_none : {d : Direction} {k : Known} {m : ℕ} {g : Range} {top : PathNode} {frames : List PathNode} {t : Tally} → IsWalk k m (d, g) top frames t → IsBound d k m (first_key d g) top frames → HavePassed k m (d, g) frames top t.size 0 t

@@ -2,9 +2,12 @@
 use Rattle.std.specs.Prelude.{◌≡◌, ℕ, ◌+◌, ◌<◌, ◌≤◌, List, length, slice_index, Bool, IfSome, option_to_list, false, true}
 use Rattle.compound_node.specs.declared.entries.Entry.TheVariants.{Leaf, Node}
 use Rattle.insert_cases.specs.declared.choice.PathNode.{PathNode}
+use Rattle.record_words.specs.declared.layout.Layout.{Layout}
+use Rattle.record_words.specs.declared.records.Rec.TheVariants.{Leaf as a_leaf}
 use Rattle.rowex_core.specs.declared.known.Known.{Known}
 use Rattle.tries.specs.Keys.{Key}
 use Rattle.rowex_core.specs.Knowing.{IsPinnedSince}
+use Rattle.rowex_table.specs.Rule.{IsStartOf}
 use Rattle.version_laws.specs.Scan.{Range, IsInRange, IsPlaced, IsRead}
 use Rattle.rowex_reading.specs.Seen.{HasPlace, Sure, since}
 use Rattle.version_laws.specs.Directions.{IsEarlier, IsNoLater, IsPastKey, first_key, gap_after, last_key, place_ahead, to_come}
@@ -30,6 +33,14 @@ AreAhead d k m top count leaves = (i : ℕ) → i < count → Sure k (λ s. IsPl
 -- and this node, which is lower, behind so many of them
 abbrev pub IsNodeAhead : Direction → Known → ℕ → PathNode → ℕ → ℕ → Type 0
 IsNodeAhead d k m top count n = (h : ℕ) × (h < top.height) × Sure k (λ s. IsPlaced s m top.number (place_ahead d top.slot count) (Node n h))
+
+-- The records of the first of these leaves, so many, begin at these words,
+abbrev pub AreStartsOf : Layout → ℕ → List ℕ → List ℕ → Type 0
+AreStartsOf layout count leaves starts = (i : ℕ) → i < count → IsStartOf layout (a_leaf (slice_index leaves i)) (slice_index starts i)
+
+-- or those of all.
+abbrev pub AreStarts : Layout → List ℕ → List ℕ → Type 0
+AreStarts layout leaves starts = (length starts ≡ length leaves) × AreStartsOf layout (length leaves) leaves starts
 
 -- The entries at the next places were those of the first leaves, so many, and then of the node, if there is one.
 pub record HasSeenAhead (d : Direction) (k : Known) (m : ℕ) (top : PathNode) (a : Ahead) : Type 0 where

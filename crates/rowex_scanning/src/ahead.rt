@@ -1,27 +1,29 @@
 //! What a walk looks at ahead of its place: so the lines of several leaves come side by side.
 
-ghost use Rattle.std.specs.Prelude.{◌≡◌, ◌+◌, ◌<◌, ◌≤◌, ℕ, length, slice_index};
+ghost use Rattle.std.specs.Prelude.{◌≡◌, ◌+◌, ◌<◌, ◌≤◌, ℕ, length};
 ghost use Rattle.rowex_reading.specs.Reads.{IsReader, Reads};
-ghost use Rattle.rowex_scanning.specs.Ahead.{HasPlaces, HasSeenAhead, entries_ahead};
-ghost use Rattle.rowex_core.specs.Cores.{HasRecord};
+ghost use Rattle.rowex_scanning.specs.Ahead.{AreStartsOf, HasPlaces, HasSeenAhead, entries_ahead};
+ghost use Rattle.rowex_table.specs.Rule.{IsLeafRecordAt};
 ghost use Rattle.version_laws.specs.Directions.{to_come as to_come_of};
-ghost use Rattle.record_words.specs.declared.records.Rec.TheVariants.{Leaf as a_leaf};
 
 use crate::direction::{entries_to_come, slot_ahead};
 use crate::scan::Scan;
 use crate::sinks::Tallies;
 use compound_node::Entry;
 use insert_cases::PathNode;
-use record_words::{Origins, VALUE_OFFSET};
+use record_words::{CACHE_LINE_WORDS, VALUE_OFFSET};
 use rowex_core::{Gate, Rec};
 use rowex_reading::load_entry;
-use rowex_table::{HotTable, RecordAt, TableSeat};
+use rowex_table::{RecordAt, TableSeat};
 
 /// How many slots of a node a walk looks at together, at most.
 pub(crate) const MOST_AHEAD: u8 = 16;
 
 /// If an index has fewer leaf records, a walk touches none of them: they are in a processor's cache mostly.
 const LEAST_LEAVES: u32 = 32_768;
+
+/// The word of a leaf that is touched behind its value: the last one, or this one, a line further, if it comes before.
+const NEXT_LINE: usize = VALUE_OFFSET as usize + CACHE_LINE_WORDS;
 
 /// If the limit leaves fewer pairs, a walk looks at one slot at a time.
 const LEAST_PAIRS: usize = 4;
@@ -58,7 +60,8 @@ fn most_slots(limit: usize, taken: usize) -> u8
 
 /// Loads the entries in the next slots of the node `top`, in the scan's direction, up to the first that leads to a node. It looks at
 /// [`most_slots`] slots, or fewer if fewer are to come, but one at least. The leaves' numbers go to the first of `leaves`. Returns how many
-/// leaves these are, and that node, if there is one. `sink` has the pairs so far.
+/// leaves these are, and that node, if there is one. Where the leaves' records begin goes to the first of `starts`. `sink` has the pairs so
+/// far.
 #[inline(always)]
 pub(crate) fn load_entries_ahead<G: Gate, S: Tallies>(
     scan: &Scan,
@@ -66,6 +69,7 @@ pub(crate) fn load_entries_ahead<G: Gate, S: Tallies>(
     gate: &mut G,
     top: &PathNode,
     sink: &S,
+    starts: &mut [usize; MOST_AHEAD as usize],
 ) -> Ahead
     requires reader { IsReader scan.now.table.now seat.old }
     requires origins { scan.now.origins.now.layout ≡ scan.now.table.now.layout }
@@ -78,6 +82,8 @@ pub(crate) fn load_entries_ahead<G: Gate, S: Tallies>(
     ensures some { 0 < entries_ahead result }
     ensures come { entries_ahead result ≤ to_come_of scan.now.range.now.direction top.now.count top.now.slot }
     ensures most { (result.count ≤ MOST_AHEAD) × (length result.leaves ≡ MOST_AHEAD) }
+    ensures wide { length starts.new ≡ MOST_AHEAD }
+    ensures starts { AreStartsOf scan.now.table.now.layout result.count result.leaves starts.new }
     ensures few { (S.tally sink.now).size + entries_ahead result ≤ scan.now.range.now.limit + 1 }
     ensures ahead { (m : ℕ) → HasPlaces scan.now.range.now.direction seat.old.known m top.now →
         HasSeenAhead scan.now.range.now.direction seat.new.known m top.now result }
@@ -101,6 +107,9 @@ pub(crate) fn load_entries_ahead<G: Gate, S: Tallies>(
                 };
             }
             Entry::Leaf(number) => {
+                let leaf = RecordAt::find(scan.origins, Rec::Leaf(number));
+                sink.touch_leaf(scan, leaf);
+                starts[index as usize] = leaf.start;
                 leaves[index as usize] = number;
             }
         }
@@ -112,34 +121,17 @@ pub(crate) fn load_entries_ahead<G: Gate, S: Tallies>(
     }
 }
 
-/// Asks for the cache lines of `leaves`, which are read next, so that they come side by side.
-///
-/// It asks for none where they are there anyway: for one leaf, in an index of few, or where they lie side by side and so come by themselves.
+/// Asks for the first cache lines of `leaf`, which is read soon, so that those of several leaves come side by side. In an index of few leaves
+/// it asks for none, since they are there mostly.
 #[inline(always)]
-pub(crate) fn touch_leaves(scan: &Scan, leaves: &[u32])
+pub(crate) fn touch_leaf(scan: &Scan, leaf: RecordAt)
     requires origins { scan.now.origins.now.layout ≡ scan.now.table.now.layout }
-    requires records { (i : ℕ) → i < length leaves.now → HasRecord scan.now.table.now.layout (a_leaf (slice_index leaves.now i)) }
+    requires leaf { IsLeafRecordAt scan.now.table.now.layout leaf }
 {
-    let count = leaves.len();
-    if count < 2 || scan.origins.layout.leaves < LEAST_LEAVES {
+    if scan.origins.layout.leaves < LEAST_LEAVES {
         return;
     }
-    if leaves[count - 1].abs_diff(leaves[0]) < u32::from(MOST_AHEAD) {
-        return;
-    }
-    for index in 0..count {
-        touch_leaf(scan.table, scan.origins, leaves[index]);
-    }
-}
-
-/// Asks for the first and the last cache line of the record of leaf `number`. `origins` are those of `table`.
-#[inline(always)]
-fn touch_leaf(table: &HotTable, origins: &Origins, number: u32)
-    requires range { HasRecord table.now.layout (a_leaf number) }
-    requires origins { origins.now.layout ≡ table.now.layout }
-{
-    let leaf = RecordAt::find(origins, Rec::Leaf(number));
-    let last = origins.layout.leaf_size(number) - 1;
-    table.touch(leaf, VALUE_OFFSET);
-    table.touch(leaf, last as u8);
+    let last = scan.origins.layout.leaf_size(leaf.number()) - 1;
+    scan.table.touch(leaf, VALUE_OFFSET);
+    scan.table.touch(leaf, last.min(NEXT_LINE) as u8);
 }

@@ -23,7 +23,7 @@ use insert_cases::PathNode;
 use key_bits::MAX_BYTES;
 use rowex_core::Gate;
 use rowex_reading::MOST_NODES;
-use rowex_table::{HotTable, TableSeat};
+use rowex_table::{HotTable, RecordAt, TableSeat};
 use std::alloc::AllocError;
 
 /// How many pairs a walk has taken, and nothing else of them.
@@ -41,6 +41,9 @@ impl Tallies for Number {
     ghost room = { λ number. 2 ^ 64 - 1 - number.count };
 
     ghost may_refuse = { ⊥ };
+
+    #[inline(always)]
+    fn touch_leaf(&self, _scan: &Scan, _leaf: RecordAt) {}
 
     #[inline(always)]
     fn reset(&mut self) {
@@ -71,6 +74,7 @@ impl Sink for Number {
         seat: &mut TableSeat,
         gate: &mut G,
         leaves: &[u32],
+        _starts: &[usize],
         places: &mut Places,
     ) -> Result<Verdict, AllocError> {
         let within = count_leaves_within(scan, seat, gate, leaves, &mut places.next);

@@ -36,12 +36,12 @@ pub(crate) struct Scan<'a> {
     pub range: &'a Range<'a>,
 }
 
-/// Room for the bytes of two keys.
+/// Room for what is read of leaves that come together.
 #[derive(Drop)]
 pub(crate) struct Places {
-    /// Of the last leaf of a group, which is read first.
+    /// For the key of the last one, which is read first.
     pub last: [u8; MAX_BYTES],
-    /// Of one of the others.
+    /// For the key of one of the others.
     pub next: [u8; MAX_BYTES],
 }
 

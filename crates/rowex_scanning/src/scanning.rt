@@ -15,7 +15,7 @@ ghost use Rattle.rowex_scanning.specs.Scanning.{HasScanned, HasScannedPart, HasT
 ghost use Rattle.rowex_scanning.specs.Scanning.{IsEntered, IsWalkAlong, asked_range, first_key_of, request_of};
 ghost use Rattle.rowex_scanning.specs.Tallies.{IsNone, tally_of_values};
 
-use crate::ahead::load_entries_ahead;
+use crate::ahead::{MOST_AHEAD, load_entries_ahead};
 use crate::direction::{
     entries_to_come, first_gap, gap_after_entries, gap_behind_slot, is_earlier_key, is_key_before,
     slot_ahead,
@@ -28,9 +28,9 @@ use bounded_vec::BoundedVec;
 use insert_cases::PathNode;
 use key_bits::MAX_BYTES;
 use packed_pairs::{Direction, Filling, Pairs};
-use rowex_core::Gate;
+use rowex_core::{Gate, Rec};
 use rowex_reading::{Found, MOST_NODES, load_path_node, load_root, search_way};
-use rowex_table::{HotTable, TableSeat};
+use rowex_table::{HotTable, RecordAt, TableSeat};
 use std::alloc::AllocError;
 
 /// Lists the first pairs of `range` in its direction, `range.limit` at most, in place of those in `pairs`. Returns whether there is a
@@ -192,7 +192,8 @@ fn scan_node<G: Gate, S: Sink>(
     way.truncate(start.level);
     if start.leaf {
         let places = &mut [0; MAX_BYTES];
-        match take_leaf(scan, seat, gate, found.number, places, sink)? {
+        let leaf = RecordAt::find(scan.origins, Rec::Leaf(found.number));
+        match take_leaf(scan, seat, gate, found.number, leaf.start, places, sink)? {
             Verdict::Further => top.slot = gap_behind_slot(direction, top.slot),
             Verdict::Past => return Ok(false),
             Verdict::Full => return Ok(true),
@@ -228,14 +229,16 @@ fn walk_slots<G: Gate, S: Sink>(
         last: [0; MAX_BYTES],
         next: [0; MAX_BYTES],
     };
+    let mut starts = [0; MOST_AHEAD as usize];
     let Some(mut top) = way.pop() else {
         return Ok(false);
     };
     loop {
         if entries_to_come(direction, &top) > 0 {
-            let ahead = load_entries_ahead(scan, seat, gate, &top, sink);
-            let next = &ahead.leaves[..ahead.count as usize];
-            match sink.take_leaves(scan, seat, gate, next, places)? {
+            let ahead = load_entries_ahead(scan, seat, gate, &top, sink, &mut starts);
+            let count = ahead.count as usize;
+            let (next, starts) = (&ahead.leaves[..count], &starts[..count]);
+            match sink.take_leaves(scan, seat, gate, next, starts, places)? {
                 Verdict::Further => (),
                 Verdict::Past => return Ok(false),
                 Verdict::Full => return Ok(true),

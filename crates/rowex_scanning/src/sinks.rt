@@ -6,16 +6,18 @@ ghost use Rattle.key_bits.specs.Key.{IsKey};
 ghost use Rattle.key_bits.specs.declared.TheConstants.{MAX_BYTES};
 ghost use Rattle.record_words.specs.declared.TheConstants.{LEAF_FIELDS};
 ghost use Rattle.rowex_reading.specs.Reads.{IsReader, Reads};
-ghost use Rattle.rowex_scanning.specs.Ahead.{AreNext, AreTakenOnWays};
+ghost use Rattle.rowex_scanning.specs.Ahead.{AreNext, AreStarts, AreTakenOnWays};
 ghost use Rattle.rowex_scanning.specs.Scanning.{HasTakenPart, asked_range, request_of};
 ghost use Rattle.rowex_scanning.specs.Tallies.{IsKept, IsNone, IsOneMore};
+ghost use Rattle.rowex_table.specs.Rule.{IsLeafRecordAt};
 
+use crate::ahead::touch_leaf;
 use crate::scan::{Places, Scan, Verdict};
 use crate::taking::take_each_leaf;
 use key_bits::MAX_BYTES;
 use packed_pairs::Filling;
 use rowex_core::Gate;
-use rowex_table::TableSeat;
+use rowex_table::{RecordAt, TableSeat};
 use std::alloc::AllocError;
 
 /// What is kept of pairs that are taken one by one.
@@ -31,6 +33,15 @@ pub(crate) trait Tallies {
 
     /// Whether memory may be refused for a pair.
     ghost may_refuse: { Type 0 };
+
+    /// Asks for the cache lines of `leaf`, which comes next on the walk. A sink that doesn't read each leaf asks for none.
+    #[inline(always)]
+    fn touch_leaf(&self, scan: &Scan, leaf: RecordAt)
+        requires origins { scan.now.origins.now.layout ≡ scan.now.table.now.layout }
+        requires leaf { IsLeafRecordAt scan.now.table.now.layout leaf }
+    {
+        touch_leaf(scan, leaf);
+    }
 
     /// Drops what it has.
     fn reset(&mut self)
@@ -62,18 +73,21 @@ pub(crate) trait Tallies {
 pub(crate) trait Sink: Tallies {
     /// Takes the pairs of `leaves`, which come next on the walk, and returns `Further`. At a leaf past the range it stops and returns
     /// `Past`; at one of the range for which the limit leaves no room, `Full`. An error if memory is refused; the pairs before it stay.
-    /// The limit leaves room for all leaves but one at least. `places` is room for keys, and `gate` is told of each load.
+    /// The limit leaves room for all leaves but one at least. Their records begin at `starts`. `places` is room for keys, and `gate` is
+    /// told of each load.
     fn take_leaves<G: Gate>(
         &mut self,
         scan: &Scan,
         seat: &mut TableSeat,
         gate: &mut G,
         leaves: &[u32],
+        starts: &[usize],
         places: &mut Places,
     ) -> Result<Verdict, AllocError>
         requires reader { IsReader scan.now.table.now seat.old }
         requires origins { scan.now.origins.now.layout ≡ scan.now.table.now.layout }
         requires next { (top : PathNode) × (frames : List PathNode) × AreNext seat.old.known (request_of scan.now.range.now) top frames (Self.tally self.old) leaves.now }
+        requires starts { AreStarts scan.now.table.now.layout leaves.now starts.now }
         requires few { (Self.tally self.old).size + length leaves.now ≤ scan.now.range.now.limit + 1 }
         ensures reads { (n : ℕ) × (n ≤ LEAF_FIELDS * length leaves.now) × Reads scan.now.table.now G.becomes 0 n (seat.old, gate.old) (seat.new, gate.new) }
         ensures taken { IfOk result (AreTakenOnWays seat.old.known seat.new.known (request_of scan.now.range.now) (Self.tally self.old) leaves.now
@@ -81,7 +95,7 @@ pub(crate) trait Sink: Tallies {
         ensures part { OnErr result (HasTakenPart scan.now.range.now.direction seat.new.known (asked_range scan.now.range.now) (Self.tally self.new)) }
         ensures refused { OnErr result Self.may_refuse }
     {
-        take_each_leaf(scan, seat, gate, leaves, places, self)
+        take_each_leaf(scan, seat, gate, leaves, starts, places, self)
     }
 }
 

@@ -8,12 +8,13 @@ ghost use Rattle.key_bits.specs.declared.TheConstants.{MAX_BYTES};
 ghost use Rattle.record_words.specs.declared.TheConstants.{LEAF_FIELDS};
 ghost use Rattle.rowex_reading.specs.Reads.{IsReader, Reads};
 ghost use Rattle.rowex_reading.specs.Seen.{IsLedTo, Sure, since};
-ghost use Rattle.rowex_scanning.specs.Ahead.{AreNext, AreTakenOnWays, HavePassed, IsLeafNotPast};
+ghost use Rattle.rowex_scanning.specs.Ahead.{AreNext, AreStarts, AreTakenOnWays, HavePassed, IsLeafNotPast};
 ghost use Rattle.rowex_scanning.specs.Scanning.{HasTakenPart, IsLeafRefused, IsLeafTaken, IsPairRefused, IsPairTaken, IsReached, asked_range, first_key_of, request_of};
+ghost use Rattle.record_words.specs.declared.records.Rec.TheVariants.{Leaf as a_leaf};
+ghost use Rattle.rowex_table.specs.Rule.{IsStartOf};
 ghost use Rattle.version_laws.specs.Directions.{IsNoLater};
 ghost use Rattle.version_laws.specs.Scan.{IsRead};
 
-use crate::ahead::touch_leaves;
 use crate::scan::{Places, Range, Scan, Verdict, is_past_range};
 use crate::sinks::Tallies;
 use key_bits::MAX_BYTES;
@@ -22,7 +23,7 @@ use rowex_reading::load_leaf;
 use rowex_table::{RecordAt, TableSeat};
 use std::alloc::AllocError;
 
-/// Takes the pairs of `leaves`, as `Sink::take_leaves` says. It touches them before.
+/// Takes the pairs of `leaves`, whose records begin at `starts`, as `Sink::take_leaves` says.
 ///
 /// The last leaf is read first. Keys rise with the walk, or fall: where its key is not past the range, no other is, and none of them is
 /// compared. Only leaves of which the last is past go one by one.
@@ -32,35 +33,43 @@ pub(crate) fn take_each_leaf<G: Gate, S: Tallies>(
     seat: &mut TableSeat,
     gate: &mut G,
     leaves: &[u32],
+    starts: &[usize],
     places: &mut Places,
     sink: &mut S,
 ) -> Result<Verdict, AllocError>
     requires reader { IsReader scan.now.table.now seat.old }
     requires origins { scan.now.origins.now.layout ≡ scan.now.table.now.layout }
     requires next { (top : PathNode) × (frames : List PathNode) × AreNext seat.old.known (request_of scan.now.range.now) top frames (S.tally sink.old) leaves.now }
+    requires starts { AreStarts scan.now.table.now.layout leaves.now starts.now }
     requires few { (S.tally sink.old).size + length leaves.now ≤ scan.now.range.now.limit + 1 }
     ensures reads { (n : ℕ) × (n ≤ LEAF_FIELDS * length leaves.now) × Reads scan.now.table.now G.becomes 0 n (seat.old, gate.old) (seat.new, gate.new) }
     ensures taken { IfOk result (AreTakenOnWays seat.old.known seat.new.known (request_of scan.now.range.now) (S.tally sink.old) leaves.now (S.tally sink.new)) }
     ensures part { OnErr result (HasTakenPart scan.now.range.now.direction seat.new.known (asked_range scan.now.range.now) (S.tally sink.new)) }
     ensures refused { OnErr result S.may_refuse }
 {
-    touch_leaves(scan, leaves);
     let count = leaves.len();
     if count == 0 {
         return Ok(Verdict::Further);
     }
     let others = count - 1;
-    let (length, value) = load_scanned_leaf(scan, seat, gate, leaves[others], &mut places.last);
+    let (length, value) = load_leaf_at(
+        scan,
+        seat,
+        gate,
+        leaves[others],
+        starts[others],
+        &mut places.last,
+    );
     if is_past_range(scan.range, &places.last[..length]) {
-        let next = &leaves[..others];
-        return match take_leaves_to_end(scan, seat, gate, next, &mut places.next, sink)? {
+        let (next, starts) = (&leaves[..others], &starts[..others]);
+        return match take_leaves_to_end(scan, seat, gate, next, starts, &mut places.next, sink)? {
             Verdict::Full => Ok(Verdict::Full),
             Verdict::Further | Verdict::Past => Ok(Verdict::Past),
         };
     }
     let room = scan.range.limit - sink.size();
     sink.make_room(count.min(room))?;
-    take_leaves_before_last(scan, seat, gate, leaves, &mut places.next, sink);
+    take_leaves_before_last(scan, seat, gate, leaves, starts, &mut places.next, sink);
     if room < count {
         return Ok(Verdict::Full);
     }
@@ -76,12 +85,14 @@ fn take_leaves_before_last<G: Gate, S: Tallies>(
     seat: &mut TableSeat,
     gate: &mut G,
     leaves: &[u32],
+    starts: &[usize],
     places: &mut [u8; MAX_BYTES],
     sink: &mut S,
 )
     requires reader { IsReader scan.now.table.now seat.old }
     requires origins { scan.now.origins.now.layout ≡ scan.now.table.now.layout }
     requires next { (top : PathNode) × (frames : List PathNode) × AreNext seat.old.known (request_of scan.now.range.now) top frames (S.tally sink.old) leaves.now }
+    requires starts { AreStarts scan.now.table.now.layout leaves.now starts.now }
     requires some { 0 < length leaves.now }
     requires last { IsLeafNotPast seat.old.known (since seat.old.known) (request_of scan.now.range.now) (slice_index leaves.now (length leaves.now - 1)) }
     requires few { (S.tally sink.old).size + (length leaves.now - 1) ≤ scan.now.range.now.limit }
@@ -93,7 +104,7 @@ fn take_leaves_before_last<G: Gate, S: Tallies>(
 {
     let others = leaves.len() - 1;
     for index in 0..others {
-        let (length, value) = load_scanned_leaf(scan, seat, gate, leaves[index], places);
+        let (length, value) = load_leaf_at(scan, seat, gate, leaves[index], starts[index], places);
         sink.take_pair(places, length, value);
     }
 }
@@ -105,19 +116,21 @@ fn take_leaves_to_end<G: Gate, S: Tallies>(
     seat: &mut TableSeat,
     gate: &mut G,
     leaves: &[u32],
+    starts: &[usize],
     places: &mut [u8; MAX_BYTES],
     sink: &mut S,
 ) -> Result<Verdict, AllocError>
     requires reader { IsReader scan.now.table.now seat.old }
     requires origins { scan.now.origins.now.layout ≡ scan.now.table.now.layout }
     requires next { (top : PathNode) × (frames : List PathNode) × AreNext seat.old.known (request_of scan.now.range.now) top frames (S.tally sink.old) leaves.now }
+    requires starts { AreStarts scan.now.table.now.layout leaves.now starts.now }
     ensures reads { (n : ℕ) × (n ≤ LEAF_FIELDS * length leaves.now) × Reads scan.now.table.now G.becomes 0 n (seat.old, gate.old) (seat.new, gate.new) }
     ensures taken { IfOk result (AreTakenOnWays seat.old.known seat.new.known (request_of scan.now.range.now) (S.tally sink.old) leaves.now (S.tally sink.new)) }
     ensures part { OnErr result (HasTakenPart scan.now.range.now.direction seat.new.known (asked_range scan.now.range.now) (S.tally sink.new)) }
     ensures refused { OnErr result S.may_refuse }
 {
     for index in 0..leaves.len() {
-        match take_leaf(scan, seat, gate, leaves[index], places, sink)? {
+        match take_leaf(scan, seat, gate, leaves[index], starts[index], places, sink)? {
             Verdict::Further => (),
             Verdict::Past => return Ok(Verdict::Past),
             Verdict::Full => return Ok(Verdict::Full),
@@ -144,31 +157,56 @@ pub(crate) fn load_scanned_leaf<G: Gate>(
     ensures leaf { (m : ℕ) → IsLedTo seat.old.known m (LeafEntry number) → Sure seat.new.known (λ s. IsRead s m number (take result.0 places.new) result.1) }
 {
     let leaf = RecordAt::find(scan.origins, Rec::Leaf(number));
+    load_leaf_at(scan, seat, gate, number, leaf.start, places)
+}
+
+/// Does what [`load_scanned_leaf`] does for leaf `number`, whose record begins at the word `start`.
+#[inline(always)]
+fn load_leaf_at<G: Gate>(
+    scan: &Scan,
+    seat: &mut TableSeat,
+    gate: &mut G,
+    number: u32,
+    start: usize,
+    places: &mut [u8; MAX_BYTES],
+) -> (usize, u64)
+    requires reader { IsReader scan.now.table.now seat.old }
+    requires led { (m : ℕ) × IsLedTo seat.old.known m (LeafEntry number) }
+    requires start { IsStartOf scan.now.table.now.layout (a_leaf number) start }
+    ensures reads { (n : ℕ) × (n ≤ LEAF_FIELDS) × Reads scan.now.table.now G.becomes 0 n (seat.old, gate.old) (seat.new, gate.new) }
+    ensures key { IsKey (take result.0 places.new) × (result.0 ≤ MAX_BYTES) }
+    ensures leaf { (m : ℕ) → IsLedTo seat.old.known m (LeafEntry number) → Sure seat.new.known (λ s. IsRead s m number (take result.0 places.new) result.1) }
+{
+    let leaf = RecordAt {
+        rec: Rec::Leaf(number),
+        start,
+    };
     load_leaf(scan.table, seat, gate, leaf, places)
 }
 
-/// Loads leaf `number`, whose key does not come before `scan.range`, and gives its pair to `sink`, as [`take_pair_in_range`] does. Returns
-/// what becomes of the scan. An error if memory is refused. `places` is room for the key's bytes.
+/// Loads leaf `number`, whose record begins at the word `start`, and gives its pair to `sink`, as [`take_pair_in_range`] does. Its key does
+/// not come before `scan.range`. Returns what becomes of the scan. An error if memory is refused. `places` is room for the key's bytes.
 #[inline(always)]
 pub(crate) fn take_leaf<G: Gate, S: Tallies>(
     scan: &Scan,
     seat: &mut TableSeat,
     gate: &mut G,
     number: u32,
+    start: usize,
     places: &mut [u8; MAX_BYTES],
     sink: &mut S,
 ) -> Result<Verdict, AllocError>
     requires reader { IsReader scan.now.table.now seat.old }
-    requires origins { scan.now.origins.now.layout ≡ scan.now.table.now.layout }
     requires leaf { (m : ℕ) × IsLedTo seat.old.known m (LeafEntry number) ×
         IsReached scan.now.range.now.direction scan.now.table.now.layout seat.old.known m (first_key_of scan.now.range.now) number }
+    requires start { IsStartOf scan.now.table.now.layout (a_leaf number) start }
     requires few { (S.tally sink.old).size ≤ scan.now.range.now.limit }
     ensures reads { (n : ℕ) × (n ≤ LEAF_FIELDS) × Reads scan.now.table.now G.becomes 0 n (seat.old, gate.old) (seat.new, gate.new) }
     ensures taken { IfOk result (IsLeafTaken seat.old.known seat.new.known (request_of scan.now.range.now) number (S.tally sink.old) (S.tally sink.new)) }
     ensures refused { OnErr result (IsLeafRefused seat.old.known seat.new.known (asked_range scan.now.range.now) number (S.tally sink.old) (S.tally sink.new)) }
     ensures may { OnErr result S.may_refuse }
 {
-    let (length, value) = load_scanned_leaf(scan, seat, gate, number, places);
+    let (length, value) = load_leaf_at(scan, seat, gate, number, start, places);
     take_pair_in_range(sink, scan.range, places, length, value)
 }
 

@@ -2,27 +2,57 @@
 use Rattle.std.proofs.Common.{ℕ, ◌+◌, ◌∙◌, arith, rules}
 use Rattle.std.proofs.lemmas.List.{length-set}
 use Rattle.compound_node.specs.declared.entries.Entry.TheVariants.{Leaf, Node}
-use Rattle.rowex_reading.specs.Seen.{HasPlace}
-use Rattle.rowex_reading.proofs.Led.{reader_then, reads_later, reads_none, reads_trans}
+use Rattle.rowex_reading.specs.Seen.{HasPlace, IsLedTo, Sure}
+use Rattle.rowex_reading.proofs.Led.{placed_led, reader_then, reads_later, reads_none, reads_trans}
 use Rattle.rowex_reading.proofs.Naming.{entry_told, node_place}
+use Rattle.rowex_reading.proofs.Seeing.{since_later}
+use Rattle.version_laws.specs.Scan.{IsPlaced}
 use Rattle.rowex_scanning.specs.Ahead.{HasPlaces}
 use Rattle.version_laws.specs.Directions.{place_ahead}
-use Rattle.rowex_scanning.proofs.Begins.{node_begins, node_there}
-use Rattle.rowex_scanning.proofs.Passing.{ahead_later, ahead_more, loaded_at, places_later}
+use Rattle.rowex_scanning.proofs.Begins.{begins_there, leaf_begins, leaf_there, node_begins, node_there}
+use Rattle.rowex_scanning.proofs.Passing.{ahead_later, ahead_more, loaded_at, places_later, starts_more}
 use Rattle.rowex_scanning.proofs.ahead.load_entries_ahead.Given as given
 use Rattle.rowex_scanning.proofs.ahead.load_entries_ahead.Goals as goal
-use Rattle.rowex_scanning.proofs.ahead.load_entries_ahead.Goals.{After-slot_ahead-slot}
+use Rattle.rowex_scanning.proofs.ahead.load_entries_ahead.Goals.{After-slot_ahead-slot, In-Leaf}
 
 -- the node has an entry at the place
 has_place : (g : given.Over) (c : After-slot_ahead-slot g) (m : ℕ) → HasPlaces c.args.scan.now.range.now.direction c.args.seat.now.known m c.args.top.now →
     HasPlace c.loop-index.seat.known m c.args.top.now.number c.args.top.now.height (place_ahead c.args.scan.now.range.now.direction c.args.top.now.slot c.loop-index.index)
 has_place g c m has = places_later c.args.scan.now.range.now.direction m c.args.top.now (reads_later c.loop-index.invariant.reads.2) has c.loop-index.index (omega (arith, c.loop-index-test.true, c.min-count.ensures, c.entries_to_come.ensures))
 
+-- The leaf that was loaded stands there, and the walk is led to it.
+leaf_there_too : (g : given.Over) (c : In-Leaf g) (m : ℕ) → HasPlaces c.args.scan.now.range.now.direction c.args.seat.now.known m c.args.top.now →
+    HasPlace c.loop-index.seat.known m c.args.top.now.number c.args.top.now.height (place_ahead c.args.scan.now.range.now.direction c.args.top.now.slot c.loop-index.index)
+leaf_there_too g c m has = places_later c.args.scan.now.range.now.direction m c.args.top.now (reads_later c.loop-index.invariant.reads.2) has c.loop-index.index (omega (arith, c.loop-index-test.true, c.min-count.ensures, c.entries_to_come.ensures))
+
+leaf_placed : (g : given.Over) (c : In-Leaf g) (m : ℕ) → HasPlaces c.args.scan.now.range.now.direction c.args.seat.now.known m c.args.top.now →
+    Sure c.load_entry.new.seat.known (λ s. IsPlaced s m c.args.top.now.number (place_ahead c.args.scan.now.range.now.direction c.args.top.now.slot c.loop-index.index) (Leaf c.in-Leaf.number))
+leaf_placed g c m has =
+    (loaded_at c.args.scan.now.range.now.direction m c.args.top.now c.loop-index.index c.slot_ahead-slot.result (Leaf c.in-Leaf.number) c.slot_ahead-slot.ensures (leaf_there_too g c m has)
+    (entry_told c.args.top.now.number c.find-node.result.rec c.find-node.ensures.rec c.loop-index.seat.known c.load_entry.new.seat.known c.slot_ahead-slot.result (Leaf c.in-Leaf.number) c.in-Leaf.ensures.entry)).1
+
+leaf_led : (g : given.Over) (c : In-Leaf g) (m : ℕ) → HasPlaces c.args.scan.now.range.now.direction c.args.seat.now.known m c.args.top.now → IsLedTo c.load_entry.new.seat.known m (Leaf c.in-Leaf.number)
+leaf_led g c m has =
+    placed_led c.args.top.now.number (place_ahead c.args.scan.now.range.now.direction c.args.top.now.slot c.loop-index.index) (Leaf c.in-Leaf.number)
+    (since_later (reads_later c.load_entry.ensures.reads) (leaf_there_too g c m has).0.0) (leaf_placed g c m has)
+
+-- So its record is the table's.
+pub find-leaf-requires : goal.find-leaf-requires
+find-leaf-requires g c =
+    let (m, has) = c.requires.places in
+    leaf_there c.args.scan.now.table.now.layout c.args.scan.now.origins.now.layout c.requires.origins c.load_entry.new.seat.known m c.in-Leaf.number (reader_then c.loop-index.invariant.reader c.load_entry.ensures.reads).1
+    (leaf_led g (goal.at.find-leaf-requires g c).In-Leaf m has)
+
+pub touch_leaf-requires-clause-leaf : goal.touch_leaf-requires-clause-leaf
+touch_leaf-requires-clause-leaf g c = leaf_begins c.args.scan.now.table.now.layout c.args.scan.now.origins.now.layout c.requires.origins c.in-Leaf.number c.find-leaf.result c.find-leaf.ensures.rec c.find-leaf.ensures.start
+
 pub loop-index-init : goal.loop-index-init
 loop-index-init g c = record {
   reader = c.requires.reader;
   reads = (0, omega arith, reads_none (c.args.seat.now, c.args.gate.now));
   long = search rules;
+  wide = search rules;
+  starts = λ i low. absurd (omega (arith, low));
   ahead = λ m has i low. absurd (omega (arith, low));
 }
 
@@ -59,8 +89,11 @@ loop-index-preserved g c =
       reader = reader_then i.reader loaded;
       reads = (n + 1, omega (arith, few), reads_trans before loaded);
       long = length-set c.loop-index.leaves c.loop-index.index c.in-Leaf.number ∙ i.long;
+      wide = length-set c.loop-index.starts c.loop-index.index c.find-leaf.result.start ∙ i.wide;
+      starts = starts_more c.args.scan.now.table.now.layout c.loop-index.index c.loop-index.leaves c.loop-index.starts c.in-Leaf.number c.find-leaf.result.start i.starts
+          (omega (arith, i.long, c.loop-index-test.true, c.min-count.ensures, c.most_slots.ensures.most)) (omega (arith, i.wide, c.loop-index-test.true, c.min-count.ensures, c.most_slots.ensures.most))
+          (begins_there c.args.scan.now.table.now.layout c.args.scan.now.origins.now.layout c.requires.origins c.in-Leaf.number c.find-leaf.result.start c.find-leaf.ensures.start);
       ahead = λ m has.
-          let place = has_place g (goal.at.loop-index-preserved g c).After-slot_ahead-slot m has in
-          let placed = (loaded_at d m top c.loop-index.index c.slot_ahead-slot.result (Leaf c.in-Leaf.number) c.slot_ahead-slot.ensures place (entry_told c.args.top.now.number c.find-node.result.rec c.find-node.ensures.rec c.loop-index.seat.known c.load_entry.new.seat.known c.slot_ahead-slot.result (Leaf c.in-Leaf.number) c.in-Leaf.ensures.entry)).1 in
+          let placed = leaf_placed g (goal.at.loop-index-preserved g c).In-Leaf m has in
           ahead_more d m top c.loop-index.index c.loop-index.leaves c.in-Leaf.number (ahead_later d m top (reads_later loaded) c.loop-index.index c.loop-index.leaves (i.ahead m has)) (omega (arith, i.long, c.loop-index-test.true, c.min-count.ensures, c.most_slots.ensures.most)) placed;
     }

@@ -1,7 +1,7 @@
--- The entries so far lead to leaves.
+-- The entries so far lead to leaves, whose records begin at the first starts.
 use Rattle.std.proofs.Common.{◌≡◌, ℕ, ◌≤◌, length}
 use Rattle.rowex_reading.specs.Reads.{IsReader, Reads}
-use Rattle.rowex_scanning.specs.Ahead.{AreAhead, HasPlaces}
+use Rattle.rowex_scanning.specs.Ahead.{AreAhead, AreStartsOf, HasPlaces}
 use Rattle.rowex_scanning.specs.declared.ahead.TheConstants.{MOST_AHEAD}
 use Rattle.rowex_scanning.proofs.ahead.load_entries_ahead.Given as goal
 
@@ -10,5 +10,7 @@ invariant-loop-index g l = record {
   reader : IsReader l.scan.table.now l.seat;
   reads : (n : ℕ) × (n ≤ l.index) × Reads l.scan.table.now g.G.Gate.becomes l.index n (l.fn.seat, l.fn.gate) (l.seat, l.gate);
   long : length l.leaves ≡ MOST_AHEAD;
+  wide : length l.starts ≡ MOST_AHEAD;
+  starts : AreStartsOf l.scan.table.now.layout l.index l.leaves l.starts;
   ahead : (m : ℕ) → HasPlaces l.scan.range.now.direction l.fn.seat.known m l.top → AreAhead l.scan.range.now.direction l.seat.known m l.top l.index l.leaves;
 }

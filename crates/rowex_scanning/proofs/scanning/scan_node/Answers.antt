@@ -8,6 +8,7 @@ use Rattle.rowex_reading.specs.Seen.{since}
 use Rattle.rowex_reading.proofs.Led.{reader_then, reads_later, reads_trans, same_since}
 use Rattle.version_laws.specs.Directions.{first_key}
 use Rattle.rowex_scanning.specs.Scanning.{asked_range}
+use Rattle.rowex_scanning.proofs.Begins.{begins_there, leaf_there}
 use Rattle.rowex_scanning.proofs.Parts.{walk_part}
 use Rattle.rowex_scanning.proofs.Starting.{HasBegun, begun}
 use Rattle.rowex_scanning.proofs.Walking.{IsAtEntry, bound_later, bound_since, entry_led, entry_low, reads_both, walk_full, walk_further, walk_past, walk_since, walks_alone, walks_behind}
@@ -35,6 +36,15 @@ find_start-start-requires-clause-way g c =
 
 pub take_leaf-requires-clause-reader : goal.take_leaf-requires-clause-reader
 take_leaf-requires-clause-reader g c = reader_then c.requires.reader c.find_start-start.ensures.reads.2
+
+pub find-leaf-requires : goal.find-leaf-requires
+find-leaf-requires g c =
+    let b = begins g (goal.at.find-leaf-requires g c).After-truncate in
+    leaf_there c.args.scan.now.table.now.layout c.args.scan.now.origins.now.layout c.requires.origins c.find_start-start.new.seat.known (since c.args.seat.now.known) c.args.found.number (reader_then c.requires.reader c.find_start-start.ensures.reads.2).1
+    (entry_led (b.entry c.if-start.true))
+
+pub take_leaf-requires-clause-start : goal.take_leaf-requires-clause-start
+take_leaf-requires-clause-start g c = begins_there c.args.scan.now.table.now.layout c.args.scan.now.origins.now.layout c.requires.origins c.args.found.number c.find-leaf.result.start c.find-leaf.ensures.start
 
 pub take_leaf-requires-clause-leaf : goal.take_leaf-requires-clause-leaf
 take_leaf-requires-clause-leaf g c =

@@ -12,7 +12,7 @@ use Rattle.rowex_scanning.specs.Counts.{Walks}
 use Rattle.version_laws.specs.Directions.{first_key, place_ahead, to_come}
 use Rattle.rowex_scanning.specs.Scanning.{HasTaken, IsBound, IsBoundWalk, asked_range, request_of}
 use Rattle.rowex_scanning.proofs.Directed.{gap_before_place}
-use Rattle.rowex_scanning.proofs.Passing.{ahead_first, node_at, node_later, taken_all}
+use Rattle.rowex_scanning.proofs.Passing.{ahead_first, node_at, node_later, starts_first, taken_all}
 use Rattle.rowex_scanning.proofs.Walking.{after_less, bound_later, bound_pop, bound_push, bound_since, entered_first, entered_number, entry_led, last_is, none_popped, paid_ahead, paid_child, paid_end, paid_first, paid_last, paid_pop, pop_less, rest_of, walk_end, walk_fits, walk_inside, walk_later, walk_places, walk_pop, walk_push, walk_push_less, walk_several, walk_short, walk_since, way_short}
 use Rattle.rowex_scanning.proofs.scanning.walk_slots.Given as given
 use Rattle.rowex_scanning.proofs.scanning.walk_slots.Goals as goal
@@ -99,6 +99,11 @@ take_leaves-requires-clause-reader g c = reader_then c.loop-seat.invariant.reade
 
 pub take_leaves-requires-clause-next : goal.take_leaves-requires-clause-next
 take_leaves-requires-clause-next g c = (c.loop-seat.top, c.loop-seat.way.items, next g (goal.at.take_leaves-requires-clause-next g c).After-load_entries_ahead-ahead)
+
+pub take_leaves-requires-clause-starts : goal.take_leaves-requires-clause-starts
+take_leaves-requires-clause-starts g c =
+    let e = c.load_entries_ahead-ahead.ensures in let (most, room) = e.most in let wide = e.wide in
+    starts_first c.args.scan.now.table.now.layout c.load_entries_ahead-ahead.result.count c.load_entries_ahead-ahead.result.leaves c.load_entries_ahead-ahead.new.starts (omega (arith, most, room)) (omega (arith, most, wide)) e.starts
 
 pub take_leaves-requires-clause-few : goal.take_leaves-requires-clause-few
 take_leaves-requires-clause-few g c =

@@ -17,16 +17,19 @@ loop-index-init g c = record {
   passed = λ top frames next. passed_none next.bound.0 next.bound.1;
 }
 
-pub load_scanned_leaf-length-requires-clause-led : goal.load_scanned_leaf-length-requires-clause-led
-load_scanned_leaf-length-requires-clause-led g c =
+pub load_leaf_at-length-requires-clause-led : goal.load_leaf_at-length-requires-clause-led
+load_leaf_at-length-requires-clause-led g c =
     let (top, frames, next) = c.requires.next in (since c.args.seat.now.known, behind_led (next_behind next) (reads_later c.loop-index.invariant.reads.2) c.loop-index.index (omega (arith, c.loop-index-test.true)))
+
+pub load_leaf_at-length-requires-clause-start : goal.load_leaf_at-length-requires-clause-start
+load_leaf_at-length-requires-clause-start g c = c.requires.starts.1 c.loop-index.index (omega (arith, c.loop-index-test.true))
 
 pub take_pair-requires-clause-room : goal.take_pair-requires-clause-room
 take_pair-requires-clause-room g c = let has = c.loop-index.invariant.room in let all = c.requires.room in omega (arith, has, all, c.loop-index-test.true)
 
 pub loop-index-preserved : goal.loop-index-preserved
 loop-index-preserved g c =
-    let i = c.loop-index.invariant in let (n, few, before) = i.reads in let (m, less, read) = c.load_scanned_leaf-length.ensures.reads in
+    let i = c.loop-index.invariant in let (n, few, before) = i.reads in let (m, less, read) = c.load_leaf_at-length.ensures.reads in
     let later = reads_later (reads_trans before read) in let has = i.room in let kept = c.take_pair.ensures.room in
     let r = request_of c.args.scan.now.range.now in let count = length c.args.leaves.now in
     record {
@@ -35,11 +38,11 @@ loop-index-preserved g c =
       room = omega (arith, has, kept);
       passed = λ top frames next.
           let p = passed_later (reads_later read) (i.passed top frames next) in let low : c.loop-index.index < count = omega (arith, c.loop-index-test.true) in
-          let told = c.load_scanned_leaf-length.ensures.leaf (since c.args.seat.now.known) (behind_led (next_behind next) (reads_later before) c.loop-index.index low) in
+          let told = c.load_leaf_at-length.ensures.leaf (since c.args.seat.now.known) (behind_led (next_behind next) (reads_later before) c.loop-index.index low) in
           let inside = within_up_to (next_behind next) later (count - 1) (omega (arith, low)) (not_past_later r later c.requires.last) c.loop-index.index (omega (arith, c.loop-index-test.true)) in
           let room = c.requires.few in let more = p.more in
           run_on next later low p
-          (λ core lawful recalls. let is = told core lawful recalls in (take c.load_scanned_leaf-length.result.0 c.load_scanned_leaf-length.new.places, c.load_scanned_leaf-length.result.1, is, inside core lawful recalls _ _ is, c.take_pair.ensures.taken))
+          (λ core lawful recalls. let is = told core lawful recalls in (take c.load_leaf_at-length.result.0 c.load_leaf_at-length.new.places, c.load_leaf_at-length.result.1, is, inside core lawful recalls _ _ is, c.take_pair.ensures.taken))
           (omega (arith, room, more, c.loop-index-test.true)) c.take_pair.ensures.taken.0;
     }
 

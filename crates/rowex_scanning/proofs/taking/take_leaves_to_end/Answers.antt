@@ -50,6 +50,9 @@ take_leaf-requires-clause-leaf g c =
     leaf_reached (walk_fits next.bound.0) (let come = next.come in omega (arith, come, c.loop-index-test.true)) p (ahead c.loop-index.index c.loop-index-test.true) c.args.scan.now.table.now.layout in
     (since c.args.seat.now.known, led, reached)
 
+pub take_leaf-requires-clause-start : goal.take_leaf-requires-clause-start
+take_leaf-requires-clause-start g c = c.requires.starts.1 c.loop-index.index (omega (arith, c.loop-index-test.true))
+
 pub take_leaf-requires-clause-few : goal.take_leaf-requires-clause-few
 take_leaf-requires-clause-few g c = let (top, frames, next) = c.requires.next in let i = c.loop-index.invariant in walk_short (i.passed top frames next).1.walk i.reader.1
 
