@@ -225,54 +225,87 @@ static size_t side_by_side(size_t number, uint8_t *key) {
     return lengths[number % (sizeof lengths / sizeof lengths[0])];
 }
 
-/* Asserts that a scan has listed so many of these keys, from a number on upwards or downwards: as pairs, and packed. */
-static void check_listed(const hot_pair *pairs, const uint8_t *packed, const hot_head *heads, size_t count, size_t first, int step) {
+/* Asserts that a scan has listed so many of these keys, from a number on upwards or downwards: as pairs, and packed. Returns how many bytes
+ * these keys have. */
+static size_t check_listed(const hot_pair *pairs, const uint8_t *packed, const hot_head *heads, size_t count, size_t first, int step) {
     uint8_t key[HOT_MAX_KEY];
-    size_t place, number = first;
+    size_t place, number = first, size = 0;
     for (place = 0; place < count; place++, number += (size_t)step) {
         size_t length = side_by_side(number, key);
         CHECK(pairs[place].length == length && pairs[place].value == number && !memcmp(pairs[place].key, key, length));
-        CHECK(heads[place].length == length && heads[place].value == number && !memcmp(packed, key, length));
-        packed += length;
+        CHECK(heads[place].length == length && heads[place].value == number && !memcmp(packed + size, key, length));
+        size += length;
     }
+    return size;
 }
 
-/* Each range of these keys, whose end comes inside a group of leaves that the walk reads together, at its end or behind it; with a limit of
- * one less than it has, as many, and one more; upwards and downwards; and its number. */
-static void test_groups(void) {
-    static const uint32_t each[5] = {SIDE_BY_SIDE, SIDE_BY_SIDE, SIDE_BY_SIDE, SIDE_BY_SIDE, SIDE_BY_SIDE};
+/* A range of these keys, from a number to another, and the keys at its ends. */
+typedef struct part {
+    size_t first, last, from_length, upto_length;
+    uint8_t from[HOT_MAX_KEY], upto[HOT_MAX_KEY];
+} part;
+
+/* Scans such a range with a limit in each way. What packs has as many bytes as the keys need, and then one less. */
+static void check_part(hot_handle *handle, const part *of, size_t limit) {
     static hot_pair pairs[SIDE_BY_SIDE + 2];
     static hot_head heads[SIDE_BY_SIDE + 2];
-    static uint8_t packed[(SIDE_BY_SIDE + 2) * HOT_MAX_KEY], from[HOT_MAX_KEY], upto[HOT_MAX_KEY];
+    static uint8_t packed[(SIDE_BY_SIDE + 2) * HOT_MAX_KEY];
     static uint64_t values[SIDE_BY_SIDE + 2];
+    size_t count, room, size = of->last - of->first + 1, listed = limit < size ? limit : size, place;
+    uint32_t more, cut = limit < size;
+    CHECK(hot_scan(handle, of->from, of->from_length, of->upto, of->upto_length, pairs, limit, &count, &more) == HOT_DONE);
+    CHECK(count == listed && more == cut);
+    CHECK(hot_scan_packed(handle, of->from, of->from_length, of->upto, of->upto_length, packed, sizeof packed, heads, limit, &count, &more) == HOT_DONE);
+    CHECK(count == listed && more == cut);
+    room = check_listed(pairs, packed, heads, listed, of->first, 1);
+    memset(packed, 0xee, room + 1);
+    CHECK(hot_scan_packed(handle, of->from, of->from_length, of->upto, of->upto_length, packed, room, heads, limit, &count, &more) == HOT_DONE);
+    CHECK(count == listed && more == cut && packed[room] == 0xee && check_listed(pairs, packed, heads, listed, of->first, 1) == room);
+    if (listed) {
+        memset(packed, 0xee, room);
+        CHECK(hot_scan_packed(handle, of->from, of->from_length, of->upto, of->upto_length, packed, room - 1, heads, limit, &count, &more) == HOT_DONE);
+        CHECK(count == listed - 1 && more == 1 && packed[room - 1] == 0xee);
+        CHECK(packed[check_listed(pairs, packed, heads, listed - 1, of->first, 1)] == 0xee);
+    }
+    CHECK(hot_scan_reverse(handle, of->from, of->from_length, of->upto, of->upto_length, pairs, limit, &count, &more) == HOT_DONE);
+    CHECK(count == listed && more == cut);
+    CHECK(hot_scan_packed_reverse(handle, of->from, of->from_length, of->upto, of->upto_length, packed, sizeof packed, heads, limit, &count, &more) == HOT_DONE);
+    CHECK(count == listed && more == cut);
+    check_listed(pairs, packed, heads, listed, of->last, -1);
+    CHECK(hot_scan_last(handle, of->from, of->from_length, of->upto, of->upto_length, pairs, limit, &count, &more) == HOT_DONE);
+    CHECK(count == listed && more == cut);
+    CHECK(hot_scan_values(handle, of->from, of->from_length, of->upto, of->upto_length, values, limit, &count, &more) == HOT_DONE);
+    CHECK(count == listed && more == cut);
+    for (place = 0; place < listed; place++)
+        CHECK(pairs[place].value == of->last + 1 - listed + place && values[place] == of->first + place);
+}
+
+/* Each range of these keys, whose end comes inside a group of leaves that the walk reads together, at its end or behind it; with ends that are
+ * keys, and with ends that lie between two; with a limit of one less than it has, as many, and one more; and its number. */
+static void test_groups(void) {
+    static const uint32_t each[5] = {SIDE_BY_SIDE, SIDE_BY_SIDE, SIDE_BY_SIDE, SIDE_BY_SIDE, SIDE_BY_SIDE};
     hot_handle handle = HOT_HANDLE;
     hot_stock stock;
-    size_t first, last, count, limit, size, from_length, upto_length;
-    uint32_t more;
+    part of;
+    uint8_t key[HOT_MAX_KEY];
+    size_t count, limit, size;
+    int between;
     hot_stock_for_lengths(each, &stock);
     CHECK(hot_create_with(&stock, &handle, 1) == HOT_DONE);
-    for (first = 0; first < SIDE_BY_SIDE; first++)
-        CHECK(hot_insert(&handle, from, side_by_side(first, from), first, NULL) == HOT_INSERTED);
-    for (first = 0; first < SIDE_BY_SIDE; first++)
-        for (last = first; last < SIDE_BY_SIDE; last++) {
-            from_length = side_by_side(first, from), upto_length = side_by_side(last, upto), size = last - first + 1;
-            CHECK(hot_count(&handle, from, from_length, upto, upto_length, &count) == HOT_DONE && count == size);
-            for (limit = size - 1; limit <= size + 1; limit++) {
-                size_t listed = limit < size ? limit : size;
-                uint32_t cut = limit < size;
-                CHECK(hot_scan(&handle, from, from_length, upto, upto_length, pairs, limit, &count, &more) == HOT_DONE && count == listed && more == cut);
-                CHECK(hot_scan_packed(&handle, from, from_length, upto, upto_length, packed, sizeof packed, heads, limit, &count, &more) == HOT_DONE);
-                CHECK(count == listed && more == cut);
-                check_listed(pairs, packed, heads, listed, first, 1);
-                CHECK(hot_scan_reverse(&handle, from, from_length, upto, upto_length, pairs, limit, &count, &more) == HOT_DONE);
-                CHECK(count == listed && more == cut);
-                CHECK(hot_scan_packed_reverse(&handle, from, from_length, upto, upto_length, packed, sizeof packed, heads, limit, &count, &more) == HOT_DONE);
-                CHECK(count == listed && more == cut);
-                check_listed(pairs, packed, heads, listed, last, -1);
-                CHECK(hot_scan_values(&handle, from, from_length, upto, upto_length, values, limit, &count, &more) == HOT_DONE);
-                CHECK(count == listed && more == cut && (listed == 0 || (values[0] == first && values[listed - 1] == first + listed - 1)));
+    for (of.first = 0; of.first < SIDE_BY_SIDE; of.first++)
+        CHECK(hot_insert(&handle, of.from, side_by_side(of.first, of.from), of.first, NULL) == HOT_INSERTED);
+    for (of.first = 0; of.first < SIDE_BY_SIDE; of.first++)
+        for (of.last = of.first; of.last < SIDE_BY_SIDE; of.last++)
+            for (between = 0; between < 2; between++) {
+                of.from_length = side_by_side(of.first, of.from), of.upto_length = side_by_side(of.last, of.upto), size = of.last - of.first + 1;
+                if (between) {
+                    CHECK(hot_before(key, side_by_side(of.first, key), of.from, &of.from_length) == HOT_DONE);
+                    CHECK(hot_after(key, side_by_side(of.last, key), of.upto, &of.upto_length) == HOT_DONE);
+                }
+                CHECK(hot_count(&handle, of.from, of.from_length, of.upto, of.upto_length, &count) == HOT_DONE && count == size);
+                for (limit = size - 1; limit <= size + 1; limit++)
+                    check_part(&handle, &of, limit);
             }
-        }
     CHECK(hot_destroy(&handle) == HOT_DONE);
 }
 
