@@ -1,17 +1,15 @@
 //! Limbo: the records that a pass has retired and not given back yet.
 
-ghost use Rattle.std.specs.Prelude.{◌≡◌, ◌≢◌, ◌≤◌, ◌<◌, ◌+◌, ◌-◌, ◌^◌, min, true, false, IfOk};
+ghost use Rattle.std.specs.Prelude.{◌≡◌, ◌≢◌, ◌≤◌, ◌<◌, ◌+◌, ◌-◌, ◌^◌, min, true, false, IfOk, vec_capacity};
 ghost use Rattle.epochs.specs.Limbo.{due_after};
 ghost use Rattle.epochs.specs.declared.limbo.Visited.TheVariants.{Waits};
 
-use arrayvec::ArrayVec;
-use bounded_vec::BoundedVec;
 use record_words::Layout;
 use rowex_core::Rec;
 use std::alloc::{AllocError, Global};
 
-/// How many records a limbo list keeps at most.
-const MOST_WAITING: usize = 4_096;
+/// How many records a limbo list keeps at most; in a table with fewer records as many as it has, or up to twice as many.
+const MOST_WAITING: u32 = 4_096;
 
 /// How many records a pass retires between two small rounds, at least.
 const LEAST_DUE: u32 = 32;
@@ -51,8 +49,8 @@ fn records_between_rounds(layout: Layout) -> u32
 /// another. One that finds no place in the list is left to such rounds.
 #[derive(Drop)]
 pub struct Limbo {
-    /// The ring of the records that wait, as far as it has been used.
-    waiting: BoundedVec<Rec, MOST_WAITING>,
+    /// The ring of the records that wait, as far as it has been used. Its memory, of a power of two of places, is that of all of it.
+    waiting: Vec<Rec>,
     /// Where the oldest stands.
     first: usize,
     /// How many wait.
@@ -61,22 +59,25 @@ pub struct Limbo {
     retired: u32,
     /// The bound of the pass's last full round by `collect_if_risen`; 0 before the first.
     pub(crate) swept: u64,
-    /// What the last small round has given back.
-    pub given: ArrayVec<Rec, MOST_VISITED>,
+    /// What the last small round has given back, as far as it finds room here.
+    pub given: Vec<Rec>,
 }
 
 impl Limbo {
-    /// An empty list of a pass that has retired no record; an error if its memory is refused.
-    pub fn new(alloc: Global) -> Result<Limbo, AllocError>
+    /// An empty list of a pass of a table with `layout`, which has retired no record; an error if its memory is refused. No later call asks
+    /// for any.
+    pub fn new(alloc: Global, layout: Layout) -> Result<Limbo, AllocError>
         ensures { IfOk result (λ limbo. (limbo.count ≡ 0) × (limbo.retired ≡ 0)) }
     {
+        let records = layout.nodes.saturating_add(layout.leaves);
+        let room = records.min(MOST_WAITING).next_power_of_two() as usize;
         Ok(Limbo {
-            waiting: BoundedVec::new(alloc)?,
+            waiting: Vec::with_capacity(alloc, room)?,
             first: 0,
             count: 0,
             retired: 0,
             swept: 0,
-            given: ArrayVec::new(),
+            given: Vec::with_capacity(alloc, room.min(MOST_VISITED))?,
         })
     }
 
@@ -84,19 +85,26 @@ impl Limbo {
     /// way it counts towards the next small round.
     pub fn push(&mut self, rec: Rec)
         ensures retired { self.new.retired ≡ min (self.old.retired + 1) (2 ^ 32 - 1) }
-        ensures room { self.old.count < MOST_WAITING → self.new.count ≡ self.old.count + 1 }
-        ensures full { MOST_WAITING ≤ self.old.count → self.new.count ≡ self.old.count }
+        ensures room { self.old.count < vec_capacity self.old.waiting → self.new.count ≡ self.old.count + 1 }
+        ensures full { vec_capacity self.old.waiting ≤ self.old.count → self.new.count ≡ self.old.count }
     {
         self.retired = self.retired.saturating_add(1);
-        if self.count < MOST_WAITING {
-            let place = self.first.wrapping_add(self.count) % MOST_WAITING;
+        if self.count < self.waiting.capacity() {
+            let place = self.place_of(self.count);
             if place < self.waiting.len() {
-                self.waiting.set(place, rec);
+                self.waiting[place] = rec;
             } else {
-                self.waiting.push(rec);
+                self.waiting.push_reserved(rec);
             }
             self.count += 1;
         }
+    }
+
+    /// The place in the ring of the record at `index`, counted from 0 at the oldest.
+    fn place_of(&self, index: usize) -> usize
+        ensures { 0 < vec_capacity self.now.waiting → result < vec_capacity self.now.waiting }
+    {
+        self.first.wrapping_add(index) & self.waiting.capacity().wrapping_sub(1)
     }
 
     /// Whether a small round is due in a table of `layout`: the pass has retired enough records since its last one. Most calls end at the
@@ -125,8 +133,7 @@ impl Limbo {
 
     /// The record that waits at `index`, counted from 0 at the oldest; `None` if no place of the ring has ever been used for it.
     pub(crate) fn waiting_record(&self, index: usize) -> Option<Rec> {
-        let place = self.first.wrapping_add(index) % MOST_WAITING;
-        self.waiting.as_slice().get(place).copied()
+        self.waiting.as_slice().get(self.place_of(index)).copied()
     }
 
     /// Adds `rec` to `given`, if `seen`, what its visit came to, is `Given` and there is room. Returns whether `rec` is to leave the list:
@@ -138,7 +145,9 @@ impl Limbo {
     {
         match seen {
             Visited::Waits => return false,
-            Visited::Given if !self.given.is_full() => self.given.push(rec),
+            Visited::Given if self.given.len() < self.given.capacity() => {
+                self.given.push_reserved(rec);
+            }
             _ => {}
         }
         true
@@ -153,7 +162,7 @@ impl Limbo {
         if self.count == 0 {
             self.first = 0;
         } else {
-            self.first = self.first.wrapping_add(count) % MOST_WAITING;
+            self.first = self.place_of(count);
         }
     }
 }

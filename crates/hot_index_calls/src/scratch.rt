@@ -23,6 +23,8 @@ const FIRST_WORDS: u32 = 16_384;
 /// all passes stand side by side where the records begin: passes that claim few share pages, huge ones too.
 #[derive(Clone, Copy)]
 struct Share {
+    /// How many records there are.
+    records: u32,
     /// The number of the first record of the small part.
     first: u32,
     /// The number behind its last one; the greatest one, once the pass has left it.
@@ -39,6 +41,7 @@ impl Share {
         let small = share.min(most);
         let first = number.saturating_mul(small);
         Share {
+            records,
             first,
             end: first.saturating_add(if share > most { small } else { u32::MAX }),
             own: (passes.saturating_mul(small)).saturating_add(number.saturating_mul(
@@ -47,9 +50,9 @@ impl Share {
         }
     }
 
-    /// A hint whose claims begin with the small part.
-    fn begin_claims(&self) -> Hint {
-        Hint::begin_at(self.first)
+    /// A hint whose claims begin with the small part; an error if memory is refused.
+    fn begin_claims(&self, alloc: Global) -> Result<Hint, AllocError> {
+        Hint::begin_at(alloc, self.first, self.records)
     }
 
     /// Lets the claims of `hint` go on in the pass's own part, if they have come by the small one. Returns what is to stand here then.
@@ -65,7 +68,7 @@ impl Share {
     }
 }
 
-/// The lists that a pass's scans and changes work with. They are large, so they are made once, with the pass, and reused by each
+/// The lists that a pass's scans and changes work with. They may be large, so they are made once, with the pass, and reused by each
 /// call.
 #[derive(Drop)]
 pub struct Scratch {
@@ -181,14 +184,14 @@ fn new_build(
     Ok(Build {
         made: BoundedVec::new(alloc)?,
         gone: BoundedVec::new(alloc)?,
-        nodes: nodes.begin_claims(),
+        nodes: nodes.begin_claims(alloc)?,
         left_nodes: layout.nodes,
         leaves: [
-            leaves[0].begin_claims(),
-            leaves[1].begin_claims(),
-            leaves[2].begin_claims(),
-            leaves[3].begin_claims(),
-            leaves[4].begin_claims(),
+            leaves[0].begin_claims(alloc)?,
+            leaves[1].begin_claims(alloc)?,
+            leaves[2].begin_claims(alloc)?,
+            leaves[3].begin_claims(alloc)?,
+            leaves[4].begin_claims(alloc)?,
         ],
     })
 }
@@ -207,7 +210,7 @@ pub fn new_scratch(alloc: Global, layout: Layout, number: u16) -> Result<Box<Scr
     let scratch = Scratch {
         way: BoundedVec::new(alloc)?,
         build: new_build(alloc, layout, nodes, leaves)?,
-        limbo: Limbo::new(alloc)?,
+        limbo: Limbo::new(alloc, layout)?,
         nodes,
         leaves,
     };

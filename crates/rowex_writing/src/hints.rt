@@ -1,6 +1,6 @@
 //! Where a pass claims records: the hints that it keeps between calls, and the claims that begin with them.
 
-ghost use Rattle.std.specs.Prelude.{◌≡◌, ◌<◌, ◌≤◌, ◌++◌, ◌∷◌, [], length, ◌⊎◌, ◌+◌, ◌-◌, ◌^◌, min, ◌*◌, MatchOption, List, ℕ};
+ghost use Rattle.std.specs.Prelude.{◌≡◌, ◌<◌, ◌≤◌, ◌++◌, ◌∷◌, [], length, ◌⊎◌, ◌+◌, ◌-◌, ◌^◌, min, ◌*◌, MatchOption, IfOk, List, ℕ, vec_capacity};
 ghost use Rattle.record_words.specs.declared.records.Rec.TheVariants.{Node as a_node};
 ghost use Rattle.rowex_table.specs.Seats.{IsSeatOf};
 ghost use Rattle.rowex_records.specs.Claims.{AllMissed, HoldsOneMore, IsAnothersTo, IsKindOf, count_of, record_of};
@@ -9,13 +9,13 @@ ghost use Rattle.rowex_writing.specs.Going.{WorksOn};
 ghost use Rattle.record_words.specs.declared.records.Rec.{Rec as Record};
 ghost use Rattle.rowex_writing.specs.Walks.{HasNoOther, IsClaimWalk};
 
-use arrayvec::ArrayVec;
 use rowex_core::Gate;
 use rowex_records::{RecordKind, claim_by_number, claim_next_record, claim_record};
 use rowex_table::{HotTable, TableSeat};
+use std::alloc::{AllocError, Global};
 
 /// The most numbers of records of one kind that a pass keeps to begin claims with.
-const MOST_SPARE: usize = 256;
+const MOST_SPARE: u32 = 256;
 
 /// Where the claims of a pass begin, of node records or of the leaf records of one class. Numbers are counted from the first of these
 /// on.
@@ -24,8 +24,8 @@ const MOST_SPARE: usize = 256;
 /// records in one change share one walk, which tries each of them once before it finds that.
 #[derive(Drop)]
 pub struct Hint {
-    /// Numbers that the pass has given back: claims begin with the last of these.
-    pub spare: ArrayVec<u32, MOST_SPARE>,
+    /// Numbers that the pass has given back, as far as they find room here: claims begin with the last of these.
+    pub spare: Vec<u32>,
     /// The number with which claims go on where none of these is free.
     pub next: u32,
     /// Where they begin when they don't go on.
@@ -36,33 +36,34 @@ pub struct Hint {
 }
 
 impl Hint {
-    /// A hint without spare numbers, whose claims begin at the number `next`.
-    pub fn begin_at(next: u32) -> Hint
-        ensures spare { result.spare.items ≡ [] }
-        ensures next { result.next ≡ next }
-        ensures skips { result.skips ≡ 0 }
+    /// A hint without spare numbers, whose claims begin at the number `next`, for `records` records; an error if its memory is refused. No
+    /// later call asks for any.
+    pub fn begin_at(alloc: Global, next: u32, records: u32) -> Result<Hint, AllocError>
+        ensures spare { IfOk result (λ hint. hint.spare.items ≡ []) }
+        ensures next { IfOk result (λ hint. hint.next ≡ next) }
+        ensures skips { IfOk result (λ hint. hint.skips ≡ 0) }
     {
-        Hint {
-            spare: ArrayVec::new(),
+        Ok(Hint {
+            spare: Vec::with_capacity(alloc, records.min(MOST_SPARE) as usize)?,
             next,
             stretch: Stretch::begin_at(next),
             skips: 0,
-        }
+        })
     }
 
-    /// Adds `number` to the spare ones, with which claims begin. Where there are [`MOST_SPARE`] already it is not kept. Whether it is kept
-    /// or not, claims skip these records no more.
+    /// Adds `number` to the spare ones, with which claims begin. Where these have no room for more it is not kept. Whether it is kept or
+    /// not, claims skip these records no more.
     pub fn give_back(&mut self, number: u32)
-        ensures kept { length self.old.spare.items < MOST_SPARE → self.new.spare.items ≡ self.old.spare.items ++ number ∷ [] }
-        ensures full { MOST_SPARE ≤ length self.old.spare.items → self.new.spare.items ≡ self.old.spare.items }
+        ensures kept { length self.old.spare.items < vec_capacity self.old.spare → self.new.spare.items ≡ self.old.spare.items ++ number ∷ [] }
+        ensures full { vec_capacity self.old.spare ≤ length self.old.spare.items → self.new.spare.items ≡ self.old.spare.items }
         ensures next { self.new.next ≡ self.old.next }
         ensures skips { self.new.skips ≡ 0 }
     {
         self.skips = 0;
-        if self.spare.is_full() {
-            self.stretch.note_given();
+        if self.spare.len() < self.spare.capacity() {
+            self.spare.push_reserved(number);
         } else {
-            self.spare.push(number);
+            self.stretch.note_given();
         }
     }
 }
@@ -186,7 +187,7 @@ fn claim_spare_record<G: Gate>(
     seat: &mut TableSeat,
     gate: &mut G,
     kind: RecordKind,
-    spare: &mut ArrayVec<u32, MOST_SPARE>,
+    spare: &mut Vec<u32>,
 ) -> Option<u32>
     requires own { IsSeatOf table.now seat.old }
     requires kind { IsKindOf kind table.now.layout }
