@@ -249,7 +249,7 @@ static void free_table(table *old) {
         proved_destroy(&old->handles[at]);
     proved_destroy(&old->own);
     proved_destroy(&old->keeper);
-    heap_free_pieces(&old->holds.pieces);
+    free_held(&old->holds);
     free(old);
 }
 
@@ -257,19 +257,24 @@ static size_t size_of_table(const grower *of) {
     return sizeof(table) + of->index->count * (sizeof(hot_handle) + 2 * sizeof(uint64_t));
 }
 
-/* What a table takes with so many handles. */
-static size_t bytes_with(const table *it, size_t handles) {
-    return it->holds.table + handles * (it->holds.lists + it->holds.scanned);
+/* What a handle takes. */
+static size_t bytes_of_handle(const table *it) {
+    return it->holds.lists + it->holds.scanned;
+}
+
+/* What a table takes with all its handles. */
+static size_t bytes_of_all(const grower *of, const table *it) {
+    return size_of_table(of) + it->holds.table + it->holds.long_lists.size + handles_of(of) * bytes_of_handle(it);
 }
 
 /* Notes what there is of memory besides the table of now, of which one handle isn't the index's. */
 static void note_bytes(grower *of) {
-    size_t bytes = sizeof *of + of->index->count * sizeof *of->places + size_of_table(of) + bytes_with(of->head.now, 1) - of->head.now->holds.table;
+    size_t bytes = sizeof *of + of->index->count * sizeof *of->places + size_of_table(of) + bytes_of_handle(of->head.now);
     const table *left;
     if (of->job != NULL)
-        bytes += sizeof *of->job + size_of_table(of) + bytes_with(of->job->to, handles_of(of));
+        bytes += sizeof *of->job + bytes_of_all(of, of->job->to);
     for (left = of->left; left != NULL; left = left->next)
-        bytes += size_of_table(of) + bytes_with(left, handles_of(of));
+        bytes += bytes_of_all(of, left);
     __atomic_store_n(&of->head.held, bytes, __ATOMIC_RELAXED);
 }
 
@@ -508,7 +513,7 @@ static hot_status make_next(grower *of) {
     job *it = of->job;
     hot_status status = end_load(&it->begun, &it->to->keeper, &it->to->holds);
     if (status == HOT_DONE)
-        status = open_next(&it->to->keeper, &it->to->own);
+        status = open_next(&it->to->keeper, &it->to->own, &it->to->holds);
     if (status == HOT_DONE) {
         lock_word(&of->index->opening);
         of->head.next = it->to;
@@ -528,7 +533,7 @@ static hot_status open_one(grower *of) {
         __atomic_store_n(&of->head.phase, BOTH, __ATOMIC_SEQ_CST);
         of->job->next = SETTLE_AGAIN;
     } else {
-        status = open_next(&to->keeper, &to->handles[to->opened]);
+        status = open_next(&to->keeper, &to->handles[to->opened], &to->holds);
         to->opened += status == HOT_DONE;
     }
     unlock_word(&of->index->opening);
@@ -753,14 +758,14 @@ static hot_status give_table(grower *of, const hot_stock *stock, hot_handle *kee
     table *first = new_table(of, stock);
     if (first == NULL) {
         proved_destroy(keeper);
-        heap_free_pieces(&holds->pieces);
+        free_held(holds);
         return HOT_NO_MEMORY;
     }
     first->keeper = *keeper;
     of->index->holds = first->holds = *holds;
     of->head.now = first;
     note_bytes(of);
-    return open_next(&first->keeper, &first->own);
+    return open_next(&first->keeper, &first->own, &first->holds);
 }
 
 /* Writes an index, if it could be made, and else frees what there is of it. */
@@ -800,7 +805,7 @@ static hot_status open_in(table *in, size_t place) {
     hot_status status;
     if (in == NULL || in->opened != place)
         return HOT_DONE;
-    status = open_next(&in->keeper, &in->handles[place]);
+    status = open_next(&in->keeper, &in->handles[place], &in->holds);
     in->opened += status == HOT_DONE;
     return status;
 }
@@ -994,7 +999,7 @@ static hot_status load_taken(grower *of, const supply *taken, hot_status *refuse
         if (plan_allowed(of, &nothing, FITTING, &stock) != HOT_DONE)
             break;
         proved_destroy(&keeper);
-        heap_free_pieces(&holds.pieces);
+        free_held(&holds);
     }
     *refused = status == HOT_DONE && why != HOT_DONE ? why : *refused;
     return status == HOT_DONE ? give_table(of, &stock, &keeper, &holds) : status;

@@ -14,7 +14,11 @@
  * If not, the table may not be used, as if memory were refused.
  *
  * What else is large begins as 0, too: once it is made, each page of it in which there is nothing but 0 is given back, and reads as 0
- * again. The lists of a handle come from malloc, and nothing is written there before they are used.
+ * again.
+ *
+ * The short lists of a handle come from malloc, where nothing is written before they are used. Its long ones are rarely used at all, and stand
+ * in addresses that a table has for those of all its handles: no block there has a word of malloc's before it, so that an unused one takes no
+ * memory. They are freed with the table.
  *
  * A large table asks for huge pages, but not where the records of a kind begin, or those of it that a handle has of its own: there a few keys
  * would take whole ones. Pieces of these parts get huge pages once they have filled, which heap_fill looks for.
@@ -33,6 +37,9 @@
  * huge pages, but for so many bytes where the records of a kind begin, and where a handle's own do. */
 enum { PAGE = 4096, HUGE_PAGE = 2 << 20, LEAST_BLOCK = 64 << 10, LEAST_TABLE = 1 << 20, LEAST_HUGE_TABLE = 16 << 20, SMALL_PART = 8 << 20 };
 
+/* A long list has at least so many bytes. */
+enum { LEAST_LIST = 16 << 10 };
+
 /* So many pages of a piece may be missing where it counts as filled; a record has so many bytes at most; and one call of heap_fill looks at so
  * many pieces. */
 enum { MOST_MISSING = HUGE_PAGE / PAGE / 8, LONGEST_RECORD = 464, MOST_LOOKS = 16 };
@@ -50,9 +57,9 @@ enum { LEAST_CHUNK = 1 << 20, MOST_CHUNKS = 512 };
 #define MADV_COLLAPSE 25
 #endif
 
-/* Where a block begins in its pages: 8 bytes behind a multiple of 16. All that malloc gives begins at one, if it is asked for so many
- * bytes. */
-enum { IN_PAGES = 56, LEAST_OF_MALLOC = 16 };
+/* Where a block begins in its pages: 8 bytes behind a multiple of 16. A long list begins 4 bytes behind one. All that malloc gives begins at
+ * one, if it is asked for so many bytes. */
+enum { IN_PAGES = 56, IN_LISTS = 4, LEAST_OF_MALLOC = 16 };
 
 /* What stands where the pages of a block begin. */
 typedef struct pages {
@@ -66,7 +73,8 @@ typedef struct pages {
 static __thread struct {
     int is_on;
     size_t left;   /* the size of the table that is still to be made, or 0 */
-    size_t asked;  /* bytes, without those of the table */
+    size_t asked;  /* bytes, without those of the table and of long lists in their addresses */
+    heap_lists *lists;
     heap_table of; /* the table */
     pages *made;   /* it, once it has pages of its own */
     pages *zeros;  /* of which the table is made; what a load has filled, if that goes on */
@@ -281,6 +289,40 @@ static void *map_block(size_t bytes) {
     return made == NULL ? NULL : block_in(made);
 }
 
+/* A long list with its addresses, or NULL. */
+static void *listed_block(size_t bytes) {
+    heap_lists *lists = making.lists;
+    size_t from = lists == NULL ? 0 : (lists->used + LEAST_OF_MALLOC - 1) / LEAST_OF_MALLOC * LEAST_OF_MALLOC + IN_LISTS;
+    if (lists == NULL || lists->size < from || lists->size - from < bytes)
+        return NULL;
+    making.asked -= bytes;
+    lists->used = from + bytes;
+    return lists->begin + from;
+}
+
+static int is_listed(const void *block) {
+    return (uintptr_t)block % LEAST_OF_MALLOC == IN_LISTS;
+}
+
+/* No page there becomes a huge one: a few words would take all of it. */
+void heap_map_lists(heap_lists *lists, size_t handles) {
+    void *begin = MAP_FAILED;
+    lists->size = lists->used = 0;
+    if (handles <= SIZE_MAX / LISTS_OF_A_HANDLE)
+        begin = mmap(NULL, handles * LISTS_OF_A_HANDLE, PROT_READ | PROT_WRITE, MAP_PRIVATE | MAP_ANONYMOUS | MAP_NORESERVE, -1, 0);
+    if (begin == MAP_FAILED)
+        return;
+    lists->begin = begin;
+    lists->size = handles * LISTS_OF_A_HANDLE;
+    madvise(begin, lists->size, MADV_NOHUGEPAGE);
+}
+
+void heap_unmap_lists(heap_lists *lists) {
+    if (lists->size > 0)
+        munmap(lists->begin, lists->size);
+    lists->size = lists->used = 0;
+}
+
 /* The room from which blocks of this thread come, and what is left of it. */
 static __thread struct {
     char *begin, *next, *end;
@@ -326,16 +368,24 @@ static size_t for_malloc(size_t size) {
     return size < LEAST_OF_MALLOC ? LEAST_OF_MALLOC : size;
 }
 
+static void *block(size_t size, size_t align) {
+    if (making.is_on && size >= LEAST_BLOCK && align <= 8)
+        return map_block(size);
+    if (making.is_on && size >= LEAST_LIST && align <= IN_LISTS)
+        return listed_block(size);
+    return lent_block(size);
+}
+
 tried rattle_alloc(size_t size, size_t align) {
     void *at;
     making.asked += size == making.of.bytes ? 0 : size;
-    at = making.is_on && size >= LEAST_BLOCK && align <= 8 ? map_block(size) : lent_block(size);
+    at = block(size, align);
     return told(at != NULL ? at : malloc(for_malloc(size)));
 }
 
 void rattle_dealloc(void *at) {
     pages *old = pages_of(at);
-    if (is_lent(at))
+    if (is_lent(at) || is_listed(at))
         return;
     if (old == NULL) {
         free(at);
@@ -352,7 +402,7 @@ void rattle_dealloc(void *at) {
 tried rattle_realloc(void *at, size_t kept, size_t size, size_t align) {
     void *to;
     (void)align;
-    if (pages_of(at) == NULL && !is_lent(at))
+    if (pages_of(at) == NULL && !is_lent(at) && !is_listed(at))
         return told(realloc(at, for_malloc(size)));
     to = malloc(for_malloc(size));
     if (to != NULL) {
@@ -362,19 +412,21 @@ tried rattle_realloc(void *at, size_t kept, size_t size, size_t align) {
     return told(to);
 }
 
-void heap_begin(const heap_table *table) {
+void heap_begin(const heap_table *table, heap_lists *lists) {
     static const heap_table none;
     making.is_on = 1;
     making.of = table == NULL ? none : *table;
     making.left = making.of.bytes < LEAST_TABLE ? 0 : making.of.bytes;
     making.asked = 0;
     making.made = making.zeros = making.copied = NULL;
+    making.lists = lists;
     making.is_filled = making.is_broken = 0;
 }
 
 int heap_end(void) {
     give_zeros_back();
     making.is_on = 0;
+    making.lists = NULL;
     making.left = 0;
     return !making.is_broken && making.zeros == NULL;
 }
@@ -387,9 +439,9 @@ int heap_pause(void **words) {
     return heap_end();
 }
 
-void heap_go_on(const heap_table *table, void *words) {
+void heap_go_on(const heap_table *table, void *words, heap_lists *lists) {
     pages *filled = words;
-    heap_begin(filled == NULL ? NULL : table);
+    heap_begin(filled == NULL ? NULL : table, lists);
     making.zeros = filled;
     making.is_filled = 1;
     if (filled != NULL)
@@ -400,17 +452,26 @@ size_t heap_asked(void) {
     return making.asked;
 }
 
-size_t heap_held(const heap_pieces *pieces, size_t bytes) {
+/* How many bytes take memory of those from a page on; all, if the system doesn't tell. */
+static size_t held_of(char *begin, size_t bytes) {
     unsigned char there[PAGE];
-    size_t pages = (IN_PAGES + bytes + PAGE - 1) / PAGE, held = 0, from, part, page;
+    size_t pages = (bytes + PAGE - 1) / PAGE, held = 0, from, part, page;
     for (from = 0; from < pages; from += part) {
         part = pages - from < sizeof there ? pages - from : sizeof there;
-        if (mincore(pieces->table + from * PAGE, part * PAGE, there) != 0)
+        if (mincore(begin + from * PAGE, part * PAGE, there) != 0)
             return bytes;
         for (page = 0; page < part; page++)
             held += there[page] & 1;
     }
     return held * PAGE;
+}
+
+size_t heap_held(const heap_pieces *pieces, size_t bytes) {
+    return held_of(pieces->table, IN_PAGES + bytes);
+}
+
+size_t heap_held_lists(const heap_lists *lists) {
+    return held_of(lists->begin, lists->size);
 }
 
 void heap_take_pieces(heap_pieces *pieces) {

@@ -13,13 +13,32 @@ typedef struct heap_table {
     size_t bytes, from[HEAP_KINDS + 1], first[HEAP_KINDS], own[HEAP_KINDS];
 } heap_table;
 
-/* Between these two calls the proved calls make handles, and a table, if its size is not 0: what is 0 in them is to take no memory. */
-void heap_begin(const heap_table *table);
+/* Addresses for the long lists of a table's handles, of which few are ever used: there a page takes memory once something is written. So many
+ * bytes are for a handle's: of nodes on a way, of records that a change makes and unlinks, and of those that wait. The first `used` bytes are
+ * lists. */
+enum { LISTS_OF_A_HANDLE = 112 << 10 };
+typedef struct heap_lists {
+    char *begin;
+    size_t size, used;
+} heap_lists;
+
+/* Gives so many handles addresses for these lists; none where the system refuses them, and then the lists come from malloc. */
+void heap_map_lists(heap_lists *lists, size_t handles);
+
+/* Frees them, once no handle has such a list any more. */
+void heap_unmap_lists(heap_lists *lists);
+
+/* How many of their bytes take memory. */
+size_t heap_held_lists(const heap_lists *lists);
+
+/* Between these two calls the proved calls make handles, and a table, if its size is not 0: what is 0 in them is to take no memory. The long
+ * lists of the handles stand in `lists`, unless that is NULL or has no room. */
+void heap_begin(const heap_table *table, heap_lists *lists);
 
 /* Returns whether the table may be used. If not, memory was refused. */
 int heap_end(void);
 
-/* How many bytes were asked for between them, without those of the table. */
+/* How many bytes were asked for between them, without those of the table and of the lists there. */
 size_t heap_asked(void);
 
 /* The pieces of a table, each of the size of a huge page, of which those marked get one once they have filled. */
@@ -46,7 +65,7 @@ void heap_fill_all(heap_pieces *pieces);
  * at their beginning, and between heap_go_on and heap_end the table is made of the filled ones. heap_pause writes what heap_go_on takes, and
  * returns whether the words may be filled: if not, memory was refused. In between this thread may make other things. */
 int heap_pause(void **words);
-void heap_go_on(const heap_table *table, void *words);
+void heap_go_on(const heap_table *table, void *words, heap_lists *lists);
 
 /* Between these two calls blocks of this thread come from a room, as far as they fit, and each of them is freed. The room begins at a
  * multiple of 16, and its size is one. */

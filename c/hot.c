@@ -500,8 +500,8 @@ void hot_stats(const hot_index *index, hot_refusals *stats) {
 /* For so many keys at most a handle keeps room, of so many bytes for each. */
 enum { FOR_A_KEY = 272, MOST_KEPT_KEYS = 256 };
 
-/* The bytes of an index without its table, if so many handles have been opened, each of which keeps so many for keys that are looked up by one
- * call. */
+/* The bytes of an index without its table and long lists, if so many handles have been opened, and keep so many for keys that are looked up by
+ * one call. */
 static size_t bytes_beside_table(const hot_index *index, size_t opened, size_t kept) {
     enum { SECTION = 128 };
     return sizeof *index + index->count * (sizeof *index->places + SECTION) + opened * (index->holds.lists + index->holds.scanned) + kept;
@@ -509,6 +509,7 @@ static size_t bytes_beside_table(const hot_index *index, size_t opened, size_t k
 
 void hot_bytes(const hot_index *index, hot_memory *bytes) {
     const heap_pieces *pieces = &index->holds.pieces;
+    const heap_lists *lists = &index->holds.long_lists;
     uint32_t *filling = (uint32_t *)&index->filling;
     size_t place, opened = 1, kept = 0;
     for (place = 0; place < index->count; place++) {
@@ -518,8 +519,9 @@ void hot_bytes(const hot_index *index, hot_memory *bytes) {
     opened = opened < index->count ? opened : index->count;
     if (index->grower != NULL)
         lock_word(filling);
-    bytes->most = index->holds.table + bytes_beside_table(index, index->count, index->count * MOST_KEPT_KEYS * FOR_A_KEY);
-    bytes->now = (pieces->table == NULL ? index->holds.table : heap_held(pieces, index->holds.table)) + bytes_beside_table(index, opened, kept);
+    bytes->most = index->holds.table + lists->size + bytes_beside_table(index, index->count, index->count * MOST_KEPT_KEYS * FOR_A_KEY);
+    bytes->now = (pieces->table == NULL ? index->holds.table : heap_held(pieces, index->holds.table)) + bytes_beside_table(index, opened, kept) +
+                 heap_held_lists(lists);
     if (index->grower != NULL)
         unlock_word(filling);
     bytes->most += grower_bytes(index);
@@ -602,6 +604,11 @@ hot_status hot_get_packed(hot_handle *handle, const uint8_t *bytes, const size_t
     return status;
 }
 
+void free_held(holding *holds) {
+    heap_free_pieces(&holds->pieces);
+    heap_unmap_lists(&holds->long_lists);
+}
+
 void free_index(hot_index *index) {
     size_t place;
     if (index->grower != NULL)
@@ -613,7 +620,7 @@ void free_index(hot_index *index) {
     proved_close_section(&index->next);
     proved_close_section(&index->sections);
     if (index->grower == NULL)
-        heap_free_pieces(&index->holds.pieces);
+        free_held(&index->holds);
     free(index->places);
     free(index);
 }
@@ -633,6 +640,7 @@ static void give_section(hot_place *place) {
 hot_index *new_index(size_t count) {
     static const hot_handle closed = HOT_HANDLE;
     static const section_handle none = {0, {NULL}};
+    static const holding nothing;
     hot_index *index = malloc(sizeof *index);
     size_t place;
     if (index == NULL)
@@ -642,8 +650,7 @@ hot_index *new_index(size_t count) {
     index->left = 0;
     index->keeper = index->teller = closed;
     index->opening = index->telling = index->filling = 0;
-    index->holds.pieces.marks = NULL;
-    index->holds.pieces.table = NULL;
+    index->holds = nothing;
     index->grower = NULL;
     index->places = calloc(count, sizeof *index->places);
     if (index->places == NULL) {
@@ -711,14 +718,14 @@ static void note_stock(holding *holds, const hot_stock *stock, size_t handles) {
     holds->scanned = leaves < MOST_SCANNED / FOR_A_PAIR ? (size_t)leaves * FOR_A_PAIR : MOST_SCANNED;
 }
 
-/* Notes what this thread has made: the table, and so many handles. */
+/* Notes what this thread has made: the table, and so many handles with their lists. */
 static void note_made(holding *holds, size_t handles) {
     heap_take_pieces(&holds->pieces);
     holds->lists = heap_asked() / handles;
 }
 
 /* Gives handles that were opened together, with an index, their places in one; or closes them where memory is refused. */
-static hot_status placed(hot_status status, const hot_stock *stock, hot_handle *handles, size_t count) {
+static hot_status placed(hot_status status, holding *holds, hot_handle *handles, size_t count) {
     hot_index *index;
     size_t place;
     if (status != HOT_DONE)
@@ -729,56 +736,61 @@ static hot_status placed(hot_status status, const hot_stock *stock, hot_handle *
             proved_destroy(&handles[place]);
         else
             handles[place].place = &index->places[place];
-    if (index == NULL)
+    if (index == NULL) {
+        free_held(holds);
         return HOT_NO_MEMORY;
-    note_stock(&index->holds, stock, count);
-    note_made(&index->holds, count);
+    }
+    index->holds = *holds;
     index->left = count;
     return HOT_DONE;
 }
 
 /* Begins to make an index with this stock and so many handles. */
-static void begin_making(const hot_stock *stock, size_t count) {
+static void begin_making(const hot_stock *stock, size_t count, holding *holds) {
     heap_table table = table_of(stock, count);
-    heap_begin(&table);
+    note_stock(holds, stock, count);
+    heap_map_lists(&holds->long_lists, table.bytes > 0 ? count : 0);
+    heap_begin(&table, &holds->long_lists);
 }
 
-/* Ends that. If the table that was made may not be used, it closes the handles that were opened with it: memory was refused. */
-static hot_status end_making(hot_status status, hot_handle *handles, size_t count) {
+/* Ends that, and notes what this thread has made. If the table that was made may not be used, it closes the handles that were opened with it:
+ * memory was refused. */
+static hot_status end_making(hot_status status, hot_handle *handles, size_t count, holding *holds) {
     size_t place;
-    if (heap_end() || status != HOT_DONE)
-        return status;
-    for (place = 0; place < count; place++)
-        proved_destroy(&handles[place]);
-    return HOT_NO_MEMORY;
+    if (!heap_end() && status == HOT_DONE) {
+        for (place = 0; place < count; place++)
+            proved_destroy(&handles[place]);
+        status = HOT_NO_MEMORY;
+    }
+    if (status == HOT_DONE)
+        note_made(holds, count);
+    else
+        heap_unmap_lists(&holds->long_lists);
+    return status;
 }
 
 hot_status hot_create(uint32_t nodes, uint32_t leaves, hot_handle *handles, size_t count) {
     hot_stock stock = {0, 0, 0, 0, 0, 0};
+    holding holds;
     if (!is_processor_new())
         return HOT_OLD_PROCESSOR;
     stock.nodes = nodes;
     stock.long_leaves = leaves;
-    begin_making(&stock, count);
-    return placed(end_making(proved_create(nodes, leaves, handles, count), handles, count), &stock, handles, count);
+    begin_making(&stock, count, &holds);
+    return placed(end_making(proved_create(nodes, leaves, handles, count), handles, count, &holds), &holds, handles, count);
 }
 
 hot_status hot_create_with(const hot_stock *stock, hot_handle *handles, size_t count) {
+    holding holds;
     if (!is_processor_new())
         return HOT_OLD_PROCESSOR;
-    begin_making(stock, count);
-    return placed(end_making(proved_create_with(stock, handles, count), handles, count), stock, handles, count);
+    begin_making(stock, count, &holds);
+    return placed(end_making(proved_create_with(stock, handles, count), handles, count, &holds), &holds, handles, count);
 }
 
 hot_status make_table(const hot_stock *stock, size_t handles, hot_handle *keeper, holding *holds) {
-    hot_status status;
-    begin_making(stock, handles);
-    status = end_making(proved_create_keeping(stock, handles, keeper), keeper, 1);
-    if (status == HOT_DONE) {
-        note_stock(holds, stock, handles);
-        note_made(holds, 1);
-    }
-    return status;
+    begin_making(stock, handles, holds);
+    return end_making(proved_create_keeping(stock, handles, keeper), keeper, 1, holds);
 }
 
 hot_status hot_open_index(const hot_stock *stock, size_t handles, hot_index **index) {
@@ -824,8 +836,9 @@ static hot_status take_pairs(loading *load, hot_source *next, void *context, siz
 hot_status begin_load(const hot_stock *stock, size_t handles, begun_load *begun, holding *holds) {
     hot_status status;
     note_stock(holds, stock, handles);
+    begun->handles = handles;
     begun->table = table_of(stock, handles);
-    heap_begin(&begun->table);
+    heap_begin(&begun->table, NULL);
     status = proved_begin_load(stock, handles, &begun->load);
     if (heap_pause(&begun->words) || status != HOT_DONE)
         return status;
@@ -836,13 +849,12 @@ hot_status begin_load(const hot_stock *stock, size_t handles, begun_load *begun,
 /* Those pieces that a load has filled get huge pages. */
 hot_status end_load(begun_load *begun, hot_handle *keeper, holding *holds) {
     hot_status status;
-    heap_go_on(&begun->table, begun->words);
-    status = end_making(proved_end_load(&begun->load, keeper), keeper, 1);
-    if (status != HOT_DONE)
-        return status;
-    note_made(holds, 1);
-    heap_fill_all(&holds->pieces);
-    return HOT_DONE;
+    heap_map_lists(&holds->long_lists, begun->handles);
+    heap_go_on(&begun->table, begun->words, &holds->long_lists);
+    status = end_making(proved_end_load(&begun->load, keeper), keeper, 1, holds);
+    if (status == HOT_DONE)
+        heap_fill_all(&holds->pieces);
+    return status;
 }
 
 void count_loaded(hot_index *index, size_t count) {
@@ -939,12 +951,15 @@ void unlock_word(uint32_t *word) {
     __atomic_store_n(word, 0, __ATOMIC_SEQ_CST);
 }
 
-hot_status open_next(hot_handle *keeper, hot_handle *handle) {
+hot_status open_next(hot_handle *keeper, hot_handle *handle, holding *holds) {
+    size_t used = holds->long_lists.used;
     uint16_t number;
     hot_status status;
-    heap_begin(NULL);
+    heap_begin(NULL, &holds->long_lists);
     status = proved_open_kept(keeper, handle);
     heap_end();
+    if (status != HOT_DONE)
+        holds->long_lists.used = used;
     if (status == HOT_NO_HANDLE && hot_number(keeper, &number) == HOT_DONE) {
         move_handle(handle, keeper);
         status = HOT_DONE;
@@ -965,7 +980,7 @@ static hot_status open_kept(hot_index *index, hot_handle *handle) {
     lock_word(&index->opening);
     status = open_next_section(index);
     if (status == HOT_DONE)
-        status = open_next(&index->keeper, handle);
+        status = open_next(&index->keeper, handle, &index->holds);
     if (status == HOT_DONE && hot_number(handle, &number) == HOT_DONE)
         give_place(&index->places[number], handle);
     unlock_word(&index->opening);

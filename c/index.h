@@ -96,8 +96,9 @@ hot_status proved_give_up_load(loading *load);
 /* What a table holds of memory. */
 typedef struct holding {
     heap_pieces pieces;
+    heap_lists long_lists;
     size_t table;   /* its bytes */
-    size_t lists;   /* those that a handle has from when it is first opened */
+    size_t lists;   /* those that a handle has from when it is first opened, without its long lists */
     size_t scanned; /* those that a handle keeps of its scans at most */
 } holding;
 
@@ -165,12 +166,17 @@ void count_loaded(hot_index *index, size_t count);
  * HOT_NO_MEMORY. */
 hot_status make_table(const hot_stock *stock, size_t handles, hot_handle *keeper, holding *holds);
 
-/* Opens the next handle that a keeper keeps, and at last the keeper itself. HOT_DONE; or HOT_CLOSED if there is none, or HOT_NO_MEMORY. */
-hot_status open_next(hot_handle *keeper, hot_handle *handle);
+/* Frees what is held beside a table, whose handles are closed, and its records. */
+void free_held(holding *holds);
+
+/* Opens the next handle that a keeper of a table keeps, and at last the keeper itself. HOT_DONE; or HOT_CLOSED if there is none, or
+ * HOT_NO_MEMORY. */
+hot_status open_next(hot_handle *keeper, hot_handle *handle, holding *holds);
 
 /* A load, the table that is made of it, and the words that it fills. */
 typedef struct begun_load {
     loading load;
+    size_t handles; /* of the table */
     heap_table table;
     void *words;
 } begun_load;
