@@ -250,6 +250,27 @@ static void handles(int kind, uint32_t keys)
     tell("a handle, in use", kind_names[kind], keys, (now_resident() - before) / (HANDLES - 1));
 }
 
+/* What an index with one handle and so few keys takes, and how long a processor is at it until it is open. */
+static void small(int kind, uint32_t keys)
+{
+    enum { MANY = 20000 };
+    static hot_handle all[MANY];
+    hot_stock stock = stock_for(kind, keys);
+    double before = now_resident(), begun = seconds(CLOCK_PROCESS_CPUTIME_ID), used;
+    hot_index *index;
+    int place;
+    for (place = 0; place < MANY; place++) {
+        must(hot_open_index(&stock, 1, &index), HOT_DONE);
+        must(hot_open(index, &all[place]), HOT_DONE);
+    }
+    used = seconds(CLOCK_PROCESS_CPUTIME_ID) - begun;
+    for (place = 0; place < MANY; place++) {
+        insert(&all[place], kind, 0, keys);
+    }
+    tell("a small index: bytes", kind_names[kind], keys, (now_resident() - before) / MANY);
+    tell("a small index: microseconds", kind_names[kind], keys, 1e6 * used / MANY);
+}
+
 /* What it takes to make a table for so many keys: milliseconds of a processor for each 100 MB, and what is resident then. The most that
  * was counts the chunk as often as it is mapped. */
 static void making(int kind, uint32_t keys)
@@ -295,7 +316,7 @@ int main(int words, char **word)
     failed |= apart(fresh, PAGES, 200000) | apart(fresh, DENSE, 200000) | apart(replaced, RANDOM, 200000);
     failed |= apart(loaded, RANDOM, 1000000) | apart(loaded, PAGES, 200000);
     failed |= apart(by_threads, RANDOM, 300000) | apart(by_threads_huge, RANDOM, 300000) | apart(by_handles_huge, RANDOM, 1000000);
-    failed |= apart(handles, RANDOM, 10000);
+    failed |= apart(handles, RANDOM, 10000) | apart(small, RANDOM, 10);
     for (keys = 1000000; keys <= most; keys *= 10) {
         failed |= apart(making, RANDOM, (uint32_t)keys);
     }

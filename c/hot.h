@@ -44,7 +44,7 @@
  * Each other call ends after a bounded number of steps, whatever other threads do: a step is one atomic access to a word of the index.
  * Each call below that makes steps gives its bound, for the worst tree that there can be.
  *
- * Memory. An index has its records from the beginning, and a handle 118 KB of lists from when it is first opened, so that no change asks
+ * Memory. An index has its records from the beginning, and a handle 119 KB of lists from when it is first opened, so that no change asks
  * for memory. But a page of 4 KiB takes memory only once something is written there: so an index takes what its keys need, and a handle
  * some 40 KB. A page that was written stays when keys go. Tables of 16 MiB and more ask for huge pages, of 2 MiB, where the system lets
  * them: at once, but for the first 8 MiB of the records of a size, and of those that each handle claims for itself. There 2 MiB get a huge page
@@ -177,10 +177,10 @@ typedef struct hot_stock {
 hot_status hot_create_with(const hot_stock *stock, hot_handle *handles, size_t count);
 
 /* Writes a stock for `keys` keys of at most `longest` bytes each. It has 4 leaves for 3 keys, of the smallest size with room for such a
- * key, one node for 4 keys, and 512 more of both. Take the most keys that there will ever be: what isn't used takes no memory, only time when
- * the table is made. That was enough for random keys, URLs, numbers and text with a rising number, also where keys came and went for long. It
- * is enough for eight threads that change the index. Numbers with few bits set may take more, and keys that somebody chose to do harm up to
- * one node each: hot_stock_for_any_keys has room for them. */
+ * key, one node for 3 keys, and of both 1 and one for 16 keys to spare, 512 at most. Take the most keys that there will ever be: what isn't used
+ * takes no memory, only time when the table is made. That was enough for random keys, URLs, numbers, also with few bits set, and text with a
+ * rising number, also where keys came and went for long. If several threads change the index, take 256 keys for each at least, for eight at
+ * most. Keys that somebody chose to do harm may take up to one node each: hot_stock_for_any_keys has room for them. */
 void hot_stock_for_keys(uint32_t keys, size_t longest, hot_stock *stock);
 
 /* Writes a stock that is always enough for `keys` keys of at most `longest` bytes each, whatever they are, in an index of so many handles: a
@@ -194,7 +194,7 @@ void hot_stock_for_any_keys(uint32_t keys, size_t longest, size_t handles, hot_s
  * that is not 0 it has as many leaves as hot_stock_for_keys would give, and nodes for all keys together. */
 void hot_stock_for_lengths(const uint32_t *keys, hot_stock *stock);
 
-/* Writes how many bytes the records and pins of an index with this stock and this number of handles have. The lists of handles, 118 KB each,
+/* Writes how many bytes the records and pins of an index with this stock and this number of handles have. The lists of handles, 119 KB each,
  * are not counted.
  * HOT_DONE; or HOT_OUT_OF_RANGE or HOT_OLD_PROCESSOR, where hot_create_with would return that. */
 hot_status hot_stock_bytes(const hot_stock *stock, size_t handles, size_t *bytes);

@@ -881,9 +881,10 @@ class index {
         check(hot_open_index_within(&stock, handles, most, &made));
         at_ = std::shared_ptr<hot_index>(made, hot_close_index);
     }
-    /// The same with `stock_for_keys(keys, longest)`: room for `keys` keys of at most `longest` bytes each. A call with a key that no leaf
-    /// record has room for throws std::length_error.
-    index(std::uint32_t keys, std::size_t longest, std::size_t handles = 64) : index(stock_for_keys(keys, longest), handles) {}
+    /// The same with `stock_for_keys`: room for `keys` keys of at most `longest` bytes each; for 256 for each handle at least, of several, and
+    /// for eight of them at most. A call with a key that no leaf record has room for throws std::length_error.
+    index(std::uint32_t keys, std::size_t longest, std::size_t handles = 64)
+        : index(stock_for_keys(std::max(keys, least_for(handles)), longest), handles) {}
     /// Makes an index of pairs, whose keys rise: hot_load. They are a key and a value each, in anything that can be iterated over, such as a
     /// std::map, a vector of entries, or the range of a scan in another index. Throws as the constructor does,
     /// load_error where a pair is refused, and what the iterators throw. Nothing is left then.
@@ -953,6 +954,10 @@ class index {
     }
 
   private:
+    /// For how many keys at least an index has records that so many handles change.
+    static std::uint32_t least_for(std::size_t handles) {
+        return handles > 1 ? 256 * static_cast<std::uint32_t>(std::min<std::size_t>(handles, 8)) : 0;
+    }
     explicit index(std::shared_ptr<hot_index> at) : at_(std::move(at)) {}
     hot_index *at() const {
         if (!at_)

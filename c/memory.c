@@ -64,17 +64,36 @@ void __wrap_free(void *at) {
     __real_free(at);
 }
 
+/* The fewest bytes that were mapped at once. */
+static size_t least_mapped = SIZE_MAX;
+
 /* Without pages of its own a block comes from malloc. Fixed ones are in the place of others. */
 void *__wrap_mmap(void *at, size_t size, int protection, int flags, int file, off_t offset) {
     if (is_refused(1))
         return MAP_FAILED;
     at = __real_mmap(at, size, protection, flags, file, offset);
+    least_mapped = size < least_mapped ? size : least_mapped;
     in_use += at == MAP_FAILED || flags & MAP_FIXED ? 0 : size;
     return at;
 }
 
+/* Where addresses of lists begin that are no memory yet: no huge page is to stand there. */
+enum { MOST_ADDRESSES = 2048 };
+static void *addresses[MOST_ADDRESSES];
+
+static void **addresses_at(const void *at) {
+    int place = 0;
+    while (place < MOST_ADDRESSES - 1 && addresses[place] != at)
+        place++;
+    return &addresses[place];
+}
+
 int __wrap_munmap(void *at, size_t size) {
-    in_use -= size;
+    void **listed = addresses_at(at);
+    if (*listed == at)
+        *listed = NULL;
+    else
+        in_use -= size;
     return __real_munmap(at, size);
 }
 
@@ -110,7 +129,13 @@ static long filled;
 
 int __wrap_madvise(void *at, size_t size, int advice) {
     filled += advice == 25;
-    return is_refused(1) ? -1 : __real_madvise(at, size, advice);
+    if (is_refused(1))
+        return -1;
+    if (advice == MADV_NOHUGEPAGE) {
+        *addresses_at(NULL) = at;
+        in_use -= size;
+    }
+    return __real_madvise(at, size, advice);
 }
 
 static const hot_stock stock = {20, 40, 0, 0, 0, 10}, large_stock = {2500, 2500, 0, 0, 0, 10};
@@ -142,7 +167,7 @@ static void test_light(void) {
     none = in_use;
     CHECK(hot_open(index, &handle) == HOT_DONE);
     one = in_use;
-    CHECK(one - none <= 150000);
+    CHECK(one - none <= 80000);
     /* The last handle is open to the library, and 128 bytes of each are in the table. */
     CHECK((none - bytes - (one - none)) / HANDLES + 128 <= 360);
     for (turn = 0; turn < 10000; turn++) {
@@ -157,6 +182,32 @@ static void test_light(void) {
         CHECK(hot_close(&handles[turn]) == HOT_DONE);
     CHECK(hot_close_index(index) == HOT_DONE && in_use == 0);
     printf("%d handles take %zu bytes, and each that is open %zu\n", HANDLES, none - bytes, one - none);
+}
+
+/* Many small indexes: each takes 6 KiB at most with its handle and ten keys, and none of their changes asks for memory. No mapping is small. */
+static void test_small(void) {
+    enum { MANY = 1000, KEYS = 10, MOST = 6 << 10 };
+    static hot_index *indexes[MANY];
+    static hot_handle handles[MANY];
+    hot_stock small;
+    size_t place, before = in_use;
+    uint64_t key;
+    long first = resident(), made = 0;
+    least_mapped = SIZE_MAX;
+    hot_stock_for_keys(KEYS, 8, &small);
+    for (place = 0; place < MANY; place++) {
+        CHECK(hot_open_index(&small, 1, &indexes[place]) == HOT_DONE && hot_open(indexes[place], &handles[place]) == HOT_DONE);
+        made = asked;
+        for (key = 0; key < 3 * KEYS; key++)
+            CHECK(hot_upsert(&handles[place], (const uint8_t *)&key, 8, key, NULL) == HOT_NEW &&
+                  (key < KEYS || hot_remove(&handles[place], (const uint8_t *)&key, 8, NULL) == HOT_REMOVED));
+        CHECK(asked == made);
+    }
+    CHECK((in_use - before) / MANY <= MOST && (resident() - first) / MANY <= MOST + WATCHING && least_mapped >= 64 << 10);
+    printf("a small index takes %zu bytes, and %ld are resident\n", (in_use - before) / MANY, (resident() - first) / MANY);
+    for (place = 0; place < MANY; place++)
+        CHECK(hot_close(&handles[place]) == HOT_DONE && hot_close_index(indexes[place]) == HOT_DONE);
+    CHECK(in_use == before);
 }
 
 /* Between its calls a handle keeps 64 KiB at most of what its scans took, however many pairs they listed, and some of it. */
@@ -229,7 +280,7 @@ static void test_resident(void) {
     CHECK(made - first < 1000000);
     CHECK(hot_open(index, &handle) == HOT_DONE && hot_open(index, &other) == HOT_DONE);
     opened = resident();
-    CHECK(opened - made < 60000 + WATCHING);
+    CHECK(opened - made < 20000 + WATCHING);
     for (key = 0; key < FEW; key++) {
         uint64_t mixed = key * 0x9E3779B97F4A7C15u;
         CHECK(hot_insert(&handle, (const uint8_t *)&mixed, 8, key, NULL) == HOT_INSERTED);
@@ -636,6 +687,7 @@ int main(void) {
     test_resident();
     test_load_resident();
     test_light();
+    test_small();
     test_kept();
     test_looked_up();
     test_huge();

@@ -164,20 +164,20 @@ static void test_stock_sizes(void) {
     hot_stock stock;
     size_t size = 7;
     hot_stock_for_keys(7, 8, &stock);
-    CHECK(stock.nodes == 513 && stock.short_leaves == 521 && !stock.medium_leaves && !stock.large_leaves);
-    CHECK(hot_stock_bytes(&stock, 1, &size) == HOT_DONE && size == 255680);
-    CHECK(hot_stock_bytes(&stock, MANY + 1, &size) == HOT_OUT_OF_RANGE && size == 255680);
+    CHECK(stock.nodes == 3 && stock.short_leaves == 10 && !stock.medium_leaves && !stock.large_leaves);
+    CHECK(hot_stock_bytes(&stock, 1, &size) == HOT_DONE && size == 2688);
+    CHECK(hot_stock_bytes(&stock, MANY + 1, &size) == HOT_OUT_OF_RANGE && size == 2688);
     CHECK(hot_create_with(&stock, handles, 0) == HOT_OUT_OF_RANGE);
     CHECK(hot_create_with(&stock, handles, MANY) == HOT_DONE);
     for (int i = 0; i < MANY; i++)
         CHECK(hot_destroy(&handles[i]) == HOT_DONE);
     hot_stock_for_keys(8, 89, &stock);
-    CHECK(stock.nodes == 514 && stock.long_leaves == 522 && !stock.short_leaves && !stock.wide_leaves);
+    CHECK(stock.nodes == 3 && stock.long_leaves == 11 && !stock.short_leaves && !stock.wide_leaves);
     {
         static const uint32_t keys[5] = {8, 0, 80, 0, 1}, most[5] = {4294967295u, 4294967295u, 0, 0, 0};
         hot_stock_for_lengths(keys, &stock);
-        CHECK(stock.nodes == 534 && stock.short_leaves == 522 && !stock.medium_leaves && stock.large_leaves == 618);
-        CHECK(!stock.wide_leaves && stock.long_leaves == 513);
+        CHECK(stock.nodes == 35 && stock.short_leaves == 11 && !stock.medium_leaves && stock.large_leaves == 112);
+        CHECK(!stock.wide_leaves && stock.long_leaves == 2);
         hot_stock_for_lengths(most, &stock);
         CHECK(hot_create_with(&stock, handles, 1) == HOT_OUT_OF_RANGE);
         hot_stock_for_keys(8, 89, &stock);
@@ -233,6 +233,51 @@ static void test_any_keys(void) {
             CHECK(hot_len(&handle, &keys) == HOT_DONE && hot_census(&handle, &counts) == HOT_DONE && counts.nodes.live < keys);
             for (number = round; number < many[kind]; number += 3)
                 CHECK(hot_remove(&handle, key, spread_key(kind, number, key), NULL) < HOT_BUSY);
+        }
+        CHECK(hot_destroy(&handle) == HOT_DONE);
+    }
+}
+
+/* The stock for so many keys is enough for numbers with few bits set, and for those of tenants that have a bit for each of their buckets: they
+ * take more nodes than others do. Some go, and come again. */
+static void test_few_bits(void) {
+    enum { MANY = 100000, BUCKETS = 32, EACH = 2 };
+    int is_of_tenants;
+    for (is_of_tenants = 0; is_of_tenants < 2; is_of_tenants++) {
+        hot_handle handle = HOT_HANDLE;
+        hot_stock stock;
+        uint8_t key[8];
+        uint32_t turn;
+        hot_stock_for_keys(MANY, 8, &stock);
+        CHECK(hot_create_with(&stock, &handle, 1) == HOT_DONE);
+        for (turn = 0; turn < 3 * MANY; turn++) {
+            uint32_t number = turn % MANY, whose = number / (BUCKETS * EACH), bucket = number / EACH % BUCKETS;
+            uint64_t bits = is_of_tenants ? (uint64_t)whose << 40 | UINT64_C(1) << (8 + bucket) : (uint64_t)whose << 32 | UINT64_C(1) << bucket;
+            int at;
+            for (bits |= number % EACH, at = 0; at < 8; at++)
+                key[at] = (uint8_t)(bits >> (56 - 8 * at));
+            if (turn / MANY == 1 && number % 3 == 0)
+                CHECK(hot_remove(&handle, key, 8, NULL) <= HOT_REMOVED);
+            else
+                CHECK(hot_upsert(&handle, key, 8, number, NULL) < HOT_BUSY);
+        }
+        CHECK(hot_destroy(&handle) == HOT_DONE);
+    }
+}
+
+/* The stock for few keys is enough for each number of them, also where one at a time goes and another one comes. */
+static void test_few_keys(void) {
+    enum { FEW = 200, TURNS = 10 };
+    uint32_t keys, turn;
+    for (keys = 1; keys <= FEW; keys++) {
+        hot_handle handle = HOT_HANDLE;
+        hot_stock stock;
+        hot_stock_for_keys(keys, 8, &stock);
+        CHECK(hot_create_with(&stock, &handle, 1) == HOT_DONE);
+        for (turn = 0; turn < TURNS * keys; turn++) {
+            uint64_t old = (turn - keys) * UINT64_C(0x9e3779b97f4a7c15), new = turn * UINT64_C(0x9e3779b97f4a7c15);
+            CHECK(turn < keys || hot_remove(&handle, (uint8_t *)&old, 8, NULL) == HOT_REMOVED);
+            CHECK(hot_insert(&handle, (uint8_t *)&new, 8, turn, NULL) == HOT_INSERTED);
         }
         CHECK(hot_destroy(&handle) == HOT_DONE);
     }
@@ -356,6 +401,8 @@ int main(void) {
     test_stock();
     test_stock_sizes();
     test_any_keys();
+    test_few_bits();
+    test_few_keys();
     test_sizes();
     test_bytes();
     puts(failures ? "c/records.c failed" : "passed: c/records.c");

@@ -121,12 +121,19 @@ static void free_shared(shared_index *of) {
     sqlite3_free(of);
 }
 
+/* What an index is to have room for: if several connections may change it, for as many keys at least as hot.h says. */
+static hot_stock stock_for(const wanted_index *wanted) {
+    const long long handles = wanted->handles < 8 ? wanted->handles : 8, least = handles > 1 ? 256 * handles : 0;
+    hot_stock stock;
+    hot_stock_for_keys((uint32_t)(wanted->keys > least ? wanted->keys : least), (size_t)wanted->longest, &stock);
+    return stock;
+}
+
 /* Makes the index itself. One that grows has a handle of its own. */
 static hot_status open_index(const wanted_index *wanted, hot_index **index) {
     enum { MOST_TO_GROW = 1023 };
-    size_t handles = (size_t)wanted->handles;
-    hot_stock stock;
-    hot_stock_for_keys((uint32_t)wanted->keys, (size_t)wanted->longest, &stock);
+    const size_t handles = (size_t)wanted->handles;
+    const hot_stock stock = stock_for(wanted);
     if (!wanted->grows)
         return hot_open_index(&stock, handles, index);
     return hot_open_growing(&stock, SIZE_MAX, handles < MOST_TO_GROW ? handles : MOST_TO_GROW, index);

@@ -90,8 +90,9 @@ static void begin_turn(void *ended) {
     PyEval_RestoreThread(ended);
 }
 
-/* What a new map is to have room for, if it says so: -1 with an exception. */
-static int stock_for(PyObject *capacity, Py_ssize_t longest, hot_stock *stock) {
+/* What a new map is to have room for, if it says so: -1 with an exception. Where several threads may change it, that is for as many keys at
+ * least as hot.h says. */
+static int stock_for(PyObject *capacity, Py_ssize_t longest, Py_ssize_t threads, hot_stock *stock) {
     if (capacity == Py_None)
         return 0;
     long long count = PyLong_AsLongLong(capacity);
@@ -105,7 +106,8 @@ static int stock_for(PyObject *capacity, Py_ssize_t longest, hot_stock *stock) {
         PyErr_Format(PyExc_ValueError, "longest is from 0 to %d", HOT_MAX_KEY);
         return -1;
     }
-    hot_stock_for_keys((uint32_t)count, (size_t)longest, stock);
+    const long long least = threads > 1 ? 256 * (threads < 8 ? threads : 8) : 0;
+    hot_stock_for_keys((uint32_t)(count > least ? count : least), (size_t)longest, stock);
     return 0;
 }
 
@@ -132,7 +134,7 @@ static int map_init(PyObject *self, PyObject *words, PyObject *named) {
         return -1;
     }
     wanted.threads = (size_t)threads;
-    if (stock_for(capacity, longest, &wanted.stock) < 0)
+    if (stock_for(capacity, longest, threads, &wanted.stock) < 0)
         return -1;
     /* Python code that ran up to here may have called it, too. */
     if (it->is_begun) {

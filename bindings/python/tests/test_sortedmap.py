@@ -323,7 +323,7 @@ class Whole(unittest.TestCase):
         ]:
             with self.assertRaises(error):
                 SortedMap(wrong, sorted=True)  # type: ignore[arg-type]
-        full = SortedMap(keys=int, capacity=0, grow=False)
+        full = SortedMap(keys=int, capacity=0, threads=1, grow=False)
         with self.assertRaises(FullError) as raised:
             full.update((at, at) for at in range(3000))
         self.assertIsNone(raised.exception.number)

@@ -152,10 +152,11 @@ pub struct Hot {
 }
 
 impl Hot {
-    /// Makes an empty index with room for so many keys of at most `longest` bytes, and for 1 to 1,024 handles at a time. What
-    /// isn't used takes no memory.
+    /// Makes an empty index with room for so many keys of at most `longest` bytes, and for 1 to 1,024 handles at a time: if these are
+    /// several, for 256 keys each at least, and 8 at most. What isn't used takes no memory.
     pub fn with_capacity(keys: usize, longest: usize, handles: usize) -> Result<Hot, Error> {
-        Hot::with_stock(&Stock::for_keys(keys, longest)?, handles)
+        let least = if handles > 1 { 256 * handles.min(8) } else { 0 };
+        Hot::with_stock(&Stock::for_keys(keys.max(least), longest)?, handles)
     }
 
     /// Makes an empty index with these records, and room for 1 to 1,024 handles at a time.

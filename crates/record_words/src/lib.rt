@@ -271,13 +271,19 @@ pub const LARGE_BYTES: usize = WORD_BYTES * (LARGE_WORDS - 1 - FIRST_KEY_WORD);
 pub const WIDE_BYTES: usize = WORD_BYTES * (WIDE_WORDS - 1 - FIRST_KEY_WORD);
 
 /// For how many keys `Stock::for_keys` has one node record.
-pub const KEYS_A_NODE: u32 = 4;
+pub const KEYS_A_NODE: u32 = 3;
 
 /// For how many keys `Stock::for_keys` has one leaf record to spare.
 pub const KEYS_A_SPARE_LEAF: u32 = 3;
 
-/// How many more node records and leaf records `Stock::for_keys` has, however few the keys are.
-pub const STOCK_SPARE: u32 = 512;
+/// How many node records and leaf records `Stock::for_keys` has to spare at least, however few the keys are.
+pub const LEAST_SPARE: u32 = 1;
+
+/// For how many keys `Stock::for_keys` has one record more of both to spare.
+pub const KEYS_A_SPARE: u32 = 16;
+
+/// How many of both `Stock::for_keys` has to spare at most, however many the keys are.
+pub const MOST_SPARE: u32 = 512;
 
 /// Why words can't be read: they are those of no value.
 #[derive(Clone, Copy)]
