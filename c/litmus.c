@@ -2,25 +2,33 @@
  *
  *     litmus [ROUNDS]     so many rounds of each test (100,000)
  *
- * Store buffering: each thread changes a key of its own, and then looks the other's up. One finds the other's change at least.
- * Message passing: one thread changes a key and then a flag. The other one that has found the flag finds the change. */
+ * Store buffering, between sections: each thread leaves its section, and then asks whether a moment is past at which both were open. The one
+ * that leaves last finds it past. Between that store and the load of the other's word stand the fewest instructions that there are between
+ * two calls: so if stores had no fence, many rounds would fail.
+ * Store buffering, between keys: each thread changes a key of its own, and then looks the other's up. One finds the other's change at least.
+ * Message passing: one thread changes a key and then a flag. The other one that has found the flag finds the change. No store of x86-64 comes
+ * before an earlier one, fence or not. */
 #include "hot.h"
 #include "check.h"
 #include <pthread.h>
 #include <sched.h>
 #include <stdio.h>
 #include <stdlib.h>
-#include <string.h>
 #include <unistd.h>
 
-/* Keys between those of the two threads: so few that a look-up is short, and so many that each thread locks nodes of its own. */
-#define BETWEEN 100
+/* Keys between those of the two threads. With the few a look-up is short, and each thread that changes a value locks a node of its own. With
+ * the many each thread's leaf has another node above its node, too, and that is what is locked where a key comes or goes. */
+enum { FEW = 100, MANY = 3000 };
 
 /* What two threads share in a test. */
 typedef struct test {
     unsigned rounds;
+    unsigned between;      /* keys between those of the threads */
     int is_by_presence;    /* a key comes and goes, where else its value rises */
-    unsigned arrived[32];  /* which round each has come to, on lines apart */
+    unsigned arrived;      /* how often the threads have come to a round */
+    unsigned begun;        /* the rounds that have begun */
+    uint64_t begin;        /* the cycle at which both go on */
+    hot_retirement moment; /* at which both sections were open */
     uint8_t *found_old[2]; /* by round, whether a thread didn't find the other's change */
 } test;
 
@@ -37,19 +45,45 @@ static void key_of(unsigned number, uint8_t key[4]) {
     key[2] = key[3] = 7;
 }
 
-static const unsigned own[2] = {0, BETWEEN + 1};
+static void own_key(const side *at, unsigned number, uint8_t key[4]) {
+    key_of(number == 0 ? 0 : at->of->between + 1, key);
+}
 
-/* Waits until the other thread has come to the round, too, and then a moment, which is another one from round to round: who is told last
- * that both have come begins later. */
-static void meet(side *at, unsigned round) {
+/* Begins a round for both threads: each has ended the one before. The last one that comes says when. */
+static void begin_round(side *at, unsigned round) {
+    enum { UNTIL_BOTH = 2500 };
+    test *of = at->of;
     unsigned tries = 0;
-    volatile unsigned moment;
-    __atomic_store_n(&at->of->arrived[16 * at->number], round, __ATOMIC_RELEASE);
-    while (__atomic_load_n(&at->of->arrived[16 * !at->number], __ATOMIC_ACQUIRE) < round)
+    if (__atomic_add_fetch(&of->arrived, 1, __ATOMIC_SEQ_CST) == 2 * round) {
+        CHECK(hot_retired(at->handle, &of->moment) == HOT_DONE);
+        of->begin = __builtin_ia32_rdtsc() + UNTIL_BOTH;
+        __atomic_store_n(&of->begun, round, __ATOMIC_RELEASE);
+        return;
+    }
+    while (__atomic_load_n(&of->begun, __ATOMIC_ACQUIRE) < round)
         if (++tries % 1000 == 0)
             sched_yield();
-    for (moment = round * (5 + 8 * at->number) % 61; moment > 0; moment--)
+}
+
+/* Lets both go on in the same cycle, but for some that are other ones from round to round, below `spread`. */
+static void wait_for_both(const side *at, unsigned round, unsigned spread) {
+    uint64_t begin = at->of->begin + (round * (at->number == 0 ? 2654435761u : 2246822519u) >> 16) % spread;
+    while (__builtin_ia32_rdtsc() < begin)
         ;
+}
+
+static void *leave(void *given) {
+    side *at = given;
+    unsigned round;
+    for (round = 1; round <= at->of->rounds; round++) {
+        CHECK(hot_enter(at->handle) == HOT_DONE);
+        begin_round(at, round);
+        CHECK(hot_is_past(at->handle, &at->of->moment) == HOT_NOT_PAST);
+        wait_for_both(at, round, 100);
+        CHECK(hot_leave(at->handle) == HOT_DONE);
+        at->of->found_old[at->number][round - 1] = hot_is_past(at->handle, &at->of->moment) == HOT_NOT_PAST;
+    }
+    return NULL;
 }
 
 static void *buffer(void *given) {
@@ -57,11 +91,13 @@ static void *buffer(void *given) {
     uint8_t mine[4], other[4];
     unsigned round;
     uint64_t value = 0;
-    key_of(own[at->number], mine);
-    key_of(own[!at->number], other);
+    own_key(at, at->number, mine);
+    own_key(at, !at->number, other);
     for (round = 1; round <= at->of->rounds; round++) {
         int is_here, goes = at->of->is_by_presence && round % 2 != 0;
-        meet(at, round);
+        begin_round(at, round);
+        hot_get(at->handle, other, 4, &value);
+        wait_for_both(at, round, 400);
         if (!at->of->is_by_presence)
             CHECK(hot_upsert(at->handle, mine, 4, round, NULL) == HOT_WAS);
         else if (goes)
@@ -78,8 +114,8 @@ static void *send(void *given) {
     side *at = given;
     uint8_t data[4], flag[4];
     unsigned round;
-    key_of(own[0], data);
-    key_of(own[1], flag);
+    own_key(at, 0, data);
+    own_key(at, 1, flag);
     for (round = 1; round <= at->of->rounds; round++) {
         if (at->of->is_by_presence) {
             CHECK(hot_remove(at->handle, data, 4, NULL) == HOT_REMOVED);
@@ -96,8 +132,8 @@ static void *receive(void *given) {
     side *at = given;
     uint8_t data[4], flag[4];
     uint64_t told = 0, value;
-    key_of(own[0], data);
-    key_of(own[1], flag);
+    own_key(at, 0, data);
+    own_key(at, 1, flag);
     while (told < at->of->rounds) {
         CHECK(hot_get(at->handle, flag, 4, &told) == HOT_FOUND);
         /* The key is absent where it is about to come again, in a later round. */
@@ -116,13 +152,13 @@ static void run(test *of, void *(*first)(void *), void *(*second)(void *)) {
     side sides[2];
     pthread_t threads[2];
     unsigned i;
-    CHECK(hot_create(BETWEEN, 2 * BETWEEN, handles, 2) == HOT_DONE);
-    for (i = 0; i <= BETWEEN + 1; i++) {
+    CHECK(hot_create(of->between, 2 * of->between, handles, 2) == HOT_DONE);
+    for (i = 0; i <= of->between + 1; i++) {
         uint8_t key[4];
         key_of(i, key);
         CHECK(hot_insert(&handles[0], key, 4, 0, NULL) == HOT_INSERTED);
     }
-    memset(of->arrived, 0, sizeof of->arrived);
+    of->arrived = of->begun = 0;
     for (i = 0; i < 2; i++) {
         sides[i].of = of;
         sides[i].number = i;
@@ -136,18 +172,18 @@ static void run(test *of, void *(*first)(void *), void *(*second)(void *)) {
 }
 
 /* Runs a test of store buffering. In no round neither thread finds the other's change. */
-static void test_store_buffering(test *of) {
+static void test_store_buffering(test *of, void *(*does)(void *), const char *what) {
     unsigned round, forbidden = 0;
-    run(of, buffer, buffer);
+    run(of, does, does);
     for (round = 0; round < of->rounds; round++)
         forbidden += of->found_old[0][round] && of->found_old[1][round];
     if (forbidden)
-        fprintf(stderr, "store buffering: in %u of %u rounds neither thread found the other's change\n", forbidden, of->rounds);
+        fprintf(stderr, "store buffering: in %u of %u rounds neither thread found that the other %s\n", forbidden, of->rounds, what);
     CHECK(forbidden == 0);
 }
 
 int main(int words, char **word) {
-    test of;
+    static test of;
     unsigned i;
     alarm(900); /* a call that never returns ends the test */
     of.rounds = words > 1 ? (unsigned)strtoul(word[1], NULL, 10) : 100000;
@@ -155,9 +191,12 @@ int main(int words, char **word) {
     of.found_old[1] = malloc(of.rounds);
     if (of.found_old[0] == NULL || of.found_old[1] == NULL)
         return 2;
+    of.between = FEW;
+    test_store_buffering(&of, leave, "has left its section");
     for (i = 0; i < 2 && !failures; i++) {
         of.is_by_presence = (int)i;
-        test_store_buffering(&of);
+        of.between = i == 0 ? FEW : MANY;
+        test_store_buffering(&of, buffer, i == 0 ? "has changed its key's value" : "has changed whether its key is there");
         run(&of, send, receive);
     }
     free(of.found_old[0]);
