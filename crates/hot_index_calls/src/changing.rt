@@ -68,6 +68,7 @@ fn collect_due<G: Gate>(table: &HotTable, seat: &mut TableSeat, gate: &mut G, sc
 /// Tries to make the change `call`. If no record was free, it makes a round of collection and tries once more. Returns the reply, or why
 /// the last attempt was refused. If a second attempt could find no record, it does nothing, and the refusal is the first one's.
 /// `scratch.build.made` lists what it had claimed, if no record was free.
+#[inline(always)]
 fn try_twice<G: Gate>(
     table: &HotTable,
     seat: &mut TableSeat,
@@ -269,6 +270,7 @@ pub fn retry_change<R: Wait, G: Gate>(
 
 /// Makes one attempt at `call`, with the pass pinned, and notes its reply if it has one. Returns the reply, or why the attempt was
 /// refused.
+#[inline(always)]
 fn make_attempt<G: Gate>(
     table: &HotTable,
     seat: &mut TableSeat,

@@ -19,6 +19,7 @@ use rowex_table::{HotTable, TableSeat};
 
 /// Loads the epoch, straight after the publish of `store`, and marks with it the records `gone`, which that has unlinked. Then it unlocks
 /// the nodes `store.kept`, the first one first, and the anchor, if the root was stored. The pass has no record and no lock then.
+#[inline(always)]
 pub(crate) fn retire_records<G: Gate>(
     table: &HotTable,
     seat: &mut TableSeat,
@@ -94,6 +95,7 @@ pub(crate) fn release_records_and_locks<G: Gate>(
 }
 
 /// Marks the records `recs`, all that the pass has unlinked, with `epoch`, which it has just loaded.
+#[inline(always)]
 fn mark_records<G: Gate>(
     table: &HotTable,
     seat: &mut TableSeat,

@@ -35,6 +35,7 @@ use rowex_records::make_ready;
 use rowex_table::{HotTable, TableSeat};
 
 /// Makes the records in `made`, all those of a change, ready to be linked, the last one first. `made` is empty then.
+#[inline(always)]
 fn ready_records<G: Gate>(
     table: &HotTable,
     seat: &mut TableSeat,
@@ -97,6 +98,7 @@ pub(crate) fn publish_change<G: Gate>(
 
 /// Makes the one store of a change. It makes the records in `build.made` ready, stores the word of `store.entry`, and marks the records in
 /// `build.gone`, which the store unlinks. Then it unlocks the nodes `store.kept`, and the anchor, if the root is stored.
+#[inline(always)]
 pub(crate) fn publish_entry<G: Gate>(
     table: &HotTable,
     seat: &mut TableSeat,
@@ -118,6 +120,7 @@ pub(crate) fn publish_entry<G: Gate>(
 }
 
 /// Sets `build.gone` to the records that a change unlinks: those of the nodes of `steps`, and leaf record `leaf`, if there is one.
+#[inline(always)]
 fn list_gone_records(build: &mut Build, steps: &[PathNode], leaf: Option<u32>)
     requires { length steps.now ≤ 2160 }
     ensures gone { build.new.gone.items ≡ map (λ (s : PathNodeView). a_node s.number) steps.now ++ leaf_gone leaf }
@@ -134,6 +137,7 @@ fn list_gone_records(build: &mut Build, steps: &[PathNode], leaf: Option<u32>)
 
 /// Returns the locked nodes of `way` that a change keeps. These are the one above `span`, if there is one, and the span's lowest, if `low`
 /// is its index. Else `low` is `span.len`.
+#[inline(always)]
 fn list_kept_nodes(way: &[PathNode], span: Span, low: usize) -> ArrayVec<PathNode, 2>
     requires { (span.end ≤ low) × (low ≤ span.len) × (span.len ≤ low + 1) × (span.len ≤ length way.now) }
     ensures { result.items ≡ slice_range way.now (span.end - 1) span.end ++ slice_range way.now low span.len }
