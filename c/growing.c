@@ -81,6 +81,39 @@ struct grower {
     table *left; /* those that calls may still be in */
 };
 
+/* ---- ThreadSanitizer ---- */
+
+/* In a program that it watches, but for this file, it sees what the library asks for, copies and frees, and no step by which threads wait for each
+ * other. So it looks away where a growth has what other threads had or will have. */
+#ifdef __SANITIZE_THREAD__
+#define IS_INSIDE
+#elif defined(__has_feature)
+#if __has_feature(thread_sanitizer)
+#define IS_INSIDE
+#endif
+#endif
+
+#ifdef IS_INSIDE
+static void look_away(void) {
+}
+
+static void look_again(void) {
+}
+#else
+void __tsan_ignore_thread_begin(void) __attribute__((weak));
+void __tsan_ignore_thread_end(void) __attribute__((weak));
+
+static void look_away(void) {
+    if (__tsan_ignore_thread_begin != NULL)
+        __tsan_ignore_thread_begin();
+}
+
+static void look_again(void) {
+    if (__tsan_ignore_thread_end != NULL)
+        __tsan_ignore_thread_end();
+}
+#endif
+
 /* ---- Calls ---- */
 
 enum { MEMBARRIER_EXPEDITED = 1 << 3, MEMBARRIER_REGISTER = 1 << 4 };
@@ -300,6 +333,7 @@ int free_left(grower *of) {
     int is_left = 1;
     if (!try_to_lock(&of->lock))
         return is_left;
+    look_away();
     while ((old = *at) != NULL)
         if (have_ended(of, old->seen)) {
             *at = old->next;
@@ -307,6 +341,7 @@ int free_left(grower *of) {
         } else {
             at = &old->next;
         }
+    look_again();
     is_left = of->left != NULL;
     note_bytes(of);
     if (!is_left)
@@ -413,9 +448,11 @@ static hot_status begin_growth(grower *of, uint64_t eighths, hot_status why, siz
     it->begun.load = none;
     it->logs = NULL;
     it->at = 0;
+    look_away();
     it->to = new_table(of, &of->head.now->stock);
     if (it->to != NULL)
         status = begin_job_load(of, it);
+    look_again();
     if (status != HOT_DONE) {
         free(it->to);
         free(it);
@@ -591,7 +628,7 @@ static void take_over(grower *of) {
 
 /* Makes a portion of the growth that is under way. Writes 1 to `is_waiting` if it waits for changes that are under way. HOT_DONE; or why the growth was
  * given up. */
-static hot_status make_portion(grower *of, int *is_waiting) {
+static hot_status make_next_portion(grower *of, int *is_waiting) {
     job *it = of->job;
     hot_status status = it->next == GIVE_UP ? HOT_DONE : __atomic_load_n(&of->head.refused, __ATOMIC_SEQ_CST);
     *is_waiting = 0;
@@ -625,6 +662,14 @@ static hot_status make_portion(grower *of, int *is_waiting) {
     if (status != HOT_DONE)
         give_up(of, status);
     return HOT_DONE;
+}
+
+static hot_status make_portion(grower *of, int *is_waiting) {
+    hot_status status;
+    look_away();
+    status = make_next_portion(of, is_waiting);
+    look_again();
+    return status;
 }
 
 /* Makes all portions that are left. HOT_DONE; or why the growth was given up. */

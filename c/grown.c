@@ -441,11 +441,9 @@ static key met_key(unsigned at) {
 /* A thread that makes changes in each growth, of keys that no other changes then. */
 typedef struct meeting {
     hot_handle handle;
-    unsigned turn;   /* the growth in which it is to make them */
-    unsigned begun;  /* the last one that has begun */
-    unsigned first;  /* the last one in which it has made a change */
-    unsigned made;   /* and all */
-    uint64_t value;  /* of the last change */
+    unsigned turn;  /* the growth in which it is to make them */
+    unsigned first; /* the last one in which it has made one */
+    unsigned made;  /* and all */
 } meeting;
 
 static void pause_for(unsigned times) {
@@ -457,46 +455,11 @@ static void set_turn(unsigned *to, unsigned turn) {
     __atomic_store_n(to, turn, __ATOMIC_SEQ_CST);
 }
 
-static int has_come(const unsigned *to, unsigned turn) {
-    return __atomic_load_n(to, __ATOMIC_SEQ_CST) >= turn;
-}
-
 static void wait_for(const unsigned *to, unsigned turn) {
     unsigned turns = 0;
-    while (!has_come(to, turn))
+    while (__atomic_load_n(to, __ATOMIC_SEQ_CST) < turn)
         if (++turns % 1024 == 0)
             sched_yield();
-}
-
-static void change_met(meeting *me, unsigned at, uint64_t value) {
-    key it = met_key(at);
-    CHECK(hot_upsert(&me->handle, it.bytes, it.length, value, NULL) == HOT_WAS);
-    me->value = value;
-}
-
-/* Makes stores that take long, since no cache has what they change: those behind them wait until others see them, while loads don't. */
-static void store_far_away(uint64_t *state) {
-    enum { LINES = 40, LINE = 64, ALL = 1 << 25 };
-    static uint8_t far[ALL];
-    unsigned at;
-    for (at = 0; at < LINES; at++)
-        ((volatile uint8_t *)far)[next(state) % (ALL / LINE) * LINE] = (uint8_t)at;
-}
-
-/* Changes the first key until a growth has begun: what it stores at the last time is seen late. */
-static void *change_until_it_begins(void *given) {
-    meeting *me = given;
-    uint64_t state = 88172645463325252u, value = 0;
-    unsigned turn;
-    for (turn = 1; wait_for(&me->turn, turn), !is_done(); turn++) {
-        do {
-            store_far_away(&state);
-            change_met(me, 0, ++value);
-            set_turn(&me->first, turn);
-        } while (!has_come(&me->begun, turn));
-        set_turn(&me->made, turn);
-    }
-    return NULL;
 }
 
 /* Changes each key once. */
@@ -505,7 +468,8 @@ static void *change_each(void *given) {
     unsigned turn, at;
     for (turn = 1; wait_for(&me->turn, turn), !is_done(); turn++) {
         for (at = 0; at < MET; at++) {
-            change_met(me, at, turn);
+            key it = met_key(at);
+            CHECK(hot_upsert(&me->handle, it.bytes, it.length, turn, NULL) == HOT_WAS);
             set_turn(&me->first, turn);
         }
         set_turn(&me->made, turn);
@@ -517,58 +481,6 @@ static void *change_each(void *given) {
 static int is_time_left(time_t began, unsigned turn, unsigned rounds) {
     enum { MOST_SECONDS = 10 };
     return !failures && turn <= rounds && time(NULL) - began <= MOST_SECONDS;
-}
-
-static void begin_meetings(meeting *with, hot_handle *handle, pthread_t *thread, void *(*change)(void *)) {
-    static const meeting none = {HOT_HANDLE, 0, 0, 0, 0, 0};
-    unsigned at;
-    share(open_small(2, handle), 0);
-    *with = none;
-    CHECK(hot_open(shared, &with->handle) == HOT_DONE);
-    for (at = 0; at < MET; at++) {
-        key it = met_key(at);
-        CHECK(hot_insert(handle, it.bytes, it.length, 0, NULL) == HOT_INSERTED);
-    }
-    CHECK(pthread_create(thread, NULL, change, with) == 0);
-}
-
-static void end_meetings(meeting *with, hot_handle *handle, pthread_t thread) {
-    set_turn(&is_over, 1);
-    set_turn(&with->turn, UINT32_MAX);
-    CHECK(pthread_join(thread, NULL) == 0 && hot_close(&with->handle) == HOT_DONE);
-    close_all(handle, shared);
-}
-
-static void check_met(hot_handle *handle, unsigned at, uint64_t value) {
-    key it = met_key(at);
-    uint64_t found = 0;
-    CHECK(hot_get(handle, it.bytes, it.length, &found) == HOT_FOUND && found == value);
-}
-
-/* A change that is under way when a growth begins isn't lost, also where its thread has stored that it is and no other sees that yet: without
- * membarrier the growth would list the key before it is changed, and the change would not know that it is to be noted. */
-static void test_beginnings(unsigned rounds) {
-    static meeting with;
-    hot_handle handle = HOT_HANDLE;
-    pthread_t writer;
-    uint64_t state = 362436069u;
-    time_t began = time(NULL);
-    unsigned turn;
-    uint32_t more;
-    begin_meetings(&with, &handle, &writer, change_until_it_begins);
-    for (turn = 1; is_time_left(began, turn, rounds); turn++) {
-        set_turn(&with.turn, turn);
-        wait_for(&with.first, turn);
-        pause_for(next(&state) % 64);
-        CHECK(hot_grow_begin(shared) == HOT_DONE);
-        set_turn(&with.begun, turn);
-        for (more = 1; more;)
-            CHECK(hot_grow_step(shared, &more) == HOT_DONE);
-        wait_for(&with.made, turn);
-        check_met(&handle, 0, with.value);
-    }
-    end_meetings(&with, &handle, writer);
-    printf("changes were under way when %u growths began\n", turn - 1);
 }
 
 /* What a thread does that is stopped within a portion, as the system may stop it. */
@@ -591,14 +503,20 @@ static void test_catching_up(unsigned rounds) {
     static meeting with;
     hot_handle handle = HOT_HANDLE;
     pthread_t writer, stopper, self = pthread_self();
-    uint64_t state = 362436069u;
+    uint64_t state = 362436069u, found = 0;
     time_t began = time(NULL);
     unsigned turn, at, portion, begin;
     uint32_t more;
-    begin_meetings(&with, &handle, &writer, change_each);
+    share(open_small(2, &handle), 0);
+    CHECK(hot_open(shared, &with.handle) == HOT_DONE);
+    for (at = 0; at < MET; at++) {
+        key it = met_key(at);
+        CHECK(hot_insert(&handle, it.bytes, it.length, 0, NULL) == HOT_INSERTED);
+    }
+    CHECK(pthread_create(&writer, NULL, change_each, &with) == 0);
     CHECK(signal(SIGUSR1, stop_for_a_moment) != SIG_ERR && pthread_create(&stopper, NULL, stop_again_and_again, &self) == 0);
     for (turn = 1; is_time_left(began, turn, rounds); turn++) {
-        begin = next(&state) % 10;
+        begin = 5 + next(&state) % 4; /* those of its portions from which on changes are made in both tables */
         CHECK(hot_grow_begin(shared) == HOT_DONE);
         for (at = 0; at < MET; at++) {
             key it = met_key(at);
@@ -613,11 +531,15 @@ static void test_catching_up(unsigned rounds) {
         }
         set_turn(&with.turn, turn);
         wait_for(&with.made, turn);
-        for (at = 0; at < MET; at++)
-            check_met(&handle, at, turn);
+        for (at = 0; at < MET; at++) {
+            key it = met_key(at);
+            CHECK(hot_get(&handle, it.bytes, it.length, &found) == HOT_FOUND && found == turn);
+        }
     }
-    end_meetings(&with, &handle, writer);
-    CHECK(pthread_join(stopper, NULL) == 0);
+    set_turn(&is_over, 1);
+    set_turn(&with.turn, UINT32_MAX);
+    CHECK(pthread_join(writer, NULL) == 0 && pthread_join(stopper, NULL) == 0 && hot_close(&with.handle) == HOT_DONE);
+    close_all(&handle, shared);
     printf("keys were changed within %u growths that were stopped for moments\n", turn - 1);
 }
 
@@ -879,7 +801,6 @@ int main(int count, char **words) {
     test_bound();
     test_sections();
     test_load();
-    test_beginnings(50 * times);
     test_catching_up(20 * times);
     test_judge();
     test_histories(40 * times, 5 * times);
