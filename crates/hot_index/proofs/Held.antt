@@ -6,10 +6,8 @@ use Rattle.finite_map.specs.declared.Call.{Call}
 use Rattle.finite_map.specs.declared.Call.TheVariants.{Add, Exchange, Get, Insert, Remove, RemoveIf, Upsert}
 use Rattle.finite_map.specs.declared.Change.{Change}
 use Rattle.finite_map.specs.declared.Reply.{Reply}
-use Rattle.finite_map.specs.Calls.{LegalCalls, changes_of, own_changes}
 use Rattle.finite_map.specs.Fronts.{map_of}
 use Rattle.finite_map.specs.Maps.{key_of, value_at}
-use Rattle.finite_map.proofs.Alone.{own_changes-all}
 use Rattle.record_words.specs.declared.layout.Layout.{Layout}
 use Rattle.rowex_writing.specs.Attempts.{IsFullFault}
 use Rattle.rowex_writing.specs.Spare.{IsRemoval}
@@ -19,8 +17,8 @@ use Rattle.rowex_writing.specs.declared.plan.Full.{Full}
 use Rattle.rowex_writing.specs.declared.plan.Full.TheVariants.{Nodes, Leaves}
 use Rattle.hot_index_calls.specs.Answers.{IsNoted, IsRefused, IsRefusedFor, MayTake, WasFound, fault_of}
 use Rattle.hot_index_calls.specs.Asked.{last_try}
-use Rattle.hot_index_calls.specs.Passes.{AreByPasses, PassView}
-use Rattle.hot_index_calls.proofs.Noting.{All-part}
+use Rattle.hot_index_calls.specs.Passes.{PassView}
+use Rattle.hot_index_calls.proofs.Settled.{none_seen}
 use Rattle.hot_index.specs.Statements.{AbsentIsNeverFull, GivesValue, HeldIsNeverFull, OnePassRefusesNewAlone}
 use Rattle.hot_index.proofs.Alone.{one_pass_is_never_busy}
 
@@ -64,25 +62,10 @@ full_alone layout call k j Busy one refused = absurd (one_pass_is_never_busy lay
 full_alone layout call k j FullNodes one refused = tt
 full_alone layout call k j FullLeaves one refused = tt
 
--- with one pass each change is its own
-all_own : (layout : Layout) (q : ℕ) (front : List Change) → layout.passes ≡ 1 → q < layout.passes → AreByPasses layout front → own_changes q front ≡ front
-all_own layout q front one mine by = own_changes-all q front (λ i d low. (let its = by i d low in omega (arith, its, one, mine)))
-
--- so a call that is refused has seen no change
-none_seen : (layout : Layout) (call : Call) (k j : PassView) (fault : TryFault) → layout.passes ≡ 1 → j.number < layout.passes → LegalCalls k.front k.number k.notes → IsRefused layout call k j fault →
-    j.front ≡ k.front
-none_seen layout call k j fault one mine legal refused =
-    let unnoted = refused.unnoted in
-    let own : own_changes j.number j.front ≡ own_changes k.number k.front =
-    unnoted.legal.own ∙ ap (changes_of j.number) unnoted.notes ∙ ap (λ q. changes_of q k.notes) unnoted.number ∙ sym legal.own in
-    let (more, grown) = unnoted.front in
-    let by : AreByPasses layout k.front = All-part (λ (x : Change). x.pass < layout.passes) k.front more (subst (AreByPasses layout) grown unnoted.makers) in
-    sym (all_own layout j.number j.front one mine unnoted.makers) ∙ own ∙ all_own layout k.number k.front one (subst (λ q. q < layout.passes) unnoted.number mine) by
-
 pub one_pass_refuses_new_alone : OnePassRefusesNewAlone
 one_pass_refuses_new_alone layout call k j fault one mine legal refused gives =
     let was = takes_new call k j gives (refused.refused.full (full_alone layout call k j fault one refused)) in
-    let same : j.front ≡ k.front = none_seen layout call k j fault one mine legal refused.refused in
+    let same : j.front ≡ k.front = none_seen layout k j one mine legal refused.refused.unnoted in
     let at : was.place ≡ length k.front = (let begun = was.begun in let upto = was.upto in omega (arith, begun, upto, ap length same)) in
     sym (ap (λ (z : List Change). value_at (map_of z) (key_of call)) (ap (take was.place) same ∙ ap (λ n. take n k.front) at ∙ take-length k.front)) ∙ was.found
 

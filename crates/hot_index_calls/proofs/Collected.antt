@@ -14,11 +14,12 @@ use Rattle.finite_map.specs.Calls.{LegalCalls}
 use Rattle.finite_map.specs.Fronts.{BeginsWith}
 use Rattle.epochs.specs.Rounds.{IsRound, IsSmallRound, LoadsPin, VisitEach, Visits, advance_steps}
 use Rattle.epochs.specs.Runs.{collecting}
+use Rattle.rowex_writing.specs.declared.plan.Full.{Full}
 use Rattle.hot_index_calls.specs.Answers.{IsUnnoted}
 use Rattle.hot_index_calls.specs.Asked.{IsIdle}
 use Rattle.hot_index_calls.specs.Counts.{round_steps}
 use Rattle.hot_index_calls.specs.Passes.{AreByPasses, IsSettled, pass_of}
-use Rattle.hot_index_calls.specs.Traces.{AreSmallSteps, AreStepsBetween, Collects}
+use Rattle.hot_index_calls.specs.Traces.{AreSmallSteps, AreStepsBetween, Collects, CollectsNone, GiveNoneBetween, of_kind}
 use Rattle.hot_index_calls.proofs.Noting.{event_makers}
 
 -- how many steps the parts of a round have
@@ -183,3 +184,31 @@ between (inr (several, r)) = record {
   few = (let few = small_few r in omega (arith, few));
   are = inr (several, small_steps_of r);
 }
+
+-- so, and it gives back no record of this kind
+none_of_kind : (kind : Full) (n l m k : ℕ) → n ≡ m → l ≡ k → of_kind kind n l ≡ 0 → of_kind kind m k ≡ 0
+none_of_kind kind n l m k nodes leaves none = subst (λ z. of_kind kind z k ≡ 0) nodes (subst (λ z. of_kind kind n z ≡ 0) leaves none)
+
+pub none_between : {G : Type 0} {table : TableView} {becomes : G → Event → G → Type 0} {a b : SeatView × G} (kind : Full) → CollectsNone table becomes kind a b →
+    (round : AreBetween table becomes a b) × GiveNoneBetween table.layout kind (round.first ∷ round.rest)
+unfolding between
+none_between {b = b} kind (inl (nodes, leaves, r, none)) = (
+  between (inl (nodes, leaves, r)),
+  inl (
+    record {
+      epoch = r.epoch;
+      found = r.found;
+      next = r.next;
+      bound = b.0.known.round.bound;
+      pins = r.pins;
+      nodes = r.nodes;
+      leaves = r.leaves;
+      acts_are = refl;
+      loads_pins = r.loads_pins;
+      visits_nodes = r.visits_nodes;
+      visits_leaves = r.visits_leaves;
+    },
+    none_of_kind kind nodes leaves _ _ r.nodes_given r.leaves_given none,
+  ),
+)
+none_between kind (inr (several, r)) = (between (inr (several, r)), inr (several, small_steps_of r))

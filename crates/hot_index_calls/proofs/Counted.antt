@@ -42,7 +42,7 @@ single false = refl
 count_one : (is : Tag → Bool) (tags : List Tag) (tag : Tag) → count_by is (tags ++ tag ∷ []) ≡ count_by is tags + (if is tag then 1 else 0)
 count_one is tags tag = sum_by-append (λ t. if is t then 1 else 0) tags (tag ∷ []) ∙ ap (λ n. count_by is tags + n) (single (is tag))
 
-count_first : (is : Tag → Bool) (tag : Tag) (tags : List Tag) → count_by is (tag ∷ tags) ≡ (if is tag then 1 else 0) + count_by is tags
+pub count_first : (is : Tag → Bool) (tag : Tag) (tags : List Tag) → count_by is (tag ∷ tags) ≡ (if is tag then 1 else 0) + count_by is tags
 count_first is tag tags = sum_by-append (λ t. if is t then 1 else 0) (tag ∷ []) tags ∙ ap (λ n. n + count_by is tags) (single (is tag))
 
 same : (is : Tag → Bool) (tags : List Tag) (tag : Tag) → is tag ≡ false → count_by is (tags ++ tag ∷ []) ≡ count_by is tags

@@ -9,3 +9,4 @@ pub mod Trying
 pub mod Refusing
 pub mod Resting
 pub mod Roomy
+pub mod Settled

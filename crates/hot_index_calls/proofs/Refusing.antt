@@ -28,7 +28,8 @@ use Rattle.hot_index_calls.specs.Asked.{HasLacked, HasReplied}
 use Rattle.hot_index_calls.specs.Calls.{IsTriedAndCounted}
 use Rattle.hot_index_calls.specs.Census.{CountsAll}
 use Rattle.hot_index_calls.specs.Passes.{PassView, pass_of}
-use Rattle.hot_index_calls.specs.Refusals.{IsLeftOne, IsPassing, IsToldAfter, Judges, NeedsBeside, fault_in}
+use Rattle.hot_index_calls.specs.Rooms.{IsEarly}
+use Rattle.hot_index_calls.specs.Refusals.{AreAllAtRest, IsLeftOne, IsPassing, IsToldAfter, Judges, NeedsBeside, fault_in}
 use Rattle.hot_index_calls.specs.Traces.{HasStepped}
 use Rattle.hot_index_calls.specs.declared.census.RecordCounts.{RecordCounts}
 use Rattle.hot_index_calls.specs.declared.refusals.Refusal.{Refusal}
@@ -107,17 +108,18 @@ judged_fault passes lacks needs size counts (HeldBack full) j = ap fault_of j.0
 judged_fault passes lacks needs size counts (IsFull full shown) j = ap fault_of j.0
 
 pub told_after : {G : Type 0} {table : TableView} {becomes : G → Event → G → Type 0} {counts : RecordCounts} {m b : SeatView × G} (all : CountsAll table becomes counts m b) (some : 1 ≤ table.layout.nodes) (call : Call) (s : SeatView) (g : G) (lacks : Full) (made : List Rec) (needs : ℕ) →
-    HasLacked table made (Err (fault_of lacks)) s m.0 → needs ≡ length (nodes_among made) + 1 → ¬ (IsLeftOne table.layout.passes call) → (refusal : Refusal) → Judges table.layout.passes lacks needs (length (key_of call)) counts refusal →
+    HasLacked table made (Err (fault_of lacks)) s m.0 → needs ≡ length (nodes_among made) + 1 → ¬ (IsLeftOne table.layout.passes call) → (table.layout.passes ≡ 1 → IsEarly b.0 → AreAllAtRest counts) → (refusal : Refusal) → Judges table.layout.passes lacks needs (length (key_of call)) counts refusal →
     IsToldAfter call table becomes (pass_of s, g) (pass_of m.0, m.1) (pass_of b.0, b.1) refusal
-told_after {table = table} all some call s g lacks made needs lacked is other IsBusy j = absurd j
-told_after {table = table} {becomes = becomes} {counts = counts} {m = m} {b = b} all some call s g lacks made needs lacked is other (HeldBack full) j = inr (record {
+told_after {table = table} all some call s g lacks made needs lacked is other rest IsBusy j = absurd j
+told_after {table = table} {becomes = becomes} {counts = counts} {m = m} {b = b} all some call s g lacks made needs lacked is other rest (HeldBack full) j = inr (record {
   needs = needs;
   needed = subst (λ z. NeedsBeside table.layout (pass_of s) (pass_of m.0) z needs) (sym j.0) (needed table made lacks s m.0 needs lacked is);
   counts = counts;
   counted = has_counted all some;
   judged = subst (λ z. Judges table.layout.passes z needs (length (key_of call)) counts (HeldBack full)) (sym j.0) j;
+  alone = rest;
 })
-told_after {table = table} {becomes = becomes} {counts = counts} {m = m} {b = b} all some call s g lacks made needs lacked is other (IsFull full shown) j = (
+told_after {table = table} {becomes = becomes} {counts = counts} {m = m} {b = b} all some call s g lacks made needs lacked is other rest (IsFull full shown) j = (
   other,
   record {
     needs = needs;
@@ -125,6 +127,7 @@ told_after {table = table} {becomes = becomes} {counts = counts} {m = m} {b = b}
     counts = counts;
     counted = has_counted all some;
     judged = subst (λ z. Judges table.layout.passes z needs (length (key_of call)) counts (IsFull full shown)) (sym j.0) j;
+    alone = rest;
   },
 )
 

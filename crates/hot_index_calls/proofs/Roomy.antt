@@ -7,7 +7,8 @@ use Rattle.epochs.specs.Rounds.{IsRound, IsSmallRound, LoadsPin, VisitEach, Visi
 use Rattle.epochs.specs.Runs.{Pins}
 use Rattle.finite_map.specs.declared.Note.{Note}
 use Rattle.hot_index_calls.specs.Census.{FoundTags, loads_in, loads_of}
-use Rattle.hot_index_calls.specs.Traces.{Collects}
+use Rattle.hot_index_calls.specs.Rooms.{HasNoneRetired, IsStill, IsStillAt}
+use Rattle.hot_index_calls.specs.Traces.{Collects, HasEnded}
 use Rattle.lone_runs.proofs.Fates.{IsClosed, MarksWell, fate_kept, out_closed, out_marks}
 use Rattle.lone_runs.proofs.Lone.{IsBack, lead_layout, lead_same, one_of, runs_back, runs_free, runs_spare, step_back, step_knows, step_lawful, unused_free}
 use Rattle.lone_runs.proofs.Timely.{IsMarkedBy, run_timely}
@@ -19,13 +20,13 @@ use Rattle.record_words.specs.declared.state.Tag.{Tag}
 use Rattle.record_words.specs.declared.state.Tag.TheVariants.{Obsolete}
 use Rattle.rowex_core.proofs.Owning.{knows_all}
 use Rattle.rowex_core.proofs.Promises.{opening_is_lawful}
-use Rattle.rowex_core.specs.Cores.{Core, IsLawful, holder_of}
+use Rattle.rowex_core.specs.Cores.{Core, HasRecord, IsLawful, holder_of}
 use Rattle.rowex_core.specs.Events.{after, given_back}
 use Rattle.rowex_core.specs.Knowing.{Knows}
 use Rattle.rowex_core.specs.Opening.{opening}
 use Rattle.rowex_core.specs.Sharing.{Share}
 use Rattle.rowex_core.specs.Words.{lock_of, tag_of}
-use Rattle.rowex_core.specs.declared.event.Act.TheVariants.{Advance, GiveBack, LoadEpoch, LoadPin, LoadState, Mark, SetPin}
+use Rattle.rowex_core.specs.declared.event.Act.TheVariants.{Advance, ClearPin, GiveBack, LoadEpoch, LoadPin, LoadState, Mark, SetPin}
 use Rattle.rowex_core.specs.declared.event.Act.{Act}
 use Rattle.rowex_core.specs.declared.event.Event.{Event}
 use Rattle.rowex_core.specs.declared.known.Holding.TheVariants.{Unlinked as UnlinkedBy}
@@ -127,27 +128,65 @@ module _ {G : Type 0} (table : TableView) (becomes : G → Event → G → Type 
             (subst (λ (f : Rec → Fate). IsWaiting e (f r)) (sym same) was)),
       )
 
-  visits_free : (e bound n m : ℕ) (acts : List Act) (a b : SeatView × G) → 1 ≤ e → e < bound → n < m → InTurn (λ i. Visits bound (a_node i)) m acts → Runs table becomes acts a b → (d : Core) → IsLone table.layout b.0 d →
-      (c : Core) × IsLone table.layout a.0 c × (IsWaiting e (c.fate (a_node n)) → IsUnused (d.fate (a_node n)))
-  visits_free e bound n zero acts a b some low under in_turn run d lone = absurd (omega arith)
-  visits_free e bound n (suc m) acts a b some low under (before, last, first, visit, is) run d lone =
+  visits_free : (kind : ℕ → Rec) (e bound n m : ℕ) (acts : List Act) (a b : SeatView × G) → 1 ≤ e → e < bound → n < m → InTurn (λ i. Visits bound (kind i)) m acts → Runs table becomes acts a b → (d : Core) → IsLone table.layout b.0 d →
+      (c : Core) × IsLone table.layout a.0 c × (IsWaiting e (c.fate (kind n)) → IsUnused (d.fate (kind n)))
+  visits_free kind e bound n zero acts a b some low under in_turn run d lone = absurd (omega arith)
+  visits_free kind e bound n (suc m) acts a b some low under (before, last, first, visit, is) run d lone =
       let (o, one, two) = runs_split table becomes before last a b (subst (λ l. Runs table becomes l a b) is run) in
       elim (cases_lt n m) [
         | inl older ↦
-            let back = runs_back table becomes last o b (visit_plain bound (a_node m) last visit) two d lone in
-            let (c, there, frees) = visits_free e bound n m before a o some low older first one back.core back.lone in
-            (c, there, λ was. back.unused (a_node n) (frees was))
+            let back = runs_back table becomes last o b (visit_plain bound (kind m) last visit) two d lone in
+            let (c, there, frees) = visits_free kind e bound n m before a o some low older first one back.core back.lone in
+            (c, there, λ was. back.unused (kind n) (frees was))
         | inr newest ↦
             let same : m ≡ n = omega arith in
-            let (i, behind, frees) = visit_frees e bound (a_node m) last o b some low visit two d lone in
-            let (c, there, waits) = runs_wait e before a o (visits_plain bound a_node m before first) one i behind in
-            (c, there, λ was. subst (λ z. IsUnused (d.fate (a_node z))) same (frees (subst (λ z. IsWaiting e (i.fate (a_node z))) (sym same) (waits (a_node n) was))))
+            let (i, behind, frees) = visit_frees e bound (kind m) last o b some low visit two d lone in
+            let (c, there, waits) = runs_wait e before a o (visits_plain bound kind m before first) one i behind in
+            (c, there, λ was. subst (λ z. IsUnused (d.fate (kind z))) same (frees (subst (λ z. IsWaiting e (i.fate (kind z))) (sym same) (waits (kind n) was))))
       ]
 
   runs_round : (acts : List Act) (a b : SeatView × G) → All LeavesRound acts → Runs table becomes acts a b → b.0.known.round ≡ a.0.known.round
   runs_round [] a b leaves run = ap (λ (z : SeatView × G). z.0.known.round) run
   runs_round (act ∷ acts) a b leaves (m, step, rest) =
       runs_round acts m b (All-tail LeavesRound act acts leaves) rest ∙ (act_leaves table.layout a.0.known m.0.known act step.event).round (All-head LeavesRound act acts leaves)
+
+-- ---- what is not retired
+still_closed : IsClosed IsStill
+still_closed = record { free = tt; held = λ q. tt; ready = λ q. tt }
+
+still_marks : (act : Act) → MarksWell IsStill act
+still_marks (Mark r epoch) = λ since last q h. absurd h
+still_marks _ = tt
+
+unused_still : (f : Fate) → IsUnused f → IsStill f
+unused_still Free h = tt
+unused_still (Held p) h = tt
+unused_still (Ready p) h = tt
+unused_still (InTree since) h = absurd h
+unused_still (Unlinked since last p) h = absurd h
+unused_still (Marked since last epoch) h = absurd h
+
+-- what is no pass's is not retired, or marked
+still_is : (e : ℕ) (f : Fate) → ((since last q : ℕ) → f ≢ Unlinked since last q) → IsMarkedBy e f → IsStill f ⊎ ((since last m : ℕ) × (f ≡ Marked since last m) × (m ≤ e))
+still_is e Free none by = inl tt
+still_is e (Held p) none by = inl tt
+still_is e (Ready p) none by = inl tt
+still_is e (InTree since) none by = inl tt
+still_is e (Unlinked since last p) none by = absurd (none since last p refl)
+still_is e (Marked since last epoch) none by = inr (since, last, epoch, refl, by)
+
+module _ {G : Type 0} (table : TableView) (becomes : G → Event → G → Type 0) (x : Rec) where
+  -- steps that are no publishes retire nothing
+  pub step_still : (act : Act) (said : Known → List Note) (a b : SeatView × G) → IsUnpublished act → StepsWith table becomes act said a b → IsStillAt table.layout a.0 x → IsStillAt table.layout b.0 x
+  step_still act said a b plain step was d lone =
+      let (there, is) = step_back table becomes act said a b step d lone in
+      let c = step.event.core in
+      subst (λ (z : Core). IsStill (z.fate x)) (sym is) (fate_kept IsStill still_closed c a.0.known.pass act plain (still_marks act) x (was c there))
+
+  pub runs_still : (acts : List Act) (a b : SeatView × G) → All IsUnpublished acts → Runs table becomes acts a b → IsStillAt table.layout a.0 x → IsStillAt table.layout b.0 x
+  runs_still [] a b plain run was = subst (λ (z : SeatView × G). IsStillAt table.layout z.0 x) (sym run) was
+  runs_still (act ∷ acts) a b plain (m, step, rest) was =
+      runs_still acts m b (All-tail IsUnpublished act acts plain) rest (step_still act silent a m (All-head IsUnpublished act acts plain) step was)
 
 -- ---- how a round begins
 next_epoch : (c : Core) (expected : ℕ) → expected ≡ c.epoch → (if nat_eq c.epoch expected then with_epoch c.shared (suc c.epoch) else c.shared).epoch ≡ c.epoch + 1
@@ -175,7 +214,7 @@ module _ {G : Type 0} (table : TableView) (becomes : G → Event → G → Type 
   lone_same s c d first second = lead_same (opening table.layout) s.trace c d first.led second.led
 
   -- the core of a step is that of the trace
-  step_here : (act : Act) (a b : SeatView × G) (step : Steps table becomes act a b) → IsLone table.layout a.0 step.event.core
+  pub step_here : (act : Act) (a b : SeatView × G) (step : Steps table becomes act a b) → IsLone table.layout a.0 step.event.core
   step_here act a b step = let (d, lone) = step_lone table becomes act a b one step in (step_back table becomes act silent a b step d lone).0
 
   step_core : (act : Act) (a b : SeatView × G) (step : Steps table becomes act a b) (c : Core) → IsLone table.layout a.0 c → (step.event.core ≡ c) × IsLone table.layout b.0 (after c a.0.known.pass act)
@@ -251,7 +290,7 @@ module _ {G : Type 0} (table : TableView) (becomes : G → Event → G → Type 
               back.unused (a_node n) (subst (λ (z : Core). IsUnused (z.fate (a_node n))) (sym (lone_same a.0 c back.core lone back.lone)) idle)
           | inr (since, last, m, is, old) ↦
               let back = runs_back table becomes r.leaves s5 b (visits_plain b.0.known.round.bound a_leaf table.layout.leaves r.leaves r.visits_leaves) leaves d there in
-              let (i, at4, frees) = visits_free table becomes m b.0.known.round.bound n table.layout.nodes r.nodes s4 s5 (st1.event.lawful.epochs.marked (a_node n) since last m is).0 (omega (arith, bound, old)) low r.visits_nodes nodes back.core back.lone in
+              let (i, at4, frees) = visits_free table becomes a_node m b.0.known.round.bound n table.layout.nodes r.nodes s4 s5 (st1.event.lawful.epochs.marked (a_node n) since last m is).0 (omega (arith, bound, old)) low r.visits_nodes nodes back.core back.lone in
               let (o, at0, waits) = runs_wait table becomes m beginning a s4 begin_plain begin i at4 in
               back.unused (a_node n) (frees (waits (a_node n) (subst (λ (z : Core). IsWaiting m (z.fate (a_node n))) (sym (lone_same a.0 c o lone at0)) (subst (IsWaiting m) (sym is) refl))))
         ] in (
@@ -264,6 +303,64 @@ module _ {G : Type 0} (table : TableView) (becomes : G → Event → G → Type 
                 (λ x has at. absurd (subst (IsOneOf x) (ap (λ (z : Known). z.own) r.does.rest ∙ own) has)) (unused d there)),
           ),
         )
+
+    -- its bound is the next epoch, and it begins with no publish
+    round_begins : (c : Core) → IsLone table.layout a.0 c → (b.0.known.round.bound ≡ c.epoch + 1) × All IsUnpublished beginning
+    round_begins c lone =
+        let st1 = r.does.steps.1 in
+        let same : st1.event.core ≡ c = lone_same a.0 c st1.event.core lone (step_here (LoadEpoch r.epoch) a r.does.steps.0 st1) in
+        let (marks, few) = run_timely (opening table.layout) a.0.trace c (opening_is_lawful table.layout).0 lone.led (λ z. tt) in
+        let begun : r.epoch ≡ c.epoch = st1.event.legal.1 ∙ ap (λ (z : Core). z.epoch) same in
+        let again : advance_steps r.epoch r.found ≡ Advance r.epoch r.found ∷ [] = advances r.epoch r.found (omega (arith, begun, few, early)) in
+        let (s5, top, leaves) = runs_split table becomes (beginning ++ r.nodes) r.leaves a b r.does.steps in
+        let (s4, begin, nodes) = runs_split table becomes beginning r.nodes a s5 top in
+        let as_four : beginning ≡ four = ap₂ (λ xs ys. (LoadEpoch r.epoch ∷ xs) ++ LoadEpoch r.next ∷ ys) again pins_are in (
+          ap (λ (z : Round). z.bound)
+              (runs_round table becomes r.leaves s5 b (visits_leave b.0.known.round.bound a_leaf table.layout.leaves r.leaves r.visits_leaves) leaves ∙
+              runs_round table becomes r.nodes s4 s5 (visits_leave b.0.known.round.bound a_node table.layout.nodes r.nodes r.visits_nodes) nodes) ∙
+              bound_is s4 (subst (λ l. Runs table becomes l a s4) as_four begin) c lone,
+          subst (All IsUnpublished) (sym as_four) four_plain,
+        )
+
+    -- what was retired when it began is given back by visits of its kind
+    visits_give : (kind : ℕ → Rec) (n count : ℕ) (before acts : List Act) (s t : SeatView × G) (c e : Core) → IsLone table.layout a.0 c → IsLone table.layout t.0 e → n < count → All IsUnpublished before → Runs table becomes before a s →
+        InTurn (λ i. Visits b.0.known.round.bound (kind i)) count acts → Runs table becomes acts s t → (since last m : ℕ) → c.fate (kind n) ≡ Marked since last m → 1 ≤ m → m < b.0.known.round.bound → IsUnused (e.fate (kind n))
+    visits_give kind n count before acts s t c e lone at low plain first visits run since last m is some below =
+        let (i, at4, frees) = visits_free table becomes kind m b.0.known.round.bound n count acts s t some below low visits run e at in
+        let (o, at0, waits) = runs_wait table becomes m before a s plain first i at4 in
+        frees (waits (kind n) (subst (λ (z : Core). IsWaiting m (z.fate (kind n))) (sym (lone_same a.0 c o lone at0)) (subst (IsWaiting m) (sym is) refl)))
+
+    round_gives : (x : Rec) → HasRecord table.layout x → (c d : Core) → IsLone table.layout a.0 c → IsLone table.layout b.0 d → (since last m : ℕ) → c.fate x ≡ Marked since last m → 1 ≤ m → m ≤ c.epoch → IsUnused (d.fate x)
+    round_gives (a_node n) low c d lone there since last m is some old =
+        let (bound, plain) = round_begins c lone in
+        let (s5, top, leaves) = runs_split table becomes (beginning ++ r.nodes) r.leaves a b r.does.steps in
+        let (s4, begin, nodes) = runs_split table becomes beginning r.nodes a s5 top in
+        let back = runs_back table becomes r.leaves s5 b (visits_plain b.0.known.round.bound a_leaf table.layout.leaves r.leaves r.visits_leaves) leaves d there in
+        back.unused (a_node n) (visits_give a_node n table.layout.nodes beginning r.nodes s4 s5 c back.core lone back.lone low plain begin r.visits_nodes nodes since last m is some (omega (arith, bound, old)))
+    round_gives (a_leaf n) low c d lone there since last m is some old =
+        let (bound, plain) = round_begins c lone in
+        let (s5, top, leaves) = runs_split table becomes (beginning ++ r.nodes) r.leaves a b r.does.steps in
+        let before = All-append IsUnpublished beginning r.nodes plain (visits_plain b.0.known.round.bound a_node table.layout.nodes r.nodes r.visits_nodes) in
+        visits_give a_leaf n table.layout.leaves (beginning ++ r.nodes) r.leaves s5 b c d lone there low before top r.visits_leaves leaves since last m is some (omega (arith, bound, old))
+
+    -- so no record is retired after it
+    pub round_still : HasNoneRetired table.layout b.0
+    round_still x has d there =
+        let st1 = r.does.steps.1 in
+        let c = st1.event.core in
+        let lone = step_here (LoadEpoch r.epoch) a r.does.steps.0 st1 in
+        let (marks, few) = run_timely (opening table.layout) a.0.trace c (opening_is_lawful table.layout).0 lone.led (λ z. tt) in
+        let (bound, plain) = round_begins c lone in
+        let acts_plain = All-append IsUnpublished (beginning ++ r.nodes) r.leaves
+        (All-append IsUnpublished beginning r.nodes plain (visits_plain b.0.known.round.bound a_node table.layout.nodes r.nodes r.visits_nodes))
+        (visits_plain b.0.known.round.bound a_leaf table.layout.leaves r.leaves r.visits_leaves) in
+        let unlinked : (since last q : ℕ) → c.fate x ≢ Unlinked since last q = λ since last q is.
+        (let p : q ≡ a.0.known.pass = (let there = st1.event.lawful.records.holders x q (ap holder_of is) in let mine = st1.event.knows.pass in let lay = ap (λ (l : Layout). l.passes) st1.event.layout_is in omega (arith, there, mine, lay, one)) in
+        let owned = one_of a.0.known.own _ ((knows_all c a.0.known st1.event.knows).all_own x (UnlinkedBy since last) (is ∙ ap (Unlinked since last) p)) in subst (IsOneOf _) own owned) in
+        elim (still_is c.epoch (c.fate x) unlinked (marks x)) [
+          | inl still ↦ runs_still table becomes x ((beginning ++ r.nodes) ++ r.leaves) a b acts_plain r.does.steps (λ o at. subst (λ (z : Core). IsStill (z.fate x)) (sym (lone_same a.0 c o lone at)) still) d there
+          | inr (since, last, m, is, old) ↦ unused_still (d.fate x) (round_gives x has c d lone there since last m is (st1.event.lawful.epochs.marked x since last m is).0 old)
+        ]
 
 -- ---- what is spare, and how long a trace is
 advance_plain : (epoch found : ℕ) → All IsUnpublished (advance_steps epoch found)
@@ -335,6 +432,9 @@ module _ {G : Type 0} (table : TableView) (becomes : G → Event → G → Type 
   runs_longer [] a b run = let same = ap (λ (z : SeatView × G). length z.0.trace) run in omega (arith, same)
   runs_longer (act ∷ acts) a b (m, step, rest) = let first = step_longer act silent a m step in let later = runs_longer acts m b rest in omega (arith, first, later)
 
+  pub ended_longer : {Are : List Act → Type 0} {said : Known → List Note} (a b : SeatView × G) → HasEnded table becomes Are said a b → length a.0.trace ≤ length b.0.trace
+  ended_longer {said = said} a b (acts, are, (m, run, last)) = let first = runs_longer acts a m run in let later = step_longer ClearPin said m b last in omega (arith, first, later)
+
   pub counts_spare : (tags : FoundTags) (a b : SeatView × G) → Runs table becomes (loads_in table.layout tags) a b → KeepsSpare table.layout a.0 b.0
   counts_spare tags a b run =
       let layout = table.layout in
@@ -357,3 +457,11 @@ module _ {G : Type 0} (table : TableView) (becomes : G → Event → G → Type 
       HasRoom table.layout b.0
   collecting_room a b (inl (nodes, leaves, r)) one pin own early spare = collects_room a b r one pin own early spare
   collecting_room a b (inr (several, r)) one pin own early spare = absurd (omega (arith, several, one))
+
+  collects_still : {given_nodes given_leaves : ℕ} (a b : SeatView × G) → IsRound table becomes a b given_nodes given_leaves → table.layout.passes ≡ 1 → a.0.known.pin ≡ None → a.0.known.own ≡ [] →
+      length a.0.trace + 2 < EPOCHS → HasNoneRetired table.layout b.0
+  collects_still a b r one pin own early = let (word, pins_are) = one_pin table.layout.passes r.pins one r.loads_pins in round_still table becomes one a b r pin own early word pins_are
+
+  pub collecting_still : (a b : SeatView × G) → Collects table becomes a b → table.layout.passes ≡ 1 → a.0.known.pin ≡ None → a.0.known.own ≡ [] → length a.0.trace + 2 < EPOCHS → HasNoneRetired table.layout b.0
+  collecting_still a b (inl (nodes, leaves, r)) one pin own early = collects_still a b r one pin own early
+  collecting_still a b (inr (several, r)) one pin own early = absurd (omega (arith, several, one))

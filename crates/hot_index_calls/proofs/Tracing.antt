@@ -1,5 +1,5 @@
 -- The steps of a call, and what its gate was told.
-use Rattle.std.proofs.Common.{◌≡◌, ℕ, ◌+◌, ◌*◌, ◌≤◌, List, [], ◌∷◌, ◌++◌, false, Result, inl, inr, refl, sym, ap, subst, arith}
+use Rattle.std.proofs.Common.{◌≡◌, ◌⊎◌, ℕ, ◌+◌, ◌*◌, ◌≤◌, List, [], ◌∷◌, ◌++◌, false, Result, inl, inr, refl, sym, ap, subst, arith}
 use Rattle.key_bits.specs.declared.TheConstants.{MAX_BYTES}
 use Rattle.finite_map.specs.declared.Call.{Call}
 use Rattle.finite_map.specs.declared.Note.{Note}
@@ -29,7 +29,7 @@ use Rattle.hot_index_calls.specs.Counts.{try_steps}
 use Rattle.hot_index_calls.specs.Many.{HasGotMany}
 use Rattle.hot_index_calls.specs.Noting.{change_notes}
 use Rattle.hot_index_calls.specs.Passes.{PassView, pass_of}
-use Rattle.hot_index_calls.specs.Traces.{AreAttempts, AreTries, HasEnded, HasGot, HasMade, HasRead, HasStepped, HasTold, HasGotRange, IsAttempt, Tidies, is_full, reading, untold}
+use Rattle.hot_index_calls.specs.Traces.{AreAttempts, AreTries, GiveNoneBetween, HasEnded, HasGot, HasMade, HasRead, HasStepped, HasTold, HasGotRange, IsAttempt, StandsSince, Tidies, is_full, reading, untold}
 use Rattle.hot_index_calls.proofs.Collected.{AreBetween, small_steps_of}
 
 module _ {G : Type 0} (table : TableView) (becomes : G → Event → G → Type 0) where
@@ -213,9 +213,10 @@ module _ {G : Type 0} (table : TableView) (becomes : G → Event → G → Type 
 
   -- or it was refused as full; and there follow a round of collection and an attempt more
   pub ended_again : (call : Call) (r : Result Reply TryFault) (full : Full) (a b c d : SeatView × G) → HasEnded table becomes (IsAttempt table.layout) silent a b →
-      IsRefusedFor table.layout call (pass_of a.0) (pass_of b.0) (fault_of full) → AreBetween table becomes b c → HasEnded table becomes (IsAttempt table.layout) (change_notes call r) c d →
+      IsRefusedFor table.layout call (pass_of a.0) (pass_of b.0) (fault_of full) → (round : AreBetween table becomes b c) → HasEnded table becomes (IsAttempt table.layout) (change_notes call r) c d →
+      StandsSince table.layout call r c.0 d.0 ⊎ GiveNoneBetween table.layout full (round.first ∷ round.rest) →
       HasEnded table becomes (AreTries table becomes call r a d) (change_notes call r) a d
-  ended_again call r full a b c d (acts, tries, (m, steps, last)) lacked round (more, tries_again, (n, rest, end)) =
+  ended_again call r full a b c d (acts, tries, (m, steps, last)) lacked round (more, tries_again, (n, rest, end)) stands =
       let between = round.first ∷ round.rest in
       let later = runs_append table becomes between more b c n round.does.steps rest in (
         acts ++ (ClearPin ∷ between ++ more),
@@ -231,7 +232,10 @@ module _ {G : Type 0} (table : TableView) (becomes : G → Event → G → Type 
           tried = (m, steps, last);
           full = full;
           lacked = lacked;
-          goes_on = (n, later, end);
+          rounded = c;
+          collected = round.does.steps;
+          goes_on = (n, rest, end);
+          stands = stands;
         }),
         (n, runs_append table becomes acts (ClearPin ∷ between ++ more) a m n steps (b, last, later), end),
       )

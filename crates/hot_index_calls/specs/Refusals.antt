@@ -17,6 +17,7 @@ use Rattle.record_words.specs.declared.records.Rec.{Rec}
 use Rattle.hot_index_calls.specs.Answers.{fault_of}
 use Rattle.hot_index_calls.specs.Census.{HasCounted}
 use Rattle.hot_index_calls.specs.Passes.{PassView}
+use Rattle.hot_index_calls.specs.Rooms.{IsEarly}
 use Rattle.hot_index_calls.specs.declared.census.RecordCounts.{RecordCounts}
 use Rattle.hot_index_calls.specs.declared.census.StateCounts.{StateCounts}
 use Rattle.hot_index_calls.specs.declared.refusals.Refusal.{Refusal}
@@ -27,6 +28,20 @@ pub record AreShort (needs : ℕ) (counts : StateCounts) : Type 0 where
   pub free : counts.free < needs
   pub held : counts.held ≡ 0
   pub obsolete : counts.obsolete ≡ 0
+
+-- of one kind and class none is claimed by a call, and none is retired and not given back
+pub record AreAtRest (counts : StateCounts) : Type 0 where
+  pub held : counts.held ≡ 0
+  pub obsolete : counts.obsolete ≡ 0
+
+-- it is so of all records
+pub record AreAllAtRest (counts : RecordCounts) : Type 0 where
+  pub nodes : AreAtRest counts.nodes
+  pub short : AreAtRest counts.short
+  pub medium : AreAtRest counts.medium
+  pub large : AreAtRest counts.large
+  pub wide : AreAtRest counts.wide
+  pub long : AreAtRest counts.long
 
 -- it is so of each class of leaf records that has room for a key of this length
 pub record OfLeaves (IsSo : StateCounts → Type 0) (length : ℕ) (counts : RecordCounts) : Type 0 where
@@ -73,7 +88,8 @@ abbrev pub NeedsBeside : Layout → PassView → PassView → Full → ℕ → T
 NeedsBeside layout k j Nodes needs = (own : List Rec) × LacksNodes layout j.number j.failed k.steps own × (needs ≡ suc (length own))
 NeedsBeside layout k j Leaves needs = Unit {0}
 
--- After the try, which led from a to m, all records were counted, and the count says this of its lack.
+-- After the try, which led from a to m, all records were counted, and the count says this of its lack. In an index of one pass it finds no record
+-- claimed and none retired, while the index has made fewer steps than there are epochs: so no record may come back.
 pub record IsCountedAfter {G : Type 0} (call : Call) (lacks : Full) (refusal : Refusal) (index : TableView) (becomes : G → Event → G → Type 0)
     (a m b : PassView × G) : Type 0 where
   pub needs : ℕ
@@ -81,6 +97,7 @@ pub record IsCountedAfter {G : Type 0} (call : Call) (lacks : Full) (refusal : R
   pub counts : RecordCounts
   pub counted : HasCounted index becomes m b counts
   pub judged : Judges index.layout.passes lacks needs (length (key_of call)) counts refusal
+  pub alone : index.layout.passes ≡ 1 → IsEarly b.0.seat → AreAllAtRest counts
 
 -- The call removes a key in an index of so many passes, which are several. Insertions leave a node record for it: where it finds none free,
 -- another call has that one, or holds back one that was retired since.

@@ -1,14 +1,18 @@
--- That a removal finds a node record in an index of one pass.
-use Rattle.std.specs.Prelude.{◌≡◌, ◌≢◌, ◌+◌, ◌<◌, length, Result, Err}
+-- That in an index of one pass a removal finds a node record, and no record is retired after a full call.
+use Rattle.std.specs.Prelude.{◌≡◌, ◌≢◌, ◌+◌, ◌<◌, length, true, Result, Err}
 use Rattle.finite_map.specs.declared.Call.{Call}
 use Rattle.finite_map.specs.declared.Reply.{Reply}
 use Rattle.record_words.specs.declared.TheConstants.{EPOCHS}
 use Rattle.record_words.specs.declared.layout.Layout.{Layout}
-use Rattle.lone_runs.specs.Lone.{HasSpare, KeepsSpare}
+use Rattle.record_words.specs.declared.records.Rec.{Rec}
+use Rattle.versions.specs.Core.{Fate, Unlinked, Marked}
+use Rattle.rowex_core.specs.Cores.{Core, HasRecord}
+use Rattle.lone_runs.specs.Lone.{HasSpare, IsLone, KeepsSpare}
 use Rattle.rowex_table.specs.Seats.{SeatView}
 use Rattle.rowex_writing.specs.Spare.{IsRemoval}
 use Rattle.rowex_writing.specs.declared.attempts.TryFault.{TryFault}
 use Rattle.rowex_writing.specs.declared.attempts.TryFault.TheVariants.{FullNodes}
+use Rattle.hot_index_calls.specs.Traces.{is_full}
 
 -- The passes of the seat's table have made fewer steps than there are epochs, by two at least.
 abbrev pub IsEarly : SeatView → Type 0
@@ -22,3 +26,21 @@ FindsRoom layout call result s t = IsRemoval call → layout.passes ≡ 1 → Ha
 pub record LeavesRoom (layout : Layout) (call : Call) (result : Result Reply TryFault) (s t : SeatView) : Type 0 where
   pub spares : KeepsSpare layout s t
   pub finds : FindsRoom layout call result s t
+
+-- a record of this fate is not retired: it is free, claimed, or in the tree
+abbrev pub IsStill : Fate → Type 0
+IsStill (Unlinked since last q) = ⊥
+IsStill (Marked since last epoch) = ⊥
+IsStill f = Unit {0}
+
+-- If the table has one pass, this record is not retired after the steps of which the pass knows;
+abbrev pub IsStillAt : Layout → SeatView → Rec → Type 0
+IsStillAt layout s r = (c : Core) → IsLone layout s c → IsStill (c.fate r)
+
+-- none is.
+abbrev pub HasNoneRetired : Layout → SeatView → Type 0
+HasNoneRetired layout s = (r : Rec) → HasRecord layout r → IsStillAt layout s r
+
+-- In an index of one pass, no record is retired after a call that was refused as full.
+abbrev pub LeavesNoneRetired : Layout → Result Reply TryFault → SeatView → Type 0
+LeavesNoneRetired layout result t = layout.passes ≡ 1 → is_full result ≡ true → IsEarly t → HasNoneRetired layout t

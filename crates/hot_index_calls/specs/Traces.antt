@@ -1,5 +1,5 @@
 -- What a call does, step by step, and what its gate is told.
-use Rattle.std.specs.Prelude.{◌≡◌, ◌⊎◌, ◌+◌, ◌*◌, ◌<◌, ◌≤◌, ℕ, All, List, [], ◌∷◌, ◌++◌, length, Bool, true, false, Result, Ok, Err}
+use Rattle.std.specs.Prelude.{◌≡◌, ◌⊎◌, ◌+◌, ◌*◌, ◌<◌, ◌≤◌, ℕ, All, List, [], ◌∷◌, ◌++◌, length, count_by, Bool, true, false, Result, Ok, Err, IfOk, IfErr}
 use Rattle.key_bits.specs.declared.TheConstants.{MAX_BYTES}
 use Rattle.finite_map.specs.declared.Call.{Call}
 use Rattle.finite_map.specs.declared.Note.{Note}
@@ -16,13 +16,14 @@ use Rattle.rowex_table.specs.Runs.{Ends, InTurn, IsTold, Runs, SeesAllOfRun, eve
 use Rattle.rowex_table.specs.Seats.{TableView, SeatView}
 use Rattle.rowex_reading.specs.Reads.{IsBelowRoot, entries_in}
 use Rattle.rowex_scanning.specs.Counts.{scan_entries}
-use Rattle.epochs.specs.Rounds.{IsRound, IsSmallRound, IsSparedRound, LoadsPin, VisitEach, Visits, advance_steps}
+use Rattle.epochs.specs.Rounds.{IsRound, IsSmallRound, IsSparedRound, LoadsPin, VisitEach, Visits, advance_steps, has_given}
 use Rattle.epochs.specs.declared.limbo.TheConstants.{MOST_VISITED}
 use Rattle.rowex_writing.specs.Attempts.{AreAttemptSteps}
 use Rattle.rowex_writing.specs.declared.attempts.TryFault.{TryFault}
 use Rattle.rowex_writing.specs.declared.attempts.TryFault.TheVariants.{Busy, FullNodes, FullLeaves}
 use Rattle.rowex_writing.specs.declared.plan.Full.{Full}
-use Rattle.hot_index_calls.specs.Answers.{IsRefusedFor, fault_of}
+use Rattle.rowex_writing.specs.declared.plan.Full.TheVariants.{Nodes, Leaves}
+use Rattle.hot_index_calls.specs.Answers.{IsNoted, IsRefusedFor, fault_of}
 use Rattle.hot_index_calls.specs.Counts.{round_steps, try_steps}
 use Rattle.hot_index_calls.specs.Noting.{change_notes}
 use Rattle.hot_index_calls.specs.Passes.{PassView, pass_of}
@@ -105,12 +106,29 @@ pub record AreSmallSteps (layout : Layout) (most : ℕ) (acts : List Act) : Type
 abbrev pub AreStepsBetween : Layout → List Act → Type 0
 AreStepsBetween layout acts = AreRoundSteps layout acts ⊎ ((1 < layout.passes) × AreSmallSteps layout 0 acts)
 
+-- of so many nodes and so many leaves, the number of this kind
+abbrev pub of_kind : Full → (nodes leaves : ℕ) → ℕ
+of_kind Nodes nodes leaves = nodes
+of_kind Leaves nodes leaves = leaves
+
+-- They are such steps, and none of them gives back a record of this kind: a round that is spared gives none back.
+abbrev pub GiveNoneBetween : Layout → Full → List Act → Type 0
+GiveNoneBetween layout kind acts =
+    ((round : AreRoundSteps layout acts) × (of_kind kind (count_by has_given round.nodes) (count_by has_given round.leaves) ≡ 0)) ⊎
+    ((1 < layout.passes) × AreSmallSteps layout 0 acts)
+
+-- On seats: what a call returned stands by what its pass has done from the first to the second alone. It was answered and is noted with its
+-- reply, or refused, for a cause that was found since.
+abbrev pub StandsSince : Layout → Call → Result Reply TryFault → SeatView → SeatView → Type 0
+StandsSince layout call result s t = IfOk result (IsNoted layout (pass_of s) (pass_of t) call) × IfErr result (IsRefusedFor layout call (pass_of s) (pass_of t))
+
 -- on a seat: one attempt
 abbrev pub IsOneAttempt : {G : Type 0} → TableView → SeatView × G → SeatView × G → List Act → Type 0
 IsOneAttempt table a b acts = IsAttempt table.layout acts
 
--- On a seat: two attempts, and a round of collection between them, whole or spared. When the first had ended, the call was refused as full by it alone; and
--- from there the other steps lead on. The notes of the call come with the last.
+-- On a seat: two attempts, and a round of collection between them, whole or spared. When the first had ended, the call was refused as full by it
+-- alone; and from there the other steps lead on. The notes of the call come with the last. The call returns what the second attempt alone came
+-- to; but where the round gave back no record of the kind that the first lacked, what both came to.
 pub record AreTwoAttempts {G : Type 0} (table : TableView) (becomes : G → Event → G → Type 0) (call : Call) (result : Result Reply TryFault)
     (a b : SeatView × G) (acts : List Act) : Type 0 where
   pub first : List Act
@@ -124,7 +142,10 @@ pub record AreTwoAttempts {G : Type 0} (table : TableView) (becomes : G → Even
   pub tried : Ends table becomes first ClearPin silent a refused
   pub full : Full
   pub lacked : IsRefusedFor table.layout call (pass_of a.0) (pass_of refused.0) (fault_of full)
-  pub goes_on : Ends table becomes (between ++ second) ClearPin (change_notes call result) refused b
+  pub rounded : SeatView × G
+  pub collected : Runs table becomes between refused rounded
+  pub goes_on : Ends table becomes second ClearPin (change_notes call result) rounded b
+  pub stands : StandsSince table.layout call result rounded.0 b.0 ⊎ GiveNoneBetween table.layout full between
 
 -- whether the call was refused as full
 abbrev pub is_full : Result Reply TryFault → Bool
@@ -155,6 +176,11 @@ Tidies table becomes a b = (b ≡ a) ⊎ IsSmallRound table becomes MOST_VISITED
 -- On a seat: the pass makes a round of collection; or, in an index of several passes, one that is spared.
 abbrev pub Collects : {G : Type 0} → TableView → (G → Event → G → Type 0) → SeatView × G → SeatView × G → Type 0
 Collects table becomes a b = ((nodes : ℕ) × (leaves : ℕ) × IsRound table becomes a b nodes leaves) ⊎ ((1 < table.layout.passes) × IsSparedRound table becomes a b)
+
+-- so, and it gives back no record of this kind
+abbrev pub CollectsNone : {G : Type 0} → TableView → (G → Event → G → Type 0) → Full → SeatView × G → SeatView × G → Type 0
+CollectsNone table becomes kind a b =
+    ((nodes : ℕ) × (leaves : ℕ) × IsRound table becomes a b nodes leaves × (of_kind kind nodes leaves ≡ 0)) ⊎ ((1 < table.layout.passes) × IsSparedRound table becomes a b)
 
 -- On a seat: the call makes such steps, and then clears the pin of its pass, with these notes.
 abbrev pub HasEnded : {G : Type 0} → TableView → (G → Event → G → Type 0) → (List Act → Type 0) → (Known → List Note) → SeatView × G → SeatView × G → Type 0

@@ -10,7 +10,7 @@ ghost use Rattle.rowex_writing.specs.declared.plan.Full.TheVariants.{Nodes, Leav
 ghost use Rattle.lone_runs.specs.Lone.{HasRoom, KeepsSpare};
 ghost use Rattle.rowex_writing.specs.Spare.{IsRemoval};
 ghost use Rattle.rowex_writing.specs.declared.attempts.TryFault.TheVariants.{FullNodes};
-ghost use Rattle.hot_index_calls.specs.Rooms.{FindsRoom};
+ghost use Rattle.hot_index_calls.specs.Rooms.{FindsRoom, LeavesNoneRetired};
 ghost use Rattle.hot_index_calls.specs.Answers.{fault_of};
 ghost use Rattle.hot_index_calls.specs.Asked.{HasAsked, HasLacked, HasReplied, HasRested, IsIdle, last_try};
 ghost use Rattle.hot_index_calls.specs.Calls.{IsTriedAndCounted, MakesTries};
@@ -18,7 +18,7 @@ ghost use Rattle.hot_index_calls.specs.Counts.{once_steps, try_steps, twice_step
 ghost use Rattle.hot_index_calls.specs.Noting.{change_notes};
 ghost use Rattle.hot_index_calls.specs.Passes.{pass_of};
 ghost use Rattle.hot_index_calls.specs.Refusals.{IsLeftOne, as_tried};
-ghost use Rattle.hot_index_calls.specs.Traces.{AreAttempts, AreTries, Collects, HasStepped, IsOneAttempt, Tidies, is_full};
+ghost use Rattle.hot_index_calls.specs.Traces.{AreAttempts, AreTries, Collects, CollectsNone, HasStepped, IsOneAttempt, Tidies, is_full, of_kind};
 
 use crate::census::count_records;
 use crate::refusals::{Refusal, count_node_records, final_refusal, judge_lack, lack_of};
@@ -46,6 +46,7 @@ pub fn try_change<G: Gate>(
     ensures few { seat.new.known.steps ≤ seat.old.known.steps + try_steps call.now table.now.layout }
     ensures spares { KeepsSpare table.now.layout seat.old seat.new }
     ensures room { FindsRoom table.now.layout call.now result seat.old seat.new }
+    ensures none { LeavesNoneRetired table.now.layout result seat.new }
 {
     collect_due(table, seat, gate, scratch);
     try_twice(table, seat, gate, scratch, call)
@@ -82,6 +83,7 @@ fn try_twice<G: Gate>(
     ensures few { seat.new.known.steps ≤ seat.old.known.steps + twice_steps call.now table.now.layout }
     ensures spares { KeepsSpare table.now.layout seat.old seat.new }
     ensures room { FindsRoom table.now.layout call.now result seat.old seat.new }
+    ensures none { LeavesNoneRetired table.now.layout result seat.new }
 {
     let first = make_attempt(table, seat, gate, scratch, call);
     let Some(lacks) = full_kind(first) else {
@@ -109,6 +111,7 @@ fn collect_between<G: Gate>(
     ensures free { seat.new.known.pin ≡ None }
     ensures collects { Collects table.now G.becomes (seat.old, gate.old) (seat.new, gate.new) }
     ensures not { result ≡ false → (removes ≡ false) ⊎ (1 < table.now.layout.passes) }
+    ensures none { result ≡ false → CollectsNone table.now G.becomes lacks (seat.old, gate.old) (seat.new, gate.new) }
     ensures made { scratch.new.build.made.items ≡ scratch.old.build.made.items }
 {
     let passes = table.layout().passes;
@@ -136,8 +139,7 @@ fn full_kind(answer: Result<Reply, TryFault>) -> Option<Full>
 
 /// How many records of the kind `kind` a round gave back, by its counts `given`.
 fn given_count(given: Given, kind: Full) -> u32
-    ensures nodes { kind ≡ Nodes → result ≡ given.nodes }
-    ensures leaves { kind ≡ Leaves → result ≡ given.leaves }
+    ensures { result ≡ of_kind kind given.nodes given.leaves }
 {
     match kind {
         Full::Nodes => given.nodes,
@@ -161,7 +163,7 @@ fn has_found_free(round: Collected, kind: Full) -> bool
 /// one that is left for removals.
 fn may_find_free_record(passes: u32, given: u32, found: bool, removes: bool) -> bool
     ensures may { IsTrue result ↔ (((1 < passes) × IsTrue found) ⊎ (0 < given) ⊎ IsTrue removes) }
-    ensures not { result ≡ false → removes ≡ false }
+    ensures not { result ≡ false → (given ≡ 0) × (removes ≡ false) }
 {
     passes > 1 && found || given > 0 || removes
 }

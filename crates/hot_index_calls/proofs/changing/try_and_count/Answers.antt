@@ -15,9 +15,11 @@ use Rattle.hot_index_calls.specs.Asked.{HasAsked, HasLacked, HasReplied}
 use Rattle.hot_index_calls.specs.Calls.{IsTried}
 use Rattle.hot_index_calls.specs.Census.{loads_in}
 use Rattle.hot_index_calls.specs.Passes.{pass_of}
-use Rattle.hot_index_calls.specs.Refusals.{IsLeftOne, Judges, fault_in}
-use Rattle.hot_index_calls.specs.Rooms.{FindsRoom}
-use Rattle.hot_index_calls.specs.Traces.{AreAttempts}
+use Rattle.hot_index_calls.specs.Refusals.{AreAllAtRest, IsLeftOne, Judges, fault_in}
+use Rattle.hot_index_calls.specs.Rooms.{FindsRoom, IsEarly}
+use Rattle.hot_index_calls.specs.Traces.{AreAttempts, is_full}
+use Rattle.hot_index_calls.proofs.Resting.{lacked_full}
+use Rattle.hot_index_calls.proofs.Settled.{counts_rest}
 use Rattle.hot_index_calls.proofs.Refusing.{counted_replied, judged_fault, nodes_most, stepped_on, told_after}
 use Rattle.hot_index_calls.proofs.Trying.{has_tried}
 use Rattle.hot_index_calls.proofs.changing.try_and_count.Goals as goal
@@ -104,13 +106,19 @@ returns-else-is_left_one-clause-tried g c =
     (subst (λ (k : List ℕ). Judges c.layout-passes.result.passes c.in-Some.lacks c.saturating_add-needs.result (length k) c.count_records-counts.result c.judge_lack.result) (c.as_bytes-size.ensures.bytes ∙ c.key.ensures) c.judge_lack.ensures) in
     let needs : c.saturating_add-needs.result ≡ length (nodes_among c.try_change.new.scratch.build.made.items) + 1 =
     omega (arith, c.saturating_add-needs.ensures, c.count_node_records.ensures, ap (λ (l : List Rec). length (nodes_among l)) c.as_slice.ensures.value, nodes_most c.as_slice.result.now, c.as_slice.ensures.fits) in
+    let steps = c.count_records-counts.ensures.steps in
+    let full = ap (λ (f : TryFault). is_full (Err f)) c.in-Some.ensures.some ∙ lacked_full c.in-Some.lacks in
+    let rest : table.layout.passes ≡ 1 → IsEarly c.count_records-counts.new.seat → AreAllAtRest c.count_records-counts.result = λ one early.
+    let longer = runs_longer table g.G.Gate.becomes (loads_in table.layout steps.0) (c.try_change.new.seat, c.try_change.new.gate) (c.count_records-counts.new.seat, c.count_records-counts.new.gate) steps.3.steps in
+    subst AreAllAtRest (sym steps.2)
+    (counts_rest table g.G.Gate.becomes one steps.0 (c.try_change.new.seat, c.try_change.new.gate) (c.count_records-counts.new.seat, c.count_records-counts.new.gate) steps.3.steps asked.replied.idle.1.own (c.in-Err.ensures.none one full (omega (arith, early, longer)))) in
     let other = λ (left : IsLeftOne table.layout.passes call). false≢true (sym c.if-is_left_one.false ∙ c.is_left_one.ensures.1 (subst (λ (l : Layout). IsLeftOne l.passes call) (sym c.layout-passes.ensures) left)) in
     record {
       mid = (pass_of c.try_change.new.seat, c.try_change.new.gate);
       tried = subst (λ (f : TryFault). IsTried call (Err f) table g.G.Gate.becomes (pass_of c.args.seat.now, c.args.gate.now) (pass_of c.try_change.new.seat, c.try_change.new.gate)) (sym (judged_fault _ _ _ _ _ c.judge_lack.result c.judge_lack.ensures))
           (has_tried asked c.in-Err.ensures.few c.in-Err.ensures.spares (λ removal one was early is. c.in-Err.ensures.room removal one was early (ap Err c.in-Some.ensures.some ∙ is)));
       told = told_after {m = (c.try_change.new.seat, c.try_change.new.gate)} {b = (c.count_records-counts.new.seat, c.count_records-counts.new.gate)} c.count_records-counts.ensures.steps table.layout.nodes_in_range.0 call c.args.seat.now c.args.gate.now c.in-Some.lacks
-          c.try_change.new.scratch.build.made.items c.saturating_add-needs.result lacked needs other c.judge_lack.result judged;
+          c.try_change.new.scratch.build.made.items c.saturating_add-needs.result lacked needs other rest c.judge_lack.result judged;
     }
 
 pub returns-else-is_left_one-clause-spares : goal.returns-else-is_left_one-clause-spares

@@ -9,4 +9,5 @@ returns g c = record {
   few = tidied_few _ _ _ c.args.call.now c.try_twice.result c.requires.idle.1 c.try_twice.ensures.asked c.collect_due.ensures.tidied c.try_twice.ensures.few;
   spares = λ was. c.try_twice.ensures.spares (c.collect_due.ensures.spares was);
   room = λ removal one was early. c.try_twice.ensures.room removal one (c.collect_due.ensures.spares was) early;
+  none = c.try_twice.ensures.none;
 }

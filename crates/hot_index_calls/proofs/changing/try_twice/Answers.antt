@@ -1,5 +1,5 @@
 -- Where the first attempt was refused as full, a round follows; and what the second leaves is what the whole call leaves.
-use Rattle.hot_index_calls.proofs.Roomy.{collecting_room, collects_spare, runs_longer}
+use Rattle.hot_index_calls.proofs.Roomy.{collecting_room, collecting_still, collects_spare, ended_longer, runs_longer}
 use Rattle.std.proofs.Common.{◌≤◌, ◌∙◌, ◌∷◌, Result, Err, inl, inr, refl, sym, ap, subst, le_trans, arith}
 use Rattle.finite_map.specs.declared.Reply.{Reply}
 use Rattle.finite_map.specs.Maps.{key_of}
@@ -14,9 +14,10 @@ use Rattle.std.proofs.lemmas.Bool.{false≢true}
 use Rattle.rowex_writing.specs.Changes.{LacksNodes}
 use Rattle.rowex_writing.specs.Walks.{nodes_among}
 use Rattle.hot_index_calls.specs.Passes.{pass_of}
-use Rattle.hot_index_calls.proofs.Collected.{between, does_idle}
+use Rattle.hot_index_calls.proofs.Collected.{between, does_idle, none_between}
 use Rattle.hot_index_calls.proofs.Conflicts.{may_take_from_before, no_further}
 use Rattle.hot_index_calls.proofs.Resting.{cause_still, lacked_full, lacks_still}
+use Rattle.hot_index_calls.proofs.Settled.{full_unnoted, refused_still}
 use Rattle.hot_index_calls.proofs.Tracing.{ended_again}
 use Rattle.hot_index_calls.proofs.Trying.{full_fault, lacks_from_before, once_asked, once_few, outcome_then, round_later, then_collected, twice_few, unnoted_then}
 use Rattle.hot_index_calls.proofs.changing.try_twice.Goals as goal
@@ -36,6 +37,7 @@ returns-in_default g c = record {
   few = omega (arith, c.make_attempt-first.ensures.few, once_few c.args.call.now c.args.table.now.layout);
   spares = c.make_attempt-first.ensures.spares;
   room = λ removal one was early is. absurd (false≢true (sym (c.full_kind.ensures.none c.in_default.is) ∙ ap is_full is));
+  none = λ one full early. absurd (false≢true (sym (c.full_kind.ensures.none c.in_default.is) ∙ full));
 }
 
 pub returns-then-collect_between : goal.returns-then-collect_between
@@ -52,7 +54,7 @@ returns-then-collect_between g c =
     record {
       asked = record {
         replied = record { idle = again.replied.idle; noted = both.0; refused = both.1; leafless = again.replied.leafless; loaded = le_trans later again.replied.loaded };
-        ended = ended_again table g.G.Gate.becomes call c.make_attempt.result c.in-Some.lacks (c.args.seat.now, c.args.gate.now) (c.make_attempt-first.new.seat, c.make_attempt-first.new.gate) (c.collect_between.new.seat, c.collect_between.new.gate) _ first.ended first.replied.refused round again.ended;
+        ended = ended_again table g.G.Gate.becomes call c.make_attempt.result c.in-Some.lacks (c.args.seat.now, c.args.gate.now) (c.make_attempt-first.new.seat, c.make_attempt-first.new.gate) (c.collect_between.new.seat, c.collect_between.new.gate) _ first.ended first.replied.refused round again.ended (inl (again.replied.noted, again.replied.refused));
         later = le_trans later again.later;
       };
       lacks = λ is. lacks_from_before table.layout c.make_attempt.new.seat.known.pass c.make_attempt.new.seat.known.pass c.make_attempt.new.seat.known.failed c.make_attempt.new.seat.known.failed c.args.seat.now.known.steps c.collect_between.new.seat.known.steps
@@ -68,6 +70,11 @@ returns-then-collect_between g c =
           let idle = c.make_attempt-first.ensures.asked.replied.idle.1 in
           c.make_attempt.ensures.room removal
           (collecting_room c.args.table.now g.G.Gate.becomes (c.make_attempt-first.new.seat, c.make_attempt-first.new.gate) (c.collect_between.new.seat, c.collect_between.new.gate) c.collect_between.ensures.collects one idle.pin idle.own (omega (arith, early, longer, c.make_attempt.ensures.longer)) (c.make_attempt-first.ensures.spares was));
+      none = λ one full early.
+          let longer = runs_longer c.args.table.now g.G.Gate.becomes (round.first ∷ round.rest) (c.make_attempt-first.new.seat, c.make_attempt-first.new.gate) (c.collect_between.new.seat, c.collect_between.new.gate) round.does.steps in
+          let idle = c.make_attempt-first.ensures.asked.replied.idle in
+          refused_still c.args.table.now g.G.Gate.becomes (c.collect_between.new.seat, c.collect_between.new.gate) (c.make_attempt.new.seat, c.make_attempt.new.gate) one (does_idle round.does c.collect_between.ensures.free idle).1 again.ended (full_unnoted c.args.table.now.layout c.args.call.now (pass_of c.collect_between.new.seat) (pass_of c.make_attempt.new.seat) c.make_attempt.result full again.replied.refused)
+          (collecting_still c.args.table.now g.G.Gate.becomes (c.make_attempt-first.new.seat, c.make_attempt-first.new.gate) (c.collect_between.new.seat, c.collect_between.new.gate) c.collect_between.ensures.collects one idle.1.pin idle.1.own (omega (arith, early, longer, c.make_attempt.ensures.longer)));
     }
 
 pub returns : goal.returns
@@ -77,7 +84,8 @@ returns g c =
     let k = pass_of c.args.seat.now in
     let fault = fault_of c.in-Some.lacks in
     let first = subst (λ (z : Result Reply TryFault). HasAsked table g.G.Gate.becomes (IsOneAttempt table) call z (c.args.seat.now, c.args.gate.now) (c.make_attempt-first.new.seat, c.make_attempt-first.new.gate)) c.in-Some.ensures.some c.make_attempt-first.ensures.asked in
-    let round = between c.collect_between.ensures.collects in
+    let none = none_between c.in-Some.lacks (c.collect_between.ensures.none c.if-collect_between.false) in
+    let round = none.0 in
     let again = c.pin_and_unpin.ensures.rested in
     let unnoted = first.replied.refused.refused.unnoted in
     let later = round_later k (c.make_attempt-first.new.seat, c.make_attempt-first.new.gate) (c.collect_between.new.seat, c.collect_between.new.gate) unnoted first.later first.replied.idle.1 round in
@@ -100,7 +108,7 @@ returns g c =
         leafless = first.replied.leafless;
         loaded = subst (λ (z : Fresh). c.args.seat.now.known.steps ≤ z.step) (sym (again.fresh ∙ ap (λ (z : Known). z.fresh) round.does.rest)) first.replied.loaded;
       };
-      ended = ended_again table g.G.Gate.becomes call (Err fault) c.in-Some.lacks (c.args.seat.now, c.args.gate.now) (c.make_attempt-first.new.seat, c.make_attempt-first.new.gate) (c.collect_between.new.seat, c.collect_between.new.gate) _ first.ended first.replied.refused round again.ended;
+      ended = ended_again table g.G.Gate.becomes call (Err fault) c.in-Some.lacks (c.args.seat.now, c.args.gate.now) (c.make_attempt-first.new.seat, c.make_attempt-first.new.gate) (c.collect_between.new.seat, c.collect_between.new.gate) _ first.ended first.replied.refused round again.ended (inr none.1);
       later = omega (arith, later, again.steps);
     } in
     record {
@@ -115,4 +123,10 @@ returns g c =
       spares = λ was. c.pin_and_unpin.ensures.spares (collects_spare c.args.table.now g.G.Gate.becomes (c.make_attempt-first.new.seat, c.make_attempt-first.new.gate) (c.collect_between.new.seat, c.collect_between.new.gate) c.collect_between.ensures.collects (c.make_attempt-first.ensures.spares was));
       room = λ removal one was early is. elim (c.collect_between.ensures.not c.if-collect_between.false) [ inl plain ↦ absurd (false≢true (sym plain ∙ c.is_removal.ensures.1 removal)) | inr several ↦ absurd (omega (arith, several, one)) ];
       asked = subst (λ (z : Result Reply TryFault). HasAsked table g.G.Gate.becomes (AreTries table g.G.Gate.becomes call z) call z (c.args.seat.now, c.args.gate.now) (c.pin_and_unpin.new.seat, c.pin_and_unpin.new.gate)) (sym c.in-Some.ensures.some) whole;
+      none = λ one full early.
+          let longer = runs_longer c.args.table.now g.G.Gate.becomes (round.first ∷ round.rest) (c.make_attempt-first.new.seat, c.make_attempt-first.new.gate) (c.collect_between.new.seat, c.collect_between.new.gate) round.does.steps in
+          let later = ended_longer c.args.table.now g.G.Gate.becomes (c.collect_between.new.seat, c.collect_between.new.gate) (c.pin_and_unpin.new.seat, c.pin_and_unpin.new.gate) again.ended in
+          let idle = c.make_attempt-first.ensures.asked.replied.idle in
+          refused_still c.args.table.now g.G.Gate.becomes (c.collect_between.new.seat, c.collect_between.new.gate) (c.pin_and_unpin.new.seat, c.pin_and_unpin.new.gate) one (does_idle round.does c.collect_between.ensures.free idle).1 again.ended again.unnoted
+          (collecting_still c.args.table.now g.G.Gate.becomes (c.make_attempt-first.new.seat, c.make_attempt-first.new.gate) (c.collect_between.new.seat, c.collect_between.new.gate) c.collect_between.ensures.collects one idle.1.pin idle.1.own (omega (arith, early, longer, later)));
     }
