@@ -168,3 +168,13 @@ fn a_full_index_can_be_emptied(rt: HostRuntime) {
         let _ = fill_twice(&rt, rt.alloc(), nodes);
     }
 }
+
+/// Where there are several passes, insertions leave one node record, which removals need: with one node asked, two keys go in.
+#[test]
+fn insertions_of_two_passes_leave_a_node(rt: HostRuntime) {
+    let (index, mut passes) = make_index_of_size(&rt, rt.alloc(), 2, 1, MANY - 1);
+    let mut guest = Handle::new(&index, pop_pass(&rt, &index, &mut passes));
+    let mut map = PlainIndex::new(rt.alloc());
+    assert!(rt; fill(&rt, rt.alloc(), &mut guest, &mut map) == 2);
+    assert!(rt; call_for_keys(&rt, &mut guest, &mut map, Deed::Remove, 2) == 2);
+}
