@@ -42,7 +42,8 @@
  * hot_add; hot_copy, hot_clear, hot_clear_range, hot_pop_first and hot_pop_last, which make such calls; hot_open and hot_stamp, for each
  * other; hot_stamp and hot_follow, too; and hot_grow, hot_trim, hot_grow_begin and hot_grow_step.
  * Each other call ends after a bounded number of steps, whatever other threads do: a step is one atomic access to a word of the index.
- * Each call below that makes steps gives its bound, for the worst tree that there can be.
+ * Each call below that makes steps gives its bound, for the worst tree that there can be. Beside its steps it may touch words, which it loads
+ * and ignores: hot_get four at most for each node on the way, hot_get_many, scans and changes eleven for each entry of a node that they load.
  *
  * Memory. An index has its records from the beginning, and a handle 119 KB of lists from when it is first opened, so that no change asks
  * for memory. But a page of 4 KiB takes memory only once something is written there: so an index takes what its keys need, and a handle

@@ -90,7 +90,7 @@ impl Index {
     /// The value of `key`, or `None` if it is absent.
     ///
     /// It takes no lock and never blocks. It makes at most 36 atomic steps, and 26 for each node on the path to the key, whatever others
-    /// do. A path has at most 2,160 nodes.
+    /// do. Beside them it touches four words of each such node at most: it loads and ignores them. A path has at most 2,160 nodes.
     pub fn get(&self, pass: &mut Pass, key: &Key) -> Option<u64>
         requires { Owns self.now pass.old }
         ensures own { Owns self.now pass.new }
@@ -104,7 +104,7 @@ impl Index {
     /// are keys.
     ///
     /// It takes no lock, allocates nothing and never blocks. It makes at most 4 atomic steps, 32 for each key, and 26 for each node on
-    /// the path to a key. A path has at most 2,160 nodes.
+    /// the path to a key. Beside them it touches eleven words at most for each such node. A path has at most 2,160 nodes.
     ///
     /// Each value is of a moment of its own within the call, in no stated order among the keys. A change whose call had returned before is seen.
     ///

@@ -9,15 +9,16 @@ use Rattle.rowex_core.specs.declared.event.Act.TheVariants.{ClearPin, LoadEpoch,
 use Rattle.rowex_core.specs.declared.event.Event.{Event}
 use Rattle.rowex_core.specs.declared.event.Spot.TheVariants.{Root}
 use Rattle.rowex_core.specs.declared.known.Known.{Known}
-use Rattle.rowex_table.specs.Runs.{Ends, IsTold, Runs, SeesAllOfRun, Steps, StepsWith, events_of, silent}
+use Rattle.rowex_table.specs.Runs.{Ends, IsTold, Runs, SeesAllOfRun, Steps, StepsWith, entry_touches, events_of, silent}
 use Rattle.rowex_table.specs.Seats.{TableView, SeatView}
 use Rattle.rowex_table.proofs.Running.{ends_told, runs_append, runs_one}
 use Rattle.rowex_table.proofs.Seeing.{ends_see, runs_after, runs_see, sees_then, step_after, step_shows}
 use Rattle.epochs.specs.Rounds.{advance_steps}
 use Rattle.epochs.specs.Runs.{Pins}
-use Rattle.rowex_reading.specs.Lookups.{HasSearched, HaveSearched}
-use Rattle.rowex_reading.specs.Reads.{Looks}
+use Rattle.rowex_reading.specs.Lookups.{HasSearched, HaveSearched, search_touches}
+use Rattle.rowex_reading.specs.Reads.{Looks, entries_in}
 use Rattle.rowex_reading.proofs.Counting.{looks_count}
+use Rattle.rowex_reading.proofs.Touching.{ends_touch, root_still, runs_touch}
 use Rattle.rowex_scanning.specs.Counts.{Scans, scan_entries}
 use Rattle.rowex_writing.specs.Attempts.{HasAttempted}
 use Rattle.rowex_writing.specs.Changes.{HasTried}
@@ -81,6 +82,15 @@ module _ {G : Type 0} (table : TableView) (becomes : G → Event → G → Type 
       let third : d.0.known.steps ≡ c.0.known.steps + 1 = ap (λ (z : Known). z.steps) end.event.learned_is in
       omega (arith, first, second, third)
 
+  -- the touches of a call: of its search alone
+  few_touched : {said : Known → List Note} {a b c d : SeatView × G} (most : ℕ) → Pins table becomes a b → c.0.touches ≤ b.0.touches + most → StepsWith table becomes ClearPin said c d → d.0.touches ≤ a.0.touches + most
+  few_touched {a = a} {b = b} {c = c} {d = d} most pins search end =
+      let pinned : b.0.touches ≤ a.0.touches + entry_touches * 0 = (runs_touch table becomes (LoadEpoch pins.0 ∷ SetPin pins.0 ∷ []) a b pins.1.steps).1 in
+      let last : d.0.touches ≤ c.0.touches + 0 = end.touches.1 in omega (arith, pinned, last, search)
+
+  looks_touched : {e n : ℕ} {b c : SeatView × G} (looks : Looks table becomes e n b c) → c.0.touches ≤ b.0.touches + entry_touches * entries_in looks.rest.acts
+  looks_touched looks = let root = root_still looks.root in let (low, high) = runs_touch table becomes looks.rest.acts looks.at _ looks.rest.steps in omega (arith, root, high)
+
   pub has_got : {said : Known → List Note} {a b c d : SeatView × G} → Pins table becomes a b → HasSearched table becomes b c → StepsWith table becomes ClearPin said c d →
       HasGot table becomes (pass_of a.0, a.1) (pass_of d.0, d.1)
   unfolding has_read
@@ -90,6 +100,7 @@ module _ {G : Type 0} (table : TableView) (becomes : G → Event → G → Type 
         read = has_read pins search.looks end;
         depth = subst (λ e. e ≤ 9 * MAX_BYTES) (sym entries) search.low;
         few = subst (λ e. d.0.known.steps ≤ a.0.known.steps + 36 + 26 * e) (sym entries) (omega (arith, steps, few));
+        touched = few_touched (search_touches * entries_in search.looks.rest.acts) pins (subst (λ e. c.0.touches ≤ b.0.touches + search_touches * e) (sym entries) search.touched) end;
       }
 
   -- and so of many keys
@@ -102,6 +113,7 @@ module _ {G : Type 0} (table : TableView) (becomes : G → Event → G → Type 
         read = has_read pins search.looks end;
         depth = subst (λ e. e ≤ count * (9 * MAX_BYTES)) (sym entries) search.low;
         few = subst (λ e. d.0.known.steps ≤ a.0.known.steps + 4 + 32 * count + 26 * e) (sym entries) (omega (arith, steps, few));
+        touched = few_touched (entry_touches * entries_in search.looks.rest.acts) pins (looks_touched search.looks) end;
       }
 
   pub has_walked : {said : Known → List Note} {a b c d : SeatView × G} (limit : ℕ) → Pins table becomes a b → Scans table becomes limit b c → StepsWith table becomes ClearPin said c d →
@@ -113,12 +125,13 @@ module _ {G : Type 0} (table : TableView) (becomes : G → Event → G → Type 
         read = has_read pins looks end;
         most = subst (λ e. e ≤ scan_entries limit) (sym entries) are.most;
         few = subst (λ e. d.0.known.steps ≤ a.0.known.steps + 101 + 26 * e + 8 * limit) (sym entries) (omega (arith, steps, few));
+        touched = few_touched (entry_touches * entries_in looks.rest.acts) pins (looks_touched looks) end;
       }
 
   -- Nobody need be told.
 
   pub step_untold : (act : Act) (said : Known → List Note) (a b : SeatView × G) → StepsWith table becomes act said a b → StepsWith table untold act said (a.0, tt) (b.0, tt)
-  step_untold act said a b x = record { seat = x.seat; atomic = x.atomic; event = x.event; next = x.next; told = tt }
+  step_untold act said a b x = record { seat = x.seat; atomic = x.atomic; event = x.event; next = x.next; touches = x.touches; told = tt }
 
   pub runs_untold : (acts : List Act) (a b : SeatView × G) → Runs table becomes acts a b → Runs table untold acts (a.0, tt) (b.0, tt)
   runs_untold [] a b run = ap (λ (z : SeatView × G). (z.0, tt)) run
@@ -139,6 +152,7 @@ module _ {G : Type 0} (table : TableView) (becomes : G → Event → G → Type 
     sees = ends_see table becomes acts ClearPin (change_notes call r) a b ends loaded;
     told = ends_told table becomes acts ClearPin (change_notes call r) a b ends;
     few = few;
+    touched = let high : b.0.touches ≤ a.0.touches + (entry_touches * entries_in acts + 0) = (ends_touch table becomes acts ClearPin (change_notes call r) a b ends).1 in omega (arith, high);
   }
 
   -- Calls that wait

@@ -9,6 +9,7 @@ use Rattle.finite_map.specs.Calls.{LegalCalls}
 use Rattle.record_words.specs.declared.layout.Layout.{Layout}
 use Rattle.rowex_core.specs.declared.event.Event.{Event}
 use Rattle.rowex_reading.specs.Reads.{entries_in}
+use Rattle.rowex_table.specs.Runs.{entry_touches}
 use Rattle.rowex_table.specs.Seats.{TableView}
 use Rattle.tries.specs.Keys.{Key}
 use Rattle.hot_index_calls.specs.Answers.{GoesOn, got}
@@ -33,8 +34,10 @@ pub record AreNoted (layout : Layout) (k j : PassView) (calls : List (Call × Re
   pub legal : LegalCalls j.front j.number j.notes
 
 -- The pass reads once for so many keys: it loads the root once, and one entry in each node on a key's way. It makes at most 26 steps for each
--- entry that it loads, 32 for each key, and 4 beside. Which loads serve which key isn't said.
+-- entry that it loads, 32 for each key, and 4 beside. Beside them it touches eleven words for each such entry at most. Which loads serve which
+-- key isn't said.
 pub record HasGotMany {G : Type 0} (index : TableView) (becomes : G → Event → G → Type 0) (count : ℕ) (a b : PassView × G) : Type 0 where
   pub read : HasRead index becomes a b
   pub depth : entries_in read.loads ≤ count * (9 * MAX_BYTES)
   pub few : b.0.steps ≤ a.0.steps + 4 + 32 * count + 26 * entries_in read.loads
+  pub touched : b.0.touches ≤ a.0.touches + entry_touches * entries_in read.loads

@@ -14,7 +14,7 @@ use Rattle.rowex_table.specs.Seats.{TableView, SeatView}
 
 -- A pass: its seat in the table, with all that it knows, and of which steps; and told of it by names of their own the table of its index, its
 -- number, the changes that it has seen, those at its last load of the root, its answered calls, the number of its next atomic step, and what
--- its failed claims and locks and its loads of states found.
+-- its failed claims and locks and its loads of states found. `touches` says how many words it has touched, beside its steps.
 pub record PassView : Type 0 where
   pub seat : SeatView
   pub table : TableId
@@ -23,6 +23,7 @@ pub record PassView : Type 0 where
   pub fresh : Fresh
   pub notes : List Note
   pub steps : ℕ
+  pub touches : ℕ
   pub failed : List Failed
 
 -- the pass of a seat
@@ -35,6 +36,7 @@ pass_of s = record {
   fresh = s.known.fresh;
   notes = s.known.notes;
   steps = s.known.steps;
+  touches = s.touches;
   failed = s.known.failed;
 }
 

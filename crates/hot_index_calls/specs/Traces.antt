@@ -12,8 +12,9 @@ use Rattle.rowex_core.specs.declared.event.Act.TheVariants.{LoadEpoch, SetPin, L
 use Rattle.rowex_core.specs.declared.event.Event.{Event}
 use Rattle.rowex_core.specs.declared.event.Spot.TheVariants.{Root}
 use Rattle.rowex_core.specs.declared.known.Known.{Known}
-use Rattle.rowex_table.specs.Runs.{Ends, InTurn, IsTold, Runs, SeesAllOfRun, events_of, silent}
+use Rattle.rowex_table.specs.Runs.{Ends, InTurn, IsTold, Runs, SeesAllOfRun, entry_touches, events_of, silent}
 use Rattle.rowex_table.specs.Seats.{TableView, SeatView}
+use Rattle.rowex_reading.specs.Lookups.{search_touches}
 use Rattle.rowex_reading.specs.Reads.{IsBelowRoot, entries_in}
 use Rattle.rowex_scanning.specs.Counts.{scan_entries}
 use Rattle.epochs.specs.Rounds.{IsRound, IsSmallRound, IsSparedRound, LoadsPin, VisitEach, Visits, advance_steps, has_given}
@@ -53,17 +54,20 @@ pub record HasRead {G : Type 0} (index : TableView) (becomes : G → Event → G
   pub told : IsTold becomes (events_of a.0.number (reading epoch root loads ++ ClearPin ∷ [])) a.1 b.1
 
 -- A get loads one entry in each node on the way of its key: it makes at most 26 steps for each entry that it loads, and 36 beside.
+-- Beside them it touches four words for each such entry at most.
 pub record HasGot {G : Type 0} (index : TableView) (becomes : G → Event → G → Type 0) (a b : PassView × G) : Type 0 where
   pub read : HasRead index becomes a b
   pub depth : entries_in read.loads ≤ 9 * MAX_BYTES
   pub few : b.0.steps ≤ a.0.steps + 36 + 26 * entries_in read.loads
+  pub touched : b.0.touches ≤ a.0.touches + search_touches * entries_in read.loads
 
 -- A scan loads one entry for each node to which it goes, and one for each leaf: it makes at most 26 steps for each entry that it loads, 8
--- more for each pair of its limit, and 101 beside.
+-- more for each pair of its limit, and 101 beside. Beside them it touches eleven words for each such entry at most.
 pub record HasGotRange {G : Type 0} (index : TableView) (becomes : G → Event → G → Type 0) (limit : ℕ) (a b : PassView × G) : Type 0 where
   pub read : HasRead index becomes a b
   pub most : entries_in read.loads ≤ scan_entries limit
   pub few : b.0.steps ≤ a.0.steps + 101 + 26 * entries_in read.loads + 8 * limit
+  pub touched : b.0.touches ≤ a.0.touches + entry_touches * entries_in read.loads
 
 -- An attempt, but for its last step, which clears the pin: it pins the pass, leaves the pin, and tries each lock once at most. Its
 -- steps are bounded by the entries that its search loads, the locks that it tries, and the records of the table.
@@ -189,7 +193,8 @@ HasEnded table becomes Are said a b = (acts : List Act) × Are acts × Ends tabl
 -- The call makes one attempt, or two with a round of collection between them, whole or spared, and a small round or nothing before; it makes no other
 -- step, from the seat that the pass has before to the one that it has after. An attempt tries each lock once at most. A second one follows
 -- a first that was full, and no other. The last step clears the pin. With it comes the call's note, if it was answered. The gate is told
--- each of the steps, in order, and nothing else. So many they are at most. Answered or refused, its last load of the root has shown the
+-- each of the steps, in order, and nothing else. So many they are at most. Beside them the pass touches eleven words at most for each entry
+-- that they load. Answered or refused, its last load of the root has shown the
 -- pass all changes that the table's steps had made by then, and so all that any pass had seen.
 pub record HasMade {G : Type 0} (index : TableView) (becomes : G → Event → G → Type 0) (call : Call) (result : Result Reply TryFault)
     (a b : PassView × G) : Type 0 where
@@ -201,6 +206,7 @@ pub record HasMade {G : Type 0} (index : TableView) (becomes : G → Event → G
   pub sees : SeesAllOfRun index.layout a.0.seat b.0.seat
   pub told : IsTold becomes (events_of a.0.number (acts ++ ClearPin ∷ [])) a.1 b.1
   pub few : b.0.steps ≤ a.0.steps + try_steps call index.layout
+  pub touched : b.0.touches ≤ a.0.touches + entry_touches * entries_in acts
 
 -- On a seat: the call makes steps, one after the other, and these notes come with the last.
 abbrev pub HasStepped : {G : Type 0} → TableView → (G → Event → G → Type 0) → (Known → List Note) → SeatView × G → SeatView × G → Type 0

@@ -92,7 +92,7 @@ turned_true layout q p w x = record {
 }
 
 abbrev seat_at : TableId → ℕ → Known → List Event → SeatView
-seat_at id n k trace = record { table = id; id = n; known = k; trace = trace; asides = 0 }
+seat_at id n k trace = record { table = id; id = n; known = k; trace = trace; asides = 0; touches = 0 }
 
 module _ (table : TableView) (q p : ℕ) (apart : p ≢ q) where
   step_true : (w : World) (act : Act) (notes : List Note) → IsTrue table.layout q p w → Legal w.core q act → IsTrue table.layout q p (stepped q w act notes)
@@ -128,6 +128,7 @@ module _ (table : TableView) (q p : ℕ) (apart : p ≢ q) where
       others = subst (λ n. OthersStepOn n trace w.run) (sym x.one_is) others;
       next_is = ap (λ n. w.run ++ record { pass = n; act = act } ∷ []) (sym x.one_is);
     };
+    touches = (omega arith, omega arith);
     told = tt;
     atomic = plain;
   }

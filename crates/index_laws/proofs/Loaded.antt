@@ -32,7 +32,7 @@ loader_legal layout words load = load_is_legal 0 (loaded_tree layout words) (λ 
 
 -- the seat of pass 0 before the load
 abbrev pub unloaded : SeatView → SeatView
-unloaded s = record { table = s.table; id = s.id; known = opening_of 0; trace = []; asides = 0 }
+unloaded s = record { table = s.table; id = s.id; known = opening_of 0; trace = []; asides = 0; touches = 0 }
 
 pub makes_load : (table : TableView) (words : List ℕ) (s : SeatView) → 0 < table.layout.passes → IsLoad table.layout words → IsLoaderSeat table words s →
     MakesEvent table (load_of words) (λ k. insertion_notes table.layout words) (unloaded s) s

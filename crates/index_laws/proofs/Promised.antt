@@ -1,8 +1,11 @@
 -- The promises of the headline, one by one.
-use Rattle.std.proofs.Common.{◌≡◌, ◌≢◌, inl, inr, ⊎_elim, ℕ, ◌+◌, ◌*◌, ◌<◌, ◌≤◌, List, [], ◌∷◌, ◌++◌, Option, map, suc, refl, sym, ap, subst, ◌∙◌, arith, append-nil, le_refl, le_trans}
-use Rattle.std.specs.Prelude.{All}
+use Rattle.std.proofs.Common.{◌≡◌, ◌≢◌, inl, inr, ⊎_elim, ℕ, Bool, true, false, cond, length, ◌+◌, ◌*◌, ◌<◌, ◌≤◌, List, [], ◌∷◌, ◌++◌, Option, map, suc, refl, sym, ap, subst, ◌∙◌, arith, append-nil, le_refl, le_trans}
+use Rattle.std.specs.Prelude.{All, Result}
 use Rattle.std.proofs.lemmas.List.Elements.{All-head, All-nil}
+use Rattle.std.proofs.lemmas.List.Sums.{sum_by-cons}
 use Rattle.key_bits.specs.declared.TheConstants.{MAX_BYTES}
+use Rattle.finite_map.specs.declared.Call.{Call}
+use Rattle.finite_map.specs.declared.Reply.{Reply}
 use Rattle.finite_map.specs.declared.Call.TheVariants.{Add, Exchange, Insert, Remove, RemoveIf}
 use Rattle.finite_map.specs.declared.Change.{Change}
 use Rattle.finite_map.specs.declared.Note.{Note}
@@ -16,11 +19,15 @@ use Rattle.finite_map.specs.Weaves.{Event, LegalHistory, answered, calls_of, wea
 use Rattle.finite_map.proofs.Weaving.{weave-legal}
 use Rattle.plain_index.proofs.InOrder.{weave-in_order}
 use Rattle.plain_index.proofs.Together.{woven-in_order_two}
+use Rattle.rowex_core.specs.declared.event.Act.{Act}
 use Rattle.rowex_core.specs.declared.known.Known.{Known}
 use Rattle.rowex_core.specs.Events.{loaded_tree}
 use Rattle.rowex_core.proofs.Loading.{LastOf, last, value_fact, view}
 use Rattle.rowex_core.proofs.Promises.{entries_in_reach, in_reach}
 use Rattle.record_words.specs.declared.layout.Layout.{Layout}
+use Rattle.rowex_reading.specs.Reads.{entries_in, loads_entry}
+use Rattle.rowex_reading.proofs.Counting.{runs_count}
+use Rattle.rowex_table.specs.Seats.{TableView}
 use Rattle.rowex_writing.specs.declared.attempts.TryFault.{TryFault}
 use Rattle.rowex_writing.specs.declared.attempts.TryFault.TheVariants.{Busy, FullLeaves, FullNodes}
 use Rattle.tries.specs.Content.{Item}
@@ -33,6 +40,9 @@ use Rattle.versions.specs.Told.{added_notes, items_of}
 use Rattle.versions.proofs.States.{reach_later}
 use Rattle.versions.proofs.Telling.{content_in_order}
 use Rattle.hot_index_calls.specs.Answers.{IsCause, MayRefuse}
+use Rattle.hot_index_calls.specs.Counts.{try_steps}
+use Rattle.hot_index_calls.specs.Passes.{PassView}
+use Rattle.hot_index_calls.specs.Traces.{HasMade, untold}
 use Rattle.hot_index.proofs.Alone.{one_pass_full_is_full, one_pass_is_never_busy}
 use Rattle.hot_index.proofs.Counted.{counts_add_up}
 use Rattle.hot_index.proofs.Held.{absent_is_never_full, held_is_never_full, one_pass_refuses_new_alone}
@@ -41,7 +51,7 @@ use Rattle.linearizability.specs.Moments.{Happening, IsWholeRun, Moment}
 use Rattle.linearizability.specs.Scanning.{IsScanInTime}
 use Rattle.linearizability.proofs.Replies.{behind, effect, replies_in_time}
 use Rattle.linearizability.proofs.Scanning.{scans_in_time}
-use Rattle.index_laws.specs.Headline.{BoundedSteps, Freshness, FreshnessOfMany, Headline, History, LoadedHistory, NeverRefused, OneHistory, Refusals, ScansShow, ValuesInReach}
+use Rattle.index_laws.specs.Headline.{BoundedSteps, BoundedTouches, Freshness, FreshnessOfMany, Headline, History, LoadedHistory, NeverRefused, OneHistory, Refusals, ScansShow, ValuesInReach}
 use Rattle.index_laws.proofs.Joining.{one_run_is_an_execution}
 use Rattle.index_laws.proofs.Living.{one_history_of_all}
 use Rattle.index_laws.proofs.Loaded.{loader_legal}
@@ -166,6 +176,36 @@ steps = record {
   count = λ index counts k j h. (let many = h.many in omega (arith, many));
 }
 
+few_touches : (before now entries most : ℕ) → now ≤ before + 11 * entries → entries ≤ most → now ≤ before + 11 * most
+few_touches before now entries most few depth = omega (arith, few, depth)
+
+bit_most : (b : Bool) → cond b 1 0 ≤ 1
+bit_most true = omega arith
+bit_most false = omega arith
+
+-- no more steps load entries than there are
+entries_most : (acts : List Act) → entries_in acts ≤ length acts
+entries_most [] = omega arith
+entries_most (act ∷ acts) =
+    let all = sum_by-cons (λ (a : Act). cond (loads_entry a) 1 0) act acts in let rest = entries_most acts in let one = bit_most (loads_entry act) in omega (arith, all, rest, one)
+
+-- nor than a try makes
+made_most : (index : TableView) (call : Call) (result : Result Reply TryFault) (k j : PassView) (h : HasMade index untold call result (k, tt) (j, tt)) → entries_in h.acts ≤ try_steps call index.layout
+made_most index call result k j h =
+    let (m, runs, last) = h.steps in
+    let ran = runs_count index untold h.acts (k.seat, tt) m runs in
+    let ended : j.seat.known.steps ≡ m.0.known.steps + 1 = ap (λ (z : Known). z.steps) last.event.learned_is in
+    let before : k.steps ≡ k.seat.known.steps = ap (λ (z : PassView). z.steps) h.begins in let after : j.steps ≡ j.seat.known.steps = ap (λ (z : PassView). z.steps) h.ends in
+    let most = entries_most h.acts in let few = h.few in omega (arith, ran, ended, before, after, most, few)
+
+touches : BoundedTouches
+touches = record {
+  get = λ index k j h. (let depth = h.depth in let few = h.touched in omega (arith, depth, few));
+  get_many = λ index count k j h. few_touches k.touches j.touches _ (count * (9 * MAX_BYTES)) h.touched h.depth;
+  change = λ index call result k j h. few_touches k.touches j.touches _ (try_steps call index.layout) h.touched (made_most index call result k j h);
+  scan = λ index limit k j h. (let most = h.most in let few = h.touched in omega (arith, most, few));
+}
+
 values_in_reach : ValuesInReach
 values_in_reach c law q p e m l u lo hi st =
     let x : LastOf c m (a_leaf l) = last c law m reach (a_leaf l) (m, u, le_refl m, hi, st) in
@@ -206,6 +246,7 @@ headline = record {
   never_full = record { held = held_is_never_full; absent = absent_is_never_full; alone = one_pass_refuses_new_alone };
   number_of_keys = counts_add_up;
   steps = steps;
+  touches = touches;
   out_of_reach = in_reach;
   entries_in_reach = entries_in_reach;
   values_in_reach = values_in_reach;

@@ -110,7 +110,7 @@ module _ (layout : Layout) (below : 0 < layout.passes) (table : TableId) (key : 
   happens (suc (suc (suc (suc (suc (suc t)))))) = shows 0 []
 
   abbrev before : SeatView
-  before = record { table = table; id = 0; known = opening_of 0; trace = []; asides = 0 }
+  before = record { table = table; id = 0; known = opening_of 0; trace = []; asides = 0; touches = 0 }
 
   abbrev now : SeatView
   now = record {
@@ -119,6 +119,7 @@ module _ (layout : Layout) (below : 0 < layout.passes) (table : TableId) (key : 
     known = unpinned.known 0;
     trace = record { pass = 0; act = LoadEpoch 1 } ∷ record { pass = 0; act = SetPin 1 } ∷ record { pass = 0; act = LoadRef Root 0 } ∷ record { pass = 0; act = ClearPin } ∷ [];
     asides = 0;
+    touches = 0;
   }
 
   stands : StandsIn [] 0 note
@@ -160,7 +161,7 @@ module _ (layout : Layout) (below : 0 < layout.passes) (table : TableId) (key : 
 
   -- the seats at a moment, where all steps so far are pass 0's
   abbrev seen : Moment → List Event → Instant
-  seen a run = record { run = run; seat = λ q. record { table = table; id = q; known = a.known q; trace = cond (nat_eq q 0) run []; asides = 0 }; pending = a.pending }
+  seen a run = record { run = run; seat = λ q. record { table = table; id = q; known = a.known q; trace = cond (nat_eq q 0) run []; asides = 0; touches = 0 }; pending = a.pending }
 
   seat_step : (a b : Moment) (run : List Event) (act : Act) (notes : List Note) → IsSoundMoment layout a → IsMomentStep a b 0 act notes → EventsLead (opening layout) run a.core →
       IsSeatStep made (seen a run) (seen b (run ++ event act ∷ [])) 0 act notes
@@ -175,7 +176,7 @@ module _ (layout : Layout) (below : 0 < layout.passes) (table : TableId) (key : 
     notes_are = refl;
     behind = refl;
     run = refl;
-    others = λ o ne i. record { table = table; id = o; known = x.others o ne i; trace = (ap (λ b. cond b (run ++ event act ∷ []) []) (ne_eqb o 0 ne) ∙ sym (ap (λ b. cond b run []) (ne_eqb o 0 ne))) i; asides = 0 };
+    others = λ o ne i. record { table = table; id = o; known = x.others o ne i; trace = (ap (λ b. cond b (run ++ event act ∷ []) []) (ne_eqb o 0 ne) ∙ sym (ap (λ b. cond b run []) (ne_eqb o 0 ne))) i; asides = 0; touches = 0 };
     call = x.call;
     called = x.called;
     pending = x.pending;

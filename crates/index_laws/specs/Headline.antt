@@ -142,6 +142,18 @@ pub record BoundedSteps : Type 0 where
   pub count : (index : TableView) (counts : RecordCounts) (k j : PassView) → HasCounted index untold (k, tt) (j, tt) counts →
       j.steps ≤ k.steps + (index.layout.nodes + index.layout.leaves)
 
+-- Beside its steps a call touches words: it loads them and ignores what it finds. A get touches four for each node on the way of its key, and
+-- gets of so many keys eleven for each node on theirs, where a way has at most 2,160 nodes. A scan touches eleven for each entry that it loads,
+-- and a try of a change eleven at most for each of its steps.
+pub record BoundedTouches : Type 0 where
+  pub get : (index : TableView) (k j : PassView) → HasGot index untold (k, tt) (j, tt) → j.touches ≤ k.touches + 4 * (9 * MAX_BYTES)
+  pub get_many : (index : TableView) (count : ℕ) (k j : PassView) → HasGotMany index untold count (k, tt) (j, tt) →
+      j.touches ≤ k.touches + 11 * (count * (9 * MAX_BYTES))
+  pub change : (index : TableView) (call : Call) (result : Result Reply TryFault) (k j : PassView) → HasMade index untold call result (k, tt) (j, tt) →
+      j.touches ≤ k.touches + 11 * try_steps call index.layout
+  pub scan : (index : TableView) (limit : ℕ) (k j : PassView) → HasGotRange index untold limit (k, tt) (j, tt) →
+      j.touches ≤ k.touches + 11 * scan_entries limit
+
 -- Of a leaf that stood in a version m since a pass's pin, the value is the one that it had when it stood last, which is now or in a version
 -- since m.
 abbrev pub ValuesInReach : Type 0
@@ -180,6 +192,7 @@ pub record Headline : Type 0 where
   -- if no pass is changing the index, the counts that passes keep of their keys are those of its map
   pub number_of_keys : CountsAddUp
   pub steps : BoundedSteps
+  pub touches : BoundedTouches
   -- a record that a pinned pass may reach is not reused, and its words are as they were when it stood in the tree, but for its state, a node's
   -- entries, a leaf's value, and what stands behind a leaf's key; and an entry, or a value, is one that the record had when it stood last
   pub out_of_reach : InReach

@@ -38,7 +38,7 @@ state_after layout s id k act v =
 
 -- what its seat then knows, and of which steps
 abbrev pub view_after : List Event → Core → Known → Trace → Act → List Note → TracedView
-view_after run c k t act notes = Pass (known_after c k act notes) (record { events = run_after run c k act; asides = t.asides })
+view_after run c k t act notes = Pass (known_after c k act notes) (record { events = run_after run c k act; asides = t.asides; touches = t.touches })
 
 -- By the rule of the table a core shows its state, to which its run leads. An atomic step that a pass may make, by what it knows, is legal
 -- in this very core; and the core after it shows the state that the step leads to, and what the pass then knows. The table's run has one step

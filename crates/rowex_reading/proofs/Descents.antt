@@ -25,7 +25,7 @@ use Rattle.rowex_core.specs.Knowing.{IsPinnedSince}
 use Rattle.rowex_table.specs.Made.{IsLater}
 use Rattle.rowex_table.specs.Seats.{TableView, SeatView}
 use Rattle.version_laws.specs.Scan.{EntryStoodSince, IsRooted, IsPlaced, IsShaped, IsRead}
-use Rattle.rowex_reading.specs.Lookups.{HasFound}
+use Rattle.rowex_reading.specs.Lookups.{HasFound, search_touches}
 use Rattle.rowex_reading.specs.Possible.{IsPossible}
 use Rattle.rowex_reading.specs.Reads.{Reads}
 use Rattle.rowex_reading.specs.Seen.{Sure, seen, since, HasPlace, IsLedTo, shape_of, IsHeadSeen}
@@ -173,8 +173,8 @@ module _ {G : Type 0} {table : TableView} {becomes : G → Event → G → Type 
       falls_on = subst (λ z. height_of e < height_of z) (sym is) stood.0
 
       -- the search has been led to it
-      pub led_down : IsAt table becomes a i key e
-      led_down = next_of at n height (shape_of head) step.slot is most reads seen.shaped spot_is e one stood
+      pub led_down : i.0.touches ≤ b.0.touches + search_touches → IsAt table becomes a i key e
+      led_down touches = next_of at n height (shape_of head) step.slot is most reads seen.shaped spot_is e one touches stood
 
       -- the way has room for the node
       pub way_room : length way < 9 * MAX_BYTES

@@ -13,6 +13,7 @@ pub mod Fronting
 pub mod Whole
 pub mod Comparing
 pub mod Led
+pub mod Touching
 pub mod Looking
 pub mod Shapes
 pub mod Ways

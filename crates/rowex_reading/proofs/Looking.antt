@@ -20,12 +20,13 @@ use Rattle.record_words.specs.declared.TheConstants.{HEAD_WORDS, LEAF_FIELDS}
 use Rattle.rowex_core.specs.declared.event.Event.{Event}
 use Rattle.rowex_core.specs.declared.known.Known.{Known}
 use Rattle.rowex_table.specs.Seats.{TableView, SeatView}
-use Rattle.rowex_reading.specs.Lookups.{HasFound, HasSearched}
+use Rattle.rowex_reading.specs.Lookups.{HasFound, HasSearched, search_touches}
 use Rattle.rowex_reading.specs.Reads.{Looks, Reads, ReadsRoot}
 use Rattle.rowex_reading.specs.Seen.{seen, Sure, since, IsAtRoot, IsCompared, IsLedTo, HasPlace}
 use Rattle.rowex_reading.specs.Together.{HasComeTo}
 use Rattle.rowex_core.specs.Knowing.{IsPinnedSince}
 use Rattle.rowex_reading.proofs.Led.{led_shape, looks_first, looks_on, reads_later, reads_trans, root_pinned, same_since, shape_place}
+use Rattle.rowex_reading.proofs.Touching.{reads_still, root_still}
 use Rattle.rowex_reading.proofs.Seeing.{sure_later, sure_map, since_later, seen_steady, led_stable, shaped_stable}
 
 -- Over versions alone
@@ -136,6 +137,7 @@ pub record IsAt {G : Type 0} (table : TableView) (becomes : G → Event → G �
   pub low : height ≤ 9 * MAX_BYTES
   pub few : loaded ≤ 26 * passed
   pub looks : Looks table becomes passed loaded a b
+  pub touched : b.0.touches ≤ a.0.touches + search_touches * passed
   pub way : HasComeTo b.0.known key e
 
 module _ {G : Type 0} {table : TableView} {becomes : G → Event → G → Type 0} where
@@ -143,7 +145,7 @@ module _ {G : Type 0} {table : TableView} {becomes : G → Event → G → Type 
   module _ {a b : SeatView × G} (reads : ReadsRoot table becomes a b) where
     -- it was empty
     pub none_searched : HasSearched table becomes a b
-    none_searched = record { nodes = 0; loaded = 0; low = omega arith; few = omega arith; looks = looks_first reads }
+    none_searched = record { nodes = 0; loaded = 0; low = omega arith; few = omega arith; looks = looks_first reads; touched = let same = root_still reads in omega (arith, same) }
 
     pub none_found : (key : Key) → Sure b.0.known (λ s. IsBlank s (since b.0.known)) → HasFound b.0.known key None
     none_found key blank = sure_map (λ s h. blank_missed s (since b.0.known) key h) blank
@@ -158,6 +160,7 @@ module _ {G : Type 0} {table : TableView} {becomes : G → Event → G → Type 
       low = low;
       few = omega arith;
       looks = looks_first reads;
+      touched = let same = root_still reads in omega (arith, same);
       way = way_first key e (root_pinned is reads, rooted);
     }
 
@@ -176,8 +179,8 @@ module _ {G : Type 0} {table : TableView} {becomes : G → Event → G → Type 
       place_of = way_place n height forks place way reads shaped leads
 
       -- one node down
-      pub next_of : {i : SeatView × G} (e : Entry) → Reads table becomes 1 1 c i → (height_of e < height) × Sure i.0.known (λ s. IsPlaced s (since b.0.known) n place e) → IsAt table becomes a i key e
-      next_of {i} e one entry = record {
+      pub next_of : {i : SeatView × G} (e : Entry) → Reads table becomes 1 1 c i → i.0.touches ≤ b.0.touches + search_touches → (height_of e < height) × Sure i.0.known (λ s. IsPlaced s (since b.0.known) n place e) → IsAt table becomes a i key e
+      next_of {i} e one touches entry = record {
         height = at.height;
         passed = at.passed + 1;
         loaded = at.loaded + (loads + 1);
@@ -185,6 +188,7 @@ module _ {G : Type 0} {table : TableView} {becomes : G → Event → G → Type 
         low = at.low;
         few = let f = at.few in omega (arith, f, most);
         looks = looks_on at.looks (reads_trans reads one);
+        touched = let f = at.touched in omega (arith, f, touches);
         way = way_next n height forks place way reads shaped leads e one entry.1;
       }
 
@@ -197,6 +201,7 @@ module _ {G : Type 0} {table : TableView} {becomes : G → Event → G → Type 
         low = let f = at.falls in let b = at.low in omega arith;
         few = let f = at.few in omega (arith, f, few);
         looks = looks_on at.looks reads;
+        touched = let f = at.touched in let same = reads_still reads in omega (arith, f, same);
       }
 
       pub leaf_found : (found : Option ℕ) → ((m : ℕ) → IsLedTo b.0.known m (Leaf n) → Sure c.0.known (λ s. IsCompared s m n key found)) → HasFound c.0.known key found

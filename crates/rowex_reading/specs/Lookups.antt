@@ -9,14 +9,20 @@ use Rattle.rowex_table.specs.Seats.{TableView, SeatView}
 use Rattle.rowex_reading.specs.Reads.{Looks}
 use Rattle.rowex_reading.specs.Seen.{Sure, since}
 
+-- a search touches four words of each node on its way, those of its entries, while it searches the node's head
+abbrev pub search_touches : ℕ
+search_touches = 4
+
 -- The pass has searched for a key. On its way were so many nodes, no more than a tree can be high. It has loaded the root, and
--- then at most 26 words of each node, one of them an entry, and 32 of a leaf, and has made no other step.
+-- then at most 26 words of each node, one of them an entry, and 32 of a leaf, and has made no other step. It has touched four words of each node
+-- at most.
 pub record HasSearched {G : Type 0} (table : TableView) (becomes : G → Event → G → Type 0) (a b : SeatView × G) : Type 0 where
   pub nodes : ℕ
   pub loaded : ℕ
   pub low : nodes ≤ 9 * MAX_BYTES
   pub few : loaded ≤ 32 + 26 * nodes
   pub looks : Looks table becomes nodes loaded a b
+  pub touched : b.0.touches ≤ a.0.touches + search_touches * nodes
 
 -- what a search for the key found: that it had the value, or was absent, in a version since the last load of the root
 abbrev pub HasFound : Known → Key → Option ℕ → Type 0

@@ -1,5 +1,5 @@
 -- What a pass reads of the tree, as steps of its seat of which a gate is told.
-use Rattle.std.specs.Prelude.{◌≡◌, ℕ, ◌+◌, List, length, All, Bool, true, false, count_by}
+use Rattle.std.specs.Prelude.{◌≡◌, ℕ, ◌+◌, ◌≤◌, List, length, All, Bool, true, false, count_by}
 use Rattle.record_words.specs.Leaf.{words_of_key}
 use Rattle.tries.specs.Keys.{Key}
 use Rattle.rowex_core.specs.declared.event.Act.{Act}
@@ -7,7 +7,7 @@ use Rattle.rowex_core.specs.declared.event.Act.TheVariants.{LoadRef, LoadFixed}
 use Rattle.rowex_core.specs.declared.event.Event.{Event}
 use Rattle.rowex_core.specs.declared.event.Spot.TheVariants.{Root, Slot, Value}
 use Rattle.rowex_table.specs.Runs.{Runs, Steps}
-use Rattle.rowex_table.specs.Seats.{TableView, SeatView, IsSeatOf}
+use Rattle.rowex_table.specs.Seats.{TableView, SeatView, IsSeatOf, touched_to}
 use Rattle.rowex_reading.specs.Possible.{IsPossible}
 
 -- the seat is of a pass of this table, which may read below the root: what it knows is true of some lawful core
@@ -38,6 +38,12 @@ pub record Reads {G : Type 0} (table : TableView) (becomes : G → Event → G �
   pub count : length acts ≡ n
   pub entries_are : entries_in acts ≡ entries
   pub steps : Runs table becomes acts a b
+
+-- The pass makes such loads, and touches so many words at most on the way: but for these the one seat becomes the other by the loads.
+pub record ReadsAndTouches {G : Type 0} (table : TableView) (becomes : G → Event → G → Type 0) (entries n most : ℕ) (a b : SeatView × G) : Type 0 where
+  pub reads : Reads table becomes entries n a (touched_to a.0.touches b.0, b.1)
+  pub rises : a.0.touches ≤ b.0.touches
+  pub few : b.0.touches ≤ a.0.touches + most
 
 -- the loads of a leaf with this key: its value, the key's length, and the words that have bytes of the key
 abbrev pub leaf_loads : Key → ℕ

@@ -8,8 +8,8 @@ ghost use Rattle.rowex_table.specs.Rule.{IsNodeRecordAt, record_number};
 ghost use Rattle.rowex_table.specs.Seats.{IsSeatOf};
 ghost use Rattle.tries.specs.Place.{spot};
 ghost use Rattle.tries.specs.Tree.{Subtrie};
-ghost use Rattle.rowex_reading.specs.Lookups.{HasFound, HasSearched};
-ghost use Rattle.rowex_reading.specs.Reads.{IsReader, Reads};
+ghost use Rattle.rowex_reading.specs.Lookups.{HasFound, HasSearched, search_touches};
+ghost use Rattle.rowex_reading.specs.Reads.{IsReader, ReadsAndTouches};
 ghost use Rattle.rowex_reading.specs.Seen.{IsLedTo, Sure};
 
 use crate::reading::{load_entry, load_root, load_value, search_node};
@@ -19,7 +19,7 @@ use rowex_core::{Gate, Rec};
 use rowex_table::{HotTable, RecordAt, TableSeat};
 
 /// Returns the value of `key`, or `None` if the key is absent. This was so in a version since the load of the root. It makes that load, and
-/// at most 26 for each node on the path and 32 for a leaf. `gate` is told each.
+/// at most 26 for each node on the path and 32 for a leaf. `gate` is told each. It touches four words of each node.
 pub fn look_up<G: Gate>(
     table: &HotTable,
     seat: &mut TableSeat,
@@ -56,7 +56,7 @@ pub(crate) fn find_slot<G: Gate>(
     requires reader { IsReader table.now seat.old }
     requires led { (m h : ℕ) × IsLedTo seat.old.known m (NodeEntry (record_number node.rec) h) }
     requires node { IsNodeRecordAt table.now.layout node }
-    ensures reads { (n : ℕ) × (n ≤ HEAD_WORDS) × Reads table.now G.becomes 0 n (seat.old, gate.old) (seat.new, gate.new) }
+    ensures reads { (n : ℕ) × (n ≤ HEAD_WORDS) × ReadsAndTouches table.now G.becomes 0 n search_touches (seat.old, gate.old) (seat.new, gate.new) }
     ensures place { (m h : ℕ) → IsLedTo seat.old.known m (NodeEntry (record_number node.rec) h) →
         (forks : Subtrie) × Sure seat.new.known (λ s. IsShaped s m (record_number node.rec) forks) × (result ≡ spot key.now forks) }
 {

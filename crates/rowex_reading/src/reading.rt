@@ -9,12 +9,13 @@ ghost use Rattle.record_words.specs.declared.TheConstants.{HEAD_WORDS, LEAF_FIEL
 ghost use Rattle.record_words.specs.HeadParts.{InNodesWith};
 ghost use Rattle.record_words.specs.Kinds.{mask_index};
 ghost use Rattle.version_laws.specs.Scan.{IsPlaced, IsRead};
-ghost use Rattle.rowex_reading.specs.Reads.{IsReader, Reads, ReadsRoot, leaf_loads};
+ghost use Rattle.rowex_reading.specs.Reads.{IsReader, Reads, ReadsAndTouches, ReadsRoot, leaf_loads};
+ghost use Rattle.rowex_reading.specs.Lookups.{search_touches};
 ghost use Rattle.rowex_reading.specs.Ways.{step_at};
 ghost use Rattle.rowex_reading.specs.Seen.{Sure, RootIs, IsCompared, IsHeadSeen, IsLedTo, HasPlace, AreHeadWords, AreLoaded, shape_of};
 ghost use Rattle.record_words.specs.declared.records.Rec.TheVariants.{Node as a_node};
 ghost use Rattle.rowex_table.specs.Rule.{IsLeafRecordAt, IsNodeRecordAt, record_number};
-ghost use Rattle.rowex_table.specs.Seats.{IsSeatOf};
+ghost use Rattle.rowex_table.specs.Seats.{IsSeatOf, touched};
 ghost use Rattle.tries.specs.Place.{spot};
 
 use compound_node::Entry;
@@ -152,14 +153,16 @@ fn path_node(number: u32, numbers: HeadNumbers, word: u64, slot: u8) -> PathNode
 /// Asks for the cache lines of the entries of `node`, so that they come while its head is searched. From the last entry on one of as many
 /// words as a line has is touched; the line of those before them has words of the head, too.
 #[inline(always)]
-pub(crate) fn touch_entries(table: &HotTable, node: RecordAt)
+pub(crate) fn touch_entries(table: &HotTable, seat: &mut TableSeat, node: RecordAt)
+    requires own { IsSeatOf table.now seat.old }
     requires node { IsNodeRecordAt table.now.layout node }
+    ensures { seat.new ≡ touched search_touches seat.old }
 {
     let (last, line) = (NODE_WORDS as u8 - 1, CACHE_LINE_WORDS as u8);
-    table.touch(node, last - 3 * line);
-    table.touch(node, last - 2 * line);
-    table.touch(node, last - line);
-    table.touch(node, last);
+    table.touch(seat, node, last - 3 * line);
+    table.touch(seat, node, last - 2 * line);
+    table.touch(seat, node, last - line);
+    table.touch(seat, node, last);
 }
 
 /// Loads the head of `node` and searches it for `key`. Returns the node of the key's path, with the slot to which the bits of `key` lead.
@@ -178,14 +181,14 @@ pub fn search_node<G: Gate>(
     requires reader { IsReader table.now seat.old }
     requires led { (m h : ℕ) × IsLedTo seat.old.known m (NodeEntry (record_number node.rec) h) }
     requires node { IsNodeRecordAt table.now.layout node }
-    ensures reads { (n : ℕ) × (n ≤ HEAD_WORDS) × Reads table.now G.becomes 0 n (seat.old, gate.old) (seat.new, gate.new) }
+    ensures reads { (n : ℕ) × (n ≤ HEAD_WORDS) × ReadsAndTouches table.now G.becomes 0 n search_touches (seat.old, gate.old) (seat.new, gate.new) }
     ensures step { (m h : ℕ) → IsLedTo seat.old.known m (NodeEntry (record_number node.rec) h) →
         (head : HeadView) × IsHeadSeen seat.new.known m (record_number node.rec) h head ×
         (result ≡ step_at head (record_number node.rec) (spot key.now (shape_of head))) }
 {
     let mut first = [0; 1];
     load_head_part(table, seat, gate, node, NUMBERS_INDEX, &mut first);
-    touch_entries(table, node);
+    touch_entries(table, seat, node);
     let numbers = read_numbers(first[0]);
     let number = node.number();
     let from = FIRST_POSITIONS;
@@ -230,6 +233,7 @@ pub fn load_entry<G: Gate>(
     requires place { (m h : ℕ) × HasPlace seat.old.known m (record_number node.rec) h slot }
     requires node { IsNodeRecordAt table.now.layout node }
     ensures reads { Reads table.now G.becomes 1 1 (seat.old, gate.old) (seat.new, gate.new) }
+    ensures touches { seat.new.touches ≡ seat.old.touches }
     ensures entry { (m h : ℕ) → HasPlace seat.old.known m (record_number node.rec) h slot →
         (height_of result < h) × Sure seat.new.known (λ s. IsPlaced s m (record_number node.rec) slot result) }
 {

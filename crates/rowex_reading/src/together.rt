@@ -6,7 +6,7 @@ ghost use Rattle.compound_node.specs.Nodes.{height_of};
 ghost use Rattle.compound_node.specs.declared.entries.Entry.TheVariants.{Node as NodeEntry};
 ghost use Rattle.key_bits.specs.declared.TheConstants.{MAX_BYTES};
 ghost use Rattle.record_words.specs.declared.TheConstants.{LEAF_FIELDS};
-ghost use Rattle.rowex_table.specs.Seats.{IsSeatOf};
+ghost use Rattle.rowex_table.specs.Seats.{HasTouched, IsSeatOf};
 ghost use Rattle.rowex_core.specs.Cores.{HasRecord};
 ghost use Rattle.versions.specs.State.{rec_of};
 ghost use Rattle.rowex_reading.specs.Lookups.{HaveFound, HaveSearched};
@@ -129,28 +129,30 @@ fn enter_node<G: Gate>(
     let node = table.locate(Rec::Node(number));
     let slot = find_slot(table, seat, gate, node, key);
     let entry = load_entry(table, seat, gate, node, slot);
-    touch_record(table, entry);
+    touch_record(table, seat, entry);
     entry
 }
 
 /// Asks for the cache lines of the record that `entry` names, so that they come while other keys go down: all of a node, and of a leaf those
 /// of its first words.
 #[inline(always)]
-fn touch_record(table: &HotTable, entry: Entry)
+fn touch_record(table: &HotTable, seat: &mut TableSeat, entry: Entry)
+    requires own { IsSeatOf table.now seat.old }
     requires range { HasRecord table.now.layout (rec_of entry) }
+    ensures { HasTouched 7 seat.old seat.new }
 {
     match entry {
         Entry::Leaf(number) => {
             let leaf = table.locate(Rec::Leaf(number));
-            table.touch(leaf, VALUE_OFFSET);
-            table.touch(leaf, KEY_OFFSET);
+            table.touch(seat, leaf, VALUE_OFFSET);
+            table.touch(seat, leaf, KEY_OFFSET);
         }
         Entry::Node { number, .. } => {
             let (node, line) = (table.locate(Rec::Node(number)), CACHE_LINE_WORDS as u8);
-            table.touch(node, NUMBERS_OFFSET);
-            table.touch(node, NUMBERS_OFFSET + line);
-            table.touch(node, NUMBERS_OFFSET + 2 * line);
-            touch_entries(table, node);
+            table.touch(seat, node, NUMBERS_OFFSET);
+            table.touch(seat, node, NUMBERS_OFFSET + line);
+            table.touch(seat, node, NUMBERS_OFFSET + 2 * line);
+            touch_entries(table, seat, node);
         }
     }
 }

@@ -4,6 +4,7 @@ ghost use Rattle.std.specs.Prelude.{◌≡◌, ◌+◌, ◌<◌, ◌≤◌, ℕ,
 ghost use Rattle.rowex_reading.specs.Reads.{IsReader, Reads};
 ghost use Rattle.rowex_scanning.specs.Ahead.{AreStartsOf, HasPlaces, HasSeenAhead, entries_ahead};
 ghost use Rattle.rowex_table.specs.Rule.{IsLeafRecordAt};
+ghost use Rattle.rowex_table.specs.Seats.{HasTouched, IsSeatOf};
 ghost use Rattle.version_laws.specs.Directions.{to_come as to_come_of};
 
 use crate::direction::{entries_to_come, slot_ahead};
@@ -108,7 +109,7 @@ pub(crate) fn load_entries_ahead<G: Gate, S: Tallies>(
             }
             Entry::Leaf(number) => {
                 let leaf = RecordAt::find(scan.origins, Rec::Leaf(number));
-                sink.touch_leaf(scan, leaf);
+                sink.touch_leaf(scan, seat, leaf);
                 starts[index as usize] = leaf.start;
                 leaves[index as usize] = number;
             }
@@ -124,14 +125,16 @@ pub(crate) fn load_entries_ahead<G: Gate, S: Tallies>(
 /// Asks for the first cache lines of `leaf`, which is read soon, so that those of several leaves come side by side. In an index of few leaves
 /// it asks for none, since they are there mostly.
 #[inline(always)]
-pub(crate) fn touch_leaf(scan: &Scan, leaf: RecordAt)
+pub(crate) fn touch_leaf(scan: &Scan, seat: &mut TableSeat, leaf: RecordAt)
+    requires own { IsSeatOf scan.now.table.now seat.old }
     requires origins { scan.now.origins.now.layout ≡ scan.now.table.now.layout }
     requires leaf { IsLeafRecordAt scan.now.table.now.layout leaf }
+    ensures { HasTouched 2 seat.old seat.new }
 {
     if scan.origins.layout.leaves < LEAST_LEAVES {
         return;
     }
     let last = scan.origins.layout.leaf_size(leaf.number()) - 1;
-    scan.table.touch(leaf, VALUE_OFFSET);
-    scan.table.touch(leaf, last.min(NEXT_LINE) as u8);
+    scan.table.touch(seat, leaf, VALUE_OFFSET);
+    scan.table.touch(seat, leaf, last.min(NEXT_LINE) as u8);
 }

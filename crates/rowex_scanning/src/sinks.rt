@@ -10,6 +10,7 @@ ghost use Rattle.rowex_scanning.specs.Ahead.{AreNext, AreStarts, AreTakenOnWays}
 ghost use Rattle.rowex_scanning.specs.Scanning.{HasTakenPart, asked_range, request_of};
 ghost use Rattle.rowex_scanning.specs.Tallies.{IsKept, IsNone, IsOneMore};
 ghost use Rattle.rowex_table.specs.Rule.{IsLeafRecordAt};
+ghost use Rattle.rowex_table.specs.Seats.{HasTouched, IsSeatOf};
 
 use crate::ahead::touch_leaf;
 use crate::scan::{Places, Scan, Verdict};
@@ -36,11 +37,13 @@ pub(crate) trait Tallies {
 
     /// Asks for the cache lines of `leaf`, which comes next on the walk. A sink that doesn't read each leaf asks for none.
     #[inline(always)]
-    fn touch_leaf(&self, scan: &Scan, leaf: RecordAt)
+    fn touch_leaf(&self, scan: &Scan, seat: &mut TableSeat, leaf: RecordAt)
+        requires own { IsSeatOf scan.now.table.now seat.old }
         requires origins { scan.now.origins.now.layout ≡ scan.now.table.now.layout }
         requires leaf { IsLeafRecordAt scan.now.table.now.layout leaf }
+        ensures { HasTouched 2 seat.old seat.new }
     {
-        touch_leaf(scan, leaf);
+        touch_leaf(scan, seat, leaf);
     }
 
     /// Drops what it has.

@@ -337,7 +337,7 @@ met_knows c k h = record {
 
 -- a trace that is shown the whole run
 abbrev pub shown : List Event → Trace → Trace
-shown run t = record { events = run; asides = suc t.asides }
+shown run t = record { events = run; asides = suc t.asides; touches = t.touches }
 
 pub shown_run : {S : Type 0} (layout : Layout) (s : State S TracedView) (r : Ruled layout s) (k : Known) (t : Trace) → OthersStepOn k.pass t.events r.run →
     IsShownRun layout k.pass t.events r.run r.core.changes
@@ -361,8 +361,8 @@ meets layout of is_of slots id i me j t k u is = allows_view layout of is_of slo
         refl,
         (c.changes, refl, refl, r.lawful.core.told.legal, both.0.seen.front, both.1.seen.front, both.2, subst (λ (z : Layout). All (λ x. x.pass < z.passes) c.changes) r.layout_is r.lawful.makers),
         refl,
-        (shown_run layout s r j t traces.0, refl),
-        (shown_run layout s r k u traces.1, refl),
+        (shown_run layout s r j t traces.0, refl, refl),
+        (shown_run layout s r k u traces.1, refl, refl),
       ),
     ))
 

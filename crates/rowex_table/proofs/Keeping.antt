@@ -1,5 +1,5 @@
 -- A step that its pass may make keeps the rule.
-use Rattle.std.proofs.Common.{◌≡◌, ◌≢◌, ℕ, zero, suc, ◌<◌, eqb, List, [], ◌∷◌, ◌++◌, set, get_or, true, false, Option, Some, refl, sym, ap, subst, ◌∙◌, ⊎_elim}
+use Rattle.std.proofs.Common.{◌≡◌, ◌≢◌, ℕ, zero, suc, ◌+◌, ◌<◌, ◌≤◌, arith, eqb, List, [], ◌∷◌, ◌++◌, set, get_or, true, false, Option, Some, refl, sym, ap, subst, ◌∙◌, ⊎_elim}
 use mathlib.Core.Option.{none, some, some-injective, some-ne-none}
 use lib.ListN.{get_elem?}
 use Rattle.atomic_table.specs.Seated.{TableId}
@@ -29,7 +29,7 @@ use Rattle.rowex_table.specs.declared.traces.Trace.{Trace}
 use Rattle.rowex_table.specs.declared.traces.TracedView.{TracedView}
 use Rattle.rowex_table.specs.declared.traces.TracedView.TheVariants.{Pass}
 use Rattle.rowex_table.specs.Rule.{Happens, IsAddressOf, IsTrueOf, Ruled, IsSomeSeats, did, MayStep, found_by, known_of, trace_of}
-use Rattle.rowex_table.specs.Runs.{StepsWith}
+use Rattle.rowex_table.specs.Runs.{StepsWith, most_touches}
 use Rattle.rowex_table.specs.Seats.{SeatView, TableView}
 use Rattle.rowex_table.specs.Traces.{IsNextStep, view_of}
 use Rattle.rowex_table.proofs.ActsLeave.{as_before}
@@ -111,7 +111,7 @@ each_set views id q v w here keeps (i, x, at, owns) = ⊎_elim
 
 -- what the pass's seat and the others know is true of the core after the step, and of the run with it
 pub true_after : (c : Core) (run : List Event) (k j : Known) (t : Trace) (act : Act) → IsLawful c → Knows c k → Legal c k.pass act → (notes : List Note) → j ≡ record (learned c act k) { notes = notes } →
-    let x : Event = record { pass = k.pass; act = act } in IsTrueOf (after c k.pass act) (run ++ x ∷ []) (Pass j (record { events = run ++ x ∷ []; asides = t.asides }))
+    let x : Event = record { pass = k.pass; act = act } in IsTrueOf (after c k.pass act) (run ++ x ∷ []) (Pass j (record { events = run ++ x ∷ []; asides = t.asides; touches = t.touches }))
 true_after c run k j t act law known legal notes is =
     let x : Event = record { pass = k.pass; act = act } in
     (subst (Knows (after c k.pass act)) (sym is) (renoted (after c k.pass act) (learned c act k) notes (learns c k act law known legal)), others_none j.pass (run ++ x ∷ []))
@@ -141,7 +141,7 @@ module _ {S : Type 0} (layout : Layout) (slots id i : ℕ) (k : Known) (t : Trac
       let plain : IsAtomic does = found_atomic act at atomic in
       let j : Known = record (learned c does k) { notes = k.notes ++ said (learned c does k) } in
       let x : Event = record { pass = k.pass; act = does } in
-      let u : Trace = record { events = r.run ++ x ∷ []; asides = t.asides } in
+      let u : Trace = record { events = r.run ++ x ∷ []; asides = t.asides; touches = t.touches } in
       let event : IsEvent layout does said k j = record { core = c; lawful = r.lawful; layout_is = r.layout_is; knows = known; legal = found; learned_is = refl } in
       let next : IsNextStep layout k.pass does c t.events u.events = record { before = r.run; led = r.led; others = (r.knows id (Pass k t) here).1; next_is = refl } in (
         Pass j u,
@@ -163,7 +163,7 @@ module _ {S : Type 0} (layout : Layout) (slots id i : ℕ) (k : Known) (t : Trac
           apart = apart_set s.views id (Pass k t) (Pass j u) here (λ q o. sym (learned_pass c does k) ∙ o) r.apart;
           each = λ q low. each_set s.views id q (Pass k t) (Pass j u) here (λ o. learned_pass c does k ∙ o) (r.each q low);
         },
-        (refl, subst (λ z. Happens (Some layout) z said (Pass k t) (Pass j u)) (ap (found_by act) (sym word) ∙ sym (says w)) (j, u, event, refl, next, refl)),
+        (refl, subst (λ z. Happens (Some layout) z said (Pass k t) (Pass j u)) (ap (found_by act) (sym word) ∙ sym (says w)) (j, u, event, refl, next, refl, refl)),
       )
 
   -- the same for a seat that is a pass's
@@ -182,18 +182,28 @@ in_words words own layout location word count same place = rw (count, place.0, s
 -- What a step leaves its seat
 
 pub stepped_me : {S : Type 0} (layout : Layout) (act : Act) (said : Known → List Note) (of : Option Layout) → of ≡ Some layout → (me m' : Me S TracedView) → me ≡ (Pass (known_of me.0) (trace_of me.0), []) → Happens of act said me.0 m'.0 →
-    (event : IsEvent layout act said (known_of me.0) (known_of m'.0)) × IsNextStep layout (known_of me.0).pass act event.core (trace_of me.0).events (trace_of m'.0).events × ((trace_of m'.0).asides ≡ (trace_of me.0).asides)
+    (event : IsEvent layout act said (known_of me.0) (known_of m'.0)) × IsNextStep layout (known_of me.0).pass act event.core (trace_of me.0).events (trace_of m'.0).events ×
+    ((trace_of m'.0).asides ≡ (trace_of me.0).asides) × ((trace_of m'.0).touches ≡ (trace_of me.0).touches)
 stepped_me {S = S} layout act said of is_of me m' is h =
     let k : Known = known_of me.0 in
     let t : Trace = trace_of me.0 in
     let happens : Happens (Some layout) act said (Pass k t) m'.0 =
     subst (λ (v : TracedView). Happens (Some layout) act said v m'.0) (ap (λ (z : Me S TracedView). z.0) is) (subst (λ (o : Option Layout). Happens o act said me.0 m'.0) is_of h) in
-    subst (λ (v : TracedView). (event : IsEvent layout act said k (known_of v)) × IsNextStep layout k.pass act event.core t.events (trace_of v).events × ((trace_of v).asides ≡ t.asides)) (sym happens.3)
-    (happens.2, happens.4, happens.5)
+    subst (λ (v : TracedView). (event : IsEvent layout act said k (known_of v)) × IsNextStep layout k.pass act event.core t.events (trace_of v).events × ((trace_of v).asides ≡ t.asides) × ((trace_of v).touches ≡ t.touches)) (sym happens.3)
+    (happens.2, happens.4, happens.5, happens.6)
 
 -- the seat of a pass, as contracts see it
 abbrev pub seat_of : {S : Type 0} → TableId → ℕ → Me S TracedView → SeatView
-seat_of table id me = record { table = table; id = id; known = known_of me.0; trace = (trace_of me.0).events; asides = (trace_of me.0).asides }
+seat_of table id me = record { table = table; id = id; known = known_of me.0; trace = (trace_of me.0).events; asides = (trace_of me.0).asides; touches = (trace_of me.0).touches }
+
+-- a count that stays may rise
+untouched : (before after most : ℕ) → after ≡ before → (before ≤ after) × (after ≤ before + most)
+untouched before after most same = (omega (arith, same), omega (arith, same))
+
+-- a step touches nothing
+pub touches_with : {S : Type 0} (act : Act) (said : Known → List Note) (layout : Layout) (of : Option Layout) → of ≡ Some layout → (me : Me S TracedView) (v : TracedView) → me ≡ (Pass (known_of me.0) (trace_of me.0), []) →
+    Happens of act said me.0 v → (s : SeatView) → (trace_of me.0).touches ≡ s.touches → (trace_of v).touches ≡ s.touches
+touches_with act said layout of is_of me v is happens s seen = (stepped_me layout act said of is_of me (v, []) is happens).3 ∙ seen
 
 pub steps_with : {G S : Type 0} (table : TableView) (becomes : G → Event → G → Type 0) (act : Act) (said : Known → List Note) (of : Option Layout) → IsAtomic act → of ≡ Some table.layout → (x y : TableId) (i j : ℕ) (me m' : Me S TracedView) →
     me ≡ (Pass (known_of me.0) (trace_of me.0), []) → y ≡ x → j ≡ i → (m'.1 ≡ me.1) × Happens of act said me.0 m'.0 → (s : SeatView) → seat_of x i me ≡ s → (g h : G) (told : Act) → told ≡ act →
@@ -206,5 +216,6 @@ steps_with {G = G} table becomes act said of plain is_of x y i j me m' is tables
       atomic = plain;
       event = e.0;
       next = e.1;
+      touches = untouched (trace_of me.0).touches (trace_of m'.0).touches (most_touches act) e.3;
       told = subst (λ (z : ℕ × Act). becomes g (record { pass = z.0; act = z.1 }) h) (λ i. (pass i, same i)) tells;
     })

@@ -50,7 +50,7 @@ follows layout of is_of slots id i me k t stamp steps is = allows_view layout of
         shown r.run t,
         refl,
         (c.changes, refl, r.lawful.core.told.legal, both.0.seen.front, both.1, subst (λ (z : Layout). All (λ x. x.pass < z.passes) c.changes) r.layout_is r.lawful.makers),
-        (shown_run layout s r k t traces.0, refl),
+        (shown_run layout s r k t traces.0, refl, refl),
         traces.1,
       ),
     ))

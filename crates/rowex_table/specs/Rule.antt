@@ -79,7 +79,7 @@ abbrev pub loader_of : Layout → List ℕ → Known
 loader_of layout words = record (learned (opening layout) (load_of words) (opening_of 0)) { notes = added_notes 0 (items_of (loaded_tree layout words)) }
 
 abbrev pub load_trace : List ℕ → Trace
-load_trace words = record { events = record { pass = 0; act = load_of words } ∷ []; asides = 0 }
+load_trace words = record { events = record { pass = 0; act = load_of words } ∷ []; asides = 0; touches = 0 }
 
 -- the first view of a table of these words, where they show loaded pairs or a new table
 abbrev pub first_view : Layout → Bool → List ℕ → TracedView
@@ -153,12 +153,24 @@ MayStep layout act k = (c : Core) → IsLawful c → c.layout ≡ layout → Kno
 
 abbrev pub Happens : Option Layout → Act → (Known → List Note) → TracedView → TracedView → Type 0
 Happens (Some layout) act said (Pass k t) w =
-    (j : Known) × (u : Trace) × (event : IsEvent layout act said k j) × (w ≡ Pass j u) × IsNextStep layout k.pass act event.core t.events u.events × (u.asides ≡ t.asides)
+    (j : Known) × (u : Trace) × (event : IsEvent layout act said k j) × (w ≡ Pass j u) × IsNextStep layout k.pass act event.core t.events u.events × (u.asides ≡ t.asides) ×
+    (u.touches ≡ t.touches)
 Happens _ act said v w = Unit {0}
 
 -- a pass's step is an event, which finds the word that the step tells, and the next one of the table's run
 abbrev pub did : {S : Type 0} → Option Layout → Act → (Known → List Note) → Step S → Me S TracedView → ℕ → Me S TracedView → Type 0
 did layout act said st m told m' = (m'.1 ≡ m.1) × Happens layout (found_by act told) said m.0 m'.0
+
+-- Touches
+
+-- the view of a pass that has touched one word more
+abbrev pub touched_once : TracedView → TracedView
+touched_once (Pass k t) = Pass k (record { events = t.events; asides = t.asides; touches = suc t.touches })
+touched_once v = v
+
+-- a touch changes nothing but that it is counted
+abbrev pub touching : {S : Type 0} → Step S → Me S TracedView → ℕ → Me S TracedView → Type 0
+touching st m told m' = (m'.1 ≡ m.1) × (m'.0 ≡ touched_once m.0)
 
 -- Seats dealt, and two that meet
 
@@ -210,7 +222,7 @@ SeatsHaveMet layout j k j' k' =
 -- The pass that knew k, and of the steps of t, knows j and of the steps of u now. It has been shown a run (`IsShownRun`), which is counted as one
 -- aside.
 abbrev pub HasBeenShown : Layout → Known → Trace → Known → Trace → Type 0
-HasBeenShown layout k t j u = IsShownRun layout k.pass t.events u.events j.front × (u.asides ≡ suc t.asides)
+HasBeenShown layout k t j u = IsShownRun layout k.pass t.events u.events j.front × (u.asides ≡ suc t.asides) × (u.touches ≡ t.touches)
 
 -- Two passes meet: both know of the same changes and of the same steps then.
 abbrev pub Meeting : Option Layout → TracedView → TracedView → Type 0
@@ -243,7 +255,7 @@ stamped v = Spent
 
 -- the pass that has made the stamp
 abbrev pub stamping : TracedView → TracedView
-stamping (Pass k t) = Pass k (record { events = t.events; asides = suc t.asides })
+stamping (Pass k t) = Pass k (record { events = t.events; asides = suc t.asides; touches = t.touches })
 stamping v = v
 
 abbrev pub following : TracedView → TracedView → TracedView

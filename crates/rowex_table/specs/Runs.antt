@@ -1,11 +1,11 @@
 -- Steps of one pass, one after the other, and what its gate is told.
-use Rattle.std.specs.Prelude.{◌≡◌, ℕ, zero, suc, ◌+◌, All, List, [], ◌∷◌, ◌++◌, length, map}
+use Rattle.std.specs.Prelude.{◌≡◌, ℕ, zero, suc, ◌+◌, ◌≤◌, All, List, [], ◌∷◌, ◌++◌, length, map}
 use Rattle.finite_map.specs.declared.Note.{Note}
 use Rattle.record_words.specs.declared.layout.Layout.{Layout}
 use Rattle.rowex_core.specs.declared.event.Act.{Act}
 use Rattle.rowex_core.specs.declared.event.Act.TheVariants.{LoadRef}
 use Rattle.rowex_core.specs.declared.event.Event.{Event}
-use Rattle.rowex_core.specs.declared.event.Spot.TheVariants.{Root}
+use Rattle.rowex_core.specs.declared.event.Spot.TheVariants.{Root, Slot}
 use Rattle.rowex_core.specs.declared.known.Known.{Known}
 use Rattle.rowex_core.specs.Events.{IsAtomic, Legal}
 use Rattle.rowex_core.specs.Knowing.{IsEvent, SeesAllAtRoot}
@@ -28,13 +28,29 @@ IsTold {G = G} becomes (event ∷ events) g h = (f : G) × becomes g event f × 
 abbrev pub events_of : ℕ → List Act → List Event
 events_of q acts = map (λ act. record { pass = q; act = act }) acts
 
+-- the most words that a pass touches beside a load of an entry: four of the node before it, and behind it seven of the record to which the
+-- entry leads
+abbrev pub entry_touches : ℕ
+entry_touches = 11
+
+-- and the most beside each step: none, where no entry is loaded
+abbrev pub most_touches : Act → ℕ
+most_touches (LoadRef (Slot n i) word) = entry_touches
+most_touches act = 0
+
+-- Beside this step the count of touches rose from the one to the other.
+abbrev pub MayTouch : Act → ℕ → ℕ → Type 0
+MayTouch act before after = (before ≤ after) × (after ≤ before + most_touches act)
+
 -- The seat stays one seat; its pass makes this one atomic step, and `said` are the notes that come with it; and the gate is told it. The step is
--- the next one of a run. The steps before it lead from a new table to its core, and begin with those of which the pass knew.
+-- the next one of a run. The steps before it lead from a new table to its core, and begin with those of which the pass knew. Beside it the pass
+-- may touch some words.
 pub record StepsWith {G : Type 0} (table : TableView) (becomes : G → Event → G → Type 0) (act : Act) (said : Known → List Note) (a b : SeatView × G) : Type 0 where
   pub seat : IsSame a.0 b.0
   pub atomic : IsAtomic act
   pub event : IsEvent table.layout act said a.0.known b.0.known
   pub next : IsNextStep table.layout a.0.known.pass act event.core a.0.trace b.0.trace
+  pub touches : MayTouch act a.0.touches b.0.touches
   pub told : becomes a.1 (record { pass = a.0.known.pass; act = act }) b.1
 
 -- the load of the root by pass q that finds this word

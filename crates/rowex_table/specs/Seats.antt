@@ -1,5 +1,5 @@
 -- Tables and the seats of their passes, as contracts see them.
-use Rattle.std.specs.Prelude.{◌≡◌, ◌<◌, ℕ, suc, List, []}
+use Rattle.std.specs.Prelude.{◌≡◌, ◌<◌, ◌≤◌, ◌+◌, ℕ, suc, List, []}
 use Rattle.atomic_table.specs.Seated.{TableId}
 use Rattle.finite_map.specs.declared.Change.{Change}
 use Rattle.record_words.specs.declared.layout.Layout.{Layout}
@@ -16,13 +16,14 @@ pub record TableView : Type 0 where
 
 -- A seat: its table, which one it is there, and what its pass knows. The trace is a list of steps of all passes, up to the last of which this
 -- pass knows: by the rule of the table its run begins with it. `asides` says how often the pass has made a stamp, has followed one, or has met
--- another pass.
+-- another pass, and `touches` how often it has touched a word, which is no step.
 pub record SeatView : Type 0 where
   pub table : TableId
   pub id : ℕ
   pub known : Known
   pub trace : List Event
   pub asides : ℕ
+  pub touches : ℕ
 
 -- a stamp: its table, and the changes and the steps that it tells of
 pub record StampView : Type 0 where
@@ -50,11 +51,24 @@ IsOneSeat s t = (t.table ≡ s.table) × (t.id ≡ s.id) × (t.known.pass ≡ s.
 abbrev pub IsSame : SeatView → SeatView → Type 0
 IsSame s t = (t.table ≡ s.table) × (t.id ≡ s.id) × (t.known.pass ≡ s.known.pass) × (t.asides ≡ s.asides)
 
+-- the same seat, once its pass has touched so many words more
+abbrev pub touched : ℕ → SeatView → SeatView
+touched n s = record s { touches = s.touches + n }
+
+-- The pass has touched some words, so many at most, and nothing else of its seat has changed.
+abbrev pub HasTouched : ℕ → SeatView → SeatView → Type 0
+HasTouched most s t = (n : ℕ) × (n ≤ most) × (t ≡ touched n s)
+
+-- the same seat, if so many words had been touched
+abbrev pub touched_to : ℕ → SeatView → SeatView
+touched_to n s = record s { touches = n }
+
 -- The pass is shown a run, and the changes that it has made (`IsShownRun`), as where it follows a stamp or meets another pass.
 pub record IsShownAll (layout : Layout) (s t : SeatView) : Type 0 where
   pub pass : t.known.pass ≡ s.known.pass
   pub run : IsShownRun layout s.known.pass s.trace t.trace t.known.front
   pub asides : t.asides ≡ suc s.asides
+  pub touches : t.touches ≡ s.touches
 
 -- the seat of a new pass of this table
 abbrev pub IsNewSeat : TableView → SeatView → Type 0

@@ -44,7 +44,7 @@ taught q c (x ∷ xs) k = taught q (after c x.pass x.act) xs (if nat_eq x.pass q
 
 -- a pass that has made no step
 abbrev pub untraced : Trace
-untraced = record { events = []; asides = 0 }
+untraced = record { events = []; asides = 0; touches = 0 }
 
 -- what a seat knows, without its traces
 abbrev pub view_of : TracedView → View

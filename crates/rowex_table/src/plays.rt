@@ -7,7 +7,7 @@ ghost use Rattle.rowex_core.specs.declared.event.Act.{Act as Deed};
 ghost use Rattle.rowex_core.specs.declared.event.Act.TheVariants.{ClearPin};
 ghost use Rattle.rowex_core.specs.declared.known.Known.{Known};
 ghost use Rattle.rowex_table.specs.declared.traces.TracedView.TheVariants.{Spent};
-ghost use Rattle.rowex_table.specs.Rule.{Ruled, did, first_view, met, next_dealer, dealt, paired, first_of_two, second_of_two, stamped, stamping, following, followed};
+ghost use Rattle.rowex_table.specs.Rule.{Ruled, did, first_view, met, next_dealer, dealt, paired, first_of_two, second_of_two, stamped, stamping, following, followed, touching};
 
 use crate::founding::Founding;
 use crate::traces::TracedView;
@@ -57,6 +57,13 @@ pub(crate) struct Meets<Q> {
 
 impl<Q: Step> Play<(), TracedView> for Meets<Q> {
     ghost then = { met Q.layout };
+}
+
+/// The load of a word that its pass ignores.
+pub(crate) struct Touching;
+
+impl Play<(), TracedView> for Touching {
+    ghost then = { touching };
 }
 
 pub(crate) struct Deal;

@@ -6,8 +6,9 @@ ghost use Rattle.rowex_core.specs.Cores.{HasRecord, HasWord};
 ghost use Rattle.rowex_core.specs.Events.{IsOffset, IsFixedOffset};
 ghost use Rattle.rowex_table.specs.Rule.{IsStartOf, MayStep, record_number};
 ghost use Rattle.rowex_table.specs.Runs.{Steps};
-ghost use Rattle.rowex_table.specs.Seats.{IsSeatOf};
+ghost use Rattle.rowex_table.specs.Seats.{IsSeatOf, touched};
 
+use crate::plays::Touching;
 use crate::steps::Exchange;
 use crate::table::{HotTable, TableSeat};
 use record_words::{EPOCHS, Origins, Tag, obsolete_word, pack_state};
@@ -168,13 +169,17 @@ impl HotTable {
     }
 
     /// Loads the word at `offset` of the record `at` and ignores it, so that its cache line is on its way when it is needed. This is no step: no
-    /// gate is told of it, and no pass knows it.
+    /// gate is told of it. It is counted among the `touches` of the pass.
     #[inline(always)]
-    pub fn touch(&self, at: RecordAt, offset: u8)
+    pub fn touch(&self, seat: &mut TableSeat, at: RecordAt, offset: u8)
+        requires own { IsSeatOf self.now seat.old }
         requires start { IsStartOf self.now.layout at.rec at.start }
         requires range { HasWord self.now.layout at.rec offset }
+        ensures { seat.new ≡ touched 1 seat.old }
     {
-        self.table.shared.peek(at.start + offset as usize);
+        self.table
+            .shared
+            .load::<Touching>(&mut seat.seat, at.start + offset as usize);
     }
 
     /// Makes `rec` obsolete in `epoch`. The pass has unlinked `rec`, and then loaded this epoch, and none since.

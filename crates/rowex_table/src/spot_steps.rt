@@ -1,6 +1,6 @@
 //! Steps on the entries of the tree and the values of leaves, and on the locks that guard them. The pass of `seat` makes each, and `gate` is told of it.
 
-ghost use Rattle.std.specs.Prelude.{◌<◌, ◌+◌};
+ghost use Rattle.std.specs.Prelude.{◌≡◌, ◌<◌, ◌+◌};
 ghost use Rattle.record_words.specs.Layout.{IsInTable};
 ghost use Rattle.partial_keys.specs.declared.TheConstants.{MAX_ENTRIES};
 ghost use Rattle.rowex_core.specs.declared.event.Act.TheVariants.{LoadRef, Lock, Unlock, Publish};
@@ -42,7 +42,8 @@ impl HotTable {
         requires own { IsSeatOf self.now seat.old }
         requires node { IsNodeRecordAt self.now.layout node }
         requires slot { slot < MAX_ENTRIES }
-        ensures { Steps self.now G.becomes (LoadRef (Slot (record_number node.rec) slot) result) (seat.old, gate.old) (seat.new, gate.new) }
+        ensures step { Steps self.now G.becomes (LoadRef (Slot (record_number node.rec) slot) result) (seat.old, gate.old) (seat.new, gate.new) }
+        ensures touches { seat.new.touches ≡ seat.old.touches }
     {
         let spot = Spot::Slot {
             node: node.number(),

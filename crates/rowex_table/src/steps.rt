@@ -44,7 +44,8 @@ impl HotTable {
         requires writes { (w : ℕ) → w ≡ writes Q.act w }
         requires atomic { IsAtomic Q.act }
         requires apt { (Q.layout ≡ Some self.now.layout) × (act ≡ Q.act) × MayStep self.now.layout (found_by Q.act) seat.old.known }
-        ensures { StepsWith self.now G.becomes (found_by Q.act result) Q.said (seat.old, gate.old) (seat.new, gate.new) }
+        ensures steps { StepsWith self.now G.becomes (found_by Q.act result) Q.said (seat.old, gate.old) (seat.new, gate.new) }
+        ensures touches { seat.new.touches ≡ seat.old.touches }
     {
         let word = self
             .table

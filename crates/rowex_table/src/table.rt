@@ -31,6 +31,7 @@ impl Model for TableSeat {
       known = known_of s.seat.me.0;
       trace = (trace_of s.seat.me.0).events;
       asides = (trace_of s.seat.me.0).asides;
+      touches = (trace_of s.seat.me.0).touches;
     } };
 
     ghost invariant = { λ s. IsOfPass s.seat.me s.pass };

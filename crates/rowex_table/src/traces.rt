@@ -30,6 +30,8 @@ pub struct Trace {
     pub events: ListedSteps,
     /// How often the pass has made a stamp, has followed one, or has met another pass. None of these is a step.
     pub asides: u64,
+    /// How often the pass has touched a word: loaded it, and ignored what it found. None of these is a step.
+    pub touches: u64,
 }
 
 /// What a seat of the table knows, as a `View` says it, with a trace for each pass.

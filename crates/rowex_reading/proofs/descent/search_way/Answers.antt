@@ -8,6 +8,7 @@ use Rattle.compound_node.specs.declared.entries.Entry.TheVariants.{Leaf, Node}
 use Rattle.rowex_reading.proofs.Looking.{none_searched, none_found, at_root, at_led, leaf_searched}
 use Rattle.rowex_reading.proofs.Led.{reader_then, root_reader, root_pinned}
 use Rattle.rowex_reading.proofs.Descents.{IsGoing, going_first, ends_nowhere, there, falls_on, led_down, way_on, way_room, way_ends, end_found}
+use Rattle.rowex_reading.proofs.Touching.{entry_read, entry_touched}
 use Rattle.rowex_reading.proofs.Naming.{entry_told, leaf_led, leaf_told, node_led, node_place, step_told}
 use Rattle.rowex_reading.proofs.Standing.{led_in_table}
 use Rattle.rowex_reading.proofs.descent.search_way.Goals as goal
@@ -83,13 +84,13 @@ pub search_node-step-requires-clause-node : goal.search_node-step-requires-claus
 search_node-step-requires-clause-node g c = node_at c.args.table.now.layout c.in-Node.number c.locate-node.result c.locate-node.ensures.rec c.locate-node.ensures.start
 
 pub load_entry-entry-requires-clause-reader : goal.load_entry-entry-requires-clause-reader
-load_entry-entry-requires-clause-reader g c = reader_then c.loop-entry.invariant.reader c.search_node-step.ensures.reads.2
+load_entry-entry-requires-clause-reader g c = reader_then c.loop-entry.invariant.reader c.search_node-step.ensures.reads.2.reads
 
 pub load_entry-entry-requires-clause-place : goal.load_entry-entry-requires-clause-place
 load_entry-entry-requires-clause-place g c =
     let i = c.loop-entry.invariant in let n = c.in-Node in let e = c.search_node-step.ensures in let m = since c.loop-entry.seat.known in
     let (head, seen, stepped) = step_told c.in-Node.number c.locate-node.result.rec c.locate-node.ensures.rec c.loop-entry.seat.known c.search_node-step.new.seat.known c.args.key.now c.search_node-step.result e.step m n.height (at_led i.at _ n.is) in
-    (m, n.height, node_place c.in-Node.number c.locate-node.result.rec c.locate-node.ensures.rec c.search_node-step.new.seat.known m n.height c.search_node-step.result.slot (there i.at _ i.going n.number n.height c.search_node-step.result head n.is e.reads.1 e.reads.2 seen stepped))
+    (m, n.height, node_place c.in-Node.number c.locate-node.result.rec c.locate-node.ensures.rec c.search_node-step.new.seat.known m n.height c.search_node-step.result.slot (there i.at _ i.going n.number n.height c.search_node-step.result head n.is e.reads.1 e.reads.2.reads seen stepped))
 
 pub load_entry-entry-requires-clause-node : goal.load_entry-entry-requires-clause-node
 load_entry-entry-requires-clause-node g c = node_at c.args.table.now.layout c.in-Node.number c.locate-node.result c.locate-node.ensures.rec c.locate-node.ensures.start
@@ -98,13 +99,13 @@ pub push-requires : goal.push-requires
 push-requires g c =
     let i = c.loop-entry.invariant in let n = c.in-Node in let e = c.search_node-step.ensures in let o = c.load_entry-entry.ensures in
     let (head, seen, stepped) = step_told c.in-Node.number c.locate-node.result.rec c.locate-node.ensures.rec c.loop-entry.seat.known c.search_node-step.new.seat.known c.args.key.now c.search_node-step.result e.step (since c.loop-entry.seat.known) n.height (at_led i.at _ n.is) in
-    (omega arith, way_room i.at _ i.going n.number n.height c.search_node-step.result head n.is e.reads.1 e.reads.2 seen stepped _ o.reads (entry_told c.in-Node.number c.locate-node.result.rec c.locate-node.ensures.rec c.search_node-step.new.seat.known c.load_entry-entry.new.seat.known c.search_node-step.result.slot c.load_entry-entry.result o.entry))
+    (omega arith, way_room i.at _ i.going n.number n.height c.search_node-step.result head n.is e.reads.1 e.reads.2.reads seen stepped _ (entry_read e.reads.2 o.reads o.touches) (entry_told c.in-Node.number c.locate-node.result.rec c.locate-node.ensures.rec c.search_node-step.new.seat.known c.load_entry-entry.new.seat.known c.search_node-step.result.slot c.load_entry-entry.result o.entry))
 
 pub loop-entry-smaller : goal.loop-entry-smaller
 loop-entry-smaller g c =
     let i = c.loop-entry.invariant in let n = c.in-Node in let e = c.search_node-step.ensures in let o = c.load_entry-entry.ensures in
     let (head, seen, stepped) = step_told c.in-Node.number c.locate-node.result.rec c.locate-node.ensures.rec c.loop-entry.seat.known c.search_node-step.new.seat.known c.args.key.now c.search_node-step.result e.step (since c.loop-entry.seat.known) n.height (at_led i.at _ n.is) in
-    falls_on i.at _ i.going n.number n.height c.search_node-step.result head n.is e.reads.1 e.reads.2 seen stepped _ o.reads (entry_told c.in-Node.number c.locate-node.result.rec c.locate-node.ensures.rec c.search_node-step.new.seat.known c.load_entry-entry.new.seat.known c.search_node-step.result.slot c.load_entry-entry.result o.entry)
+    falls_on i.at _ i.going n.number n.height c.search_node-step.result head n.is e.reads.1 e.reads.2.reads seen stepped _ (entry_read e.reads.2 o.reads o.touches) (entry_told c.in-Node.number c.locate-node.result.rec c.locate-node.ensures.rec c.search_node-step.new.seat.known c.load_entry-entry.new.seat.known c.search_node-step.result.slot c.load_entry-entry.result o.entry)
 
 pub loop-entry-preserved : goal.loop-entry-preserved
 loop-entry-preserved g c =
@@ -112,8 +113,8 @@ loop-entry-preserved g c =
     let known = c.load_entry-entry.new.seat.known in
     let (head, seen, stepped) = step_told c.in-Node.number c.locate-node.result.rec c.locate-node.ensures.rec c.loop-entry.seat.known c.search_node-step.new.seat.known c.args.key.now c.search_node-step.result e.step (since c.loop-entry.seat.known) n.height (at_led i.at _ n.is) in
     record {
-      reader = reader_then (reader_then i.reader e.reads.2) o.reads;
-      at = led_down i.at _ i.going n.number n.height c.search_node-step.result head n.is e.reads.1 e.reads.2 seen stepped _ o.reads (entry_told c.in-Node.number c.locate-node.result.rec c.locate-node.ensures.rec c.search_node-step.new.seat.known c.load_entry-entry.new.seat.known c.search_node-step.result.slot c.load_entry-entry.result o.entry);
+      reader = reader_then (reader_then i.reader e.reads.2.reads) o.reads;
+      at = led_down i.at _ i.going n.number n.height c.search_node-step.result head n.is e.reads.1 e.reads.2.reads seen stepped _ (entry_read e.reads.2 o.reads o.touches) (entry_told c.in-Node.number c.locate-node.result.rec c.locate-node.ensures.rec c.search_node-step.new.seat.known c.load_entry-entry.new.seat.known c.search_node-step.result.slot c.load_entry-entry.result o.entry) (entry_touched e.reads.2 _ o.touches);
       going = subst (λ z. IsGoing c.args.table.now.layout known (since known) c.args.key.now z c.load_entry-entry.result) (sym c.push.ensures.items)
-          (way_on i.at _ i.going n.number n.height c.search_node-step.result head n.is e.reads.1 e.reads.2 seen stepped _ o.reads (entry_told c.in-Node.number c.locate-node.result.rec c.locate-node.ensures.rec c.search_node-step.new.seat.known c.load_entry-entry.new.seat.known c.search_node-step.result.slot c.load_entry-entry.result o.entry) i.reader.1);
+          (way_on i.at _ i.going n.number n.height c.search_node-step.result head n.is e.reads.1 e.reads.2.reads seen stepped _ (entry_read e.reads.2 o.reads o.touches) (entry_told c.in-Node.number c.locate-node.result.rec c.locate-node.ensures.rec c.search_node-step.new.seat.known c.load_entry-entry.new.seat.known c.search_node-step.result.slot c.load_entry-entry.result o.entry) i.reader.1);
     }

@@ -6,6 +6,7 @@ use Rattle.rowex_table.proofs.Located.{node_at}
 use Rattle.rowex_reading.specs.Seen.{since}
 use Rattle.rowex_reading.proofs.Looking.{IsAt, none_searched, none_found, at_root, at_led, place_of, next_of, leaf_searched, leaf_found}
 use Rattle.rowex_reading.proofs.Led.{reader_then, root_reader}
+use Rattle.rowex_reading.proofs.Touching.{entry_read, entry_touched}
 use Rattle.rowex_reading.proofs.Naming.{entry_told, node_led, node_place, slot_told}
 use Rattle.rowex_reading.proofs.Standing.{led_in_table}
 use Rattle.rowex_reading.proofs.lookup.look_up.Given as given
@@ -37,13 +38,13 @@ pub find_slot-slot-requires-clause-node : goal.find_slot-slot-requires-clause-no
 find_slot-slot-requires-clause-node g c = node_at c.args.table.now.layout c.in-Node.number c.locate-node.result c.locate-node.ensures.rec c.locate-node.ensures.start
 
 pub load_entry-entry-requires-clause-reader : goal.load_entry-entry-requires-clause-reader
-load_entry-entry-requires-clause-reader g c = reader_then c.loop-entry.invariant.reader c.find_slot-slot.ensures.reads.2
+load_entry-entry-requires-clause-reader g c = reader_then c.loop-entry.invariant.reader c.find_slot-slot.ensures.reads.2.reads
 
 pub load_entry-entry-requires-clause-place : goal.load_entry-entry-requires-clause-place
 load_entry-entry-requires-clause-place g c =
     let i = c.loop-entry.invariant in let e = c.find_slot-slot.ensures in let m = since c.loop-entry.seat.known in
     let p = slot_told c.in-Node.number c.locate-node.result.rec c.locate-node.ensures.rec c.loop-entry.seat.known c.find_slot-slot.new.seat.known c.args.key.now c.find_slot-slot.result e.place m c.in-Node.height (at_led i.at _ c.in-Node.is) in
-    (m, c.in-Node.height, node_place c.in-Node.number c.locate-node.result.rec c.locate-node.ensures.rec c.find_slot-slot.new.seat.known m c.in-Node.height c.find_slot-slot.result (place_of i.at c.in-Node.number c.in-Node.height p.0 c.find_slot-slot.result c.in-Node.is e.reads.1 e.reads.2 p.1 p.2))
+    (m, c.in-Node.height, node_place c.in-Node.number c.locate-node.result.rec c.locate-node.ensures.rec c.find_slot-slot.new.seat.known m c.in-Node.height c.find_slot-slot.result (place_of i.at c.in-Node.number c.in-Node.height p.0 c.find_slot-slot.result c.in-Node.is e.reads.1 e.reads.2.reads p.1 p.2))
 
 pub load_entry-entry-requires-clause-node : goal.load_entry-entry-requires-clause-node
 load_entry-entry-requires-clause-node g c = node_at c.args.table.now.layout c.in-Node.number c.locate-node.result c.locate-node.ensures.rec c.locate-node.ensures.start
@@ -54,15 +55,15 @@ entry : (g : given.Over) (c : After-load_entry-entry g) →
 entry g c =
     let i = c.loop-entry.invariant in let n = c.in-Node in let e = c.find_slot-slot.ensures in let m = since c.loop-entry.seat.known in
     let p = slot_told c.in-Node.number c.locate-node.result.rec c.locate-node.ensures.rec c.loop-entry.seat.known c.find_slot-slot.new.seat.known c.args.key.now c.find_slot-slot.result e.place m n.height (at_led i.at _ n.is) in
-    let lower = entry_told c.in-Node.number c.locate-node.result.rec c.locate-node.ensures.rec c.find_slot-slot.new.seat.known c.load_entry-entry.new.seat.known c.find_slot-slot.result c.load_entry-entry.result c.load_entry-entry.ensures.entry m n.height (place_of i.at n.number n.height p.0 c.find_slot-slot.result n.is e.reads.1 e.reads.2 p.1 p.2) in
-    (lower.0, next_of i.at n.number n.height p.0 c.find_slot-slot.result n.is e.reads.1 e.reads.2 p.1 p.2 c.load_entry-entry.result c.load_entry-entry.ensures.reads lower)
+    let lower = entry_told c.in-Node.number c.locate-node.result.rec c.locate-node.ensures.rec c.find_slot-slot.new.seat.known c.load_entry-entry.new.seat.known c.find_slot-slot.result c.load_entry-entry.result c.load_entry-entry.ensures.entry m n.height (place_of i.at n.number n.height p.0 c.find_slot-slot.result n.is e.reads.1 e.reads.2.reads p.1 p.2) in
+    (lower.0, next_of i.at n.number n.height p.0 c.find_slot-slot.result n.is e.reads.1 e.reads.2.reads p.1 p.2 c.load_entry-entry.result (entry_read e.reads.2 c.load_entry-entry.ensures.reads c.load_entry-entry.ensures.touches) (entry_touched e.reads.2 _ c.load_entry-entry.ensures.touches) lower)
 
 pub loop-entry-smaller : goal.loop-entry-smaller
 loop-entry-smaller g c = subst (λ z. height_of c.load_entry-entry.result < height_of z) (sym c.in-Node.is) (entry g (goal.at.loop-entry-smaller g c).After-load_entry-entry).0
 
 pub loop-entry-preserved : goal.loop-entry-preserved
 loop-entry-preserved g c = record {
-  reader = reader_then (reader_then c.loop-entry.invariant.reader c.find_slot-slot.ensures.reads.2) c.load_entry-entry.ensures.reads;
+  reader = reader_then (reader_then c.loop-entry.invariant.reader c.find_slot-slot.ensures.reads.2.reads) c.load_entry-entry.ensures.reads;
   at = (entry g (goal.at.loop-entry-preserved g c).After-load_entry-entry).1;
 }
 

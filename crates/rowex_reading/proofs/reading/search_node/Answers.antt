@@ -6,8 +6,10 @@ use Rattle.compound_node.specs.declared.entries.Entry.TheVariants.{Node}
 use Rattle.record_words.specs.Kinds.{kind_in}
 use Rattle.record_words.specs.declared.kind.Kind.TheVariants.{Middle, Narrow, Wide}
 use Rattle.rowex_table.specs.Rule.{record_number}
+use Rattle.rowex_reading.specs.Lookups.{search_touches}
 use Rattle.rowex_reading.specs.Seen.{AreHeadWords, IsLedTo}
 use Rattle.rowex_reading.proofs.Led.{led_on, reader_then, reads_trans}
+use Rattle.rowex_reading.proofs.Touching.{led_past, loaded_past, reader_past, searched}
 use Rattle.rowex_reading.proofs.Stepping.{back_spelled, begun, begun_loaded, begun_long, front_spelled, near_read, part_spelled, part_spot, step_found, wide_read, wide_spot}
 use Rattle.rowex_reading.proofs.reading.search_node.Given as given
 use Rattle.rowex_reading.proofs.reading.search_node.Goals as goal
@@ -24,12 +26,16 @@ wide_by : (word : ℕ) → word / 2 ^ 40 ≢ 1 → word / 2 ^ 40 ≢ 2 → kind_
 wide_by word one two =
     ap (λ b. cond b Narrow (cond (eqb (word / 2 ^ 40) 2) Middle Wide)) (ne_eqb (word / 2 ^ 40) 1 one) ∙ ap (λ b. cond b Middle Wide) (ne_eqb (word / 2 ^ 40) 2 two)
 
+-- ---- the lines of its entries
+pub touch_entries-requires-clause-own : goal.touch_entries-requires-clause-own
+touch_entries-requires-clause-own g c = (reader_then c.requires.reader c.load_head_part.ensures.reads).0
+
 -- ---- a narrow head
 pub load_head_part-requires-in-1-clause-reader : goal.load_head_part-requires-in-1-clause-reader
-load_head_part-requires-in-1-clause-reader g c = reader_then c.requires.reader c.load_head_part.ensures.reads
+load_head_part-requires-in-1-clause-reader g c = reader_past c.args.table.now search_touches c.load_head_part.new.seat c.touch_entries.new.seat c.touch_entries.ensures (reader_then c.requires.reader c.load_head_part.ensures.reads)
 
 pub load_head_part-requires-in-1-clause-led : goal.load_head_part-requires-in-1-clause-led
-load_head_part-requires-in-1-clause-led g c = let (m, h, led) = c.requires.led in (m, h, led_on m (Node (record_number c.args.node.rec) h) c.load_head_part.ensures.reads led)
+load_head_part-requires-in-1-clause-led g c = let (m, h, led) = c.requires.led in (m, h, led_past search_touches c.load_head_part.new.seat c.touch_entries.new.seat m (Node (record_number c.args.node.rec) h) c.touch_entries.ensures (led_on m (Node (record_number c.args.node.rec) h) c.load_head_part.ensures.reads led))
 
 module _ (g : given.Over) (c : After-load_head_part-in-1 g) where
   narrow_is : kind_in (get_or c.load_head_part.new.words 0 0) ≡ Narrow
@@ -42,7 +48,7 @@ module _ (g : given.Over) (c : After-load_head_part-in-1 g) where
       AreHeadWords c.load_head_part-in-1.new.seat.known m (record_number c.args.node.rec) h (begun c.load_head_part.new.words c.load_head_part-in-1.new.words ++ replicate 18 (2 ^ 64 - 1))
   narrow_words_are m h led =
       let e = c.load_head_part.ensures in let f = c.load_head_part-in-1.ensures in
-      near_read _ _ _ _ (record_number c.args.node.rec) Narrow c.load_head_part.new.words c.load_head_part-in-1.new.words (reader_then (reader_then c.requires.reader e.reads) f.reads).1 e.loaded f.loaded narrow_is e.long
+      near_read _ _ _ _ (record_number c.args.node.rec) Narrow c.load_head_part.new.words c.load_head_part-in-1.new.words (reader_then (reader_past c.args.table.now search_touches c.load_head_part.new.seat c.touch_entries.new.seat c.touch_entries.ensures (reader_then c.requires.reader e.reads)) f.reads).1 e.loaded (loaded_past search_touches c.load_head_part.new.seat c.touch_entries.new.seat c.touch_entries.ensures f.loaded) narrow_is e.long
       (ap (λ n. 1 + n) f.long) m h led
 
 pub search_narrow-slot-requires : goal.search_narrow-slot-requires
@@ -52,7 +58,7 @@ search_narrow-slot-requires g c =
     part_spelled Narrow (begun c.load_head_part.new.words c.load_head_part-in-1.new.words) (narrow_is g d) (narrow_size g d) (narrow_words_are g d m h led)
 
 pub returns-in-1-clause-reads : goal.returns-in-1-clause-reads
-returns-in-1-clause-reads g c = (7, lit≤ tt, reads_trans c.load_head_part.ensures.reads c.load_head_part-in-1.ensures.reads)
+returns-in-1-clause-reads g c = (7, lit≤ tt, searched c.load_head_part.ensures.reads c.touch_entries.ensures c.load_head_part-in-1.ensures.reads)
 
 pub returns-in-1-clause-step : goal.returns-in-1-clause-step
 returns-in-1-clause-step g c = λ m h led.
@@ -66,10 +72,10 @@ returns-in-1-clause-step g c = λ m h led.
 
 -- ---- a middle head
 pub load_head_part-requires-in-2-clause-reader : goal.load_head_part-requires-in-2-clause-reader
-load_head_part-requires-in-2-clause-reader g c = reader_then c.requires.reader c.load_head_part.ensures.reads
+load_head_part-requires-in-2-clause-reader g c = reader_past c.args.table.now search_touches c.load_head_part.new.seat c.touch_entries.new.seat c.touch_entries.ensures (reader_then c.requires.reader c.load_head_part.ensures.reads)
 
 pub load_head_part-requires-in-2-clause-led : goal.load_head_part-requires-in-2-clause-led
-load_head_part-requires-in-2-clause-led g c = let (m, h, led) = c.requires.led in (m, h, led_on m (Node (record_number c.args.node.rec) h) c.load_head_part.ensures.reads led)
+load_head_part-requires-in-2-clause-led g c = let (m, h, led) = c.requires.led in (m, h, led_past search_touches c.load_head_part.new.seat c.touch_entries.new.seat m (Node (record_number c.args.node.rec) h) c.touch_entries.ensures (led_on m (Node (record_number c.args.node.rec) h) c.load_head_part.ensures.reads led))
 
 module _ (g : given.Over) (c : After-load_head_part-in-2 g) where
   middle_is : kind_in (get_or c.load_head_part.new.words 0 0) ≡ Middle
@@ -82,7 +88,7 @@ module _ (g : given.Over) (c : After-load_head_part-in-2 g) where
       AreHeadWords c.load_head_part-in-2.new.seat.known m (record_number c.args.node.rec) h (begun c.load_head_part.new.words c.load_head_part-in-2.new.words ++ replicate 12 (2 ^ 64 - 1))
   middle_words_are m h led =
       let e = c.load_head_part.ensures in let f = c.load_head_part-in-2.ensures in
-      near_read _ _ _ _ (record_number c.args.node.rec) Middle c.load_head_part.new.words c.load_head_part-in-2.new.words (reader_then (reader_then c.requires.reader e.reads) f.reads).1 e.loaded f.loaded middle_is e.long
+      near_read _ _ _ _ (record_number c.args.node.rec) Middle c.load_head_part.new.words c.load_head_part-in-2.new.words (reader_then (reader_past c.args.table.now search_touches c.load_head_part.new.seat c.touch_entries.new.seat c.touch_entries.ensures (reader_then c.requires.reader e.reads)) f.reads).1 e.loaded (loaded_past search_touches c.load_head_part.new.seat c.touch_entries.new.seat c.touch_entries.ensures f.loaded) middle_is e.long
       (ap (λ n. 1 + n) f.long) m h led
 
 pub search_middle-slot-requires : goal.search_middle-slot-requires
@@ -92,7 +98,7 @@ search_middle-slot-requires g c =
     part_spelled Middle (begun c.load_head_part.new.words c.load_head_part-in-2.new.words) (middle_is g d) (middle_size g d) (middle_words_are g d m h led)
 
 pub returns-in-2-clause-reads : goal.returns-in-2-clause-reads
-returns-in-2-clause-reads g c = (13, lit≤ tt, reads_trans c.load_head_part.ensures.reads c.load_head_part-in-2.ensures.reads)
+returns-in-2-clause-reads g c = (13, lit≤ tt, searched c.load_head_part.ensures.reads c.touch_entries.ensures c.load_head_part-in-2.ensures.reads)
 
 pub returns-in-2-clause-step : goal.returns-in-2-clause-step
 returns-in-2-clause-step g c = λ m h led.
@@ -106,26 +112,26 @@ returns-in-2-clause-step g c = λ m h led.
 
 -- ---- a wide head
 pub load_head_part-requires-in_default-clause-reader : goal.load_head_part-requires-in_default-clause-reader
-load_head_part-requires-in_default-clause-reader g c = reader_then c.requires.reader c.load_head_part.ensures.reads
+load_head_part-requires-in_default-clause-reader g c = reader_past c.args.table.now search_touches c.load_head_part.new.seat c.touch_entries.new.seat c.touch_entries.ensures (reader_then c.requires.reader c.load_head_part.ensures.reads)
 
 pub load_head_part-requires-in_default-clause-led : goal.load_head_part-requires-in_default-clause-led
-load_head_part-requires-in_default-clause-led g c = let (m, h, led) = c.requires.led in (m, h, led_on m (Node (record_number c.args.node.rec) h) c.load_head_part.ensures.reads led)
+load_head_part-requires-in_default-clause-led g c = let (m, h, led) = c.requires.led in (m, h, led_past search_touches c.load_head_part.new.seat c.touch_entries.new.seat m (Node (record_number c.args.node.rec) h) c.touch_entries.ensures (led_on m (Node (record_number c.args.node.rec) h) c.load_head_part.ensures.reads led))
 
 pub extract_dense_key-dense-requires : goal.extract_dense_key-dense-requires
 extract_dense_key-dense-requires g c =
     let (m, h, led) = c.requires.led in
     let e = c.load_head_part.ensures in let f = c.load_head_part-in_default.ensures in
-    front_spelled _ _ _ (record_number c.args.node.rec) (begun c.load_head_part.new.words c.load_head_part-in_default.new.words) (reader_then (reader_then c.requires.reader e.reads) f.reads).1
-    (begun_loaded c.load_head_part.new.words c.load_head_part-in_default.new.words e.long e.loaded f.loaded)
+    front_spelled _ _ _ (record_number c.args.node.rec) (begun c.load_head_part.new.words c.load_head_part-in_default.new.words) (reader_then (reader_past c.args.table.now search_touches c.load_head_part.new.seat c.touch_entries.new.seat c.touch_entries.ensures (reader_then c.requires.reader e.reads)) f.reads).1
+    (begun_loaded c.load_head_part.new.words c.load_head_part-in_default.new.words e.long e.loaded (loaded_past search_touches c.load_head_part.new.seat c.touch_entries.new.seat c.touch_entries.ensures f.loaded))
     (begun_long c.load_head_part.new.words c.load_head_part-in_default.new.words ∙ ap (λ n. 1 + n) f.long) (wide_by (get_or c.load_head_part.new.words 0 0) (omega arith) (omega arith)) m h led
 
 pub load_head_part-requires-in_default-2-clause-reader : goal.load_head_part-requires-in_default-2-clause-reader
-load_head_part-requires-in_default-2-clause-reader g c = reader_then (reader_then c.requires.reader c.load_head_part.ensures.reads) c.load_head_part-in_default.ensures.reads
+load_head_part-requires-in_default-2-clause-reader g c = reader_then (reader_past c.args.table.now search_touches c.load_head_part.new.seat c.touch_entries.new.seat c.touch_entries.ensures (reader_then c.requires.reader c.load_head_part.ensures.reads)) c.load_head_part-in_default.ensures.reads
 
 pub load_head_part-requires-in_default-2-clause-led : goal.load_head_part-requires-in_default-2-clause-led
 load_head_part-requires-in_default-2-clause-led g c =
     let (m, h, led) = c.requires.led in
-    (m, h, led_on m (Node (record_number c.args.node.rec) h) (reads_trans c.load_head_part.ensures.reads c.load_head_part-in_default.ensures.reads) led)
+    (m, h, led_on m (Node (record_number c.args.node.rec) h) c.load_head_part-in_default.ensures.reads (led_past search_touches c.load_head_part.new.seat c.touch_entries.new.seat m (Node (record_number c.args.node.rec) h) c.touch_entries.ensures (led_on m (Node (record_number c.args.node.rec) h) c.load_head_part.ensures.reads led)))
 
 module _ (g : given.Over) (c : After-load_head_part-in_default-2 g) where
   wide_is : kind_in (get_or c.load_head_part.new.words 0 0) ≡ Wide
@@ -139,8 +145,8 @@ module _ (g : given.Over) (c : After-load_head_part-in_default-2 g) where
   wide_words_are m h led =
       let e = c.load_head_part.ensures in let f = c.load_head_part-in_default.ensures in let b = c.load_head_part-in_default-2.ensures in
       wide_read _ _ _ _ (record_number c.args.node.rec) (begun c.load_head_part.new.words c.load_head_part-in_default.new.words) c.load_head_part-in_default-2.new.words
-      (reader_then (reader_then (reader_then c.requires.reader e.reads) f.reads) b.reads).1
-      (begun_loaded c.load_head_part.new.words c.load_head_part-in_default.new.words e.long e.loaded f.loaded) b.loaded wide_is front_size b.long m h led
+      (reader_then (reader_then (reader_past c.args.table.now search_touches c.load_head_part.new.seat c.touch_entries.new.seat c.touch_entries.ensures (reader_then c.requires.reader e.reads)) f.reads) b.reads).1
+      (begun_loaded c.load_head_part.new.words c.load_head_part-in_default.new.words e.long e.loaded (loaded_past search_touches c.load_head_part.new.seat c.touch_entries.new.seat c.touch_entries.ensures f.loaded)) b.loaded wide_is front_size b.long m h led
 
 pub search_row_words-slot-requires : goal.search_row_words-slot-requires
 search_row_words-slot-requires g c =
@@ -150,7 +156,7 @@ search_row_words-slot-requires g c =
     (wide_words_are g d m h led)
 
 pub returns-in_default-clause-reads : goal.returns-in_default-clause-reads
-returns-in_default-clause-reads g c = (25, lit≤ tt, reads_trans (reads_trans c.load_head_part.ensures.reads c.load_head_part-in_default.ensures.reads) c.load_head_part-in_default-2.ensures.reads)
+returns-in_default-clause-reads g c = (25, lit≤ tt, searched c.load_head_part.ensures.reads c.touch_entries.ensures (reads_trans c.load_head_part-in_default.ensures.reads c.load_head_part-in_default-2.ensures.reads))
 
 pub returns-in_default-clause-step : goal.returns-in_default-clause-step
 returns-in_default-clause-step g c = λ m h led.

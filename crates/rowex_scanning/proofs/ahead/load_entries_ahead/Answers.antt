@@ -1,11 +1,13 @@
 -- No entry, and one more: it leads to a leaf or to a node.
-use Rattle.std.proofs.Common.{ℕ, ◌+◌, ◌∙◌, arith, rules}
+use Rattle.std.proofs.Common.{ℕ, ◌+◌, ◌∙◌, arith, rules, subst, sym}
 use Rattle.std.proofs.lemmas.List.{length-set}
 use Rattle.compound_node.specs.declared.entries.Entry.TheVariants.{Leaf, Node}
+use Rattle.rowex_table.specs.Seats.{SeatView}
 use Rattle.rowex_reading.specs.Seen.{HasPlace, IsLedTo, Sure}
 use Rattle.rowex_reading.proofs.Led.{placed_led, reader_then, reads_later, reads_none, reads_trans}
 use Rattle.rowex_reading.proofs.Naming.{entry_told, node_place}
 use Rattle.rowex_reading.proofs.Seeing.{since_later}
+use Rattle.rowex_reading.proofs.Touching.{reads_touching, reads_untouched, touches_last}
 use Rattle.version_laws.specs.Scan.{IsPlaced}
 use Rattle.rowex_scanning.specs.Ahead.{HasPlaces}
 use Rattle.version_laws.specs.Directions.{place_ahead}
@@ -82,9 +84,14 @@ returns-in-Node-clause-ahead g c = λ m has.
     let (lower, placed) = loaded_at d m top c.loop-index.index c.slot_ahead-slot.result (Node c.in-Node.number c.in-Node.height) c.slot_ahead-slot.ensures place (entry_told c.args.top.now.number c.find-node.result.rec c.find-node.ensures.rec c.loop-index.seat.known c.load_entry.new.seat.known c.slot_ahead-slot.result (Node c.in-Node.number c.in-Node.height) c.in-Node.ensures.entry) in
     record { first = ahead_later d m top later c.loop-index.index c.loop-index.leaves (c.loop-index.invariant.ahead m has); node = (c.in-Node.height, lower, placed) }
 
+-- The touches of the leaf stand beside the load of its entry.
+pub touch_leaf-requires-clause-own : goal.touch_leaf-requires-clause-own
+touch_leaf-requires-clause-own g c = (reader_then c.loop-index.invariant.reader c.load_entry.ensures.reads).0
+
 pub loop-index-preserved : goal.loop-index-preserved
 loop-index-preserved g c =
-    let i = c.loop-index.invariant in let (n, few, before) = i.reads in let d = c.args.scan.now.range.now.direction in let top = c.args.top.now in let loaded = c.load_entry.ensures.reads in
+    let i = c.loop-index.invariant in let (n, few, before) = i.reads in let d = c.args.scan.now.range.now.direction in let top = c.args.top.now in
+    let loaded = reads_touching (touches_last (reads_untouched {most = 0} c.load_entry.ensures.reads c.load_entry.ensures.touches) c.touch_leaf.ensures) (omega arith) in
     record {
       reader = reader_then i.reader loaded;
       reads = (n + 1, omega (arith, few), reads_trans before loaded);
@@ -94,6 +101,7 @@ loop-index-preserved g c =
           (omega (arith, i.long, c.loop-index-test.true, c.min-count.ensures, c.most_slots.ensures.most)) (omega (arith, i.wide, c.loop-index-test.true, c.min-count.ensures, c.most_slots.ensures.most))
           (begins_there c.args.scan.now.table.now.layout c.args.scan.now.origins.now.layout c.requires.origins c.in-Leaf.number c.find-leaf.result.start c.find-leaf.ensures.start);
       ahead = λ m has.
-          let placed = leaf_placed g (goal.at.loop-index-preserved g c).In-Leaf m has in
+          let (k, some, is) = c.touch_leaf.ensures in
+          let placed = subst (λ (z : SeatView). Sure z.known (λ s. IsPlaced s m top.number (place_ahead d top.slot c.loop-index.index) (Leaf c.in-Leaf.number))) (sym is) (leaf_placed g (goal.at.loop-index-preserved g c).In-Leaf m has) in
           ahead_more d m top c.loop-index.index c.loop-index.leaves c.in-Leaf.number (ahead_later d m top (reads_later loaded) c.loop-index.index c.loop-index.leaves (i.ahead m has)) (omega (arith, i.long, c.loop-index-test.true, c.min-count.ensures, c.most_slots.ensures.most)) placed;
     }

@@ -2,6 +2,7 @@
 use Rattle.std.proofs.Common.{◌∙◌, ap, arith, subst, sym}
 use Rattle.record_words.specs.declared.records.Rec.TheVariants.{Leaf as a_leaf}
 use Rattle.rowex_table.specs.Rule.{IsStartOf, record_number}
+use Rattle.rowex_reading.proofs.Touching.{touched_none, touched_on}
 use Rattle.rowex_scanning.proofs.Begins.{word_there}
 use Rattle.rowex_scanning.proofs.ahead.touch_leaf.Goals as goal
 
@@ -20,3 +21,10 @@ pub touch-requires-2-clause-range : goal.touch-requires-2-clause-range
 touch-requires-2-clause-range g =
     let e = g.leaf_size-last.ensures in
     word_there g.args.scan.now.table.now.layout g.args.scan.now.origins.now.layout g.requires.origins g.number.result _ g.args.leaf (g.requires.leaf.0 ∙ ap a_leaf (sym g.number.ensures)) (omega (arith, e.size, e.few, g.min.ensures))
+
+-- None is touched, or both are.
+pub returns-then-scan-lt-LEAST_LEAVES : goal.returns-then-scan-lt-LEAST_LEAVES
+returns-then-scan-lt-LEAST_LEAVES g = (0, omega arith, touched_none _)
+
+pub returns : goal.returns
+returns g = (2, omega arith, touched_on 1 1 _ _ _ g.touch.ensures g.touch-2.ensures)

@@ -25,16 +25,16 @@ returns-then-index-lt-HEAD_WORDS-clause-spelled g c = λ words h. locked_spells 
 
 pub returns-else-index-lt-HEAD_WORDS-clause-reads : goal.returns-else-index-lt-HEAD_WORDS-clause-reads
 returns-else-index-lt-HEAD_WORDS-clause-reads g c =
-    reads_entry c.args.table.now g.G.Gate.becomes (record_number c.args.node.rec) (c.args.index - 25) c.load_slot_at.result (c.args.seat.now, c.args.gate.now) (c.load_slot_at.new.seat, c.load_slot_at.new.gate) c.load_slot_at.ensures
+    reads_entry c.args.table.now g.G.Gate.becomes (record_number c.args.node.rec) (c.args.index - 25) c.load_slot_at.result (c.args.seat.now, c.args.gate.now) (c.load_slot_at.new.seat, c.load_slot_at.new.gate) c.load_slot_at.ensures.step
 
 pub returns-else-index-lt-HEAD_WORDS-clause-word : goal.returns-else-index-lt-HEAD_WORDS-clause-word
-returns-else-index-lt-HEAD_WORDS-clause-word g c = λ words h. let above : 25 ≤ c.args.index = omega (arith, c.if-index-lt-HEAD_WORDS.false) in entry_word_of (record_number c.args.node.rec) c.args.index c.load_slot_at.result words h above c.load_slot_at.ensures.event
+returns-else-index-lt-HEAD_WORDS-clause-word g c = λ words h. let above : 25 ≤ c.args.index = omega (arith, c.if-index-lt-HEAD_WORDS.false) in entry_word_of (record_number c.args.node.rec) c.args.index c.load_slot_at.result words h above c.load_slot_at.ensures.step.event
 
 pub returns-else-index-lt-HEAD_WORDS-clause-spelled : goal.returns-else-index-lt-HEAD_WORDS-clause-spelled
-returns-else-index-lt-HEAD_WORDS-clause-spelled g c = λ words h. locked_spells c.load_slot_at.ensures.event (record_number c.args.node.rec) words h
+returns-else-index-lt-HEAD_WORDS-clause-spelled g c = λ words h. locked_spells c.load_slot_at.ensures.step.event (record_number c.args.node.rec) words h
 
 pub returns-then-index-lt-HEAD_WORDS-clause-few : goal.returns-then-index-lt-HEAD_WORDS-clause-few
 returns-then-index-lt-HEAD_WORDS-clause-few g c = step_few c.args.table.now g.G.Gate.becomes _ (c.args.seat.now, c.args.gate.now) (c.load_fixed_at.new.seat, c.load_fixed_at.new.gate) (of_kind c.requires.node.0 c.load_fixed_at.ensures)
 
 pub returns-else-index-lt-HEAD_WORDS-clause-few : goal.returns-else-index-lt-HEAD_WORDS-clause-few
-returns-else-index-lt-HEAD_WORDS-clause-few g c = step_few c.args.table.now g.G.Gate.becomes _ (c.args.seat.now, c.args.gate.now) (c.load_slot_at.new.seat, c.load_slot_at.new.gate) c.load_slot_at.ensures
+returns-else-index-lt-HEAD_WORDS-clause-few g c = step_few c.args.table.now g.G.Gate.becomes _ (c.args.seat.now, c.args.gate.now) (c.load_slot_at.new.seat, c.load_slot_at.new.gate) c.load_slot_at.ensures.step
