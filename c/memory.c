@@ -184,9 +184,9 @@ static void test_light(void) {
     printf("%d handles take %zu bytes, and each that is open %zu\n", HANDLES, none - bytes, one - none);
 }
 
-/* Many small indexes: each takes 6 KiB at most with its handle and ten keys, and none of their changes asks for memory. No mapping is small. */
+/* Many small indexes: each takes 12 KiB at most with its handle and ten keys, and none of their changes asks for memory. No mapping is small. */
 static void test_small(void) {
-    enum { MANY = 1000, KEYS = 10, MOST = 6 << 10 };
+    enum { MANY = 1000, KEYS = 10, MOST = 12 << 10 };
     static hot_index *indexes[MANY];
     static hot_handle handles[MANY];
     hot_stock small;

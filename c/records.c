@@ -164,20 +164,20 @@ static void test_stock_sizes(void) {
     hot_stock stock;
     size_t size = 7;
     hot_stock_for_keys(7, 8, &stock);
-    CHECK(stock.nodes == 3 && stock.short_leaves == 10 && !stock.medium_leaves && !stock.large_leaves);
-    CHECK(hot_stock_bytes(&stock, 1, &size) == HOT_DONE && size == 2688);
-    CHECK(hot_stock_bytes(&stock, MANY + 1, &size) == HOT_OUT_OF_RANGE && size == 2688);
+    CHECK(stock.nodes == 12 && stock.short_leaves == 19 && !stock.medium_leaves && !stock.large_leaves);
+    CHECK(hot_stock_bytes(&stock, 1, &size) == HOT_DONE && size == 7152);
+    CHECK(hot_stock_bytes(&stock, MANY + 1, &size) == HOT_OUT_OF_RANGE && size == 7152);
     CHECK(hot_create_with(&stock, handles, 0) == HOT_OUT_OF_RANGE);
     CHECK(hot_create_with(&stock, handles, MANY) == HOT_DONE);
     for (int i = 0; i < MANY; i++)
         CHECK(hot_destroy(&handles[i]) == HOT_DONE);
     hot_stock_for_keys(8, 89, &stock);
-    CHECK(stock.nodes == 3 && stock.long_leaves == 11 && !stock.short_leaves && !stock.wide_leaves);
+    CHECK(stock.nodes == 12 && stock.long_leaves == 20 && !stock.short_leaves && !stock.wide_leaves);
     {
         static const uint32_t keys[5] = {8, 0, 80, 0, 1}, most[5] = {4294967295u, 4294967295u, 0, 0, 0};
         hot_stock_for_lengths(keys, &stock);
-        CHECK(stock.nodes == 35 && stock.short_leaves == 11 && !stock.medium_leaves && stock.large_leaves == 112);
-        CHECK(!stock.wide_leaves && stock.long_leaves == 2);
+        CHECK(stock.nodes == 44 && stock.short_leaves == 20 && !stock.medium_leaves && stock.large_leaves == 121);
+        CHECK(!stock.wide_leaves && stock.long_leaves == 11);
         hot_stock_for_lengths(most, &stock);
         CHECK(hot_create_with(&stock, handles, 1) == HOT_OUT_OF_RANGE);
         hot_stock_for_keys(8, 89, &stock);
@@ -265,14 +265,39 @@ static void test_few_bits(void) {
     }
 }
 
-/* The stock for few keys is enough for each number of them, also where one at a time goes and another one comes. */
+/* Keys that rise. */
+typedef struct rising {
+    uint32_t next, count;
+    uint8_t key[8];
+} rising;
+
+static int next_rising(void *context, const uint8_t **key, size_t *length, uint64_t *value) {
+    rising *all = context;
+    uint64_t mixed = (all->next + 1) * UINT64_C(0x9e3779b97f4a7c15);
+    int at;
+    if (all->next == all->count)
+        return 0;
+    for (at = 0; at < 8; at++)
+        all->key[at] = at == 0 ? (uint8_t)all->next : (uint8_t)(mixed >> (56 - 8 * at));
+    *key = all->key;
+    *length = 8;
+    *value = all->next++;
+    return 1;
+}
+
+/* The stock for few keys is enough for each number of them, also where they are loaded, or one at a time goes and another one comes. */
 static void test_few_keys(void) {
     enum { FEW = 200, TURNS = 10 };
     uint32_t keys, turn;
     for (keys = 1; keys <= FEW; keys++) {
         hot_handle handle = HOT_HANDLE;
+        rising all = {0, 0, {0}};
+        hot_index *index = NULL;
         hot_stock stock;
+        size_t count = 0;
         hot_stock_for_keys(keys, 8, &stock);
+        all.count = keys;
+        CHECK(hot_load(&stock, 1, next_rising, &all, &index, &count) == HOT_DONE && count == keys && hot_close_index(index) == HOT_DONE);
         CHECK(hot_create_with(&stock, &handle, 1) == HOT_DONE);
         for (turn = 0; turn < TURNS * keys; turn++) {
             uint64_t old = (turn - keys) * UINT64_C(0x9e3779b97f4a7c15), new = turn * UINT64_C(0x9e3779b97f4a7c15);

@@ -291,7 +291,7 @@ class Whole(unittest.TestCase):
 
     def assert_refuses(self, number, error, pairs, longest=None) -> None:
         """Refuses the pair of this number, in a map for few keys if a length is given."""
-        size = {} if longest is None else {"capacity": 7, "longest": longest}
+        size = {} if longest is None else {"capacity": 7, "longest": longest, "threads": 1}
         with self.assertRaises(error) as raised:
             SortedMap(pairs, sorted=True, grow=longest is None, **size)
         self.assertEqual(raised.exception.number, number)
@@ -313,7 +313,7 @@ class Whole(unittest.TestCase):
         self.assert_refuses(1, LoadError, [("a", 1), ("a", 2)])
         self.assert_refuses(2, LoadError, [("a", 1), ("b", 1), ("c" * 241, 1)])
         self.assert_refuses(1, LoadError, [("a", 1), ("b" * 9, 1)], 8)
-        self.assert_refuses(521, FullError, pairs, 8)
+        self.assert_refuses(19, FullError, pairs, 8)
         for wrong, error in [
             ([("a" * 241, 1)], ValueError),
             ([("a",)], ValueError),

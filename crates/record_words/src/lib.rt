@@ -277,7 +277,7 @@ pub const KEYS_A_NODE: u32 = 3;
 pub const KEYS_A_SPARE_LEAF: u32 = 3;
 
 /// How many node records and leaf records `Stock::for_keys` has to spare at least, however few the keys are.
-pub const LEAST_SPARE: u32 = 1;
+pub const LEAST_SPARE: u32 = 10;
 
 /// For how many keys `Stock::for_keys` has one record more of both to spare.
 pub const KEYS_A_SPARE: u32 = 16;

@@ -38,7 +38,7 @@ impl Stock {
     /// A stock for up to `count` keys at once, of at most `longest` bytes each; more than 240 count as 240. All its leaf records are of the
     /// smallest class with room for such keys.
     ///
-    /// It has one node record for 3 keys, and one leaf record for each key and one more for 3 keys. Of both it has one and one for 16 keys to
+    /// It has one node record for 3 keys, and one leaf record for each key and one more for 3 keys. Of both it has 10 and one for 16 keys to
     /// spare, but no more than 512. Sums stop at 4,294,967,295. So each index of 1 to 1,024 passes can be made with it where there is memory.
     ///
     /// The nodes are a measured number (`docs/SIZING.md`) and no bound. Keys may be such that each node has two entries, so that `count` of
