@@ -429,9 +429,11 @@ static hot_status plan_allowed(grower *of, const lack *lacks, uint64_t eighths, 
 
 /* Begins the load of a job, anew if it had begun. HOT_DONE; or HOT_FULL_NODES, HOT_FULL_LEAVES, HOT_NO_MEMORY. */
 static hot_status begin_job_load(grower *of, job *it) {
+    uint64_t keys[SIZES];
     hot_status status = plan_allowed(of, &it->lacks, it->eighths, &it->to->stock);
     it->from_length = 0;
-    return status == HOT_DONE ? begin_load(&it->to->stock, handles_of(of), &it->begun, &it->to->holds) : status;
+    count_keys(of, keys);
+    return status == HOT_DONE ? begin_load(&it->to->stock, handles_of(of), keys, &it->begun, &it->to->holds) : status;
 }
 
 /* Begins a growth. HOT_DONE; or HOT_FULL_NODES, HOT_FULL_LEAVES, HOT_NO_MEMORY, and then there is none. */
@@ -774,7 +776,7 @@ static hot_status can_have(size_t handles) {
 
 /* An index that grows, with no table yet; or NULL where memory is refused. */
 static hot_index *new_growing(size_t most, size_t count) {
-    enum { MANY = 8 };
+    enum { MANY = 12 };
     hot_index *made = new_index(count);
     grower *of;
     size_t at;

@@ -183,14 +183,18 @@ static int is_early(const heap_table *of, int kind, size_t at) {
     return own > 0 && (at < SMALL_PART || own - at < HUGE_PAGE);
 }
 
-/* Whether a piece of the table that is made takes small pages until it has filled: one with early records, or where a kind begins. */
+/* Whether a piece of the table that is made takes small pages until it has filled: one with early records that a load doesn't fill, or where a kind
+ * begins. */
 static int is_small(size_t piece) {
     const heap_table *of = &making.of;
-    size_t begin = piece * HUGE_PAGE, end = begin + HUGE_PAGE;
+    size_t begin = piece * HUGE_PAGE, end = begin + HUGE_PAGE, at;
     int kind = HEAP_KINDS;
     while (kind > 0 && of->from[kind - 1] + IN_PAGES >= end)
         kind--;
-    return kind == 0 || of->from[kind - 1] + IN_PAGES >= begin || is_early(of, kind - 1, begin - IN_PAGES - of->from[kind - 1]);
+    if (kind == 0 || of->from[kind - 1] + IN_PAGES >= begin)
+        return 1;
+    at = begin - IN_PAGES - of->from[kind - 1];
+    return at + HUGE_PAGE > of->filled[kind - 1] && is_early(of, kind - 1, at);
 }
 
 /* Asks for huge pages for all other pieces of the table, if it is large. */

@@ -6,11 +6,11 @@
 #include <stdint.h>
 
 /* A table that is made: how many bytes it has, or 0 if none is made; where in it the records of each kind begin, in this order, and the last ones
- * end; how many bytes those have of a kind that all handles claim first, which stand side by side; and how many those behind them that each
- * handle has of its own. */
+ * end; how many bytes those have of a kind that all handles claim first, which stand side by side; how many those behind them that each
+ * handle has of its own; and how many bytes of a kind a load is known to fill, from its beginning on. */
 enum { HEAP_KINDS = 6 };
 typedef struct heap_table {
-    size_t bytes, from[HEAP_KINDS + 1], first[HEAP_KINDS], own[HEAP_KINDS];
+    size_t bytes, from[HEAP_KINDS + 1], first[HEAP_KINDS], own[HEAP_KINDS], filled[HEAP_KINDS];
 } heap_table;
 
 /* Addresses for the long lists of a table's handles, of which few are ever used: there a page takes memory once something is written. So many

@@ -833,11 +833,25 @@ static hot_status take_pairs(loading *load, hot_source *next, void *context, siz
     return status;
 }
 
-hot_status begin_load(const hot_stock *stock, size_t handles, begun_load *begun, holding *holds) {
+/* Notes what so many keys of each size fill of a table: the nodes have 31 keys each at most. */
+static void note_filled(heap_table *table, const uint64_t *keys) {
+    static const size_t bytes[HEAP_KINDS - 1] = {32, 48, 80, 112, 264};
+    uint64_t all = 0;
+    int size;
+    for (size = 0; size < HEAP_KINDS - 1; size++) {
+        table->filled[size + 1] = (size_t)keys[size] * bytes[size];
+        all += keys[size];
+    }
+    table->filled[0] = (size_t)all / 31 * 464;
+}
+
+hot_status begin_load(const hot_stock *stock, size_t handles, const uint64_t *keys, begun_load *begun, holding *holds) {
     hot_status status;
     note_stock(holds, stock, handles);
     begun->handles = handles;
     begun->table = table_of(stock, handles);
+    if (keys != NULL)
+        note_filled(&begun->table, keys);
     heap_begin(&begun->table, NULL);
     status = proved_begin_load(stock, handles, &begun->load);
     if (heap_pause(&begun->words) || status != HOT_DONE)
@@ -867,7 +881,7 @@ hot_status load_table(const hot_stock *stock, size_t handles, hot_source *next, 
                       hot_status *refused, size_t *count) {
     static const begun_load none;
     begun_load begun = none;
-    hot_status status = begin_load(stock, handles, &begun, holds);
+    hot_status status = begin_load(stock, handles, NULL, &begun, holds);
     if (status != HOT_DONE)
         return status;
     *refused = take_pairs(&begun.load, next, context, count);
