@@ -33,17 +33,35 @@ static void need(int is_so)
     }
 }
 
-/* How long the clock has run, less the time in which this thread waited for a processor. */
-static double running(int schedstat)
+/* How long this thread has waited for a processor. */
+static double waited(int schedstat)
 {
     char text[96];
-    double ran, waited = 0, now;
+    double ran, so_far = 0;
     ssize_t length = pread(schedstat, text, sizeof text - 1, 0);
-    now = clock_of(CLOCK_MONOTONIC);
     need(length > 0);
     text[length] = 0;
-    need(sscanf(text, "%lf %lf", &ran, &waited) == 2);
-    return now - waited;
+    need(sscanf(text, "%lf %lf", &ran, &so_far) == 2);
+    return so_far;
+}
+
+/* What a call is measured by: the clock's time in between, less that in which its thread waited. It may have done so beside the clock's, but
+ * not within it unseen. */
+typedef struct stopwatch {
+    int schedstat;
+    double waited, began;
+} stopwatch;
+
+static void begin_call(stopwatch *by)
+{
+    by->waited = waited(by->schedstat);
+    by->began = clock_of(CLOCK_MONOTONIC);
+}
+
+static double end_call(const stopwatch *by)
+{
+    double took = clock_of(CLOCK_MONOTONIC) - by->began;
+    return (took - (waited(by->schedstat) - by->waited)) / 1e6;
 }
 
 static int open_schedstat(void)
@@ -79,22 +97,22 @@ static double insert_all(hot_handle *handle, int is_timed)
 {
     uint8_t key[LONGEST];
     uint32_t number;
-    int schedstat = is_timed ? open_schedstat() : -1;
-    double longest = 0, before = 0, took;
+    stopwatch by = { is_timed ? open_schedstat() : -1, 0, 0 };
+    double longest = 0, took;
     for (number = 0; number < count; number++) {
         size_t length = key_of(RANDOM, number, key);
         if (is_timed)
-            before = running(schedstat);
+            begin_call(&by);
         need(hot_insert(handle, key, length, number, NULL) == HOT_INSERTED);
         if (is_timed) {
-            took = running(schedstat) - before;
+            took = end_call(&by);
             longest = took > longest ? took : longest;
             atomic_store_explicit(&written, number + 1, memory_order_relaxed);
         }
     }
     if (is_timed)
-        close(schedstat);
-    return longest / 1e6;
+        close(by.schedstat);
+    return longest;
 }
 
 static void look_up_all(hot_handle *handle)
@@ -126,18 +144,19 @@ static void *look_up_on(void *longest)
     hot_handle handle = HOT_HANDLE;
     uint8_t key[LONGEST];
     uint64_t value = 0, turn;
-    int schedstat = open_schedstat();
+    stopwatch by = { open_schedstat(), 0, 0 };
     need(hot_open(at, &handle) == HOT_DONE);
     for (turn = 0; !is_over; turn++) {
         uint32_t there = (uint32_t)atomic_load_explicit(&written, memory_order_relaxed);
         size_t length = key_of(RANDOM, mixed(turn) % (there ? there : 1), key);
-        double before = running(schedstat), took;
+        double took;
+        begin_call(&by);
         need(hot_get(&handle, key, length, &value) == HOT_FOUND || there == 0);
-        took = (running(schedstat) - before) / 1e6;
+        took = end_call(&by);
         *(double *)longest = took > *(double *)longest ? took : *(double *)longest;
     }
     need(hot_close(&handle) == HOT_DONE);
-    close(schedstat);
+    close(by.schedstat);
     return NULL;
 }
 
