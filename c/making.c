@@ -39,7 +39,7 @@ static uint64_t *copy(uint64_t *words, way how) {
 static int is_made(way how) {
     uint64_t *zeros, *made;
     int may;
-    heap_begin(&table);
+    heap_begin(&table, NULL);
     zeros = block();
     zeros[FIRST] = 7;
     if (how == ZEROS_WRITTEN)
@@ -64,7 +64,7 @@ static int is_loaded(way how) {
     void *paused;
     size_t word;
     int may;
-    heap_begin(&table);
+    heap_begin(&table, NULL);
     words = block();
     words[FIRST] = 7;
     if (how == ZEROS_WRITTEN)
