@@ -12,8 +12,8 @@ use Rattle.rowex_core.specs.declared.known.FailedAct.TheVariants.{Claim as a_cla
 use Rattle.rowex_core.specs.Events.{word_of}
 use Rattle.rowex_records.specs.Claims.{AllMissed, HasMissedSince, IsAnothers, TellsState}
 use Rattle.rowex_records.proofs.Claimed.{missed_so}
-use Rattle.rowex_writing.specs.Changes.{LacksNodes}
-use Rattle.rowex_writing.specs.Locks.{HasMetTaken}
+use Rattle.rowex_writing.specs.build.Changes.{LacksNodes}
+use Rattle.rowex_writing.specs.locks.Locks.{HasMetTaken}
 use Rattle.hot_index_calls.specs.Answers.{IsOvertaken}
 use Rattle.hot_index_calls.specs.Passes.{PassView}
 use Rattle.hot_index_calls.proofs.Refusing.{no_other}

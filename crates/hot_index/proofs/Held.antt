@@ -9,8 +9,8 @@ use Rattle.finite_map.specs.declared.Reply.{Reply}
 use Rattle.finite_map.specs.Fronts.{map_of}
 use Rattle.finite_map.specs.Maps.{key_of, value_at}
 use Rattle.record_words.specs.declared.layout.Layout.{Layout}
-use Rattle.rowex_writing.specs.Attempts.{IsFullFault}
-use Rattle.rowex_writing.specs.Spare.{IsRemoval}
+use Rattle.rowex_writing.specs.attempts.Attempts.{IsFullFault}
+use Rattle.rowex_writing.specs.build.Spare.{IsRemoval}
 use Rattle.rowex_writing.specs.declared.attempts.TryFault.{TryFault}
 use Rattle.rowex_writing.specs.declared.attempts.TryFault.TheVariants.{Busy, FullLeaves, FullNodes}
 use Rattle.rowex_writing.specs.declared.plan.Full.{Full}

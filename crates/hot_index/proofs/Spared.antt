@@ -15,7 +15,7 @@ use Rattle.rowex_table.specs.Seats.{IsShownAll, SeatView, TableView}
 use Rattle.rowex_reading.specs.Reads.{IsBelowRoot}
 use Rattle.lone_runs.specs.Lone.{HasSpare, IsLone, IsOut, IsUnpublished, KeepsSpare}
 use Rattle.lone_runs.proofs.Lone.{lead_layout, lead_split, none_other, runs_spare}
-use Rattle.rowex_writing.proofs.Spare.{reads_plain}
+use Rattle.rowex_writing.proofs.Cited.{reads_plain}
 use Rattle.hot_index_calls.specs.Census.{HasCounted}
 use Rattle.hot_index_calls.specs.Passes.{IsNewPass, PassView}
 use Rattle.hot_index_calls.specs.Traces.{HasCollected, HasRead, reading}

@@ -20,8 +20,8 @@ use Rattle.lone_runs.specs.Lone.{HasSpare, KeepsSpare}
 use Rattle.rowex_core.specs.declared.event.Event.{Event}
 use Rattle.rowex_table.specs.Seats.{IsShownAll, SeatView, TableView}
 use Rattle.rowex_records.specs.Claims.{AllMissed, AllMissedFrom, HasMissedSince, IsAnothers}
-use Rattle.rowex_writing.specs.Counts.{most_nodes}
-use Rattle.rowex_writing.specs.Spare.{IsRemoval}
+use Rattle.rowex_writing.specs.plan.Counts.{most_nodes}
+use Rattle.rowex_writing.specs.build.Spare.{IsRemoval}
 use Rattle.rowex_writing.specs.declared.attempts.TryFault.{TryFault}
 use Rattle.rowex_writing.specs.declared.attempts.TryFault.TheVariants.{Busy, FullLeaves, FullNodes}
 use Rattle.hot_index_calls.specs.Answers.{IsCause, IsNoted, IsRefused, IsRefusedFor}

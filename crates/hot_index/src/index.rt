@@ -5,7 +5,7 @@ ghost use Rattle.finite_map.specs.declared.Call.TheVariants.{Get, Insert, Remove
 ghost use Rattle.finite_map.specs.Calls.{LegalCalls};
 ghost use Rattle.hot_index.specs.KeyCounts.{IsCountOf};
 ghost use Rattle.rowex_table.specs.Seats.{IsShownAll};
-ghost use Rattle.rowex_writing.specs.Attempts.{IsLeafless};
+ghost use Rattle.rowex_writing.specs.attempts.Attempts.{IsLeafless};
 ghost use Rattle.rowex_writing.specs.declared.attempts.TryFault.TheVariants.{FullLeaves};
 ghost use Rattle.rowex_writing.specs.declared.plan.Full.TheVariants.{Leaves};
 ghost use Rattle.hot_index_calls.specs.Passes.{Owns};

@@ -27,10 +27,9 @@ use Rattle.rowex_table.specs.Seats.{SeatView, TableView}
 use Rattle.rowex_table.specs.Stays.{LeavesPin}
 use Rattle.rowex_table.proofs.ActsLeave.{act_fresh, act_leaves}
 use Rattle.epochs.specs.Runs.{Pins}
-use Rattle.rowex_writing.specs.Attempts.{HasLoadedRoot}
-use Rattle.rowex_writing.specs.Changes.{HasTried}
-use Rattle.rowex_writing.specs.Locks.{HasMadeNoChange, HasMetTaken}
-use Rattle.rowex_writing.proofs.Works.{no_change_from_later}
+use Rattle.rowex_writing.specs.plan.Planned.{HasLoadedRoot}
+use Rattle.rowex_writing.specs.locks.Locks.{HasMadeNoChange, HasMetTaken, HasTried}
+use Rattle.rowex_writing.proofs.Cited.{no_change_from_later}
 use Rattle.hot_index_calls.specs.Answers.{HasConflict, IsOvertaken, MayTake, WasFound}
 use Rattle.hot_index_calls.specs.Passes.{AreByPasses, PassView, pass_of}
 

@@ -17,12 +17,12 @@ use Rattle.rowex_table.specs.Seats.{SeatView, TableView}
 use Rattle.rowex_table.proofs.Running.{runs_append, runs_one}
 use Rattle.epochs.specs.Runs.{collecting}
 use Rattle.rowex_records.specs.Claims.{HasMissedSince, IsAnothers}
-use Rattle.rowex_writing.specs.Changes.{LacksLeaves, LacksNodes}
+use Rattle.rowex_writing.specs.build.Changes.{LacksLeaves, LacksNodes}
 use Rattle.rowex_writing.specs.declared.plan.Full.{Full}
 use Rattle.rowex_writing.specs.declared.plan.Full.TheVariants.{Nodes, Leaves}
-use Rattle.rowex_writing.specs.Walks.{nodes_among}
-use Rattle.rowex_writing.proofs.Keeping.{lacks_so, run_failed}
-use Rattle.rowex_writing.specs.Locks.{HasMetTaken}
+use Rattle.rowex_writing.specs.build.Walks.{nodes_among}
+use Rattle.rowex_writing.proofs.Cited.{lacks_so, run_failed}
+use Rattle.rowex_writing.specs.locks.Locks.{HasMetTaken}
 use Rattle.hot_index_calls.specs.Answers.{HasConflict, IsCause, IsOvertaken, fault_of}
 use Rattle.hot_index_calls.specs.Asked.{HasLacked, HasReplied}
 use Rattle.hot_index_calls.specs.Calls.{IsTriedAndCounted}

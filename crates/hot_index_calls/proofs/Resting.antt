@@ -21,13 +21,13 @@ use Rattle.rowex_table.specs.Seats.{TableView, SeatView}
 use Rattle.rowex_table.specs.Stays.{LeavesPin}
 use Rattle.epochs.specs.Runs.{Pins}
 use Rattle.rowex_records.specs.Claims.{HasMissedSince, IsAnothers}
-use Rattle.rowex_writing.specs.Changes.{LacksLeaves, LacksNodes}
-use Rattle.rowex_writing.specs.Attempts.{AreAttemptSteps, IsOfSearch}
+use Rattle.rowex_writing.specs.build.Changes.{LacksLeaves, LacksNodes}
+use Rattle.rowex_writing.specs.attempts.Attempts.{AreAttemptSteps, IsOfSearch}
 use Rattle.rowex_writing.specs.declared.attempts.TryFault.{TryFault}
 use Rattle.rowex_writing.specs.declared.attempts.TryFault.TheVariants.{Busy, FullNodes, FullLeaves}
 use Rattle.rowex_writing.specs.declared.plan.Full.{Full}
 use Rattle.rowex_writing.specs.declared.plan.Full.TheVariants.{Nodes, Leaves}
-use Rattle.rowex_writing.proofs.Keeping.{lacks_so, run_failed}
+use Rattle.rowex_writing.proofs.Cited.{lacks_so, run_failed}
 use Rattle.hot_index_calls.specs.Answers.{IsCause, IsUnnoted, fault_of}
 use Rattle.hot_index_calls.specs.Passes.{AreByPasses, IsSettled, PassView, pass_of}
 use Rattle.hot_index_calls.specs.Traces.{HasEnded, IsAttempt, is_full}

@@ -35,7 +35,7 @@ use Rattle.rowex_table.proofs.ActsLeave.{act_leaves}
 use Rattle.rowex_table.specs.Runs.{InTurn, Runs, Steps, StepsWith, silent}
 use Rattle.rowex_table.specs.Seats.{SeatView, TableView}
 use Rattle.rowex_table.specs.Stays.{LeavesRound}
-use Rattle.rowex_writing.proofs.Spare.{runs_split, step_lone}
+use Rattle.rowex_writing.proofs.Cited.{runs_split, step_lone}
 use Rattle.versions.proofs.Legal.{same_rec_refl}
 use Rattle.versions.specs.Core.{Fate, Free, Held, Ready, InTree, Unlinked, Marked}
 use Rattle.versions.specs.Steps.{lowered}

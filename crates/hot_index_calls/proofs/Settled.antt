@@ -33,8 +33,7 @@ use Rattle.rowex_core.specs.Words.{lock_of, tag_of}
 use Rattle.rowex_table.specs.Runs.{Runs, Steps, StepsWith, silent}
 use Rattle.rowex_table.specs.Seats.{SeatView, TableView}
 use Rattle.rowex_table.proofs.ActsLeave.{act_leaves}
-use Rattle.rowex_writing.proofs.Runs.{act_front}
-use Rattle.rowex_writing.proofs.Spare.{runs_split}
+use Rattle.rowex_writing.proofs.Cited.{act_front, runs_split}
 use Rattle.lone_runs.proofs.Lone.{one_of}
 use Rattle.rowex_writing.specs.declared.attempts.TryFault.{TryFault}
 use Rattle.rowex_writing.specs.declared.attempts.TryFault.TheVariants.{Busy, FullNodes, FullLeaves}

@@ -20,9 +20,8 @@ use Rattle.rowex_reading.specs.Reads.{Looks, entries_in}
 use Rattle.rowex_reading.proofs.Counting.{looks_count}
 use Rattle.rowex_reading.proofs.Touching.{ends_touch, root_still, runs_touch}
 use Rattle.rowex_scanning.specs.Counts.{Scans, scan_entries}
-use Rattle.rowex_writing.specs.Attempts.{HasAttempted}
-use Rattle.rowex_writing.specs.Changes.{HasTried}
-use Rattle.rowex_writing.specs.Locks.{targets_of}
+use Rattle.rowex_writing.specs.attempts.Attempts.{HasAttempted}
+use Rattle.rowex_writing.specs.locks.Locks.{targets_of, HasTried}
 use Rattle.rowex_writing.specs.declared.attempts.TryFault.{TryFault}
 use Rattle.rowex_writing.specs.declared.plan.Full.{Full}
 use Rattle.hot_index_calls.specs.Answers.{IsRefusedFor, fault_of}

@@ -38,17 +38,18 @@ use Rattle.rowex_records.specs.Claims.{AllMissed, HasMissed, IsAnothers}
 use Rattle.publish_laws.specs.Ending.{IsAtRest}
 use Rattle.epochs.specs.Runs.{Pins}
 use Rattle.lone_runs.specs.Lone.{KeepsSpare}
-use Rattle.rowex_writing.specs.Asking.{reply_to}
-use Rattle.rowex_writing.specs.Attempts as tries
-use Rattle.rowex_writing.specs.Attempts.{HasAnswered, HasLoadedRoot, HasRefused, IsChangeOf, IsLeafless}
-use Rattle.rowex_writing.specs.Changes.{HasChanged, HasTried, LacksLeaves, LacksNodes}
-use Rattle.rowex_writing.specs.Locks.{HasMetLock, HasMetTaken}
-use Rattle.rowex_writing.specs.Walks.{nodes_among}
+use Rattle.rowex_writing.specs.plan.Asking.{reply_to}
+use Rattle.rowex_writing.specs.attempts.Attempts as tries
+use Rattle.rowex_writing.specs.attempts.Attempts.{HasAnswered, HasRefused, IsChangeOf, IsLeafless}
+use Rattle.rowex_writing.specs.plan.Planned.{HasLoadedRoot}
+use Rattle.rowex_writing.specs.build.Changes.{HasChanged, LacksLeaves, LacksNodes}
+use Rattle.rowex_writing.specs.locks.Locks.{HasMetLock, HasMetTaken, HasTried}
+use Rattle.rowex_writing.specs.build.Walks.{nodes_among}
 use Rattle.rowex_writing.specs.declared.plan.Full.{Full}
 use Rattle.rowex_writing.specs.declared.plan.Full.TheVariants.{Nodes as OfNodes, Leaves as OfLeaves}
 use Rattle.rowex_writing.specs.declared.attempts.TryFault.{TryFault}
 use Rattle.rowex_writing.specs.declared.attempts.TryFault.TheVariants.{Busy, FullNodes, FullLeaves}
-use Rattle.rowex_writing.proofs.Keeping.{lacks_so}
+use Rattle.rowex_writing.proofs.Cited.{lacks_so}
 use Rattle.hot_index_calls.specs.Answers.{IsCause, IsNoted, IsRefused, IsRefusedFor, IsUnnoted, MayLack, MayRefuse, MayTake, WasFound, fault_of}
 use Rattle.hot_index_calls.specs.Asked.{HasAsked, HasLacked, HasReplied, last_try}
 use Rattle.hot_index_calls.specs.Calls.{AreTriesRefused, GetsOr, HasCause, IsOutcome, IsTried, IsTriedAndCounted, MakesTries}

@@ -18,9 +18,9 @@ use Rattle.rowex_scanning.specs.Scanning.{limited}
 use Rattle.version_laws.specs.Directions.{ScanLaw}
 use Rattle.record_words.specs.declared.records.Rec.{Rec}
 use Rattle.version_laws.specs.Scan.{Range}
-use Rattle.rowex_writing.specs.Attempts.{IsFullFault}
-use Rattle.rowex_writing.specs.Changes.{LacksLeaves, LacksNodes}
-use Rattle.rowex_writing.specs.Locks.{HasMetTaken}
+use Rattle.rowex_writing.specs.attempts.Attempts.{IsFullFault}
+use Rattle.rowex_writing.specs.build.Changes.{LacksLeaves, LacksNodes}
+use Rattle.rowex_writing.specs.locks.Locks.{HasMetTaken}
 use Rattle.rowex_writing.specs.declared.attempts.TryFault.{TryFault}
 use Rattle.rowex_writing.specs.declared.attempts.TryFault.TheVariants.{Busy, FullNodes, FullLeaves}
 use Rattle.rowex_writing.specs.declared.plan.Full.{Full}

@@ -6,9 +6,9 @@ use Rattle.rowex_core.specs.declared.event.Act.{Act}
 use Rattle.rowex_core.specs.declared.event.Event.{Event}
 use Rattle.rowex_table.specs.Runs.{silent}
 use Rattle.rowex_table.specs.Seats.{TableView, SeatView, IsSeatOf}
-use Rattle.rowex_writing.specs.Attempts.{IsLeafless}
-use Rattle.rowex_writing.specs.Changes.{LacksNodes}
-use Rattle.rowex_writing.specs.Walks.{nodes_among}
+use Rattle.rowex_writing.specs.attempts.Attempts.{IsLeafless}
+use Rattle.rowex_writing.specs.build.Changes.{LacksNodes}
+use Rattle.rowex_writing.specs.build.Walks.{nodes_among}
 use Rattle.record_words.specs.declared.records.Rec.{Rec}
 use Rattle.rowex_writing.specs.declared.attempts.TryFault.{TryFault}
 use Rattle.rowex_writing.specs.declared.attempts.TryFault.TheVariants.{FullLeaves, FullNodes}

@@ -5,7 +5,7 @@ use Rattle.finite_map.specs.declared.Call.TheVariants.{Add, Exchange}
 use Rattle.epochs.specs.declared.limbo.TheConstants.{MOST_VISITED}
 use Rattle.record_words.specs.declared.layout.Layout.{Layout}
 use Rattle.rowex_scanning.specs.Counts.{scan_loads}
-use Rattle.rowex_writing.specs.Counts.{most_steps_of}
+use Rattle.rowex_writing.specs.plan.Counts.{most_steps_of}
 
 -- a round of collection: three on the epoch, one for each pin, and two for each record
 abbrev pub round_steps : Layout → ℕ

@@ -7,8 +7,8 @@ use Rattle.record_words.specs.declared.TheConstants.{LARGE_BYTES, MEDIUM_BYTES, 
 use Rattle.record_words.specs.declared.layout.Layout.{Layout}
 use Rattle.rowex_core.specs.declared.event.Event.{Event}
 use Rattle.rowex_table.specs.Seats.{TableView}
-use Rattle.rowex_writing.specs.Changes.{LacksNodes}
-use Rattle.rowex_writing.specs.Spare.{IsRemoval}
+use Rattle.rowex_writing.specs.build.Changes.{LacksNodes}
+use Rattle.rowex_writing.specs.build.Spare.{IsRemoval}
 use Rattle.rowex_writing.specs.declared.attempts.TryFault.{TryFault}
 use Rattle.rowex_writing.specs.declared.attempts.TryFault.TheVariants.{Busy}
 use Rattle.rowex_writing.specs.declared.plan.Full.{Full}

@@ -9,7 +9,7 @@ use Rattle.versions.specs.Core.{Fate, Unlinked, Marked}
 use Rattle.rowex_core.specs.Cores.{Core, HasRecord}
 use Rattle.lone_runs.specs.Lone.{HasSpare, IsLone, KeepsSpare}
 use Rattle.rowex_table.specs.Seats.{SeatView}
-use Rattle.rowex_writing.specs.Spare.{IsRemoval}
+use Rattle.rowex_writing.specs.build.Spare.{IsRemoval}
 use Rattle.rowex_writing.specs.declared.attempts.TryFault.{TryFault}
 use Rattle.rowex_writing.specs.declared.attempts.TryFault.TheVariants.{FullNodes}
 use Rattle.hot_index_calls.specs.Traces.{is_full}

@@ -19,7 +19,7 @@ use Rattle.rowex_reading.specs.Reads.{IsBelowRoot, entries_in}
 use Rattle.rowex_scanning.specs.Counts.{scan_entries}
 use Rattle.epochs.specs.Rounds.{IsRound, IsSmallRound, IsSparedRound, LoadsPin, VisitEach, Visits, advance_steps, has_given}
 use Rattle.epochs.specs.declared.limbo.TheConstants.{MOST_VISITED}
-use Rattle.rowex_writing.specs.Attempts.{AreAttemptSteps}
+use Rattle.rowex_writing.specs.attempts.Attempts.{AreAttemptSteps}
 use Rattle.rowex_writing.specs.declared.attempts.TryFault.{TryFault}
 use Rattle.rowex_writing.specs.declared.attempts.TryFault.TheVariants.{Busy, FullNodes, FullLeaves}
 use Rattle.rowex_writing.specs.declared.plan.Full.{Full}

@@ -8,7 +8,7 @@ ghost use Rattle.rowex_table.specs.Runs.{StepsWith};
 ghost use Rattle.rowex_table.specs.Seats.{IsPassOf};
 ghost use Rattle.rowex_writing.specs.declared.plan.Full.TheVariants.{Nodes, Leaves};
 ghost use Rattle.lone_runs.specs.Lone.{HasRoom, KeepsSpare};
-ghost use Rattle.rowex_writing.specs.Spare.{IsRemoval};
+ghost use Rattle.rowex_writing.specs.build.Spare.{IsRemoval};
 ghost use Rattle.rowex_writing.specs.declared.attempts.TryFault.TheVariants.{FullNodes};
 ghost use Rattle.hot_index_calls.specs.Rooms.{FindsRoom, LeavesNoneRetired};
 ghost use Rattle.hot_index_calls.specs.Answers.{fault_of};

@@ -2,7 +2,7 @@
 
 ghost use Rattle.std.specs.Prelude.{◌≡◌, ◌↔◌, ◌∷◌, [], IfSome, IsTrue, None, length};
 ghost use Rattle.rowex_writing.specs.declared.attempts.TryFault.TheVariants.{Busy};
-ghost use Rattle.rowex_writing.specs.Walks.{nodes_among};
+ghost use Rattle.rowex_writing.specs.build.Walks.{nodes_among};
 ghost use Rattle.hot_index_calls.specs.Answers.{fault_of};
 ghost use Rattle.hot_index_calls.specs.Refusals.{AreShort, IsPassing, IsShortOf, Judges, OfLeaves};
 ghost use Rattle.hot_index_calls.specs.declared.census.RecordCounts.{RecordCounts as CountsView};

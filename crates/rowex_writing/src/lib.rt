@@ -2,8 +2,9 @@
 //!
 //! # Mechanism
 //!
-//! An attempt ([`attempt`]) of a call that may change the index goes through these stages. Each has files of its own, and no two files
-//! import each other, by whatever way. What is planned goes from stage to stage as a job (`job`).
+//! An attempt ([`attempt`]) of a call that may change the index goes through these stages. Their files stand in rooms: `plan`, `locks`,
+//! `build`, `store`, `merging` and `attempts`, in this order. Each is a folder of `src/`, `specs/` and `proofs/`, and none imports a later
+//! one. No two files import each other, by whatever way. What is planned goes from stage to stage as a job (`job`).
 //!
 //! 1. *Search* (`rowex_reading`): the path of the key, and the leaf at its end with the key's first mismatch. These tell what the call
 //!    requests (`asking`). A call whose answer needs no change ends here.
@@ -55,30 +56,14 @@
 //! of which no contract speaks: a claim is an exchange of the record's state, which fails if the record isn't free.
 #![tactic(auto)]
 
-mod asking;
 mod attempts;
-mod checking;
-mod deeds;
-mod ending;
-mod growing;
-mod hints;
-mod job;
-mod kept;
-mod leaves;
-mod locked;
+mod build;
 mod locks;
 mod merging;
-mod nodes;
 mod plan;
-mod publishing;
-mod remaking;
-mod rising;
 mod store;
-mod taking;
-mod valuing;
-mod widening;
 
 pub use attempts::{TryFault, attempt};
-pub use hints::{Hint, Stretch};
-pub use kept::Build;
+pub use build::hints::{Hint, Stretch};
+pub use build::kept::Build;
 pub use plan::Full;

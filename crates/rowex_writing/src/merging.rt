@@ -14,25 +14,27 @@ ghost use Rattle.publish_laws.specs.Stages.{AreBeside, merged};
 ghost use Rattle.rowex_table.specs.Made.{IsLater, Made};
 ghost use Rattle.rowex_table.specs.Seats.{IsSeatOf};
 ghost use Rattle.lone_runs.specs.Lone.{HasSpare, KeepsSpare};
-ghost use Rattle.rowex_writing.specs.Attempts.{HasDoneDeed, HasLoadedFound};
-ghost use Rattle.rowex_writing.specs.Building.{IsBuilding};
-ghost use Rattle.rowex_writing.specs.Changes.{HasRun};
-ghost use Rattle.rowex_writing.specs.Going.{HasLocked, HasLockedNode, IsLockedBy, ReadsOn, WorksOn};
-ghost use Rattle.rowex_writing.specs.Locks.{span_numbers};
-ghost use Rattle.rowex_writing.specs.Merging.{AreNoNode, ClosesFork, HasClaimed, HasHeight, HasListed, IsLeftOfNode, IsNeighbour, IsWide, MayMergeInto, TakesOn, TriesFew, lower, upper};
+ghost use Rattle.rowex_writing.specs.store.Values.{HasDoneDeed, HasLoadedFound};
+ghost use Rattle.rowex_writing.specs.build.Building.{IsBuilding};
+ghost use Rattle.rowex_writing.specs.locks.Going.{HasLocked, HasLockedNode, IsLockedBy, ReadsOn, WorksOn};
+ghost use Rattle.rowex_writing.specs.locks.Locks.{span_numbers, HasRun};
+ghost use Rattle.rowex_writing.specs.merging.Merging.{AreNoNode, ClosesFork, HasListed, IsNeighbour, IsWide, MayMergeInto, TriesFew};
+ghost use Rattle.rowex_writing.specs.build.Taking.{HasClaimed, HasHeight, IsLeftOfNode, TakesOn, lower, upper};
 ghost use Rattle.rowex_writing.specs.declared.plan.Deed.TheVariants.{Take};
 
-use crate::growing::show_number_fits;
-use crate::job::{Job, Left, Merge};
-use crate::kept::Build;
-use crate::locked::{
+pub mod widening;
+
+use crate::build::growing::show_number_fits;
+use crate::build::kept::Build;
+use crate::build::nodes::make_node_from_words;
+use crate::locks::locked::{
     load_locked_entry, load_locked_node_words, load_position, load_sibling, read_locked_node,
 };
-use crate::nodes::make_node_from_words;
-use crate::publishing::{publish_entry, spot_above};
+use crate::merging::widening::{lock_for_merge, unlock_for_merge};
+use crate::plan::job::{Job, Left, Merge};
 use crate::store::Store;
-use crate::valuing::is_unchanged;
-use crate::widening::{lock_for_merge, unlock_for_merge};
+use crate::store::publishing::{publish_entry, spot_above};
+use crate::store::valuing::is_unchanged;
 use compound_node::{Entry, Node};
 use insert_cases::PathNode;
 use record_words::{

@@ -2,14 +2,17 @@
 
 ghost use Rattle.std.specs.Prelude.{◌≡◌, ◌+◌, ◌-◌, ◌<◌, ◌≤◌, ℕ, Some, length, slice_get};
 ghost use Rattle.insert_cases.specs.declared.choice.PathNode.{PathNode as PathNodeView};
-ghost use Rattle.rowex_writing.specs.Plans.{change as a_change, IsOutline, IsBeside, IsBesideFound, LiesOnWay, removal_deed};
+ghost use Rattle.rowex_writing.specs.plan.Plans.{change as a_change, IsOutline, IsBeside, IsBesideFound, LiesOnWay, removal_deed};
 ghost use Rattle.rowex_reading.specs.Possible.{IsPossible};
 ghost use Rattle.rowex_reading.specs.Reads.{ReadsSome};
 ghost use Rattle.rowex_table.specs.Seats.{IsSeatOf};
 ghost use Rattle.tries.specs.Keys.{Key as KeyValue};
-ghost use Rattle.rowex_writing.specs.Changes.{IsPlanned};
+ghost use Rattle.rowex_writing.specs.plan.Planned.{IsPlanned};
 ghost use Rattle.rowex_reading.specs.Ways.{IsWayOf};
 ghost use Rattle.record_words.specs.declared.TheConstants.{HEAD_WORDS};
+
+pub mod asking;
+pub mod job;
 
 use finite_map::Reply;
 use insert_cases::{Case, PathNode, choose_case, last_level_before, pull_up_chain_end};

@@ -1,7 +1,11 @@
 //! What a change stores, and where.
 
 ghost use Rattle.std.specs.Prelude.{◌≡◌};
-ghost use Rattle.rowex_writing.specs.Retiring.{is_root as is_the_root};
+ghost use Rattle.rowex_writing.specs.store.Retiring.{is_root as is_the_root};
+
+pub mod ending;
+pub mod publishing;
+pub mod valuing;
 
 use compound_node::Entry;
 use insert_cases::PathNode;

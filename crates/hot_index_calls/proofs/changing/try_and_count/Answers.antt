@@ -9,7 +9,7 @@ use Rattle.record_words.specs.declared.records.Rec.{Rec}
 use Rattle.rowex_core.specs.declared.event.Act.TheVariants.{ClearPin}
 use Rattle.rowex_core.specs.declared.known.Known.{Known}
 use Rattle.rowex_writing.specs.declared.attempts.TryFault.{TryFault}
-use Rattle.rowex_writing.specs.Walks.{nodes_among}
+use Rattle.rowex_writing.specs.build.Walks.{nodes_among}
 use Rattle.hot_index_calls.specs.Answers.{fault_of}
 use Rattle.hot_index_calls.specs.Asked.{HasAsked, HasLacked, HasReplied}
 use Rattle.hot_index_calls.specs.Calls.{IsTried}

@@ -11,8 +11,8 @@ use Rattle.hot_index_calls.specs.Answers.{fault_of}
 use Rattle.hot_index_calls.specs.Asked.{HasAsked}
 use Rattle.hot_index_calls.specs.Traces.{AreTries, IsOneAttempt, is_full}
 use Rattle.std.proofs.lemmas.Bool.{false≢true}
-use Rattle.rowex_writing.specs.Changes.{LacksNodes}
-use Rattle.rowex_writing.specs.Walks.{nodes_among}
+use Rattle.rowex_writing.specs.build.Changes.{LacksNodes}
+use Rattle.rowex_writing.specs.build.Walks.{nodes_among}
 use Rattle.hot_index_calls.specs.Passes.{pass_of}
 use Rattle.hot_index_calls.proofs.Collected.{between, does_idle, none_between}
 use Rattle.hot_index_calls.proofs.Conflicts.{may_take_from_before, no_further}

@@ -1,6 +1,6 @@
 -- So many are among the records below the index.
 use Rattle.std.specs.Prelude.{◌≡◌, ◌≤◌, length, take}
-use Rattle.rowex_writing.specs.Walks.{nodes_among}
+use Rattle.rowex_writing.specs.build.Walks.{nodes_among}
 use Rattle.hot_index_calls.proofs.refusals.count_node_records.Given as goal
 
 abbrev pub invariant-loop-index : goal.invariant-loop-index

@@ -1,23 +1,23 @@
 -- The search, its plan, and what follows from it.
-use Rattle.rowex_writing.proofs.Spare.{looks_room, looks_spare, reads_room, reads_spare}
+use Rattle.rowex_writing.proofs.build.Spare.{looks_room, looks_spare, reads_room, reads_spare}
 use Rattle.std.proofs.Common.{[], Err, Some, inl, inr, ◌∙◌, ap, subst, sym, arith, refl, IsSome, ◌≡◌, ◌≤◌, ◌+◌}
 use Rattle.rowex_reading.specs.Seen.{since}
 use Rattle.rowex_reading.specs.Ways.{IsWayOf, value_of}
 use Rattle.rowex_reading.proofs.Led.{reads_later, same_since}
 use Rattle.rowex_reading.proofs.Ways.{way_later}
-use Rattle.rowex_writing.specs.Attempts.{HasAttempted}
-use Rattle.rowex_writing.specs.Changes.{IsPlanned}
-use Rattle.rowex_writing.specs.Counts.{most_steps}
-use Rattle.rowex_writing.specs.Plans.{LiesOnWay}
-use Rattle.rowex_writing.proofs.Attempting.{Begun, aimless_looked, answered_change, answered_leafless, answered_look, begun_on, found_later, leafless, looked, looked_few, plan_made, removal_takes, removes_aim, searched, planned_again, full_of_new, tried_few}
-use Rattle.rowex_writing.proofs.Attempted.{attempted, searched_few, tried_after}
-use Rattle.rowex_writing.proofs.Onward.{reads_run}
-use Rattle.rowex_writing.proofs.Runs.{none_once, run_loaded, run_none}
-use Rattle.rowex_writing.proofs.Works.{no_change_made_later}
+use Rattle.rowex_writing.specs.attempts.Attempts.{HasAttempted}
+use Rattle.rowex_writing.specs.plan.Planned.{IsPlanned}
+use Rattle.rowex_writing.specs.plan.Counts.{most_steps}
+use Rattle.rowex_writing.specs.plan.Plans.{LiesOnWay}
+use Rattle.rowex_writing.proofs.attempts.Attempts.{Begun, aimless_looked, answered_change, answered_leafless, answered_look, begun_on, found_later, leafless, looked, looked_few, plan_made, removal_takes, removes_aim, searched, planned_again, full_of_new, tried_few}
+use Rattle.rowex_writing.proofs.attempts.Attempted.{attempted, searched_few, tried_after}
+use Rattle.rowex_writing.proofs.locks.Onward.{reads_run}
+use Rattle.rowex_writing.proofs.locks.Runs.{none_once, run_loaded, run_none}
+use Rattle.rowex_writing.proofs.locks.Locks.{no_change_made_later}
 use Rattle.rowex_writing.proofs.attempts.attempt.Given as given
 use Rattle.rowex_writing.proofs.attempts.attempt.Goals as goal
 use Rattle.rowex_writing.proofs.attempts.attempt.Goals.{After-find_plan, After-try_plan, In-Change}
-use Rattle.rowex_writing.specs.Asking.{aim_of, value_in}
+use Rattle.rowex_writing.specs.plan.Asking.{aim_of, value_in}
 use Rattle.rowex_writing.specs.declared.attempts.TryFault.TheVariants.{FullNodes}
 use Rattle.rowex_writing.specs.declared.plan.Plan.TheVariants.{Change}
 use Rattle.rowex_reading.proofs.Seeing.{later_trans}

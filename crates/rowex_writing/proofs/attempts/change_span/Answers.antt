@@ -1,20 +1,21 @@
 -- A new value, a removal, or what the deed has made is published; or all is given back.
-use Rattle.rowex_writing.proofs.Spare.{goes_spare, works_spare}
+use Rattle.rowex_writing.proofs.build.Spare.{goes_spare, works_spare}
 use Rattle.std.proofs.Common.{inl, inr, sym, ap, subst, arith, ◌≡◌, ◌∙◌, Err}
-use Rattle.rowex_writing.specs.Attempts.{HasDoneDeed}
-use Rattle.rowex_writing.specs.Changes.{HasTakenPlan}
-use Rattle.rowex_writing.specs.Counts.{held_loads}
-use Rattle.rowex_writing.specs.Locks.{span_numbers}
-use Rattle.rowex_writing.specs.Merging.{ChangesOn}
-use Rattle.rowex_writing.specs.Plans.{TakesLeaf}
-use Rattle.rowex_writing.proofs.Attempting.{loads_spared, leaves_refused, nodes_refused}
-use Rattle.rowex_writing.proofs.Growths.{no_room}
-use Rattle.rowex_writing.proofs.Keeping.{changed_since}
-use Rattle.rowex_writing.proofs.Merged.{holds_on, is_taking}
-use Rattle.rowex_writing.proofs.Removing.{take_above}
-use Rattle.rowex_writing.proofs.Runs.{goes_run, runs_trans, works_run}
-use Rattle.rowex_writing.proofs.Named.{loaded_on}
-use Rattle.rowex_writing.proofs.Valued.{full_failed, held_few}
+use Rattle.rowex_writing.specs.store.Values.{HasDoneDeed}
+use Rattle.rowex_writing.specs.locks.Checks.{HasTakenPlan}
+use Rattle.rowex_writing.specs.plan.Counts.{held_loads}
+use Rattle.rowex_writing.specs.locks.Locks.{span_numbers}
+use Rattle.rowex_writing.specs.merging.Merging.{ChangesOn}
+use Rattle.rowex_writing.specs.plan.Plans.{TakesLeaf}
+use Rattle.rowex_writing.proofs.attempts.Attempts.{loads_spared, leaves_refused, nodes_refused}
+use Rattle.rowex_writing.proofs.build.Growths.{no_room}
+use Rattle.rowex_writing.proofs.build.Changes.{changed_since}
+use Rattle.rowex_writing.proofs.merging.Merging.{holds_on, is_taking}
+use Rattle.rowex_writing.proofs.build.TakingUnderLocks.{take_above}
+use Rattle.rowex_writing.proofs.locks.Runs.{goes_run, runs_trans, works_run}
+use Rattle.rowex_writing.proofs.attempts.Named.{loaded_on}
+use Rattle.rowex_writing.proofs.store.Values.{held_few}
+use Rattle.rowex_writing.proofs.attempts.Attempted.{full_failed}
 use Rattle.rowex_writing.proofs.attempts.change_span.Goals as goal
 use Rattle.rowex_writing.specs.declared.attempts.TryFault.TheVariants.{FullLeaves, FullNodes}
 use Rattle.rowex_writing.specs.declared.plan.Deed.TheVariants.{Take, Value}

@@ -2,19 +2,20 @@
 use Rattle.std.proofs.Common.{◌+◌, ◌*◌, arith, subst, sym}
 use Rattle.record_words.specs.declared.TheConstants.{NODE_FIELDS}
 use Rattle.rowex_reading.proofs.Seeing.{later_trans}
-use Rattle.rowex_writing.specs.Changes.{IsTakeChange}
-use Rattle.rowex_writing.specs.Locks.{span_numbers}
-use Rattle.rowex_writing.specs.Merging.{HasClaimed, IsLeftOfNode}
-use Rattle.rowex_writing.specs.Spare.{by_gone}
-use Rattle.rowex_writing.specs.declared.job.Left.{Left}
-use Rattle.rowex_writing.proofs.Beside.{takes_on}
-use Rattle.rowex_writing.proofs.Keeping.{changed_since}
-use Rattle.rowex_writing.proofs.Leaving.{claimed_same, left_on, still_holds, still_later, still_on, still_taking}
-use Rattle.rowex_writing.proofs.Named.{loaded_on}
-use Rattle.rowex_writing.proofs.Runs.{goes_run, runs_trans}
-use Rattle.rowex_writing.proofs.Spare.{goes_spare, gone_node}
-use Rattle.rowex_writing.proofs.Valued.{busy_since, held_few}
-use Rattle.rowex_writing.proofs.Wider.{few_before, few_none, few_then}
+use Rattle.rowex_writing.specs.build.Changes.{IsTakeChange}
+use Rattle.rowex_writing.specs.locks.Locks.{span_numbers}
+use Rattle.rowex_writing.specs.build.Taking.{HasClaimed, IsLeftOfNode}
+use Rattle.rowex_writing.specs.build.Spare.{by_gone}
+use Rattle.rowex_writing.specs.declared.plan.job.Left.{Left}
+use Rattle.rowex_writing.proofs.merging.Beside.{takes_on}
+use Rattle.rowex_writing.proofs.build.Changes.{changed_since}
+use Rattle.rowex_writing.proofs.merging.Leaving.{claimed_same, left_on, still_holds, still_later, still_on, still_taking}
+use Rattle.rowex_writing.proofs.attempts.Named.{loaded_on}
+use Rattle.rowex_writing.proofs.locks.Runs.{goes_run, runs_trans}
+use Rattle.rowex_writing.proofs.build.Spare.{goes_spare, gone_node}
+use Rattle.rowex_writing.proofs.store.Values.{held_few}
+use Rattle.rowex_writing.proofs.attempts.Attempted.{busy_since}
+use Rattle.rowex_writing.proofs.merging.WideningLocks.{few_before, few_none, few_then}
 use Rattle.rowex_writing.proofs.attempts.end_removal.Goals as goal
 
 -- ---- no merge is found

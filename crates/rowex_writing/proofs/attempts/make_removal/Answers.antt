@@ -7,27 +7,27 @@ use Rattle.version_laws.specs.Writer.{removed_change}
 use Rattle.record_words.specs.declared.TheConstants.{NODE_FIELDS}
 use Rattle.publish_laws.specs.Rises.{one}
 use Rattle.rowex_reading.proofs.Seeing.{later_trans}
-use Rattle.rowex_writing.specs.Building.{IsBuilding}
-use Rattle.rowex_writing.specs.Changes.{IsTakeChange}
-use Rattle.rowex_writing.specs.Deeds.{MayReplace, leaf_gone}
-use Rattle.rowex_writing.specs.Locks.{span_numbers}
-use Rattle.rowex_writing.specs.Spare.{by_gone}
-use Rattle.rowex_writing.specs.declared.job.Raised.{Raised}
+use Rattle.rowex_writing.specs.build.Building.{IsBuilding}
+use Rattle.rowex_writing.specs.build.Changes.{IsTakeChange}
+use Rattle.rowex_writing.specs.build.Deeds.{MayReplace, leaf_gone}
+use Rattle.rowex_writing.specs.locks.Locks.{span_numbers}
+use Rattle.rowex_writing.specs.build.Spare.{by_gone}
+use Rattle.rowex_writing.specs.declared.plan.job.Raised.{Raised}
 use Rattle.rowex_writing.specs.declared.plan.Deed.TheVariants.{Take}
 use Rattle.rowex_writing.specs.declared.plan.Full.TheVariants.{Nodes}
-use Rattle.rowex_writing.proofs.Beside.{takes_on}
-use Rattle.rowex_writing.proofs.Growths.{full_since, no_room}
-use Rattle.rowex_writing.proofs.Keeping.{changed_since}
-use Rattle.rowex_writing.proofs.Leaving.{left_on, replaces_alone}
-use Rattle.rowex_writing.proofs.Locking.{goes_more, locked_on, seat_of}
-use Rattle.rowex_writing.proofs.Making.{building_none, goes_possible, steps_rise}
-use Rattle.rowex_writing.proofs.Merged.{entry_height, holds_on, is_taking, takes_taken, word_of}
-use Rattle.rowex_writing.proofs.Named.{loaded_on}
-use Rattle.rowex_writing.proofs.Removing.{low_step, lowest_leads, lowest_locked, taken_below}
-use Rattle.rowex_writing.proofs.Runs.{goes_run, works_run}
-use Rattle.rowex_writing.proofs.Spare.{goes_room, goes_spare, gone_node, works_spare}
-use Rattle.rowex_writing.proofs.Valued.{busy_leafless, busy_roomy, failed_before}
-use Rattle.rowex_writing.proofs.Wider.{few_none, removal_changes}
+use Rattle.rowex_writing.proofs.merging.Beside.{takes_on}
+use Rattle.rowex_writing.proofs.build.Growths.{full_since, no_room}
+use Rattle.rowex_writing.proofs.build.Changes.{changed_since}
+use Rattle.rowex_writing.proofs.merging.Leaving.{left_on}
+use Rattle.rowex_writing.proofs.locks.Going.{goes_more, locked_on, seat_of}
+use Rattle.rowex_writing.proofs.build.Building.{building_none, goes_possible, steps_rise}
+use Rattle.rowex_writing.proofs.merging.Merging.{entry_height, holds_on, is_taking, takes_taken}
+use Rattle.rowex_writing.proofs.attempts.Named.{loaded_on}
+use Rattle.rowex_writing.proofs.build.TakingUnderLocks.{low_step, lowest_leads, lowest_locked, taken_below, word_of, replaces_alone}
+use Rattle.rowex_writing.proofs.locks.Runs.{goes_run, works_run}
+use Rattle.rowex_writing.proofs.build.Spare.{goes_room, goes_spare, gone_node, works_spare}
+use Rattle.rowex_writing.proofs.attempts.Attempted.{busy_leafless, busy_roomy, failed_before}
+use Rattle.rowex_writing.proofs.merging.WideningLocks.{few_none, removal_changes}
 use Rattle.rowex_writing.proofs.attempts.make_removal.Given as given
 use Rattle.rowex_writing.proofs.attempts.make_removal.Goals as goal
 use Rattle.rowex_writing.proofs.attempts.make_removal.Goals.{After-put_in_place}

@@ -1,14 +1,14 @@
 -- The value is as it was found, and the change is published; or all is given back.
-use Rattle.rowex_writing.specs.Spare.{by_gone}
-use Rattle.rowex_writing.proofs.Spare.{goes_spare, gone_node, works_spare}
+use Rattle.rowex_writing.specs.build.Spare.{by_gone}
+use Rattle.rowex_writing.proofs.build.Spare.{goes_spare, gone_node, works_spare}
 use Rattle.std.proofs.Common.{refl, arith}
 use Rattle.rowex_reading.proofs.Seeing.{later_trans}
-use Rattle.rowex_writing.proofs.Keeping.{changed_since}
-use Rattle.rowex_writing.proofs.Making.{building_on}
-use Rattle.rowex_writing.proofs.Merged.{replace_later}
-use Rattle.rowex_writing.proofs.Runs.{goes_run, runs_trans, works_run}
-use Rattle.rowex_writing.proofs.Valued.{front_grown, holds_reads, replaced_made}
-use Rattle.rowex_writing.proofs.Works.{works_later}
+use Rattle.rowex_writing.proofs.build.Changes.{changed_since}
+use Rattle.rowex_writing.proofs.build.Building.{building_on}
+use Rattle.rowex_writing.proofs.build.DeedRecords.{replace_later}
+use Rattle.rowex_writing.proofs.locks.Runs.{goes_run, runs_trans, works_run}
+use Rattle.rowex_writing.proofs.store.Values.{front_grown, holds_reads, replaced_made}
+use Rattle.rowex_writing.proofs.locks.Locks.{works_later}
 use Rattle.rowex_writing.proofs.attempts.publish_or_undo.Goals as goal
 
 pub undo_change-requires : goal.undo_change-requires

@@ -1,26 +1,28 @@
 -- A refusal, or the change.
-use Rattle.rowex_writing.proofs.Spare.{goes_room, goes_spare, works_spare}
+use Rattle.rowex_writing.proofs.build.Spare.{goes_room, goes_spare, works_spare}
 use Rattle.std.proofs.Common.{◌≡◌, inl, inr, ap, refl, sym, subst, ◌∙◌, arith, Err, [], IsSome, length}
 use Rattle.rowex_core.specs.declared.known.Fresh.{Fresh}
 use Rattle.rowex_reading.specs.Ways.{IsFoundAt, value_of}
 use Rattle.rowex_reading.proofs.Seeing.{later_trans}
-use Rattle.rowex_writing.specs.Asking.{value_in}
-use Rattle.rowex_writing.specs.Changes.{HasTakenSpan, IsDeedChange, IsPlanned}
-use Rattle.rowex_writing.proofs.Attempted.{ended_run}
-use Rattle.rowex_writing.proofs.Attempting.{one_lock, planned_again, planned_later, refused_busy, refused_failed, failed_later}
-use Rattle.rowex_writing.proofs.Keeping.{changed_since, made_held}
-use Rattle.rowex_writing.proofs.Runs.{goes_run, run_loaded, runs_trans, works_fresh, works_run}
-use Rattle.rowex_writing.proofs.Valued.{ends_after, held_again, held_few, holds_reads, holds_taken, taken_again}
-use Rattle.rowex_writing.proofs.Works.{works_later}
+use Rattle.rowex_writing.specs.plan.Asking.{value_in}
+use Rattle.rowex_writing.specs.build.Changes.{IsDeedChange}
+use Rattle.rowex_writing.specs.locks.Checks.{HasTakenSpan}
+use Rattle.rowex_writing.specs.plan.Planned.{IsPlanned}
+use Rattle.rowex_writing.proofs.attempts.Attempted.{ended_run, ends_after}
+use Rattle.rowex_writing.proofs.attempts.Attempts.{one_lock, planned_again, planned_later, refused_busy, refused_failed, failed_later}
+use Rattle.rowex_writing.proofs.build.Changes.{changed_since, made_held}
+use Rattle.rowex_writing.proofs.locks.Runs.{goes_run, run_loaded, runs_trans, works_fresh, works_run}
+use Rattle.rowex_writing.proofs.store.Values.{held_again, held_few, holds_reads, holds_taken, taken_again}
+use Rattle.rowex_writing.proofs.locks.Locks.{works_later}
 use Rattle.rowex_writing.proofs.attempts.try_plan.Given as given
 use Rattle.rowex_writing.proofs.attempts.try_plan.Goals as goal
 use Rattle.rowex_writing.proofs.attempts.try_plan.Goals.{In-Some}
-use Rattle.rowex_writing.specs.Counts.{held_loads}
-use Rattle.rowex_writing.specs.Plans.{change}
-use Rattle.rowex_writing.specs.declared.job.Job.{Job}
+use Rattle.rowex_writing.specs.plan.Counts.{held_loads}
+use Rattle.rowex_writing.specs.plan.Plans.{change}
+use Rattle.rowex_writing.specs.declared.plan.job.Job.{Job}
 use Rattle.rowex_writing.specs.declared.attempts.TryFault.TheVariants.{FullLeaves, FullNodes}
-use Rattle.rowex_writing.proofs.Making.{building_none, goes_possible}
-use Rattle.rowex_writing.proofs.Named.{found_again, found_other}
+use Rattle.rowex_writing.proofs.build.Building.{building_none, goes_possible}
+use Rattle.rowex_writing.proofs.attempts.Named.{found_again, found_other}
 
 -- ---- another pass is at work there
 pub returns-then-not-lock_and_check_span-clause-refused : goal.returns-then-not-lock_and_check_span-clause-refused

@@ -1,8 +1,8 @@
 -- The records that were made are those that the pass has.
 use Rattle.std.proofs.Common.{ap, arith, length, subst, sym}
 use Rattle.rowex_records.specs.Records.{HoldsJust}
-use Rattle.rowex_writing.specs.Retiring.{AreInTable}
-use Rattle.rowex_writing.proofs.Keeping.{made_held, made_records}
+use Rattle.rowex_writing.specs.build.Putting.{AreInTable}
+use Rattle.rowex_writing.proofs.build.Changes.{made_held, made_records}
 use Rattle.rowex_writing.proofs.attempts.undo_change.Goals as goal
 
 pub release_records_and_locks-requires-clause-records : goal.release_records_and_locks-requires-clause-records

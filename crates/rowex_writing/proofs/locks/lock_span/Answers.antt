@@ -3,12 +3,11 @@ use Rattle.std.proofs.Common.{ℕ, ◌≡◌, ◌∷◌, ◌+◌, ◌-◌, ◌<�
 use Rattle.std.specs.Prelude.{slice_range}
 use Rattle.insert_cases.specs.declared.choice.PathNode.{PathNode}
 use Rattle.publish_laws.proofs.Acting.{led_may_lock}
-use Rattle.rowex_writing.specs.Locks.{HasJustLocked, HasNotLocked, TriesNodes, numbers_of}
+use Rattle.rowex_writing.specs.locks.Locks.{HasJustLocked, HasNotLocked, TriesNodes, numbers_of}
 use Rattle.versions.specs.Trades.{IsOneOf}
-use Rattle.rowex_writing.proofs.Counting.{numbers_few, slice_few}
-use Rattle.rowex_writing.proofs.Tried.{anchor_more, nodes_more, nodes_none, nodes_once, number_new, once_then}
-use Rattle.rowex_writing.proofs.Works.{works_seat, works_later, works_count, no_change_made_later}
-use Rattle.rowex_writing.proofs.Spans.{slice_more, slice_none, none_taken, locked_more, locked_same, led_at, led_nodes, met_since, not_locked}
+use Rattle.rowex_writing.proofs.locks.Tried.{anchor_more, nodes_more, nodes_none, nodes_once, number_new, once_then}
+use Rattle.rowex_writing.proofs.locks.Locks.{works_seat, works_later, works_count, no_change_made_later}
+use Rattle.rowex_writing.proofs.locks.Spans.{slice_more, slice_none, none_taken, locked_more, locked_same, led_at, led_nodes, met_since, not_locked, numbers_few, slice_few}
 use Rattle.rowex_writing.proofs.locks.lock_span.Goals as goal
 
 not_taken : {A : Type 0} → false ≡ true → A

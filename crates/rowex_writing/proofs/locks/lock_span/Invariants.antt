@@ -2,7 +2,7 @@
 use Rattle.std.proofs.Common.{◌-◌, ◌≡◌, ◌≤◌, None, ◌+◌}
 use Rattle.std.specs.Prelude.{slice_range}
 use Rattle.rowex_table.specs.Seats.{IsSeatOf}
-use Rattle.rowex_writing.specs.Locks.{HasJustLocked, TriesNodes, numbers_of}
+use Rattle.rowex_writing.specs.locks.Locks.{HasJustLocked, TriesNodes, numbers_of}
 use Rattle.rowex_writing.proofs.locks.lock_span.Given as goal
 
 abbrev pub invariant-loop-index : goal.invariant-loop-index

@@ -3,8 +3,8 @@ use Rattle.std.proofs.Common.{inl, refl, ◌∙◌, arith}
 use Rattle.rowex_table.specs.Runs.{silent}
 use Rattle.rowex_table.proofs.ActsAfter.{unlocks_node, unlock_gives}
 use Rattle.rowex_table.proofs.ActsLeave.{act_leaves}
-use Rattle.rowex_writing.proofs.Works.{works_none, works_one, works_more, works_seat}
-use Rattle.rowex_writing.proofs.Spans.{first_locked, none_locked}
+use Rattle.rowex_writing.proofs.locks.Locks.{works_none, works_one, works_more, works_seat}
+use Rattle.rowex_writing.proofs.locks.Spans.{first_locked, none_locked}
 use Rattle.rowex_reading.proofs.Counting.{step_few}
 use Rattle.rowex_writing.proofs.locks.unlock_nodes.Goals as goal
 

@@ -3,13 +3,15 @@ use Rattle.std.proofs.Common.{◌∷◌, [], ◌++◌, ap, arith, length, refl, 
 use Rattle.compound_node.specs.declared.entries.Entry.TheVariants.{Node}
 use Rattle.record_words.specs.declared.records.Rec.TheVariants.{Node as a_node}
 use Rattle.publish_laws.specs.Rises.{made_of_node}
-use Rattle.rowex_writing.specs.Building.{IsBuilding}
-use Rattle.rowex_writing.specs.Merging.{ClosesFork, upper}
-use Rattle.rowex_writing.proofs.Beside.{upper_range}
-use Rattle.rowex_writing.proofs.Leaving.{claimed_again, claimed_filled, claimed_held, claimed_same}
-use Rattle.rowex_writing.proofs.Locking.{goes_more, seat_of}
-use Rattle.rowex_writing.proofs.Making.{goes_possible, set_all_on}
-use Rattle.rowex_writing.proofs.Merged.{beside_now, beside_on, closed_made, closes_for, may_merge_into, merged_for, wide_now, word_of}
+use Rattle.rowex_writing.specs.build.Building.{IsBuilding}
+use Rattle.rowex_writing.specs.merging.Merging.{ClosesFork}
+use Rattle.rowex_writing.specs.build.Taking.{upper}
+use Rattle.rowex_writing.proofs.merging.Beside.{upper_range}
+use Rattle.rowex_writing.proofs.merging.Leaving.{claimed_same}
+use Rattle.rowex_writing.proofs.locks.Going.{goes_more, seat_of}
+use Rattle.rowex_writing.proofs.build.Building.{goes_possible, set_all_on}
+use Rattle.rowex_writing.proofs.merging.Merging.{beside_now, beside_on, closed_made, closes_for, may_merge_into, merged_for, wide_now}
+use Rattle.rowex_writing.proofs.build.TakingUnderLocks.{word_of, claimed_again, claimed_filled, claimed_held}
 use Rattle.rowex_writing.proofs.merging.make_merge_records.Goals as goal
 
 pub fill_node-requires-clause-own : goal.fill_node-requires-clause-own

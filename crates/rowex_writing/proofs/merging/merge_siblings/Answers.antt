@@ -4,10 +4,10 @@ use Rattle.compound_node.specs.Nodes.{IsBuiltFrom, piece}
 use Rattle.node_tries.specs.Piece.{RisesFrom}
 use Rattle.tries.specs.Keys.{bit}
 use Rattle.tries.specs.Place.{fork_of}
-use Rattle.rowex_writing.specs.Going.{HasLocked, IsNodeOf}
-use Rattle.rowex_writing.specs.Merging.{lower}
-use Rattle.rowex_writing.proofs.Leaving.{left_built, lower_node}
-use Rattle.rowex_writing.proofs.Merged.{joined_rises, other_wide, same_words, shown_merged, too_many}
+use Rattle.rowex_writing.specs.locks.Going.{HasLocked, IsNodeOf}
+use Rattle.rowex_writing.specs.build.Taking.{lower}
+use Rattle.rowex_writing.proofs.merging.Leaving.{left_built, lower_node}
+use Rattle.rowex_writing.proofs.merging.Merging.{joined_rises, other_wide, same_words, shown_merged, too_many}
 use Rattle.rowex_writing.proofs.merging.merge_siblings.Goals as goal
 
 pub read_locked_node-other-requires-clause-own : goal.read_locked_node-other-requires-clause-own

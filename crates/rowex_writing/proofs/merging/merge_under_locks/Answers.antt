@@ -1,14 +1,14 @@
 -- The store, or the wider locks are given back.
-use Rattle.rowex_writing.proofs.Spare.{goes_spare}
+use Rattle.rowex_writing.proofs.build.Spare.{goes_spare}
 use Rattle.std.proofs.Common.{refl, sym, subst}
 use Rattle.rowex_reading.proofs.Seeing.{later_trans}
-use Rattle.rowex_writing.specs.Changes.{IsDeedChange}
-use Rattle.rowex_writing.specs.Merging.{MayMergeInto}
+use Rattle.rowex_writing.specs.build.Changes.{IsDeedChange}
+use Rattle.rowex_writing.specs.merging.Merging.{MayMergeInto}
 use Rattle.rowex_writing.specs.declared.plan.Deed.TheVariants.{Take}
-use Rattle.rowex_writing.proofs.Keeping.{changed_since}
-use Rattle.rowex_writing.proofs.Leaving.{claimed_same}
-use Rattle.rowex_writing.proofs.Merged.{wide_on}
-use Rattle.rowex_writing.proofs.Runs.{goes_run, runs_trans}
+use Rattle.rowex_writing.proofs.build.Changes.{changed_since}
+use Rattle.rowex_writing.proofs.merging.Leaving.{claimed_same}
+use Rattle.rowex_writing.proofs.merging.Merging.{wide_on}
+use Rattle.rowex_writing.proofs.locks.Runs.{goes_run, runs_trans}
 use Rattle.rowex_writing.proofs.merging.merge_under_locks.Goals as goal
 
 pub publish_merge-requires : goal.publish_merge-requires

@@ -1,22 +1,22 @@
 -- The node beside, the wider locks, and the store under them.
-use Rattle.rowex_writing.proofs.Spare.{goes_spare}
+use Rattle.rowex_writing.proofs.build.Spare.{goes_spare}
 use Rattle.std.proofs.Common.{sym, ◌∙◌, subst, arith}
 use Rattle.rowex_reading.proofs.Seeing.{later_trans}
-use Rattle.rowex_writing.specs.Changes.{IsDeedChange}
-use Rattle.rowex_writing.specs.Locks.{span_numbers}
-use Rattle.rowex_writing.specs.Merging.{TriesMore}
+use Rattle.rowex_writing.specs.build.Changes.{IsDeedChange}
+use Rattle.rowex_writing.specs.locks.Locks.{span_numbers}
+use Rattle.rowex_writing.specs.merging.Merging.{TriesMore}
 use Rattle.rowex_writing.specs.declared.plan.Deed.TheVariants.{Take}
-use Rattle.rowex_writing.proofs.Keeping.{changed_since}
-use Rattle.rowex_writing.proofs.Leaving.{claimed_same, left_on, left_wider}
-use Rattle.rowex_writing.proofs.Merged.{beside_wider, beside_on, way_wide, wide_on}
-use Rattle.rowex_writing.proofs.Onward.{run_possible, run_seat}
-use Rattle.rowex_writing.proofs.Runs.{goes_run, run_none, runs_trans}
-use Rattle.rowex_writing.proofs.Wider.{few_both, few_more}
+use Rattle.rowex_writing.proofs.build.Changes.{changed_since}
+use Rattle.rowex_writing.proofs.merging.Leaving.{claimed_same, left_on, left_wider}
+use Rattle.rowex_writing.proofs.merging.Merging.{beside_wider, beside_on, way_wide, wide_on}
+use Rattle.rowex_writing.proofs.locks.Onward.{run_possible, run_seat}
+use Rattle.rowex_writing.proofs.locks.Runs.{goes_run, run_none, runs_trans}
+use Rattle.rowex_writing.proofs.merging.WideningLocks.{few_both, few_more}
 use Rattle.rowex_writing.proofs.merging.try_merge.Goals as goal
 use Rattle.rowex_reading.specs.Ways.{IsWayOf}
-use Rattle.rowex_writing.proofs.Locking.{seat_of}
-use Rattle.rowex_writing.proofs.Making.{goes_possible}
-use Rattle.rowex_writing.proofs.Valued.{held_few}
+use Rattle.rowex_writing.proofs.locks.Going.{seat_of}
+use Rattle.rowex_writing.proofs.build.Building.{goes_possible}
+use Rattle.rowex_writing.proofs.store.Values.{held_few}
 
 pub returns-then-not-lock_for_merge-clause-tries : goal.returns-then-not-lock_for_merge-clause-tries
 returns-then-not-lock_for_merge-clause-tries g c =

@@ -4,8 +4,8 @@ use Rattle.std.proofs.lemmas.Option.{slice_get-get_or}
 use Rattle.rowex_reading.proofs.Counting.{reads_count}
 use Rattle.rowex_reading.proofs.Led.{reader_then, reads_later, reads_none}
 use Rattle.rowex_reading.proofs.Ways.{way_place}
-use Rattle.rowex_writing.proofs.Affecting.{known_planned, beside_planned}
-use Rattle.rowex_writing.proofs.Planning.{plan_within, beside_within}
+use Rattle.rowex_writing.proofs.plan.Planned.{known_planned, beside_planned}
+use Rattle.rowex_writing.proofs.plan.Plans.{plan_within, beside_within}
 use Rattle.rowex_writing.proofs.plan.find_plan.Goals as goal
 
 pub find_affected-first-requires-clause-place : goal.find_affected-first-requires-clause-place

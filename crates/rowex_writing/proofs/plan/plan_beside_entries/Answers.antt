@@ -1,6 +1,6 @@
 -- The chosen node is one of the way.
 use Rattle.std.proofs.Common.{rules}
-use Rattle.rowex_writing.proofs.Planning.{chosen_within}
+use Rattle.rowex_writing.proofs.plan.Plans.{chosen_within}
 use Rattle.rowex_writing.proofs.plan.plan_beside_entries.Goals as goal
 
 pub overflow_add-len : goal.overflow_add-len

@@ -3,7 +3,7 @@ use Rattle.std.proofs.Common.{◌≡◌, ◌+◌, ℕ, List, arith, get_or, leng
 use Rattle.std.proofs.lemmas.Option.{slice_get-get_or}
 use Rattle.std.specs.Prelude.{slice_get}
 use Rattle.insert_cases.specs.declared.choice.PathNode.{PathNode}
-use Rattle.rowex_writing.proofs.Planning.{low_full, low_room}
+use Rattle.rowex_writing.proofs.plan.Plans.{low_full, low_room}
 use Rattle.rowex_writing.proofs.plan.plan_in_lowest_node.Goals as goal
 
 no_step : PathNode

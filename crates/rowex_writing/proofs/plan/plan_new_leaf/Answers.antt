@@ -1,5 +1,5 @@
 -- The plan of the last node with leaves alone is that of the new leaf.
-use Rattle.rowex_writing.proofs.Planning.{new_leaf_at}
+use Rattle.rowex_writing.proofs.plan.Plans.{new_leaf_at}
 use Rattle.rowex_writing.proofs.plan.plan_new_leaf.Goals as goal
 
 pub returns-then-way-level-le1 : goal.returns-then-way-level-le1

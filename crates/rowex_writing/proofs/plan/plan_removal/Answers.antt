@@ -1,6 +1,6 @@
 -- The deed is that of a way with so many nodes.
 use Rattle.std.proofs.Common.{◌≡◌, ◌<◌, arith, length}
-use Rattle.rowex_writing.proofs.Planning.{taking_below, taking_none, taking_top}
+use Rattle.rowex_writing.proofs.plan.Plans.{taking_below, taking_none, taking_top}
 use Rattle.rowex_writing.proofs.plan.plan_removal.Goals as goal
 
 pub returns-then-len-eq0 : goal.returns-then-len-eq0

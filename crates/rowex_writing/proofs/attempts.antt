@@ -1,0 +1,4 @@
+-- One attempt, from its search to its end.
+pub mod Attempts
+pub mod Attempted
+pub mod Named

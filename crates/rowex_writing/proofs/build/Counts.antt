@@ -1,0 +1,61 @@
+-- How long parts of a list are, how many steps claims make, and how many node records are made.
+use Rattle.std.proofs.Common.{◌≡◌, ℕ, zero, suc, ◌+◌, ◌*◌, ◌≤◌, List, [], ◌∷◌, ◌++◌, length, Err, Ok, Result, refl, ap, arith}
+use Rattle.std.specs.Prelude.{Contains}
+use Rattle.record_words.specs.declared.records.Rec.{Rec}
+use Rattle.record_words.specs.declared.records.Rec.TheVariants.{Node as a_node, Leaf as a_leaf}
+use Rattle.record_words.specs.declared.layout.Layout.{Layout}
+use Rattle.tries.specs.Content.{Item}
+use Rattle.rowex_core.specs.declared.event.Act.TheVariants.{Claim, LoadState}
+use Rattle.rowex_core.specs.declared.event.Event.{Event}
+use Rattle.rowex_table.specs.Made.{Made}
+use Rattle.rowex_table.specs.Seats.{TableView, SeatView}
+use Rattle.rowex_records.specs.Claims.{Claims, FindsFree, FindsNone}
+use Rattle.rowex_reading.proofs.Counting.{runs_count}
+use Rattle.rowex_writing.specs.build.Building.{HasLeafMade, IsBuilding}
+use Rattle.rowex_writing.specs.plan.Counts.{deed_steps, leaf_steps, levels_steps}
+use Rattle.rowex_writing.specs.build.Walks.{nodes_among}
+
+-- ---- parts of a list
+-- one record is made
+pub made_one : {table : TableView} {a : SeatView} {made : List Rec} {m : Made} → IsBuilding table a made (m ∷ []) → length made ≡ 1
+made_one b = ap length b.listed
+
+module _ {G : Type 0} (table : TableView) (becomes : G → Event → G → Type 0) where
+  pub none_count : (kind : ℕ → Rec) (n from m : ℕ) (a b : SeatView × G) → FindsNone table becomes kind n from m a b → b.0.known.steps ≤ a.0.known.steps + 2 * m
+  none_count kind n from m a b f = let z = runs_count table becomes f.tries a b f.does.steps in omega (arith, z, f.few)
+
+  pub claims_count : (kind : ℕ → Rec) (n from number : ℕ) (a b : SeatView × G) (c : Claims table becomes kind n from number a b) → b.0.known.steps ≤ a.0.known.steps + 2 * (c.tried + 1)
+  claims_count kind n from number a b c =
+      let before = none_count kind n from c.tried a c.before c.none in
+      let one = runs_count table becomes (LoadState (kind number) 0 ∷ Claim (kind number) 0 ∷ []) c.before b c.one.does.steps in
+      omega (arith, before, one)
+
+  pub free_count : (kind : ℕ → Rec) (n from m number : ℕ) (a b : SeatView × G) → FindsFree table becomes kind n from m number a b → b.0.known.steps ≤ a.0.known.steps + 2 * m
+  free_count kind n from m number a b f =
+      let before = none_count kind n from f.tried a f.before f.none in
+      let one = runs_count table becomes (LoadState (kind number) 0 ∷ []) f.before b (b, f.free, refl) in
+      omega (arith, before, one, f.low)
+
+-- ---- node records among those that are made
+-- where a leaf alone is made, none is
+pub no_nodes : {table : TableView} {a : SeatView} {made : List Rec} {x : Item} → HasLeafMade table a made x → length (nodes_among made) ≡ 0
+no_nodes leaf = ap (λ made. length (nodes_among made)) leaf.building.listed
+
+-- one node record more is one more
+pub nodes_pushed : (made : List Rec) (n : ℕ) → length (nodes_among (made ++ a_node n ∷ [])) ≡ length (nodes_among made) + 1
+nodes_pushed [] n = refl
+nodes_pushed (a_node m ∷ made) n = let rest = nodes_pushed made n in omega arith
+nodes_pushed (a_leaf m ∷ made) n = nodes_pushed made n
+
+-- a node's is one of them
+pub among_nodes : (made : List Rec) (n : ℕ) → Contains made (a_node n) → Contains (nodes_among made) (a_node n)
+among_nodes [] n (i, low, is) = absurd (omega arith)
+among_nodes (a_node m ∷ made) n (zero, low, is) = (0, omega arith, is)
+among_nodes (a_node m ∷ made) n (suc i, low, is) = let (at, within, same) = among_nodes made n (i, omega arith, is) in (suc at, omega arith, same)
+among_nodes (a_leaf m ∷ made) n (zero, low, is) = absurd cc
+among_nodes (a_leaf m ∷ made) n (suc i, low, is) = among_nodes made n (i, omega arith, is)
+
+-- a deed takes these steps at least, with or without a record
+pub deed_least : {X E : Type 0} (layout : Layout) (locks : ℕ) (r : Result X E) → leaf_steps layout + levels_steps layout locks ≤ deed_steps layout locks r
+deed_least layout locks (Ok made) = omega arith
+deed_least layout locks (Err full) = omega arith

@@ -1,0 +1,56 @@
+-- The records that a pass holds, as if it had made them ready: then what has risen is the subtrie of a lawful tree.
+use Rattle.std.proofs.Common.{ℕ, List, [], ◌∷◌, ◌++◌, refl}
+use Rattle.record_words.specs.declared.layout.Layout.{Layout}
+use Rattle.tries.specs.Tree.{Subtrie}
+use Rattle.versions.specs.Trades.{IsOneOf}
+use Rattle.version_laws.specs.Rise.{Side}
+use Rattle.version_laws.specs.Writer.{Newcomer}
+use Rattle.rowex_core.specs.declared.event.Act.TheVariants.{Ready}
+use Rattle.rowex_core.specs.declared.known.Known.{Known}
+use Rattle.rowex_core.specs.Cores.{Core}
+use Rattle.rowex_core.specs.Knowing.{IsEvent, learned}
+use Rattle.record_words.specs.declared.records.Rec.{Rec}
+use Rattle.rowex_table.specs.Made.{Made, HoldsMade, HasReadied}
+use Rattle.rowex_table.specs.Runs.{silent}
+use Rattle.publish_laws.specs.Loops.{ReadiesEach}
+use Rattle.publish_laws.specs.Stages.{IsStage, HasLeaf, HasRisen}
+use Rattle.publish_laws.proofs.Bounding.{number_of, tree_risen}
+use Rattle.publish_laws.proofs.Loops.{holds_rights, ready_next, readies_all}
+use Rattle.publish_laws.proofs.Rising.{stage_earlier}
+use Rattle.publish_laws.proofs.Stages.{stage_of}
+use Rattle.rowex_reading.specs.Possible.{IsPossible}
+use Rattle.rowex_reading.proofs.Later.{event_possible}
+use Rattle.rowex_writing.specs.build.Building.{AreMadePacked}
+use Rattle.rowex_writing.specs.build.Remaking.{IsSubtrieOfTree}
+
+module _ (layout : Layout) where
+  -- all of them, one after the other
+  readied : (done todo : List Made) (k : Known) → IsPossible layout k → HasReadied k done todo → AreMadePacked layout todo → (j : Known) × ReadiesEach layout todo k j × IsPossible layout j
+  readied done [] k possible has packed = (k, refl, possible)
+  readied done (m ∷ todo) k possible has packed =
+      let next : Known = record (learned possible.core (Ready m.rec) k) { notes = k.notes ++ [] } in
+      let e : IsEvent layout (Ready m.rec) silent k next = record {
+        core = possible.core;
+        lawful = possible.lawful;
+        layout_is = possible.layout_is;
+        knows = possible.knows;
+        legal = (holds_rights layout k done todo m has).1 packed.0.0 packed.0.1 possible.core possible.lawful possible.layout_is possible.knows;
+        learned_is = refl;
+      } in
+      let (j, rest, last) = readied (done ++ m ∷ []) todo next (event_possible e) (ready_next layout done m todo k next has e) packed.1 in
+      (j, (next, e, rest), last)
+
+  -- some stage of them
+  pub stage_of_held : (k : Known) (news : List Made) → IsPossible layout k → HoldsMade k news → AreMadePacked layout news → (c : Core) × IsStage layout k k.locks news c
+  stage_of_held k news possible holds packed =
+      let (j, readies, last) = readied [] news k possible holds packed in
+      let (own, stays) = readies_all layout k j news holds readies in
+      let stage : IsStage layout j k.locks news last.core = stage_of layout j k.locks news (record { locks = stays.1; own = own }) last.core last.lawful last.layout_is last.knows in
+      (last.core, stage_earlier layout k j stays.0 k.locks news last.core stage)
+
+  -- so what has risen is the subtrie of a lawful tree
+  pub risen_subtrie : (k : Known) (news : List Made) (gone : List Rec) (x : Newcomer) (d : Side) (words : List ℕ) (r : Subtrie) → IsPossible layout k → HoldsMade k news → AreMadePacked layout news →
+      HasLeaf news x.item → IsOneOf (record { node = number_of d; words = words }) k.locks → HasRisen layout k k.locks news x d r gone → IsSubtrieOfTree r
+  risen_subtrie k news gone x d words r possible holds packed leaf at risen =
+      let (c, stage) = stage_of_held k news possible holds packed in
+      tree_risen layout k k.locks news c stage x d words leaf at r (risen c stage).0

@@ -1,0 +1,336 @@
+-- The walk of a change over the records of a kind: how it begins, goes on and ends.
+use Rattle.std.proofs.Common.{◌≡◌, ◌⊎◌, inl, inr, ℕ, suc, ◌+◌, ◌-◌, ◌<◌, ◌≤◌, List, [], ◌∷◌, ◌++◌, Bool, true, false, nat_lt, Option, length, get_or, if◌then◌else◌, refl, sym, ap, subst, ◌∙◌, arith, Some, None}
+use Rattle.std.specs.Prelude.{Contains, map}
+use Rattle.std.proofs.lemmas.Bool.{ltb-true, ltb-false, lt-ltb, le-ltb}
+use Rattle.std.proofs.lemmas.List.{get_or_default}
+use Rattle.std.proofs.lemmas.List.Elements.{Contains-append_left, Contains-push}
+use Rattle.record_words.specs.declared.layout.Layout.{Layout}
+use Rattle.record_words.specs.declared.records.Rec.{Rec}
+use Rattle.record_words.specs.declared.records.Rec.TheVariants.{Node as a_node}
+use Rattle.rowex_core.specs.declared.event.Act.TheVariants.{LoadState}
+use Rattle.rowex_core.specs.declared.event.Event.{Event}
+use Rattle.rowex_core.specs.declared.known.Failed.{Failed}
+use Rattle.rowex_core.specs.declared.known.Known.{Known}
+use Rattle.rowex_core.specs.declared.known.Locked.{Locked}
+use Rattle.rowex_core.specs.declared.known.Owned.{Owned}
+use Rattle.rowex_core.specs.declared.known.Holding.TheVariants.{Held}
+use Rattle.rowex_core.specs.Cores.{HasRecord}
+use Rattle.rowex_table.specs.Made.{Made, nodes_of}
+use Rattle.rowex_table.specs.Rights.{IsClaimed}
+use Rattle.rowex_table.specs.Runs.{Steps}
+use Rattle.rowex_table.specs.Seats.{TableView, SeatView}
+use Rattle.rowex_table.proofs.Running.{does_count}
+use Rattle.rowex_records.specs.Claims.{AllMissed, Claims, FindsNone, HasMissedSince, IsAnothers, IsAnothersBut, IsAnothersTo, MissesOne, begin_of, claiming, records_had, wrapped}
+use Rattle.rowex_records.proofs.Claimed.{anothers_among, anothers_before, held_misses, missed_among, missed_earlier, missed_so, turned_to}
+use Rattle.rowex_records.proofs.Making.{looks_one}
+use Rattle.rowex_writing.specs.declared.build.kept.Build.{Build}
+use Rattle.rowex_writing.specs.build.Building.{IsBuilding}
+use Rattle.rowex_writing.specs.locks.Going.{WorksOn}
+use Rattle.rowex_writing.specs.build.Walks.{HasNoOther, HasWalked, IsClaimWalk, Makes}
+use Rattle.rowex_writing.proofs.build.Changes.{made_alone, made_held, made_records, run_failed}
+use Rattle.rowex_writing.proofs.locks.Going.{goes_more, goes_none}
+use Rattle.rowex_writing.proofs.build.Building.{miss_on, steps_rise}
+
+-- ---- numbers in turn
+by_order : (n x : ℕ) (P : ℕ → Type 0) → (x < n → P x) → (n ≤ x → P (x - n)) → P (if nat_lt x n then x else x - n)
+by_order n x P below above = go (nat_lt x n) refl
+  where
+    go : (b : Bool) → nat_lt x n ≡ b → P (if b then x else x - n)
+    go true is = below (ltb-true x n is)
+    go false is = above (ltb-false x n is)
+
+low_is : (n x : ℕ) → x < n → (if nat_lt x n then x else x - n) ≡ x
+low_is n x low = let is : nat_lt x n ≡ true = lt-ltb x n low in rw is refl
+
+high_is : (n x : ℕ) → n ≤ x → (if nat_lt x n then x else x - n) ≡ x - n
+high_is n x high = let is : nat_lt x n ≡ false = le-ltb x n high in rw is refl
+
+-- some on from a number in turn
+wrapped_on : (n begin t m : ℕ) → begin < n → t < n → t + m ≤ n → wrapped n (wrapped n begin t) m ≡ wrapped n begin (t + m)
+wrapped_on n begin t m low within few = by_order n (begin + t) (λ p. wrapped n p m ≡ wrapped n begin (t + m))
+    (λ below. let same : begin + t + m ≡ begin + (t + m) = omega arith in ap (λ z. if nat_lt z n then z else z - n) same)
+    (λ above. low_is n (begin + t - n + m) (omega arith) ∙ (let same : begin + t - n + m ≡ begin + (t + m) - n = omega arith in same ∙ sym (high_is n (begin + (t + m)) (omega arith))))
+
+-- and the one after it
+next_on : (n begin t number : ℕ) → begin < n → t < n → number ≡ wrapped n begin t → begin_of n (number + 1) ≡ wrapped n begin (t + 1)
+next_on n begin t number low within is = subst (λ z. begin_of n (z + 1) ≡ wrapped n begin (t + 1)) (sym is) (by_order n (begin + t) (λ p. begin_of n (p + 1) ≡ wrapped n begin (t + 1)) before after)
+  where
+    before : begin + t < n → begin_of n (begin + t + 1) ≡ wrapped n begin (t + 1)
+    before below = go (nat_lt (begin + t + 1) n) refl
+      where
+        go : (b : Bool) → nat_lt (begin + t + 1) n ≡ b → (if nat_lt (begin + t + 1) n then begin + t + 1 else 0) ≡ wrapped n begin (t + 1)
+        go true e = let inside = ltb-true (begin + t + 1) n e in rw e ((let same : begin + t + 1 ≡ begin + (t + 1) = omega arith in same) ∙ sym (low_is n (begin + (t + 1)) (omega arith)))
+        go false e = let past = ltb-false (begin + t + 1) n e in rw e ((let same : 0 ≡ begin + (t + 1) - n = omega arith in same) ∙ sym (high_is n (begin + (t + 1)) (omega arith)))
+
+    after : n ≤ begin + t → begin_of n (begin + t - n + 1) ≡ wrapped n begin (t + 1)
+    after above =
+        let inside : nat_lt (begin + t - n + 1) n ≡ true = lt-ltb (begin + t - n + 1) n (omega arith) in
+        rw inside ((let same : begin + t - n + 1 ≡ begin + (t + 1) - n = omega arith in same) ∙ sym (high_is n (begin + (t + 1)) (omega arith)))
+
+-- ---- whose it was
+-- what is said of the pass is said of the same one later, which may have more records
+pub missed_as : (layout : Layout) (k j : Known) (own more : List Rec) (failed : List Failed) (r : Rec) (since : ℕ) → j.pass ≡ k.pass → j.locks ≡ k.locks → (Contains own r → Contains more r) →
+    HasMissedSince (IsAnothersBut layout k own) failed r since → HasMissedSince (IsAnothersBut layout j more) failed r since
+missed_as layout k j own more failed r since same locks among missed =
+    subst (λ q. HasMissedSince (IsAnothers layout q more (nodes_of j.locks)) failed r since) (sym same)
+    (subst (λ (l : List Locked). HasMissedSince (IsAnothers layout k.pass more (nodes_of l)) failed r since) (sym locks)
+    (missed_so (IsAnothersBut layout k own) (IsAnothersBut layout k more) failed r since (λ by. anothers_among layout k.pass own more (nodes_of k.locks) (nodes_of k.locks) r by among (λ n there. there)) missed))
+
+-- and of more failed steps
+missed_more : (Whose : Rec → Option ℕ → Type 0) (failed more : List Failed) (r : Rec) (since : ℕ) → ((x : Failed) → Contains failed x → Contains more x) → HasMissedSince Whose failed r since → HasMissedSince Whose more r since
+missed_more Whose failed more r since kept (step, late, (act, word, tells, one, has)) = (step, late, (act, word, tells, one, kept _ has))
+
+-- a pass that has the same records has no other still
+pub alone_still : (k j : Known) (made : List Rec) → j.own ≡ k.own → HasNoOther k made → HasNoOther j made
+alone_still k j made same alone r has = alone r (subst (λ own. Contains (map (λ (o : Owned). o.rec) own) r) same has)
+
+-- ---- the walk
+-- a walk that is to try each record begins at any number
+pub walk_begins : (layout : Layout) (k : Known) (build : Build) (all : Layout) → build.left_nodes ≡ all.nodes → all ≡ layout → HasWalked layout k.steps k build
+walk_begins layout k build all left same = record {
+  early = omega arith;
+  begin = begin_of layout.nodes build.nodes.next;
+  low = begins (nat_lt build.nodes.next layout.nodes) refl;
+  tried = 0;
+  count = (let e = ap (λ (z : Layout). z.nodes) same in omega (arith, e, left));
+  next_is = λ more. sym ((let same : begin_of layout.nodes build.nodes.next + 0 ≡ begin_of layout.nodes build.nodes.next = omega arith in ap (λ z. if nat_lt z layout.nodes then z else z - layout.nodes) same) ∙
+      low_is layout.nodes (begin_of layout.nodes build.nodes.next) (begins (nat_lt build.nodes.next layout.nodes) refl));
+  each = λ i low. absurd (omega arith);
+}
+  where
+    begins : (b : Bool) → nat_lt build.nodes.next layout.nodes ≡ b → (if nat_lt build.nodes.next layout.nodes then build.nodes.next else 0) < layout.nodes
+    begins true e = rw e (ltb-true build.nodes.next layout.nodes e)
+    begins false e = rw e layout.nodes_in_range.0
+
+-- it goes on being one, where failed steps and records come to those that there are
+pub walk_stays : (layout : Layout) (since : ℕ) (k j : Known) (made more : List Rec) (next left : ℕ) → j.pass ≡ k.pass → j.locks ≡ k.locks → k.steps ≤ j.steps → ((x : Failed) → Contains k.failed x → Contains j.failed x) → ((r : Rec) → Contains made r → Contains more r)
+    → IsClaimWalk layout since k made next left → IsClaimWalk layout since j more next left
+walk_stays layout since k j made more next left same locks later failed kept w = record {
+  early = let early = w.early in omega arith;
+  begin = w.begin;
+  low = w.low;
+  tried = w.tried;
+  count = w.count;
+  next_is = w.next_is;
+  each = λ i low. elim (w.each i low) [
+    | inl missed ↦ inl (missed_as layout k j made more j.failed (a_node (wrapped layout.nodes w.begin i)) since same locks (kept (a_node (wrapped layout.nodes w.begin i)))
+        (missed_more (IsAnothersBut layout k made) k.failed j.failed (a_node (wrapped layout.nodes w.begin i)) since failed missed))
+    | inr has ↦ inr (kept _ has)
+  ];
+}
+
+-- where all have been tried, each was found not free, if those that are made were
+pub walk_ends : (layout : Layout) (since : ℕ) (k : Known) (made : List Rec) (next left : ℕ) → left ≡ 0 → ((r : Rec) → Contains made r → HasMissedSince (IsAnothersBut layout k made) k.failed r since) →
+    IsClaimWalk layout since k made next left → AllMissed (IsAnothersBut layout k made) a_node layout.nodes k.failed since
+walk_ends layout since k made next left none looked w q low =
+    let (i, within, is) = turned_to layout.nodes w.begin q w.low low in
+    let all = w.count in
+    subst (λ z. HasMissedSince (IsAnothersBut layout k made) k.failed (a_node z) since) is (elim (w.each i (omega arith)) [ inl missed ↦ missed | inr has ↦ looked _ has ])
+
+module _ {G : Type 0} (table : TableView) (becomes : G → Event → G → Type 0) where
+  pub walk_on : (since : ℕ) (a b : SeatView × G) (made more : List Rec) (next left : ℕ) → WorksOn table becomes a b → ((r : Rec) → Contains made r → Contains more r)
+      → IsClaimWalk table.layout since a.0.known made next left → IsClaimWalk table.layout since b.0.known more next left
+  walk_on since a b made more next left goes kept w =
+      walk_stays table.layout since a.0.known b.0.known made more next left goes.stays.0.pass goes.stays.1 (steps_rise table becomes goes.acts a b goes.steps) (λ x has. run_failed table becomes goes.acts a b goes.steps x has) kept w
+
+  -- after tries that found none free
+  module _ (since m : ℕ) (a b : SeatView × G) (made : List Rec) (next left : ℕ) (alone : HasNoOther a.0.known made) (w : IsClaimWalk table.layout since a.0.known made next left) (within : m ≤ left)
+      (none : FindsNone table becomes a_node table.layout.nodes (begin_of table.layout.nodes next) m a b) where
+    abbrev Whose : Rec → Option ℕ → Type 0
+    Whose = IsAnothersBut table.layout b.0.known made
+
+    same : b.0.known.pass ≡ a.0.known.pass
+    same = ap (λ (z : Known). z.pass) none.does.rest
+
+    locks : b.0.known.locks ≡ a.0.known.locks
+    locks = ap (λ (z : Known). z.locks) none.does.rest
+
+    pub each_tried : (i : ℕ) → i < w.tried + m → HasMissedSince (IsAnothersBut table.layout b.0.known made) b.0.known.failed (a_node (wrapped table.layout.nodes w.begin i)) since ⊎ Contains made (a_node (wrapped table.layout.nodes w.begin i))
+    each_tried i low = go (nat_lt i w.tried) refl
+      where
+        count : w.tried + left ≡ table.layout.nodes
+        count = w.count
+
+        go : (t : Bool) → nat_lt i w.tried ≡ t → HasMissedSince Whose b.0.known.failed (a_node (wrapped table.layout.nodes w.begin i)) since ⊎ Contains made (a_node (wrapped table.layout.nodes w.begin i))
+        go true e = elim (w.each i (ltb-true i w.tried e)) [
+          | inl missed ↦ inl (subst (λ l. HasMissedSince Whose l (a_node (wrapped table.layout.nodes w.begin i)) since) (sym none.failed) (beyond none.missed a.0.known.failed (a_node (wrapped table.layout.nodes w.begin i)) since
+              (missed_as table.layout a.0.known b.0.known made made a.0.known.failed (a_node (wrapped table.layout.nodes w.begin i)) since same locks (λ h. h) missed)))
+          | inr has ↦ inr has
+        ]
+          where
+            beyond : (missed failed : List Failed) (r : Rec) (since : ℕ) → HasMissedSince Whose failed r since → HasMissedSince Whose (missed ++ failed) r since
+            beyond [] failed r since h = h
+            beyond (x ∷ missed) failed r since h = let (step, late, (act, word, tells, one, (at, inside, is))) = beyond missed failed r since h in (step, late, (act, word, tells, one, (suc at, omega arith, is)))
+        go false e =
+            let past = ltb-false i w.tried e in
+            let early = w.early in
+            let at : wrapped table.layout.nodes (begin_of table.layout.nodes next) (i - w.tried) ≡ wrapped table.layout.nodes w.begin i =
+            ap (λ z. wrapped table.layout.nodes z (i - w.tried)) (w.next_is (omega arith)) ∙
+            (wrapped_on table.layout.nodes w.begin w.tried (i - w.tried) w.low (omega arith) (omega arith) ∙ ap (wrapped table.layout.nodes w.begin) (let same : w.tried + (i - w.tried) ≡ i = omega arith in same)) in
+            let r : Rec = a_node (wrapped table.layout.nodes w.begin i) in
+            inl (subst (λ l. HasMissedSince Whose l r since) (sym none.failed) (missed_among Whose none.missed a.0.known.failed r since (missed_earlier Whose none.missed r since a.0.known.steps early
+            (missed_as table.layout a.0.known b.0.known (records_had a.0.known) made none.missed r a.0.known.steps same locks (alone r)
+            (subst (λ z. HasMissedSince (IsAnothersTo table.layout a.0.known) none.missed (a_node z) a.0.known.steps) at (none.each (i - w.tried) (omega arith)))))))
+
+  -- none of those that were left is free
+  pub walk_out : (since left less : ℕ) (a b : SeatView × G) (made : List Rec) (next m : ℕ) → HasNoOther a.0.known made → WorksOn table becomes a b → m ≡ left → less ≡ 0 → FindsNone table becomes a_node table.layout.nodes (begin_of table.layout.nodes next) m a b
+      → IsClaimWalk table.layout since a.0.known made next left → IsClaimWalk table.layout since b.0.known made next less
+  walk_out since left less a b made next m alone goes all out none w = record {
+    early = let rise = steps_rise table becomes goes.acts a b goes.steps in let early = w.early in omega arith;
+    begin = w.begin;
+    low = w.low;
+    tried = w.tried + m;
+    count = let count = w.count in omega arith;
+    next_is = λ more. absurd (omega arith);
+    each = each_tried since m a b made next left alone w (omega arith) none;
+  }
+
+  -- one of them is claimed
+  pub walk_claims : (since left less number : ℕ) (a b : SeatView × G) (made : List Rec) (next : ℕ) → HasNoOther a.0.known made → WorksOn table becomes a b → (claims : Claims table becomes a_node table.layout.nodes (begin_of table.layout.nodes next) number a b) → less + claims.tried + 1 ≡ left
+      → IsClaimWalk table.layout since a.0.known made next left → IsClaimWalk table.layout since b.0.known (made ++ a_node number ∷ []) (number + 1) less
+  walk_claims since left less number a b made next alone goes claims spent w = record {
+    early = let rise = steps_rise table becomes goes.acts a b goes.steps in let early = w.early in omega arith;
+    begin = w.begin;
+    low = w.low;
+    tried = w.tried + claims.tried + 1;
+    count = let count = w.count in omega arith;
+    next_is = λ more. next_on table.layout.nodes w.begin (w.tried + claims.tried) number w.low inside here;
+    each = each;
+  }
+    where
+      count : w.tried + left ≡ table.layout.nodes
+      count = w.count
+
+      inside : w.tried + claims.tried < table.layout.nodes
+      inside = omega arith
+
+      here : number ≡ wrapped table.layout.nodes w.begin (w.tried + claims.tried)
+      here = claims.number_is ∙ (ap (λ z. wrapped table.layout.nodes z claims.tried) (w.next_is (omega arith)) ∙ wrapped_on table.layout.nodes w.begin w.tried claims.tried w.low (omega arith) (omega arith))
+
+      Whose : Rec → Option ℕ → Type 0
+      Whose = IsAnothersBut table.layout b.0.known (made ++ a_node number ∷ [])
+
+      each : (i : ℕ) → i < w.tried + claims.tried + 1 → HasMissedSince Whose b.0.known.failed (a_node (wrapped table.layout.nodes w.begin i)) since ⊎ Contains (made ++ a_node number ∷ []) (a_node (wrapped table.layout.nodes w.begin i))
+      each i low = go (nat_lt i (w.tried + claims.tried)) refl
+        where
+          go : (t : Bool) → nat_lt i (w.tried + claims.tried) ≡ t → HasMissedSince Whose b.0.known.failed (a_node (wrapped table.layout.nodes w.begin i)) since ⊎ Contains (made ++ a_node number ∷ []) (a_node (wrapped table.layout.nodes w.begin i))
+          go true e = elim (each_tried since claims.tried a claims.before made next left alone w (omega arith) claims.none i (ltb-true i (w.tried + claims.tried) e)) [
+            | inl missed ↦ inl (subst (λ l. HasMissedSince Whose l (a_node (wrapped table.layout.nodes w.begin i)) since) (sym claims.one.failed)
+                (missed_as table.layout claims.before.0.known b.0.known made (made ++ a_node number ∷ []) claims.before.0.known.failed (a_node (wrapped table.layout.nodes w.begin i)) since
+                (ap (λ (z : Known). z.pass) claims.one.does.rest) (ap (λ (z : Known). z.locks) claims.one.does.rest) (Contains-append_left made (a_node number ∷ []) (a_node (wrapped table.layout.nodes w.begin i))) missed))
+            | inr has ↦ inr (Contains-append_left made (a_node number ∷ []) (a_node (wrapped table.layout.nodes w.begin i)) has)
+          ]
+          go false e =
+              let past = ltb-false i (w.tried + claims.tried) e in
+              let same : w.tried + claims.tried ≡ i = omega arith in
+              inr (subst (λ z. Contains (made ++ a_node number ∷ []) (a_node z)) (here ∙ ap (wrapped table.layout.nodes w.begin) same) (Contains-push made (a_node number)))
+
+-- ---- the records that are made
+pub look_record : (table : TableView) (a : SeatView) (made : List Rec) (news : List Made) → IsBuilding table a made news → (index : ℕ) (d : Rec) → index < length made → HasRecord table.layout (get_or made index d)
+look_record table a made news building index d low = made_records table a made news building index d low
+
+module _ {G : Type 0} (table : TableView) (becomes : G → Event → G → Type 0) (made : List Rec) where
+  -- those before this index were found not free, by a load of each
+  pub record HasLooked (index : ℕ) (a b : SeatView × G) : Type 0 where
+    pub goes : WorksOn table becomes a b
+    pub own : b.0.known.own ≡ a.0.known.own
+    pub seen : (i : ℕ) (d : Rec) → i < index → HasMissedSince (IsAnothersBut table.layout a.0.known made) b.0.known.failed (get_or made i d) a.0.known.steps
+    pub few : b.0.known.steps ≤ a.0.known.steps + index
+
+  pub looked_none : (a : SeatView × G) → HasLooked 0 a a
+  looked_none a = record { goes = goes_none table becomes a; own = refl; seen = λ i d low. absurd (omega arith); few = omega arith }
+
+  pub looked_more : (index : ℕ) (a m b : SeatView × G) → index < length made → (news : List Made) → IsBuilding table a.0 made news → HasLooked index a m → (d : Rec) (word : ℕ) →
+      Steps table becomes (LoadState (get_or made index d) word) m b → HasLooked (index + 1) a b
+  looked_more index a m b low news building looked d word step = record {
+    goes = goes_more table becomes a m b looked.goes goes;
+    own = one.own ∙ looked.own;
+    seen = seen;
+    few = (let few = looked.few in let count = does_count table becomes claiming (LoadState r word ∷ []) m b (looks_one table becomes r word m b step) in omega arith);
+  }
+    where
+      r : Rec
+      r = get_or made index d
+
+      held : IsClaimed a.0.known r
+      held = (made_held table a.0 made news building).each index d low
+
+      one : MissesOne table becomes r m b
+      one = held_misses table becomes r held.0 word m b (subst (λ l. Contains l (record { rec = r; holding = Held; words = held.0 })) (sym looked.own) held.2) step
+
+      goes : WorksOn table becomes m b
+      goes = miss_on table becomes r m b one
+
+      later : a.0.known.steps ≤ m.0.known.steps
+      later = steps_rise table becomes looked.goes.acts a m looked.goes.steps
+
+      Whose : Rec → Option ℕ → Type 0
+      Whose = IsAnothersBut table.layout a.0.known made
+
+      tells : HasMissedSince Whose (one.failed ∷ []) r m.0.known.steps
+      tells = missed_so (IsAnothersTo table.layout m.0.known) Whose (one.failed ∷ []) r m.0.known.steps
+          (λ by h. anothers_among table.layout a.0.known.pass (records_had a.0.known) made (nodes_of a.0.known.locks) (nodes_of a.0.known.locks) r by (made_alone table a.0 made news building r) (λ n there. there)
+          (anothers_before table.layout a.0.known m.0.known r by looked.goes.stays.0.pass looked.own looked.goes.stays.1 h)) one.tells
+
+      seen : (i : ℕ) (e : Rec) → i < index + 1 → HasMissedSince Whose b.0.known.failed (get_or made i e) a.0.known.steps
+      seen i e below = go (nat_lt i index) refl
+        where
+          go : (t : Bool) → nat_lt i index ≡ t → HasMissedSince Whose b.0.known.failed (get_or made i e) a.0.known.steps
+          go true is =
+              let (since, late, (act, found, tells, some, has)) = looked.seen i e (ltb-true i index is) in
+              (since, late, (act, found, tells, some, run_failed table becomes goes.acts m b goes.steps _ has))
+          go false is =
+              let past = ltb-false i index is in
+              let same : index ≡ i = omega arith in
+              subst (λ z. HasMissedSince Whose b.0.known.failed (get_or made z e) a.0.known.steps) same
+              (subst (λ z. HasMissedSince Whose b.0.known.failed z a.0.known.steps) (get_or_default made index d e low)
+              (subst (λ l. HasMissedSince Whose l r a.0.known.steps) (sym one.failed_is)
+              (missed_among Whose (one.failed ∷ []) m.0.known.failed r a.0.known.steps (missed_earlier Whose (one.failed ∷ []) r a.0.known.steps m.0.known.steps later tells))))
+
+  pub looked_all : (index : ℕ) (a b : SeatView × G) → length made ≤ index → HasLooked index a b → (r : Rec) → Contains made r → HasMissedSince (IsAnothersBut table.layout a.0.known made) b.0.known.failed r a.0.known.steps
+  looked_all index a b all looked r (i, low, is) = subst (λ z. HasMissedSince (IsAnothersBut table.layout a.0.known made) b.0.known.failed z a.0.known.steps) is (looked.seen i r (omega arith))
+
+-- ---- what makes records
+module _ {G : Type 0} {table : TableView} {becomes : G → Event → G → Type 0} where
+  -- what needs none
+  pub makes_none : {X : Type 0} {most steps : ℕ} {x : X} (a : (SeatView × G) × Build) → Makes most steps table becomes a a (Some x)
+  makes_none a = record { goes = goes_none table becomes a.0; more = omega arith; nodes = omega arith; walk = λ since w. w; few = omega arith }
+
+  -- another answer, where one is given, and where none was free
+  pub makes_as : {X Y : Type 0} {m s : ℕ} {a b : (SeatView × G) × Build} {x : X} {y : Y} → Makes m s table becomes a b (Some x) → Makes m s table becomes a b (Some y)
+  makes_as makes = record { goes = makes.goes; more = makes.more; nodes = makes.nodes; walk = makes.walk; few = makes.few }
+
+  pub makes_failed : {X Y : Type 0} {m s : ℕ} {a b : (SeatView × G) × Build} → Makes {X = X} m s table becomes a b None → Makes {X = Y} m s table becomes a b None
+  makes_failed makes = record { goes = makes.goes; more = makes.more; nodes = makes.nodes; walk = makes.walk; few = makes.few }
+
+  -- more at most
+  pub makes_within : {X : Type 0} {m s most steps : ℕ} {a b : (SeatView × G) × Build} {answer : Option X} → Makes m s table becomes a b answer → m ≤ most → s ≤ steps → Makes most steps table becomes a b answer
+  makes_within makes more longer = record {
+    goes = makes.goes;
+    more = omega (arith, makes.more);
+    nodes = omega (arith, makes.nodes);
+    walk = makes.walk;
+    few = omega (arith, makes.few);
+  }
+
+  -- one after another
+  pub makes_then : {X Y : Type 0} {m s n t most steps : ℕ} {a b c : (SeatView × G) × Build} {x : X} {answer : Option Y} → Makes m s table becomes a b (Some x) → Makes n t table becomes b c answer →
+      m + n ≤ most → s + t ≤ steps → Makes most steps table becomes a c answer
+  makes_then {a = a} {b} {c} one two more longer = record {
+    goes = goes_more table becomes a.0 b.0 c.0 one.goes two.goes;
+    more = omega (arith, one.more, two.more);
+    nodes = omega (arith, one.nodes, two.nodes);
+    walk = λ since w. two.walk since (one.walk since w);
+    few = omega (arith, one.few, two.few);
+  }
+
+  -- after so many loads
+  pub makes_after : {X : Type 0} {m s most steps : ℕ} {a b : SeatView × G} {build : Build} {c : (SeatView × G) × Build} {answer : Option X} (loads : ℕ) → WorksOn table becomes a b → b.0.known.steps ≤ a.0.known.steps + loads →
+      Makes m s table becomes (b, build) c answer → m ≤ most → loads + s ≤ steps → Makes most steps table becomes (a, build) c answer
+  makes_after {a = a} {b} {build} {c} loads goes few makes more longer = record {
+    goes = goes_more table becomes a b c.0 goes makes.goes;
+    more = omega (arith, makes.more);
+    nodes = omega (arith, makes.nodes);
+    walk = λ since w. makes.walk since (walk_on table becomes since a b build.made.items build.made.items build.nodes.next build.left_nodes goes (λ r has. has) w);
+    few = omega (arith, few, makes.few);
+  }

@@ -1,0 +1,5 @@
+-- A removal after which two nodes are one.
+pub mod WideningLocks
+pub mod Beside
+pub mod Merging
+pub mod Leaving

@@ -1,0 +1,3 @@
+-- What a call is to do, from the way of its search.
+pub mod Plans
+pub mod Planned

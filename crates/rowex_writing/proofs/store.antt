@@ -1,0 +1,7 @@
+-- The store that is the change, and the end after it.
+pub mod PublishingRecords
+pub mod EndingChange
+pub mod Retiring
+pub mod Values
+pub mod Stores
+pub mod Held

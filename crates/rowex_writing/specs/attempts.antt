@@ -1,0 +1,2 @@
+-- One attempt, from its search to its end.
+pub mod Attempts

@@ -1,0 +1,227 @@
+-- Records made for what a node becomes.
+use Rattle.std.specs.Prelude.{◌≡◌, ◌<◌, ◌≤◌, ◌+◌, ◌-◌, ◌↔◌, ℕ, List, [], ◌∷◌, ◌++◌, map, drop, take, length, slice_get, Option, MatchOption, IfSome, Some, reverse, Bool, true, IsTrue, if◌then◌else◌}
+use Rattle.compound_node.specs.Nodes.{NodeView, height_of, piece}
+use Rattle.compound_node.specs.declared.entries.Entry.{Entry}
+use Rattle.compound_node.specs.declared.entries.Entry.TheVariants.{Node}
+use Rattle.compound_node.specs.declared.halves.Half.{Half}
+use Rattle.compound_node.specs.declared.halves.Half.TheVariants.{One, Many, Same}
+use Rattle.insert_cases.specs.declared.growth.Grown.{Grown}
+use Rattle.insert_cases.specs.declared.growth.Grown.TheVariants.{One as Single, Two}
+use Rattle.insert_cases.specs.Grown.{GrownShows, is_whole, keeps_node}
+use Rattle.insert_cases.specs.Risen.{subtrie_of}
+use Rattle.insert_cases.specs.declared.raising.Risen.{Risen}
+use Rattle.insert_cases.specs.declared.raising.Risen.TheVariants.{Whole, Split}
+use Rattle.node_tries.specs.Changes.{AtRootFork}
+use Rattle.node_tries.specs.Piece.{Place, size}
+use Rattle.insert_cases.specs.declared.choice.PathNode.{PathNode}
+use Rattle.versions.specs.Trades.{IsOneOf}
+use Rattle.rowex_core.specs.declared.known.Known.{Known}
+use Rattle.rowex_core.specs.declared.known.Locked.{Locked}
+use Rattle.record_words.specs.declared.layout.Layout.{Layout}
+use Rattle.record_words.specs.Node.{HasNodeWords}
+use Rattle.tries.specs.Content.{Item}
+use Rattle.tries.specs.Affected.{subtrie_affected, IsPartSubtrie}
+use Rattle.tries.specs.Keys.{Key}
+use Rattle.tries.specs.Place.{spot}
+use Rattle.tries.specs.Tree.{Subtrie}
+use Rattle.version_laws.specs.Rise.{Side, entry}
+use Rattle.version_laws.specs.Writer.{Newcomer}
+use Rattle.record_words.specs.declared.records.Rec.{Rec}
+use Rattle.record_words.specs.declared.records.Rec.TheVariants.{Node as a_node}
+use Rattle.rowex_core.specs.Cores.{FitsIn}
+use Rattle.rowex_core.specs.Reading.{IsPacked, node_words_of}
+use Rattle.rowex_table.specs.Made.{Made, recs_of, HoldsMade}
+use Rattle.rowex_table.specs.Seats.{TableView, SeatView, IsSeatOf}
+use Rattle.rowex_reading.specs.Possible.{IsPossible}
+use Rattle.publish_laws.specs.Rises.{made_of_node, made_of_leaf, HasFoundBelow}
+use Rattle.publish_laws.specs.Stages.{HasLeaf, HasRisen, IsLockedAbove, SpellsLeaf}
+use Rattle.rowex_writing.specs.locks.Going.{HasLocked}
+use Rattle.rowex_writing.specs.build.Remaking.{AwaitsLeaf, IsNoHigher, subtrie_with_leaf}
+use Rattle.rowex_writing.specs.declared.plan.Span.{Span}
+use Rattle.rowex_writing.specs.declared.build.rising.LoadedNode.{LoadedNode}
+use Rattle.rowex_writing.specs.declared.build.rising.Rise.{Rise}
+use Rattle.rowex_writing.specs.declared.build.remaking.Fork.{Fork}
+use Rattle.rowex_writing.specs.declared.build.remaking.NewLeaf.{NewLeaf}
+
+-- each of the records spells a value, which has room in it
+abbrev pub AreMadePacked : Layout → List Made → Type 0
+AreMadePacked layout [] = Unit {0}
+AreMadePacked layout (m ∷ news) = (IsPacked m.rec m.words × FitsIn layout m.rec m.words) × AreMadePacked layout news
+
+-- The entry for a half, and the records made for it: an entry alone is its own, a node has a new record, and the node that stays
+-- whole is named as before.
+abbrev pub IsHalfMade : Entry → Half → Entry → List Made → Type 0
+IsHalfMade old (One alone) e news = (e ≡ alone) × (news ≡ [])
+IsHalfMade old (Many view) e news = (m : ℕ) × (e ≡ Node m view.height) × (news ≡ made_of_node m view ∷ []) × HasNodeWords view
+IsHalfMade old Same e news = (e ≡ old) × (news ≡ [])
+
+-- What comes in the place of the node of the old entry, and the records made for it, in front of those before. The last one made is first.
+-- Of a cut the upper side is made first.
+abbrev pub IsMadeFrom : Entry → Grown → Risen → List Made → List Made → Type 0
+IsMadeFrom old (Single view) (Whole e) before after = (m : ℕ) × (e ≡ Node m view.height) × (after ≡ made_of_node m view ∷ before) × HasNodeWords view
+IsMadeFrom old (Two cut) (Split position zero one) before after =
+    (lower : List Made) × (upper : List Made) × (position ≡ cut.position) × IsHalfMade old cut.zero zero lower × IsHalfMade old cut.one one upper ×
+    (after ≡ lower ++ (upper ++ before))
+IsMadeFrom old grown risen before after = ⊥
+
+-- What comes in the place of a node that gets the new leaf, and the records made for it: one entry where the node has room. The node stays
+-- whole, as told, only where the leaf's position is before its first fork.
+pub record IsGrownFrom (old : Entry) (was : NodeView) (new : NewLeaf) (risen : Risen) (stays : Bool) (before after : List Made) : Type 0 where
+  pub grown : Grown
+  pub shows : GrownShows was grown (subtrie_with_leaf new (piece was))
+  pub whole : IsTrue (is_whole grown) ↔ (length was.entries < 32)
+  pub keeps : stays ≡ keeps_node grown
+  pub above : keeps_node grown ≡ true → AtRootFork (λ p zero one. new.position < p) (piece was)
+  pub low : IsNoHigher was.height grown
+  pub made : IsMadeFrom old grown risen before after
+
+-- Of a change that a pass is making: these are the records that it has made, the last one first, and it has no others of its own;
+-- they are listed by number, the first one first.
+pub record IsBuilding (table : TableView) (a : SeatView) (made : List Rec) (news : List Made) : Type 0 where
+  pub seat : IsSeatOf table a
+  pub possible : IsPossible table.layout a.known
+  pub holds : HoldsMade a.known news
+  pub packed : AreMadePacked table.layout news
+  pub listed : made ≡ reverse (recs_of news)
+
+-- A node record was wanted and none was free. The pass has those that it has made so far.
+pub record HasNotMade (table : TableView) (b : SeatView) (made : List Rec) : Type 0 where
+  pub news : List Made
+  pub building : IsBuilding table b made news
+
+-- What comes in the place of the loaded node with a new leaf, and whether the node stays whole, with the records made; or none was free.
+abbrev pub MakesGrown : TableView → SeatView × List Rec → SeatView × List Rec → LoadedNode → NewLeaf → Option (Risen × Bool) → Type 0
+MakesGrown table (a, made) (b, built) loaded new result =
+    (news : List Made) (node : NodeView) → AwaitsLeaf loaded.words node new → IsBuilding table a made news → MatchOption result (HasNotMade table b built)
+    (λ r. (after : List Made) × IsGrownFrom (Node loaded.number node.height) node new r.0 r.1 news after × IsBuilding table b built after)
+
+-- The leaf of x is made and nothing else.
+pub record HasLeafMade (table : TableView) (a : SeatView) (made : List Rec) (x : Item) : Type 0 where
+  pub fresh : List ℕ
+  pub spelled : SpellsLeaf x fresh
+  pub building : IsBuilding table a made (made_of_leaf x fresh ∷ [])
+
+-- ---- on the way up
+-- The change adds the newcomer, of which the record is made: this is what comes in the place of the node's body or entry, and those go.
+pub record IsRaising (table : TableView) (a : SeatView) (made : List Rec) (gone : List Rec) (x : Newcomer) (d : Side) (r : Subtrie) : Type 0 where
+  pub news : List Made
+  pub building : IsBuilding table a made news
+  pub leaf : HasLeaf news x.item
+  pub risen : HasRisen table.layout a.known a.known.locks news x d r gone
+
+-- What has risen comes in the place of the locked node's entry.
+pub record IsRisenAt (table : TableView) (a : SeatView) (made : List Rec) (number : ℕ) (risen : Risen) : Type 0 where
+  pub gone : List Rec
+  pub newcomer : Newcomer
+  pub words : List ℕ
+  pub locked : HasLocked a.known number words
+  pub raising : IsRaising table a made gone newcomer (entry number) (subtrie_of risen)
+
+-- What has risen so far is a fork of two entries. It is to take the place of the entry that names the node below, in the locked node
+-- above, which is higher than both.
+pub record GetsFork (table : TableView) (a : SeatView) (made : List Rec) (above : ℕ) (fork : Fork) : Type 0 where
+  pub lower : ℕ
+  pub here : IsRisenAt table a made lower (Split fork.position fork.zero fork.one)
+  pub key_is : fork.key.now ≡ here.newcomer.item.key
+  pub over : IsLockedAbove a.known.locks here.newcomer.item.key here.newcomer.mismatch above lower
+  pub zero_low : height_of fork.zero < (node_words_of over.upper).fixed.height
+  pub one_low : height_of fork.one < (node_words_of over.upper).fixed.height
+
+-- what has risen is no higher than this
+abbrev pub IsLowRisen : ℕ → Risen → Type 0
+IsLowRisen height (Whole e) = height_of e ≤ height
+IsLowRisen height (Split position zero one) = (height_of zero ≤ height) × (height_of one ≤ height)
+
+abbrev pub IsSplit : Risen → Type 0
+IsSplit (Whole e) = ⊥
+IsSplit (Split position zero one) = Unit {0}
+
+-- what has risen is one entry
+abbrev pub IsSingle : Risen → Type 0
+IsSingle (Whole e) = Unit {0}
+IsSingle (Split position zero one) = ⊥
+
+-- What has risen from the node with these words: no higher than it, a fork where it was full, one entry where it had room.
+pub record IsLevelRisen (words : List ℕ) (risen : Risen) : Type 0 where
+  pub low : IsLowRisen (node_words_of words).fixed.height risen
+  pub split : size (node_words_of words).subtrie ≡ 32 → IsSplit risen
+  pub single : size (node_words_of words).subtrie < 32 → IsSingle risen
+
+-- the entry is at most one higher than this, and no higher where what has risen is one entry
+abbrev pub IsAtMostOneHigher : ℕ → Risen → Entry → Type 0
+IsAtMostOneHigher height risen e = (height_of e ≤ height + 1) × (IsSingle risen → height_of e ≤ height)
+
+-- the entry is at most one higher than the node with these words, and no higher where that has room
+abbrev pub FitsAbove : List ℕ → Entry → Type 0
+FitsAbove words e =
+    (height_of e ≤ (node_words_of words).fixed.height + 1) × (size (node_words_of words).subtrie < 32 → height_of e ≤ (node_words_of words).fixed.height)
+
+-- where the locked node at this place of the way has these words, the entry may take its place
+abbrev pub FitsOnWay : Known → List PathNode → ℕ → Option Entry → Type 0
+FitsOnWay k way end answer = (s : PathNode) (words : List ℕ) → slice_get way end ≡ Some s → HasLocked k s.number words → IfSome answer (FitsAbove words)
+
+-- ---- at the lower end
+-- The new leaf is made and nothing else, and the locked node is where it goes: there its search took the entry at the leaf's place.
+pub record GetsLeaf (table : TableView) (a : SeatView) (made : List Rec) (number : ℕ) (new : NewLeaf) : Type 0 where
+  pub since : ℕ
+  pub item : Item
+  pub like : Key
+  pub words : List ℕ
+  pub key_is : new.key.now ≡ item.key
+  pub leaf_is : new.number ≡ item.number
+  pub made_leaf : HasLeafMade table a made item
+  pub found : HasFoundBelow a.known a.known.locks (record { since = since; item = item; mismatch = new.position; like = like }) number words
+  pub part : IsPartSubtrie (subtrie_affected new.position item.key (node_words_of words).subtrie)
+  pub leads : spot item.key (node_words_of words).subtrie ≡ new.slot
+
+-- so its newcomer
+abbrev pub newcomer_of : {table : TableView} {a : SeatView} {made : List Rec} {number : ℕ} {new : NewLeaf} → GetsLeaf table a made number new → Newcomer
+newcomer_of {new = new} low = record { since = low.since; item = low.item; mismatch = new.position; like = low.like }
+
+-- the node goes, where it doesn't stay whole
+abbrev pub gone_unless_whole : Bool → ℕ → List Rec
+gone_unless_whole stays n = if stays then [] else a_node n ∷ []
+
+-- ---- a span
+-- Of the locked nodes of the way from `end` to `level` each is named by the one above it, which is higher. An insertion at p affects no
+-- more than that place there. Those between the two are full.
+pub record IsChain (nodes : ℕ) (held : List Locked) (way : List PathNode) (key : Key) (p end level : ℕ) : Type 0 where
+  pub there : (i : ℕ) (s : PathNode) → i < level → slice_get way i ≡ Some s → s.number < nodes
+  pub above : (i : ℕ) (s u : PathNode) → end ≤ i → i < level → slice_get way i ≡ Some s → slice_get way (i + 1) ≡ Some u →
+      (over : IsLockedAbove held key p s.number u.number) × ((node_words_of over.lower).fixed.height < (node_words_of over.upper).fixed.height)
+  pub full : (i : ℕ) (s : PathNode) → end < i → i < level → slice_get way i ≡ Some s →
+      (words : List ℕ) → IsOneOf (record { node = s.number; words = words }) held → size (node_words_of words).subtrie ≡ 32
+
+-- What has risen comes in the place of the entry of the node at its level, and it is to rise on to `rise.end`.
+pub record Rises (table : TableView) (a : SeatView) (made : List Rec) (way : List PathNode) (rise : Rise) : Type 0 where
+  pub step : PathNode
+  pub at : slice_get way rise.level ≡ Some step
+  pub upto : rise.end ≤ rise.level
+  pub here : IsRisenAt table a made step.number rise.risen
+  pub key_is : rise.key.now ≡ here.newcomer.item.key
+  pub low : (other : List ℕ) → HasLocked a.known step.number other → IsLowRisen (node_words_of other).fixed.height rise.risen
+  pub split : rise.end < rise.level → IsSplit rise.risen
+  pub single : (other : List ℕ) → HasLocked a.known step.number other → size (node_words_of other).subtrie < 32 → IsSingle rise.risen
+  pub chain : IsChain table.layout.nodes a.known.locks way here.newcomer.item.key here.newcomer.mismatch rise.end rise.level
+
+-- how many nodes what has risen is to rise on through
+abbrev pub levels_above : Rise → ℕ
+levels_above rise = rise.level - rise.end
+
+-- the nodes of the way from `end` on, before `level`, go too
+abbrev pub gone_with_way : List PathNode → (end level : ℕ) → List Rec → List Rec
+gone_with_way way end level gone = map (λ (s : PathNode). a_node s.number) (drop end (take level way)) ++ gone
+
+-- one entry has risen to the place of the entry of the node at `end`
+abbrev pub HasRisenTo : (table : TableView) (a : SeatView) (made : List Rec) (way : List PathNode) (x : Newcomer) (end : ℕ) (gone : List Rec) (e : Entry) → Type 0
+HasRisenTo table a made way x end gone e = (top : PathNode) × (slice_get way end ≡ Some top) × IsRaising table a made gone x (entry top.number) (Place e)
+
+-- The lowest node of the span gets the new leaf, and what comes of it rises to the span's topmost node.
+pub record IsGrowing (table : TableView) (a : SeatView) (made : List Rec) (way : List PathNode) (span : Span) (new : NewLeaf) : Type 0 where
+  pub step : PathNode
+  pub at : slice_get way (span.len - 1) ≡ Some step
+  pub upto : span.end ≤ span.len - 1
+  pub low : step.number < table.layout.nodes
+  pub lowest : GetsLeaf table a made step.number new
+  pub full : span.end < span.len - 1 → size (node_words_of lowest.words).subtrie ≡ 32
+  pub chain : IsChain table.layout.nodes a.known.locks way lowest.item.key new.position span.end (span.len - 1)

@@ -1,0 +1,70 @@
+-- What a deed has made, before any of it is linked, and what may come of it.
+use Rattle.std.specs.Prelude.{◌≡◌, ℕ, ◌+◌, ◌-◌, ◌*◌, ◌≤◌, List, [], ◌∷◌, ◌++◌, map, length, slice_range, Option, Some, None, Result, IfOk, IfErr}
+use Rattle.finite_map.specs.declared.Change.{Change}
+use Rattle.insert_cases.specs.declared.choice.PathNode.{PathNode}
+use Rattle.record_words.specs.declared.records.Rec.{Rec}
+use Rattle.record_words.specs.declared.records.Rec.TheVariants.{Node as a_node, Leaf as a_leaf}
+use Rattle.record_words.specs.Entry.{entry_word}
+use Rattle.rowex_core.specs.declared.event.Event.{Event}
+use Rattle.rowex_core.specs.declared.event.Spot.{Spot}
+use Rattle.rowex_core.specs.declared.known.Known.{Known}
+use Rattle.rowex_table.specs.Seats.{TableView, SeatView}
+use Rattle.rowex_reading.specs.declared.descent.Found.TheVariants.{Leaf as FoundLeaf}
+use Rattle.rowex_writing.specs.build.Building.{HasNotMade}
+use Rattle.rowex_writing.specs.build.Changes.{IsDeedChange, IsFull, MayPublishOnceReady}
+use Rattle.rowex_writing.specs.plan.Counts.{deed_steps, spare_steps}
+use Rattle.rowex_writing.specs.locks.Going.{WorksOn}
+use Rattle.rowex_writing.specs.locks.Locks.{locks_of}
+use Rattle.rowex_writing.specs.build.Putting.{IsSpotAbove, AreInTable}
+use Rattle.rowex_writing.specs.declared.build.kept.Build.{Build}
+use Rattle.rowex_writing.specs.declared.plan.job.Job.{Job}
+use Rattle.rowex_writing.specs.declared.plan.job.Raised.{Raised}
+use Rattle.rowex_writing.specs.declared.plan.Deed.{Deed}
+use Rattle.rowex_writing.specs.declared.plan.Full.{Full}
+use Rattle.rowex_writing.specs.declared.plan.Span.{Span}
+
+-- the leaf that goes, if any
+abbrev pub leaf_gone : Option ℕ → List Rec
+leaf_gone None = []
+leaf_gone (Some number) = a_leaf number ∷ []
+
+-- the records that go: the nodes of the span before `low`, and the leaf
+abbrev pub gone_of_span : List PathNode → Span → Raised → List Rec
+gone_of_span way span raised = map (λ (s : PathNode). a_node s.number) (slice_range way span.end raised.low) ++ leaf_gone raised.leaf
+
+-- the locked nodes that stay: the one above the span, and those of the span from `low` on
+abbrev pub kept_of_span : List PathNode → Span → Raised → List PathNode
+kept_of_span way span raised = slice_range way (span.end - 1) span.end ++ slice_range way raised.low span.len
+
+-- All nodes of the job's span go, or all but the lowest. Once the records that the pass has made are ready, it may make this change by a
+-- store of what is raised above the span.
+pub record MayReplace (table : TableView) (a : SeatView) (made : List Rec) (job : Job) (raised : Raised) (x : Change) (was : Option ℕ) : Type 0 where
+  pub from : job.span.end ≤ raised.low
+  pub upto : raised.low ≤ job.span.len
+  pub most : job.span.len ≤ raised.low + 1
+  pub leaf : AreInTable table.layout (leaf_gone raised.leaf)
+  pub ends : (spot : Spot) → IsSpotAbove job.way.now job.span.end spot →
+      MayPublishOnceReady table a made spot (entry_word raised.entry) x was (gone_of_span job.way.now job.span raised)
+  pub few : length made + length (leaf_gone raised.leaf) ≤ 2 * locks_of job.span
+  -- the leaf that goes is the found one, and the key had its value
+  pub takes : (number : ℕ) → raised.leaf ≡ Some number → (value : ℕ) × (job.found ≡ FoundLeaf number value None) × (was ≡ Some value)
+
+-- the pass has made what the deed asks for, since it knew k
+abbrev pub HasRaised : TableView → Known → SeatView → List Rec → Job → Deed → Raised → Type 0
+HasRaised table k b made job deed raised =
+    (x : Change) × (was : Option ℕ) × IsDeedChange k.pass deed job.key.now job.value job.found x was × MayReplace table b made job raised x was
+
+-- A record was wanted since the pass knew k, and none was free. The pass has those that it has made so far.
+pub record HasNoneFree (table : TableView) (k : Known) (b : SeatView) (made : List Rec) (job : Job) (full : Full) : Type 0 where
+  pub not_made : HasNotMade table b made
+  pub few : length made ≤ 2 * locks_of job.span
+  pub full_of : IsFull table.layout job.key.now k b.known made full
+
+-- The pass has carried out the deed, as far as others don't see it, or no record was free: with these answers, and so many steps.
+-- Before and after it are the seat, the gate and what is built.
+pub record CarriesOut {G : Type 0} (table : TableView) (becomes : G → Event → G → Type 0) (a b : (SeatView × G) × Build) (job : Job) (deed : Deed)
+    (answer : Result Raised Full) : Type 0 where
+  pub goes : WorksOn table becomes a.0 b.0
+  pub raised : IfOk answer (HasRaised table a.0.0.known b.0.0 b.1.made.items job deed)
+  pub full : IfErr answer (HasNoneFree table a.0.0.known b.0.0 b.1.made.items job)
+  pub few : b.0.0.known.steps + spare_steps deed ≤ a.0.0.known.steps + deed_steps table.layout (locks_of job.span) answer

@@ -1,0 +1,36 @@
+-- A new leaf's way up, once its record is made.
+use Rattle.std.specs.Prelude.{◌≡◌, ℕ, ◌*◌, ◌<◌, ◌≤◌, List, length, slice_get, Some}
+use Rattle.compound_node.specs.declared.entries.Entry.{Entry}
+use Rattle.compound_node.specs.declared.entries.Entry.TheVariants.{Leaf, Node}
+use Rattle.insert_cases.specs.declared.choice.PathNode.{PathNode}
+use Rattle.key_bits.specs.declared.TheConstants.{MAX_BYTES}
+use Rattle.record_words.specs.declared.records.Rec.{Rec}
+use Rattle.rowex_core.specs.declared.event.Spot.{Spot}
+use Rattle.publish_laws.specs.Spots.{IsSpotOf}
+use Rattle.rowex_table.specs.Rule.{HasSpot}
+use Rattle.rowex_table.specs.Seats.{TableView, SeatView}
+use Rattle.rowex_writing.specs.build.Building.{FitsAbove, IsGrowing}
+use Rattle.rowex_writing.specs.locks.Going.{HasLocked}
+use Rattle.rowex_writing.specs.locks.Locks.{AreNodes, HasLockedSpan}
+use Rattle.rowex_writing.specs.build.Putting.{IsSpotAbove}
+use Rattle.rowex_writing.specs.declared.plan.job.Job.{Job}
+use Rattle.rowex_writing.specs.declared.build.remaking.NewLeaf.{NewLeaf}
+use Rattle.tries.specs.Content.{item}
+
+-- the number of the entry's record has 32 bits
+abbrev pub HasNumber : Entry → Type 0
+HasNumber (Leaf n) = n < 4294967296
+HasNumber (Node n h) = n < 4294967296
+
+-- The new leaf's record is made and no other, with the job's value, under the locks of the job's span. The leaf may rise from the lowest node
+-- of the span, and what has risen may stand at the spot above the topmost one.
+pub record MayGrow (table : TableView) (a : SeatView) (made : List Rec) (job : Job) (new : NewLeaf) : Type 0 where
+  pub within : (job.span.end < job.span.len) × (job.span.len ≤ length job.way.now)
+  pub depth : length job.way.now ≤ 9 * MAX_BYTES
+  pub nodes : AreNodes table.layout job.way.now
+  pub locked : HasLockedSpan a.known job.way.now job.span
+  pub growing : IsGrowing table a made job.way.now job.span new
+  pub item_is : growing.lowest.item ≡ item new.number new.key.now job.value
+  pub place : (s : PathNode) (words : List ℕ) (e : Entry) (spot : Spot) → slice_get job.way.now job.span.end ≡ Some s →
+      HasLocked a.known s.number words → FitsAbove words e → IsSpotAbove job.way.now job.span.end spot →
+      IsSpotOf a.known a.known.locks new.key.now new.position s.number e spot × HasSpot table.layout spot

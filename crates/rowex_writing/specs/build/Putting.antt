@@ -1,0 +1,24 @@
+-- Where a new leaf, or what comes with it, is put, and what goes for it.
+use Rattle.std.specs.Prelude.{◌≡◌, ℕ, ◌-◌, ◌<◌, List, slice_get, Some, All, Bool, true, false, None, IsSome}
+use Rattle.insert_cases.specs.declared.choice.PathNode.{PathNode}
+use Rattle.rowex_core.specs.declared.event.Spot.{Spot}
+use Rattle.rowex_core.specs.declared.event.Spot.TheVariants.{Root, Slot, Value}
+use Rattle.record_words.specs.declared.layout.Layout.{Layout}
+use Rattle.record_words.specs.declared.records.Rec.{Rec}
+use Rattle.rowex_core.specs.Cores.{HasRecord}
+use Rattle.rowex_core.specs.declared.known.Known.{Known}
+
+-- the spot that names what stands below the first `end` nodes of the way: the place that the search took in the last of them
+abbrev pub IsSpotAbove : List PathNode → ℕ → Spot → Type 0
+IsSpotAbove way end Root = end ≡ 0
+IsSpotAbove way end (Value l) = ⊥
+IsSpotAbove way end (Slot n i) = (s : PathNode) × (0 < end) × (slice_get way (end - 1) ≡ Some s) × (n ≡ s.number) × (i ≡ s.slot)
+
+-- the records are the table's
+abbrev pub AreInTable : Layout → List Rec → Type 0
+AreInTable layout recs = All (HasRecord layout) recs
+
+-- the anchor is locked by the pass just where this says so
+abbrev pub IsAnchored : Bool → Known → Type 0
+IsAnchored true k = IsSome k.anchor
+IsAnchored false k = k.anchor ≡ None

@@ -1,0 +1,48 @@
+-- What a node becomes, before it has records.
+use Rattle.std.specs.Prelude.{◌≡◌, ℕ, ◌≤◌, List}
+use Rattle.compound_node.specs.Nodes.{NodeView, height_of, piece}
+use Rattle.compound_node.specs.declared.halves.Cut.{Cut}
+use Rattle.compound_node.specs.declared.halves.Half.{Half}
+use Rattle.compound_node.specs.declared.halves.Half.TheVariants.{One, Many, Same}
+use Rattle.insert_cases.specs.declared.growth.Grown.{Grown}
+use Rattle.insert_cases.specs.declared.growth.Grown.TheVariants.{One as Whole, Two}
+use Rattle.compound_node.specs.declared.entries.Entry.TheVariants.{Leaf}
+use Rattle.rowex_writing.specs.locks.Going.{IsNodeOf}
+use Rattle.rowex_writing.specs.declared.build.remaking.Fork.{Fork}
+use Rattle.rowex_writing.specs.declared.build.remaking.NewLeaf.{NewLeaf}
+use Rattle.node_tries.specs.Piece.{Place, Fork as Branch}
+use Rattle.tries.specs.Affected.{subtrie_grown}
+use Rattle.tries.specs.Place.{spot, with_subtrie}
+use Rattle.tries.specs.Tree.{Subtrie, Tree, subtrie, IsTrie, IsBuilt}
+
+-- some tree that is a bit trie of lawful nodes begins with this subtrie
+abbrev pub IsSubtrieOfTree : Subtrie → Type 0
+IsSubtrieOfTree shown = (t : Tree) × (subtrie t ≡ shown) × IsTrie t × IsBuilt t
+
+-- the subtrie with the new leaf
+abbrev pub subtrie_with_leaf : NewLeaf → Subtrie → Subtrie
+subtrie_with_leaf new shown = subtrie_grown new.position new.key.now (Leaf new.number) shown
+
+-- The words spell this node, in which the search of the leaf's key takes the entry at its place. A tree begins with its subtrie with the leaf.
+pub record AwaitsLeaf (words : List ℕ) (node : NodeView) (new : NewLeaf) : Type 0 where
+  pub is : IsNodeOf words node
+  pub leads : spot new.key.now (piece node) ≡ new.slot
+  pub tree : IsSubtrieOfTree (subtrie_with_leaf new (piece node))
+
+-- the subtrie with the fork in place of the entry that the search for the fork's key takes
+abbrev pub subtrie_with_fork : Fork → Subtrie → Subtrie
+subtrie_with_fork fork shown = with_subtrie fork.key.now (Branch fork.position (Place fork.zero) (Place fork.one)) shown
+
+-- a half of a cut is no higher than this; the node that stays whole is left out
+abbrev pub IsLowHalf : ℕ → Half → Type 0
+IsLowHalf height (One entry) = height_of entry ≤ height
+IsLowHalf height (Many node) = node.height ≤ height
+IsLowHalf height Same = Unit {0}
+
+-- and so for the sides of a cut, and for what a node becomes
+abbrev pub AreNoHigher : ℕ → Cut → Type 0
+AreNoHigher height cut = IsLowHalf height cut.zero × IsLowHalf height cut.one
+
+abbrev pub IsNoHigher : ℕ → Grown → Type 0
+IsNoHigher height (Whole node) = node.height ≤ height
+IsNoHigher height (Two cut) = AreNoHigher height cut

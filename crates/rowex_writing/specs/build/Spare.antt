@@ -1,0 +1,35 @@
+-- That a change leaves a node record outside the tree, in a table with one pass, and finds one for a removal.
+use Rattle.std.specs.Prelude.{◌≡◌, ◌≢◌, ℕ, List, [], Option, None}
+use Rattle.finite_map.specs.declared.Call.{Call}
+use Rattle.finite_map.specs.declared.Call.TheVariants.{Remove, RemoveIf}
+use Rattle.record_words.specs.declared.layout.Layout.{Layout}
+use Rattle.versions.specs.Trades.{IsOneOf}
+use Rattle.record_words.specs.declared.records.Rec.{Rec}
+use Rattle.record_words.specs.declared.records.Rec.TheVariants.{Node as a_node}
+use Rattle.lone_runs.specs.Lone.{HasFree, HasRoom, HasSpare}
+use Rattle.rowex_table.specs.Seats.{SeatView}
+use Rattle.rowex_writing.specs.build.Deeds.{gone_of_span}
+use Rattle.rowex_writing.specs.build.Walks.{nodes_among}
+use Rattle.rowex_writing.specs.declared.plan.job.Job.{Job}
+use Rattle.rowex_writing.specs.declared.plan.job.Raised.{Raised}
+
+-- Before a store that links the records `made`, and after which the records `gone` go: a node record is free, or a node goes; or a node record
+-- stands in no tree, and no node is made. So one stands in no tree after the store.
+pub data WillSpare (layout : Layout) (s : SeatView) (made gone : List Rec) : Type 0 where
+  by_free : HasFree layout s → WillSpare layout s made gone
+  by_gone : (n : ℕ) → IsOneOf (a_node n) gone → WillSpare layout s made gone
+  by_kept : HasSpare layout s → nodes_among made ≡ [] → WillSpare layout s made gone
+
+-- so before the store of a job
+abbrev pub WillSpareOne : Layout → SeatView → List Rec → Job → Raised → Type 0
+WillSpareOne layout s made job raised = WillSpare layout s made (gone_of_span job.way.now job.span raised)
+
+-- Where the table has one pass, which has no record, and a node record is free, a claim of one finds one, if it may try each.
+abbrev pub FindsOne : {X : Type 0} → Layout → (left : ℕ) → SeatView → Option X → Type 0
+FindsOne layout left s result = left ≡ layout.nodes → s.known.own ≡ [] → HasRoom layout s → result ≢ None
+
+-- the call removes a key
+abbrev pub IsRemoval : Call → Type 0
+IsRemoval (Remove key) = Unit {0}
+IsRemoval (RemoveIf key expected) = Unit {0}
+IsRemoval call = ⊥

@@ -1,0 +1,92 @@
+-- What a pass knows of the leaf that it takes away.
+use Rattle.std.specs.Prelude.{◌≡◌, ℕ, ◌+◌, [], length, Some, None, get_or, ◌-◌, ◌<◌, List, ◌∷◌, ◌≤◌}
+use Rattle.compound_node.specs.declared.entries.Entry.TheVariants.{Leaf as LeafEntry, Node}
+use Rattle.tries.specs.Keys.{Key}
+use Rattle.rowex_core.specs.declared.known.Known.{Known}
+use Rattle.rowex_core.specs.Knowing.{IsPinnedSince}
+use Rattle.rowex_table.specs.Seats.{TableView, SeatView, IsSeatOf}
+use Rattle.rowex_reading.specs.Possible.{IsPossible}
+use Rattle.rowex_reading.specs.Seen.{Sure}
+use Rattle.version_laws.specs.Scan.{IsRead}
+use Rattle.rowex_writing.specs.locks.Checks.{HasTakenSpan}
+use Rattle.rowex_reading.specs.declared.descent.Found.TheVariants.{Leaf}
+use Rattle.rowex_writing.specs.declared.plan.job.Job.{Job}
+use Rattle.insert_cases.specs.declared.choice.PathNode.{PathNode}
+use Rattle.publish_laws.specs.Loops.{StaysLocked}
+use Rattle.rowex_table.specs.Made.{IsLater}
+use Rattle.record_words.specs.declared.records.Rec.TheVariants.{Node as a_node}
+use Rattle.rowex_core.specs.Cores.{word_count_of}
+use Rattle.rowex_core.specs.declared.known.Holding.TheVariants.{Held}
+use Rattle.record_words.specs.Node.{SpellBuilt}
+use Rattle.tries.specs.Place.{subtrie_without}
+use Rattle.rowex_core.specs.Reading.{node_words_of}
+use Rattle.rowex_writing.specs.locks.Going.{HasLocked}
+use Rattle.compound_node.specs.declared.entries.Entry.{Entry}
+
+-- the pass has read the leaf since a version to which its pin goes back: it has the key, and this value
+abbrev pub HasReadLeaf : Known → (number : ℕ) (key : Key) (value : ℕ) → Type 0
+HasReadLeaf k number key value = (m : ℕ) × IsPinnedSince k m × Sure k (λ past. IsRead past m number key value)
+
+-- The leaf is all of the tree. The pass has locked the anchor, and has nothing else.
+pub record HasOnlyLeaf (table : TableView) (a : SeatView) (number : ℕ) (key : Key) (value : ℕ) : Type 0 where
+  pub seat : IsSeatOf table a
+  pub possible : IsPossible table.layout a.known
+  pub own : a.known.own ≡ []
+  pub locks : a.known.locks ≡ []
+  pub anchor : a.known.anchor ≡ Some (Some (LeafEntry number))
+  pub read : HasReadLeaf a.known number key value
+
+-- The pass has locked the last node of the job's way, which names the leaf, and what names that node.
+pub record HasLeafBelow (table : TableView) (a : SeatView) (m : ℕ) (job : Job) (number value : ℕ) : Type 0 where
+  pub taken : HasTakenSpan table a m job.key.now job.way.now (Leaf number value None) job.span
+  pub is_found : job.found ≡ Leaf number value None
+  pub len : job.span.len ≡ length job.way.now
+  pub last : job.span.end + 1 ≡ job.span.len
+
+-- what stands past the end of a way
+abbrev pub no_step : PathNode
+no_step = record { number = 0; height = 0; first_position = 0; count = 0; slot = 0 }
+
+-- the last node of a job's way, which loses the leaf, and the one above it
+abbrev pub lower : Job → PathNode
+lower job = get_or job.way.now job.span.end no_step
+
+abbrev pub upper : Job → PathNode
+upper job = get_or job.way.now (job.span.end - 1) no_step
+
+-- The pass has locked the last two nodes of the way, of which the lower one names the leaf that goes.
+pub record IsTaking (table : TableView) (job : Job) : Type 0 where
+  pub before : SeatView
+  pub since : ℕ
+  pub number : ℕ
+  pub value : ℕ
+  pub found : job.found ≡ Leaf number value None
+  pub below : HasLeafBelow table before since job number value
+  pub some : 0 < job.span.end
+
+-- and since then it has gone on, with these locks and no other
+abbrev pub TakesOn : TableView → SeatView → Job → Type 0
+TakesOn table a job = (t : IsTaking table job) × IsSeatOf table a × IsPossible table.layout a.known × StaysLocked t.before.known a.known
+
+-- and so far as its locks go, whatever it has loaded of values
+abbrev pub TakesStill : TableView → SeatView → Job → Type 0
+TakesStill table a job = (t : IsTaking table job) × IsSeatOf table a × IsPossible table.layout a.known ×
+    IsLater t.before.known a.known × (a.known.locks ≡ t.before.known.locks) × (a.known.anchor ≡ t.before.known.anchor)
+
+-- The pass has claimed this node record, whatever words are in it, and has no other.
+pub record HasClaimed (table : TableView) (k : Known) (n : ℕ) : Type 0 where
+  pub low : n < table.layout.nodes
+  pub words : List ℕ
+  pub sized : length words ≡ word_count_of (a_node n)
+  pub own : k.own ≡ record { rec = a_node n; holding = Held; words = words } ∷ []
+
+-- Without the leaf a node is left of the lower one, by the words under its lock, and these words spell it.
+pub record IsLeftOfNode (k : Known) (job : Job) (left : List ℕ) : Type 0 where
+  pub words : List ℕ
+  pub has : HasLocked k (lower job).number words
+  pub built : SpellBuilt left (subtrie_without job.key.now (node_words_of words).subtrie)
+
+-- the height of the entry's node is one that a word tells
+abbrev pub HasHeight : Entry → Type 0
+HasHeight (LeafEntry n) = Unit {0}
+HasHeight (Node n h) = (1 ≤ h) × (h < 65536)

@@ -1,0 +1,46 @@
+-- What a check under the locks asks of the nodes.
+use Rattle.std.specs.Prelude.{◌≡◌, ℕ, ◌+◌, ◌<◌, ◌≤◌, List, slice_get, Some, [], length}
+use Rattle.insert_cases.specs.declared.choice.PathNode.{PathNode}
+use Rattle.tries.specs.Keys.{Key}
+use Rattle.tries.specs.Search.{seek}
+use Rattle.rowex_core.specs.declared.known.Known.{Known}
+use Rattle.rowex_core.specs.Reading.{node_words_of}
+use Rattle.rowex_writing.specs.locks.Going.{HasLocked}
+use Rattle.rowex_reading.specs.Ways.{named, IsWayOf}
+use Rattle.rowex_reading.specs.declared.descent.Found.{Found}
+use Rattle.rowex_writing.specs.declared.plan.Span.{Span}
+use Rattle.rowex_table.specs.Seats.{TableView, SeatView, IsSeatOf}
+use Rattle.rowex_reading.specs.Possible.{IsPossible}
+use Rattle.rowex_writing.specs.locks.Locks.{HasLockedSpan}
+use Rattle.rowex_writing.specs.plan.Plans.{change}
+use Rattle.rowex_writing.specs.plan.Planned.{IsPlanned}
+use Rattle.rowex_writing.specs.declared.plan.Aim.{Aim}
+use Rattle.rowex_writing.specs.declared.plan.job.Job.{Job}
+use Rattle.rowex_writing.specs.declared.plan.Deed.{Deed}
+
+-- each node that is locked for the span has on the key's way, by the words under its lock, the entry that the search took there
+abbrev pub EntriesStand : Known → Key → List PathNode → Found → Span → Type 0
+EntriesStand k key way found span = (i : ℕ) (s : PathNode) → span.end ≤ i + 1 → i < span.len → slice_get way i ≡ Some s →
+    (words : List ℕ) → HasLocked k s.number words → named way found (i + 1) ≡ Some (seek key (node_words_of words).subtrie)
+
+-- Each node that is locked for the span, and the root under the anchor's lock, names on the key's way what the search has found.
+pub record IsChecked (k : Known) (key : Key) (way : List PathNode) (found : Found) (span : Span) : Type 0 where
+  pub root : span.end ≡ 0 → k.anchor ≡ Some (named way found 0)
+  pub entries : (i : ℕ) (s : PathNode) → span.end ≤ i + 1 → i < span.len → slice_get way i ≡ Some s →
+      (words : List ℕ) → HasLocked k s.number words → named way found (i + 1) ≡ Some (seek key (node_words_of words).subtrie)
+
+-- The pass holds the locks of a span of its way, and has nothing else; and what it has found still stands.
+pub record HasTakenSpan (table : TableView) (a : SeatView) (m : ℕ) (key : Key) (way : List PathNode) (found : Found) (span : Span) : Type 0 where
+  pub seat : IsSeatOf table a
+  pub possible : IsPossible table.layout a.known
+  pub own : a.known.own ≡ []
+  pub within : (span.end ≤ span.len) × (span.len ≤ length way)
+  pub way_of : IsWayOf table.layout a.known m key way found
+  pub locked : HasLockedSpan a.known way span
+  pub checked : IsChecked a.known key way found span
+
+-- the pass has taken the span of what is planned, with this deed at its lower end
+abbrev pub HasTakenPlan : TableView → SeatView → Job → Deed → Type 0
+HasTakenPlan table a job deed =
+    (m : ℕ) × (aim : Aim) × HasTakenSpan table a m job.key.now job.way.now job.found job.span ×
+    IsPlanned a.known m job.key.now job.way.now aim job.found (change job.span.len job.span.end deed)

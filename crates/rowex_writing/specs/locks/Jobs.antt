@@ -1,0 +1,25 @@
+-- What a change is made by, and its locks.
+use Rattle.std.specs.Prelude.{ℕ, ◌≤◌, length}
+use Rattle.record_words.specs.declared.layout.Layout.{Layout}
+use Rattle.rowex_core.specs.declared.known.Known.{Known}
+use Rattle.rowex_reading.specs.Possible.{IsPossible}
+use Rattle.rowex_reading.specs.Ways.{IsWayOf}
+use Rattle.rowex_table.specs.Seats.{TableView, SeatView, IsSeatOf}
+use Rattle.rowex_writing.specs.locks.Locks.{HasLockedSpan}
+use Rattle.rowex_writing.specs.declared.plan.job.Job.{Job}
+
+-- the nodes of its span are those of a part of its way
+abbrev pub IsWithinWay : Job → Type 0
+IsWithinWay job = (job.span.end ≤ job.span.len) × (job.span.len ≤ length job.way.now)
+
+-- its way and what that ends at are what a search for its key has found, which loaded the root at version m
+abbrev pub IsJobFrom : Layout → Known → ℕ → Job → Type 0
+IsJobFrom layout k m job = IsWayOf layout k m job.key.now job.way.now job.found
+
+-- The pass has locked the span of the job, whose way it has searched.
+pub record HoldsSpan (table : TableView) (a : SeatView) (job : Job) : Type 0 where
+  pub seat : IsSeatOf table a
+  pub possible : IsPossible table.layout a.known
+  pub within : IsWithinWay job
+  pub from : (m : ℕ) × IsJobFrom table.layout a.known m job
+  pub locked : HasLockedSpan a.known job.way.now job.span

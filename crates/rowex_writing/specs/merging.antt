@@ -1,0 +1,2 @@
+-- A removal after which two nodes are one.
+pub mod Merging

@@ -1,0 +1,128 @@
+-- A removal after which what is left of the leaf's node and the node beside it are one node.
+use Rattle.std.specs.Prelude.{◌≡◌, ◌≢◌, ◌⊎◌, ℕ, ◌+◌, ◌-◌, ◌*◌, ◌<◌, ◌≤◌, List, [], ◌∷◌, length, slice_get, Bool, true, Option, Some, None}
+use Rattle.compound_node.specs.Nodes.{StandsBelow}
+use Rattle.compound_node.specs.declared.entries.Entry.{Entry}
+use Rattle.compound_node.specs.declared.entries.Entry.TheVariants.{Node}
+use Rattle.finite_map.specs.declared.Change.{Change}
+use Rattle.insert_cases.specs.declared.choice.PathNode.{PathNode}
+use Rattle.node_tries.specs.Piece.{Place, size}
+use Rattle.node_tries.specs.Changes.{beside}
+use Rattle.record_words.specs.Entry.{entry_word}
+use Rattle.tries.specs.Keys.{Key}
+use Rattle.tries.specs.Place.{spot, subtrie_sibling}
+use Rattle.tries.specs.Search.{seek}
+use Rattle.tries.specs.Tree.{Subtrie}
+use Rattle.versions.specs.Trades.{IsOneOf}
+use Rattle.record_words.specs.declared.records.Rec.{Rec}
+use Rattle.record_words.specs.declared.records.Rec.TheVariants.{Node as a_node, Leaf as a_leaf}
+use Rattle.rowex_core.specs.Reading.{node_words_of}
+use Rattle.rowex_core.specs.declared.event.Event.{Event}
+use Rattle.rowex_core.specs.declared.event.Spot.{Spot}
+use Rattle.rowex_core.specs.declared.event.Target.{Target}
+use Rattle.rowex_core.specs.declared.event.Target.TheVariants.{Anchor, Node as NodeTarget}
+use Rattle.rowex_core.specs.declared.known.Known.{Known}
+use Rattle.rowex_core.specs.declared.known.Locked.{Locked}
+use Rattle.rowex_table.specs.Made.{IsLater, nodes_of}
+use Rattle.rowex_table.specs.Seats.{TableView, SeatView, IsSeatOf}
+use Rattle.rowex_table.specs.Stays.{LeavesPin}
+use Rattle.rowex_reading.specs.Possible.{IsPossible}
+use Rattle.rowex_reading.specs.Ways.{named}
+use Rattle.rowex_reading.specs.declared.descent.Found.{Found}
+use Rattle.rowex_reading.specs.declared.descent.Found.TheVariants.{Leaf}
+use Rattle.rowex_writing.specs.build.Changes.{IsTakeChange, MayPublishOnceReady}
+use Rattle.rowex_writing.specs.plan.Counts.{change_steps, level_steps}
+use Rattle.rowex_writing.specs.locks.Going.{HasLocked}
+use Rattle.rowex_writing.specs.locks.Locks.{LocksLast, TriesNodesBy, locks_of, span_numbers, HasRun, HasTriedOnce}
+use Rattle.rowex_writing.specs.build.Putting.{IsSpotAbove}
+use Rattle.rowex_writing.specs.build.Taking.{IsTaking, lower, upper}
+use Rattle.rowex_writing.specs.declared.plan.job.Job.{Job}
+use Rattle.rowex_writing.specs.declared.merging.ClosedFork.{ClosedFork}
+use Rattle.rowex_writing.specs.declared.plan.job.Merge.{Merge}
+use Rattle.rowex_writing.specs.declared.plan.Span.{Span}
+
+-- ---- before the change
+-- In the upper node, by the words under its lock, the place alone is beside that of the lower one, and names the node.
+pub record IsNeighbour (k : Known) (job : Job) (b : Merge) : Type 0 where
+  pub words : List ℕ
+  pub has : HasLocked k (upper job).number words
+  pub forks : beside (spot job.key.now (node_words_of words).subtrie) (node_words_of words).subtrie ≡ Some (b.slot, b.position)
+  pub height : ℕ
+  pub sibling : subtrie_sibling job.key.now (node_words_of words).subtrie ≡ Some (b.position, Place (Node b.number height))
+
+-- In the locked node of the fork, by its words, the place alone is beside the one that the key's search takes; and the entry can stand in it.
+abbrev pub ClosesFork : Known → Key → ClosedFork → Type 0
+ClosesFork k key fork = (words : List ℕ) → HasLocked k fork.step.number words → (spot key (node_words_of words).subtrie ≡ fork.step.slot) ×
+    ((position : ℕ) × (beside fork.step.slot (node_words_of words).subtrie ≡ Some (fork.slot, position))) × StandsBelow (node_words_of words).fixed.height fork.entry
+
+-- what is left of a node and its sibling can't be one: an entry alone is left, or they have more than 32 entries together
+abbrev pub AreNoNode : Subtrie → Subtrie → Type 0
+AreNoNode left other = ((e : Entry) × (left ≡ Place e)) ⊎ (32 < size left + size other)
+
+-- ---- wider locks
+-- the number is that of no node of the span, nor of the two above it
+abbrev pub IsFar : List PathNode → Span → ℕ → Type 0
+IsFar way span n = (s : PathNode) (i : ℕ) → slice_get way i ≡ Some s → span.end ≤ i + 2 → i < span.len → n ≢ s.number
+
+-- the lock of what names the first of the nodes from `end` on
+abbrev pub IsTargetAbove : List PathNode → ℕ → Target → Type 0
+IsTargetAbove way end Anchor = end ≡ 0
+IsTargetAbove way end (NodeTarget n) = (s : PathNode) × (0 < end) × (slice_get way (end - 1) ≡ Some s) × (n ≡ s.number)
+
+-- Beside these locks the pass has that one, and no other; and what the lock's target names is what the search found there.
+pub data LocksAbove (held : List Locked) (key : Key) (way : List PathNode) (found : Found) (end : ℕ) (j : Known) : Type 0 where
+  by_anchor : end ≡ 0 → j.locks ≡ held → j.anchor ≡ Some (named way found 0) → LocksAbove held key way found end j
+  by_node : (s : PathNode) → 0 < end → slice_get way (end - 1) ≡ Some s → LocksLast s.number held j → j.anchor ≡ None →
+      ((words : List ℕ) → HasLocked j s.number words → named way found end ≡ Some (seek key (node_words_of words).subtrie)) → LocksAbove held key way found end j
+
+-- Beside the locks of its span the pass has locked the node beside the lower one, and what names the upper one.
+pub record IsWide (table : TableView) (b : SeatView) (job : Job) (number : ℕ) : Type 0 where
+  pub taking : IsTaking table job
+  pub seat : IsSeatOf table b
+  pub possible : IsPossible table.layout b.known
+  pub later : IsLater taking.before.known b.known
+  pub words : List ℕ
+  pub new : ¬ (IsOneOf number (nodes_of taking.before.known.locks))
+  pub low : number < table.layout.nodes
+  pub above : LocksAbove (record { node = number; words = words } ∷ taking.before.known.locks) job.key.now job.way.now job.found (job.span.end - 1) b.known
+
+-- After the locks of these nodes the pass tries two more, or fewer: each that it has tried until then, once. It has tried both where this is
+-- true.
+abbrev pub TriesMore : {G : Type 0} → TableView → (G → Event → G → Type 0) → List ℕ → Bool → SeatView × G → SeatView × G → Type 0
+TriesMore {G} table becomes nodes both b c = (a : SeatView × G) → TriesNodesBy LeavesPin table becomes nodes a b →
+    (locks : ℕ) × HasTriedOnce table becomes locks a c × (length nodes ≤ locks) × (locks ≤ length nodes + 2) × (both ≡ true → locks ≡ length nodes + 2)
+
+-- so many steps at most and these more, where each record may be tried that is left
+abbrev pub TriesFew : {G : Type 0} → TableView → (G → Event → G → Type 0) → List ℕ → (left more : ℕ) → SeatView × G → SeatView × G → Type 0
+TriesFew {G} table becomes nodes left more b c = (a : SeatView × G) → TriesNodesBy LeavesPin table becomes nodes a b →
+    (locks : ℕ) × HasTriedOnce table becomes locks a c × (length nodes ≤ locks) × (locks ≤ length nodes + 2) ×
+    (c.0.known.steps ≤ b.0.known.steps + 2 * left + (locks - length nodes) * level_steps + more)
+
+-- and a change under all these locks, with room for so many steps before it
+abbrev pub ChangesOn : {G : Type 0} → TableView → (G → Event → G → Type 0) → List ℕ → ℕ → SeatView × G → SeatView × G → Type 0
+ChangesOn {G} table becomes nodes room b c = (a : SeatView × G) → TriesNodesBy LeavesPin table becomes nodes a b →
+    (locks : ℕ) × HasTriedOnce table becomes locks a c × (length nodes ≤ locks) × (locks ≤ length nodes + 2) ×
+    (c.0.known.steps + room ≤ b.0.known.steps + change_steps table.layout locks)
+
+-- a change that tries no lock, or one that tries more beside those of its span
+abbrev pub EndsChange : {G : Type 0} → TableView → (G → Event → G → Type 0) → Job → ℕ → SeatView × G → SeatView × G → Type 0
+EndsChange {G} table becomes job room b c =
+    (HasRun table becomes b c × (c.0.known.steps + room ≤ b.0.known.steps + change_steps table.layout (locks_of job.span))) ⊎
+    ((0 < job.span.end) × (job.span.end + 1 ≡ job.span.len) × ChangesOn table becomes (span_numbers job.way.now job.span) room b c)
+
+-- ---- the store
+-- the records that go: both nodes of the span, the one beside, and the leaf
+abbrev pub merged_gone : Job → (number leaf : ℕ) → List Rec
+merged_gone job number leaf = a_node (upper job).number ∷ a_node (lower job).number ∷ a_node number ∷ a_leaf leaf ∷ []
+
+-- just those are listed, for the leaf that was found
+abbrev pub HasListed : List Rec → Job → ℕ → Type 0
+HasListed gone job number = (leaf value : ℕ) → job.found ≡ Leaf leaf value None → gone ≡ merged_gone job number leaf
+
+-- Once the records that the pass has made are ready, it may make the removal by a store of the entry above the upper node.
+pub record MayMergeInto (table : TableView) (b : SeatView) (made : List Rec) (job : Job) (number : ℕ) (e : Entry) : Type 0 where
+  pub change : Change
+  pub was : Option ℕ
+  pub takes : IsTakeChange b.known.pass job.key.now job.found change was
+  pub ends : (leaf : ℕ) (value : ℕ) (spot : Spot) → job.found ≡ Leaf leaf value None → IsSpotAbove job.way.now (job.span.end - 1) spot →
+      MayPublishOnceReady table b made spot (entry_word (Some e)) change was (merged_gone job number leaf)
+  pub few : length made ≤ 2

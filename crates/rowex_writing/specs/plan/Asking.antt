@@ -1,0 +1,42 @@
+-- What a call asks for, by the value that its key was found to have.
+use Rattle.std.specs.Prelude.{◌≡◌, ℕ, [], Option, Some, None, nat_eq, if◌then◌else◌}
+use Rattle.finite_map.specs.declared.Call.{Call}
+use Rattle.finite_map.specs.declared.Call.TheVariants.{Insert, Upsert, Exchange, Add, Get, Remove, RemoveIf}
+use Rattle.finite_map.specs.declared.Reply.{Reply}
+use Rattle.finite_map.specs.Maps.{step_where, wrapped_sum}
+use Rattle.rowex_writing.specs.declared.plan.asking.Request.{Request}
+use Rattle.rowex_writing.specs.declared.plan.Aim.{Aim}
+use Rattle.rowex_writing.specs.declared.plan.Aim.TheVariants as aim
+
+-- the value that a call gives its key, which has this value, or none; 0 if it gives none
+abbrev pub value_in : Call → Option ℕ → ℕ
+value_in (Insert key value) held = value
+value_in (Upsert key value) held = value
+value_in (Exchange key expected value) held = value
+value_in (Add key delta) (Some had) = wrapped_sum had delta
+value_in call held = 0
+
+-- the aim of a call that expects a value, if its key has it
+abbrev pub aim_where : ℕ → Option ℕ → Aim → Option Aim
+aim_where expected None aim = None
+aim_where expected (Some held) aim = if nat_eq held expected then Some aim else None
+
+-- what a call aims at whose key has this value, or none: an exchange and an addition at what an upsert does; and one that only looks at
+-- nothing
+abbrev pub aim_of : Call → Option ℕ → Option Aim
+aim_of (Insert key value) held = Some aim.Insert
+aim_of (Upsert key value) held = Some aim.Upsert
+aim_of (Exchange key expected value) held = aim_where expected held aim.Upsert
+aim_of (Add key delta) None = None
+aim_of (Add key delta) (Some had) = Some aim.Upsert
+aim_of (Get key) held = None
+aim_of (Remove key) held = Some aim.Remove
+aim_of (RemoveIf key expected) held = aim_where expected held aim.Remove
+
+-- a call requests this whose key has this value, or none
+abbrev pub IsRequest : Call → Option ℕ → Request → Type 0
+IsRequest call held request = (aim_of call held ≡ Some request.aim) × (request.value ≡ value_in call held)
+
+-- the reply to a call whose key has this value, or none, whatever else the map holds
+abbrev pub reply_to : Call → Option ℕ → Reply
+reply_to call held = (step_where held [] call).1

@@ -1,0 +1,39 @@
+-- What a pass has read of the root, and of the nodes that a plan speaks of.
+use Rattle.std.specs.Prelude.{◌≡◌, ℕ, ◌+◌, List, slice_get, Some, ◌<◌, ◌≤◌}
+use Rattle.node_tries.specs.Growth.{affected_first, affected_count}
+use Rattle.tries.specs.Keys.{Key}
+use Rattle.tries.specs.Place.{spot}
+use Rattle.tries.specs.Tree.{Subtrie}
+use Rattle.insert_cases.specs.declared.choice.PathNode.{PathNode}
+use Rattle.insert_cases.specs.Levels.{IsLevel}
+use Rattle.rowex_core.specs.declared.known.Known.{Known}
+use Rattle.version_laws.specs.Scan.{IsShaped}
+use Rattle.rowex_reading.specs.Seen.{Sure}
+use Rattle.rowex_reading.specs.declared.descent.Found.{Found}
+use Rattle.rowex_reading.specs.declared.descent.Found.TheVariants.{Leaf}
+use Rattle.rowex_writing.specs.plan.Plans.{IsPlan}
+use Rattle.rowex_writing.specs.declared.plan.Aim.{Aim}
+use Rattle.rowex_writing.specs.declared.plan.Plan.{Plan}
+use Rattle.finite_map.specs.Fronts.{BeginsWith}
+
+-- an insertion of the key at the position affects the entries from first to last of the subtrie
+pub record AffectsJust (key : Key) (position first last : ℕ) (shown : Subtrie) : Type 0 where
+  pub from : affected_first position (spot key shown) shown ≡ first
+  pub upto : affected_count position (spot key shown) shown + first ≡ last + 1
+
+-- where a new leaf goes into a node of the way, these are the entries that its position affects there, by the forks that were read
+abbrev pub AreAffected : Known → ℕ → Key → List PathNode → Found → (first last : ℕ) → Type 0
+AreAffected k m key way (Leaf number value (Some p)) first last = (level : ℕ) (s : PathNode) → IsLevel way p level → slice_get way level ≡ Some s →
+    (forks : Subtrie) × Sure k (λ past. IsShaped past m s.number forks) × AffectsJust key p first last forks
+AreAffected k m key way found first last = Unit {0}
+
+-- what the call does, by its way
+abbrev pub IsPlanned : Known → ℕ → Key → List PathNode → Aim → Found → Plan → Type 0
+IsPlanned k m key way aim found plan = (first : ℕ) × (last : ℕ) × IsPlan way first last aim found plan × AreAffected k m key way found first last
+
+-- the last load of the root was since k, and its front begins with that of k
+pub record HasLoadedRoot (k j : Known) : Type 0 where
+  pub from : k.steps ≤ j.fresh.step
+  pub upto : j.fresh.step < j.steps
+  pub old : BeginsWith j.fresh.front k.front
+  pub new : BeginsWith j.front j.fresh.front

@@ -1,0 +1,3 @@
+-- The store that is the change, and the end after it.
+pub mod Retiring
+pub mod Values

@@ -1,0 +1,55 @@
+-- The end of a change: what is unlinked is marked, and what stays is unlocked.
+use Rattle.std.specs.Prelude.{◌≡◌, ℕ, Bool, true, false, List, Option}
+use Rattle.finite_map.specs.declared.Change.{Change}
+use Rattle.record_words.specs.declared.records.Rec.{Rec}
+use Rattle.versions.specs.Trades.{AreApart}
+use Rattle.insert_cases.specs.declared.choice.PathNode.{PathNode}
+use Rattle.compound_node.specs.declared.entries.Entry.{Entry}
+use Rattle.record_words.specs.Entry.{entry_word}
+use Rattle.rowex_core.specs.declared.event.Spot.{Spot}
+use Rattle.rowex_core.specs.declared.event.Spot.TheVariants.{Root, Slot, Value}
+use Rattle.rowex_core.specs.declared.known.Known.{Known}
+use Rattle.rowex_core.specs.Having.{AreKept, OwnsJust, IsUnlinkedBefore}
+use Rattle.rowex_table.specs.Made.{nodes_of}
+use Rattle.rowex_table.specs.Publishes.{HasPublished}
+use Rattle.rowex_table.specs.Rule.{HasSpot}
+use Rattle.rowex_table.specs.Seats.{TableView, SeatView}
+use Rattle.rowex_writing.specs.build.Changes.{KnowsWas, MayPublishOnceReady}
+use Rattle.rowex_writing.specs.locks.Locks.{AreNodes, numbers_of}
+use Rattle.rowex_writing.specs.declared.build.kept.Build.{Build}
+use Rattle.rowex_core.specs.Events.{IsOfEntry}
+use Rattle.rowex_writing.specs.build.Putting.{AreInTable, IsAnchored}
+
+-- The pass has published a change, and made no step since: just the records `gone` are unlinked by it, and just the nodes `kept`
+-- are locked by it, each listed once.
+abbrev pub HasJustPublished : Known → List Rec → List ℕ → Type 0
+HasJustPublished j gone kept = (k : Known) × (x : Change) × (was : Option ℕ) × HasPublished k j x was gone kept × AreApart kept
+
+-- Just these records are the pass's own, each listed once and unlinked before its last load of the epoch, which found this one.
+pub record HasToMark (k : Known) (epoch : ℕ) (recs : List Rec) : Type 0 where
+  pub own : OwnsJust k.own (IsUnlinkedBefore k.round.version) recs
+  pub apart : AreApart recs
+  pub epoch_is : epoch ≡ k.round.epoch
+
+-- what it knows of locks, of the anchor and of changes is the same
+abbrev pub KeepsLocks : Known → Known → Type 0
+KeepsLocks k j = (j.locks ≡ k.locks) × (j.anchor ≡ k.anchor) × (j.front ≡ k.front)
+
+abbrev pub is_root : Spot → Bool
+is_root Root = true
+is_root (Slot n i) = false
+is_root (Value l) = false
+
+-- Once its records are ready, the pass may publish the change x by this store. The records that are listed for it go. Of the nodes that
+-- the pass has locked just these are kept, each listed once, and the anchor is locked just where the root is stored.
+pub record MayStore (table : TableView) (a : SeatView) (build : Build) (kept : List PathNode) (spot : Spot) (entry : Option Entry)
+    (x : Change) (was : Option ℕ) : Type 0 where
+  pub ready : MayPublishOnceReady table a build.made.items spot (entry_word entry) x was build.gone.items
+  pub of_entry : IsOfEntry spot
+  pub told : KnowsWas a.known build.gone.items was
+  pub there : HasSpot table.layout spot
+  pub records : AreInTable table.layout build.gone.items
+  pub nodes : AreNodes table.layout kept
+  pub keeps : AreKept (nodes_of a.known.locks) build.gone.items (numbers_of kept)
+  pub apart : AreApart (numbers_of kept)
+  pub anchored : IsAnchored (is_root spot) a.known

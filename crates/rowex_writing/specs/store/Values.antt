@@ -1,0 +1,58 @@
+-- The value of a leaf that a search has found, under the locks.
+use Rattle.std.specs.Prelude.{ℕ, None, ◌≡◌, Some, ◌<◌, length, Option}
+use Rattle.rowex_reading.specs.declared.descent.Found.TheVariants.{Leaf}
+use Rattle.rowex_reading.specs.declared.descent.Found.{Found}
+use Rattle.finite_map.specs.declared.Call.{Call}
+use Rattle.rowex_writing.specs.plan.Asking.{aim_of}
+use Rattle.rowex_writing.specs.declared.plan.Aim.{Aim}
+use Rattle.rowex_reading.specs.Ways.{value_of}
+use Rattle.finite_map.specs.Fronts.{map_of}
+use Rattle.finite_map.specs.Maps.{value_at}
+use Rattle.tries.specs.Keys.{Key}
+use Rattle.rowex_core.specs.declared.known.Known.{Known}
+use Rattle.rowex_reading.specs.Lookups.{HasFound}
+use Rattle.rowex_table.specs.Made.{IsLater}
+use Rattle.publish_laws.specs.Stages.{HasLoaded}
+use Rattle.record_words.specs.declared.layout.Layout.{Layout}
+use Rattle.rowex_writing.specs.locks.Jobs.{IsJobFrom}
+use Rattle.rowex_writing.specs.declared.plan.job.Job.{Job}
+use Rattle.finite_map.specs.declared.Change.{Change}
+use Rattle.rowex_writing.specs.build.Changes.{HasChanged, IsDeedChange}
+use Rattle.rowex_writing.specs.declared.plan.Deed.{Deed}
+
+-- the same end of a search, where a leaf with the key has this value
+abbrev pub revalued : Found → ℕ → Found
+revalued (Leaf number value None) now = Leaf number now None
+revalued found now = found
+
+-- The pass has found this again under its locks: what its search found, with the value that the leaf has then; and the call has the same
+-- aim there.
+pub record IsFoundAgain (call : Call) (found now : Found) : Type 0 where
+  pub value : ℕ
+  pub is : now ≡ revalued found value
+  pub aims : (aim : Aim) → aim_of call (value_of found) ≡ Some aim → aim_of call (value_of now) ≡ Some aim
+
+-- where a leaf was found for the key, the key has this value after the changes that the pass has seen
+abbrev pub HoldsFound : Known → Key → Found → Type 0
+HoldsFound k key found = (number value : ℕ) → found ≡ Leaf number value None → value_at (map_of k.front) key ≡ Some value
+
+-- Under its locks the pass has found the key with another value, at which the call has nothing to change. The key had it in a version
+-- since the pass's last load of the root.
+pub record HasFoundOther (k j : Known) (call : Call) (key : Key) (now : Found) : Type 0 where
+  pub later : IsLater k j
+  pub value : ℕ
+  pub is : value_of now ≡ Some value
+  pub held : HasFound j key (Some value)
+  pub aimless : aim_of call (Some value) ≡ None
+
+-- it has loaded the value of the leaf that was found for the key, if one was, since it last locked
+abbrev pub HasLoadedFound : Known → Found → Type 0
+HasLoadedFound k found = (number value : ℕ) → found ≡ Leaf number value None → HasLoaded k number value
+
+-- another pass has made a change since the search of the job
+abbrev pub HasMoved : Layout → Job → Known → Known → Type 0
+HasMoved layout job k j = (m : ℕ) → IsJobFrom layout k m job → m < length j.front
+
+-- what is done at the lower end of a span has been done: the key has the value, or it is absent
+abbrev pub HasDoneDeed : Known → Known → Deed → Key → ℕ → Found → Type 0
+HasDoneDeed k j deed key value found = (x : Change) × (was : Option ℕ) × IsDeedChange k.pass deed key value found x was × HasChanged k j x was

@@ -1,0 +1,235 @@
+//! Where a pass claims records: the hints that it keeps between calls, and the claims that begin with them.
+
+ghost use Rattle.std.specs.Prelude.{◌≡◌, ◌<◌, ◌≤◌, ◌++◌, ◌∷◌, [], length, ◌⊎◌, ◌+◌, ◌-◌, ◌^◌, min, ◌*◌, MatchOption, IfOk, List, ℕ, vec_capacity};
+ghost use Rattle.record_words.specs.declared.records.Rec.TheVariants.{Node as a_node};
+ghost use Rattle.rowex_table.specs.Seats.{IsSeatOf};
+ghost use Rattle.rowex_records.specs.Claims.{AllMissed, HoldsOneMore, IsAnothersTo, IsKindOf, count_of, record_of};
+ghost use Rattle.rowex_writing.specs.build.Spare.{FindsOne};
+ghost use Rattle.rowex_writing.specs.locks.Going.{WorksOn};
+ghost use Rattle.record_words.specs.declared.records.Rec.{Rec as Record};
+ghost use Rattle.rowex_writing.specs.build.Walks.{HasNoOther, IsClaimWalk};
+
+use rowex_core::Gate;
+use rowex_records::{RecordKind, claim_by_number, claim_next_record, claim_record};
+use rowex_table::{HotTable, TableSeat};
+use std::alloc::{AllocError, Global};
+
+/// The most numbers of records of one kind that a pass keeps to begin claims with.
+const MOST_SPARE: u32 = 256;
+
+/// Where the claims of a pass begin, of node records or of the leaf records of one class. Numbers are counted from the first of these
+/// on.
+///
+/// Whatever a hint says, a claim of a leaf record tries each that has room before it finds that none is free. All claims of node
+/// records in one change share one walk, which tries each of them once before it finds that.
+#[derive(Drop)]
+pub struct Hint {
+    /// Numbers that the pass has given back, as far as they find room here: claims begin with the last of these.
+    pub spare: Vec<u32>,
+    /// The number with which claims go on where none of these is free.
+    pub next: u32,
+    /// Where they begin when they don't go on.
+    pub stretch: Stretch,
+    /// How many claims of a leaf record still try these records last, since a claim found none of them free. That claim sets it to the
+    /// number of the records. So in the long run a claim looks at one of them.
+    pub skips: u32,
+}
+
+impl Hint {
+    /// A hint without spare numbers, whose claims begin at the number `next`, for `records` records; an error if its memory is refused. No
+    /// later call asks for any.
+    pub fn begin_at(alloc: Global, next: u32, records: u32) -> Result<Hint, AllocError>
+        ensures spare { IfOk result (λ hint. hint.spare.items ≡ []) }
+        ensures next { IfOk result (λ hint. hint.next ≡ next) }
+        ensures skips { IfOk result (λ hint. hint.skips ≡ 0) }
+    {
+        Ok(Hint {
+            spare: Vec::with_capacity(alloc, records.min(MOST_SPARE) as usize)?,
+            next,
+            stretch: Stretch::begin_at(next),
+            skips: 0,
+        })
+    }
+
+    /// Adds `number` to the spare ones, with which claims begin. Where these have no room for more it is not kept. Whether it is kept or
+    /// not, claims skip these records no more.
+    pub fn give_back(&mut self, number: u32)
+        ensures kept { length self.old.spare.items < vec_capacity self.old.spare → self.new.spare.items ≡ self.old.spare.items ++ number ∷ [] }
+        ensures full { vec_capacity self.old.spare ≤ length self.old.spare.items → self.new.spare.items ≡ self.old.spare.items }
+        ensures next { self.new.next ≡ self.old.next }
+        ensures skips { self.new.skips ≡ 0 }
+    {
+        self.skips = 0;
+        if self.spare.len() < self.spare.capacity() {
+            self.spare.push_reserved(number);
+        } else {
+            self.stretch.note_given();
+        }
+    }
+}
+
+/// Where a pass claims records of a kind, where none is spare. These are plain numbers, which promise nothing.
+///
+/// The pass claims one record after the other, and the stretch is what it has come by. Where more than an eighth of that was given back,
+/// it claims there again. So a table takes memory for what is in use, and little more.
+#[derive(Drop)]
+pub struct Stretch {
+    /// The number with which the stretch begins.
+    first: u32,
+    /// The number after its last one.
+    end: u32,
+    /// The number after that of the record that was claimed again last.
+    again: u32,
+    /// About how many records of the stretch are free: that many did the pass give back, and claim no more.
+    given: u32,
+}
+
+/// Of so many records of the stretch one has to be free before claims are made there again.
+const SHARE: u32 = 8;
+
+impl Stretch {
+    /// An empty stretch, which begins at the number `first`.
+    pub fn begin_at(first: u32) -> Stretch
+        ensures { (result.first ≡ first) × (result.end ≡ first) × (result.again ≡ first) × (result.given ≡ 0) }
+    {
+        Stretch {
+            first,
+            end: first,
+            again: first,
+            given: 0,
+        }
+    }
+
+    /// The number with which the next claim begins: one of the stretch, if enough of it was given back, else the one behind it.
+    pub fn start(&self) -> u32
+        ensures { (result ≡ self.now.again) ⊎ (result ≡ self.now.end) }
+    {
+        if self.given > self.end.saturating_sub(self.first) / SHARE {
+            self.again
+        } else {
+            self.end
+        }
+    }
+
+    /// Notes that the pass gave a record back that isn't spare. Where several passes come and go, as many of its stretch are given back by
+    /// others.
+    pub fn note_given(&mut self)
+        ensures given { self.new.given ≡ min (self.old.given + 1) (2 ^ 32 - 1) }
+        ensures same { (self.new.first ≡ self.old.first) × (self.new.end ≡ self.old.end) × (self.new.again ≡ self.old.again) }
+    {
+        self.given = self.given.saturating_add(1);
+    }
+
+    /// Notes that the record `number` was claimed, by a claim that began at `start`.
+    ///
+    /// One that began in the stretch and ended behind it has found no free record from there on. The next one begins where the stretch does;
+    /// and if this one did so, too, nothing of it is free. One that began behind the stretch and ended in it has found nothing free behind:
+    /// from then on claims go on in the stretch.
+    pub fn note_claimed(&mut self, start: u32, number: u32)
+        ensures within { self.old.first ≤ number → number < self.old.end → (self.new.first ≡ self.old.first) × (self.new.end ≡ self.old.end) }
+        ensures behind { self.old.first ≤ self.old.end → self.old.end ≤ number → number + 1 < 2 ^ 32 → self.new.end ≡ number + 1 }
+    {
+        let next = number.wrapping_add(1);
+        if self.first <= number && number < self.end {
+            self.again = if next < self.end { next } else { self.first };
+            self.given = if start < self.end {
+                self.given.saturating_sub(1)
+            } else {
+                u32::MAX
+            };
+            return;
+        }
+        if number < self.first {
+            *self = Stretch::begin_at(number);
+        } else if start == self.first {
+            self.given = 0;
+        }
+        self.again = self.first;
+        self.end = next;
+    }
+}
+
+/// Claims a record of `kind` and returns its number, counted from the first of the kind on. `None` if none was free.
+///
+/// It tries the last spare number of `hint` first, which is spare no more. Then it tries each record once, from where `hint` says. Inline,
+/// so that no claim asks of which kind it is.
+#[inline(always)]
+pub(crate) fn claim_by_hint<G: Gate>(
+    table: &HotTable,
+    seat: &mut TableSeat,
+    gate: &mut G,
+    kind: RecordKind,
+    hint: &mut Hint,
+) -> Option<u32>
+    requires own { IsSeatOf table.now seat.old }
+    requires kind { IsKindOf kind table.now.layout }
+    ensures goes { WorksOn table.now G.becomes (seat.old, gate.old) (seat.new, gate.new) }
+    ensures claims { MatchOption result
+        ((seat.new.known.own ≡ seat.old.known.own) ×
+        AllMissed (IsAnothersTo table.now.layout seat.old.known) (record_of kind) (count_of kind table.now.layout) seat.new.known.failed seat.old.known.steps)
+        (λ number. (number < count_of kind table.now.layout) × HoldsOneMore (record_of kind number) seat.old.known seat.new.known) }
+    ensures few { seat.new.known.steps ≤ seat.old.known.steps + 2 * count_of kind table.now.layout + 2 }
+{
+    if let Some(number) = claim_spare_record(table, seat, gate, kind, &mut hint.spare) {
+        return Some(number);
+    }
+    hint.next = hint.stretch.start();
+    let number = claim_record(table, seat, gate, kind, hint.next)?;
+    hint.stretch.note_claimed(hint.next, number);
+    Some(number)
+}
+
+/// Takes the last number out of `spare`, and returns it if the pass could claim that record of `kind`. `None` if it couldn't, or if `spare`
+/// was empty. Inline, so that no claim asks of which kind it is.
+#[inline(always)]
+fn claim_spare_record<G: Gate>(
+    table: &HotTable,
+    seat: &mut TableSeat,
+    gate: &mut G,
+    kind: RecordKind,
+    spare: &mut Vec<u32>,
+) -> Option<u32>
+    requires own { IsSeatOf table.now seat.old }
+    requires kind { IsKindOf kind table.now.layout }
+    ensures goes { WorksOn table.now G.becomes (seat.old, gate.old) (seat.new, gate.new) }
+    ensures claims { MatchOption result (seat.new.known.own ≡ seat.old.known.own)
+        (λ number. (number < count_of kind table.now.layout) × HoldsOneMore (record_of kind number) seat.old.known seat.new.known) }
+    ensures few { seat.new.known.steps ≤ seat.old.known.steps + 2 }
+{
+    let number = spare.pop()?;
+    if claim_by_number(table, seat, gate, kind, number) {
+        return Some(number);
+    }
+    None
+}
+
+/// Claims the next free node record of the walk and returns its number. `None` if none of those left was free.
+///
+/// It tries the last spare number of `hint` first, which is spare no more. Then it tries `left` records at most, once each, from
+/// `hint.next` on. `left` becomes less by those, and `hint.next` the number after one claimed so.
+pub(crate) fn claim_node_on_walk<G: Gate>(
+    table: &HotTable,
+    seat: &mut TableSeat,
+    gate: &mut G,
+    hint: &mut Hint,
+    left: &mut u32,
+) -> Option<u32>
+    requires own { IsSeatOf table.now seat.old }
+    ensures goes { WorksOn table.now G.becomes (seat.old, gate.old) (seat.new, gate.new) }
+    ensures claims { MatchOption result (seat.new.known.own ≡ seat.old.known.own)
+        (λ number. (number < table.now.layout.nodes) × HoldsOneMore (a_node number) seat.old.known seat.new.known) }
+    ensures walk { (since : ℕ) (made : List Record) → HasNoOther seat.old.known made →
+        IsClaimWalk table.now.layout since seat.old.known made hint.old.next left.old → MatchOption result
+        ((left.new ≡ 0) × IsClaimWalk table.now.layout since seat.new.known made hint.new.next left.new)
+        (λ number. IsClaimWalk table.now.layout since seat.new.known (made ++ a_node number ∷ []) hint.new.next left.new) }
+    ensures few { seat.new.known.steps + 2 * left.new ≤ seat.old.known.steps + 2 * left.old + 2 }
+    ensures finds { FindsOne table.now.layout left.old seat.old result }
+{
+    if let Some(number) = claim_spare_record(table, seat, gate, RecordKind::Node, &mut hint.spare) {
+        return Some(number);
+    }
+    let number = claim_next_record(table, seat, gate, RecordKind::Node, hint.next, left)?;
+    hint.stretch.note_claimed(hint.next, number);
+    hint.next = number + 1;
+    Some(number)
+}

@@ -1,0 +1,141 @@
+//! The leaf record of a change: claimed in the smallest class that has one free, and filled.
+
+ghost use Rattle.std.specs.Prelude.{◌≡◌, ◌<◌, ◌≤◌, ◌+◌, ◌*◌, [], MatchOption, ◌-◌};
+ghost use Rattle.key_bits.specs.Key.{IsKey};
+ghost use Rattle.rowex_table.specs.Seats.{IsSeatOf};
+ghost use Rattle.rowex_reading.specs.Possible.{IsPossible};
+ghost use Rattle.rowex_writing.specs.build.Building.{HasLeafMade, IsBuilding};
+ghost use Rattle.rowex_writing.specs.build.Changes.{IsFull};
+ghost use Rattle.rowex_writing.specs.declared.plan.Full.TheVariants.{Leaves};
+ghost use Rattle.rowex_writing.specs.plan.Counts.{leaf_steps};
+ghost use Rattle.rowex_writing.specs.locks.Going.{WorksOn};
+ghost use Rattle.tries.specs.Content.{item};
+ghost use Rattle.record_words.specs.Layout.{leaf_size};
+ghost use Rattle.record_words.specs.declared.TheConstants.{LEAF_WORDS};
+ghost use Rattle.record_words.specs.declared.records.Rec.TheVariants.{Leaf as a_leaf};
+ghost use Rattle.rowex_records.specs.Claims.{AllMissedFrom, HoldsOneMore, IsAnothersTo};
+ghost use Rattle.rowex_writing.specs.build.Classes.{AllMissedBetween};
+
+use crate::build::hints::{Hint, claim_by_hint};
+use crate::build::kept::Build;
+use crate::plan::job::Job;
+use record_words::{LEAF_CLASSES, Layout, count_leaf_words};
+use rowex_core::{Gate, Rec};
+use rowex_records::{RecordKind, fill_leaf};
+use rowex_table::{HotTable, TableSeat};
+use std::ops::Range;
+
+/// Makes a record for the leaf of `job.key` and `job.value`, the first record of a change, and returns its number. `build.made` is this
+/// record alone then. `None` if no leaf record with room for the key was free: `build.made` is empty then.
+pub(crate) fn make_leaf<G: Gate>(
+    table: &HotTable,
+    seat: &mut TableSeat,
+    gate: &mut G,
+    build: &mut Build,
+    job: &Job<'_>,
+) -> Option<u32>
+    requires own { IsSeatOf table.now seat.old }
+    requires possible { IsPossible table.now.layout seat.old.known }
+    requires none { seat.old.known.own ≡ [] }
+    requires key { IsKey job.now.key.now }
+    ensures goes { WorksOn table.now G.becomes (seat.old, gate.old) (seat.new, gate.new) }
+    ensures made { MatchOption result
+        (IsBuilding table.now seat.new build.new.made.items [] × IsFull table.now.layout job.now.key.now seat.old.known seat.new.known [] Leaves)
+        (λ n. HasLeafMade table.now seat.new build.new.made.items (item n job.now.key.now job.now.value)) }
+    ensures few { seat.new.known.steps ≤ seat.old.known.steps + leaf_steps table.now.layout }
+{
+    build.made.clear();
+    let number = claim_leaf(
+        table,
+        seat,
+        gate,
+        count_leaf_words(job.key),
+        &mut build.leaves,
+    )?;
+    fill_leaf(table, seat, gate, number, job.key, job.value);
+    build.made.push(Rec::Leaf(number));
+    Some(number)
+}
+
+/// Claims a leaf record of at least `words` words and returns its number. `None` if none was free. `classes` has the hint of each class.
+///
+/// The classes of records that are large enough are tried one after the other, the smallest first. The smallest ones that are to be skipped
+/// come after the others.
+fn claim_leaf<G: Gate>(
+    table: &HotTable,
+    seat: &mut TableSeat,
+    gate: &mut G,
+    words: usize,
+    classes: &mut [Hint; LEAF_CLASSES],
+) -> Option<u32>
+    requires own { IsSeatOf table.now seat.old }
+    requires words { words ≤ LEAF_WORDS }
+    ensures goes { WorksOn table.now G.becomes (seat.old, gate.old) (seat.new, gate.new) }
+    ensures claims { MatchOption result
+        ((seat.new.known.own ≡ seat.old.known.own) ×
+        AllMissedFrom (IsAnothersTo table.now.layout seat.old.known) table.now.layout words seat.new.known.failed seat.old.known.steps)
+        (λ number. (number < table.now.layout.leaves) × (words ≤ leaf_size table.now.layout number) ×
+        HoldsOneMore (a_leaf number) seat.old.known seat.new.known) }
+    ensures few { seat.new.known.steps ≤ seat.old.known.steps + 4 * table.now.layout.leaves }
+{
+    let layout = table.layout();
+    let first = layout.first_leaf_with(words);
+    let from = skip_classes(layout, classes, first);
+    if let Some(number) = claim_leaf_between(table, seat, gate, from..layout.leaves, classes) {
+        return Some(number);
+    }
+    let number = claim_leaf_between(table, seat, gate, first..from, classes)?;
+    Some(number)
+}
+
+/// The number of the first leaf record, from `first` on, whose class is not to be skipped; `layout.leaves` if there is none. In `classes`,
+/// each class that is skipped has one claim less to skip afterwards.
+fn skip_classes(layout: Layout, classes: &mut [Hint; LEAF_CLASSES], first: u32) -> u32
+    requires { first ≤ layout.leaves }
+    ensures { (first ≤ result) × (result ≤ layout.leaves) }
+{
+    let mut from = first;
+    while from < layout.leaves {
+        let hint = &mut classes[layout.class_of(from).index()];
+        if hint.skips == 0 {
+            return from;
+        }
+        hint.skips -= 1;
+        from = layout.class_end(from);
+    }
+    from
+}
+
+/// Claims a leaf record with one of `numbers`, of the smallest class that has one free, and returns its number. `None` if none was free.
+/// By its hint in `classes` a class with none free is to be skipped then. Inline, so that the class of the first is known.
+#[inline(always)]
+fn claim_leaf_between<G: Gate>(
+    table: &HotTable,
+    seat: &mut TableSeat,
+    gate: &mut G,
+    numbers: Range<u32>,
+    classes: &mut [Hint; LEAF_CLASSES],
+) -> Option<u32>
+    requires own { IsSeatOf table.now seat.old }
+    requires range { (numbers.start ≤ numbers.end) × (numbers.end ≤ table.now.layout.leaves) }
+    ensures goes { WorksOn table.now G.becomes (seat.old, gate.old) (seat.new, gate.new) }
+    ensures claims { MatchOption result
+        ((seat.new.known.own ≡ seat.old.known.own) ×
+        AllMissedBetween (IsAnothersTo table.now.layout seat.old.known) numbers.start numbers.end seat.new.known.failed seat.old.known.steps)
+        (λ number. (numbers.start ≤ number) × (number < numbers.end) × HoldsOneMore (a_leaf number) seat.old.known seat.new.known) }
+    ensures few { seat.new.known.steps ≤ seat.old.known.steps + 4 * (numbers.end - numbers.start) }
+{
+    let layout = table.layout();
+    let mut first = numbers.start;
+    while first < numbers.end {
+        let end = layout.class_end(first).min(numbers.end);
+        let hint = &mut classes[layout.class_of(first).index()];
+        let kind = RecordKind::Leaf { first, end };
+        if let Some(number) = claim_by_hint(table, seat, gate, kind, hint) {
+            return Some(first + number);
+        }
+        hint.skips = end - first;
+        first = end;
+    }
+    None
+}

@@ -1,0 +1,262 @@
+//! Node records that a change makes: of one node, or of both halves of a cut. Their claims share one walk.
+
+ghost use Rattle.std.specs.Prelude.{◌≡◌, ◌<◌, ◌≤◌, ◌+◌, ◌*◌, ◌++◌, ◌∷◌, [], List, ℕ, length, MatchOption, None, false, true, Contains};
+ghost use Rattle.record_words.specs.Node.{CanTakeLeaf, HasNodeWords, node_words};
+ghost use Rattle.record_words.specs.Reading.{IsSpelling};
+ghost use Rattle.rowex_table.specs.Made.{Made};
+ghost use Rattle.rowex_table.specs.Seats.{IsSeatOf};
+ghost use Rattle.publish_laws.specs.Rises.{made_of_node};
+ghost use Rattle.rowex_writing.specs.build.Spare.{FindsOne};
+ghost use Rattle.rowex_writing.specs.build.Building.{IsBuilding, IsHalfMade, IsMadeFrom, HasNotMade};
+ghost use Rattle.rowex_writing.specs.build.Remaking.{AwaitsLeaf, subtrie_with_leaf};
+ghost use Rattle.compound_node.specs.Nodes.{IsBuiltFrom, NodeView, piece};
+ghost use Rattle.insert_cases.specs.declared.growth.Grown.TheVariants.{Two};
+ghost use Rattle.rowex_writing.specs.plan.Counts.{node_steps};
+ghost use Rattle.rowex_writing.specs.locks.Going.{WorksOn};
+ghost use Rattle.rowex_writing.specs.build.Walks.{Makes, HasWalked, IsClaimWalk, looks_for, looks_unless};
+ghost use Rattle.record_words.specs.declared.records.Rec.TheVariants.{Node as a_node};
+ghost use Rattle.rowex_records.specs.Claims.{AllMissed, HoldsOneMore, HasMissedSince, IsAnothersBut};
+ghost use Rattle.lone_runs.specs.Lone.{HasFree};
+ghost use Rattle.record_words.specs.declared.records.Rec.{Rec as Record};
+
+use crate::build::hints::claim_node_on_walk;
+use crate::build::kept::{Build, MOST_MADE};
+use crate::build::remaking::NewLeaf;
+use compound_node::{Cut, Entry, Half, Node};
+use insert_cases::Risen;
+use record_words::{
+    HEAD_WORDS, NODE_FIELDS, NUMBERS_INDEX, Tag, affected_slots, pack_node, pack_state,
+    read_numbers,
+};
+use rowex_core::{Gate, Rec};
+use rowex_records::{RecordKind, fill_node, find_free_record};
+use rowex_table::{HotTable, TableSeat};
+
+/// Makes a record for `node`, adds it to `build.made`, and returns its entry. `None` if no node record was free: none is added.
+///
+/// The claim tries the last spare record, and then `build.left_nodes` others at most, from `build.nodes.next` on. These are all, where the
+/// change has claimed none yet.
+pub(crate) fn make_node<G: Gate>(
+    table: &HotTable,
+    seat: &mut TableSeat,
+    gate: &mut G,
+    build: &mut Build,
+    node: &Node,
+) -> Option<Entry>
+    requires building { (news : List Made) × IsBuilding table.now seat.old build.old.made.items news }
+    requires room { length build.old.made.items < MOST_MADE }
+    ensures makes { Makes 1 node_steps table.now G.becomes ((seat.old, gate.old), build.old) ((seat.new, gate.new), build.new) result }
+    ensures made { (news : List Made) → IsBuilding table.now seat.old build.old.made.items news → MatchOption result
+        (HasNotMade table.now seat.new build.new.made.items)
+        (λ e. (number : ℕ) × (e ≡ Entry.Node number node.now.height) × HasNodeWords node.now ×
+        IsBuilding table.now seat.new build.new.made.items (made_of_node number node.now ∷ news)) }
+    ensures same { result ≡ None → (seat.new.known.own ≡ seat.old.known.own) × (build.new.made.items ≡ build.old.made.items) }
+{
+    let words = pack_node(node);
+    make_node_from_words(table, seat, gate, build, &words)
+}
+
+/// Makes a node record of `words`, which are those of a node, adds it to `build.made`, and returns its entry. `None` if no node record was
+/// free: none is added. Claims go on as in [`make_node`].
+pub(crate) fn make_node_from_words<G: Gate>(
+    table: &HotTable,
+    seat: &mut TableSeat,
+    gate: &mut G,
+    build: &mut Build,
+    words: &[u64; NODE_FIELDS],
+) -> Option<Entry>
+    requires building { (news : List Made) × IsBuilding table.now seat.old build.old.made.items news }
+    requires spelling { IsSpelling HasNodeWords node_words words.now }
+    requires room { length build.old.made.items < MOST_MADE }
+    ensures makes { Makes 1 node_steps table.now G.becomes ((seat.old, gate.old), build.old) ((seat.new, gate.new), build.new) result }
+    ensures made { (news : List Made) (node : NodeView) → HasNodeWords node → node_words node ≡ words.now →
+        IsBuilding table.now seat.old build.old.made.items news →
+        MatchOption result (HasNotMade table.now seat.new build.new.made.items)
+        (λ e. (number : ℕ) × (e ≡ Entry.Node number node.height) × IsBuilding table.now seat.new build.new.made.items (made_of_node number node ∷ news)) }
+    ensures same { result ≡ None → (seat.new.known.own ≡ seat.old.known.own) × (build.new.made.items ≡ build.old.made.items) }
+    ensures finds { FindsOne table.now.layout build.old.left_nodes seat.old result }
+{
+    let number = claim_node(table, seat, gate, build)?;
+    fill_node(table, seat, gate, number, words);
+    build.made.push(Rec::Node(number));
+    Some(Entry::Node {
+        number,
+        height: read_numbers(words[NUMBERS_INDEX]).height,
+    })
+}
+
+/// Makes a record for the node that `words` spell with the leaf `new`, adds it to `build.made`, and returns its entry. `None` if no node
+/// record was free: none is added. The node has leaves alone and room for one more. In any case `words` get the leaf, too.
+pub(crate) fn make_node_with_leaf<G: Gate>(
+    table: &HotTable,
+    seat: &mut TableSeat,
+    gate: &mut G,
+    build: &mut Build,
+    words: &mut [u64; NODE_FIELDS],
+    new: &NewLeaf<'_>,
+) -> Option<Entry>
+    requires building { (news : List Made) × IsBuilding table.now seat.old build.old.made.items news }
+    requires takes { (node : NodeView) × AwaitsLeaf words.old node new.now × CanTakeLeaf node }
+    requires room { length build.old.made.items < MOST_MADE }
+    ensures makes { Makes 1 node_steps table.now G.becomes ((seat.old, gate.old), build.old) ((seat.new, gate.new), build.new) result }
+    ensures made { (news : List Made) (node : NodeView) → AwaitsLeaf words.old node new.now → CanTakeLeaf node →
+        IsBuilding table.now seat.old build.old.made.items news →
+        MatchOption result (HasNotMade table.now seat.new build.new.made.items)
+        (λ e. (after : NodeView) × IsBuiltFrom after (subtrie_with_leaf new.now (piece node)) × (number : ℕ) × (e ≡ Entry.Node number after.height) ×
+        HasNodeWords after × IsBuilding table.now seat.new build.new.made.items (made_of_node number after ∷ news)) }
+    ensures same { result ≡ None → (seat.new.known.own ≡ seat.old.known.own) × (build.new.made.items ≡ build.old.made.items) }
+{
+    let bit = new.key.bit(new.position);
+    let (first, last) = affected_slots(&words[..HEAD_WORDS], new.slot, new.position);
+    record_words::add_leaf(words, first, last, new.position, bit, new.number);
+    make_node_from_words(table, seat, gate, build, words)
+}
+
+/// The entry for `half`, a side of the cut node that `old` names. It is the one entry itself, that of a new node, whose record is added to
+/// `build.made`, or `old` for the node as it was. `None` if a record was wanted and none was free: none is added.
+fn make_half_entry<G: Gate>(
+    table: &HotTable,
+    seat: &mut TableSeat,
+    gate: &mut G,
+    build: &mut Build,
+    old: Entry,
+    half: &Half,
+) -> Option<Entry>
+    requires room { length build.old.made.items < MOST_MADE }
+    requires building { (news : List Made) × IsBuilding table.now seat.old build.old.made.items news }
+    ensures makes { Makes 1 node_steps table.now G.becomes ((seat.old, gate.old), build.old) ((seat.new, gate.new), build.new) result }
+    ensures made { (news : List Made) → IsBuilding table.now seat.old build.old.made.items news → MatchOption result
+        (HasNotMade table.now seat.new build.new.made.items)
+        (λ e. (more : List Made) × IsHalfMade old half.now e more × IsBuilding table.now seat.new build.new.made.items (more ++ news)) }
+{
+    match half {
+        Half::One(entry) => Some(*entry),
+        Half::Many(node) => make_node(table, seat, gate, build, node),
+        Half::Same => Some(old),
+    }
+}
+
+/// Makes what takes the place of a node with the entry `old` that was cut in two: a fork. Each new node gets a record, that of the 1 side
+/// first. `None` if no node record was free: one made by then stays in `build.made`.
+pub(crate) fn make_risen<G: Gate>(
+    table: &HotTable,
+    seat: &mut TableSeat,
+    gate: &mut G,
+    build: &mut Build,
+    old: Entry,
+    cut: &Cut,
+) -> Option<Risen>
+    requires building { (news : List Made) × IsBuilding table.now seat.old build.old.made.items news }
+    requires room { length build.old.made.items + 1 < MOST_MADE }
+    ensures makes { Makes 2 (2 * node_steps) table.now G.becomes ((seat.old, gate.old), build.old) ((seat.new, gate.new), build.new) result }
+    ensures made { (news : List Made) → IsBuilding table.now seat.old build.old.made.items news → MatchOption result
+        (HasNotMade table.now seat.new build.new.made.items)
+        (λ risen. (after : List Made) × IsMadeFrom old (Two cut.now) risen news after × IsBuilding table.now seat.new build.new.made.items after) }
+{
+    let one = make_half_entry(table, seat, gate, build, old, &cut.one)?;
+    let zero = make_half_entry(table, seat, gate, build, old, &cut.zero)?;
+    Some(Risen::Split {
+        position: cut.position,
+        zero,
+        one,
+    })
+}
+
+/// Claims a node record and returns its number. `None` if each was found not free since the change began to claim them.
+///
+/// All claims of a change try each node record once at most, spare ones aside. Where none is left to try, each was found not free, or the
+/// change has made it. Those that it has made are looked at now.
+pub(crate) fn claim_node<G: Gate>(
+    table: &HotTable,
+    seat: &mut TableSeat,
+    gate: &mut G,
+    build: &mut Build,
+) -> Option<u32>
+    requires building { (news : List Made) × IsBuilding table.now seat.old build.old.made.items news }
+    ensures goes { WorksOn table.now G.becomes (seat.old, gate.old) (seat.new, gate.new) }
+    ensures claims { MatchOption result (seat.new.known.own ≡ seat.old.known.own)
+        (λ number. (number < table.now.layout.nodes) × HoldsOneMore (a_node number) seat.old.known seat.new.known) }
+    ensures made { build.new.made.items ≡ build.old.made.items }
+    ensures walk { (since : ℕ) → HasWalked table.now.layout since seat.old.known build.old → MatchOption result
+        (AllMissed (IsAnothersBut table.now.layout seat.new.known build.new.made.items) a_node table.now.layout.nodes seat.new.known.failed since)
+        (λ number. IsClaimWalk table.now.layout since seat.new.known (build.old.made.items ++ a_node number ∷ [])
+        build.new.nodes.next build.new.left_nodes) }
+    ensures few { seat.new.known.steps + 2 * build.new.left_nodes ≤ seat.old.known.steps + 2 * build.old.left_nodes + 2 + looks_for build.new result }
+    ensures finds { FindsOne table.now.layout build.old.left_nodes seat.old result }
+{
+    let claimed = claim_node_on_walk(table, seat, gate, &mut build.nodes, &mut build.left_nodes);
+    if let Some(number) = claimed {
+        return Some(number);
+    }
+    load_states(table, seat, gate, build.made.as_slice());
+    None
+}
+
+/// Whether one node record more is free than the change has claimed. It is not claimed, but left for the removals. `false` if each was
+/// found not free since the change began to claim them.
+///
+/// It looks at the last spare one first, and then goes on with the walk of the claims. So the next claims begin with the one that it found.
+/// Where it finds none, the change has made those that were its own, which are looked at now.
+pub(crate) fn leaves_free_node<G: Gate>(
+    table: &HotTable,
+    seat: &mut TableSeat,
+    gate: &mut G,
+    build: &mut Build,
+) -> bool
+    requires building { (news : List Made) × IsBuilding table.now seat.old build.old.made.items news }
+    ensures goes { WorksOn table.now G.becomes (seat.old, gate.old) (seat.new, gate.new) }
+    ensures own { seat.new.known.own ≡ seat.old.known.own }
+    ensures made { build.new.made.items ≡ build.old.made.items }
+    ensures walk { result ≡ false → (since : ℕ) → HasWalked table.now.layout since seat.old.known build.old →
+        AllMissed (IsAnothersBut table.now.layout seat.new.known build.new.made.items) a_node table.now.layout.nodes seat.new.known.failed since }
+    ensures few { seat.new.known.steps ≤ seat.old.known.steps + 2 * build.old.left_nodes + 1 + looks_unless result build.new }
+    ensures free { result ≡ true → HasFree table.now.layout seat.new }
+{
+    if is_last_free(table, seat, gate, build.nodes.spare.as_slice()) {
+        return true;
+    }
+    let (next, left) = (build.nodes.next, build.left_nodes);
+    if let Some(number) = find_free_record(table, seat, gate, RecordKind::Node, next, left) {
+        build.nodes.next = number;
+        return true;
+    }
+    load_states(table, seat, gate, build.made.as_slice());
+    false
+}
+
+/// Whether a load finds the node record free that has the last number in `spare`. `false`, and no step, if there is none.
+fn is_last_free<G: Gate>(
+    table: &HotTable,
+    seat: &mut TableSeat,
+    gate: &mut G,
+    spare: &[u32],
+) -> bool
+    requires own { IsSeatOf table.now seat.old }
+    ensures goes { WorksOn table.now G.becomes (seat.old, gate.old) (seat.new, gate.new) }
+    ensures own { seat.new.known.own ≡ seat.old.known.own }
+    ensures few { seat.new.known.steps ≤ seat.old.known.steps + 1 }
+    ensures free { result ≡ true → HasFree table.now.layout seat.new }
+{
+    if spare.is_empty() {
+        return false;
+    }
+    let number = spare[spare.len() - 1];
+    if number >= table.layout().nodes {
+        return false;
+    }
+    table.load_state(seat, gate, Rec::Node(number)) == pack_state(Tag::Free)
+}
+
+/// Loads the states of the records `made`, which the pass has made, so that each was found not free.
+fn load_states<G: Gate>(table: &HotTable, seat: &mut TableSeat, gate: &mut G, made: &[Rec])
+    requires building { (news : List Made) × IsBuilding table.now seat.old made.now news }
+    ensures goes { WorksOn table.now G.becomes (seat.old, gate.old) (seat.new, gate.new) }
+    ensures own { seat.new.known.own ≡ seat.old.known.own }
+    ensures seen { (r : Record) → Contains made.now r →
+        HasMissedSince (IsAnothersBut table.now.layout seat.old.known made.now) seat.new.known.failed r seat.old.known.steps }
+    ensures few { seat.new.known.steps ≤ seat.old.known.steps + length made.now }
+{
+    for index in 0..made.len() {
+        table.load_state(seat, gate, made[index]);
+    }
+}
