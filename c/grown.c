@@ -801,7 +801,7 @@ int main(int count, char **words) {
     test_bound();
     test_sections();
     test_load();
-    test_catching_up(20 * times);
+    test_catching_up(80 * times);
     test_judge();
     test_histories(40 * times, 5 * times);
     test_members(4, 200 * times, 2 * times);
