@@ -80,6 +80,12 @@ class Server:
         self.client.run_all(commands)
         return (self.used() - before) / len(commands)
 
+    def alone(self, command: bytes) -> float:
+        """The nanoseconds that the server was at one of the commands itself since its statistics began anew."""
+        said = self.client.run(b"INFO", b"commandstats")
+        calls, used = re.search(rb"cmdstat_%s:calls=(\d+),usec=(\d+)" % re.escape(command.lower()), said).groups()
+        return 1000 * int(used) / int(calls)
+
     def saved(self) -> int:
         self.client.run(b"SAVE")
         return os.path.getsize(Path(self.folder.name) / "dump.rdb")
@@ -174,17 +180,20 @@ def measure_large(module: str, count: int) -> None:
 def measure_calls(server: Server, count: int) -> None:
     """The least of some rounds, in which the kinds have their turns."""
     calls = 20_000
-    works = {"set, ns": (set_of, KINDS), "get, ns": (get_of, KINDS), "range of 100, ns": (range_of, WHOLE)}
+    works = {"set, ns": (set_of, SET), "get, ns": (get_of, GET), "range of 100, ns": (range_of, {kind: it[0] for kind, it in WHOLE.items()})}
     for name, (command, kinds) in works.items():
-        number = calls if command is not range_of else calls // 10
         times: "dict[str, list[float]]" = {kind: [] for kind in kinds}
+        alone: "dict[str, list[float]]" = {kind: [] for kind in kinds}
         for turn in range(ROUNDS):
             some = random.Random(turn)
-            order = [some.randrange(count) for _ in range(number)]
+            order = [some.randrange(count) for _ in range(calls if command is not range_of else calls // 10)]
             for kind in kinds:
+                server.client.run(b"CONFIG", b"RESETSTAT")
                 times[kind].append(server.timed([command(kind, at) for at in order]))
+                alone[kind].append(server.alone(kinds[kind]))
         for kind in kinds:
             tell(f"{name}: {kind}", count, min(times[kind]))
+            tell(f"{name}, the command alone: {kind}", count, min(alone[kind]))
 
 
 def latencies(server: Server, count: int, seconds: float) -> "list[float]":
@@ -224,9 +233,9 @@ def scan(port: int) -> None:
 
 def main() -> None:
     words = argparse.ArgumentParser(description=__doc__)
-    words.add_argument("module", help="the module")
+    words.add_argument("module", type=os.path.abspath, help="the module")
     words.add_argument("count", type=int, nargs="?", default=1_000_000)
-    words.add_argument("--seconds", type=float, default=10)
+    words.add_argument("--seconds", type=float, default=10, help="how long sets are watched beside whole ranges; 0 is not at all, for a busy machine")
     words.add_argument("--scan", type=int, metavar="PORT", help=argparse.SUPPRESS)
     given = words.parse_args()
     if given.scan:
@@ -237,7 +246,8 @@ def main() -> None:
         for kind in KINDS:
             server.client.run_all([set_of(kind, at) for at in range(given.count)])
         measure_calls(server, given.count)
-        measure_waits(server, given.count, given.seconds)
+        if given.seconds > 0:
+            measure_waits(server, given.count, given.seconds)
 
 
 if __name__ == "__main__":

@@ -30,14 +30,16 @@ static int open_key(opened *it, RedisModuleCtx *ctx, RedisModuleString *name, in
     it->name = name;
     it->key = RedisModule_OpenKey(ctx, name, mode);
     it->was = it->now = NULL;
-    if (it->key == NULL || RedisModule_KeyType(it->key) == REDISMODULE_KEYTYPE_EMPTY)
+    if (it->key == NULL)
         return 1;
-    if (RedisModule_ModuleTypeGetType(it->key) != map_type) {
-        RedisModule_CloseKey(it->key);
-        return refuse(ctx, "WRONGTYPE Operation against a key holding the wrong kind of value");
+    if (RedisModule_ModuleTypeGetType(it->key) == map_type) {
+        it->was = it->now = RedisModule_ModuleTypeGetValue(it->key);
+        return 1;
     }
-    it->was = it->now = RedisModule_ModuleTypeGetValue(it->key);
-    return 1;
+    if (RedisModule_KeyType(it->key) == REDISMODULE_KEYTYPE_EMPTY)
+        return 1;
+    RedisModule_CloseKey(it->key);
+    return refuse(ctx, "WRONGTYPE Operation against a key holding the wrong kind of value");
 }
 
 static void close_key(opened *it) {
@@ -554,7 +556,7 @@ static void take_from_key(opened *of, RedisModuleString **argv, removal *it) {
         RedisModule_Replicate(of->ctx, "om.delrange", "ssscl", argv[1], argv[2], argv[3], "LIMIT", (long long)it->taken);
         tell(of, "om.delrange");
     }
-    if (it->is_refused)
+    if (it->is_refused && it->taken == 0)
         refuse_page(of->ctx);
     else
         RedisModule_ReplyWithLongLong(of->ctx, (long long)it->taken);

@@ -28,21 +28,26 @@ static void forget_pages(void *at, size_t bytes) {
         madvise((void *)begin, end - begin, MADV_DONTNEED);
 }
 
-/* Tells the server how much memory an index takes. No call does that: so the server gives out as much, which is never used and
- * takes address space alone. So it counts in used_memory, keys are evicted for it, and deny-oom commands are refused. */
-static void tell_server(indexed_map *of) {
+/* How much memory an index takes. Of small tables hot_bytes counts much that is never written: so a bound goes by the pairs that
+ * there were. */
+static size_t bytes_of(const indexed_map *of) {
+    enum { FIRST = 100 << 10, FOR_A_PAIR = 400 };
     hot_memory bytes;
-    size_t far;
+    size_t most = FIRST + of->most * FOR_A_PAIR;
     hot_bytes(of->index, &bytes);
-    far = bytes.now > of->told_bytes ? bytes.now - of->told_bytes : of->told_bytes - bytes.now;
+    return bytes.now < most ? bytes.now : most;
+}
+
+void index_tell(indexed_map *of) {
+    size_t bytes = bytes_of(of), far = bytes > of->told_bytes ? bytes - of->told_bytes : of->told_bytes - bytes;
     if (far < of->told_bytes / 16)
         return;
     RedisModule_Free(of->told);
-    of->told = RedisModule_TryAlloc(bytes.now);
+    of->told = RedisModule_TryAlloc(bytes);
     if (of->told != NULL)
-        forget_pages(of->told, bytes.now);
-    atomic_fetch_add(&index_bytes, bytes.now - of->told_bytes);
-    of->told_bytes = bytes.now;
+        forget_pages(of->told, bytes);
+    atomic_fetch_add(&index_bytes, bytes - of->told_bytes);
+    of->told_bytes = bytes;
 }
 
 void index_leave(indexed_map *of) {
@@ -53,9 +58,7 @@ void index_leave(indexed_map *of) {
 }
 
 size_t index_memory(const indexed_map *of) {
-    hot_memory bytes;
-    hot_bytes(of->index, &bytes);
-    return sizeof *of + bytes.now + of->text_bytes + of->gone_room * sizeof *of->gone;
+    return sizeof *of + bytes_of(of) + of->text_bytes + of->gone_room * sizeof *of->gone;
 }
 
 /* ---- Making and freeing ---- */
@@ -117,7 +120,7 @@ static int begin_use(indexed_map *of, size_t count) {
     of->count = of->most = count;
     of->next_look = 1;
     atomic_fetch_add(&index_count, 1);
-    tell_server(of);
+    index_tell(of);
     return 1;
 }
 
@@ -230,10 +233,12 @@ void index_retire(indexed_map *of, word value) {
 /* Has a job give it a table that has room, so that no change of the main thread finds it full. */
 static void look(indexed_map *of) {
     of->next_look = (uint32_t)(of->count / 64 < UINT32_MAX ? of->count / 64 : UINT32_MAX) + 64;
-    tell_server(of);
+    if (of->is_growing)
+        return;
     if (of->count > of->most)
         of->most = of->count;
-    if (of->count >= LARGE && !of->is_growing && hot_is_filling(of->index))
+    index_tell(of);
+    if (of->count >= LARGE && hot_is_filling(of->index))
         jobs_resize(of, 0);
 }
 
@@ -258,6 +263,10 @@ int index_take(indexed_map *of, field key, word *had) {
 }
 
 void index_trim(indexed_map *of) {
-    if (of->most >= LARGE && of->count < of->most / 8 && !of->is_growing && jobs_resize(of, 1))
-        of->most = of->count;
+    uint64_t most = of->most;
+    if (most < LARGE || of->count >= most / 8 || of->is_growing)
+        return;
+    of->most = of->count;
+    if (!jobs_resize(of, 1))
+        of->most = most;
 }

@@ -132,6 +132,7 @@ static void resize(keeping *it) {
     hot_status status = it->what == TRIM ? hot_trim(it->of->index) : hot_grow(it->of->index);
     if (status == HOT_DONE)
         atomic_fetch_add(&growth_count, 1);
+    index_tell(it->of);
     it->of->is_growing = 0;
     map_drop((map *)it->of);
 }
@@ -197,10 +198,10 @@ static int start(void *(*run)(void *), const char *name) {
     return is_started;
 }
 
-int jobs_start(void) {
-    size_t at;
-    for (at = 0; at < jobs_threads(); at++)
-        if (!start(read_all, "map_reader"))
-            return 0;
-    return has_keeper = start(keep_all, "map_keeper");
+void jobs_start(void) {
+    long long at = 0;
+    while (at < reader_threads && start(read_all, "map_reader"))
+        at++;
+    reader_threads = at;
+    has_keeper = start(keep_all, "map_keeper");
 }

@@ -18,12 +18,12 @@ typedef struct read_job {
 
 extern atomic_ullong read_count, gone_count;
 
-/* How many threads read, which is set before they begin. */
+/* How many threads read. It is set before they begin. */
 extern long long reader_threads;
 size_t jobs_threads(void);
 
-/* Starts the threads: 0 if that is refused. */
-int jobs_start(void);
+/* Starts the threads, as far as the system lets it: what no thread does is left to the main one. */
+void jobs_start(void);
 
 /* Has the client wait for a read, whose memory is freed when it has ended. The map stays until then. */
 void jobs_read(RedisModuleCtx *ctx, read_job *it, indexed_map *of);

@@ -182,23 +182,35 @@ static void take_back(indexed_map *of, const setting *it, const step *did, size_
     }
 }
 
-static hot_status set_indexed(indexed_map *of, setting *it) {
-    step one, *did = it->count == 1 ? &one : RedisModule_TryAlloc(it->count * sizeof *did);
-    hot_status status = did == NULL ? HOT_NO_MEMORY : HOT_DONE;
+/* Sets the pairs, of which there are several. */
+static hot_status set_many(indexed_map *of, setting *it) {
+    step *did = RedisModule_TryAlloc(it->count * sizeof *did);
+    hot_status status = HOT_DONE;
     size_t at, count = 0;
-    it->set = it->new_fields = 0;
+    if (did == NULL)
+        return HOT_NO_MEMORY;
     while (status == HOT_DONE && count < it->count) {
         status = set_in_index(of, it, it->words[2 * count], it->words[2 * count + 1], &did[count]);
         count += status == HOT_DONE;
     }
-    if (did != NULL && status != HOT_DONE)
+    if (status != HOT_DONE)
         take_back(of, it, did, count);
-    else
-        for (at = 0; at < count; at++)
-            if (did[at].did == REPLACED)
-                index_retire(of, did[at].had);
-    if (did != &one)
-        RedisModule_Free(did);
+    for (at = 0; status == HOT_DONE && at < count; at++)
+        if (did[at].did == REPLACED)
+            index_retire(of, did[at].had);
+    RedisModule_Free(did);
+    return status;
+}
+
+static hot_status set_indexed(indexed_map *of, setting *it) {
+    hot_status status;
+    step did;
+    it->set = it->new_fields = 0;
+    if (it->count > 1)
+        return set_many(of, it);
+    status = set_in_index(of, it, it->words[0], it->words[1], &did);
+    if (did.did == REPLACED)
+        index_retire(of, did.had);
     return status;
 }
 

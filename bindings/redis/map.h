@@ -46,7 +46,7 @@ typedef struct indexed_map {
     uint32_t next_look; /* after so many further new pairs it is looked how full the table is */
     retired *gone;      /* values that jobs may still read */
     size_t gone_count, gone_room;
-    void *told; /* memory of the server that stands for the index's: see tell_server */
+    void *told; /* memory of the server that stands for the index's: see index_tell */
     size_t told_bytes;
 } indexed_map;
 

@@ -74,5 +74,6 @@ int RedisModule_OnLoad(RedisModuleCtx *ctx, RedisModuleString **argv, int argc) 
     if (configure(ctx) != REDISMODULE_OK || type_make(ctx) != REDISMODULE_OK || commands_make(ctx) != REDISMODULE_OK ||
         RedisModule_RegisterInfoFunc(ctx, write_info) != REDISMODULE_OK)
         return refuse(ctx, "the server refused a part of it");
-    return jobs_start() ? REDISMODULE_OK : refuse(ctx, "a thread was refused");
+    jobs_start();
+    return REDISMODULE_OK;
 }

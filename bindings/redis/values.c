@@ -36,13 +36,28 @@ static word short_word(const char *at, size_t length) {
 
 /* ---- Numbers ---- */
 
+/* Reads eight digits at once: 0 if these bytes are none. Pairs of digits become numbers, then pairs of those. */
+static int read_eight(const char *at, uint64_t *number) {
+    const uint64_t high = 0xf0f0f0f0f0f0f0f0u, above_nine = 0x0606060606060606u;
+    uint64_t bytes;
+    memcpy(&bytes, at, sizeof bytes);
+    if (((bytes & high) | ((bytes + above_nine) & high) >> 4) != 0x3333333333333333u)
+        return 0;
+    bytes = (bytes & 0x0f0f0f0f0f0f0f0fu) * (1 + (10 << 8)) >> 8;
+    bytes = (bytes & 0x00ff00ff00ff00ffu) * (1 + (100 << 16)) >> 16;
+    *number = (bytes & 0x0000ffff0000ffffu) * (1 + (10000ull << 32)) >> 32;
+    return 1;
+}
+
 int read_number(text of, int64_t *to) {
     const char *at = of.at, *end = of.at + of.length;
     int is_negative = of.length > 0 && *at == '-';
-    uint64_t sum = 0, most = INT64_MAX + (uint64_t)is_negative;
+    uint64_t sum = 0, most = INT64_MAX + (uint64_t)is_negative, eight;
     at += is_negative;
     if (at == end || end - at > MOST_DIGITS || (*at == '0' && of.length > 1))
         return 0;
+    for (; end - at >= 8 && read_eight(at, &eight); at += 8)
+        sum = sum * 100000000 + eight;
     for (; at < end; at++) {
         if (*at < '0' || *at > '9')
             return 0;

@@ -230,19 +230,23 @@ class Model:
             self.server.run("DEBUG", "RELOAD")
         else:
             before = self.rewrite()
-        assert self.server.run("DEBUG", "DIGEST-VALUE", NAME) == before, how
+        if self.server.run("DEBUG", "DIGEST-VALUE", NAME) != before:
+            raise AssertionError(f"{how}: {self.difference()}\n{self.server.log()}")
         self.made[how] += 1
+
+    def difference(self) -> object:
+        """What the map has that its model hasn't, and the other way round."""
+        said = self.server.run("OM.RANGE", NAME, "-", "+", "WITHVALUES")
+        held = dict(zip(said[::2], said[1::2]))
+        return sorted(held.items() - self.pairs.items())[:5], sorted(self.pairs.items() - held.items())[:5]
 
     def rewrite(self) -> object:
         """Loads an append-only file, rewritten in one of its forms, with a change behind it. Returns the digest of before."""
-        client = self.server.client
-        client.config_set("aof-use-rdb-preamble", self.random.choice(["yes", "no"]))
-        client.config_set("appendonly", "yes")
-        self.server.until("persistence", "aof_rewrite_in_progress", 0)
+        self.server.rewrite(self.random.choice(["yes", "no"]))
         self.set_many()
         digest = self.server.run("DEBUG", "DIGEST-VALUE", NAME)
         self.server.run("DEBUG", "LOADAOF")
-        client.config_set("appendonly", "no")
+        self.server.client.config_set("appendonly", "no")
         return digest
 
     def change_size(self) -> None:

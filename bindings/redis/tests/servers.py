@@ -83,6 +83,15 @@ class Server:
                 raise RuntimeError(f"{name} is not {value}: {self.log()}")
             time.sleep(0.02)
 
+    def rewrite(self, form: str) -> None:
+        """Begins an append-only file, which has a preamble or not, and waits until it is there."""
+        self.client.config_set("aof-use-rdb-preamble", form)
+        self.client.config_set("appendonly", "yes")
+        self.until("persistence", "aof_rewrite_scheduled", 0)
+        self.until("persistence", "aof_rewrite_in_progress", 0)
+        if self.client.info("persistence")["aof_last_bgrewrite_status"] != "ok":
+            raise RuntimeError(f"the file was not written: {self.log()}")
+
     def stop(self) -> None:
         if self.process is not None:
             self.client.connection_pool.disconnect()

@@ -39,10 +39,7 @@ class Files(unittest.TestCase):
             server.start()
             self.assertEqual(digest(server), before)
             for form in ("yes", "no"):
-                server.client.config_set("aof-use-rdb-preamble", form)
-                server.client.config_set("appendonly", "yes")
-                server.until("persistence", "aof_rewrite_in_progress", 0)
-                server.until("persistence", "aof_rewrite_scheduled", 0)
+                server.rewrite(form)
                 server.run("OM.DEL", "large", *list(pairs)[:100])
                 server.run("OM.POPMIN", "large", 10)
                 server.run("OM.ADD", "counter", "a", 5)
@@ -72,10 +69,10 @@ class Files(unittest.TestCase):
 
     def test_kill(self) -> None:
         """Each write that was answered is there after kill -9, where each is synchronized."""
-        answered = 0
+        answered = kills = 0
         with Server("--appendonly", "yes", "--appendfsync", "always") as server:
-            for at in range(10 if IS_LONG else 2):
-                killer = threading.Timer(1.0 if IS_LONG else 0.4, server.process.kill)
+            while kills < 2 or answered < (10_000 if IS_LONG else 50):
+                killer = threading.Timer(random.uniform(0.2, 2 if IS_LONG else 0.5), server.process.kill)
                 killer.start()
                 with self.assertRaises(redis.ConnectionError):
                     while True:
@@ -85,9 +82,10 @@ class Files(unittest.TestCase):
                 server.process.wait()
                 server.client.connection_pool.disconnect()
                 server.start()
-                self.assertIn(server.run("OM.COUNT", "m", "-", b"(f%09d" % answered), [answered], f"kill {at}")
+                kills += 1
+                self.assertEqual(server.run("OM.COUNT", "m", "-", b"(f%09d" % answered), answered, f"kill {kills}")
                 answered = server.run("OM.LEN", "m")
-        print(f"\nkill -9: {answered} writes, none lost", end=" ")
+        print(f"\nkill -9: {answered} answered writes after {kills} kills, none lost", end=" ")
 
 
 class Copies(unittest.TestCase):
@@ -264,7 +262,7 @@ class Stress:
             self.wrong += [pair for pair in zip(fields, said[1::2]) if not pair[1].startswith(pair[0] + b":")][:3]
             if sum(field.startswith(b"k:") and int(field[2:]) % 2 == 0 for field in fields) != self.FIELDS // 2:
                 self.wrong.append("a field is missing")
-            if client.execute_command("OM.COUNT", name, "[k:", "(k;") < self.FIELDS // 2:
+            if client.execute_command("OM.COUNT", "m", "[k:", "(k;") < self.FIELDS // 2:
                 self.wrong.append("a field isn't counted")
 
     def write(self) -> None:

@@ -92,7 +92,10 @@ class Refused(unittest.TestCase):
         """A child to which memory is refused ends, and the server says so and keeps its file."""
         fill(self.server, "m", numbers(5_000))
         self.server.client.save()
-        self.server.run("OM.SET", "m", "more", 1)
+        # A handle keeps memory of a scan for the next one: so the map is loaded anew.
+        self.server.stop()
+        self.server.start()
+        self.server.run("OM.SET", "m", "f0000001", "changed")
         self.switch.write_text("child")
         self.server.client.bgsave()
         self.server.until("persistence", "rdb_bgsave_in_progress", 0)
@@ -102,6 +105,7 @@ class Refused(unittest.TestCase):
         self.server.client.bgsave()
         self.server.until("persistence", "rdb_bgsave_in_progress", 0)
         self.assertEqual(self.server.client.info("persistence")["rdb_last_bgsave_status"], "ok")
+        self.assertEqual(self.server.run("OM.GET", "m", "f0000001"), b"changed")
 
 
 if __name__ == "__main__":
