@@ -445,7 +445,8 @@ int heap_pause(void **words) {
 
 void heap_go_on(const heap_table *table, void *words, heap_lists *lists) {
     pages *filled = words;
-    heap_begin(filled == NULL ? NULL : table, lists);
+    heap_begin(table, lists);
+    making.left = filled == NULL ? 0 : making.left;
     making.zeros = filled;
     making.is_filled = 1;
     if (filled != NULL)

@@ -9,18 +9,17 @@ enum { BYTES = 4 << 20, WORDS = BYTES / 8, FIRST = 5, BEHIND = PAGE };
 /* What is done in another way. */
 typedef enum way { AS_MADE, FROM_ONE_BLOCK, ZEROS_WRITTEN, TABLE_WRITTEN, HEAD_NOT_COPIED, ZEROS_KEPT, TABLE_MOVED, TABLE_FREED, WAYS } way;
 
-static const heap_table table = {BYTES, {0, 0, 0, 0, 0, 0, BYTES}, {0, 0, 0, 0, 0, 0}, {0, 0, 0, 0, 0, 0}};
+static const heap_table table = {BYTES, {0, 0, 0, 0, 0, 0, BYTES}, {0, 0, 0, 0, 0, 0}, {0, 0, 0, 0, 0, 0}, {0, 0, 0, 0, 0, 0}};
 
-static uint64_t *block(void) {
+static uint64_t *table_block(void) {
     tried made = rattle_alloc(BYTES, 8);
     CHECK(made.ok);
     return made.at;
 }
 
-/* Makes the table of these words, as is told. Returns it, or NULL if it was
- * freed. */
+/* Makes the table of these words, as is told. Returns it, or NULL if it was freed. */
 static uint64_t *copy(uint64_t *words, way how) {
-    uint64_t *made = block();
+    uint64_t *made = table_block();
     size_t word;
     for (word = how == HEAD_NOT_COPIED ? FIRST + 1 : 0; word < WORDS; word++)
         made[word] = words[word];
@@ -40,7 +39,7 @@ static int is_made(way how) {
     uint64_t *zeros, *made;
     int may;
     heap_begin(&table, NULL);
-    zeros = block();
+    zeros = table_block();
     zeros[FIRST] = 7;
     if (how == ZEROS_WRITTEN)
         zeros[BEHIND] = 1;
@@ -65,14 +64,14 @@ static int is_loaded(way how) {
     size_t word;
     int may;
     heap_begin(&table, NULL);
-    words = block();
+    words = table_block();
     words[FIRST] = 7;
     if (how == ZEROS_WRITTEN)
         words[BEHIND] = 1;
     may = heap_pause(&paused);
     for (word = BEHIND; word < WORDS; word++)
         words[word] = word;
-    heap_go_on(&table, paused);
+    heap_go_on(&table, paused, NULL);
     made = copy(words, how);
     may &= heap_end();
     for (word = BEHIND; may && word < WORDS; word++)
