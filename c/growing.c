@@ -617,11 +617,11 @@ static void take_over(grower *of) {
     of->head.next = NULL;
     for (at = 0; at < STRIPES; at++)
         unlock_word(&of->head.stripes[at]);
+    lock_word(&of->index->filling);
+    of->index->holds = to->holds; /* before another handle gets lists there */
+    unlock_word(&of->index->filling);
     unlock_word(&of->index->opening);
     end_job(of, 1);
-    lock_word(&of->index->filling);
-    of->index->holds = to->holds;
-    unlock_word(&of->index->filling);
     watch(of, old->seen, 1);
     old->next = of->left;
     of->left = old;
