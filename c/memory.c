@@ -354,7 +354,7 @@ static void test_load_resident(void) {
         loaded = resident() - first;
         CHECK(loaded < MOST * (long)count + FOR_HANDLE && (place < 2 || when_moved > first));
         hot_bytes(index, &bytes);
-        CHECK((long)bytes.now > loaded - FOR_HANDLE && (long)bytes.now < loaded + 2 * FOR_HANDLE && bytes.most >= bytes.now);
+        CHECK((long)bytes.now + WATCHING > loaded - FOR_HANDLE && (long)bytes.now < loaded + 2 * FOR_HANDLE && bytes.most >= bytes.now);
         CHECK(when_moved - first < loaded + CHUNK);
         CHECK(hot_open(index, &handle) == HOT_DONE && has_numbers(&handle, counts[place]));
         CHECK(hot_close(&handle) == HOT_DONE && hot_close_index(index) == HOT_DONE && in_use == 0);
