@@ -3,14 +3,17 @@
  * How that goes. Who makes a portion of it holds the grower's lock. The phase of the growth says what else a change does:
  *
  *   STILL    nothing.
- *   LOGGING  it notes its key in the log of its handle, once it is made.
- *   BOTH     it locks the stripe of its key, is made in the table of now, and gives the key the same state in the next one.
+ *   LOGGING  it notes its key in a log of its handle, once it is made.
+ *   BOTH     it locks the stripe of its key, is made in the table of now, and gives the key the same state in the next one. If the stripe is
+ *            locked, it is made in the table of now and noted in another log.
+ *   LAST     the same, but it waits for the stripe.
  *
  * 1. The phase becomes LOGGING. When all changes that began before have ended, a load begins, of a scan. Each pair that it lists was there at
  *    some moment since, and each key that changed since is in a log.
  * 2. When the load has ended, the handles of the next table are opened, and the phase becomes BOTH. When all changes that began before have
- *    ended, no log gets more keys. Each key in one gets in the next table the state that it has in the table of now, under its stripe.
- * 3. So each key whose stripe is not locked has the same state in both. All stripes are locked, the next table becomes that of now, and the
+ *    ended, the first logs get no more keys. Each key in one gets in the next table the state that it has in the table of now, under its stripe.
+ * 3. Then the phase becomes LAST, and the same is done with the other logs: they have the few keys that found their stripe locked.
+ *    So each key whose stripe is not locked has the same state in both. All stripes are locked, the next table becomes that of now, and the
  *    phase STILL. Changes that waited for a stripe begin anew.
  * 4. A look-up that began before may go on in the old table, which changes no more: it is of the moment of the hand-over, at which it was under
  *    way. When all calls that began before have ended, the old table goes.
@@ -30,8 +33,8 @@ enum { SIZES = 5, STRIPES = 64 };
 /* A table is made with room for so many eighths of the keys: one that is larger, one that fits, and the least. */
 enum { LARGER = 24, FITTING = 13, LEAST_EIGHTHS = 9 };
 
-/* The phases, and that of a change that found its stripe locked. */
-enum { STILL, LOGGING, BOTH, IN_THE_WAY };
+/* The phases, and that of a change that is to wait for its stripe. */
+enum { STILL, LOGGING, BOTH, LAST, IN_THE_WAY };
 
 /* A portion takes so many pairs, whose keys have so many bytes at most, or makes so many keys alike. */
 enum { PORTION = 512, ROOM = 16 << 10, ALIKE = 256 };
@@ -43,6 +46,20 @@ typedef struct chunk {
     uint8_t bytes[8 << 10];
 } chunk;
 
+/* What a test does between the look at a key and the change of its copy, and between a change and its note. */
+#ifdef HOT_STANDS
+void stand_here(const uint8_t *key, size_t length);
+void stand_unnoted(void);
+#else
+static void stand_here(const uint8_t *key, size_t length) {
+    (void)key;
+    (void)length;
+}
+
+static void stand_unnoted(void) {
+}
+#endif
+
 /* Why a change wants a larger table: its status, and the length of its key. */
 typedef struct lack {
     hot_status why;
@@ -50,7 +67,7 @@ typedef struct lack {
 } lack;
 
 /* What is done next. */
-typedef enum stage { SETTLE, LIST, MAKE, OPEN, SETTLE_AGAIN, CATCH_UP, TAKE_OVER, GIVE_UP } stage;
+typedef enum stage { SETTLE, LOAD_ANEW, LIST, MAKE, OPEN, SETTLE_AGAIN, CATCH_UP, SETTLE_AT_LAST, CATCH_UP_AT_LAST, TAKE_OVER, GIVE_UP } stage;
 
 /* A growth that is under way. */
 typedef struct job {
@@ -173,15 +190,17 @@ hot_handle *begin_change(hot_handle *handle, const uint8_t *key, size_t length) 
         if (now != place->in)
             go_over(place, now);
         place->stripe = NULL;
-        if (place->phase != BOTH)
+        place->log = &place->logs[place->phase != LOGGING];
+        if (place->phase != BOTH && place->phase != LAST)
             return place->at;
         place->stripe = stripe_of(of, key, length);
         if (!try_to_lock(place->stripe)) {
+            int is_to_wait = place->phase == LAST;
             place->stripe = NULL;
-            place->phase = IN_THE_WAY;
-            return &closed;
+            place->phase = is_to_wait ? IN_THE_WAY : LOGGING;
+            return is_to_wait ? &closed : place->at;
         }
-        if (__atomic_load_n(&of->phase, __ATOMIC_SEQ_CST) == BOTH)
+        if (__atomic_load_n(&of->phase, __ATOMIC_SEQ_CST) == place->phase)
             return place->at;
         unlock_word(place->stripe);
         ends(&place->changes);
@@ -195,7 +214,7 @@ static void refuse(growth *of, hot_status why) {
 
 /* Notes a key that was changed. Returns whether that took a further chunk. */
 static int log_key(growing_place *place, const uint8_t *key, size_t length) {
-    chunk *log = place->log;
+    chunk *log = *place->log;
     int is_full = log != NULL && sizeof log->bytes - log->used <= length;
     if (log == NULL || is_full) {
         log = malloc(sizeof *log);
@@ -204,9 +223,9 @@ static int log_key(growing_place *place, const uint8_t *key, size_t length) {
             return 0;
         }
         __atomic_add_fetch(&place->of->logged, sizeof *log, __ATOMIC_RELAXED);
-        log->next = place->log;
+        log->next = *place->log;
         log->used = 0;
-        place->log = log;
+        *place->log = log;
     }
     log->bytes[log->used] = (uint8_t)length;
     memcpy(&log->bytes[log->used + 1], key, length);
@@ -219,12 +238,14 @@ static void make_alike(growth *of, hot_handle *from, hot_handle *to, const uint8
     hot_waits so_far = HOT_NO_WAITS;
     uint64_t value, had;
     hot_status status;
-    do
-        if (proved_get(from, key, length, &value) == HOT_FOUND)
+    do {
+        int is_there = proved_get(from, key, length, &value) == HOT_FOUND;
+        stand_here(key, length);
+        if (is_there)
             status = proved_try_upsert(to, key, length, value, &had);
         else
             status = proved_try_remove(to, key, length, &had);
-    while (hot_wait(status, &so_far));
+    } while (hot_wait(status, &so_far));
     if (status >= HOT_BUSY)
         refuse(of, status);
 }
@@ -251,9 +272,11 @@ hot_status end_change(hot_handle *handle, const uint8_t *key, size_t length, hot
         status = HOT_BUSY;
     else if (status == HOT_KEY_TOO_LONG && length <= HOT_MAX_KEY)
         status = HOT_FULL_LEAVES;
-    if (made >> status & 1 && place->phase == LOGGING)
+    if (made >> status & 1 && place->phase == LOGGING) {
+        stand_unnoted();
         is_to_help = log_key(place, key, length);
-    if (made >> status & 1 && place->phase == BOTH)
+    }
+    if (made >> status & 1 && (place->phase == BOTH || place->phase == LAST))
         make_alike(of, place->at, &of->next->handles[place - ((grower *)of)->places], key, length);
     if (place->stripe != NULL)
         unlock_word(place->stripe);
@@ -477,41 +500,43 @@ static void give_up(grower *of, hot_status why) {
     watch(of, it->to->seen, 0);
 }
 
-/* Takes the logs of all handles, to which nothing more comes. */
-static void take_logs(grower *of) {
+/* Takes the first logs of all handles, or the others, to which nothing more comes. */
+static void take_logs(grower *of, int which) {
     size_t at;
     chunk *log;
     for (at = 0; at < of->index->count; at++)
-        while ((log = of->places[at].log) != NULL) {
-            of->places[at].log = log->next;
+        while ((log = of->places[at].logs[which]) != NULL) {
+            of->places[at].logs[which] = log->next;
             log->next = of->job->logs;
             of->job->logs = log;
         }
 }
 
-static void free_log(job *it) {
+static void free_log(grower *of) {
+    job *it = of->job;
     chunk *old = it->logs;
     it->logs = old->next;
     it->at = 0;
+    __atomic_sub_fetch(&of->head.logged, sizeof *old, __ATOMIC_RELAXED);
     free(old);
 }
 
 /* Ends a job. What it has made goes, if that has not taken over. */
 static void end_job(grower *of, int is_over) {
     job *it = of->job;
-    take_logs(of);
+    take_logs(of, 0);
+    take_logs(of, 1);
     while (it->logs != NULL)
-        free_log(it);
+        free_log(of);
     if (!is_over) {
         proved_give_up_load(&it->begun.load);
         free_table(it->to);
     }
     of->job = NULL;
-    __atomic_store_n(&of->head.logged, 0, __ATOMIC_RELAXED);
     free(it);
 }
 
-/* What comes of a pair that was refused: the load begins anew with a larger stock, where that helps. */
+/* What comes of a pair that was refused: the load is to begin anew with a larger stock, where that helps. */
 static hot_status load_anew(grower *of, hot_status why, size_t length) {
     job *it = of->job;
     if (why == HOT_NO_MEMORY || (why == HOT_FULL_NODES && of->keys_a_node == 1))
@@ -519,7 +544,8 @@ static hot_status load_anew(grower *of, hot_status why, size_t length) {
     proved_give_up_load(&it->begun.load);
     it->lacks.why = why == HOT_FULL_NODES ? HOT_FULL_NODES : HOT_FULL_LEAVES;
     it->lacks.length = length;
-    return begin_job_load(of, it);
+    it->next = LOAD_ANEW;
+    return HOT_DONE;
 }
 
 /* Lists a page of the table of now, and loads it. */
@@ -582,7 +608,7 @@ static hot_status open_one(grower *of) {
 }
 
 /* Makes keys of the logs alike. */
-static void catch_up(grower *of) {
+static void make_logs_alike(grower *of) {
     job *it = of->job;
     int count;
     for (count = 0; count < ALIKE && it->logs != NULL; count++) {
@@ -594,10 +620,18 @@ static void catch_up(grower *of) {
         unlock_word(stripe);
         it->at += 1 + length;
         if (it->at == it->logs->used)
-            free_log(it);
+            free_log(of);
     }
-    if (it->logs == NULL)
-        it->next = TAKE_OVER;
+}
+
+/* The same of the first logs. Behind them changes are to wait for their stripes. */
+static void catch_up(grower *of) {
+    make_logs_alike(of);
+    if (of->job->logs != NULL)
+        return;
+    __atomic_store_n(&of->head.phase, LAST, __ATOMIC_SEQ_CST);
+    watch(of, of->job->to->seen, 0);
+    of->job->next = SETTLE_AT_LAST;
 }
 
 /* Has the next table take over. No change is under way in either meanwhile. What a handle has seen in the old one its handle in the new one has
@@ -628,39 +662,69 @@ static void take_over(grower *of) {
     note_bytes(of);
 }
 
+/* Goes on where the changes that were under way have ended; else it writes 1 to `is_waiting`. HOT_DONE; or why the growth was given up. */
+static hot_status settle(grower *of, int *is_waiting) {
+    job *it = of->job;
+    hot_status status;
+    *is_waiting = !have_ended(of, it->to->seen);
+    if (*is_waiting)
+        return HOT_DONE;
+    switch (it->next) {
+    case SETTLE:
+        it->next = LIST;
+        return HOT_DONE;
+    case SETTLE_AGAIN:
+        take_logs(of, 0);
+        it->next = CATCH_UP;
+        return HOT_DONE;
+    case SETTLE_AT_LAST:
+        take_logs(of, 1);
+        it->next = CATCH_UP_AT_LAST;
+        return HOT_DONE;
+    default:
+        status = it->status;
+        lock_word(&of->index->opening);
+        of->head.next = NULL;
+        unlock_word(&of->index->opening);
+        end_job(of, 0);
+        note_bytes(of);
+        return status;
+    }
+}
+
+/* Makes what is next, but for GIVE_UP. HOT_DONE; or why the growth is to be given up. */
+static hot_status make_stage(grower *of, int *is_waiting) {
+    job *it = of->job;
+    hot_status status = HOT_DONE;
+    switch (it->next) {
+    case LOAD_ANEW:
+        status = begin_job_load(of, it);
+        note_bytes(of);
+        it->next = LIST;
+        break;
+    case LIST: status = list_page(of); break;
+    case MAKE: status = make_next(of); break;
+    case OPEN: status = open_one(of); break;
+    case CATCH_UP: catch_up(of); break;
+    case CATCH_UP_AT_LAST:
+        make_logs_alike(of);
+        it->next = it->logs == NULL ? TAKE_OVER : CATCH_UP_AT_LAST;
+        break;
+    case TAKE_OVER: take_over(of); break;
+    default: status = settle(of, is_waiting); break;
+    }
+    return status;
+}
+
 /* Makes a portion of the growth that is under way. Writes 1 to `is_waiting` if it waits for changes that are under way. HOT_DONE; or why the growth was
  * given up. */
 static hot_status make_next_portion(grower *of, int *is_waiting) {
-    job *it = of->job;
-    hot_status status = it->next == GIVE_UP ? HOT_DONE : __atomic_load_n(&of->head.refused, __ATOMIC_SEQ_CST);
+    hot_status status = __atomic_load_n(&of->head.refused, __ATOMIC_SEQ_CST);
     *is_waiting = 0;
+    if (of->job->next == GIVE_UP)
+        return settle(of, is_waiting);
     if (status == HOT_DONE)
-        switch (it->next) {
-        case SETTLE:
-        case SETTLE_AGAIN:
-        case GIVE_UP:
-            *is_waiting = !have_ended(of, it->to->seen);
-            if (*is_waiting)
-                break;
-            if (it->next == GIVE_UP) {
-                status = it->status;
-                lock_word(&of->index->opening);
-                of->head.next = NULL;
-                unlock_word(&of->index->opening);
-                end_job(of, 0);
-                note_bytes(of);
-                return status;
-            }
-            if (it->next == SETTLE_AGAIN)
-                take_logs(of);
-            it->next = it->next == SETTLE ? LIST : CATCH_UP;
-            break;
-        case LIST: status = list_page(of); break;
-        case MAKE: status = make_next(of); break;
-        case OPEN: status = open_one(of); break;
-        case CATCH_UP: catch_up(of); break;
-        case TAKE_OVER: take_over(of); break;
-        }
+        status = make_stage(of, is_waiting);
     if (status != HOT_DONE)
         give_up(of, status);
     return HOT_DONE;
@@ -687,14 +751,15 @@ static hot_status make_all(grower *of) {
     return status;
 }
 
-/* Makes a portion by a change that has logged many keys, unless another call does so. One that makes the table, which takes long, is left to others
- * as long as the logs are short. */
+/* Makes a portion by a change that has logged many keys, unless another call does so. One that makes words or a table, which takes long, is left to
+ * others as long as the logs are short. */
 static void help(grower *of) {
     enum { SHORT = 1 << 20 };
     int is_waiting;
     if (!try_to_lock(&of->lock))
         return;
-    if (of->job != NULL && (of->job->next != MAKE || __atomic_load_n(&of->head.logged, __ATOMIC_RELAXED) > SHORT))
+    if (of->job != NULL &&
+        ((of->job->next != MAKE && of->job->next != LOAD_ANEW) || __atomic_load_n(&of->head.logged, __ATOMIC_RELAXED) > SHORT))
         make_portion(of, &is_waiting);
     unlock_word(&of->lock);
 }

@@ -23,6 +23,8 @@
  * A large table asks for huge pages, but not where the records of a kind begin, or those of it that a handle has of its own: there a few keys
  * would take whole ones. Pieces of these parts get huge pages once they have filled, which heap_fill looks for.
  *
+ * While the system looks after pages, page faults of all other threads may wait for it. So it is asked for a huge page's size at a time.
+ *
  * Where the system refuses any of this, a block comes from malloc, and takes all of its memory.
  *
  * While hot.c lends a room, blocks come from there, as far as they fit: so a call asks for no memory. */
@@ -93,8 +95,31 @@ static pages *pages_of(void *block) {
     return (uintptr_t)block % 16 == IN_PAGES % 16 ? (pages *)((char *)block - IN_PAGES) : NULL;
 }
 
+/* How many bytes, of those that are left from here on, the system is asked to look after next. */
+static size_t next_part(const char *from, size_t left) {
+    size_t part = HUGE_PAGE - (uintptr_t)from % HUGE_PAGE;
+    return part < left ? part : left;
+}
+
+static void unmap_part(char *from, size_t left) {
+    size_t part;
+    for (; left > 0; from += part, left -= part) {
+        part = next_part(from, left);
+        munmap(from, part);
+    }
+}
+
+/* What is advised tells of memory, or gives it back: it may be refused. */
+static void advise(char *from, size_t left, int advice) {
+    size_t part;
+    for (; left > 0; from += part, left -= part) {
+        part = next_part(from, left);
+        madvise(from, part, advice);
+    }
+}
+
 static void unmap(pages *old) {
-    munmap(old->begin, old->length);
+    unmap_part(old->begin, old->length);
 }
 
 /* Maps pages for a block of so many bytes, which are 0. They begin at a multiple of `step`. Or NULL, as where there is not so much memory in
@@ -130,7 +155,7 @@ static void give_zeros_back(void) {
         if (page < end && is_zero(page)) {
             first = first != NULL ? first : page;
         } else if (first != NULL) {
-            madvise(first, (size_t)(page - first), MADV_DONTNEED);
+            advise(first, (size_t)(page - first), MADV_DONTNEED);
             first = NULL;
         }
     making.last = NULL;
@@ -156,7 +181,7 @@ static int stand_in(pages *for_these) {
     munmap(chunk, size);
     if (put == MAP_FAILED)
         return 0;
-    madvise((char *)for_these + PAGE, rest, MADV_POPULATE_READ);
+    advise((char *)for_these + PAGE, rest, MADV_POPULATE_READ);
     return 1;
 }
 
@@ -212,9 +237,14 @@ static void ask_for_huge_pages(pages *table) {
 
 /* Puts fresh pages in the place of all of a block but the first. Returns whether it could. */
 static int renew(pages *block) {
-    if (mmap((char *)block + PAGE, block->size - PAGE, PROT_READ | PROT_WRITE, MAP_PRIVATE | MAP_ANONYMOUS | MAP_NORESERVE | MAP_FIXED, -1, 0) ==
-        MAP_FAILED)
-        return 0;
+    enum { PRIVATE = MAP_PRIVATE | MAP_ANONYMOUS | MAP_NORESERVE | MAP_FIXED };
+    char *from = (char *)block + PAGE;
+    size_t left = block->size - PAGE, part;
+    for (; left > 0; from += part, left -= part) {
+        part = next_part(from, left);
+        if (mmap(from, part, PROT_READ | PROT_WRITE, PRIVATE, -1, 0) == MAP_FAILED)
+            return 0;
+    }
     ask_for_huge_pages(block);
     return 1;
 }
@@ -241,8 +271,7 @@ static size_t move_pages(pages *table, char *from, size_t rest) {
     char *to = (char *)table + PAGE;
     size_t moved, part;
     for (moved = 0; moved < rest; moved += part) {
-        part = HUGE_PAGE - (PAGE + moved) % HUGE_PAGE;
-        part = part < rest - moved ? part : rest - moved;
+        part = next_part(to + moved, rest - moved);
         if (mremap(from + moved, part, part, MREMAP_MAYMOVE | MREMAP_FIXED, to + moved) == MAP_FAILED)
             break;
     }
@@ -273,9 +302,9 @@ static void free_zeros(void) {
     making.is_broken |= !is_so;
     making.made = table;
     making.zeros = making.copied = NULL;
-    munmap(left.begin, (size_t)(from - left.begin));
+    unmap_part(left.begin, (size_t)(from - left.begin));
     if (from + moved < end)
-        munmap(from + moved, (size_t)(end - from) - moved);
+        unmap_part(from + moved, (size_t)(end - from) - moved);
     if (moved > 0) {
         give_zeros_back();
         making.last = table;
@@ -450,29 +479,60 @@ void heap_go_on(const heap_table *table, void *words, heap_lists *lists) {
     making.zeros = filled;
     making.is_filled = 1;
     if (filled != NULL)
-        madvise((char *)filled + PAGE, filled->size - PAGE, MADV_POPULATE_READ);
+        advise((char *)filled + PAGE, filled->size - PAGE, MADV_POPULATE_READ);
 }
 
 size_t heap_asked(void) {
     return making.asked;
 }
 
+/* How many of so many pages are there, of which mincore has written a byte each: eight at a time. */
+static size_t count_pages(const unsigned char *there, size_t pages) {
+    static const uint64_t ones = 0x0101010101010101u;
+    size_t page, held = 0;
+    uint64_t eight;
+    for (page = 0; page + sizeof eight <= pages; page += sizeof eight) {
+        memcpy(&eight, there + page, sizeof eight);
+        held += (eight & ones) * ones >> 56;
+    }
+    for (; page < pages; page++)
+        held += there[page] & 1;
+    return held;
+}
+
 /* How many bytes take memory of those from a page on; all, if the system doesn't tell. */
 static size_t held_of(char *begin, size_t bytes) {
     unsigned char there[PAGE];
-    size_t pages = (bytes + PAGE - 1) / PAGE, held = 0, from, part, page;
+    size_t pages = (bytes + PAGE - 1) / PAGE, held = 0, from, part;
     for (from = 0; from < pages; from += part) {
         part = pages - from < sizeof there ? pages - from : sizeof there;
         if (mincore(begin + from * PAGE, part * PAGE, there) != 0)
             return bytes;
-        for (page = 0; page < part; page++)
-            held += there[page] & 1;
+        held += count_pages(there, part);
     }
     return held * PAGE;
 }
 
+static int has_bit(const uint8_t *bits, size_t piece) {
+    return __atomic_load_n(&bits[piece / 8], __ATOMIC_RELAXED) >> piece % 8 & 1;
+}
+
+/* Pages stay, so what was full is not looked at again. */
 size_t heap_held(const heap_pieces *pieces, size_t bytes) {
-    return held_of(pieces->table, IN_PAGES + bytes);
+    size_t all = IN_PAGES + bytes, at, part, piece, its, held = 0;
+    if (pieces->full == NULL)
+        return held_of(pieces->table, all);
+    for (at = 0; at < all; at += part) {
+        part = next_part(pieces->table + at, all - at);
+        piece = at / HUGE_PAGE;
+        its = part;
+        if (!has_bit(pieces->full, piece))
+            its = held_of(pieces->table + at, part);
+        if (its >= part)
+            __atomic_fetch_or(&pieces->full[piece / 8], (uint8_t)(1 << piece % 8), __ATOMIC_RELAXED);
+        held += its;
+    }
+    return held;
 }
 
 size_t heap_held_lists(const heap_lists *lists) {
@@ -480,11 +540,13 @@ size_t heap_held_lists(const heap_lists *lists) {
 }
 
 void heap_take_pieces(heap_pieces *pieces) {
-    size_t piece;
+    size_t piece, size;
     pieces->table = (char *)making.made;
-    pieces->count = making.of.bytes / HUGE_PAGE + 1;
+    pieces->count = (IN_PAGES + making.of.bytes) / HUGE_PAGE + 1;
     pieces->next = 0;
-    pieces->marks = making.made == NULL || making.of.bytes < LEAST_HUGE_TABLE ? NULL : calloc(pieces->count / 8 + 1, 1);
+    size = pieces->count / 8 + 1;
+    pieces->marks = making.made == NULL || making.of.bytes < LEAST_HUGE_TABLE ? NULL : calloc(2, size);
+    pieces->full = pieces->marks == NULL ? NULL : pieces->marks + size;
     for (piece = 0; pieces->marks != NULL && piece < pieces->count; piece++)
         pieces->marks[piece / 8] = (uint8_t)(pieces->marks[piece / 8] | is_small(piece) << piece % 8);
 }
@@ -513,10 +575,6 @@ static int is_filled(char *piece) {
     return missing <= MOST_MISSING;
 }
 
-static int is_marked(const heap_pieces *of, size_t piece) {
-    return of->marks[piece / 8] >> piece % 8 & 1;
-}
-
 /* Gives a marked piece a huge page if it has filled. Returns whether it had. */
 static int fill(heap_pieces *of, size_t piece) {
     char *begin = of->table + piece * HUGE_PAGE;
@@ -533,7 +591,7 @@ void heap_fill(heap_pieces *pieces) {
     for (seen = 0; pieces->marks != NULL && seen < pieces->count && looks < MOST_LOOKS; seen++) {
         piece = pieces->next;
         pieces->next = piece + 1 < pieces->count ? piece + 1 : 0;
-        if (is_marked(pieces, piece) && (++looks, fill(pieces, piece)))
+        if (has_bit(pieces->marks, piece) && (++looks, fill(pieces, piece)))
             return;
     }
 }
@@ -541,6 +599,6 @@ void heap_fill(heap_pieces *pieces) {
 void heap_fill_all(heap_pieces *pieces) {
     size_t piece;
     for (piece = 0; pieces->marks != NULL && piece < pieces->count; piece++)
-        if (is_marked(pieces, piece))
+        if (has_bit(pieces->marks, piece))
             fill(pieces, piece);
 }

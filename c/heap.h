@@ -45,6 +45,7 @@ size_t heap_asked(void);
 typedef struct heap_pieces {
     char *table;
     uint8_t *marks; /* a bit for each piece; NULL if none is marked */
+    uint8_t *full;  /* behind the marks, a bit for each piece of which all pages were seen to take memory */
     size_t count, next;
 } heap_pieces;
 
@@ -52,7 +53,8 @@ typedef struct heap_pieces {
 void heap_take_pieces(heap_pieces *pieces);
 void heap_free_pieces(heap_pieces *pieces);
 
-/* How many bytes of the pages of a table, if it has pages of its own, take memory. The system may count those that were only read. */
+/* How many bytes of the pages of a table, if it has pages of its own, take memory. The system may count those that were only read. Pieces that were
+ * full when it was last called count as full. */
 size_t heap_held(const heap_pieces *pieces, size_t bytes);
 
 /* Puts a huge page in the place of a marked piece that has filled, if the next few that it looks at have one, and the system has one. */

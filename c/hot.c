@@ -81,8 +81,13 @@ hot_status hot_stock_bytes(const hot_stock *stock, size_t handles, size_t *bytes
 
 /* The proved calls that look something up, as they are: in the table of now, if the index grows. */
 
-hot_status hot_get(hot_handle *handle, const uint8_t *key, size_t length, uint64_t *value) {
+/* Looks a key up in an index that grows. Not inline, so that a look-up in another saves no words for it. */
+static __attribute__((noinline)) hot_status get_growing(hot_handle *handle, const uint8_t *key, size_t length, uint64_t *value) {
     return looked(handle, proved_get(look(handle), key, length, value));
+}
+
+hot_status hot_get(hot_handle *handle, const uint8_t *key, size_t length, uint64_t *value) {
+    return handle->tag == GROWS ? get_growing(handle, key, length, value) : proved_get(handle, key, length, value);
 }
 
 hot_status hot_scan(hot_handle *handle, const uint8_t *from, size_t from_length, const uint8_t *upto, size_t upto_length, hot_pair *pairs,
@@ -202,82 +207,114 @@ static void add_to(uint64_t *word, uint64_t more) {
     __atomic_store_n(word, __atomic_load_n(word, __ATOMIC_RELAXED) + more, __ATOMIC_RELAXED);
 }
 
-/* Notes why a try was refused. */
-static __attribute__((cold, noinline)) void note_refusal(hot_refusals *to, hot_status status) {
+/* Notes why a try was refused, and returns that. */
+static __attribute__((cold, noinline)) hot_status note_refusal(hot_refusals *to, hot_status status) {
     switch (status) {
     case HOT_BUSY: add_to(&to->busy, 1); break;
     case HOT_HELD_BACK: add_to(&to->held_back, 1); break;
     default: add_to(&to->full, 1); break;
     }
+    return status;
 }
 
 /* A handle looks at the pieces of the table each time it has put so many more keys in. */
 enum { KEYS_TO_A_LOOK = 4096 };
 
-/* Looks whether a piece of the table has filled, unless another call does. */
-static __attribute__((cold, noinline)) void look_at_pieces(hot_place *place) {
+/* Looks whether a piece of the table has filled, unless another call does. Returns what the try has come to. */
+static __attribute__((cold, noinline)) hot_status look_at_pieces(hot_place *place, hot_status status) {
     hot_index *index = place->index;
     place->looks_at = (uint32_t)place->keys + KEYS_TO_A_LOOK;
     if (__atomic_exchange_n(&index->filling, 1, __ATOMIC_ACQUIRE) == 0) {
         heap_fill(&index->holds.pieces);
         __atomic_store_n(&index->filling, 0, __ATOMIC_RELEASE);
     }
-}
-
-/* Notes that a try has put a key in. */
-static __inline__ void count_key(hot_place *place) {
-    add_to(&place->keys, 1);
-    if ((uint32_t)place->keys == place->looks_at)
-        look_at_pieces(place);
-}
-
-/* What a try has come to. Notes what it has done with the number of keys, or that it was refused. */
-static __inline__ hot_status tried(hot_handle *handle, const uint8_t *key, size_t length, hot_status status) {
-    static const uint32_t refused = 1u << HOT_BUSY | 1u << HOT_HELD_BACK | 1u << HOT_FULL_NODES | 1u << HOT_FULL_LEAVES;
-    if (handle->tag == GROWS)
-        status = end_change(handle, key, length, status);
-    if (status == HOT_INSERTED || status == HOT_NEW)
-        count_key(handle->place);
-    else if (status == HOT_REMOVED)
-        add_to(&handle->place->keys, (uint64_t)-1);
-    else if (refused >> status & 1)
-        note_refusal(&handle->place->refusals, status);
     return status;
 }
 
-/* The handle by which it is made. */
-static __inline__ hot_handle *by(hot_handle *handle, const uint8_t *key, size_t length) {
-    return handle->tag == GROWS ? begin_change(handle, key, length) : handle;
+/* Notes what a try has done with the number of keys, or that it was refused. Returns what it has come to. */
+static __attribute__((noinline)) hot_status note(hot_place *place, hot_status status) {
+    if (status == HOT_INSERTED || status == HOT_NEW) {
+        add_to(&place->keys, 1);
+        return (uint32_t)place->keys == place->looks_at ? look_at_pieces(place, status) : status;
+    }
+    if (status != HOT_REMOVED)
+        return note_refusal(&place->refusals, status);
+    add_to(&place->keys, (uint64_t)-1);
+    return status;
+}
+
+/* What a try has come to, which is noted where there is something to note. */
+static __inline__ hot_status tried(hot_handle *handle, hot_status status) {
+    static const uint32_t noted = 1u << HOT_INSERTED | 1u << HOT_NEW | 1u << HOT_REMOVED | 1u << HOT_BUSY | 1u << HOT_HELD_BACK |
+                                  1u << HOT_FULL_NODES | 1u << HOT_FULL_LEAVES;
+    return noted >> status & 1 ? note(handle->place, status) : status;
+}
+
+/* The changes of a key. */
+typedef enum change { INSERT, UPSERT, EXCHANGE, ADD, REMOVE, REMOVE_IF } change;
+
+/* Tries to make a change in an index that grows, with the one value that it takes or two. Not inline, so that the others save no words for it. */
+static __attribute__((noinline)) hot_status try_growing(hot_handle *handle, change kind, const uint8_t *key, size_t length, uint64_t first,
+                                                        uint64_t second, uint64_t *had) {
+    hot_handle *in = begin_change(handle, key, length);
+    hot_status status;
+    switch (kind) {
+    case INSERT: status = proved_try_insert(in, key, length, first, had); break;
+    case UPSERT: status = proved_try_upsert(in, key, length, first, had); break;
+    case EXCHANGE: status = proved_try_exchange(in, key, length, first, second, had); break;
+    case ADD: status = proved_try_add(in, key, length, first, had); break;
+    case REMOVE: status = proved_try_remove(in, key, length, had); break;
+    default: status = proved_try_remove_if(in, key, length, first, had);
+    }
+    return tried(handle, end_change(handle, key, length, status));
 }
 
 hot_status hot_try_insert(hot_handle *handle, const uint8_t *key, size_t length, uint64_t value, uint64_t *had) {
     uint64_t unread;
-    return tried(handle, key, length, proved_try_insert(by(handle, key, length), key, length, value, had ? had : &unread));
+    had = had ? had : &unread;
+    if (handle->tag == GROWS)
+        return try_growing(handle, INSERT, key, length, value, 0, had);
+    return tried(handle, proved_try_insert(handle, key, length, value, had));
 }
 
 hot_status hot_try_upsert(hot_handle *handle, const uint8_t *key, size_t length, uint64_t value, uint64_t *had) {
     uint64_t unread;
-    return tried(handle, key, length, proved_try_upsert(by(handle, key, length), key, length, value, had ? had : &unread));
+    had = had ? had : &unread;
+    if (handle->tag == GROWS)
+        return try_growing(handle, UPSERT, key, length, value, 0, had);
+    return tried(handle, proved_try_upsert(handle, key, length, value, had));
 }
 
 hot_status hot_try_remove(hot_handle *handle, const uint8_t *key, size_t length, uint64_t *had) {
     uint64_t unread;
-    return tried(handle, key, length, proved_try_remove(by(handle, key, length), key, length, had ? had : &unread));
+    had = had ? had : &unread;
+    if (handle->tag == GROWS)
+        return try_growing(handle, REMOVE, key, length, 0, 0, had);
+    return tried(handle, proved_try_remove(handle, key, length, had));
 }
 
 hot_status hot_try_exchange(hot_handle *handle, const uint8_t *key, size_t length, uint64_t expected, uint64_t value, uint64_t *had) {
     uint64_t unread;
-    return tried(handle, key, length, proved_try_exchange(by(handle, key, length), key, length, expected, value, had ? had : &unread));
+    had = had ? had : &unread;
+    if (handle->tag == GROWS)
+        return try_growing(handle, EXCHANGE, key, length, expected, value, had);
+    return tried(handle, proved_try_exchange(handle, key, length, expected, value, had));
 }
 
 hot_status hot_try_add(hot_handle *handle, const uint8_t *key, size_t length, uint64_t delta, uint64_t *had) {
     uint64_t unread;
-    return tried(handle, key, length, proved_try_add(by(handle, key, length), key, length, delta, had ? had : &unread));
+    had = had ? had : &unread;
+    if (handle->tag == GROWS)
+        return try_growing(handle, ADD, key, length, delta, 0, had);
+    return tried(handle, proved_try_add(handle, key, length, delta, had));
 }
 
 hot_status hot_try_remove_if(hot_handle *handle, const uint8_t *key, size_t length, uint64_t expected, uint64_t *had) {
     uint64_t unread;
-    return tried(handle, key, length, proved_try_remove_if(by(handle, key, length), key, length, expected, had ? had : &unread));
+    had = had ? had : &unread;
+    if (handle->tag == GROWS)
+        return try_growing(handle, REMOVE_IF, key, length, expected, 0, had);
+    return tried(handle, proved_try_remove_if(handle, key, length, expected, had));
 }
 
 /* Sleeps so many nanoseconds, and twice as long for each time that it has slept before, up to 32 times as long. */

@@ -23,8 +23,9 @@
  * is retired meanwhile.
  *
  * Removals are never full, so that a full index can be emptied. Insertions leave one node record free for them, and an index has one more
- * than asked, up to 4294967295. With one handle a removal finds that record, within 2^60 steps of the index. With several handles another
- * call may have it, or hold back what was retired instead: then removals are held back, and no count is made.
+ * than asked, up to 4294967295. With one handle a removal finds that record, within 2^60 steps of the index. That is proved; with several
+ * handles it is tested alone. Then another call may have the record, or hold back what was retired instead: so removals are held back, and
+ * no count is made.
  *
  * Keys in calls. A key, a prefix or an end of a range that has more than HOT_MAX_KEY bytes is refused as HOT_KEY_TOO_LONG by each call. The
  * value that a key had is written to `had` if the call says so, and else `had` stays as it is. It may be NULL, if it is not wanted.
@@ -45,9 +46,9 @@
  * Each call below that makes steps gives its bound, for the worst tree that there can be. Beside its steps it may touch words, which it loads
  * and ignores: hot_get four at most for each node on the way, hot_get_many, scans and changes eleven for each entry of a node that they load.
  *
- * Memory. An index has its records from the beginning, and a handle 119 KB of lists from when it is first opened, so that no change asks
+ * Memory. An index has its records from the beginning, and a handle up to 119 KB of lists from when it is first opened, so that no change asks
  * for memory. But a page of 4 KiB takes memory only once something is written there: so an index takes what its keys need, and a handle
- * some 40 KB. A page that was written stays when keys go. Tables of 16 MiB and more ask for huge pages, of 2 MiB, where the system lets
+ * some 29 KB. A page that was written stays when keys go. Tables of 16 MiB and more ask for huge pages, of 2 MiB, where the system lets
  * them: at once, but for the first 8 MiB of the records of a size, and of those that each handle claims for itself. There 2 MiB get a huge page
  * once they have been written, by an insertion that then takes some milliseconds. If memory runs out when a page is first written, the system
  * ends the program. So take a stock whose hot_stock_bytes the machine has to spare; or call mlockall once the index is made, which takes all
@@ -195,8 +196,8 @@ void hot_stock_for_any_keys(uint32_t keys, size_t longest, size_t handles, hot_s
  * that is not 0 it has as many leaves as hot_stock_for_keys would give, and nodes for all keys together. */
 void hot_stock_for_lengths(const uint32_t *keys, hot_stock *stock);
 
-/* Writes how many bytes the records and pins of an index with this stock and this number of handles have. The lists of handles, 119 KB each,
- * are not counted.
+/* Writes how many bytes the records and pins of an index with this stock and this number of handles have. The lists of handles, up to 119 KB
+ * each, are not counted.
  * HOT_DONE; or HOT_OUT_OF_RANGE or HOT_OLD_PROCESSOR, where hot_create_with would return that. */
 hot_status hot_stock_bytes(const hot_stock *stock, size_t handles, size_t *bytes);
 
@@ -218,8 +219,8 @@ typedef int hot_source(void *context, const uint8_t **key, size_t *length, uint6
  * any other call. Where a pair is refused, the load ends: the index has those before it, and `count` is the number of the refused one, from 0
  * on. A load takes no more memory than hot_open_index and the pairs do, but page tables of a 500th of the table. Below 1 MiB, and where the
  * system refuses pages, it takes two tables for a moment. It leaves node records for what it has to end: so it may be HOT_FULL_NODES where
- * insertions go on, but never while the stock has a node for each pair. `next` may make calls with other indexes. hot_load_packed takes pairs
- * that lie in memory.
+ * insertions go on, but never while the stock has a node for each pair, nor for the first 32 pairs. `next` may make calls with other indexes.
+ * hot_load_packed takes pairs that lie in memory.
  * HOT_DONE; or HOT_NOT_RISING, HOT_KEY_TOO_LONG, HOT_FULL_NODES, HOT_FULL_LEAVES, if a pair was refused; or HOT_OUT_OF_RANGE, HOT_NO_MEMORY,
  * HOT_OLD_PROCESSOR, and then nothing is written. */
 hot_status hot_load(const hot_stock *stock, size_t handles, hot_source *next, void *context, hot_index **index, size_t *count);
@@ -243,9 +244,10 @@ hot_status hot_close_index(hot_index *index);
  * but for this. hot_insert, hot_upsert, hot_remove, hot_remove_if, and calls that make them, make the larger table where they find no room or
  * records are held back for long, or wait for who makes it. They return HOT_NO_MEMORY where that fails, and that the index is full where it may
  * not be larger; then it is as it was. hot_try_insert and the like return that it is full. Look-ups and scans never wait. Other changes go on: one
- * may be made twice meanwhile, ask for memory for its key, and wait, as for another one in its way, for a change whose key falls under the same
- * lock of 64, and for the hand-over. Sections, moments, hot_len and hot_stats are of the index, and go on across growths; hot_census is of the
- * table of now. The old table goes once all calls that ran in it have returned. */
+ * may be made twice meanwhile, and ask for memory for its key. Just before the hand-over it may wait, as for another one in its way, for one whose
+ * key falls under the same lock of 64, for such a key to be copied, of the few that change then, and for the hand-over. Sections, moments, hot_len
+ * and hot_stats are of the index, and go on across growths; hot_census is of the table of now. The old table goes once all calls that ran in it
+ * have returned. */
 
 /* Makes an empty index that grows, with room for so many handles, 1 to 1023. Its first table has this stock, or a small one if it is NULL. No
  * table has more than `most` bytes, as hot_stock_bytes counts them; SIZE_MAX is no bound. While the index grows it has two.
@@ -271,7 +273,8 @@ hot_status hot_trim(hot_index *index);
 /* A growth by portions. hot_grow_begin begins one, unless one is under way. hot_grow_step makes a portion of it, and writes 1 to `more` if there
  * is more to do, else 0: it loads 512 pairs, opens a handle, or looks after 256 keys that were changed meanwhile. But to make a table can't be
  * parted: hot_grow_begin and one portion take half of its time each. A change that has noted 8 KiB of keys makes a portion, too, but the table
- * only where 1 MiB was noted; and one that finds no room makes all that are left.
+ * only where 1 MiB was noted; and one that finds no room makes all that are left. Page faults may wait for the system's work on a table, which is
+ * asked for by 2 MiB at a time.
  * They return what hot_grow does. Where hot_grow_step isn't HOT_DONE, the growth was given up. */
 hot_status hot_grow_begin(hot_index *index);
 hot_status hot_grow_step(hot_index *index, uint32_t *more);
@@ -523,8 +526,8 @@ hot_status hot_first(hot_handle *handle, const uint8_t *from, size_t length, hot
 hot_status hot_last(hot_handle *handle, const uint8_t *upto, size_t length, hot_pair *pair);
 
 /* Counts the keys from `from` to `upto`, both included, and writes their number to `count`. That is the number of the pairs that hot_scan
- * could list in its place, if it had room for all. It reads few of the keys. Its bound is that of hot_scan with a limit of 2 to the power
- * of 63, less 1.
+ * could list in its place, if it had room for all. It reads few of the keys. It makes at most 169567 steps, and 60
+ * for each key that it counts.
  * HOT_DONE; or HOT_KEY_TOO_LONG, HOT_CLOSED, and then nothing was written. */
 hot_status hot_count(hot_handle *handle, const uint8_t *from, size_t from_length, const uint8_t *upto, size_t upto_length, size_t *count);
 
@@ -605,7 +608,8 @@ typedef struct hot_memory {
 /* Writes what the index takes of memory. The numbers are never too low: a page of 4 KiB counts once something was written there, and may
  * count once it was read, as hot_census reads all. What a handle may keep after a scan counts for each that was opened. The system's page
  * tables don't count: they come to a 500th of the table at most. The call makes no steps. It asks the system which pages of the table are
- * there, which takes a few tenths of a millisecond for 1 GB. Any thread may make it until the index is closed. */
+ * there, in calls for 2 MiB each, but not about 2 MiB that were full when it last did: they count as taken from then on. So it takes time for what
+ * has not filled of a table, a few tenths of a millisecond for 1 GB. Any thread may make it until the index is closed. */
 void hot_bytes(const hot_index *index, hot_memory *bytes);
 
 /* Closes a handle of hot_create or hot_create_with, from any thread and in any order. Closing the last one frees the index. A closed

@@ -236,10 +236,10 @@ typedef struct growing_place {
     growth *of;
     uint64_t looks, changes; /* odd while it looks something up, or changes something */
     uint64_t keys[5];        /* of each size, as a place's `keys` */
-    struct chunk *log;
+    struct chunk *logs[2], **log;
     uint32_t phase;   /* of its last change */
     uint32_t *stripe; /* which that has locked */
-    char apart[24];
+    char apart[8];
 } growing_place;
 
 /* Notes that a call begins, before it loads what a growth changes. Who changes that waits for it, once it has made sure by membarrier that

@@ -2,79 +2,11 @@
 #define _DEFAULT_SOURCE
 #include "commands.h"
 #include "index.h"
-#include "map.h"
+#include "keys.h"
 #include "ranges.h"
-#include "type.h"
+#include "removals.h"
 #include <limits.h>
 #include <string.h>
-#include <strings.h>
-
-/* ---- Keys ---- */
-
-/* The key of a command, its map, which is NULL if there is none, and the map that takes its place. */
-typedef struct opened {
-    RedisModuleCtx *ctx;
-    RedisModuleString *name;
-    RedisModuleKey *key;
-    map *was, *now;
-} opened;
-
-static int refuse(RedisModuleCtx *ctx, const char *why) {
-    RedisModule_ReplyWithError(ctx, why);
-    return 0;
-}
-
-/* Opens a key: 0, with a reply, if it has another type. */
-static int open_key(opened *it, RedisModuleCtx *ctx, RedisModuleString *name, int mode) {
-    it->ctx = ctx;
-    it->name = name;
-    it->key = RedisModule_OpenKey(ctx, name, mode);
-    it->was = it->now = NULL;
-    if (it->key == NULL)
-        return 1;
-    if (RedisModule_ModuleTypeGetType(it->key) == map_type) {
-        it->was = it->now = RedisModule_ModuleTypeGetValue(it->key);
-        return 1;
-    }
-    if (RedisModule_KeyType(it->key) == REDISMODULE_KEYTYPE_EMPTY)
-        return 1;
-    RedisModule_CloseKey(it->key);
-    return refuse(ctx, "WRONGTYPE Operation against a key holding the wrong kind of value");
-}
-
-static void close_key(opened *it) {
-    RedisModule_CloseKey(it->key);
-}
-
-/* Has the key lead to the map that takes the place of what it had. */
-static void keep(opened *it) {
-    void *old;
-    if (it->now == it->was)
-        return;
-    if (it->was == NULL) {
-        RedisModule_ModuleTypeSetValue(it->key, map_type, it->now);
-    } else {
-        RedisModule_ModuleTypeReplaceValue(it->key, map_type, it->now, &old);
-        map_drop(old);
-    }
-    it->was = it->now;
-}
-
-/* Tells of a change that is replicated already: who watches the key and who listens. A map without pairs goes. */
-static void tell(opened *it, const char *event) {
-    RedisModule_SignalModifiedKey(it->ctx, it->name);
-    RedisModule_NotifyKeyspaceEvent(it->ctx, NOTIFY_MODULE, event, it->name);
-    if (it->now == NULL || map_length(it->now) == 0) {
-        RedisModule_DeleteKey(it->key);
-        RedisModule_NotifyKeyspaceEvent(it->ctx, NOTIFY_GENERIC, "del", it->name);
-    }
-}
-
-/* The same of one that is replicated as it was written. */
-static void finish(opened *it, const char *event) {
-    RedisModule_ReplicateVerbatim(it->ctx);
-    tell(it, event);
-}
 
 /* ---- Words of commands ---- */
 
@@ -91,18 +23,9 @@ static int read_fields(RedisModuleCtx *ctx, RedisModuleString **argv, int argc, 
     return 1;
 }
 
-static int is_word(const RedisModuleString *of, const char *expected) {
-    field it = field_of(of);
-    return strlen(expected) == it.length && strncasecmp((const char *)it.at, expected, it.length) == 0;
-}
-
 /* Whether changes that take memory are refused: not those that another server has made, nor those of a file. */
 static int is_full(RedisModuleCtx *ctx) {
     return is_over_limit() && (RedisModule_GetContextFlags(ctx) & (IS_REPLICATED | IS_LOADING)) == 0;
-}
-
-static int refuse_page(RedisModuleCtx *ctx) {
-    return refuse(ctx, "OOM no memory for a page");
 }
 
 static int refuse_memory(RedisModuleCtx *ctx) {
@@ -231,13 +154,6 @@ static int om_mget(RedisModuleCtx *ctx, RedisModuleString **argv, int argc) {
     return REDISMODULE_OK;
 }
 
-/* Removes fields, and returns how many there were. */
-static size_t take_fields(opened *of, const field *fields, size_t count) {
-    size_t taken = of->now == NULL ? 0 : map_take(of->was, fields, count, &of->now);
-    keep(of);
-    return taken;
-}
-
 static int om_del(RedisModuleCtx *ctx, RedisModuleString **argv, int argc) {
     field few[FEW];
     void *room;
@@ -344,10 +260,6 @@ static int om_len(RedisModuleCtx *ctx, RedisModuleString **argv, int argc) {
 
 /* ---- Ranges ---- */
 
-static int refuse_range(RedisModuleCtx *ctx) {
-    return RedisModule_ReplyWithError(ctx, "ERR min or max is not -, +, [field or (field of at most 240 bytes");
-}
-
 /* Reads REV, LIMIT and WITHVALUES: 0, with a reply, if a word is none of these. */
 static int read_options(RedisModuleCtx *ctx, RedisModuleString **argv, int argc, range_request *to) {
     long long skip, limit;
@@ -379,8 +291,6 @@ static int read_key(RedisModuleCtx *ctx, RedisModuleString *name, const range_re
     close_key(&of);
     return REDISMODULE_OK;
 }
-
-static const range_request all_pairs = {{0, 0, {0}, {0}}, 0, 0, 0, LISTS, 0, LLONG_MAX};
 
 static int om_range(RedisModuleCtx *ctx, RedisModuleString **argv, int argc) {
     range_request asked = all_pairs;
@@ -448,138 +358,6 @@ static int om_scan(RedisModuleCtx *ctx, RedisModuleString **argv, int argc) {
     asked.limit = count < PAGE ? (uint64_t)count : PAGE;
     return begin_at_cursor(argv[2], &asked) ? read_key(ctx, argv[1], &asked)
                                             : RedisModule_ReplyWithError(ctx, "ERR invalid cursor");
-}
-
-/* ---- Removals of ranges ---- */
-
-/* Removes the pairs of a page, and returns how many. */
-static size_t take_page(opened *of, const key_page *page) {
-    field fields[PAGE];
-    const uint8_t *key = page->bytes;
-    size_t at;
-    for (at = 0; at < page->count; key += page->heads[at++].length) {
-        fields[at].at = key;
-        fields[at].length = page->heads[at].length;
-    }
-    return take_fields(of, fields, page->count);
-}
-
-/* A removal of pairs from one end of a range on: how many it has taken, and whether memory for a page was refused. */
-typedef struct removal {
-    range_request asked;
-    int replies; /* whether it replies with the pairs */
-    uint64_t taken;
-    int is_refused;
-} removal;
-
-static void reply_with_pairs(RedisModuleCtx *ctx, const key_page *page) {
-    const uint8_t *key = page->bytes;
-    size_t at;
-    for (at = 0; at < page->count; key += page->heads[at++].length) {
-        RedisModule_ReplyWithStringBuffer(ctx, (const char *)key, page->heads[at].length);
-        reply_with_word(ctx, page->heads[at].value);
-    }
-}
-
-/* Takes pairs until there are no more, it has as many as it may, or memory is refused. A reply begins once a page is there. */
-static void take_range(opened *of, removal *it) {
-    static key_page page;
-    it->taken = 0;
-    it->is_refused = 0;
-    while (of->now != NULL && it->taken < it->asked.limit) {
-        uint64_t left = it->asked.limit - it->taken;
-        it->is_refused =
-            map_list(of->now, map_handle(of->now), &it->asked.range, it->asked.falls, left < PAGE ? left : PAGE, &page) != HOT_DONE;
-        if (it->is_refused || page.count == 0)
-            break;
-        if (it->replies && it->taken == 0)
-            RedisModule_ReplyWithArray(of->ctx, REDISMODULE_POSTPONED_LEN);
-        if (it->replies)
-            reply_with_pairs(of->ctx, &page);
-        it->taken += take_page(of, &page);
-    }
-    if (it->replies && it->taken > 0)
-        RedisModule_ReplySetArrayLength(of->ctx, (long)(2 * it->taken));
-    else if (it->replies && !it->is_refused)
-        RedisModule_ReplyWithArray(of->ctx, 0);
-}
-
-static int pop(RedisModuleCtx *ctx, RedisModuleString **argv, int argc, int falls) {
-    const char *name = falls ? "om.popmax" : "om.popmin";
-    removal it = {all_pairs, 1, 0, 0};
-    opened of;
-    long long count = 1;
-    if (argc != 2 && argc != 3)
-        return RedisModule_WrongArity(ctx);
-    if (argc == 3 && (RedisModule_StringToLongLong(argv[2], &count) != REDISMODULE_OK || count < 0))
-        return RedisModule_ReplyWithError(ctx, "ERR value is out of range, must be positive");
-    if (!open_key(&of, ctx, argv[1], REDISMODULE_READ | REDISMODULE_WRITE))
-        return REDISMODULE_OK;
-    range_of_all(&it.asked.range);
-    it.asked.falls = falls;
-    it.asked.limit = (uint64_t)count;
-    take_range(&of, &it);
-    /* Replicas take as many as were taken here. */
-    if (it.taken > 0) {
-        RedisModule_Replicate(ctx, name, "sl", argv[1], (long long)it.taken);
-        tell(&of, name);
-    } else if (it.is_refused) {
-        refuse_page(ctx);
-    }
-    close_key(&of);
-    return REDISMODULE_OK;
-}
-
-static int om_popmin(RedisModuleCtx *ctx, RedisModuleString **argv, int argc) {
-    return pop(ctx, argv, argc, 0);
-}
-
-static int om_popmax(RedisModuleCtx *ctx, RedisModuleString **argv, int argc) {
-    return pop(ctx, argv, argc, 1);
-}
-
-/* Whether a range has all pairs of a map: then the map goes as a whole, which a job frees. */
-static int is_all(const range_request *asked, uint64_t length) {
-    return asked->range.from_length == 0 && asked->range.upto_length == HOT_MAX_KEY && asked->limit >= length &&
-           memcmp(asked->range.upto, hot_last_key, HOT_MAX_KEY) == 0;
-}
-
-/* Removes a range of a key, and replies. */
-static void take_from_key(opened *of, RedisModuleString **argv, removal *it) {
-    if (of->now != NULL && !it->asked.is_empty && is_all(&it->asked, map_length(of->now))) {
-        it->taken = map_length(of->now);
-        of->now = NULL;
-    } else if (!it->asked.is_empty) {
-        take_range(of, it);
-    }
-    if (it->taken > 0) {
-        RedisModule_Replicate(of->ctx, "om.delrange", "ssscl", argv[1], argv[2], argv[3], "LIMIT", (long long)it->taken);
-        tell(of, "om.delrange");
-    }
-    if (it->is_refused && it->taken == 0)
-        refuse_page(of->ctx);
-    else
-        RedisModule_ReplyWithLongLong(of->ctx, (long long)it->taken);
-}
-
-static int om_delrange(RedisModuleCtx *ctx, RedisModuleString **argv, int argc) {
-    removal it = {all_pairs, 0, 0, 0};
-    opened of;
-    long long limit = LLONG_MAX;
-    if (argc != 4 && argc != 6)
-        return RedisModule_WrongArity(ctx);
-    if (!read_range(argv[2], argv[3], &it.asked))
-        return refuse_range(ctx);
-    if (argc == 6 && !is_word(argv[4], "LIMIT"))
-        return RedisModule_ReplyWithError(ctx, "ERR syntax error");
-    if (argc == 6 && (RedisModule_StringToLongLong(argv[5], &limit) != REDISMODULE_OK || limit < 0))
-        return RedisModule_ReplyWithError(ctx, "ERR value is not an integer or out of range");
-    if (!open_key(&of, ctx, argv[1], REDISMODULE_READ | REDISMODULE_WRITE))
-        return REDISMODULE_OK;
-    it.asked.limit = (uint64_t)limit;
-    take_from_key(&of, argv, &it);
-    close_key(&of);
-    return REDISMODULE_OK;
 }
 
 /* ---- What a map is ---- */

@@ -8,7 +8,7 @@
 #include <sys/mman.h>
 
 /* From so many pairs on a job makes the larger tables; and so many pairs at least a table is given back by one. */
-enum { LARGE = 4096 };
+enum { LARGE = 2048 };
 
 long long memory_limit;
 atomic_ullong index_count, index_bytes, growth_count;
@@ -29,11 +29,11 @@ static void forget_pages(void *at, size_t bytes) {
 }
 
 /* How much memory an index takes. Of small tables hot_bytes counts much that is never written: so a bound goes by the pairs that
- * there were. */
+ * there were, and the mean length of their keys. */
 static size_t bytes_of(const indexed_map *of) {
-    enum { FIRST = 100 << 10, FOR_A_PAIR = 400 };
+    enum { FIRST = 64 << 10, FOR_A_PAIR = 80 };
     hot_memory bytes;
-    size_t most = FIRST + of->most * FOR_A_PAIR;
+    size_t most = FIRST + of->most * (FOR_A_PAIR + of->mean_key + of->mean_key / 8);
     hot_bytes(of->index, &bytes);
     return bytes.now < most ? bytes.now : most;
 }
@@ -59,6 +59,68 @@ void index_leave(indexed_map *of) {
 
 size_t index_memory(const indexed_map *of) {
     return sizeof *of + bytes_of(of) + of->text_bytes + of->gone_room * sizeof *of->gone;
+}
+
+/* ---- Retired values ---- */
+
+/* They stand in a ring. */
+static retired *gone_at(const indexed_map *of, size_t at) {
+    size_t place = of->gone_first + at;
+    return &of->gone[place < of->gone_room ? place : place - of->gone_room];
+}
+
+/* Frees up to two retired values that no job reads any more. As many come with each that is retired, no call frees more. */
+static void free_past(indexed_map *of) {
+    int times;
+    for (times = 0; times < 2 && of->gone_count > 0; times++) {
+        retired *it = gone_at(of, 0);
+        if (hot_is_past(&of->handle, &it->moment) != HOT_DONE)
+            return;
+        word_free(it->value);
+        of->gone_first = of->gone_first + 1 < of->gone_room ? of->gone_first + 1 : 0;
+        of->gone_count--;
+    }
+}
+
+/* Has room for one more retired value: 0 if there is no memory. */
+static int has_room(indexed_map *of) {
+    size_t room = of->gone_room * 2 + PAGE, before = of->gone_room - of->gone_first;
+    retired *more;
+    if (of->gone_count < of->gone_room)
+        return 1;
+    more = RedisModule_TryAlloc(room * sizeof *more);
+    if (more == NULL)
+        return 0;
+    if (of->gone_count > 0) {
+        memcpy(more, of->gone + of->gone_first, before * sizeof *more);
+        memcpy(more + before, of->gone, of->gone_first * sizeof *more);
+    }
+    RedisModule_Free(of->gone);
+    of->gone = more;
+    of->gone_first = 0;
+    of->gone_room = room;
+    return 1;
+}
+
+void index_retire(indexed_map *of, word value) {
+    retired it = {value, {NULL, 0}};
+    free_past(of);
+    if (word_kind(value) != LONG_TEXT)
+        return;
+    of->text_bytes -= word_bytes(value);
+    if (atomic_load(&of->uses) == 1 && of->gone_count == 0) {
+        word_free(value);
+        return;
+    }
+    hot_retired(&of->handle, &it.moment);
+    if (has_room(of)) {
+        *gone_at(of, of->gone_count++) = it;
+        return;
+    }
+    /* A job stays in its section for a page. */
+    while (hot_is_past(&of->handle, &it.moment) == HOT_NOT_PAST)
+        sched_yield();
+    word_free(value);
 }
 
 /* ---- Making and freeing ---- */
@@ -105,8 +167,15 @@ static int take_next(void *context, const uint8_t **key, size_t *length, uint64_
         if (from->is_refused)
             return 0;
     }
+    from->of->key_bytes += *length;
     from->of->text_bytes += word_bytes(*value);
     return 1;
+}
+
+/* The main thread notes how many pairs there are, while no other makes a table. */
+static void note_most(indexed_map *of) {
+    of->most = of->count;
+    of->mean_key = of->count > 0 ? of->key_bytes / of->count : HOT_MAX_KEY;
 }
 
 /* Opens the handle of the main thread, once there is an index. */
@@ -117,7 +186,8 @@ static int begin_use(indexed_map *of, size_t count) {
     }
     of->form = INDEXED;
     of->uses = 1;
-    of->count = of->most = count;
+    of->count = count;
+    note_most(of);
     of->next_look = 1;
     atomic_fetch_add(&index_count, 1);
     index_tell(of);
@@ -167,65 +237,13 @@ void index_free(indexed_map *of) {
     if (of->text_bytes > 0)
         free_texts(of);
     for (at = 0; at < of->gone_count; at++)
-        word_free(of->gone[at].value);
+        word_free(gone_at(of, at)->value);
     RedisModule_Free(of->gone);
     hot_close(&of->handle);
     hot_close_index(of->index);
     index_leave(of);
     atomic_fetch_sub(&index_count, 1);
     RedisModule_Free(of);
-}
-
-/* ---- Retired values ---- */
-
-/* Frees the retired values that no job reads any more. */
-static void free_past(indexed_map *of) {
-    size_t at = 0;
-    while (at < of->gone_count && hot_is_past(&of->handle, &of->gone[at].moment) == HOT_DONE)
-        word_free(of->gone[at++].value);
-    if (at == 0)
-        return;
-    of->gone_count -= at;
-    memmove(of->gone, of->gone + at, of->gone_count * sizeof *of->gone);
-}
-
-/* Has room for one more retired value: 0 if there is no memory. */
-static int has_room(indexed_map *of) {
-    size_t room = of->gone_room * 2 + PAGE;
-    retired *more;
-    if (of->gone_count < of->gone_room)
-        return 1;
-    more = RedisModule_TryAlloc(room * sizeof *more);
-    if (more == NULL)
-        return 0;
-    if (of->gone_count > 0)
-        memcpy(more, of->gone, of->gone_count * sizeof *more);
-    RedisModule_Free(of->gone);
-    of->gone = more;
-    of->gone_room = room;
-    return 1;
-}
-
-void index_retire(indexed_map *of, word value) {
-    retired it = {value, {NULL, 0}};
-    if (word_kind(value) != LONG_TEXT)
-        return;
-    of->text_bytes -= word_bytes(value);
-    if (atomic_load(&of->uses) == 1 && of->gone_count == 0) {
-        word_free(value);
-        return;
-    }
-    if (of->gone_count == of->gone_room)
-        free_past(of);
-    hot_retired(&of->handle, &it.moment);
-    if (has_room(of)) {
-        of->gone[of->gone_count++] = it;
-        return;
-    }
-    /* A job stays in its section for a page. */
-    while (hot_is_past(&of->handle, &it.moment) == HOT_NOT_PAST)
-        sched_yield();
-    word_free(value);
 }
 
 /* ---- Changes ---- */
@@ -236,7 +254,7 @@ static void look(indexed_map *of) {
     if (of->is_growing)
         return;
     if (of->count > of->most)
-        of->most = of->count;
+        note_most(of);
     index_tell(of);
     if (of->count >= LARGE && hot_is_filling(of->index))
         jobs_resize(of, 0);
@@ -249,6 +267,7 @@ hot_status index_put(indexed_map *of, field key, word value, word *had) {
     of->text_bytes += word_bytes(value);
     if (status == HOT_NEW) {
         of->count++;
+        of->key_bytes += key.length;
         if (--of->next_look == 0)
             look(of);
     }
@@ -259,6 +278,7 @@ int index_take(indexed_map *of, field key, word *had) {
     if (hot_remove(&of->handle, key.at, key.length, had) != HOT_REMOVED)
         return 0;
     of->count--;
+    of->key_bytes -= key.length;
     return 1;
 }
 

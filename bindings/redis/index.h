@@ -31,7 +31,7 @@ void index_trim(indexed_map *of);
 
 /* Tells the server how much memory an index takes. No call does that: so the server gives out as much, which is never used and
  * takes address space alone. So it counts in used_memory, keys are evicted for it, and deny-oom commands are refused. The main
- * thread calls it, but the keeper while it makes another table. */
+ * thread calls it, but the resizer while it makes another table. */
 void index_tell(indexed_map *of);
 
 /* Tells the server that its memory is on its way back: so no further key is evicted for it, and no change is refused. */

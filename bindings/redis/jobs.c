@@ -4,27 +4,52 @@
 #include "index.h"
 #include <pthread.h>
 #include <signal.h>
+#include <sys/resource.h>
 
-/* What the keeper does with an index. */
+/* What a keeper does with an index. */
 typedef struct keeping {
     struct keeping *next;
     indexed_map *of;
     enum { GROW, TRIM, FREE } what;
 } keeping;
 
+/* Two threads keep indexes: one makes other tables, and one frees what may take long, so that no table waits for that. */
+typedef struct keeper {
+    const char *name;
+    int is_there;
+    keeping *asked; /* under the lock */
+    pthread_cond_t has_more;
+} keeper;
+static keeper resizer = {"map_resizer", 0, NULL, PTHREAD_COND_INITIALIZER},
+              freer = {"map_freer", 0, NULL, PTHREAD_COND_INITIALIZER};
+
 long long reader_threads = 3;
 atomic_ullong read_count, gone_count;
+unsigned long long most_at_once;
 
 static pthread_mutex_t lock = PTHREAD_MUTEX_INITIALIZER;
-static pthread_cond_t has_read = PTHREAD_COND_INITIALIZER, has_keeping = PTHREAD_COND_INITIALIZER;
-static int has_keeper;
+static pthread_cond_t has_read = PTHREAD_COND_INITIALIZER;
 /* Under the lock: */
 static read_job *waiting, **last_waiting = &waiting; /* reads that no thread has begun */
 static read_job *running;
-static keeping *to_resize, *to_free;
 
 size_t jobs_threads(void) {
     return (size_t)reader_threads;
+}
+
+int may_wait(RedisModuleCtx *ctx) {
+    return (RedisModule_GetContextFlags(ctx) & (IN_LUA | IN_MULTI | IS_REPLICATED | IS_LOADING | DENIES_BLOCKING)) == 0;
+}
+
+void note_at_once(uint64_t pairs) {
+    if (pairs > most_at_once)
+        most_at_once = pairs;
+}
+
+/* Has the calling thread get less of a processor than the main thread, where they are short. */
+static void come_last(void) {
+    enum { NICENESS = 5 };
+    setpriority(PRIO_PROCESS, 0, NICENESS);
 }
 
 /* ---- Reads ---- */
@@ -71,6 +96,7 @@ static void do_read(read_job *it) {
 }
 
 static void *read_all(void *unused) {
+    come_last();
     for (;;) {
         read_job *it = begin_read();
         do_read(it);
@@ -115,14 +141,13 @@ void jobs_read(RedisModuleCtx *ctx, read_job *it, indexed_map *of) {
 
 /* ---- Keeping ---- */
 
-static keeping *begin_keeping(void) {
-    keeping **from, *it;
+static keeping *begin_keeping(keeper *by) {
+    keeping *it;
     pthread_mutex_lock(&lock);
-    while (to_resize == NULL && to_free == NULL)
-        pthread_cond_wait(&has_keeping, &lock);
-    from = to_resize != NULL ? &to_resize : &to_free;
-    it = *from;
-    *from = it->next;
+    while (by->asked == NULL)
+        pthread_cond_wait(&by->has_more, &lock);
+    it = by->asked;
+    by->asked = it->next;
     pthread_mutex_unlock(&lock);
     return it;
 }
@@ -137,29 +162,31 @@ static void resize(keeping *it) {
     map_drop((map *)it->of);
 }
 
-static void *keep_all(void *unused) {
+static void *keep_all(void *by) {
+    if (by == &freer)
+        come_last();
     for (;;) {
-        keeping *it = begin_keeping();
+        keeping *it = begin_keeping(by);
         if (it->what == FREE)
             index_free(it->of);
         else
             resize(it);
         RedisModule_Free(it);
     }
-    return unused;
+    return by;
 }
 
-/* Asks the keeper: 0 if there is none, or no memory. */
-static int ask(indexed_map *of, int what) {
-    keeping *it = has_keeper ? RedisModule_TryAlloc(sizeof *it) : NULL, **to = what == FREE ? &to_free : &to_resize;
+/* Asks a keeper: 0 if there is none, or no memory. */
+static int ask(keeper *by, indexed_map *of, int what) {
+    keeping *it = by->is_there ? RedisModule_TryAlloc(sizeof *it) : NULL;
     if (it == NULL)
         return 0;
     it->of = of;
     it->what = what;
     pthread_mutex_lock(&lock);
-    it->next = *to;
-    *to = it;
-    pthread_cond_signal(&has_keeping);
+    it->next = by->asked;
+    by->asked = it;
+    pthread_cond_signal(&by->has_more);
     pthread_mutex_unlock(&lock);
     return 1;
 }
@@ -167,7 +194,7 @@ static int ask(indexed_map *of, int what) {
 int jobs_resize(indexed_map *of, int is_trim) {
     atomic_fetch_add(&of->uses, 1);
     of->is_growing = 1;
-    if (ask(of, is_trim ? TRIM : GROW))
+    if (ask(&resizer, of, is_trim ? TRIM : GROW))
         return 1;
     of->is_growing = 0;
     atomic_fetch_sub(&of->uses, 1);
@@ -176,20 +203,20 @@ int jobs_resize(indexed_map *of, int is_trim) {
 
 void jobs_free(indexed_map *of) {
     index_leave(of);
-    if (!ask(of, FREE))
+    if (!ask(&freer, of, FREE))
         index_free(of);
 }
 
 /* ---- Threads ---- */
 
 /* Starts a thread that hears no signal: they are the main thread's. */
-static int start(void *(*run)(void *), const char *name) {
+static int start(void *(*run)(void *), void *of, const char *name) {
     sigset_t all, before;
     pthread_t made;
     int is_started;
     sigfillset(&all);
     pthread_sigmask(SIG_SETMASK, &all, &before);
-    is_started = pthread_create(&made, NULL, run, NULL) == 0;
+    is_started = pthread_create(&made, NULL, run, of) == 0;
     pthread_sigmask(SIG_SETMASK, &before, NULL);
     if (is_started) {
         pthread_setname_np(made, name);
@@ -200,8 +227,9 @@ static int start(void *(*run)(void *), const char *name) {
 
 void jobs_start(void) {
     long long at = 0;
-    while (at < reader_threads && start(read_all, "map_reader"))
+    while (at < reader_threads && start(read_all, NULL, "map_reader"))
         at++;
     reader_threads = at;
-    has_keeper = start(keep_all, "map_keeper");
+    resizer.is_there = start(keep_all, &resizer, resizer.name);
+    freer.is_there = start(keep_all, &freer, freer.name);
 }

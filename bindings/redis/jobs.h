@@ -1,5 +1,5 @@
-/* Work beside the main thread: long reads by threads of their own, each with a handle of its own; and one thread that keeps
- * indexes, which makes larger tables and frees what nobody uses any more. */
+/* Work beside the main thread: long reads by threads of their own, each with a handle of its own; a thread that makes larger
+ * tables; and one that frees what nobody uses any more. */
 #ifndef JOBS_H
 #define JOBS_H
 
@@ -17,6 +17,13 @@ typedef struct read_job {
 } read_job;
 
 extern atomic_ullong read_count, gone_count;
+
+/* Whether the client of a command may wait: not in MULTI and scripts, nor where the command comes from another server or a file. */
+int may_wait(RedisModuleCtx *ctx);
+
+/* How many pairs a command has had the main thread go through in one go at most, if its client might have waited. */
+extern unsigned long long most_at_once;
+void note_at_once(uint64_t pairs);
 
 /* How many threads read. It is set before they begin. */
 extern long long reader_threads;

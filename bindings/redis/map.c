@@ -50,7 +50,7 @@ map *map_of_block(const uint8_t *bytes, size_t used, size_t count) {
     if (made == NULL)
         return NULL;
     made->form = SMALL;
-    made->count = (uint8_t)count;
+    made->count = (uint16_t)count;
     made->used = (uint16_t)used;
     memcpy(made->bytes, bytes, used);
     return (map *)made;
@@ -102,7 +102,7 @@ static size_t take_small(map *of, const field *fields, size_t count, map **made)
     *made = map_of_block(edit.bytes, edit.used, edit.count);
     if (*made == NULL) {
         /* What is left fits where it stood. */
-        it->count = (uint8_t)edit.count;
+        it->count = (uint16_t)edit.count;
         it->used = (uint16_t)edit.used;
         memcpy(it->bytes, edit.bytes, edit.used);
         *made = of;
@@ -325,40 +325,69 @@ static void add_to_page(key_page *page, size_t *used, const uint8_t *key, hot_he
     *used += head.length;
 }
 
-/* Turns a page of a small map around, and keeps so many of its pairs. */
-static void turn(const key_page *from, size_t used, size_t limit, key_page *to) {
-    size_t at = from->count, length, written = 0;
+/* Turns a page of a small map around. */
+static void turn(const key_page *from, key_page *to) {
+    size_t at, left = 0, written = 0;
     to->count = 0;
-    to->more = from->count > limit;
-    while (at-- > 0 && to->count < limit) {
-        length = from->heads[at].length;
-        used -= length;
-        add_to_page(to, &written, from->bytes + used, from->heads[at]);
+    to->more = from->more;
+    for (at = 0; at < from->count; at++)
+        left += from->heads[at].length;
+    while (at-- > 0) {
+        left -= from->heads[at].length;
+        add_to_page(to, &written, from->bytes + left, from->heads[at]);
     }
+}
+
+/* Goes to the first pair of a range, and returns its packed value: NULL if there is none. */
+static const uint8_t *first_of_range(block_reader *from, const small_map *of, const key_range *range) {
+    const uint8_t *packed;
+    *from = reader_of(of);
+    do
+        packed = block_next(from);
+    while (packed != NULL && compare(from->key, from->length, range->from, range->from_length) < 0);
+    return packed;
+}
+
+static int is_in_range(const block_reader *from, const uint8_t *packed, const key_range *range) {
+    return packed != NULL && compare(from->key, from->length, range->upto, range->upto_length) <= 0;
+}
+
+static size_t count_small(const small_map *of, const key_range *range) {
+    block_reader from;
+    const uint8_t *packed = first_of_range(&from, of, range);
+    size_t count = 0;
+    for (; is_in_range(&from, packed, range); packed = block_next(&from))
+        count++;
+    return count;
+}
+
+/* Lists the first pairs of a range behind those that it skips. */
+static void list_rising(const small_map *of, const key_range *range, size_t skip, size_t limit, key_page *to) {
+    block_reader from;
+    const uint8_t *packed = first_of_range(&from, of, range);
+    size_t used = 0;
+    to->count = 0;
+    for (; is_in_range(&from, packed, range) && to->count < limit; packed = block_next(&from)) {
+        hot_head head = {(uint8_t)from.length, packed_word(packed)};
+        if (skip > 0)
+            skip--;
+        else
+            add_to_page(to, &used, from.key, head);
+    }
+    to->more = is_in_range(&from, packed, range);
 }
 
 static void list_small(const small_map *of, const key_range *range, int falls, size_t limit, key_page *to) {
     static key_page rising;
-    key_page *page = falls ? &rising : to;
-    block_reader from = reader_of(of);
-    const uint8_t *packed;
-    size_t used = 0, most = falls ? PAGE : limit;
-    page->count = 0;
-    page->more = 0;
-    while ((packed = block_next(&from)) != NULL) {
-        hot_head head = {(uint8_t)from.length, packed_word(packed)};
-        if (compare(from.key, from.length, range->from, range->from_length) < 0)
-            continue;
-        if (compare(from.key, from.length, range->upto, range->upto_length) > 0)
-            break;
-        if (page->count == most) {
-            page->more = 1;
-            break;
-        }
-        add_to_page(page, &used, from.key, head);
+    size_t count;
+    if (!falls) {
+        list_rising(of, range, 0, limit, to);
+        return;
     }
-    if (falls)
-        turn(&rising, used, limit, to);
+    count = count_small(of, range);
+    list_rising(of, range, count > limit ? count - limit : 0, limit, &rising);
+    rising.more = count > limit;
+    turn(&rising, to);
 }
 
 hot_status map_list(const map *of, hot_handle *handle, const key_range *range, int falls, size_t limit, key_page *page) {
@@ -372,17 +401,30 @@ hot_status map_list(const map *of, hot_handle *handle, const key_range *range, i
                                                                limit, &page->count, &page->more);
 }
 
+hot_status map_count(const map *of, hot_handle *handle, const key_range *range, size_t *count) {
+    if (of->form == INDEXED)
+        return hot_count(handle, range->from, range->from_length, range->upto, range->upto_length, count);
+    *count = count_small(small_of(of), range);
+    return HOT_DONE;
+}
+
+field page_last(const key_page *page) {
+    field key = {page->bytes, 0};
+    size_t at;
+    for (at = 0; at + 1 < page->count; at++)
+        key.at += page->heads[at].length;
+    key.length = page->heads[at].length;
+    return key;
+}
+
 int range_go_on(key_range *range, int falls, const key_page *page) {
-    const uint8_t *key = page->bytes;
-    size_t at, length;
+    field key;
     if (page->count == 0)
         return 0;
-    for (at = 0; at + 1 < page->count; at++)
-        key += page->heads[at].length;
-    length = page->heads[at].length;
+    key = page_last(page);
     if (falls)
-        return hot_before(key, length, range->upto, &range->upto_length) == HOT_DONE;
-    return hot_after(key, length, range->from, &range->from_length) == HOT_DONE;
+        return hot_before(key.at, key.length, range->upto, &range->upto_length) == HOT_DONE;
+    return hot_after(key.at, key.length, range->from, &range->from_length) == HOT_DONE;
 }
 
 /* ---- Whole maps ---- */

@@ -7,8 +7,9 @@
 #include <hot.h>
 #include <stdatomic.h>
 
-/* A small map has so many pairs and bytes at most. One with an index becomes small again when it has half as many pairs. */
-enum { SMALL_COUNT = 128, SMALL_BYTES = 65535, SMALL_AGAIN = SMALL_COUNT / 2 };
+/* A small map has so many pairs and bytes at most: a look-up in it takes up to 1 us, and an index of more takes 60 KB at least.
+ * That becomes small again when it has half as many pairs, which are a page. */
+enum { SMALL_COUNT = 256, SMALL_BYTES = 65535, SMALL_AGAIN = SMALL_COUNT / 2 };
 
 /* A field or a value of a command. */
 typedef struct field {
@@ -24,8 +25,7 @@ typedef struct map {
 
 typedef struct small_map {
     uint8_t form;
-    uint8_t count;
-    uint16_t used;
+    uint16_t count, used;
     uint8_t bytes[];
 } small_map;
 
@@ -41,11 +41,12 @@ typedef struct indexed_map {
     atomic_int is_growing; /* a job gives it a larger table, or a smaller one */
     hot_index *index;
     hot_handle handle; /* of the main thread, which makes all changes */
-    uint64_t count, text_bytes;
-    uint64_t most;      /* so many pairs it had since its table was made */
+    uint64_t count, key_bytes, text_bytes;
+    uint64_t most; /* so many pairs it had since its table was made, whose keys had this length on average */
+    uint64_t mean_key;
     uint32_t next_look; /* after so many further new pairs it is looked how full the table is */
     retired *gone;      /* values that jobs may still read */
-    size_t gone_count, gone_room;
+    size_t gone_first, gone_count, gone_room;
     void *told; /* memory of the server that stands for the index's: see index_tell */
     size_t told_bytes;
 } indexed_map;
@@ -83,10 +84,16 @@ typedef struct key_page {
 
 void range_of_all(key_range *to);
 
+/* The last field of a page that has pairs. */
+field page_last(const key_page *page);
+
 /* Lists the first pairs of a range, PAGE or `limit` of them, or the last ones in falling order: HOT_DONE or HOT_NO_MEMORY. The
  * handle is of the map's index; a small map needs none. Values that lead elsewhere are there until the map is changed, or for
  * another thread within a section of the handle. */
 hot_status map_list(const map *of, hot_handle *handle, const key_range *range, int falls, size_t limit, key_page *page);
+
+/* Counts the pairs of a range, as hot_count does. */
+hot_status map_count(const map *of, hot_handle *handle, const key_range *range, size_t *count);
 
 /* What is left of the range behind a page that has more: 0 if nothing. */
 int range_go_on(key_range *range, int falls, const key_page *page);

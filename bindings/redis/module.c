@@ -44,6 +44,7 @@ static void write_info(RedisModuleInfoCtx *ctx, int for_crash_report) {
     RedisModule_InfoAddFieldULongLong(ctx, "growths", growth_count);
     RedisModule_InfoAddFieldULongLong(ctx, "reads", read_count);
     RedisModule_InfoAddFieldULongLong(ctx, "clients_gone", gone_count);
+    RedisModule_InfoAddFieldULongLong(ctx, "most_pairs_at_once", most_at_once);
 }
 
 static int refuse(RedisModuleCtx *ctx, const char *why) {

@@ -1,15 +1,22 @@
 /* Ranges of a map, and replies with them. */
+#define _DEFAULT_SOURCE
 #include "ranges.h"
 #include "jobs.h"
+#include <limits.h>
 #include <string.h>
+#include <strings.h>
 
-/* So many pairs at most are read by the main thread. */
-enum { AT_ONCE = 1000 };
+const range_request all_pairs = {{0, 0, {0}, {0}}, 0, 0, 0, LISTS, 0, LLONG_MAX};
 
 field field_of(const RedisModuleString *of) {
     field it;
     it.at = (const uint8_t *)RedisModule_StringPtrLen(of, &it.length);
     return it;
+}
+
+int is_word(const RedisModuleString *of, const char *expected) {
+    field it = field_of(of);
+    return strlen(expected) == it.length && strncasecmp((const char *)it.at, expected, it.length) == 0;
 }
 
 /* ---- Ends ---- */
@@ -42,6 +49,10 @@ int read_range(RedisModuleString *least, RedisModuleString *most, range_request 
     return 1;
 }
 
+int refuse_range(RedisModuleCtx *ctx) {
+    return RedisModule_ReplyWithError(ctx, "ERR min or max is not -, +, [field or (field of at most 240 bytes");
+}
+
 int read_prefix(RedisModuleString *prefix, range_request *to) {
     field from = field_of(prefix);
     range_of_all(&to->range);
@@ -70,6 +81,7 @@ typedef struct listing {
     const atomic_int *is_gone; /* NULL where nobody waits */
     range_request asked;       /* what is left of it */
     uint64_t told;             /* how many pairs it has replied with */
+    uint64_t listed;           /* how many it has gone through */
     key_page *page;
 } listing;
 
@@ -96,7 +108,9 @@ static long length_of_reply(const listing *it, uint64_t pairs) {
 
 static hot_status list_next(listing *it) {
     uint64_t most = it->asked.skip < PAGE && it->asked.limit < PAGE ? it->asked.skip + it->asked.limit : PAGE;
-    return map_list(it->of, it->handle, &it->asked.range, it->asked.falls, most, it->page);
+    hot_status status = map_list(it->of, it->handle, &it->asked.range, it->asked.falls, most, it->page);
+    it->listed += status == HOT_DONE ? it->page->count : 0;
+    return status;
 }
 
 static int is_last_page(const listing *it) {
@@ -112,17 +126,14 @@ static uint64_t asked_of_page(const listing *it) {
 /* The cursor of the next page: the last field of this one behind a `(`; or `0` if there is none. */
 static void reply_with_cursor(listing *it) {
     char cursor[1 + HOT_MAX_KEY] = "(";
-    size_t at, length;
-    const uint8_t *key = it->page->bytes;
+    field key;
     if (!it->page->more) {
         RedisModule_ReplyWithStringBuffer(it->ctx, "0", 1);
         return;
     }
-    for (at = 0; at + 1 < it->page->count; at++)
-        key += it->page->heads[at].length;
-    length = it->page->heads[at].length;
-    memcpy(cursor + 1, key, length);
-    RedisModule_ReplyWithStringBuffer(it->ctx, cursor, 1 + length);
+    key = page_last(it->page);
+    memcpy(cursor + 1, key.at, key.length);
+    RedisModule_ReplyWithStringBuffer(it->ctx, cursor, 1 + key.length);
 }
 
 /* Replies with all pages but the first, which is listed. Another thread reads each within a section, and stops once the client has
@@ -166,13 +177,12 @@ static void reply_with_list(listing *it) {
 }
 
 static void reply_with_count(listing *it) {
-    const key_range *range = &it->asked.range;
     size_t count = it->page->count;
-    if (it->page->more &&
-        hot_count(it->handle, range->from, range->from_length, range->upto, range->upto_length, &count) != HOT_DONE)
+    if (it->page->more && map_count(it->of, it->handle, &it->asked.range, &count) != HOT_DONE)
         RedisModule_ReplyWithError(it->ctx, "ERR the count was refused");
     else
         RedisModule_ReplyWithLongLong(it->ctx, (long long)count);
+    it->listed += count;
 }
 
 static void reply_with_first(listing *it, hot_status status) {
@@ -194,10 +204,13 @@ typedef struct range_job {
 
 static void read_by_job(read_job *base, RedisModuleCtx *ctx, hot_handle *handle) {
     range_job *it = (range_job *)base;
-    listing made = {ctx, (map *)base->of, handle, &base->is_gone, it->asked, 0, &it->page};
-    hot_enter(handle);
+    listing made = {ctx, (map *)base->of, handle, &base->is_gone, it->asked, 0, 0, &it->page};
+    /* Who counts reads no value: so none need stay for it. */
+    if (it->asked.what != COUNTS)
+        hot_enter(handle);
     reply_with_first(&made, list_next(&made));
-    hot_leave(handle);
+    if (it->asked.what != COUNTS)
+        hot_leave(handle);
 }
 
 /* Has a job reply: 0 if there is no memory for one. */
@@ -211,12 +224,19 @@ static int give_to_job(RedisModuleCtx *ctx, map *of, const range_request *asked)
     return 1;
 }
 
-/* Whether it may have so many pairs more than its first page that a job is to read them. */
+uint64_t at_once(const map *of) {
+    enum { PAIRS = 1000, BYTES = 1 << 20 };
+    const indexed_map *large = of == NULL || of->form == SMALL ? NULL : (const indexed_map *)of;
+    uint64_t each = large == NULL || large->count == 0 ? 0 : large->text_bytes / large->count;
+    return each <= BYTES / PAIRS ? PAIRS : 1 + BYTES / each;
+}
+
+/* Whether it may have so many pairs that a job is to read them. */
 static int is_long(RedisModuleCtx *ctx, const map *of, const listing *it) {
     uint64_t far = it->asked.skip + it->asked.limit < map_length(of) ? it->asked.skip + it->asked.limit : map_length(of);
-    if (of->form == SMALL || is_last_page(it) || far <= AT_ONCE || jobs_threads() == 0)
-        return 0;
-    return (RedisModule_GetContextFlags(ctx) & (IN_LUA | IN_MULTI | DENIES_BLOCKING)) == 0;
+    if (is_last_page(it))
+        far = it->asked.with_values ? asked_of_page(it) : 0;
+    return of->form == INDEXED && far > at_once(of) && jobs_threads() > 0 && may_wait(ctx);
 }
 
 static int reply_with_none(RedisModuleCtx *ctx, const range_request *asked) {
@@ -231,13 +251,16 @@ static int reply_with_none(RedisModuleCtx *ctx, const range_request *asked) {
 
 int reply_with_range(RedisModuleCtx *ctx, map *of, const range_request *asked) {
     static key_page page;
-    listing it = {ctx, of, NULL, NULL, *asked, 0, &page};
+    listing it = {ctx, of, NULL, NULL, *asked, 0, 0, &page};
     hot_status status;
     if (of == NULL || asked->is_empty || asked->limit == 0)
         return reply_with_none(ctx, asked);
     it.handle = map_handle(of);
     status = list_next(&it);
-    if (status != HOT_DONE || !is_long(ctx, of, &it) || !give_to_job(ctx, of, asked))
-        reply_with_first(&it, status);
+    if (status == HOT_DONE && is_long(ctx, of, &it) && give_to_job(ctx, of, asked))
+        return REDISMODULE_OK;
+    reply_with_first(&it, status);
+    if (may_wait(ctx))
+        note_at_once(it.listed);
     return REDISMODULE_OK;
 }

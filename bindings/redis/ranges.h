@@ -14,17 +14,25 @@ typedef struct range_request {
     uint64_t skip, limit;
 } range_request;
 
+/* A list of all pairs, but for the range. */
+extern const range_request all_pairs;
+
 /* Reads both ends, as ZRANGEBYLEX has them, or a prefix: 0 if they are wrong. */
 int read_range(RedisModuleString *least, RedisModuleString *most, range_request *to);
 int read_prefix(RedisModuleString *prefix, range_request *to);
+int refuse_range(RedisModuleCtx *ctx);
 
-/* Replies with what is asked of a map, or of none if it is NULL. A map with an index that may have more than some thousand pairs of
- * it is read by a job, where the client may wait. */
+/* How many pairs of a map the main thread goes through in one go: a thousand, or fewer if their values are long. */
+uint64_t at_once(const map *of);
+
+/* Replies with what is asked of a map, or of none if it is NULL. A map with an index that may have more pairs of it than the main
+ * thread goes through is read by a job, where the client may wait. */
 int reply_with_range(RedisModuleCtx *ctx, map *of, const range_request *asked);
 
 void reply_with_word(RedisModuleCtx *ctx, word value);
 
-/* A string of a command. */
+/* A string of a command, and whether it is a word, in whatever case. */
 field field_of(const RedisModuleString *of);
+int is_word(const RedisModuleString *of, const char *expected);
 
 #endif

@@ -95,6 +95,7 @@ typedef struct RedisModuleCommandInfo {
 
 typedef int RedisModuleCmdFunc(RedisModuleCtx *ctx, RedisModuleString **argv, int argc);
 typedef void RedisModuleDisconnectFunc(RedisModuleCtx *ctx, RedisModuleBlockedClient *client);
+typedef void RedisModuleTimerProc(RedisModuleCtx *ctx, void *of);
 typedef void RedisModuleInfoFunc(RedisModuleInfoCtx *ctx, int for_crash_report);
 typedef long long RedisModuleConfigGetNumericFunc(const char *name, void *of);
 typedef int RedisModuleConfigSetNumericFunc(const char *name, long long value, void *of, RedisModuleString **error);
@@ -151,6 +152,8 @@ typedef struct RedisModuleTypeMethods {
     X(void *, ModuleTypeGetValue, (RedisModuleKey * key))                                                                          \
     X(int, ModuleTypeSetValue, (RedisModuleKey * key, RedisModuleType * type, void *value))                                        \
     X(int, ModuleTypeReplaceValue, (RedisModuleKey * key, RedisModuleType * type, void *value, void **old))                        \
+    X(int, SelectDb, (RedisModuleCtx * ctx, int database))                                                                         \
+    X(int, GetSelectedDb, (RedisModuleCtx * ctx))                                                                                  \
     X(int, SignalModifiedKey, (RedisModuleCtx * ctx, RedisModuleString * name))                                                    \
     X(int, NotifyKeyspaceEvent, (RedisModuleCtx * ctx, int kind, const char *event, RedisModuleString *name))                      \
     X(int, Replicate, (RedisModuleCtx * ctx, const char *command, const char *form, ...))                                          \
@@ -168,6 +171,8 @@ typedef struct RedisModuleTypeMethods {
        void (*free)(RedisModuleCtx * ctx, void *data), long long milliseconds))                                                    \
     X(int, UnblockClient, (RedisModuleBlockedClient * client, void *data))                                                         \
     X(void, SetDisconnectCallback, (RedisModuleBlockedClient * client, RedisModuleDisconnectFunc * call))                          \
+    X(uint64_t, CreateTimer, (RedisModuleCtx * ctx, long long milliseconds, RedisModuleTimerProc *call, void *of))                 \
+    X(int, AvoidReplicaTraffic, (void))                                                                                            \
     X(int, BlockedClientMeasureTimeStart, (RedisModuleBlockedClient * client))                                                     \
     X(int, BlockedClientMeasureTimeEnd, (RedisModuleBlockedClient * client))                                                       \
     X(RedisModuleCtx *, GetThreadSafeContext, (RedisModuleBlockedClient * client))                                                 \

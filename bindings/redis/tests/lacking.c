@@ -7,7 +7,7 @@
 #include <string.h>
 
 static const char *lacking; /* the name of a call, or NULL */
-static char asked[64][64];  /* the names that were asked for */
+static char asked[128][64]; /* the names that were asked for */
 static int count;
 static char said[1000];
 
@@ -27,7 +27,7 @@ static int refuse(void) {
 /* Gives the calls of a server that has all but one. */
 static int get_call(const char *name, void *to) {
     void (*call)(void) = strcmp(name, "RedisModule_Log") == 0 ? (void (*)(void))say : (void (*)(void))refuse;
-    if (lacking == NULL && count < 64)
+    if (lacking == NULL && count < 128)
         snprintf(asked[count++], sizeof *asked, "%s", name);
     if (lacking != NULL && strcmp(name, lacking) == 0)
         return 1;

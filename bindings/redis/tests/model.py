@@ -12,7 +12,7 @@ import redis
 from servers import Server, flat
 
 NAME = "m"
-LIMITS = [-1, 0, 1, 5, 100, 127, 128, 129, 1000, 3000]
+LIMITS = [-1, 0, 1, 5, 100, 127, 128, 129, 256, 1000, 3000]
 EDGES = [b"", b"0", b"-0", b"00", b" 1", b"+1", b"9" * 19, b"9" * 40, b"%d" % 2**61, b"%d" % -(2**61), b"%d" % (2**61 - 1)]
 EDGES += [b"%d" % (-(2**61) - 1), b"%d" % (2**63 - 1), b"%d" % -(2**63), b"%d" % 2**63, b"-"]
 
@@ -43,7 +43,7 @@ class Model:
         some = self.random
         kind = some.random()
         if self.is_small:
-            return b"%d" % some.randrange(150) if kind < 0.7 else bytes(some.choice(b"ab\x00\xff") for _ in range(some.randrange(4)))
+            return b"%d" % some.randrange(400) if kind < 0.7 else bytes(some.choice(b"ab\x00\xff") for _ in range(some.randrange(4)))
         if kind < 0.3:
             return b"%d" % some.randrange(3000)
         if kind < 0.5:
@@ -104,7 +104,7 @@ class Model:
         self.check(["OM.SET", NAME, *flat(pairs), *([which] if which else [])], done if which == "XX" else new)
 
     def set_many(self) -> None:
-        self.set(self.random.randrange(1, 20 if self.is_small else 300))
+        self.set(self.random.randrange(1, 150 if self.is_small else 300))
 
     def get(self) -> None:
         field = self.held()
@@ -125,9 +125,9 @@ class Model:
     def add(self) -> None:
         field, more = self.held(), self.random.choice([1, -1, self.random.randrange(-(2**63), 2**63)])
         number = number_of(self.pairs.get(field, b"0"))
-        summed = "refused" if number is None or not -(2**63) <= number + more < 2**63 else number + more
-        self.check(["OM.ADD", NAME, field, more], summed)
-        if summed != "refused":
+        summed = None if number is None or not -(2**63) <= number + more < 2**63 else number + more
+        self.check(["OM.ADD", NAME, field, more], "refused" if summed is None else summed)
+        if summed is not None:
             self.pairs[field] = b"%d" % summed
 
     def exchange(self) -> None:
@@ -193,7 +193,7 @@ class Model:
         assert found == flat([(field, self.pairs[field]) for field in expected]), f"OM.SCAN {begin!r}"
 
     def pop(self) -> None:
-        count, is_last = self.random.choice([0, 1, 2, 5, 200]), self.random.random() < 0.5
+        count, is_last = self.random.choice([0, 1, 2, 5, 1, 2, 5, 10 if self.is_small else 200, 1500]), self.random.random() < 0.5
         fields = sorted(self.pairs, reverse=is_last)[:count]
         expected = flat([(field, self.pairs.pop(field)) for field in fields])
         self.check(["OM.POPMAX" if is_last else "OM.POPMIN", NAME, count], expected)
@@ -205,7 +205,7 @@ class Model:
         fields = self.within(least, most)
         words: "list[object]" = ["OM.DELRANGE", NAME, b"".join(least), b"".join(most)]
         if self.random.random() < 0.7:
-            limit = self.random.choice([0, 1, 10, 200])
+            limit = self.random.choice([0, 1, 10, 200, 1500])
             words += ["LIMIT", limit]
             fields = fields[:limit]
         for field in fields:
@@ -231,7 +231,7 @@ class Model:
         else:
             before = self.rewrite()
         if self.server.run("DEBUG", "DIGEST-VALUE", NAME) != before:
-            raise AssertionError(f"{how}: {self.difference()}\n{self.server.log()}")
+            raise AssertionError(f"{self.server.unwritten() or how}: {self.difference()}\n{self.server.log()}")
         self.made[how] += 1
 
     def difference(self) -> object:
@@ -269,7 +269,7 @@ class Model:
             self.random.choice(often)()
 
 
-def run(commands: int, seed: int) -> Counter:
+def run(commands: int, seed: int) -> "Counter[str]":
     with Server() as server:
         model = Model(server, seed)
         for _ in range(commands):

@@ -1,6 +1,8 @@
 """Servers of the tests' own, on loopback, which are ended by who started them."""
 import contextlib
 import os
+import re
+import resource
 import shutil
 import signal
 import socket
@@ -8,12 +10,14 @@ import subprocess
 import tempfile
 import time
 from pathlib import Path
+from typing import Any
 
 import redis
 
 # What is put into servers before their own libraries: that of a sanitizer with which the module is compiled, say.
 PRELOAD = os.environ.get("ORDERED_MAP_PRELOAD", "")
 SANITIZER = {"ASAN_OPTIONS": "detect_leaks=0:allocator_may_return_null=1"}
+SERVER = os.environ.get("ORDERED_MAP_SERVER", "redis-server")
 MODULE = Path(os.environ.get("ORDERED_MAP", Path(__file__).parent.parent / "ordered_map.so")).resolve()
 
 
@@ -22,7 +26,7 @@ def free_port() -> int:
     while True:
         with socket.socket() as one, socket.socket() as other:
             one.bind(("127.0.0.1", 0))
-            port = one.getsockname()[1] % 20_000 + 20_000
+            port = int(one.getsockname()[1]) % 20_000 + 20_000
             try:
                 other.bind(("127.0.0.1", port))
                 return port
@@ -47,11 +51,12 @@ class Server:
             raise
 
     def start(self, *more: str) -> None:
-        words = ["redis-server", "--port", str(self.port), "--bind", "127.0.0.1", "--dir", str(self.folder), "--save", ""]
+        words = [SERVER, "--port", str(self.port), "--bind", "127.0.0.1", "--dir", str(self.folder), "--save", ""]
         words += ["--enable-debug-command", "local", "--logfile", str(self.folder / "log"), "--loadmodule", str(MODULE)]
         environment = os.environ | SANITIZER | {"LD_PRELOAD": PRELOAD} | self.environment
         with open(self.folder / "said", "ab") as said:
-            self.process = subprocess.Popen([*words, *self.options, *more], stdout=said, stderr=said, env=environment)
+            # A signal for a file that is too long stays ignored, as it is here.
+            self.process = subprocess.Popen([*words, *self.options, *more], stdout=said, stderr=said, env=environment, restore_signals=False)
         self.await_ready()
 
     def await_ready(self) -> None:
@@ -69,7 +74,13 @@ class Server:
         said = [self.folder / name for name in ("log", "said")]
         return "\n".join(path.read_text(errors="replace")[-3000:] for path in said if path.exists())
 
-    def run(self, *words: object) -> object:
+    def unwritten(self) -> str:
+        """Says so if the server could not write its append-only file, on a full disk say. It has replied to those changes all the same, and DEBUG
+        LOADAOF loses them, whatever the type of their key."""
+        said = re.search(r".*(Error|Short write) (while )?writing to the (AOF|append.only) file.*", self.log(), re.IGNORECASE)
+        return said[0] if said else ""
+
+    def run(self, *words: object) -> Any:
         return self.client.execute_command(*words)
 
     def figure(self, name: str) -> int:
@@ -83,9 +94,16 @@ class Server:
                 raise RuntimeError(f"{name} is not {value}: {self.log()}")
             time.sleep(0.02)
 
+    def limit_files(self, size: int = resource.RLIM_INFINITY) -> None:
+        """No file gets longer than so many bytes: a write beyond that is short, as on a full disk."""
+        assert self.process is not None
+        resource.prlimit(self.process.pid, resource.RLIMIT_FSIZE, (size, resource.RLIM_INFINITY))
+
     def rewrite(self, form: str) -> None:
-        """Begins an append-only file, which has a preamble or not, and waits until it is there."""
+        """Has an append-only file made or rewritten, which has a preamble or not, and waits until it is there."""
         self.client.config_set("aof-use-rdb-preamble", form)
+        if self.client.config_get("appendonly")["appendonly"] == "yes":
+            self.client.bgrewriteaof()
         self.client.config_set("appendonly", "yes")
         self.until("persistence", "aof_rewrite_scheduled", 0)
         self.until("persistence", "aof_rewrite_in_progress", 0)

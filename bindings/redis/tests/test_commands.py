@@ -1,5 +1,6 @@
 """Each command by examples: replies, words that are refused, events, access."""
 import unittest
+from typing import Any
 
 import redis
 
@@ -20,7 +21,7 @@ class Commands(unittest.TestCase):
     def setUp(self) -> None:
         self.server.client.flushall()
 
-    def said(self, *words: object) -> object:
+    def said(self, *words: object) -> Any:
         try:
             return self.server.run(*words)
         except redis.ResponseError as error:
@@ -128,14 +129,15 @@ class Commands(unittest.TestCase):
         self.assertEqual(self.said("OM.RANGE", "m", "-", "+", "WITHVALUES"), [b"a", b"1"])
 
     def test_sizes(self) -> None:
-        """A map gets an index with its 129th pair, or with a value too long for a block, and is small again with 64."""
-        for at in range(128):
+        """A map gets an index with its 257th pair, or with a value too long for a block, and is small again with 128."""
+        for at in range(256):
             self.said("OM.SET", "m", "f%03d" % at, at)
         self.assertEqual(self.said("OM.STAT", "m")[5], 0)
-        self.said("OM.SET", "m", "f128", 128)
+        self.assertEqual(self.said("OM.RANGE", "m", "(f100", "[f255", "REV", "LIMIT", 150, 2), [b"f105", b"f104"])
+        self.said("OM.SET", "m", "f256", 256)
         self.assertEqual(self.said("OM.STAT", "m")[5], 1)
-        self.said("OM.DEL", "m", *["f%03d" % at for at in range(65)])
-        self.assertEqual([self.said("OM.STAT", "m")[at] for at in (1, 5)], [64, 0])
+        self.said("OM.DEL", "m", *["f%03d" % at for at in range(129)])
+        self.assertEqual([self.said("OM.STAT", "m")[at] for at in (1, 5)], [128, 0])
         self.said("OM.SET", "m", "long", "x" * 100_000)
         self.assertEqual(self.said("OM.STAT", "m")[5], 1)
         self.assertEqual(self.said("OM.GET", "m", "long"), b"x" * 100_000)

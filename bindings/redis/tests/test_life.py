@@ -7,6 +7,7 @@ import random
 import threading
 import time
 import unittest
+from typing import Callable
 
 import redis
 
@@ -41,10 +42,10 @@ class Files(unittest.TestCase):
             for form in ("yes", "no"):
                 server.rewrite(form)
                 server.run("OM.DEL", "large", *list(pairs)[:100])
-                server.run("OM.POPMIN", "large", 10)
+                server.run("OM.POPMIN", "large", 1_200)
                 server.run("OM.ADD", "counter", "a", 5)
                 server.run("OM.SET", "small", "x", "y" * 300, "z", -1)
-                server.run("OM.DELRANGE", "large", "[user:9", "+", "LIMIT", 50)
+                server.run("OM.DELRANGE", "large", "[user:5", "+", "LIMIT", 1_100)
                 before = digest(server)
                 server.stop()
                 server.start("--appendonly", "yes", "--aof-use-rdb-preamble", form)
@@ -67,11 +68,42 @@ class Files(unittest.TestCase):
             server.start()
             self.assertEqual(digest(server), before)
 
+    def test_full_disk(self) -> None:
+        """Where a file can't be written, the server says so and keeps the one that it has. Once it can, no change is lost that it has replied to.
+
+        A short write to the append-only file behind a rewrite that has failed is left out: neither Redis 7.0 nor Valkey 8.0 loads that file, also
+        where it has hashes alone. Nor has DEBUG LOADAOF what the server could not write.
+        """
+        with Server("--appendonly", "yes") as server:
+            fill(server, "m", some_pairs(5_000))
+            server.limit_files(1_000 + max(file.stat().st_size for file in server.folder.glob("appendonlydir/*.incr.aof")))
+            with self.assertRaisesRegex(redis.ResponseError, "Errors writing to the AOF"):
+                for at in range(10_000):
+                    server.run("OM.SET", "m", b"more %d" % at, at)
+                    time.sleep(0.001)
+            self.assertTrue(server.unwritten())
+            server.limit_files()
+            server.until("persistence", "aof_last_write_status", "ok")
+            self.restart(server)
+            server.limit_files(20_000)
+            self.assertRaises(redis.ResponseError, server.client.save)
+            with self.assertRaisesRegex(RuntimeError, "was not written"):
+                server.rewrite("no")
+            server.limit_files()
+            self.restart(server)
+
+    def restart(self, server: Server) -> None:
+        before = digest(server)
+        server.kill()
+        server.start()
+        self.assertEqual(digest(server), before)
+
     def test_kill(self) -> None:
         """Each write that was answered is there after kill -9, where each is synchronized."""
         answered = kills = 0
         with Server("--appendonly", "yes", "--appendfsync", "always") as server:
             while kills < 2 or answered < (10_000 if IS_LONG else 50):
+                assert server.process is not None
                 killer = threading.Timer(random.uniform(0.2, 2 if IS_LONG else 0.5), server.process.kill)
                 killer.start()
                 with self.assertRaises(redis.ConnectionError):
@@ -136,6 +168,135 @@ class Copies(unittest.TestCase):
         self.assertEqual(target.run("DEBUG", "DIGEST-VALUE", "m"), before)
         with self.assertRaisesRegex(redis.ResponseError, "MOVED|" + str(target.port)):
             source.run("OM.LEN", "m")
+
+
+class Portions(unittest.TestCase):
+    """Removals of many pairs, which go in portions."""
+
+    COUNT = 1_000_000 if IS_LONG else 60_000
+
+    def fill(self, server: Server) -> None:
+        fill(server, "m", {b"f%07d" % at: b"%d" % at for at in range(self.COUNT)})
+
+    def remove_all(self, server: Server, *more: object) -> redis.Connection:
+        """Has another client remove all fields, waits until it has begun, and returns its connection."""
+        other = redis.Redis(port=server.port).connection_pool.get_connection("_")
+        other.send_packed_command(other.pack_commands([("OM.DELRANGE", "m", "-", "(g"), *more]))
+        while server.run("OM.LEN", "m") == self.COUNT:
+            pass
+        return other
+
+    def test_at_once(self) -> None:
+        """No command has the main thread go through more than a thousand pairs in one go."""
+        works = [("OM.RANGE", "-", "+"), ("OM.RANGE", "-", "+", "REV", "LIMIT", 50_000, 5), ("OM.PREFIX", "f"), ("OM.COUNT", "-", "+")]
+        works += [("OM.POPMIN", 5_000), ("OM.POPMAX", 5_000), ("OM.DELRANGE", "(a", "+", "LIMIT", 30_000), ("OM.DELRANGE", "-", "(g")]
+        with Server() as server:
+            self.fill(server)
+            for name, *words in works:
+                server.run(name, "m", *words)
+            self.assertEqual(server.client.exists("m"), 0)
+            self.assertLessEqual(server.figure("ordered_map_most_pairs_at_once"), 1_000)
+
+    def test_long_values(self) -> None:
+        """They are fewer where values are long."""
+        with Server() as server:
+            fill(server, "m", {b"f%04d" % at: b"%d" % at * 10_000 for at in range(500)}, 50)
+            self.assertEqual(len(server.run("OM.RANGE", "m", "-", "+", "WITHVALUES")), 1_000)
+            self.assertEqual(len(server.run("OM.POPMIN", "m", 400)), 800)
+            self.assertEqual(server.run("OM.DELRANGE", "m", "-", "[f0498"), 99)
+            self.assertLessEqual(server.figure("ordered_map_most_pairs_at_once"), 128)
+
+    def until_caught(self, attempt: "Callable[[], bool]") -> None:
+        """Tries until a removal has not ended before what is to come between: on a busy machine it may have."""
+        self.assertTrue(any(attempt() for _ in range(20)))
+
+    def test_turns(self) -> None:
+        """Between portions other clients have their commands run. What is set behind them stays, and what is set before them goes. A replica has
+        the same, and the client's next command comes after all."""
+        with Server() as server, Server() as replica:
+            replica.client.replicaof("127.0.0.1", server.port)
+            replica.until("replication", "master_link_status", "up")
+            self.until_caught(lambda: self.take_turns(server))
+            self.assertEqual(server.client.wait(1, 30_000), 1)
+            self.assertEqual(digest(replica), digest(server))
+
+    def take_turns(self, server: Server) -> bool:
+        server.client.delete("m")
+        self.fill(server)
+        other, turns = self.remove_all(server, ("OM.LEN", "m")), 0
+        is_between = server.run("OM.SET", "m", "fz", "1") == 1 and server.run("OM.EXISTS", "m", "f%07d" % (self.COUNT - 1))
+        while is_between and server.run("OM.EXISTS", "m", "fz"):
+            server.run("OM.SET", "m", "a%d" % turns, turns)
+            turns += 1
+        removed, left = other.read_response(), other.read_response()
+        if is_between:
+            self.assertEqual(removed, self.COUNT + 1)
+            self.assertIn(left, [turns - 1, turns])
+            self.assertEqual(server.run("OM.LEN", "m"), turns)
+        return bool(is_between) and turns > 10
+
+    def test_clients_that_go(self) -> None:
+        """Once its client has left, a removal ends."""
+        with Server() as server:
+            self.until_caught(lambda: self.leave(server))
+            left = server.run("OM.LEN", "m")
+            time.sleep(0.1)
+            self.assertEqual(server.run("OM.LEN", "m"), left)
+            self.assertGreater(server.figure("ordered_map_clients_gone"), 0)
+
+    def leave(self, server: Server) -> bool:
+        self.fill(server)
+        self.remove_all(server).disconnect()
+        server.until("clients", "blocked_clients", 0)
+        return bool(server.run("OM.LEN", "m"))
+
+    def test_roles(self) -> None:
+        """A server that makes no changes for a while takes no portion, nor does one that becomes a replica."""
+        with Server() as server, Server() as first:
+            fill(first, "m", some_pairs(1_000))
+            self.until_caught(lambda: self.change_role(server, first))
+            server.until("replication", "master_link_status", "up")
+            server.until("clients", "blocked_clients", 0)
+            self.assertEqual(digest(server), digest(first))
+
+    def change_role(self, server: Server, first: Server) -> bool:
+        self.fill(server)
+        other = self.remove_all(server)
+        server.run("CLIENT", "PAUSE", 60_000, "WRITE")
+        left = server.run("OM.LEN", "m")
+        time.sleep(0.1)
+        self.assertEqual(server.run("OM.LEN", "m"), left)
+        if left > 0:
+            server.client.replicaof("127.0.0.1", first.port)
+        server.run("CLIENT", "UNPAUSE")
+        if left > 0:
+            self.assertRaisesRegex(redis.ResponseError, "force unblock", other.read_response)
+        return bool(left)
+
+    def test_keys_that_go(self) -> None:
+        """A removal ends where its key has another type, or is gone."""
+        with Server() as server:
+            for words, held in [(("SET", "m", "text"), 1), (("DEL", "m"), 0)]:
+                self.until_caught(lambda words=words: self.take_key(server, words))
+                self.assertEqual(server.client.exists("m"), held)
+
+    def take_key(self, server: Server, words: "tuple[object, ...]") -> bool:
+        server.client.delete("m")
+        self.fill(server)
+        other = self.remove_all(server)
+        server.run(*words)
+        return bool(other.read_response() < self.COUNT)
+
+    def test_at_one_time(self) -> None:
+        """In MULTI and in a script all goes at once."""
+        with Server() as server:
+            self.fill(server)
+            with server.client.pipeline(transaction=True) as together:
+                together.execute_command("OM.POPMIN", "m", 2_000)
+                together.execute_command("OM.LEN", "m")
+                self.assertEqual([len(together.execute()[0]), server.run("OM.LEN", "m")], [4_000, self.COUNT - 2_000])
+            script = "return {redis.call('OM.DELRANGE', KEYS[1], '-', '(g'), redis.call('OM.LEN', KEYS[1])}"
+            self.assertEqual(server.client.eval(script, 1, "m"), [self.COUNT - 2_000, 0])
 
 
 class Memory(unittest.TestCase):

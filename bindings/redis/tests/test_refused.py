@@ -39,7 +39,7 @@ class Refused(unittest.TestCase):
 
     def test_first_index(self) -> None:
         """A small map can't become a large one."""
-        pairs = numbers(128)
+        pairs = numbers(256)
         fill(self.server, "m", pairs)
         self.switch.touch()
         self.assertIn("no more memory", self.refused("OM.SET", "m", "a", "1", "more", "2"))

@@ -1,10 +1,11 @@
 //! `BoundedVec` and its methods.
 
-ghost use Rattle.std.specs.Prelude.{◌≡◌, ◌<◌, ◌≤◌, [], ◌∷◌, ◌++◌, length, take, IfOk, IsSome, OnSome, slice_get, ◌+◌, ◌-◌, ◌↔◌};
+ghost use Rattle.std.specs.Prelude.{◌≡◌, ◌⊎◌, ◌<◌, ◌≤◌, [], ◌∷◌, ◌++◌, length, min, take, vec_capacity, IfOk, IsSome, OnSome, slice_get, ◌+◌, ◌-◌, ◌↔◌};
 ghost use Rattle.std.specs.Option.{option_to_list};
 
 use std::alloc::{AllocError, Global};
 use std::marker::Model;
+use std::mem::swap;
 
 /// So many elements stand in memory of their own: a list that has never had more takes no more than that, where the system gives memory only
 /// once something is written there.
@@ -15,14 +16,14 @@ const FEW: usize = 16;
 /// Contracts see the elements, as `items`.
 #[derive(Drop)]
 pub struct BoundedVec<T, const MOST: usize> {
-    /// All elements, while they are few; then none.
-    few: Vec<T>,
-    /// All elements, once there were more than [`FEW`], until there is none any more.
-    many: Vec<T>,
+    /// The elements. There is memory for [`FEW`], and for `MOST` once there were more.
+    elements: Vec<T>,
+    /// Nothing, in the other memory.
+    empty: Vec<T>,
 }
 
 impl<T, const MOST: usize> Model for BoundedVec<T, MOST> {
-    ghost use Rattle.std.specs.Prelude.{◌≡◌, ◌⊎◌, ◌++◌, [], min, vec_capacity};
+    ghost use Rattle.std.specs.Prelude.{◌≡◌, ◌⊎◌, [], min, vec_capacity};
     ghost use Rattle.bounded_vec.specs.declared.bounded_vec.TheConstants.{FEW};
     ghost use Rattle.bounded_vec.specs.Bounded.{BoundedVec as Elements, bounded_vec_code};
 
@@ -30,9 +31,9 @@ impl<T, const MOST: usize> Model for BoundedVec<T, MOST> {
 
     ghost coded = { bounded_vec_code T.code };
 
-    ghost view = { λ v. record { items = v.few.items ++ v.many.items } };
+    ghost view = { λ v. record { items = v.elements.items } };
 
-    ghost invariant = { λ v. (vec_capacity v.few ≡ min FEW MOST) × (vec_capacity v.many ≡ MOST) × ((v.few.items ≡ []) ⊎ (v.many.items ≡ [])) };
+    ghost invariant = { λ v. (v.empty.items ≡ []) × ((vec_capacity v.elements ≡ MOST) ⊎ (vec_capacity v.elements ≡ min FEW MOST) × (vec_capacity v.empty ≡ MOST)) };
 }
 
 impl<T, const MOST: usize> BoundedVec<T, MOST> {
@@ -42,11 +43,7 @@ impl<T, const MOST: usize> BoundedVec<T, MOST> {
         ensures value { result.now ≡ self.now.items }
         ensures fits { length result.now ≤ MOST }
     {
-        if self.many.is_empty() {
-            self.few.as_slice()
-        } else {
-            self.many.as_slice()
-        }
+        self.elements.as_slice()
     }
 
     /// How many elements there are.
@@ -54,7 +51,7 @@ impl<T, const MOST: usize> BoundedVec<T, MOST> {
     pub fn len(&self) -> usize
         ensures { result ≡ length self.now.items }
     {
-        self.as_slice().len()
+        self.elements.len()
     }
 
     /// Removes and returns the last element, if there is one.
@@ -66,11 +63,7 @@ impl<T, const MOST: usize> BoundedVec<T, MOST> {
         ensures rest { self.new.items ≡ take (length self.old.items - 1) self.old.items }
         ensures value { result ≡ slice_get self.old.items (length self.old.items - 1) }
     {
-        if self.many.is_empty() {
-            self.few.pop()
-        } else {
-            self.many.pop()
-        }
+        self.elements.pop()
     }
 }
 
@@ -80,8 +73,8 @@ impl<T: Copy + Drop, const MOST: usize> BoundedVec<T, MOST> {
         ensures { IfOk result (λ v. v.items ≡ []) }
     {
         Ok(BoundedVec {
-            few: Vec::with_capacity(alloc, FEW.min(MOST))?,
-            many: Vec::with_capacity(alloc, MOST)?,
+            elements: Vec::with_capacity(alloc, FEW.min(MOST))?,
+            empty: Vec::with_capacity(alloc, MOST)?,
         })
     }
 
@@ -91,24 +84,30 @@ impl<T: Copy + Drop, const MOST: usize> BoundedVec<T, MOST> {
         requires { length self.old.items < MOST }
         ensures items { self.new.items ≡ self.old.items ++ element ∷ [] }
     {
-        if self.many.is_empty() && self.few.len() < FEW.min(MOST) {
-            self.few.push_reserved(element);
-        } else {
-            self.push_to_many(element);
+        if self.elements.len() == FEW {
+            BoundedVec::<T, MOST>::make_room(&mut self.elements, &mut self.empty);
         }
+        self.elements.push_reserved(element);
     }
 
-    /// Appends `element` to the elements, which are no longer few. Not inline, since that is rare.
+    /// Has `elements` stand in memory for `MOST`: that of `empty`, if they stand in that of the few. Not inline, since that is rare; and it isn't
+    /// told of the element that comes, which can stay in registers then.
     #[inline(never)]
-    fn push_to_many(&mut self, element: T)
-        requires { length self.old.items < MOST }
-        ensures items { self.new.items ≡ self.old.items ++ element ∷ [] }
+    fn make_room(elements: &mut Vec<T>, empty: &mut Vec<T>)
+        requires room { length elements.old.items < MOST }
+        requires empty { empty.old.items ≡ [] }
+        requires memory { (vec_capacity elements.old ≡ MOST) ⊎ (vec_capacity elements.old ≡ min FEW MOST) × (vec_capacity empty.old ≡ MOST) }
+        ensures items { elements.new.items ≡ elements.old.items }
+        ensures empty { empty.new.items ≡ [] }
+        ensures memory { vec_capacity elements.new ≡ MOST }
     {
-        for place in 0..self.few.len() {
-            self.many.push_reserved(self.few[place]);
+        if elements.capacity() < MOST {
+            for place in 0..elements.len() {
+                empty.push_reserved(elements[place]);
+            }
+            elements.clear();
+            swap(elements, empty);
         }
-        self.few.clear();
-        self.many.push_reserved(element);
     }
 
     /// Keeps the first `count` elements.
@@ -116,8 +115,7 @@ impl<T: Copy + Drop, const MOST: usize> BoundedVec<T, MOST> {
     pub fn truncate(&mut self, count: usize)
         ensures items { self.new.items ≡ take count self.old.items }
     {
-        self.few.truncate(count);
-        self.many.truncate(count);
+        self.elements.truncate(count);
     }
 
     /// Removes all elements.
@@ -125,7 +123,6 @@ impl<T: Copy + Drop, const MOST: usize> BoundedVec<T, MOST> {
     pub fn clear(&mut self)
         ensures { self.new.items ≡ [] }
     {
-        self.few.clear();
-        self.many.clear();
+        self.elements.clear();
     }
 }

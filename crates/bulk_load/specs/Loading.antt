@@ -51,9 +51,18 @@ pub record HasParts (l : Builder) (ls : List LeftPiece) (top : Tree) : Type 0 wh
   pub counts_are : map (λ (p : Part). p.count) l.parts.items ≡ counts ls top
   pub few : All (λ n. n ≤ 32) (counts ls top)
 
--- Node records are left for closing all pieces, once there are so many leaves more: two for each piece, or one for each slot.
+-- No node was taken, and one takes all slots, so many more too: then closing takes one record, and one more is left.
+abbrev pub FitsOneNode : Builder → ℕ → Type 0
+FitsOneNode l more = (l.nodes ≡ 0) × (length l.slots.items + more ≤ 32) × (2 ≤ l.layout.nodes)
+
+-- Node records are left for closing all pieces, once there are so many leaves more: two for each piece, or one for each slot, or one for all.
 abbrev pub HasNodesFor : Builder → ℕ → Type 0
-HasNodesFor l more = (l.nodes + 2 * (length l.parts.items + more) ≤ l.layout.nodes) ⊎ (l.nodes + length l.slots.items + more ≤ l.layout.nodes)
+HasNodesFor l more =
+    (l.nodes + 2 * (length l.parts.items + more) ≤ l.layout.nodes) ⊎ ((l.nodes + length l.slots.items + more ≤ l.layout.nodes) ⊎ FitsOneNode l more)
+
+-- a leaf, or leaves that one node takes
+abbrev pub IsLow : Part → Type 0
+IsLow p = (p.height ≤ 1) × (1 < p.count → 1 ≤ p.height)
 
 -- the pieces are those of a tree with these leaves, and the last key is the tree's
 pub record IsStackOf (l : Builder) (xs : List Item) : Type 0 where
@@ -66,6 +75,9 @@ pub record IsStackOf (l : Builder) (xs : List Item) : Type 0 where
   pub room : HasNodesFor l 0
   -- each node has taken the place of one slot at least
   pub few : l.nodes + length l.slots.items ≤ length xs
+  -- where no node is taken each piece is of leaves alone, and none is taken while one takes all leaves
+  pub low : l.nodes ≡ 0 → All IsLow l.parts.items
+  pub bare : length xs ≤ 32 → l.nodes ≡ 0
 
 -- so, and a new leaf that parts from the last one at this position belongs beside the piece at the top
 pub record IsStackBehind (l : Builder) (xs : List Item) (p : ℕ) : Type 0 where

@@ -6,6 +6,7 @@ use Rattle.node_tries.specs.Piece.{Piece, Place, Fork, RisesFrom}
 use Rattle.node_tries.specs.Positions.{front_below}
 use Rattle.bulk_load.specs.declared.slots.Slot.{Slot}
 
+-- a slot of this fork and this entry
 abbrev pub slot : ℕ → Entry → Slot
 slot p e = record { fork = p; entry = e }
 
@@ -23,6 +24,7 @@ pub record AreSlotsOf (slots : List Slot) (p : ℕ) (x : Piece Entry) : Type 0 w
   pub are : slots ≡ slots_of p x
   pub rises : RisesFrom 0 x
 
+-- the entries of slots, in order
 abbrev pub entries_in_slots : List Slot → List Entry
 entries_in_slots slots = map (λ s. s.entry) slots
 

@@ -10,6 +10,7 @@ pub record LeftPiece : Type 0 where
   pub tree : Tree
   pub position : ℕ
 
+-- a piece of this tree, left behind at this position
 abbrev pub left_piece : Tree → ℕ → LeftPiece
 left_piece t p = record { tree = t; position = p }
 

@@ -25,6 +25,7 @@ leaf_class layout n =
     if nat_lt n layout.medium_from then 0 else (if nat_lt n layout.large_from then 1 else
     (if nat_lt n layout.wide_from then 2 else (if nat_lt n layout.long_from then 3 else 4)))
 
+-- the state word of a record in a table's words
 abbrev pub state_in : Layout → List ℕ → Rec → ℕ
 state_in layout table r = get_or table (start_of layout r) 0
 
@@ -59,5 +60,6 @@ pub record IsCursorOf (layout : Layout) (table : List ℕ) (next n : ℕ) : Type
   pub taken : state_in layout table (a_leaf n) ≡ state_word Free → next ≤ n
   pub free : next ≤ n → (state_in layout table (a_leaf n) ≡ state_word Free) × (leaf_class layout next ≡ leaf_class layout n)
 
+-- so it is with the cursor of each class
 abbrev pub AreCursors : Layout → List ℕ → List ℕ → Type 0
 AreCursors layout table cursors = (n : ℕ) → n < layout.leaves → IsCursorOf layout table (get_or cursors (leaf_class layout n) 0) n

@@ -15,9 +15,11 @@ pub record LoadView : Type 0 where
   pub layout : Layout
   pub items : List Item
 
+-- a load to which nothing was given
 abbrev pub no_items : Layout → LoadView
 no_items layout = record { layout = layout; items = [] }
 
+-- a load that was given one more pair
 abbrev pub with_item : LoadView → Item → LoadView
 with_item v x = record { layout = v.layout; items = v.items ++ x ∷ [] }
 

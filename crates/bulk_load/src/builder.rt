@@ -5,10 +5,10 @@ ghost use Rattle.finite_map.specs.Maps.{key_order};
 ghost use Rattle.record_words.specs.declared.state.Tag.TheVariants.{Free as FreeTag};
 ghost use Rattle.record_words.specs.declared.TheConstants.{LEAF_CLASSES};
 ghost use Rattle.record_words.specs.State.{state_word};
-ghost use Rattle.std.specs.Prelude.{ℕ, ◌≡◌, ◌≢◌, ◌↔◌, ◌+◌, ◌≤◌, ◌<◌, ◌++◌, ◌∷◌, [], if◌then◌else◌, get_or, Err, IfOk, IfSome, IsNone, IsTrue, List, OnOk, OnErr, Option as Maybe, Some, length};
+ghost use Rattle.std.specs.Prelude.{ℕ, ◌≡◌, ◌≢◌, ◌↔◌, ◌+◌, ◌≤◌, ◌<◌, ◌++◌, ◌∷◌, [], if◌then◌else◌, get_or, Err, IfOk, IfSome, IsNone, IsTrue, false, List, OnOk, OnErr, Option as Maybe, Some, length};
 ghost use Rattle.std.specs.Vec.{vec_len};
 ghost use Rattle.bulk_load.specs.Finished.{IsFinished};
-ghost use Rattle.bulk_load.specs.Loading.{CanJoin, CanPart, HasCursors, HasNodesFor, HasSameFields, HasSpace, EndsInLeaf, IsAlone, IsJoined, IsLoading, IsPiece, IsNextLeaf, IsStackOf, IsTreeOf, KeepsLeaves, KeepsNodes, MayTakeNext, StandsFor};
+ghost use Rattle.bulk_load.specs.Loading.{CanJoin, CanPart, HasCursors, HasNodesFor, HasSameFields, HasSpace, EndsInLeaf, FitsOneNode, IsAlone, IsJoined, IsLow, IsLoading, IsPiece, IsNextLeaf, IsStackOf, IsTreeOf, KeepsLeaves, KeepsNodes, MayTakeNext, StandsFor};
 ghost use Rattle.bulk_load.specs.Stacks.{LeftPiece, whole_of, with_right};
 ghost use Rattle.bulk_load.specs.Tables.{IsRootless, leaf_class, state_in};
 ghost use Rattle.bulk_load.specs.Views.{IsAboveLast, IsTakenLeaf};
@@ -115,6 +115,7 @@ impl Builder {
         ensures leaves { (xs : List Item) → IsLoading self.now xs → result ≡ Err LoadFault.LeavesFull →
             (n : ℕ) → n < self.now.layout.leaves → words_for (length key.now) ≤ leaf_size self.now.layout n → IsTakenLeaf xs n }
         ensures nodes { (xs : List Item) → IsLoading self.now xs → result ≡ Err LoadFault.NodesFull → self.now.layout.nodes ≤ length xs }
+        ensures many { (xs : List Item) → IsLoading self.now xs → result ≡ Err LoadFault.NodesFull → 2 ≤ self.now.layout.nodes → 32 ≤ length xs }
     {
         let fork_position = self.fork_before(key)?;
         let Some(record_number) = self.find_leaf(count_leaf_words(key)) else {
@@ -233,12 +234,19 @@ impl Builder {
     }
 
     /// Whether enough node records are left for one leaf more, which is one slot and one piece more: two for each piece, or one for each
-    /// slot. Closing all pieces takes no more.
+    /// slot, or one for all. Closing all pieces takes no more, and leaves one.
     fn has_nodes(&self) -> bool
         ensures { IsTrue result ↔ HasNodesFor self.now 1 }
     {
         let left = self.layout.nodes.saturating_sub(self.nodes) as usize;
-        left / 2 > self.parts.len() || left > self.slots.len()
+        left / 2 > self.parts.len() || left > self.slots.len() || self.fits_one_node()
+    }
+
+    /// Whether no node is taken, and one has room for all slots and one more, and one is left then.
+    fn fits_one_node(&self) -> bool
+        ensures { IsTrue result ↔ FitsOneNode self.now 1 }
+    {
+        self.nodes == 0 && self.slots.len() < MAX_ENTRIES && self.layout.nodes > 1
     }
 
     /// Puts a leaf on top, as a piece of its own, behind a fork at `fork`. Its record is `leaf`.
@@ -387,6 +395,8 @@ fn plan_join(left: Part, right: Part) -> Plan
     ensures few { (if result.closes_left then 1 else left.count) + (if result.closes_right then 1 else right.count) ≤ 32 }
     ensures left { IsTrue result.closes_left → 2 ≤ left.count }
     ensures right { IsTrue result.closes_right → 2 ≤ right.count }
+    ensures even { IsLow left → IsLow right → left.count + right.count ≤ 32 → (result.closes_left ≡ false) × (result.closes_right ≡ false) }
+    ensures low { IsLow left → IsLow right → result.closes_left ≡ false → result.closes_right ≡ false → result.height ≡ 1 }
 {
     let height = left.height.max(right.height).max(1);
     let closes_left = left.height < height && left.count > 1;

@@ -54,13 +54,14 @@ impl Loader {
 
     /// Takes `key` with `value`, as the last pair. The key must be above the last one: `NotRising` says that it isn't. `LeavesFull` comes
     /// only if no leaf record with room for the key is left, and `NodesFull` only if the table has no more node records than pairs were
-    /// taken. After a fault the pairs are as before.
+    /// taken; a table of two node records takes 32 pairs. After a fault the pairs are as before.
     pub fn push(&mut self, key: &Key, value: u64) -> Result<(), LoadFault>
         ensures taken { OnOk result ((n : ℕ) × (self.new ≡ with_item self.old (item n key.now value))) }
         ensures refused { OnErr result (self.new ≡ self.old) }
         ensures rising { (result ≡ Err LoadFault.NotRising) ↔ ¬ IsAboveLast self.old.items key.now }
         ensures leaves { result ≡ Err LoadFault.LeavesFull → HasNoRoomFor self.old key.now }
         ensures nodes { result ≡ Err LoadFault.NodesFull → self.old.layout.nodes ≤ length self.old.items }
+        ensures many { result ≡ Err LoadFault.NodesFull → 2 ≤ self.old.layout.nodes → 32 ≤ length self.old.items }
     {
         let next_leaf = self.builder.find_next_leaf(key)?;
         self.builder.reserve()?;

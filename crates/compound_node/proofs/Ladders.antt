@@ -6,20 +6,20 @@ use Rattle.std.proofs.lemmas.Bool.{cases_Bool, cases_eq, cases_lt, eq-eqb, eqb-t
 use Rattle.std.proofs.lemmas.List.{get_or_append_left, get_or-append_right, get_or-drop, get_or-map, get_or-take, length-drop, length-map, length-take-le, map-append, take-append-drop}
 use Rattle.std.proofs.lemmas.Nat.{and_block, and_mask, pow_pos, pow-add}
 use Rattle.std.proofs.lemmas.Simd.{map-map}
-use Rattle.partial_keys.proofs.Codes.{code-falses}
-use Rattle.key_bits.proofs.Gathering.{code-lt}
-use Rattle.partial_keys.proofs.Reading.{row, row-set, row-skip}
+use Rattle.partial_keys.proofs.Rows.{code-falses}
+use Rattle.key_bits.proofs.Gather.{code-lt}
+use Rattle.partial_keys.proofs.Shown.{row, row-set, row-skip}
 use Rattle.partial_keys.specs.Shown.{shown}
-use Rattle.node_tries.proofs.Paths.{length-paths, none_before, RisesFrom-weaker, size_pos}
+use Rattle.node_tries.proofs.Piece.{length-paths, none_before, RisesFrom-weaker, size_pos}
 use Rattle.node_tries.proofs.Positions.{has_after, IsPlaceOf}
-use Rattle.node_tries.proofs.Tests.{map_same}
-use Rattle.node_tries.proofs.Using.{later_columns, UsesOnly-more}
+use Rattle.node_tries.proofs.Positions.Tests.{map_same}
+use Rattle.node_tries.proofs.Piece.Using.{later_columns, UsesOnly-more}
 use Rattle.node_tries.specs.Piece.{Piece, Place, Fork, paths, places, RisesFrom, size, UsesOnly}
 use Rattle.node_tries.specs.Positions.{Ascends, front_below, has}
 use Rattle.node_tries.proofs.Positions.{front_below-place}
 use Rattle.compound_node.specs.Ladders.{AreSparseKeys, IsLadder, IsNextRow}
 use Rattle.key_bits.specs.Gather.{code}
-use Rattle.partial_keys.proofs.Cutting.{or_all-piece}
+use Rattle.partial_keys.proofs.Shown.Cutting.{or_all-piece}
 use Rattle.partial_keys.specs.Shown.{piece_of}
 use Rattle.partial_keys.specs.Shows.{ShowsPiece}
 use Rattle.partial_keys.specs.Squeezed.{or_all}

@@ -8,16 +8,16 @@ use Rattle.compound_node.proofs.Ladders.{row_at, shown-sparse_keys, sparse_keys-
 use Rattle.compound_node.specs.Nodes.{FitTogether, FitsHead, FitsWords, HeadView, IsEntry, IsHead, IsLawfulNode, IsNode, NodeView, StandsBelow, greatest_height, head_of, height_of, leaves, node_from, node_of, piece}
 use Rattle.compound_node.specs.declared.entries.Entry.TheVariants.{Leaf}
 use Rattle.compound_node.specs.declared.entries.Entry.{Entry}
-use Rattle.key_bits.proofs.Gathering.{code-lt}
-use Rattle.partial_keys.proofs.Search.{highest_leads}
-use Rattle.partial_keys.proofs.Reading.{piece_of_shown}
-use Rattle.partial_keys.proofs.Showing.{same_length, shows-replaced}
+use Rattle.key_bits.proofs.Gather.{code-lt}
+use Rattle.partial_keys.proofs.Leads.{highest_leads}
+use Rattle.partial_keys.proofs.Shown.{piece_of_shown}
+use Rattle.partial_keys.proofs.Shows.{same_length, shows-replaced}
 use Rattle.node_tries.specs.Changes.{replaced}
 use Rattle.partial_keys.specs.Columns.{IsColumns}
 use Rattle.partial_keys.specs.Rows.{IsHighest, dense_of, row_of, with_unused}
 use Rattle.partial_keys.specs.Shown.{piece_of}
 use Rattle.partial_keys.specs.Shows.{ShowsPiece}
-use Rattle.node_tries.proofs.Paths.{length-paths, length-places, size_pos}
+use Rattle.node_tries.proofs.Piece.{length-paths, length-places, size_pos}
 use Rattle.node_tries.specs.Piece.{Fork, Piece, Place, leads_to, paths, size}
 use Rattle.partial_keys.proofs.Affected.{affected_is}
 use Rattle.partial_keys.specs.Runs.{IsRunEnd, IsRunStart}

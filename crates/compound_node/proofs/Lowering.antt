@@ -10,8 +10,8 @@ use Rattle.std.proofs.lemmas.Nat.Bits.{bit_at_or, same_from_bits}
 use Rattle.std.specs.Int.Bits.{or_zero_l, or_zero_r}
 use Rattle.std.specs.Int.Count.{trailing_of_zero}
 use Rattle.std.specs.List.{prefix_len, range_with_len}
-use Rattle.compound_node.proofs.Clearing.{length-cleared_front}
-use Rattle.compound_node.proofs.Shifting.{picked, picked_at}
+use Rattle.compound_node.proofs.rows.Clearing.{length-cleared_front}
+use Rattle.compound_node.proofs.rows.Shifting.{picked, picked_at}
 use Rattle.partial_keys.specs.Rows.{with_unused}
 use Rattle.partial_keys.specs.Squeezed.{or_all}
 use Rattle.compound_node.specs.Lowering.{lowered_row}

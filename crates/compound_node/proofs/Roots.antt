@@ -2,9 +2,9 @@
 use Rattle.std.proofs.Common.{◌∙◌, List, ℕ, [], ◌∷◌, ◌<◌, ◌≤◌, ◌≡◌, ap, arith, get_or, length, sym, true}
 use Rattle.compound_node.specs.Nodes.{HeadView, IsLawfulNode, NodeView, head_of, piece}
 use Rattle.compound_node.specs.declared.entries.Entry.{Entry}
-use Rattle.partial_keys.proofs.Cutting.{root_first}
+use Rattle.partial_keys.proofs.Shown.Cutting.{root_first}
 use Rattle.partial_keys.specs.Shows.{ShowsPiece}
-use Rattle.node_tries.proofs.Paths.{length-places}
+use Rattle.node_tries.proofs.Piece.{length-places}
 use Rattle.node_tries.specs.Changes.{AtRootFork}
 use Rattle.node_tries.specs.Piece.{Piece, Place, Fork, size}
 use Rattle.node_tries.specs.Positions.{has, AllBelow}

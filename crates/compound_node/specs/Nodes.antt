@@ -26,6 +26,7 @@ IsEntry (Node number height) = (0 < height) × (height < 65535)
 abbrev pub StandsBelow : ℕ → Entry → Type 0
 StandsBelow height entry = IsEntry entry × (height_of entry < height)
 
+-- the greatest height among entries, or 0
 abbrev pub greatest_height : List Entry → ℕ
 greatest_height [] = 0
 greatest_height (entry ∷ entries) = max (height_of entry) (greatest_height entries)
@@ -88,6 +89,7 @@ pub record HeadView : Type 0 where
   pub columns : List ℕ
   pub rows : List ℕ
 
+-- a node without its entries
 abbrev pub head_of : NodeView → HeadView
 head_of node = record { height = node.height; columns = node.columns; rows = node.rows }
 
@@ -95,6 +97,7 @@ head_of node = record { height = node.height; columns = node.columns; rows = nod
 abbrev pub InEachNode : HeadView → (NodeView → Type 0) → Type 0
 InEachNode head IsSo = (node : NodeView) → IsLawfulNode node → head_of node ≡ head → IsSo node
 
+-- the node of a head and of entries
 abbrev pub node_of : HeadView → List Entry → NodeView
 node_of head entries = record { height = head.height; columns = head.columns; rows = head.rows; entries = entries }
 

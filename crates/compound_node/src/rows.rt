@@ -260,7 +260,7 @@ fn lowest_bit(row: u32) -> u32
 
 /// A mask of the column of the last fork on the path to row `slot`, if that row is the fork's 0 side; else 0. When row `slot` is taken out,
 /// the rows of the 1 side lose this bit.
-fn sibling_bit(rows: &[u32], slot: usize) -> u32
+fn bit_lost_without_row(rows: &[u32], slot: usize) -> u32
     requires ladder { IsLadder rows.now }
     requires in_range { slot < length rows.now }
     ensures { result ≡ bit_after slot rows.now }
@@ -297,7 +297,11 @@ pub(crate) fn without_row(rows: &[u32], slot: usize) -> ArrayVec<u32, MAX_ENTRIE
 {
     let mut out = ArrayVec::new();
     append_items(&mut out, &rows[..slot]);
-    append_cleared_rows(&mut out, &rows[slot + 1..], sibling_bit(rows, slot));
+    append_cleared_rows(
+        &mut out,
+        &rows[slot + 1..],
+        bit_lost_without_row(rows, slot),
+    );
     out
 }
 
@@ -344,7 +348,7 @@ pub fn remove_row(rows: u32x32, count: usize, slot: usize) -> u32x32
     requires in_range { slot < count }
     ensures { result ≡ removed_row slot (take count rows) ++ 4294967295 ∷ drop count rows }
 {
-    let bit = sibling_bit(&rows.to_array()[..count], slot);
+    let bit = bit_lost_without_row(&rows.to_array()[..count], slot);
     let end = first_row_without(rows, slot as u32 + 1, count as u32, bit);
     lower_rows(rows, count as u32, slot as u32, end, bit)
 }

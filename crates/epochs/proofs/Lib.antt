@@ -1,7 +1,4 @@
 -- The lemmas of the crate.
-pub mod Advancing
-pub mod Bounding
-pub mod Doing
-pub mod Reaching
-pub mod Visiting
-pub mod Whole
+pub mod Runs
+pub mod Reach
+pub mod Rounds

@@ -20,6 +20,7 @@ use Rattle.epochs.specs.declared.limbo.Visited.TheVariants.{Given}
 abbrev pub advance_steps : ℕ → ℕ → List Act
 advance_steps epoch found = if nat_lt (epoch + 1) EPOCHS then Advance epoch found ∷ [] else []
 
+-- this one step: the pin of that pass is loaded
 abbrev pub LoadsPin : ℕ → List Act → Type 0
 LoadsPin o acts = (word : ℕ) × (acts ≡ LoadPin o word ∷ [])
 

@@ -26,6 +26,7 @@ KeepsReach table becomes [] a b run = Unit {0}
 KeepsReach table becomes (act ∷ acts) a b run =
     IsReachKept run.1.event.core × IsReachKept (after run.1.event.core a.0.known.pass act) × KeepsReach table becomes acts run.0 b run.2
 
+-- so it is for each run of steps
 abbrev pub RunsKeepReach : {G : Type 0} → (G → Event → G → Type 0) → Type 0
 RunsKeepReach {G = G} becomes = (table : TableView) (acts : List Act) (a b : SeatView × G) (run : Runs table becomes acts a b) → KeepsReach table becomes acts a b run
 

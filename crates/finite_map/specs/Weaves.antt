@@ -17,6 +17,7 @@ pub data Event : Type 0 where
 abbrev pub quiet_at : ℕ → List Note → List Note
 quiet_at place notes = filter (λ n. nat_eq n.place place && not (is_change n)) notes
 
+-- and those whose calls changed it
 abbrev pub changing_at : ℕ → List Note → List Note
 changing_at place notes = filter (λ n. nat_eq n.place place && is_change n) notes
 

@@ -21,7 +21,7 @@ use Rattle.hot_index_calls.specs.declared.refusals.Refusal.{Refusal}
 use Rattle.hot_index.specs.Kept.{kept_stock, with_one_kept}
 use Rattle.hot_c.specs.Refusals.{TellsRefusal}
 use Rattle.hot_c.specs.Statuses.{reply_status, value_after}
-use Rattle.hot_c.specs.declared.handle.Handle.{Handle}
+use Rattle.hot_c.specs.declared.handle.IndexHandle.{IndexHandle}
 use Rattle.hot_c.specs.declared.opened.Opened.{Opened}
 use Rattle.hot_c.specs.declared.status.TheConstants.{CLOSED, DONE, KEY_TOO_LONG, NO_HANDLE, NO_MEMORY}
 
@@ -76,11 +76,11 @@ abbrev pub HasGivenBack : ℕ → ℕ → TableView → PassView → PassView �
 HasGivenBack nodes leaves index k j = IsUnnoted index.layout k j × HasCollected index untold (k, tt) (j, tt) nodes leaves
 
 -- all of these handles are closed
-abbrev pub AreClosed : List Handle → Type 0
-AreClosed handles = All (λ h. h.slot.opened ≡ None) handles
+abbrev pub AreClosed : List IndexHandle → Type 0
+AreClosed handles = All (λ h. h.cell.opened ≡ None) handles
 
 -- C's pointers of these handles
-abbrev pub places_of : List Handle → List ℕ
+abbrev pub places_of : List IndexHandle → List ℕ
 places_of = map (λ h. h.place)
 
 -- an index can have so many passes, nodes and leaves
@@ -103,19 +103,19 @@ pub record AreNew (passes : ℕ) (HasRecords : Layout → Type 0) (opened : List
   pub each : (q : ℕ) (o : Opened) → slice_get opened q ≡ Some o → IsNewShare index q o
 
 -- the handles are open, on one new index with such records, each with the pass of its place
-abbrev pub HaveOpenedOn : (Layout → Type 0) → List Handle → Type 0
-HaveOpenedOn HasRecords handles = (opened : List Opened) × (map (λ h. h.slot.opened) handles ≡ map Some opened) × AreNew (length handles) HasRecords opened
+abbrev pub HaveOpenedOn : (Layout → Type 0) → List IndexHandle → Type 0
+HaveOpenedOn HasRecords handles = (opened : List Opened) × (map (λ h. h.cell.opened) handles ≡ map Some opened) × AreNew (length handles) HasRecords opened
 
 -- so many nodes, and the one that is kept, and so many leaves, which are all long
 abbrev pub HasCounts : ℕ → ℕ → Layout → Type 0
 HasCounts nodes leaves layout = (layout.nodes ≡ with_one_kept nodes) × (layout.leaves ≡ leaves) × (layout.long_from ≡ 0)
 
 -- the handles are open on one new index with this number of nodes and of leaves, which are all long
-abbrev pub HaveOpened : ℕ → ℕ → List Handle → Type 0
+abbrev pub HaveOpened : ℕ → ℕ → List IndexHandle → Type 0
 HaveOpened nodes leaves = HaveOpenedOn (HasCounts nodes leaves)
 
 -- the handles are open on one new index with this stock, and the node record that is kept
-abbrev pub HaveOpenedStock : Stock → List Handle → Type 0
+abbrev pub HaveOpenedStock : Stock → List IndexHandle → Type 0
 HaveOpenedStock stock = HaveOpenedOn (λ layout. HasStock layout (kept_stock stock))
 
 -- The first handle of an index, with the last of so many passes. It keeps the others, the one with the least number as the next to be

@@ -37,7 +37,7 @@ abbrev pub FindsLast : List ℕ → Option Opened → Option Opened → Pair →
 FindsLast upto = FindsBy (FitsInKey upto) (λ layout k j. IsLastFound layout k j upto) (λ layout k j. HasFoundPair layout k j (range_from [] upto 1))
 
 -- the pair that a scan of a range finds first
-abbrev pub FindsIn : Order → List ℕ → List ℕ → Option Opened → Option Opened → Pair → Pair → ℕ → Type 0
-FindsIn order from upto = FindsBy (FitsInKey from × FitsInKey upto)
+abbrev pub FindsFirstIn : Order → List ℕ → List ℕ → Option Opened → Option Opened → Pair → Pair → ℕ → Type 0
+FindsFirstIn order from upto = FindsBy (FitsInKey from × FitsInKey upto)
     (λ layout k j found. (is_more : Bool) × IsFilledIn order layout k j (range_from from upto 1) (option_to_list found) is_more)
     (λ layout k j. HasFoundPair layout k j (range_from from upto 1))

@@ -1,29 +1,29 @@
--- What becomes of a slot that lent what it holds.
+-- What becomes of a cell that lent what it holds.
 use Rattle.std.specs.Prelude.{Some}
 use Rattle.std.specs.Borrow.{Lends, MutBor, Fml}
-use Rattle.slots.specs.declared.held.Held.{Held}
-use Rattle.slots.specs.contracts.held.Held.{the_row as held_row}
+use Rattle.hot_handles.specs.declared.held.Held.{Held}
+use Rattle.hot_handles.specs.contracts.held.Held.{the_row as held_row}
 use Rattle.hot_c.specs.declared.opened.Opened.{Opened}
-use Rattle.hot_c.specs.declared.slot.Slot.{Slot}
+use Rattle.hot_c.specs.declared.cell.HandleCell.{HandleCell}
 use Rattle.hot_c.specs.contracts.opened.Opened.{the_row as opened_row}
-use Rattle.hot_c.specs.contracts.slot.Slot.{the_row as slot_row}
+use Rattle.hot_c.specs.contracts.cell.HandleCell.{the_row as cell_row}
 
--- the slot, as one whose type tells what it holds
-abbrev pub held_opened : Slot → Held Opened
-held_opened slot = record { at = slot.at; value = slot.opened }
+-- the cell, as one whose type tells what it holds
+abbrev pub held_opened : HandleCell → Held Opened
+held_opened cell = record { at = cell.at; value = cell.opened }
 
 -- and back
-abbrev pub slot_of_opened : Held Opened → Slot
-slot_of_opened held = record { at = held.at; opened = held.value }
+abbrev pub cell_of_opened : Held Opened → HandleCell
+cell_of_opened held = record { at = held.at; opened = held.value }
 
--- the slot ends as this one does
-abbrev pub LendsHeldOpened : MutBor Slot → MutBor (Held Opened) → Fml
-LendsHeldOpened slot held = Lends slot_row (held_row opened_row) slot held slot_of_opened
+-- the cell ends as this one does
+abbrev pub LendsHeldOpened : MutBor HandleCell → MutBor (Held Opened) → Fml
+LendsHeldOpened cell held = Lends cell_row (held_row opened_row) cell held cell_of_opened
 
--- the slot, holding this
-abbrev pub with_opened : Slot → Opened → Slot
-with_opened slot opened = record slot { opened = Some opened }
+-- the cell, holding this
+abbrev pub with_opened : HandleCell → Opened → HandleCell
+with_opened cell opened = record cell { opened = Some opened }
 
--- the slot ends with the last value behind the reference
-abbrev pub LendsOpened : MutBor Slot → MutBor Opened → Fml
-LendsOpened slot opened = Lends slot_row opened_row slot opened (with_opened slot.now)
+-- the cell ends with the last value behind the reference
+abbrev pub LendsOpened : MutBor HandleCell → MutBor Opened → Fml
+LendsOpened cell opened = Lends cell_row opened_row cell opened (with_opened cell.now)

@@ -6,7 +6,7 @@ use Rattle.record_words.specs.declared.layout.Stock.{Stock}
 use Rattle.tries.specs.Content.{pairs}
 use Rattle.hot_index.specs.Kept.{kept_stock}
 use Rattle.hot_index.specs.Loads.{HasNoLeafFor, HasTakenPair, IsPassOfLoad}
-use Rattle.load_handles.specs.declared.open_load.OpenLoad.{OpenLoad}
+use Rattle.hot_handles.specs.declared.load.open_load.OpenLoad.{OpenLoad}
 use Rattle.hot_c.specs.Calls.{FitsInKey, KeepsPasses}
 use Rattle.hot_c.specs.declared.opened.Opened.{Opened}
 use Rattle.hot_c.specs.declared.status.TheConstants.{CLOSED, DONE, FULL_LEAVES, FULL_NODES, KEY_TOO_LONG, NO_MEMORY, NOT_RISING}

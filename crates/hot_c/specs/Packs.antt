@@ -2,7 +2,7 @@
 use Rattle.std.specs.Prelude.{◌≡◌, ◌||◌, ℕ, ◌<◌, ◌≤◌, List, ◌++◌, length, take, drop, map, Bool, true, nat_lt, Option}
 use Rattle.std.specs.Int.{from_bool}
 use Rattle.packed_pairs.specs.Parts.{fitting, packed_head, keys_in}
-use Rattle.packed_pairs.specs.declared.head.Head.{Head}
+use Rattle.packed_pairs.specs.declared.head.PairHead.{PairHead}
 use Rattle.record_words.specs.declared.layout.Layout.{Layout}
 use Rattle.rowex_scanning.specs.Scanning.{limited}
 use Rattle.version_laws.specs.Scan.{Range}
@@ -16,12 +16,12 @@ use Rattle.hot_c.specs.declared.opened.Opened.{Opened}
 -- what C sees of such a scan's answer: an array of bytes, one of heads, the count of pairs, and whether there is a further one
 pub record Packing : Type 0 where
   pub bytes : List ℕ
-  pub heads : List Head
+  pub heads : List PairHead
   pub count : ℕ
   pub more : ℕ
 
 -- what C sees of a packed scan, with these values
-abbrev pub packing : List ℕ → List Head → ℕ → ℕ → Packing
+abbrev pub packing : List ℕ → List PairHead → ℕ → ℕ → Packing
 packing bytes heads count more = record { bytes = bytes; heads = heads; count = count; more = more }
 
 -- The arrays begin with the keys and the heads of the first pairs, of as many as have keys that fit into the bytes, and are otherwise

@@ -2,8 +2,8 @@
 use Rattle.std.specs.Prelude.{◌≡◌, ◌⊎◌, ◌<◌, ℕ, [], Option, Some, None, IsSome}
 use Rattle.sections.specs.Runs.{IsHeld, IsPast}
 use Rattle.sections.specs.Sections.{Enters, IsInside, Leaves, SeesOthers, SectionView, TakesMoment}
-use Rattle.section_handles.specs.Handles.{HasOpenedSection, KeepsSections, IsAsItWas}
-use Rattle.section_handles.specs.declared.opened.Opened.{Opened as OpenSection}
+use Rattle.hot_handles.specs.SectionHandles.{HasOpenedSection, KeepsSections, IsAsItWas}
+use Rattle.hot_handles.specs.declared.section.opened.OpenSection.{OpenSection as OpenSection}
 use Rattle.hot_c.specs.declared.status.TheConstants.{CLOSED, DONE, INSIDE, NO_HANDLE, NO_MEMORY, NOT_PAST, OUTSIDE}
 
 -- An open handle stays open, at the same table, and keeps what it kept. This became of its section.
@@ -52,6 +52,7 @@ pub record TellsMoment (old new : Option OpenSection) (before after status : ℕ
 abbrev pub FindsPast : ℕ → SectionView → SectionView → Type 0
 FindsPast moment s t = SeesOthers s t × IsPast moment t.known.run
 
+-- the owner has found what may hold it
 abbrev pub FindsHeld : ℕ → SectionView → SectionView → Type 0
 FindsHeld moment s t = SeesOthers s t × IsHeld moment t.known.run
 

@@ -5,6 +5,7 @@ use Rattle.finite_map.specs.declared.Reply.TheVariants.{Inserted, Exists, New, W
 use Rattle.hot_index_calls.specs.declared.refusals.Refusal.{Refusal}
 use Rattle.hot_c.specs.declared.status.TheConstants.{FOUND, ABSENT, INSERTED, EXISTS, NEW, WAS, EXCHANGED, DIFFERS, REMOVED}
 
+-- the status of each reply
 abbrev pub reply_status : Reply → ℕ
 reply_status (Value value) = FOUND
 reply_status Absent = ABSENT

@@ -4,7 +4,7 @@ ghost use Rattle.std.specs.Prelude.{◌≡◌};
 ghost use Rattle.key_ranges.specs.Ranges.{last_with};
 ghost use Rattle.hot_c.specs.Counting.{CountsRange};
 
-use crate::handle::Handle;
+use crate::handle::IndexHandle;
 use crate::status::{CLOSED, DONE, KEY_TOO_LONG};
 use key_bits::Key;
 use key_ranges::last_with_prefix;
@@ -12,8 +12,13 @@ use key_ranges::last_with_prefix;
 /// Counts the keys from `from` to `upto`, both included: `DONE`, with their number in `count`, at most 2^63 - 1. `CLOSED` if `handle` is
 /// closed, `KEY_TOO_LONG` if an end has more than 240 bytes: then `count` stays. No other status is returned.
 #[unsafe(no_mangle)]
-pub extern "C" fn hot_count(handle: &mut Handle, from: &[u8], upto: &[u8], count: &mut usize) -> u32
-    ensures call { CountsRange from.now upto.now handle.old.slot.opened handle.new.slot.opened count.old count.new result }
+pub extern "C" fn hot_count(
+    handle: &mut IndexHandle,
+    from: &[u8],
+    upto: &[u8],
+    count: &mut usize,
+) -> u32
+    ensures call { CountsRange from.now upto.now handle.old.cell.opened handle.new.cell.opened count.old count.new result }
     ensures place { handle.new.place ≡ handle.old.place }
 {
     if !handle.is_open() {
@@ -24,15 +29,19 @@ pub extern "C" fn hot_count(handle: &mut Handle, from: &[u8], upto: &[u8], count
     let (Ok(()), Ok(())) = (first.set_bytes(from), last.set_bytes(upto)) else {
         return KEY_TOO_LONG;
     };
-    *count = handle.slot.lend().handle.count_range(&first, &last);
+    *count = handle.cell.lend().handle.count_range(&first, &last);
     DONE
 }
 
 /// Counts the keys that begin with `prefix`: those from `prefix` to the last one that begins with it. It writes and returns what
 /// `hot_count` does.
 #[unsafe(no_mangle)]
-pub extern "C" fn hot_count_prefix(handle: &mut Handle, prefix: &[u8], count: &mut usize) -> u32
-    ensures call { CountsRange prefix.now (last_with prefix.now) handle.old.slot.opened handle.new.slot.opened count.old count.new result }
+pub extern "C" fn hot_count_prefix(
+    handle: &mut IndexHandle,
+    prefix: &[u8],
+    count: &mut usize,
+) -> u32
+    ensures call { CountsRange prefix.now (last_with prefix.now) handle.old.cell.opened handle.new.cell.opened count.old count.new result }
     ensures place { handle.new.place ≡ handle.old.place }
 {
     if !handle.is_open() {

@@ -1,9 +1,9 @@
 //! The calls for the ends of a range, for programs in C: its first pair and its last pair.
 
 ghost use Rattle.std.specs.Prelude.{◌≡◌};
-ghost use Rattle.hot_c.specs.Ends.{FindsFirst, FindsIn, FindsLast};
+ghost use Rattle.hot_c.specs.Ends.{FindsFirst, FindsFirstIn, FindsLast};
 
-use crate::handle::Handle;
+use crate::handle::IndexHandle;
 use crate::pairs::{Order, Pair, Query, write_first_pair};
 use crate::scans::fill_list;
 use key_bits::MAX_BYTES;
@@ -11,8 +11,8 @@ use key_bits::MAX_BYTES;
 /// Writes to `pair` the first pair whose key is `from` or above: `FOUND`. `ABSENT` if there is none. It fails with `CLOSED`, `NO_MEMORY`,
 /// or `KEY_TOO_LONG` if `from` has more than 240 bytes. Only `FOUND` writes.
 #[unsafe(no_mangle)]
-pub extern "C" fn hot_first(handle: &mut Handle, from: &[u8], pair: &mut Pair) -> u32
-    ensures call { FindsFirst from.now handle.old.slot.opened handle.new.slot.opened pair.old pair.new result }
+pub extern "C" fn hot_first(handle: &mut IndexHandle, from: &[u8], pair: &mut Pair) -> u32
+    ensures call { FindsFirst from.now handle.old.cell.opened handle.new.cell.opened pair.old pair.new result }
     ensures place { handle.new.place ≡ handle.old.place }
 {
     let query = Query {
@@ -26,8 +26,8 @@ pub extern "C" fn hot_first(handle: &mut Handle, from: &[u8], pair: &mut Pair) -
 /// Writes to `pair` the last pair whose key is `upto` or below: `FOUND`. `ABSENT` if there is none. It fails with `CLOSED`, `NO_MEMORY`, or
 /// `KEY_TOO_LONG` if `upto` has more than 240 bytes. Only `FOUND` writes.
 #[unsafe(no_mangle)]
-pub extern "C" fn hot_last(handle: &mut Handle, upto: &[u8], pair: &mut Pair) -> u32
-    ensures call { FindsLast upto.now handle.old.slot.opened handle.new.slot.opened pair.old pair.new result }
+pub extern "C" fn hot_last(handle: &mut IndexHandle, upto: &[u8], pair: &mut Pair) -> u32
+    ensures call { FindsLast upto.now handle.old.cell.opened handle.new.cell.opened pair.old pair.new result }
     ensures place { handle.new.place ≡ handle.old.place }
 {
     let query = Query {
@@ -40,13 +40,13 @@ pub extern "C" fn hot_last(handle: &mut Handle, upto: &[u8], pair: &mut Pair) ->
 
 /// Writes to `pair` the one that a scan of `query` for one pair finds: `FOUND`. `ABSENT` if it finds none. It fails with `CLOSED`,
 /// `KEY_TOO_LONG` or `NO_MEMORY`, as `fill_list` does. Only `FOUND` writes.
-fn find_pair(handle: &mut Handle, query: &Query, pair: &mut Pair) -> u32
-    ensures call { FindsIn query.now.order query.now.from.now query.now.upto.now handle.old.slot.opened handle.new.slot.opened pair.old pair.new result }
+fn find_pair(handle: &mut IndexHandle, query: &Query, pair: &mut Pair) -> u32
+    ensures call { FindsFirstIn query.now.order query.now.from.now query.now.upto.now handle.old.cell.opened handle.new.cell.opened pair.old pair.new result }
     ensures place { handle.new.place ≡ handle.old.place }
 {
     match fill_list(handle, query, 1) {
         Ok(_) => {
-            let opened = handle.slot.lend();
+            let opened = handle.cell.lend();
             let status = write_first_pair(&opened.list, pair);
             opened.empty_list();
             status

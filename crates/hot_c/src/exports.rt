@@ -10,7 +10,7 @@ ghost use Rattle.hot_c.specs.Stocks.{TakesBytes, stock_in};
 ghost use Rattle.record_words.specs.Layout.{stock_for, stock_for_any};
 ghost use Rattle.record_words.specs.declared.TheConstants.{MAX_STOCK_PASSES};
 
-use crate::handle::Handle;
+use crate::handle::IndexHandle;
 use crate::lookups::{Lookup, copy_keys, have_fitting_keys, write_found_values};
 use crate::opening::{
     are_closed, are_counts_in_range, is_stock_in_range, make_keeper, make_passes,
@@ -29,7 +29,12 @@ use std::alloc::Global;
 /// Opens each of `handles`, 1 to 64, with the pass of its place of a new empty index: `DONE`. It has `nodes` node records, 1 to 65,535,
 /// and `leaves` leaf records, 1 to 262,143, all long. Else all stay as they were: `OUT_OF_RANGE`, or `OPEN` if one is open, or `NO_MEMORY`.
 #[unsafe(no_mangle)]
-pub extern "C" fn hot_create(alloc: Global, nodes: u32, leaves: u32, handles: &mut [Handle]) -> u32
+pub extern "C" fn hot_create(
+    alloc: Global,
+    nodes: u32,
+    leaves: u32,
+    handles: &mut [IndexHandle],
+) -> u32
     ensures range { ¬ IsSize (length handles.old) nodes leaves → (result ≡ OUT_OF_RANGE) × (handles.new ≡ handles.old) }
     ensures open { IsSize (length handles.old) nodes leaves → ¬ AreClosed handles.old → (result ≡ OPEN) × (handles.new ≡ handles.old) }
     ensures made { AreClosed handles.old → IsSize (length handles.old) nodes leaves →
@@ -56,7 +61,11 @@ pub extern "C" fn hot_create(alloc: Global, nodes: u32, leaves: u32, handles: &m
 /// `OUT_OF_RANGE` unless there are 1 to 1,024 handles, a node record, and 1 to 4,294,967,295 leaf records in all; or `OPEN` if a handle is
 /// open; or `NO_MEMORY`.
 #[unsafe(no_mangle)]
-pub extern "C" fn hot_create_with(alloc: Global, stock: &HotStock, handles: &mut [Handle]) -> u32
+pub extern "C" fn hot_create_with(
+    alloc: Global,
+    stock: &HotStock,
+    handles: &mut [IndexHandle],
+) -> u32
     ensures range { ¬ IsStockSize (length handles.old) (stock_in stock.now) → (result ≡ OUT_OF_RANGE) × (handles.new ≡ handles.old) }
     ensures open { IsStockSize (length handles.old) (stock_in stock.now) → ¬ AreClosed handles.old → (result ≡ OPEN) × (handles.new ≡ handles.old) }
     ensures made { AreClosed handles.old → IsStockSize (length handles.old) (stock_in stock.now) →
@@ -87,12 +96,12 @@ pub extern "C" fn hot_create_keeping(
     alloc: Global,
     stock: &HotStock,
     passes: usize,
-    handle: &mut Handle,
+    handle: &mut IndexHandle,
 ) -> u32
     ensures range { ¬ IsStockSize passes (stock_in stock.now) → (result ≡ OUT_OF_RANGE) × (handle.new ≡ handle.old) }
-    ensures open { IsStockSize passes (stock_in stock.now) → IsSome handle.old.slot.opened → (result ≡ OPEN) × (handle.new ≡ handle.old) }
-    ensures made { handle.old.slot.opened ≡ None → IsStockSize passes (stock_in stock.now) →
-        ((result ≡ DONE) × HasOpenedKeeper passes (stock_in stock.now) handle.new.slot.opened) ⊎ ((result ≡ NO_MEMORY) × (handle.new ≡ handle.old)) }
+    ensures open { IsStockSize passes (stock_in stock.now) → IsSome handle.old.cell.opened → (result ≡ OPEN) × (handle.new ≡ handle.old) }
+    ensures made { handle.old.cell.opened ≡ None → IsStockSize passes (stock_in stock.now) →
+        ((result ≡ DONE) × HasOpenedKeeper passes (stock_in stock.now) handle.new.cell.opened) ⊎ ((result ≡ NO_MEMORY) × (handle.new ≡ handle.old)) }
     ensures place { handle.new.place ≡ handle.old.place }
 {
     let records = stock.to_stock();
@@ -115,11 +124,15 @@ pub extern "C" fn hot_create_keeping(
 /// Takes the pass of the least number out of those that `keeper` keeps, and opens `handle` with it: `DONE`. Else both stay as they were:
 /// `CLOSED` if `keeper` is closed, `OPEN` if `handle` is open, `NO_HANDLE` if no pass is kept, or `NO_MEMORY`.
 #[unsafe(no_mangle)]
-pub extern "C" fn hot_open_kept(alloc: Global, keeper: &mut Handle, handle: &mut Handle) -> u32
-    ensures closed { keeper.old.slot.opened ≡ None → (result ≡ CLOSED) × (keeper.new.slot.opened ≡ None) × (handle.new ≡ handle.old) }
-    ensures open { IsSome keeper.old.slot.opened → IsSome handle.old.slot.opened → (result ≡ OPEN) × (keeper.new ≡ keeper.old) × (handle.new ≡ handle.old) }
-    ensures opened { (was : Opened) → keeper.old.slot.opened ≡ Some was → handle.old.slot.opened ≡ None →
-        OpensNext was keeper.new.slot.opened handle.new.slot.opened result }
+pub extern "C" fn hot_open_kept(
+    alloc: Global,
+    keeper: &mut IndexHandle,
+    handle: &mut IndexHandle,
+) -> u32
+    ensures closed { keeper.old.cell.opened ≡ None → (result ≡ CLOSED) × (keeper.new.cell.opened ≡ None) × (handle.new ≡ handle.old) }
+    ensures open { IsSome keeper.old.cell.opened → IsSome handle.old.cell.opened → (result ≡ OPEN) × (keeper.new ≡ keeper.old) × (handle.new ≡ handle.old) }
+    ensures opened { (was : Opened) → keeper.old.cell.opened ≡ Some was → handle.old.cell.opened ≡ None →
+        OpensNext was keeper.new.cell.opened handle.new.cell.opened result }
     ensures places { (keeper.new.place ≡ keeper.old.place) × (handle.new.place ≡ handle.old.place) }
 {
     if !keeper.is_open() {
@@ -128,7 +141,7 @@ pub extern "C" fn hot_open_kept(alloc: Global, keeper: &mut Handle, handle: &mut
     if handle.is_open() {
         return OPEN;
     }
-    match keeper.slot.lend().open_next_handle(alloc) {
+    match keeper.cell.lend().open_next_handle(alloc) {
         Ok(Some(opened)) => {
             handle.open(opened);
             DONE
@@ -184,24 +197,24 @@ pub extern "C" fn hot_stock_bytes(stock: &HotStock, handles: usize, bytes: &mut 
 /// Writes the number of the handle's pass to `number`: `DONE`. After `hot_create` or `hot_create_with` it is the handle's place in
 /// `handles`. If the handle is closed, `CLOSED`, and `number` stays.
 #[unsafe(no_mangle)]
-pub extern "C" fn hot_number(handle: &mut Handle, number: &mut u16) -> u32
-    ensures closed { handle.old.slot.opened ≡ None → (result ≡ CLOSED) × (number.new ≡ number.old) }
-    ensures number { (was : Opened) → handle.old.slot.opened ≡ Some was → (result ≡ DONE) × (number.new ≡ was.handle.pass.number) }
-    ensures kept { handle.new.slot.opened ≡ handle.old.slot.opened }
+pub extern "C" fn hot_number(handle: &mut IndexHandle, number: &mut u16) -> u32
+    ensures closed { handle.old.cell.opened ≡ None → (result ≡ CLOSED) × (number.new ≡ number.old) }
+    ensures number { (was : Opened) → handle.old.cell.opened ≡ Some was → (result ≡ DONE) × (number.new ≡ was.handle.pass.number) }
+    ensures kept { handle.new.cell.opened ≡ handle.old.cell.opened }
     ensures place { handle.new.place ≡ handle.old.place }
 {
     if !handle.is_open() {
         return CLOSED;
     }
-    *number = handle.slot.lend().handle.number();
+    *number = handle.cell.lend().handle.number();
     DONE
 }
 
 /// Looks up `key`: `FOUND`, with its value in `value`, or `ABSENT`. `CLOSED` if `handle` is closed, `KEY_TOO_LONG` if `key` has more than
 /// 240 bytes. Only `FOUND` writes `value`. No other status is returned.
 #[unsafe(no_mangle)]
-pub extern "C" fn hot_get(handle: &mut Handle, key: &[u8], value: &mut u64) -> u32
-    ensures call { Answers key.now (Get key.now) handle.old.slot.opened handle.new.slot.opened value.old value.new result }
+pub extern "C" fn hot_get(handle: &mut IndexHandle, key: &[u8], value: &mut u64) -> u32
+    ensures call { Answers key.now (Get key.now) handle.old.cell.opened handle.new.cell.opened value.old value.new result }
     ensures unrefused { (result ≢ BUSY) × (result ≢ HELD_BACK) × (result ≢ FULL_NODES) × (result ≢ FULL_LEAVES) }
     ensures place { handle.new.place ≡ handle.old.place }
 {
@@ -210,7 +223,7 @@ pub extern "C" fn hot_get(handle: &mut Handle, key: &[u8], value: &mut u64) -> u
     }
     let mut asked = Key::empty();
     match asked.set_bytes(key) {
-        Ok(()) => write_reply(handle.slot.lend().get(&asked), value),
+        Ok(()) => write_reply(handle.cell.lend().get(&asked), value),
         Err(_) => KEY_TOO_LONG,
     }
 }
@@ -220,10 +233,10 @@ pub extern "C" fn hot_get(handle: &mut Handle, key: &[u8], value: &mut u64) -> u
 #[unsafe(no_mangle)]
 pub extern "C" fn hot_get_many(
     alloc: Global,
-    handle: &mut Handle,
+    handle: &mut IndexHandle,
     lookups: &mut [Lookup<'_>],
 ) -> u32
-    ensures call { LooksUpAll handle.old.slot.opened handle.new.slot.opened lookups.old lookups.new result }
+    ensures call { LooksUpAll handle.old.cell.opened handle.new.cell.opened lookups.old lookups.new result }
     ensures place { handle.new.place ≡ handle.old.place }
 {
     if !handle.is_open() {
@@ -238,7 +251,7 @@ pub extern "C" fn hot_get_many(
     let Ok(mut found) = Vec::from_elem(alloc, None, keys.len()) else {
         return NO_MEMORY;
     };
-    handle.slot.lend().handle.get_many(&keys, &mut found);
+    handle.cell.lend().handle.get_many(&keys, &mut found);
     write_found_values(&found, lookups);
     DONE
 }
@@ -246,8 +259,13 @@ pub extern "C" fn hot_get_many(
 /// Inserts `key` with `value`: `INSERTED`; or `EXISTS` with the value that the key has already, and keeps, in `had`. With `BUSY`,
 /// `FULL_NODES`, `FULL_LEAVES`, `HELD_BACK`, `CLOSED` or `KEY_TOO_LONG` nothing was changed. Only `EXISTS` writes `had`.
 #[unsafe(no_mangle)]
-pub extern "C" fn hot_try_insert(handle: &mut Handle, key: &[u8], value: u64, had: &mut u64) -> u32
-    ensures call { Answers key.now (Insert key.now value) handle.old.slot.opened handle.new.slot.opened had.old had.new result }
+pub extern "C" fn hot_try_insert(
+    handle: &mut IndexHandle,
+    key: &[u8],
+    value: u64,
+    had: &mut u64,
+) -> u32
+    ensures call { Answers key.now (Insert key.now value) handle.old.cell.opened handle.new.cell.opened had.old had.new result }
     ensures place { handle.new.place ≡ handle.old.place }
 {
     let mut call = Call::Insert(Key::empty(), value);
@@ -257,8 +275,13 @@ pub extern "C" fn hot_try_insert(handle: &mut Handle, key: &[u8], value: u64, ha
 /// Gives `key` the value `value`, whether it has one or not: `NEW`, or `WAS` with the value that it had in `had`. It is refused with the
 /// same statuses as `hot_try_insert`. But it lacks a record only if its search found the key absent.
 #[unsafe(no_mangle)]
-pub extern "C" fn hot_try_upsert(handle: &mut Handle, key: &[u8], value: u64, had: &mut u64) -> u32
-    ensures call { Answers key.now (Upsert key.now value) handle.old.slot.opened handle.new.slot.opened had.old had.new result }
+pub extern "C" fn hot_try_upsert(
+    handle: &mut IndexHandle,
+    key: &[u8],
+    value: u64,
+    had: &mut u64,
+) -> u32
+    ensures call { Answers key.now (Upsert key.now value) handle.old.cell.opened handle.new.cell.opened had.old had.new result }
     ensures place { handle.new.place ≡ handle.old.place }
 {
     let mut call = Call::Upsert(Key::empty(), value);
@@ -269,13 +292,13 @@ pub extern "C" fn hot_try_upsert(handle: &mut Handle, key: &[u8], value: u64, ha
 /// key has in `had`, or `ABSENT`. It takes no record, so it is refused only with `BUSY`, `CLOSED` or `KEY_TOO_LONG`.
 #[unsafe(no_mangle)]
 pub extern "C" fn hot_try_exchange(
-    handle: &mut Handle,
+    handle: &mut IndexHandle,
     key: &[u8],
     expected: u64,
     value: u64,
     had: &mut u64,
 ) -> u32
-    ensures call { Answers key.now (Exchange key.now expected value) handle.old.slot.opened handle.new.slot.opened had.old had.new result }
+    ensures call { Answers key.now (Exchange key.now expected value) handle.old.cell.opened handle.new.cell.opened had.old had.new result }
     ensures takes { TellsOfNoLack result }
     ensures place { handle.new.place ≡ handle.old.place }
 {
@@ -286,8 +309,13 @@ pub extern "C" fn hot_try_exchange(
 /// Adds `delta` to the value of `key`, modulo 2 to the power of 64: `WAS` with the value that it had in `had`. `ABSENT` if the key is
 /// absent, and then nothing changes. It is refused as `hot_try_exchange` is.
 #[unsafe(no_mangle)]
-pub extern "C" fn hot_try_add(handle: &mut Handle, key: &[u8], delta: u64, had: &mut u64) -> u32
-    ensures call { Answers key.now (Add key.now delta) handle.old.slot.opened handle.new.slot.opened had.old had.new result }
+pub extern "C" fn hot_try_add(
+    handle: &mut IndexHandle,
+    key: &[u8],
+    delta: u64,
+    had: &mut u64,
+) -> u32
+    ensures call { Answers key.now (Add key.now delta) handle.old.cell.opened handle.new.cell.opened had.old had.new result }
     ensures takes { TellsOfNoLack result }
     ensures place { handle.new.place ≡ handle.old.place }
 {
@@ -298,8 +326,8 @@ pub extern "C" fn hot_try_add(handle: &mut Handle, key: &[u8], delta: u64, had: 
 /// Removes `key`: `REMOVED` with the value that it had in `had`, or `ABSENT`. It is refused with the same statuses as `hot_try_insert`.
 /// But it needs no leaf record, so it never returns `FULL_LEAVES`.
 #[unsafe(no_mangle)]
-pub extern "C" fn hot_try_remove(handle: &mut Handle, key: &[u8], had: &mut u64) -> u32
-    ensures call { Answers key.now (Remove key.now) handle.old.slot.opened handle.new.slot.opened had.old had.new result }
+pub extern "C" fn hot_try_remove(handle: &mut IndexHandle, key: &[u8], had: &mut u64) -> u32
+    ensures call { Answers key.now (Remove key.now) handle.old.cell.opened handle.new.cell.opened had.old had.new result }
     ensures leafless { result ≢ FULL_LEAVES }
     ensures place { handle.new.place ≡ handle.old.place }
 {
@@ -311,12 +339,12 @@ pub extern "C" fn hot_try_remove(handle: &mut Handle, key: &[u8], had: &mut u64)
 /// the key has in `had`, or `ABSENT`. It is refused with the same statuses as `hot_try_remove`.
 #[unsafe(no_mangle)]
 pub extern "C" fn hot_try_remove_if(
-    handle: &mut Handle,
+    handle: &mut IndexHandle,
     key: &[u8],
     expected: u64,
     had: &mut u64,
 ) -> u32
-    ensures call { Answers key.now (RemoveIf key.now expected) handle.old.slot.opened handle.new.slot.opened had.old had.new result }
+    ensures call { Answers key.now (RemoveIf key.now expected) handle.old.cell.opened handle.new.cell.opened had.old had.new result }
     ensures leafless { result ≢ FULL_LEAVES }
     ensures place { handle.new.place ≡ handle.old.place }
 {
@@ -328,8 +356,8 @@ pub extern "C" fn hot_try_remove_if(
 /// the key has more than 240 bytes. The reply's value, if it has one, goes to `had`; else `had` stays. Inline, so that the key's bytes are
 /// written once.
 #[inline(always)]
-fn make_call(handle: &mut Handle, call: &mut Call, key: &[u8], had: &mut u64) -> u32
-    ensures call { Answers key.now (for_key key.now call.old) handle.old.slot.opened handle.new.slot.opened had.old had.new result }
+fn make_call(handle: &mut IndexHandle, call: &mut Call, key: &[u8], had: &mut u64) -> u32
+    ensures call { Answers key.now (for_key key.now call.old) handle.old.cell.opened handle.new.cell.opened had.old had.new result }
     ensures may { TellsWhatMay (for_key key.now call.old) result }
     ensures place { handle.new.place ≡ handle.old.place }
 {
@@ -362,27 +390,32 @@ fn set_key(call: &mut Call, key: &[u8]) -> Result<(), KeyFault>
 /// Makes `call`, whose key has `size` bytes, through `handle`, which is open, and returns the status. The reply's value, if it has one,
 /// goes to `had`; else `had` stays.
 #[inline(never)]
-fn make_call_on_open_handle(handle: &mut Handle, call: &Call, size: usize, had: &mut u64) -> u32
-    requires { IsSome handle.old.slot.opened }
-    ensures call { (key : List ℕ) → FitsInKey key → length key ≡ size → Answers key call.now handle.old.slot.opened handle.new.slot.opened had.old had.new result }
+fn make_call_on_open_handle(
+    handle: &mut IndexHandle,
+    call: &Call,
+    size: usize,
+    had: &mut u64,
+) -> u32
+    requires { IsSome handle.old.cell.opened }
+    ensures call { (key : List ℕ) → FitsInKey key → length key ≡ size → Answers key call.now handle.old.cell.opened handle.new.cell.opened had.old had.new result }
     ensures may { TellsWhatMay call.now result }
     ensures place { handle.new.place ≡ handle.old.place }
 {
-    handle.slot.lend().try_call(call, size, had)
+    handle.cell.lend().try_call(call, size, had)
 }
 
 /// Makes one round of collection, and writes to `nodes` and `leaves` how many node and leaf records it gave back: `DONE`. If the handle
 /// is closed, `CLOSED`, and both stay.
 #[unsafe(no_mangle)]
-pub extern "C" fn hot_collect(handle: &mut Handle, nodes: &mut u32, leaves: &mut u32) -> u32
-    ensures closed { handle.old.slot.opened ≡ None → (result ≡ CLOSED) × (handle.new.slot.opened ≡ None) × (nodes.new ≡ nodes.old) × (leaves.new ≡ leaves.old) }
-    ensures round { IsSome handle.old.slot.opened → (result ≡ DONE) × StaysOpen (HasGivenBack nodes.new leaves.new) handle.old.slot.opened handle.new.slot.opened }
+pub extern "C" fn hot_collect(handle: &mut IndexHandle, nodes: &mut u32, leaves: &mut u32) -> u32
+    ensures closed { handle.old.cell.opened ≡ None → (result ≡ CLOSED) × (handle.new.cell.opened ≡ None) × (nodes.new ≡ nodes.old) × (leaves.new ≡ leaves.old) }
+    ensures round { IsSome handle.old.cell.opened → (result ≡ DONE) × StaysOpen (HasGivenBack nodes.new leaves.new) handle.old.cell.opened handle.new.cell.opened }
     ensures place { handle.new.place ≡ handle.old.place }
 {
     if !handle.is_open() {
         return CLOSED;
     }
-    let given = handle.slot.lend().handle.collect();
+    let given = handle.cell.lend().handle.collect();
     *nodes = given.nodes;
     *leaves = given.leaves;
     DONE
@@ -391,24 +424,24 @@ pub extern "C" fn hot_collect(handle: &mut Handle, nodes: &mut u32, leaves: &mut
 /// Writes to `counts` how many node records, and leaf records of each class, are free, held, live and obsolete, and the table's bytes:
 /// `DONE`. The counts are of no single moment. If the handle is closed, `CLOSED`, and `counts` stays.
 #[unsafe(no_mangle)]
-pub extern "C" fn hot_census(handle: &mut Handle, counts: &mut RecordCounts) -> u32
-    ensures closed { handle.old.slot.opened ≡ None → (result ≡ CLOSED) × (handle.new.slot.opened ≡ None) × (counts.new ≡ counts.old) }
-    ensures counted { IsSome handle.old.slot.opened → (result ≡ DONE) × StaysOpen (HasSeenRecords counts.new) handle.old.slot.opened handle.new.slot.opened }
+pub extern "C" fn hot_census(handle: &mut IndexHandle, counts: &mut RecordCounts) -> u32
+    ensures closed { handle.old.cell.opened ≡ None → (result ≡ CLOSED) × (handle.new.cell.opened ≡ None) × (counts.new ≡ counts.old) }
+    ensures counted { IsSome handle.old.cell.opened → (result ≡ DONE) × StaysOpen (HasSeenRecords counts.new) handle.old.cell.opened handle.new.cell.opened }
     ensures place { handle.new.place ≡ handle.old.place }
 {
     if !handle.is_open() {
         return CLOSED;
     }
-    *counts = handle.slot.lend().handle.census();
+    *counts = handle.cell.lend().handle.census();
     DONE
 }
 
 /// Closes a handle: `DONE`, or `CLOSED` if it was closed. The passes that it keeps go with it. The last handle of an index frees the index.
 #[unsafe(no_mangle)]
-pub extern "C" fn hot_destroy(alloc: Global, handle: &mut Handle) -> u32
-    ensures closed { handle.old.slot.opened ≡ None → result ≡ CLOSED }
-    ensures done { IsSome handle.old.slot.opened → result ≡ DONE }
-    ensures gone { handle.new.slot.opened ≡ None }
+pub extern "C" fn hot_destroy(alloc: Global, handle: &mut IndexHandle) -> u32
+    ensures closed { handle.old.cell.opened ≡ None → result ≡ CLOSED }
+    ensures done { IsSome handle.old.cell.opened → result ≡ DONE }
+    ensures gone { handle.new.cell.opened ≡ None }
     ensures place { handle.new.place ≡ handle.old.place }
 {
     if handle.is_open() {

@@ -3,22 +3,22 @@
 ghost use Rattle.std.specs.Prelude.{◌≡◌};
 ghost use Rattle.hot_c.specs.Following.{AreAtOneIndex, SeesLeader, SeesSteps};
 
-use crate::handle::Handle;
+use crate::handle::IndexHandle;
 use crate::status::{CLOSED, DONE};
 
 /// Lets `handle` see all changes that `leader`, another handle at the same index, has seen, and returns `DONE`. If either is closed,
 /// returns `CLOSED`, and nothing changes. `c/hot.c` ensures that both are at one index.
 #[unsafe(no_mangle)]
-pub extern "C" fn hot_see(handle: &mut Handle, leader: &mut Handle) -> u32
-    requires { AreAtOneIndex handle.old.slot.opened leader.old.slot.opened }
-    ensures call { SeesLeader handle.old.slot.opened handle.new.slot.opened leader.old.slot.opened leader.new.slot.opened result }
-    ensures traced { SeesSteps handle.old.slot.opened handle.new.slot.opened leader.old.slot.opened leader.new.slot.opened }
+pub extern "C" fn hot_see(handle: &mut IndexHandle, leader: &mut IndexHandle) -> u32
+    requires { AreAtOneIndex handle.old.cell.opened leader.old.cell.opened }
+    ensures call { SeesLeader handle.old.cell.opened handle.new.cell.opened leader.old.cell.opened leader.new.cell.opened result }
+    ensures traced { SeesSteps handle.old.cell.opened handle.new.cell.opened leader.old.cell.opened leader.new.cell.opened }
     ensures places { (handle.new.place ≡ handle.old.place) × (leader.new.place ≡ leader.old.place) }
 {
     if !handle.is_open() || !leader.is_open() {
         return CLOSED;
     }
-    let stamp = leader.slot.lend().stamp();
-    handle.slot.lend().follow(stamp);
+    let stamp = leader.cell.lend().stamp();
+    handle.cell.lend().follow(stamp);
     DONE
 }

@@ -1,24 +1,24 @@
-//! What a slot holds: lent for a call, taken out, put in.
+//! What a cell holds: lent for a call, taken out, put in.
 
 ghost use Rattle.std.specs.Prelude.{◌≡◌, None, Some, IsSome};
 ghost use Rattle.std.specs.Borrow.{sem};
 ghost use Rattle.hot_c.specs.Lending.{held_opened, LendsHeldOpened, LendsOpened};
 
+use crate::cell::HandleCell;
 use crate::opened::Opened;
-use crate::slot::Slot;
-use slots::Held;
+use hot_handles::Held;
 use std::alloc::Global;
 
-impl Slot {
-    /// The slot as one whose type tells what it holds.
+impl HandleCell {
+    /// The cell as one whose type tells what it holds.
     fn held(&mut self) -> &mut Held<Opened>
         ensures* writes_back { sem 𝓛 (LendsHeldOpened self.entry result) }
         ensures value { result.now ≡ held_opened self.old }
     {
-        unsafe { &mut *(self as *mut Slot as *mut Held<Opened>) }
+        unsafe { &mut *(self as *mut HandleCell as *mut Held<Opened>) }
     }
 
-    /// Lends what the slot holds, to be read and changed in its place. The slot isn't empty.
+    /// Lends what the cell holds, to be read and changed in its place. The cell isn't empty.
     pub fn lend(&mut self) -> &mut Opened
         requires { IsSome self.old.opened }
         ensures* writes_back { sem 𝓛 (LendsOpened self.entry result) }
@@ -27,7 +27,7 @@ impl Slot {
         self.held().lend()
     }
 
-    /// Takes out what the slot holds. The slot isn't empty.
+    /// Takes out what the cell holds. The cell isn't empty.
     pub(crate) fn take(&mut self, alloc: Global) -> Box<Opened, Global>
         requires { IsSome self.old.opened }
         ensures value { self.old.opened ≡ Some result.value }
@@ -36,7 +36,7 @@ impl Slot {
         self.held().take(alloc)
     }
 
-    /// Puts in what `boxed` held. The slot is empty.
+    /// Puts in what `boxed` held. The cell is empty.
     pub(crate) fn put(&mut self, boxed: Box<Opened, Global>)
         requires { self.old.opened ≡ None }
         ensures { self.new.opened ≡ Some boxed.value }

@@ -4,15 +4,15 @@
 //!
 //! Each call is the index's on the handle's pass, and the status and value say how it came out (`Answers`, `HasOutcome`). Scans write
 //! pairs, and leave other places alone (`Lists`, `ListsReverse`, `ListsLast`); packed ones write the pairs whose keys fit (`ListsPacked`,
-//! `fitting`). What a handle owns is a ghost field. Four functions of `slots`, proved by hand for any type, make, take apart and lend it.
-//! No type that crosses to C has type arguments, so each crate of handles has a slot of its own. In memory it is the one of `slots`, and
-//! one lemma lets it be used so (`casts`). Each call leaves C's pointer in the handle as it was. No call requires more of its caller than
+//! `fitting`). What a handle owns is a ghost field. Four functions of `hot_handles`, proved by hand for any type, make, take apart and lend it.
+//! Each call leaves C's pointer in the handle as it was. No call requires more of its caller than
 //! `hot.h` says.
 //!
 //! Scans for C are cut behind the last pair that fits, since a scan cut at any smaller number of its pairs is lawful (`IsListedByParts`).
 #![tactic(auto)]
 
 mod around;
+mod cell;
 mod counting;
 mod ends;
 mod exports;
@@ -29,7 +29,6 @@ mod prefixes;
 mod refusals;
 mod scans;
 mod sectioning;
-mod slot;
 mod status;
 mod stock;
 mod values;

@@ -4,18 +4,18 @@ ghost use Rattle.std.specs.Prelude.{◌≡◌, ◌≢◌, ◌⊎◌, Err, IfErr,
 ghost use Rattle.hot_c.specs.Calls.{IsStockSize};
 ghost use Rattle.hot_c.specs.Loads.{HasBegunLoad, HasOpenedLoaded, IsNewLoad, KeepsLoadedPasses, LoadsPair, TellsPush};
 ghost use Rattle.hot_c.specs.Stocks.{stock_in};
-ghost use Rattle.load_handles.specs.declared.open_load.OpenLoad.{OpenLoad as LoadContent};
+ghost use Rattle.hot_handles.specs.declared.load.open_load.OpenLoad.{OpenLoad as LoadContent};
 
-use crate::handle::Handle;
+use crate::handle::IndexHandle;
 use crate::opened::Opened;
 use crate::opening::{is_stock_in_range, keep_passes};
 use crate::status::{
     CLOSED, DONE, FULL_LEAVES, FULL_NODES, KEY_TOO_LONG, NO_MEMORY, NOT_RISING, OPEN, OUT_OF_RANGE,
 };
 use crate::stock::HotStock;
+use hot_handles::{LoadHandle, OpenLoad};
 use hot_index::{IndexFault, Load, LoadFault};
 use key_bits::Key;
-use load_handles::{LoadHandle, OpenLoad};
 use record_words::Stock;
 use std::alloc::{AllocError, Global};
 
@@ -29,9 +29,9 @@ pub extern "C" fn hot_begin_load(
     load: &mut LoadHandle,
 ) -> u32
     ensures range { ¬ IsStockSize passes (stock_in stock.now) → (result ≡ OUT_OF_RANGE) × (load.new ≡ load.old) }
-    ensures open { IsStockSize passes (stock_in stock.now) → IsSome load.old.slot.opened → (result ≡ OPEN) × (load.new ≡ load.old) }
-    ensures begun { load.old.slot.opened ≡ None → IsStockSize passes (stock_in stock.now) →
-        ((result ≡ DONE) × HasBegunLoad passes (stock_in stock.now) load.new.slot.opened) ⊎ ((result ≡ NO_MEMORY) × (load.new ≡ load.old)) }
+    ensures open { IsStockSize passes (stock_in stock.now) → IsSome load.old.cell.opened → (result ≡ OPEN) × (load.new ≡ load.old) }
+    ensures begun { load.old.cell.opened ≡ None → IsStockSize passes (stock_in stock.now) →
+        ((result ≡ DONE) × HasBegunLoad passes (stock_in stock.now) load.new.cell.opened) ⊎ ((result ≡ NO_MEMORY) × (load.new ≡ load.old)) }
 {
     let records = stock.to_stock();
     if !is_stock_in_range(passes, &records) {
@@ -55,14 +55,14 @@ pub extern "C" fn hot_begin_load(
 /// it; `FULL_LEAVES` if all that have are taken; `FULL_NODES` if too few node records may be left; or `NO_MEMORY`.
 #[unsafe(no_mangle)]
 pub extern "C" fn hot_load_pair(load: &mut LoadHandle, key: &[u8], value: u64) -> u32
-    ensures { LoadsPair key.now value load.old.slot.opened load.new.slot.opened result }
+    ensures { LoadsPair key.now value load.old.cell.opened load.new.cell.opened result }
 {
     if !load.is_open() {
         return CLOSED;
     }
     let mut pushed = Key::empty();
     match pushed.set_bytes(key) {
-        Ok(()) => push_pair(load.slot.lend(), &pushed, value),
+        Ok(()) => push_pair(load.cell.lend(), &pushed, value),
         Err(_) => KEY_TOO_LONG,
     }
 }
@@ -71,11 +71,15 @@ pub extern "C" fn hot_load_pair(load: &mut LoadHandle, key: &[u8], value: u64) -
 /// closed, for `hot_open_kept`. `CLOSED` if `load` is closed, or `OPEN` if `handle` is open: then both stay as they were. With `NO_MEMORY` the
 /// load is closed, and its pairs are gone.
 #[unsafe(no_mangle)]
-pub extern "C" fn hot_end_load(alloc: Global, load: &mut LoadHandle, handle: &mut Handle) -> u32
-    ensures closed { load.old.slot.opened ≡ None → (result ≡ CLOSED) × (load.new ≡ load.old) × (handle.new ≡ handle.old) }
-    ensures open { IsSome load.old.slot.opened → IsSome handle.old.slot.opened → (result ≡ OPEN) × (load.new ≡ load.old) × (handle.new ≡ handle.old) }
-    ensures ended { (was : LoadContent) → load.old.slot.opened ≡ Some was → handle.old.slot.opened ≡ None → (load.new.slot.opened ≡ None) ×
-        (((result ≡ DONE) × HasOpenedLoaded was.load handle.new.slot.opened) ⊎ ((result ≡ NO_MEMORY) × (handle.new ≡ handle.old))) }
+pub extern "C" fn hot_end_load(
+    alloc: Global,
+    load: &mut LoadHandle,
+    handle: &mut IndexHandle,
+) -> u32
+    ensures closed { load.old.cell.opened ≡ None → (result ≡ CLOSED) × (load.new ≡ load.old) × (handle.new ≡ handle.old) }
+    ensures open { IsSome load.old.cell.opened → IsSome handle.old.cell.opened → (result ≡ OPEN) × (load.new ≡ load.old) × (handle.new ≡ handle.old) }
+    ensures ended { (was : LoadContent) → load.old.cell.opened ≡ Some was → handle.old.cell.opened ≡ None → (load.new.cell.opened ≡ None) ×
+        (((result ≡ DONE) × HasOpenedLoaded was.load handle.new.cell.opened) ⊎ ((result ≡ NO_MEMORY) × (handle.new ≡ handle.old))) }
     ensures place { handle.new.place ≡ handle.old.place }
 {
     if !load.is_open() {
@@ -96,9 +100,9 @@ pub extern "C" fn hot_end_load(alloc: Global, load: &mut LoadHandle, handle: &mu
 /// Gives a load up: closes it and frees its pairs: `DONE`, or `CLOSED` if it was closed.
 #[unsafe(no_mangle)]
 pub extern "C" fn hot_give_up_load(alloc: Global, load: &mut LoadHandle) -> u32
-    ensures closed { load.old.slot.opened ≡ None → result ≡ CLOSED }
-    ensures done { IsSome load.old.slot.opened → result ≡ DONE }
-    ensures gone { load.new.slot.opened ≡ None }
+    ensures closed { load.old.cell.opened ≡ None → result ≡ CLOSED }
+    ensures done { IsSome load.old.cell.opened → result ≡ DONE }
+    ensures gone { load.new.cell.opened ≡ None }
 {
     if !load.is_open() {
         return CLOSED;

@@ -7,7 +7,7 @@ ghost use Rattle.hot_c.specs.Calls.{AreClosed, AreNew, HasCounts, IsKeeper, IsNe
 ghost use Rattle.record_words.specs.Layout.{HasStock};
 ghost use Rattle.hot_index.specs.Kept.{kept_stock};
 
-use crate::handle::Handle;
+use crate::handle::IndexHandle;
 use crate::opened::Opened;
 use hot_index::{
     ClosedHandle, ClosedPass, Index, IndexFault, Pass, create, create_closed, create_with,
@@ -18,7 +18,7 @@ use std::alloc::{AllocError, Global};
 use std::sync::Arc;
 
 /// Whether all of `handles` are closed.
-pub fn are_closed(handles: &[Handle]) -> bool
+pub fn are_closed(handles: &[IndexHandle]) -> bool
     ensures { IsTrue result ↔ AreClosed handles.now }
 {
     handles.iter().all(|handle| !handle.is_open())
@@ -50,10 +50,10 @@ pub fn is_stock_in_range(passes: usize, stock: &Stock) -> bool
 }
 
 /// Opens each of `handles`, which are closed, with the one at its place in `passes`, which are as many.
-pub fn open_handles(handles: &mut [Handle], passes: Vec<Box<Opened, Global>>)
+pub fn open_handles(handles: &mut [IndexHandle], passes: Vec<Box<Opened, Global>>)
     requires closed { AreClosed handles.old }
     requires count { length passes.items ≡ length handles.old }
-    ensures opened { map (λ h. h.slot.opened) handles.new ≡ map (λ b. Some b.value) passes.items }
+    ensures opened { map (λ h. h.cell.opened) handles.new ≡ map (λ b. Some b.value) passes.items }
     ensures places { places_of handles.new ≡ places_of handles.old }
 {
     let mut place = 0;

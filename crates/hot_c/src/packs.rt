@@ -5,17 +5,17 @@ ghost use Rattle.hot_c.specs.Orders.{IsFilledIn};
 ghost use Rattle.hot_c.specs.Packs.{ListsPacked, ListsPackedBy, ListsPackedReverse, packing};
 ghost use Rattle.packed_pairs.specs.Parts.{packed_head, keys_in};
 
-use crate::handle::Handle;
+use crate::handle::IndexHandle;
 use crate::pairs::{Order, Query};
 use crate::scans::fill_list;
 use crate::status::DONE;
-use packed_pairs::{Head, Pairs};
+use packed_pairs::{PairHead, Pairs};
 
 /// Where packed pairs go: the bytes of their keys, one after another, and a head for each.
 #[derive(Drop)]
 struct Room<'a> {
     bytes: &'a mut [u8],
-    heads: &'a mut [Head],
+    heads: &'a mut [PairHead],
 }
 
 /// Lists the first pairs whose keys are from `from` to `upto`, both included, in key order, packed. The bytes of their keys go to
@@ -24,15 +24,15 @@ struct Room<'a> {
 /// `CLOSED`, `KEY_TOO_LONG` or `NO_MEMORY` these four stay.
 #[unsafe(no_mangle)]
 pub extern "C" fn hot_scan_packed(
-    handle: &mut Handle,
+    handle: &mut IndexHandle,
     from: &[u8],
     upto: &[u8],
     bytes: &mut [u8],
-    heads: &mut [Head],
+    heads: &mut [PairHead],
     count: &mut usize,
     more: &mut u32,
 ) -> u32
-    ensures call { ListsPacked from.now upto.now handle.old.slot.opened handle.new.slot.opened
+    ensures call { ListsPacked from.now upto.now handle.old.cell.opened handle.new.cell.opened
         (packing bytes.old heads.old count.old more.old) (packing bytes.new heads.new count.new more.new) result }
     ensures place { handle.new.place ≡ handle.old.place }
 {
@@ -45,15 +45,15 @@ pub extern "C" fn hot_scan_packed(
 /// `count` becomes their number, and `more` 1 if the range has more below them, else 0: `DONE`. The other statuses are as there.
 #[unsafe(no_mangle)]
 pub extern "C" fn hot_scan_packed_reverse(
-    handle: &mut Handle,
+    handle: &mut IndexHandle,
     from: &[u8],
     upto: &[u8],
     bytes: &mut [u8],
-    heads: &mut [Head],
+    heads: &mut [PairHead],
     count: &mut usize,
     more: &mut u32,
 ) -> u32
-    ensures call { ListsPackedReverse from.now upto.now handle.old.slot.opened handle.new.slot.opened
+    ensures call { ListsPackedReverse from.now upto.now handle.old.cell.opened handle.new.cell.opened
         (packing bytes.old heads.old count.old more.old) (packing bytes.new heads.new count.new more.new) result }
     ensures place { handle.new.place ≡ handle.old.place }
 {
@@ -65,20 +65,20 @@ pub extern "C" fn hot_scan_packed_reverse(
 /// Lists pairs of `query` into `room`, packed as by `hot_scan_packed`, with its statuses: for `Upwards` the first ones, else the last ones,
 /// downwards.
 fn list_packed_pairs(
-    handle: &mut Handle,
+    handle: &mut IndexHandle,
     query: &Query,
     room: Room<'_>,
     count: &mut usize,
     more: &mut u32,
 ) -> u32
-    ensures call { ListsPackedBy (IsFilledIn query.now.order) query.now.from.now query.now.upto.now handle.old.slot.opened handle.new.slot.opened
+    ensures call { ListsPackedBy (IsFilledIn query.now.order) query.now.from.now query.now.upto.now handle.old.cell.opened handle.new.cell.opened
         (packing room.entry.bytes.now room.entry.heads.now count.old more.old) (packing room.exit.0.now room.exit.1.0.now count.new more.new) result }
     ensures place { handle.new.place ≡ handle.old.place }
 {
     let Room { bytes, heads } = room;
     match fill_list(handle, query, heads.len()) {
         Ok((found, is_more)) => {
-            let opened = handle.slot.lend();
+            let opened = handle.cell.lend();
             opened.list.fit(bytes.len());
             *count = opened.list.len();
             *more = u32::from(is_more || *count < found);
@@ -91,7 +91,7 @@ fn list_packed_pairs(
 }
 
 /// Writes the heads of `pairs` and the bytes of their keys to the first places of `heads` and `bytes`, which have room for them.
-fn write_packed_pairs(pairs: &Pairs, bytes: &mut [u8], heads: &mut [Head])
+fn write_packed_pairs(pairs: &Pairs, bytes: &mut [u8], heads: &mut [PairHead])
     requires bytes { length (keys_in pairs.now) ≤ length bytes.old }
     requires heads { length pairs.now ≤ length heads.old }
     ensures bytes { bytes.new ≡ keys_in pairs.now ++ drop (length (keys_in pairs.now)) bytes.old }

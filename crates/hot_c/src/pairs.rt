@@ -83,8 +83,8 @@ fn write_pairs_backwards(pairs: &Pairs, room: &mut [Pair])
     }
 }
 
-/// Writes `key`, its length and `value` to `pair`; the bytes behind the key stay. Keys of 8 and of 16 to 64 bytes, the common ones, are copied through arrays. Such a copy
-/// needs no call and no test for overlap.
+/// Writes `key`, its length and `value` to `pair`; the bytes behind the key stay. Keys of 8 and of 16 to 64 bytes, the common ones, are copied
+/// through arrays. Such a copy needs no call and no test for overlap.
 fn write_pair(key: &[u8], value: u64, pair: &mut Pair)
     requires { IsKey key.now }
     ensures { Spells (key.now, value) pair.old pair.new }

@@ -7,7 +7,7 @@ ghost use Rattle.hot_c.specs.Orders.{IsListedIn};
 ghost use Rattle.hot_c.specs.Prefixes.{HasPrefixAbove, HasPrefixBelow, IsRangeOf, ListsAfter, ListsBefore};
 ghost use Rattle.hot_c.specs.Scans.{Lists, ListsBy, ListsReverse, listing};
 
-use crate::handle::Handle;
+use crate::handle::IndexHandle;
 use crate::pairs::{Order, Pair, Query};
 use crate::scans::list_pairs_of_query;
 use crate::status::{CLOSED, KEY_TOO_LONG};
@@ -19,13 +19,13 @@ use std::cmp::Ordering;
 /// with it. It writes and returns what `hot_scan` does.
 #[unsafe(no_mangle)]
 pub extern "C" fn hot_scan_whole_prefix(
-    handle: &mut Handle,
+    handle: &mut IndexHandle,
     prefix: &[u8],
     room: &mut [Pair],
     count: &mut usize,
     more: &mut u32,
 ) -> u32
-    ensures call { Lists prefix.now (last_with prefix.now) handle.old.slot.opened handle.new.slot.opened
+    ensures call { Lists prefix.now (last_with prefix.now) handle.old.cell.opened handle.new.cell.opened
         (listing room.old count.old more.old) (listing room.new count.new more.new) result }
     ensures place { handle.new.place ≡ handle.old.place }
 {
@@ -36,14 +36,14 @@ pub extern "C" fn hot_scan_whole_prefix(
 /// `KEY_TOO_LONG` if `prefix` or `after` has more than 240 bytes.
 #[unsafe(no_mangle)]
 pub extern "C" fn hot_scan_prefix_after(
-    handle: &mut Handle,
+    handle: &mut IndexHandle,
     prefix: &[u8],
     after: &[u8],
     room: &mut [Pair],
     count: &mut usize,
     more: &mut u32,
 ) -> u32
-    ensures call { ListsAfter prefix.now after.now handle.old.slot.opened handle.new.slot.opened
+    ensures call { ListsAfter prefix.now after.now handle.old.cell.opened handle.new.cell.opened
         (listing room.old count.old more.old) (listing room.new count.new more.new) result }
     ensures place { handle.new.place ≡ handle.old.place }
 {
@@ -66,13 +66,13 @@ pub extern "C" fn hot_scan_prefix_after(
 /// that begins with it. It writes and returns what `hot_scan_reverse` does.
 #[unsafe(no_mangle)]
 pub extern "C" fn hot_scan_whole_prefix_reverse(
-    handle: &mut Handle,
+    handle: &mut IndexHandle,
     prefix: &[u8],
     room: &mut [Pair],
     count: &mut usize,
     more: &mut u32,
 ) -> u32
-    ensures call { ListsReverse prefix.now (last_with prefix.now) handle.old.slot.opened handle.new.slot.opened
+    ensures call { ListsReverse prefix.now (last_with prefix.now) handle.old.cell.opened handle.new.cell.opened
         (listing room.old count.old more.old) (listing room.new count.new more.new) result }
     ensures place { handle.new.place ≡ handle.old.place }
 {
@@ -83,14 +83,14 @@ pub extern "C" fn hot_scan_whole_prefix_reverse(
 /// `hot_scan_reverse` does: `KEY_TOO_LONG` if `prefix` or `before` has more than 240 bytes.
 #[unsafe(no_mangle)]
 pub extern "C" fn hot_scan_prefix_before(
-    handle: &mut Handle,
+    handle: &mut IndexHandle,
     prefix: &[u8],
     before: &[u8],
     room: &mut [Pair],
     count: &mut usize,
     more: &mut u32,
 ) -> u32
-    ensures call { ListsBefore prefix.now before.now handle.old.slot.opened handle.new.slot.opened
+    ensures call { ListsBefore prefix.now before.now handle.old.cell.opened handle.new.cell.opened
         (listing room.old count.old more.old) (listing room.new count.new more.new) result }
     ensures place { handle.new.place ≡ handle.old.place }
 {
@@ -112,14 +112,14 @@ pub extern "C" fn hot_scan_prefix_before(
 /// Lists pairs whose keys begin with `prefix` in `order`, as `list_pairs_of_query` does: from `prefix` to the last key that begins with it.
 #[inline(always)]
 fn list_whole_prefix(
-    handle: &mut Handle,
+    handle: &mut IndexHandle,
     order: Order,
     prefix: &[u8],
     room: &mut [Pair],
     count: &mut usize,
     more: &mut u32,
 ) -> u32
-    ensures call { ListsBy (IsListedIn order) prefix.now (last_with prefix.now) handle.old.slot.opened handle.new.slot.opened
+    ensures call { ListsBy (IsListedIn order) prefix.now (last_with prefix.now) handle.old.cell.opened handle.new.cell.opened
         (listing room.old count.old more.old) (listing room.new count.new more.new) result }
     ensures place { handle.new.place ≡ handle.old.place }
 {

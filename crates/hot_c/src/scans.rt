@@ -5,7 +5,7 @@ ghost use Rattle.hot_index_calls.specs.Answers.{range_from};
 ghost use Rattle.hot_c.specs.Orders.{IsFilledIn, IsListedIn};
 ghost use Rattle.hot_c.specs.Scans.{HasFilled, Lists, ListsBy, ListsLast, ListsNothing, ListsReverse, listing};
 
-use crate::handle::Handle;
+use crate::handle::IndexHandle;
 use crate::pairs::{Order, Pair, Query, write_pairs_in_order};
 use crate::status::{CLOSED, DONE, KEY_TOO_LONG, NO_MEMORY};
 use key_bits::Key;
@@ -15,14 +15,14 @@ use key_bits::Key;
 /// `NO_MEMORY` these three stay.
 #[unsafe(no_mangle)]
 pub extern "C" fn hot_scan(
-    handle: &mut Handle,
+    handle: &mut IndexHandle,
     from: &[u8],
     upto: &[u8],
     room: &mut [Pair],
     count: &mut usize,
     more: &mut u32,
 ) -> u32
-    ensures call { Lists from.now upto.now handle.old.slot.opened handle.new.slot.opened
+    ensures call { Lists from.now upto.now handle.old.cell.opened handle.new.cell.opened
         (listing room.old count.old more.old) (listing room.new count.new more.new) result }
     ensures place { handle.new.place ≡ handle.old.place }
 {
@@ -35,14 +35,14 @@ pub extern "C" fn hot_scan(
 /// `count` is their number then, and `more` 1 if the range has more below, else 0: `DONE`. The other statuses are those of `hot_scan`.
 #[unsafe(no_mangle)]
 pub extern "C" fn hot_scan_reverse(
-    handle: &mut Handle,
+    handle: &mut IndexHandle,
     from: &[u8],
     upto: &[u8],
     room: &mut [Pair],
     count: &mut usize,
     more: &mut u32,
 ) -> u32
-    ensures call { ListsReverse from.now upto.now handle.old.slot.opened handle.new.slot.opened
+    ensures call { ListsReverse from.now upto.now handle.old.cell.opened handle.new.cell.opened
         (listing room.old count.old more.old) (listing room.new count.new more.new) result }
     ensures place { handle.new.place ≡ handle.old.place }
 {
@@ -55,14 +55,14 @@ pub extern "C" fn hot_scan_reverse(
 /// `count` is their number then, and `more` 1 if the range has more below, else 0: `DONE`. The other statuses are those of `hot_scan`.
 #[unsafe(no_mangle)]
 pub extern "C" fn hot_scan_last(
-    handle: &mut Handle,
+    handle: &mut IndexHandle,
     from: &[u8],
     upto: &[u8],
     room: &mut [Pair],
     count: &mut usize,
     more: &mut u32,
 ) -> u32
-    ensures call { ListsLast from.now upto.now handle.old.slot.opened handle.new.slot.opened
+    ensures call { ListsLast from.now upto.now handle.old.cell.opened handle.new.cell.opened
         (listing room.old count.old more.old) (listing room.new count.new more.new) result }
     ensures place { handle.new.place ≡ handle.old.place }
 {
@@ -73,19 +73,19 @@ pub extern "C" fn hot_scan_last(
 
 /// Lists pairs of `query` in its order, as `hot_scan` does: the first ones for `Upwards`, else the last ones.
 pub fn list_pairs_of_query(
-    handle: &mut Handle,
+    handle: &mut IndexHandle,
     query: &Query,
     room: &mut [Pair],
     count: &mut usize,
     more: &mut u32,
 ) -> u32
-    ensures call { ListsBy (IsListedIn query.now.order) query.now.from.now query.now.upto.now handle.old.slot.opened handle.new.slot.opened
+    ensures call { ListsBy (IsListedIn query.now.order) query.now.from.now query.now.upto.now handle.old.cell.opened handle.new.cell.opened
         (listing room.old count.old more.old) (listing room.new count.new more.new) result }
     ensures place { handle.new.place ≡ handle.old.place }
 {
     match fill_list(handle, query, room.len()) {
         Ok((found, is_more)) => {
-            let opened = handle.slot.lend();
+            let opened = handle.cell.lend();
             *count = found;
             *more = u32::from(is_more);
             write_pairs_in_order(query.order, &opened.list, room);
@@ -98,11 +98,15 @@ pub fn list_pairs_of_query(
 
 /// Scans the range of `query` into the handle's list, for at most `limit` pairs, as `Opened::scan` does. Returns how many it found, and
 /// whether there are more. The error is `CLOSED`, `KEY_TOO_LONG` (an end has more than 240 bytes) or `NO_MEMORY`.
-pub fn fill_list(handle: &mut Handle, query: &Query, limit: usize) -> Result<(usize, bool), u32>
+pub fn fill_list(
+    handle: &mut IndexHandle,
+    query: &Query,
+    limit: usize,
+) -> Result<(usize, bool), u32>
     ensures ok { IfOk result (λ found. HasFilled (IsFilledIn query.now.order) (range_from query.now.from.now query.now.upto.now limit)
-        handle.old.slot.opened handle.new.slot.opened found.0 found.1) }
+        handle.old.cell.opened handle.new.cell.opened found.0 found.1) }
     ensures short { IfOk result (λ found. found.0 < 2 ^ 63) }
-    ensures err { IfErr result (ListsNothing (range_from query.now.from.now query.now.upto.now limit) handle.old.slot.opened handle.new.slot.opened) }
+    ensures err { IfErr result (ListsNothing (range_from query.now.from.now query.now.upto.now limit) handle.old.cell.opened handle.new.cell.opened) }
     ensures place { handle.new.place ≡ handle.old.place }
 {
     if !handle.is_open() {
@@ -113,7 +117,7 @@ pub fn fill_list(handle: &mut Handle, query: &Query, limit: usize) -> Result<(us
     let (Ok(()), Ok(())) = (first.set_bytes(query.from), last.set_bytes(query.upto)) else {
         return Err(KEY_TOO_LONG);
     };
-    let opened = handle.slot.lend();
+    let opened = handle.cell.lend();
     match opened.scan(query.order, &first, &last, limit) {
         Ok(is_more) => Ok((opened.list.len(), is_more)),
         Err(_) => {

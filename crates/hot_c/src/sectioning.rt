@@ -1,13 +1,13 @@
 //! The calls of sections, for programs in C: whether each that was open at a moment has been left.
 
 ghost use Rattle.std.specs.Prelude.{◌≡◌, ◌≤◌, ◌<◌, ◌⊎◌, IsSome, None, Some};
-ghost use Rattle.section_handles.specs.declared.opened.Opened.{Opened as OpenSection};
+ghost use Rattle.hot_handles.specs.declared.section.opened.OpenSection.{OpenSection as OpenSection};
 ghost use Rattle.hot_c.specs.Sections.{EntersSection, HasOpenedSections, LeavesSection, OpensSection, TellsInside, TellsMoment, TellsPast};
 
 use crate::status::{
     CLOSED, DONE, INSIDE, NO_HANDLE, NO_MEMORY, NOT_PAST, OPEN, OUT_OF_RANGE, OUTSIDE,
 };
-use section_handles::{SectionHandle, make_keeper};
+use hot_handles::{SectionHandle, make_keeper};
 use std::alloc::Global;
 
 /// Makes a table of `count` sections and one more, and opens `handle` with the first of them: `DONE`. The handle keeps the others. Else it
@@ -15,9 +15,9 @@ use std::alloc::Global;
 #[unsafe(no_mangle)]
 pub extern "C" fn hot_make_sections(alloc: Global, count: usize, handle: &mut SectionHandle) -> u32
     ensures range { 65_535 ≤ count → (result ≡ OUT_OF_RANGE) × (handle.new ≡ handle.old) }
-    ensures open { count < 65_535 → IsSome handle.old.slot.opened → (result ≡ OPEN) × (handle.new ≡ handle.old) }
-    ensures made { count < 65_535 → handle.old.slot.opened ≡ None →
-        ((result ≡ DONE) × HasOpenedSections count handle.new.slot.opened) ⊎ ((result ≡ NO_MEMORY) × (handle.new ≡ handle.old)) }
+    ensures open { count < 65_535 → IsSome handle.old.cell.opened → (result ≡ OPEN) × (handle.new ≡ handle.old) }
+    ensures made { count < 65_535 → handle.old.cell.opened ≡ None →
+        ((result ≡ DONE) × HasOpenedSections count handle.new.cell.opened) ⊎ ((result ≡ NO_MEMORY) × (handle.new ≡ handle.old)) }
 {
     if count >= u16::MAX as usize {
         return OUT_OF_RANGE;
@@ -42,10 +42,10 @@ pub extern "C" fn hot_open_section(
     keeper: &mut SectionHandle,
     handle: &mut SectionHandle,
 ) -> u32
-    ensures closed { keeper.old.slot.opened ≡ None → (result ≡ CLOSED) × (keeper.new.slot.opened ≡ None) × (handle.new ≡ handle.old) }
-    ensures open { IsSome keeper.old.slot.opened → IsSome handle.old.slot.opened → (result ≡ OPEN) × (keeper.new ≡ keeper.old) × (handle.new ≡ handle.old) }
-    ensures opened { (was : OpenSection) → keeper.old.slot.opened ≡ Some was → handle.old.slot.opened ≡ None →
-        OpensSection was keeper.new.slot.opened handle.new.slot.opened result }
+    ensures closed { keeper.old.cell.opened ≡ None → (result ≡ CLOSED) × (keeper.new.cell.opened ≡ None) × (handle.new ≡ handle.old) }
+    ensures open { IsSome keeper.old.cell.opened → IsSome handle.old.cell.opened → (result ≡ OPEN) × (keeper.new ≡ keeper.old) × (handle.new ≡ handle.old) }
+    ensures opened { (was : OpenSection) → keeper.old.cell.opened ≡ Some was → handle.old.cell.opened ≡ None →
+        OpensSection was keeper.new.cell.opened handle.new.cell.opened result }
 {
     if !keeper.is_open() {
         return CLOSED;
@@ -53,7 +53,7 @@ pub extern "C" fn hot_open_section(
     if handle.is_open() {
         return OPEN;
     }
-    match keeper.slot.lend().open_next(alloc) {
+    match keeper.cell.lend().open_next(alloc) {
         Ok(Some(opened)) => {
             handle.open(opened);
             DONE
@@ -67,9 +67,9 @@ pub extern "C" fn hot_open_section(
 /// that is open stays so for those that look.
 #[unsafe(no_mangle)]
 pub extern "C" fn hot_close_section(alloc: Global, handle: &mut SectionHandle) -> u32
-    ensures closed { handle.old.slot.opened ≡ None → result ≡ CLOSED }
-    ensures done { IsSome handle.old.slot.opened → result ≡ DONE }
-    ensures gone { handle.new.slot.opened ≡ None }
+    ensures closed { handle.old.cell.opened ≡ None → result ≡ CLOSED }
+    ensures done { IsSome handle.old.cell.opened → result ≡ DONE }
+    ensures gone { handle.new.cell.opened ≡ None }
 {
     if !handle.is_open() {
         return CLOSED;
@@ -81,12 +81,12 @@ pub extern "C" fn hot_close_section(alloc: Global, handle: &mut SectionHandle) -
 /// Whether the section is open: `INSIDE` or `OUTSIDE`; or `CLOSED` if the handle is closed.
 #[unsafe(no_mangle)]
 pub extern "C" fn hot_is_inside(handle: &mut SectionHandle) -> u32
-    ensures { TellsInside handle.old.slot.opened handle.new.slot.opened result }
+    ensures { TellsInside handle.old.cell.opened handle.new.cell.opened result }
 {
     if !handle.is_open() {
         return CLOSED;
     }
-    if handle.slot.lend().is_inside() {
+    if handle.cell.lend().is_inside() {
         INSIDE
     } else {
         OUTSIDE
@@ -96,12 +96,12 @@ pub extern "C" fn hot_is_inside(handle: &mut SectionHandle) -> u32
 /// Enters the section: `DONE`. `INSIDE` if it is open already, or `CLOSED` if the handle is closed, and then nothing changes.
 #[unsafe(no_mangle)]
 pub extern "C" fn hot_enter_section(handle: &mut SectionHandle) -> u32
-    ensures { EntersSection handle.old.slot.opened handle.new.slot.opened result }
+    ensures { EntersSection handle.old.cell.opened handle.new.cell.opened result }
 {
     if !handle.is_open() {
         return CLOSED;
     }
-    if handle.slot.lend().enter() {
+    if handle.cell.lend().enter() {
         DONE
     } else {
         INSIDE
@@ -111,12 +111,12 @@ pub extern "C" fn hot_enter_section(handle: &mut SectionHandle) -> u32
 /// Leaves the section: `DONE`. `OUTSIDE` if it isn't open, or `CLOSED` if the handle is closed, and then nothing changes.
 #[unsafe(no_mangle)]
 pub extern "C" fn hot_leave_section(handle: &mut SectionHandle) -> u32
-    ensures { LeavesSection handle.old.slot.opened handle.new.slot.opened result }
+    ensures { LeavesSection handle.old.cell.opened handle.new.cell.opened result }
 {
     if !handle.is_open() {
         return CLOSED;
     }
-    if handle.slot.lend().leave() {
+    if handle.cell.lend().leave() {
         DONE
     } else {
         OUTSIDE
@@ -126,12 +126,12 @@ pub extern "C" fn hot_leave_section(handle: &mut SectionHandle) -> u32
 /// Takes a moment, and writes its number to `moment`: `DONE`; or `CLOSED` if the handle is closed, and then `moment` stays.
 #[unsafe(no_mangle)]
 pub extern "C" fn hot_take_moment(handle: &mut SectionHandle, moment: &mut u64) -> u32
-    ensures { TellsMoment handle.old.slot.opened handle.new.slot.opened moment.old moment.new result }
+    ensures { TellsMoment handle.old.cell.opened handle.new.cell.opened moment.old moment.new result }
 {
     if !handle.is_open() {
         return CLOSED;
     }
-    *moment = handle.slot.lend().take_moment();
+    *moment = handle.cell.lend().take_moment();
     DONE
 }
 
@@ -139,12 +139,12 @@ pub extern "C" fn hot_take_moment(handle: &mut SectionHandle, moment: &mut u64) 
 /// is closed. It waits for none.
 #[unsafe(no_mangle)]
 pub extern "C" fn hot_is_moment_past(handle: &mut SectionHandle, moment: u64) -> u32
-    ensures { TellsPast moment handle.old.slot.opened handle.new.slot.opened result }
+    ensures { TellsPast moment handle.old.cell.opened handle.new.cell.opened result }
 {
     if !handle.is_open() {
         return CLOSED;
     }
-    if handle.slot.lend().is_past(moment) {
+    if handle.cell.lend().is_past(moment) {
         DONE
     } else {
         NOT_PAST

@@ -3,7 +3,7 @@
 ghost use Rattle.std.specs.Prelude.{◌++◌, ◌≡◌, ◌≤◌, drop, length};
 ghost use Rattle.hot_c.specs.Values.{ListsValues, valued};
 
-use crate::handle::Handle;
+use crate::handle::IndexHandle;
 use crate::status::{CLOSED, DONE, KEY_TOO_LONG, NO_MEMORY};
 use key_bits::Key;
 use std::alloc::Global;
@@ -14,14 +14,14 @@ use std::alloc::Global;
 #[unsafe(no_mangle)]
 pub extern "C" fn hot_scan_values(
     alloc: Global,
-    handle: &mut Handle,
+    handle: &mut IndexHandle,
     from: &[u8],
     upto: &[u8],
     room: &mut [u64],
     count: &mut usize,
     more: &mut u32,
 ) -> u32
-    ensures call { ListsValues from.now upto.now handle.old.slot.opened handle.new.slot.opened
+    ensures call { ListsValues from.now upto.now handle.old.cell.opened handle.new.cell.opened
         (valued room.old count.old more.old) (valued room.new count.new more.new) result }
     ensures place { handle.new.place ≡ handle.old.place }
 {
@@ -34,7 +34,7 @@ pub extern "C" fn hot_scan_values(
         return KEY_TOO_LONG;
     };
     let mut values = Vec::new(alloc);
-    let opened = handle.slot.lend();
+    let opened = handle.cell.lend();
     match opened
         .handle
         .scan_values_into(&first, &last, room.len(), &mut values)

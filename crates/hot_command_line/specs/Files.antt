@@ -9,10 +9,10 @@ abbrev pub IsFileStart : Option (List ℕ) → List ℕ → Type 0
 IsFileStart known start = IfSome known (λ all. start ≡ take (most_bytes + 1) all)
 
 -- these are the starts of the files of these names, one for each; `bytes` are those of a file, where they are known
-abbrev pub AreStarts : (List ℕ → Option (List ℕ)) → List (List ℕ) → List (List ℕ) → Type 0
-AreStarts bytes [] [] = Unit {0}
-AreStarts bytes (name ∷ names) (start ∷ starts) = IsFileStart (bytes name) start × AreStarts bytes names starts
-AreStarts bytes _ _ = ⊥
+abbrev pub AreFileStarts : (List ℕ → Option (List ℕ)) → List (List ℕ) → List (List ℕ) → Type 0
+AreFileStarts bytes [] [] = Unit {0}
+AreFileStarts bytes (name ∷ names) (start ∷ starts) = IsFileStart (bytes name) start × AreFileStarts bytes names starts
+AreFileStarts bytes _ _ = ⊥
 
 -- a file can't be opened or read, or memory is refused
 abbrev pub IsFileFault : RunFault → Type 0

@@ -12,6 +12,7 @@ use Rattle.record_words.specs.declared.TheConstants.{MAX_LEAVES, MAX_NODES}
 abbrev pub count_rule : List ℕ → ℕ → Rule
 count_rule name most = record (new_rule name) { long = Some name; action = Some Set; parser = Some (Signed (pos 1) (pos most)) }
 
+-- any number of words without a name
 abbrev pub names_rule : List ℕ → Rule
 names_rule name = record (new_rule name) { action = Some Append }
 

@@ -1,7 +1,7 @@
 //! Scripts in files.
 
 ghost use Rattle.std.specs.Prelude.{◌≡◌, IfErr, IfOk, length, map};
-ghost use Rattle.hot_command_line.specs.Files.{AreStarts, IsFileFault, IsFileStart};
+ghost use Rattle.hot_command_line.specs.Files.{AreFileStarts, IsFileFault, IsFileStart};
 
 use hot_scripts::fault::RunFault;
 use hot_scripts::script::MAX_SCRIPT;
@@ -80,7 +80,7 @@ pub fn read_files<S: FileSystem>(
 ) -> Result<Vec<Vec<u8>>, RunFault>
     ensures fault { IfErr result IsFileFault }
     ensures count { IfOk result (λ files. length files.items ≡ length names.now) }
-    ensures starts { IfOk result (λ files. AreStarts S.bytes (map (λ name. name.now) names.now) (map (λ file. file.items) files.items)) }
+    ensures starts { IfOk result (λ files. AreFileStarts S.bytes (map (λ name. name.now) names.now) (map (λ file. file.items) files.items)) }
 {
     let mut files = Vec::new(alloc);
     for name in names {

@@ -1,3 +1,3 @@
 -- The lemmas of the crate.
-pub mod Asking
+pub mod Ended
 pub mod Taking

@@ -10,8 +10,8 @@ use Rattle.record_words.specs.declared.layout.Layout.{Layout}
 use Rattle.rowex_core.specs.declared.event.Act.TheVariants.{ClearPin}
 use Rattle.rowex_core.specs.declared.event.Event.{Event}
 use Rattle.rowex_reading.specs.Reads.{Looks}
-use Rattle.rowex_reading.proofs.Led.{looked_at, looks_same}
-use Rattle.rowex_scanning.specs.Counts.{Scans, scan_loads}
+use Rattle.rowex_reading.proofs.Seen.Led.{looked_at, looks_same}
+use Rattle.rowex_scanning.specs.Counts.{Scans, limit_by, scan_loads}
 use Rattle.version_laws.specs.Directions.{IsLawfulBy}
 use Rattle.rowex_scanning.specs.Scanning.{HasScanned, HasScannedPart, HasTaken, HasTakenPart, limited}
 use Rattle.rowex_scanning.specs.Tallies.{tally_of_number, tally_of_values}
@@ -26,13 +26,13 @@ use Rattle.version_laws.specs.Directions.{ScanLaw}
 use Rattle.hot_index_calls.specs.Answers.{AreValuesListed, IsFoundBy, IsListedBy, IsUnnoted, range_from}
 use Rattle.hot_index_calls.specs.Calls.{IsCountReadWith, IsListReadBy, IsRangeReadWith, IsScanReadBy, IsValuesReadWith, no_part}
 use Rattle.hot_index_calls.specs.Passes.{PassView, IsSettled, pass_of}
-use Rattle.hot_index.proofs.Found.{listed_found, part_found, taken_found}
+use Rattle.hot_index.proofs.index.Found.{listed_found, part_found, taken_found}
 use Rattle.hot_index.specs.Passes.{IsSettledWith}
 use Rattle.hot_index.specs.declared.key_counts.KeyCount.{KeyCount}
-use Rattle.hot_index.proofs.Counted.{settled_on}
+use Rattle.hot_index.proofs.KeyCounts.Counted.{settled_on}
 use Rattle.hot_index_calls.proofs.Noting.{fits_then, looked}
-use Rattle.hot_index_calls.proofs.Scanned.{if_answered, if_refused, listed_scanned, listed_unnoted, scan_answered, scan_counted, scan_numbered, scan_refused, scan_settled, scan_valued}
-use Rattle.hot_index_calls.proofs.Tracing.{has_walked}
+use Rattle.hot_index_calls.proofs.Noting.Scanned.{if_answered, if_refused, listed_scanned, listed_unnoted, scan_answered, scan_counted, scan_numbered, scan_refused, scan_settled, scan_valued}
+use Rattle.hot_index_calls.proofs.Traces.{has_walked}
 
 module _ {G : Type 0} {range : Range} {index : TableView} {becomes : G → Event → G → Type 0} {a b : PassView × G} where
   -- whatever part is left
@@ -104,7 +104,7 @@ list_read table becomes d g pairs r {a} {b} {c} {e} settled pins own pinned scan
 
 -- The same of a count, which needs no memory.
 pub count_read : {G : Type 0} (table : TableView) (becomes : G → Event → G → Type 0) (g : Range) (number : ℕ) (more : Bool) {a b c e : SeatView × G} → IsSettled a.0.known → Pins table becomes a b → IsSeatOf table b.0 → IsSome b.0.known.pin →
-    Scans table becomes g.limit b c → IsKey g.from × IsKey g.upto → HasTaken Upwards c.0.known g (tally_of_number number) more → c.0.known.steps ≤ b.0.known.steps + (1 + scan_loads g.limit) → StepsWith table becomes ClearPin silent c e →
+    Scans table becomes (limit_by g.limit number) b c → IsKey g.from × IsKey g.upto → HasTaken Upwards c.0.known g (tally_of_number number) more → c.0.known.steps ≤ b.0.known.steps + (1 + scan_loads (limit_by g.limit number)) → StepsWith table becomes ClearPin silent c e →
     IsCountReadWith g number table becomes (pass_of a.0, a.1) (pass_of e.0, e.1)
 count_read table becomes g number more {a} {b} {c} {e} settled pins own pinned scans keys counted few end =
     let looks = looked settled pins scans.3 in
@@ -115,8 +115,8 @@ count_read table becomes g number more {a} {b} {c} {e} settled pins own pinned s
       err = tt;
       part = tt;
       memory = tt;
-      steps = scan_counted (scan_loads g.limit) pins few end;
-      read = has_walked table becomes g.limit pins scans end;
+      steps = scan_counted (scan_loads (limit_by g.limit number)) pins few end;
+      read = has_walked table becomes (limit_by g.limit number) pins scans end;
     }
 
 -- The same of a scan of values alone.

@@ -18,6 +18,7 @@ puts_of Added = 1
 puts_of Replaced = 0
 puts_of TakenAway = 0
 
+-- how many keys a change of this kind takes out: 1 or 0
 abbrev pub takes_of : Kind → ℕ
 takes_of Added = 0
 takes_of Replaced = 0
@@ -27,6 +28,7 @@ takes_of TakenAway = 1
 abbrev pub puts : Change → ℕ
 puts c = puts_of c.kind
 
+-- the same of a change
 abbrev pub takes : Change → ℕ
 takes c = takes_of c.kind
 

@@ -8,3 +8,4 @@ pub mod Handles
 pub mod Kept
 pub mod Loads
 pub mod Statements
+pub mod Alone

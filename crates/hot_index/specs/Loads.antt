@@ -20,7 +20,7 @@ use Rattle.hot_index.specs.KeyCounts.{IsCountOf}
 use Rattle.hot_index.specs.declared.key_counts.KeyCount.{KeyCount}
 use Rattle.rowex_core.specs.Events.{IsLoad, loaded_tree}
 use Rattle.rowex_table.specs.Seats.{IsLoaderSeat, TableView}
-use Rattle.lone_runs.specs.Lone.{HasSpare}
+use Rattle.publish_laws.specs.Lone.{HasSpare}
 use Rattle.hot_index_calls.specs.Passes.{IsNewPass, PassView}
 
 -- the load has taken this pair besides, behind those that it had, for a leaf record of some number

@@ -16,7 +16,7 @@ use Rattle.versions.specs.Trades.{AreApart, IsOneOf}
 use Rattle.record_words.specs.declared.records.Rec.{Rec}
 use Rattle.record_words.specs.declared.records.Rec.TheVariants.{Node as a_node, Leaf as a_leaf}
 use Rattle.tries.specs.Keys.{Key}
-use Rattle.lone_runs.specs.Lone.{HasSpare, KeepsSpare}
+use Rattle.publish_laws.specs.Lone.{HasSpare, KeepsSpare}
 use Rattle.rowex_core.specs.declared.event.Event.{Event}
 use Rattle.rowex_table.specs.Seats.{IsShownAll, SeatView, TableView}
 use Rattle.rowex_records.specs.Claims.{AllMissed, AllMissedFrom, HasMissedSince, IsAnothers}

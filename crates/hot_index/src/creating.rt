@@ -31,7 +31,7 @@ pub enum IndexFault {
 /// Returns it with its passes in the order of their numbers. It checks the three numbers first, in this order. The fault `Layout` has the
 /// first that is out of range; `Memory` if memory is refused.
 ///
-/// The index has one node record more, which insertions leave free, so that a removal finds one. All leaf records are long. So a call that
+/// The index has one node record more, for removals: with one pass insertions leave it free. All leaf records are long. So a call that
 /// lacks one has found each of them taken (`laws::all_long_full_is_full`).
 pub fn create(
     alloc: Global,
@@ -147,7 +147,7 @@ fn make_index_with_closed_passes(
     }
 }
 
-/// The layout of the index that one asks for by `layout`: it has one node record more, which insertions leave for the removals. If it has
+/// The layout of the index that one asks for by `layout`: it has one node record more, for removals. If it has
 /// 4,294,967,295 already, it has no more.
 pub fn keep_one_node(layout: Layout) -> Layout
     ensures { HasOneKept layout result }

@@ -100,8 +100,7 @@ impl Index {
         self.get_with(pass, key, &mut NoGate)
     }
 
-    /// Looks up each of `keys` once, and writes to `found`, at its place, what `get` would return. `found` must have as many places as there
-    /// are keys.
+    /// Looks up each of `keys` once, and writes what `get` would return to its place in `found`, which must be as long as `keys`.
     ///
     /// It takes no lock, allocates nothing and never blocks. It makes at most 4 atomic steps, 32 for each key, and 26 for each node on
     /// the path to a key. Beside them it touches eleven words at most for each such node. A path has at most 2,160 nodes.
@@ -128,13 +127,12 @@ impl Index {
     /// 1,396,470 steps, and 2 for each pass, 6 for each node record and 10 for each leaf record.
     ///
     /// It returns `Busy` only if another pass has locked or retired what it wants to lock, or has made a change. That change came since
-    /// the pin under which the call loaded the root last. So an index of one pass is never busy.
+    /// the pin under which the call loaded the root last. So an index of one pass is never busy, nor a call alone (`laws::alone_calls_end`).
     ///
     /// It returns `FullNodes` only if it found each node record not free when its turn came, beside those that it had claimed itself. One
     /// that is free is left for the removals. For `FullLeaves` the same holds of each leaf record with room for the key. It makes the round
     /// of collection first. Then it looks again, unless the round gave back none of the kind, and found none free or the index has one pass.
-    /// In an index of several passes the round visits nothing while its bound is that of the pass's last such round, since some call holds
-    /// what is retired back. Then it doesn't look again.
+    /// With several passes the round visits nothing while its bound is that of the pass's last such round. Then it doesn't look again.
     ///
     /// A refused call has changed nothing, and holds no lock and no record.
     pub fn try_insert(&self, pass: &mut Pass, key: &Key, value: u64) -> Result<Reply, TryFault>
@@ -309,7 +307,8 @@ impl Index {
         self.census_with(pass, &mut NoGate)
     }
 
-    /// Does what `get` does, and reports each of its steps to `gate`.
+    /// Does what `get` does, and reports each of its steps to `gate`. Inline, since it is short.
+    #[inline(always)]
     pub fn get_with<G: Gate>(&self, pass: &mut Pass, key: &Key, gate: &mut G) -> Option<u64>
         requires { Owns self.now pass.old }
         ensures own { Owns self.now pass.new }

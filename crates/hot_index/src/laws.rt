@@ -1,5 +1,6 @@
 //! Laws of the index. The functions do nothing: their contracts are the laws.
 
+ghost use Rattle.hot_index.specs.Alone.{AloneCallsEnd};
 ghost use Rattle.hot_index.specs.Statements.{AbsentIsNeverFull, AllLongFullIsFull, CountsAddUp, HeldIsNeverFull, OnePassFullIsFull, OnePassIsNeverBusy, OnePassKeepsSpare, OnePassRefusesNewAlone, ReturnedBeforeBegun};
 
 use rowex_core::Gate;
@@ -13,6 +14,12 @@ pub fn all_long_full_is_full()
 /// In an index of one pass no call returns `Busy`: its cause is always another pass of the index.
 pub fn one_pass_is_never_busy()
     ensures { OnePassIsNeverBusy }
+{}
+
+/// Let a call be alone: no other pass had a lock, a record of its own or a pin when it began, and none makes a step while it runs. It is never
+/// busy. It gets its reply if it may take no record, as a new value of a held key. If it waits, it makes one try then.
+pub fn alone_calls_end<G: Gate>()
+    ensures { AloneCallsEnd G.becomes }
 {}
 
 /// In an index of one pass a call returns `FullLeaves` only if each leaf record with room for the key was in the tree or retired. It

@@ -82,14 +82,15 @@ impl Load {
     /// may be pushed.
     ///
     /// The fault is `NotRising` exactly if the key isn't above the last one. `LeavesFull` if each leaf record with room for it is taken.
-    /// `NodesFull` if too few node records may be left, which is never so while there are fewer pairs than node records. `Memory` if memory
-    /// is refused.
+    /// `NodesFull` if too few node records may be left, which is never so while there are fewer pairs than node records, nor for the first 32
+    /// pairs. `Memory` if memory is refused.
     pub fn push(&mut self, key: &Key, value: u64) -> Result<(), LoadFault>
         ensures taken { OnOk result (HasTakenPair key.now value self.old self.new) }
         ensures refused { OnErr result (self.new ≡ self.old) }
         ensures rising { (result ≡ Err LoadFault.NotRising) ↔ ¬ IsAboveLast self.old.items key.now }
         ensures leaves { result ≡ Err LoadFault.LeavesFull → HasNoRoomFor self.old key.now }
         ensures nodes { result ≡ Err LoadFault.NodesFull → self.old.layout.nodes ≤ length self.old.items }
+        ensures many { result ≡ Err LoadFault.NodesFull → 2 ≤ self.old.layout.nodes → 32 ≤ length self.old.items }
     {
         self.loader.push(key, value)?;
         self.count.note(Reply::Inserted);

@@ -10,7 +10,7 @@ use Rattle.record_words.specs.Reading.{IsSpelling}
 use Rattle.record_words.specs.State.{HasStateWord, state_word}
 use Rattle.record_words.specs.declared.records.Rec.{Rec}
 use Rattle.record_words.specs.declared.records.Rec.TheVariants.{Node as a_node, Leaf as a_leaf}
-use Rattle.rowex_core.proofs.States.{has_state_word}
+use Rattle.rowex_core.proofs.Words.{has_state_word}
 use Rattle.rowex_core.specs.declared.event.Act.{Act}
 use Rattle.rowex_core.specs.declared.event.Act.TheVariants.{LoadState}
 use Rattle.rowex_core.specs.declared.event.Event.{Event}
@@ -18,15 +18,15 @@ use Rattle.rowex_core.specs.declared.known.Known.{Known}
 use Rattle.rowex_core.specs.Words.{lock_of, tag_of}
 use Rattle.rowex_table.specs.Runs.{Does, Steps}
 use Rattle.rowex_table.specs.Seats.{SeatView, TableView}
-use Rattle.rowex_table.proofs.Running.{does_none, runs_told}
+use Rattle.rowex_table.proofs.Runs.{does_none, runs_told}
 use Rattle.epochs.specs.Runs.{collecting}
-use Rattle.epochs.proofs.Doing.{collects_append, collects_look}
+use Rattle.epochs.proofs.Runs.{collects_append, collects_look}
 use Rattle.hot_index_calls.specs.Census.{CountsAll, CountsFrom, FoundTags, HasCounted, counts_of, is_free, is_held, is_live, is_obsolete, loads_in, loads_of, with_tag}
 use Rattle.hot_index_calls.specs.Answers.{IsUnnoted}
 use Rattle.hot_index_calls.specs.Passes.{IsSettled, pass_of}
 use Rattle.hot_index_calls.specs.declared.census.RecordCounts.{RecordCounts}
 use Rattle.hot_index_calls.specs.declared.census.StateCounts.{StateCounts}
-use Rattle.hot_index_calls.proofs.Collected.{does_settled, does_unnoted}
+use Rattle.hot_index_calls.proofs.Passes.Collected.{does_settled, does_unnoted}
 
 -- Counts
 

@@ -1,12 +1,11 @@
 -- The lemmas of the crate.
-pub mod Tracing
+pub mod Traces
 pub mod Noting
-pub mod Scanned
-pub mod Collected
+pub mod Passes
 pub mod Counted
-pub mod Conflicts
-pub mod Trying
+pub mod Hindered
+pub mod Counts
 pub mod Refusing
-pub mod Resting
-pub mod Roomy
-pub mod Settled
+pub mod Rooms
+pub mod Used
+pub mod Lacked

@@ -1,4 +1,5 @@
 -- How an answered call gets its note: one that changed nothing, and what is the same of each.
+pub mod Scanned
 use Rattle.std.proofs.Common.{◌≡◌, ◌≢◌, ℕ, zero, suc, ◌+◌, ◌-◌, ◌<◌, ◌≤◌, List, [], ◌∷◌, ◌++◌, length, take, Bool, true, false, if◌then◌else◌, Option, Some, None, refl, sym, ap, subst, ◌∙◌, arith, le_refl, le_trans, length-append, nat_eq, eq-eqb}
 use Rattle.std.proofs.lemmas.Bool.{false≢true}
 use Rattle.std.specs.Prelude.{All}
@@ -13,13 +14,13 @@ use Rattle.finite_map.specs.declared.Reply.TheVariants.{Inserted, Exists, New, W
 use Rattle.finite_map.specs.Maps.{Map, value_at, step_where, reply_of}
 use Rattle.finite_map.specs.Fronts.{map_of, BeginsWith, LegalFront, OthersGoOn}
 use Rattle.finite_map.specs.Calls.{is_change, LegalCalls}
-use Rattle.finite_map.proofs.Growth.{others_begin}
-use Rattle.finite_map.proofs.Legal.{legal_quiet}
+use Rattle.finite_map.proofs.Fronts.{others_begin}
+use Rattle.finite_map.proofs.Calls.{legal_quiet}
 use Rattle.record_words.specs.declared.layout.Layout.{Layout}
 use Rattle.tries.specs.Keys.{Key}
 use Rattle.tries.specs.Tree.{Tree, Has, IsTrie}
-use Rattle.tries.proofs.Contents.{holds_has}
-use Rattle.tries.proofs.Maps.{holds_value, value_holds}
+use Rattle.tries.proofs.Content.{holds_has}
+use Rattle.tries.proofs.Content.Maps.{holds_value, value_holds}
 use Rattle.versions.specs.State.{IsHeldSince, WasAbsentSince}
 use Rattle.versions.specs.Told.{content}
 use Rattle.rowex_core.specs.declared.event.Act.{Act}
@@ -34,9 +35,9 @@ use Rattle.epochs.specs.Runs.{Pins}
 use Rattle.rowex_reading.specs.Lookups.{HasFound, HasSearched}
 use Rattle.rowex_reading.specs.Reads.{Looks}
 use Rattle.rowex_reading.specs.Seen.{Sure, since}
-use Rattle.rowex_reading.proofs.Later.{event_recalls}
-use Rattle.rowex_reading.proofs.Led.{HasLookedAt, looked_at}
-use Rattle.rowex_reading.proofs.Seeing.{seen_told, seen_within}
+use Rattle.rowex_reading.proofs.Seen.Later.{event_recalls}
+use Rattle.rowex_reading.proofs.Seen.Led.{HasLookedAt, looked_at}
+use Rattle.rowex_reading.proofs.Seen.{seen_told, seen_within}
 use Rattle.hot_index_calls.specs.Passes.{AreByPasses, IsSettled, pass_of}
 use Rattle.hot_index_calls.specs.Answers.{GoesOn, IsNoted, got}
 use Rattle.hot_index_calls.specs.Noting.{same_reply, first_from, answers_so, place_of}

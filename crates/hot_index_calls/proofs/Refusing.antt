@@ -14,7 +14,7 @@ use Rattle.rowex_core.specs.declared.known.Known.{Known}
 use Rattle.rowex_core.specs.Events.{word_of}
 use Rattle.rowex_table.specs.Runs.{Does, Ends, Runs, silent}
 use Rattle.rowex_table.specs.Seats.{SeatView, TableView}
-use Rattle.rowex_table.proofs.Running.{runs_append, runs_one}
+use Rattle.rowex_table.proofs.Runs.{runs_append, runs_one}
 use Rattle.epochs.specs.Runs.{collecting}
 use Rattle.rowex_records.specs.Claims.{HasMissedSince, IsAnothers}
 use Rattle.rowex_writing.specs.build.Changes.{LacksLeaves, LacksNodes}
@@ -29,15 +29,15 @@ use Rattle.hot_index_calls.specs.Calls.{IsTriedAndCounted}
 use Rattle.hot_index_calls.specs.Census.{CountsAll}
 use Rattle.hot_index_calls.specs.Passes.{PassView, pass_of}
 use Rattle.hot_index_calls.specs.Rooms.{IsEarly}
-use Rattle.hot_index_calls.specs.Refusals.{AreAllAtRest, IsLeftOne, IsPassing, IsToldAfter, Judges, NeedsBeside, fault_in}
+use Rattle.hot_index_calls.specs.Refusals.{AreAllAtRest, IsLeftOne, IsPassing, IsShortOf, IsToldAfter, Judges, NeedsBeside, fault_in}
 use Rattle.hot_index_calls.specs.Traces.{HasStepped}
 use Rattle.hot_index_calls.specs.declared.census.RecordCounts.{RecordCounts}
 use Rattle.hot_index_calls.specs.declared.refusals.Refusal.{Refusal}
 use Rattle.hot_index_calls.specs.declared.refusals.Refusal.TheVariants.{Busy as IsBusy, HeldBack, Full as IsFull}
-use Rattle.hot_index_calls.proofs.Conflicts.{may_take_from_before, no_further}
+use Rattle.hot_index_calls.proofs.changing.Conflicts.{may_take_from_before, no_further}
 use Rattle.hot_index_calls.proofs.Counted.{counts_settled, counts_unnoted, has_counted}
-use Rattle.hot_index_calls.proofs.Tracing.{HasSteps}
-use Rattle.hot_index_calls.proofs.Trying.{unnoted_then}
+use Rattle.hot_index_calls.proofs.Traces.{HasSteps}
+use Rattle.hot_index_calls.proofs.Counts.{unnoted_then}
 
 -- ---- steps
 module _ {G : Type 0} {table : TableView} {becomes : G → Event → G → Type 0} where
@@ -108,7 +108,7 @@ judged_fault passes lacks needs size counts (HeldBack full) j = ap fault_of j.0
 judged_fault passes lacks needs size counts (IsFull full shown) j = ap fault_of j.0
 
 pub told_after : {G : Type 0} {table : TableView} {becomes : G → Event → G → Type 0} {counts : RecordCounts} {m b : SeatView × G} (all : CountsAll table becomes counts m b) (some : 1 ≤ table.layout.nodes) (call : Call) (s : SeatView) (g : G) (lacks : Full) (made : List Rec) (needs : ℕ) →
-    HasLacked table made (Err (fault_of lacks)) s m.0 → needs ≡ length (nodes_among made) + 1 → ¬ (IsLeftOne table.layout.passes call) → (table.layout.passes ≡ 1 → IsEarly b.0 → AreAllAtRest counts) → (refusal : Refusal) → Judges table.layout.passes lacks needs (length (key_of call)) counts refusal →
+    HasLacked table made (Err (fault_of lacks)) s m.0 → needs ≡ length (nodes_among made) + 1 → ¬ (IsLeftOne table.layout.passes call) → (table.layout.passes ≡ 1 → IsEarly b.0 → AreAllAtRest counts × IsShortOf lacks needs (length (key_of call)) counts) → (refusal : Refusal) → Judges table.layout.passes lacks needs (length (key_of call)) counts refusal →
     IsToldAfter call table becomes (pass_of s, g) (pass_of m.0, m.1) (pass_of b.0, b.1) refusal
 told_after {table = table} all some call s g lacks made needs lacked is other rest IsBusy j = absurd j
 told_after {table = table} {becomes = becomes} {counts = counts} {m = m} {b = b} all some call s g lacks made needs lacked is other rest (HeldBack full) j = inr (record {
@@ -117,7 +117,8 @@ told_after {table = table} {becomes = becomes} {counts = counts} {m = m} {b = b}
   counts = counts;
   counted = has_counted all some;
   judged = subst (λ z. Judges table.layout.passes z needs (length (key_of call)) counts (HeldBack full)) (sym j.0) j;
-  alone = rest;
+  alone = λ one early. (rest one early).0;
+  short = λ one early. subst (λ z. IsShortOf z needs (length (key_of call)) counts) (sym j.0) (rest one early).1;
 })
 told_after {table = table} {becomes = becomes} {counts = counts} {m = m} {b = b} all some call s g lacks made needs lacked is other rest (IsFull full shown) j = (
   other,
@@ -127,7 +128,8 @@ told_after {table = table} {becomes = becomes} {counts = counts} {m = m} {b = b}
     counts = counts;
     counted = has_counted all some;
     judged = subst (λ z. Judges table.layout.passes z needs (length (key_of call)) counts (IsFull full shown)) (sym j.0) j;
-    alone = rest;
+    alone = λ one early. (rest one early).0;
+    short = λ one early. subst (λ z. IsShortOf z needs (length (key_of call)) counts) (sym j.0) (rest one early).1;
   },
 )
 

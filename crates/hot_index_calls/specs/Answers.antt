@@ -25,6 +25,7 @@ use Rattle.rowex_writing.specs.declared.attempts.TryFault.{TryFault}
 use Rattle.rowex_writing.specs.declared.attempts.TryFault.TheVariants.{Busy, FullNodes, FullLeaves}
 use Rattle.rowex_writing.specs.declared.plan.Full.{Full}
 use Rattle.rowex_writing.specs.declared.plan.Full.TheVariants.{Nodes, Leaves}
+use Rattle.hot_index_calls.specs.Alone.{HasBeenHindered}
 use Rattle.hot_index_calls.specs.Passes.{PassView, AreByPasses}
 
 -- the reply that says what a get found
@@ -82,6 +83,7 @@ IsFoundBy IsLawful layout k j from upto found = (more : Bool) × IsListedBy IsLa
 abbrev pub IsScanned : Layout → PassView → PassView → Range → Scan → Type 0
 IsScanned = IsScannedBy IsLawfulScan
 
+-- the same, as a list of pairs and whether there were more
 abbrev pub IsListed : Layout → PassView → PassView → Range → List (Key × ℕ) → Bool → Type 0
 IsListed = IsListedBy IsLawfulScan
 
@@ -139,10 +141,11 @@ pub record IsOvertaken (layout : Layout) (k j : PassView) : Type 0 where
   pub below : change.pass < layout.passes
 
 -- Another pass of the index stood in the way: a lock of this call found what it wanted to lock locked or retired by it, or a change of
--- it was made since the pin under which the call loaded the root last.
+-- it was made since the pin under which the call loaded the root last. And in the run of the call another pass has hindered it.
 pub record HasConflict (layout : Layout) (k j : PassView) : Type 0 where
   pub pass : j.number < layout.passes
   pub met : HasMetTaken layout j.number k.steps j.failed ⊎ IsOvertaken layout k j
+  pub hindered : HasBeenHindered layout j.number k.seat j.seat
 
 -- Why a call was refused: another pass stood in its way; or of each node record, or of each leaf record with room for its key, a claim
 -- failed or a load found the state not free. Then no leaf record was the pass's own, and of the node records at most two for each node

@@ -9,6 +9,8 @@ use Rattle.finite_map.specs.Scans.{IsLawfulScan}
 use Rattle.record_words.specs.declared.layout.Layout.{Layout}
 use Rattle.rowex_core.specs.declared.event.Event.{Event}
 use Rattle.rowex_table.specs.Seats.{TableView}
+use Rattle.rowex_scanning.specs.Counts.{limit_by}
+use Rattle.rowex_scanning.specs.Scanning.{limited}
 use Rattle.rowex_writing.specs.attempts.Attempts.{IsLeafless}
 use Rattle.rowex_writing.specs.declared.attempts.TryFault.{TryFault}
 use Rattle.rowex_writing.specs.declared.attempts.TryFault.TheVariants.{FullLeaves}
@@ -140,10 +142,12 @@ IsListReadWith range pairs result index becomes a b = IsListReadBy IsLawfulScan 
 abbrev pub IsListRead : {E : Type 0} → Range → List (Key × ℕ) → Result Bool E → TableView → PassView → PassView → Type 0
 IsListRead range pairs result index k j = IsListReadWith range pairs result index untold (k, tt) (j, tt)
 
--- A range was counted, which needs no memory, by its steps, of which the gate was told.
+-- A range was counted, which needs no memory, by its steps, of which the gate was told: as many at most as a scan makes for 16 pairs more than
+-- it counted, or for the range's limit, if that is less.
 abbrev pub IsCountReadWith : {G : Type 0} → Range → ℕ → TableView → (G → Event → G → Type 0) → PassView × G → PassView × G → Type 0
 IsCountReadWith range number index becomes a b =
-    IsRangeReadWith (λ layout k j. IsRangeCounted layout k j range) no_part range (let counted : Result ℕ (Unit {0}) = Ok number in counted) index becomes a b
+    IsRangeReadWith (λ layout k j. IsRangeCounted layout k j range) no_part (limited range (limit_by range.limit number))
+    (let counted : Result ℕ (Unit {0}) = Ok number in counted) index becomes a b
 
 -- the same, where nobody is told of its steps
 abbrev pub IsCountRead : Range → ℕ → TableView → PassView → PassView → Type 0

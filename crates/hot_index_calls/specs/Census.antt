@@ -18,10 +18,12 @@ use Rattle.hot_index_calls.specs.Passes.{PassView, pass_of}
 use Rattle.hot_index_calls.specs.declared.census.RecordCounts.{RecordCounts}
 use Rattle.hot_index_calls.specs.declared.census.StateCounts.{StateCounts}
 
+-- the record is free
 abbrev pub is_free : Tag → Bool
 is_free Free = true
 is_free tag = false
 
+-- a pass holds it, out of the tree
 abbrev pub is_held : Tag → Bool
 is_held Held = true
 is_held tag = false
@@ -32,6 +34,7 @@ is_live Live = true
 is_live Locked = true
 is_live tag = false
 
+-- it was retired
 abbrev pub is_obsolete : Tag → Bool
 is_obsolete (Obsolete epoch) = true
 is_obsolete tag = false

@@ -1,6 +1,7 @@
 -- The definitions of the crate.
 pub mod Passes
 pub mod Refusals
+pub mod Alone
 pub mod Answers
 pub mod Noting
 pub mod Traces
@@ -11,3 +12,4 @@ pub mod Reverse
 pub mod Asked
 pub mod Calls
 pub mod Rooms
+pub mod Lacking

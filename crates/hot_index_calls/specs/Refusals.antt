@@ -89,7 +89,7 @@ NeedsBeside layout k j Nodes needs = (own : List Rec) × LacksNodes layout j.num
 NeedsBeside layout k j Leaves needs = Unit {0}
 
 -- After the try, which led from a to m, all records were counted, and the count says this of its lack. In an index of one pass it finds no record
--- claimed and none retired, while the index has made fewer steps than there are epochs: so no record may come back.
+-- claimed and none retired, and fewer free than the try needs, while the index has made fewer steps than there are epochs.
 pub record IsCountedAfter {G : Type 0} (call : Call) (lacks : Full) (refusal : Refusal) (index : TableView) (becomes : G → Event → G → Type 0)
     (a m b : PassView × G) : Type 0 where
   pub needs : ℕ
@@ -98,6 +98,7 @@ pub record IsCountedAfter {G : Type 0} (call : Call) (lacks : Full) (refusal : R
   pub counted : HasCounted index becomes m b counts
   pub judged : Judges index.layout.passes lacks needs (length (key_of call)) counts refusal
   pub alone : index.layout.passes ≡ 1 → IsEarly b.0.seat → AreAllAtRest counts
+  pub short : index.layout.passes ≡ 1 → IsEarly b.0.seat → IsShortOf lacks needs (length (key_of call)) counts
 
 -- The call removes a key in an index of so many passes, which are several. Insertions leave a node record for it: where it finds none free,
 -- another call has that one, or holds back one that was retired since.

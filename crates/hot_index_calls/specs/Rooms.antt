@@ -7,7 +7,7 @@ use Rattle.record_words.specs.declared.layout.Layout.{Layout}
 use Rattle.record_words.specs.declared.records.Rec.{Rec}
 use Rattle.versions.specs.Core.{Fate, Unlinked, Marked}
 use Rattle.rowex_core.specs.Cores.{Core, HasRecord}
-use Rattle.lone_runs.specs.Lone.{HasSpare, IsLone, KeepsSpare}
+use Rattle.publish_laws.specs.Lone.{HasSpare, IsLone, KeepsSpare}
 use Rattle.rowex_table.specs.Seats.{SeatView}
 use Rattle.rowex_writing.specs.build.Spare.{IsRemoval}
 use Rattle.rowex_writing.specs.declared.attempts.TryFault.{TryFault}
@@ -28,18 +28,18 @@ pub record LeavesRoom (layout : Layout) (call : Call) (result : Result Reply Try
   pub finds : FindsRoom layout call result s t
 
 -- a record of this fate is not retired: it is free, claimed, or in the tree
-abbrev pub IsStill : Fate → Type 0
-IsStill (Unlinked since last q) = ⊥
-IsStill (Marked since last epoch) = ⊥
-IsStill f = Unit {0}
+abbrev pub IsUnretired : Fate → Type 0
+IsUnretired (Unlinked since last q) = ⊥
+IsUnretired (Marked since last epoch) = ⊥
+IsUnretired f = Unit {0}
 
 -- If the table has one pass, this record is not retired after the steps of which the pass knows;
-abbrev pub IsStillAt : Layout → SeatView → Rec → Type 0
-IsStillAt layout s r = (c : Core) → IsLone layout s c → IsStill (c.fate r)
+abbrev pub IsUnretiredAt : Layout → SeatView → Rec → Type 0
+IsUnretiredAt layout s r = (c : Core) → IsLone layout s c → IsUnretired (c.fate r)
 
 -- none is.
 abbrev pub HasNoneRetired : Layout → SeatView → Type 0
-HasNoneRetired layout s = (r : Rec) → HasRecord layout r → IsStillAt layout s r
+HasNoneRetired layout s = (r : Rec) → HasRecord layout r → IsUnretiredAt layout s r
 
 -- In an index of one pass, no record is retired after a call that was refused as full.
 abbrev pub LeavesNoneRetired : Layout → Result Reply TryFault → SeatView → Type 0

@@ -184,7 +184,8 @@ Collects table becomes a b = ((nodes : ℕ) × (leaves : ℕ) × IsRound table b
 -- so, and it gives back no record of this kind
 abbrev pub CollectsNone : {G : Type 0} → TableView → (G → Event → G → Type 0) → Full → SeatView × G → SeatView × G → Type 0
 CollectsNone table becomes kind a b =
-    ((nodes : ℕ) × (leaves : ℕ) × IsRound table becomes a b nodes leaves × (of_kind kind nodes leaves ≡ 0)) ⊎ ((1 < table.layout.passes) × IsSparedRound table becomes a b)
+    ((nodes : ℕ) × (leaves : ℕ) × IsRound table becomes a b nodes leaves × (of_kind kind nodes leaves ≡ 0)) ⊎
+    ((1 < table.layout.passes) × IsSparedRound table becomes a b)
 
 -- On a seat: the call makes such steps, and then clears the pin of its pass, with these notes.
 abbrev pub HasEnded : {G : Type 0} → TableView → (G → Event → G → Type 0) → (List Act → Type 0) → (Known → List Note) → SeatView × G → SeatView × G → Type 0

@@ -7,10 +7,13 @@ ghost use Rattle.rowex_core.specs.declared.known.Known.{Known};
 ghost use Rattle.rowex_table.specs.Runs.{StepsWith};
 ghost use Rattle.rowex_table.specs.Seats.{IsPassOf};
 ghost use Rattle.rowex_writing.specs.declared.plan.Full.TheVariants.{Nodes, Leaves};
-ghost use Rattle.lone_runs.specs.Lone.{HasRoom, KeepsSpare};
+ghost use Rattle.publish_laws.specs.Lone.{HasRoom, KeepsSpare};
 ghost use Rattle.rowex_writing.specs.build.Spare.{IsRemoval};
 ghost use Rattle.rowex_writing.specs.declared.attempts.TryFault.TheVariants.{FullNodes};
 ghost use Rattle.hot_index_calls.specs.Rooms.{FindsRoom, LeavesNoneRetired};
+ghost use Rattle.hot_index_calls.specs.Lacking.{LeavesUsed};
+ghost use Rattle.rowex_writing.specs.build.Walks.{nodes_among};
+ghost use Rattle.finite_map.specs.Maps.{key_of};
 ghost use Rattle.hot_index_calls.specs.Answers.{fault_of};
 ghost use Rattle.hot_index_calls.specs.Asked.{HasAsked, HasLacked, HasReplied, HasRested, IsIdle, last_try};
 ghost use Rattle.hot_index_calls.specs.Calls.{IsTriedAndCounted, MakesTries};
@@ -47,6 +50,7 @@ pub fn try_change<G: Gate>(
     ensures spares { KeepsSpare table.now.layout seat.old seat.new }
     ensures room { FindsRoom table.now.layout call.now result seat.old seat.new }
     ensures none { LeavesNoneRetired table.now.layout result seat.new }
+    ensures used { LeavesUsed table.now.layout (key_of call.now) (nodes_among scratch.new.build.made.items) result seat.new }
 {
     collect_due(table, seat, gate, scratch);
     try_twice(table, seat, gate, scratch, call)
@@ -84,6 +88,7 @@ fn try_twice<G: Gate>(
     ensures spares { KeepsSpare table.now.layout seat.old seat.new }
     ensures room { FindsRoom table.now.layout call.now result seat.old seat.new }
     ensures none { LeavesNoneRetired table.now.layout result seat.new }
+    ensures used { LeavesUsed table.now.layout (key_of call.now) (nodes_among scratch.new.build.made.items) result seat.new }
 {
     let first = make_attempt(table, seat, gate, scratch, call);
     let Some(lacks) = full_kind(first) else {
@@ -287,6 +292,7 @@ fn make_attempt<G: Gate>(
     ensures spares { KeepsSpare table.now.layout seat.old seat.new }
     ensures room { IsRemoval call.now → HasRoom table.now.layout seat.old → result ≢ Err FullNodes }
     ensures longer { length seat.old.trace ≤ length seat.new.trace }
+    ensures used { LeavesUsed table.now.layout (key_of call.now) (nodes_among scratch.new.build.made.items) result seat.new }
 {
     pin(table, seat, gate);
     let outcome = attempt(

@@ -14,7 +14,8 @@
 //!
 //! Steps are numbered from 1. If the last load of the root is among this call's steps, `SeesAllOfRun` says what it showed and where it
 //! stands in the trace. A call that waits begins again while a try is busy, or held back by the count after it (`IsTriedAndCounted`). It
-//! makes such tries alone, and the cause of its refusal lies in the last (`MakesTries`).
+//! makes such tries alone, and the cause of its refusal lies in the last (`MakesTries`). In an index of one pass each record that a full call
+//! lacked is in the tree or retired after it (`LeavesUsed`), so its count finds too few free.
 #![tactic(auto)]
 
 mod census;

@@ -1,2 +1,1 @@
 -- The lemmas of the crate.
-pub mod Asking

@@ -7,7 +7,7 @@ use Rattle.hot_scripts.specs.Streams.{TakesAll}
 use Rattle.hot_index_calls.specs.Traces.{untold}
 use Rattle.hot_command_line.specs.declared.ending.Ending.{Ending}
 use Rattle.hot_command_line.specs.declared.ending.Ending.TheVariants.{Usage, Fault}
-use Rattle.hot_command_line.specs.Files.{AreStarts}
+use Rattle.hot_command_line.specs.Files.{AreFileStarts}
 use Rattle.hot_command_line.specs.Options.{DoParse, IsAsked}
 use Rattle.script_runs.specs.Runs.{IsAnsweredScript, MayEndBy}
 use Rattle.script_runs.specs.Scripts.{LawfulScripts, MayEndScriptsBy}
@@ -17,7 +17,7 @@ use Rattle.script_runs.specs.Scripts.{LawfulScripts, MayEndScriptsBy}
 abbrev pub AnswersAll : (List ℕ → Option (List ℕ)) → List (List ℕ) → ℕ → ℕ → List ℕ → List ℕ → Type 0
 AnswersAll bytes [] nodes leaves script text = IsAnsweredScript nodes leaves script text
 AnswersAll bytes (name ∷ names) nodes leaves script text =
-    (files : List (List ℕ)) × AreStarts bytes (name ∷ names) files × LawfulScripts nodes leaves untold (map (λ f. (tt, tt)) files) files script text
+    (files : List (List ℕ)) × AreFileStarts bytes (name ∷ names) files × LawfulScripts nodes leaves untold (map (λ f. (tt, tt)) files) files script text
 
 -- What these words ask for was answered: the script is all that the reader had, and the answers were written behind what stood there.
 -- `old` and `new` are what the reader has left, `before` and `after` what was written, where that is known.
@@ -35,7 +35,7 @@ pub record IsAnsweredAsAsked (bytes : List ℕ → Option (List ℕ)) (words : L
 -- such a run may end by this fault
 abbrev pub MayEndAllBy : (List ℕ → Option (List ℕ)) → List (List ℕ) → Option (List ℕ) → Option (List ℕ) → RunFault → Type 0
 MayEndAllBy bytes [] old new fault = MayEndBy old new fault
-MayEndAllBy bytes (name ∷ names) old new fault = (files : List (List ℕ)) × AreStarts bytes (name ∷ names) files × MayEndScriptsBy files old new fault
+MayEndAllBy bytes (name ∷ names) old new fault = (files : List (List ℕ)) × AreFileStarts bytes (name ∷ names) files × MayEndScriptsBy files old new fault
 
 -- a fault of the run that these words ask for
 pub record HasFaultAsAsked (bytes : List ℕ → Option (List ℕ)) (words : List (List ℕ)) (old new : Option (List ℕ)) (fault : RunFault) : Type 0 where

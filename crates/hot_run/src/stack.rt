@@ -1,5 +1,8 @@
 //! The stack that the program needs: with less it would end by a signal.
 
+ghost use Rattle.std.specs.Prelude.{◌<◌, IfSome};
+ghost use Rattle.hot_run.specs.declared.stack.TheConstants.{LEAST_STACK};
+
 use std::fs::File;
 use std::io::Read;
 use std::rt::Files;
@@ -8,12 +11,15 @@ use std::rt::Files;
 pub const LEAST_STACK: u64 = 256;
 
 /// The limit of the program's stack in KiB, if the system tells one that is below `LEAST_STACK`. It asks for no memory.
-pub fn too_low_limit<R: Files>(rt: &R) -> Option<u64> {
+pub fn too_low_limit<R: Files>(rt: &R) -> Option<u64>
+    ensures low { IfSome result (λ limit. limit < LEAST_STACK) }
+{
     let mut places = [0; 2_048];
     let mut file = File::open(rt, "/proc/self/limits").ok()?;
     let count = file.read(&mut places).ok()?;
     let limits = str::from_utf8(places.get(..count)?).ok()?;
-    stack_limit(limits).filter(|limit| *limit < LEAST_STACK)
+    let limit = stack_limit(limits)?;
+    (limit < LEAST_STACK).then_some(limit)
 }
 
 /// The limit of the stack, in KiB, that is in the table of a process's limits; `None` if there is none.

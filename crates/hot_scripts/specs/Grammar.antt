@@ -59,6 +59,7 @@ is_number word = nat_lt 0 (length word) && nat_le (length word) 20 && list_all i
 abbrev pub number_of : List ℕ → Option ℕ
 number_of word = if is_number word && nat_lt (digits_value 10 word) (2 ^ 64) then Some (digits_value 10 word) else None
 
+-- the number, or this reason where there is none
 abbrev pub ok_or_reason : Reason → Option ℕ → Result ℕ Reason
 ok_or_reason reason (Some n) = Ok n
 ok_or_reason reason None = Err reason

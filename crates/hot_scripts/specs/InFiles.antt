@@ -11,6 +11,7 @@ abbrev pub in_file : ℕ → Result (List Command) (ℕ × Reason) → Result (L
 in_file file (Ok commands) = Ok commands
 in_file file (Err (number, reason)) = Err (FileScript file number reason)
 
+-- the commands of a file of this number and these bytes, or why there are none
 abbrev pub commands_of_file : ℕ → List ℕ → Result (List Command) RunFault
 commands_of_file file script = if nat_lt most_bytes (length script) then Err Large else in_file file (commands_of script)
 

@@ -7,7 +7,7 @@ use Rattle.finite_map.specs.Maps.{Map, map_after, reply_of}
 use Rattle.finite_map.specs.Scans.{range_of}
 use Rattle.hot_scripts.specs.declared.command.Command.{Command}
 use Rattle.hot_scripts.specs.declared.command.Command.TheVariants.{Call as Asks, Scan}
-use Rattle.hot_scripts.specs.declared.command.Range.{Range}
+use Rattle.hot_scripts.specs.declared.command.KeyRange.{KeyRange}
 use Rattle.hot_scripts.specs.declared.fault.RunFault.{RunFault}
 use Rattle.hot_scripts.specs.declared.fault.RunFault.TheVariants.{Script, Large}
 use Rattle.hot_scripts.specs.declared.fault.Reason.{Reason}
@@ -38,6 +38,7 @@ reply_text (reply.Value v) = with_number (codes "value ") v
 reply_text reply.Absent = codes "none"
 reply_text (reply.Removed v) = with_number (codes "removed ") v
 
+-- the line of a pair that a scan lists
 abbrev pub pair_line : List ℕ × ℕ → List ℕ
 pair_line (key, value) = line (codes "pair " ++ key_text key ++ codes " " ++ decimal value)
 
@@ -46,7 +47,7 @@ abbrev pub scan_lines : Map → Bool → List ℕ
 scan_lines pairs more = flat_map pair_line pairs ++ line (with_number (if more then codes "more " else codes "end ") (length pairs))
 
 -- a scan gives the first `limit` pairs of the map in the range
-abbrev pub scan_text : Map → Range → List ℕ
+abbrev pub scan_text : Map → KeyRange → List ℕ
 scan_text m r =
     let found = range_of m r.from r.upto in scan_lines (take r.limit found) (nat_lt r.limit (length found))
 
@@ -56,6 +57,7 @@ text_from m [] = []
 text_from m (Asks call ∷ commands) = line (reply_text (reply_of m call)) ++ text_from (map_after m call) commands
 text_from m (Scan range ∷ commands) = scan_text m range ++ text_from m commands
 
+-- what is printed for commands that begin with an empty map, or the fault of the script
 abbrev pub text_or_fault : Result (List Command) (ℕ × Reason) → Result (List ℕ) RunFault
 text_or_fault (Ok commands) = Ok (text_from [] commands)
 text_or_fault (Err (number, reason)) = Err (Script number reason)

@@ -8,7 +8,7 @@ use key_bits::Key;
 
 /// A range of keys, both ends inclusive, and the greatest number of pairs that are wanted.
 #[derive(Drop)]
-pub struct Range {
+pub struct KeyRange {
     pub from: Key,
     pub upto: Key,
     pub limit: usize,
@@ -18,7 +18,7 @@ pub struct Range {
 #[derive(Drop)]
 pub enum Command {
     Call(Call),
-    Scan(Range),
+    Scan(KeyRange),
 }
 
 /// The version of a script, which says how long its keys may be: the second if its first line is `hot 2`, else the first.

@@ -5,7 +5,7 @@ ghost use Rattle.std.specs.List.{slice_split};
 ghost use Rattle.hot_scripts.specs.Grammar.{line_words, command_of, reading_of};
 ghost use Rattle.hot_scripts.specs.Words.{parts_left, text_len, AreWords};
 
-use crate::command::{Command, Range, Version};
+use crate::command::{Command, KeyRange, Version};
 use crate::fault::Reason;
 use crate::word;
 use finite_map::Call;
@@ -112,7 +112,7 @@ fn parse_range_command(
         let from = word::parse_key(version, from)?;
         let upto = word::parse_key(version, upto)?;
         let limit = word::parse_limit(limit)?;
-        Ok(Command::Scan(Range { from, upto, limit }))
+        Ok(Command::Scan(KeyRange { from, upto, limit }))
     } else {
         Err(Reason::Command)
     }

@@ -1,4 +1,6 @@
 -- Executions by contracts alone, and the order of calls by traces.
+pub mod Loading
+pub mod Reaching
 use Rattle.std.proofs.Common.{◌≡◌, ◌⊎◌, ◌<◌, ◌≤◌, inl, inr, ⊎_elim, ℕ, zero, suc, List, [], ◌∷◌, ◌++◌, Bool, true, false, if◌then◌else◌, nat_eq, Option, None, refl, sym, ap, subst, ◌∙◌, arith, append_assoc}
 use Rattle.std.proofs.lemmas.Bool.{cases_lt, eq-eqb}
 use Rattle.std.proofs.lemmas.List.Elements.{All-head, All-tail}
@@ -7,8 +9,8 @@ use Rattle.finite_map.specs.declared.Change.{Change}
 use Rattle.finite_map.specs.declared.Note.{Note}
 use Rattle.finite_map.specs.Calls.{StandsIn}
 use Rattle.finite_map.specs.Fronts.{BeginsWith}
-use Rattle.finite_map.proofs.Growth.{begins_itself, others_begin}
-use Rattle.finite_map.proofs.Legal.{place_after-within}
+use Rattle.finite_map.proofs.Fronts.{begins_itself, others_begin}
+use Rattle.finite_map.proofs.Calls.{place_after-within}
 use Rattle.record_words.specs.declared.layout.Layout.{Layout}
 use Rattle.rowex_core.specs.declared.event.Act.{Act}
 use Rattle.rowex_core.specs.declared.event.Act.TheVariants.{LoadRef}
@@ -22,25 +24,25 @@ use Rattle.rowex_core.specs.Events.{Legal, after}
 use Rattle.rowex_core.specs.Knowing.{Knows, learned}
 use Rattle.rowex_core.specs.Opening.{opening}
 use Rattle.rowex_core.specs.Runs.{AreOthers, EventsLead}
-use Rattle.rowex_core.proofs.Learning.{learns}
+use Rattle.rowex_core.proofs.Knowing.{learns}
 use Rattle.rowex_core.proofs.Runs.{runs_keep, runs_stay_lawful}
 use Rattle.rowex_table.specs.Rule.{with_front}
 use Rattle.rowex_table.specs.Runs.{StepsWith, root_load}
 use Rattle.rowex_table.specs.Seats.{SeatView, TableView}
 use Rattle.rowex_table.specs.Stays.{LeavesFresh}
 use Rattle.rowex_table.specs.Traces.{RunBeginsWith, own_acts}
-use Rattle.rowex_table.proofs.Keeping.{renoted}
-use Rattle.rowex_table.proofs.Linking.{lead_rest}
+use Rattle.rowex_table.proofs.Rule.{renoted}
+use Rattle.rowex_table.proofs.Runs.Linking.{lead_rest}
 use Rattle.rowex_table.proofs.Onward.{begins_on as run_begins_on, led_more, of_one_run}
-use Rattle.rowex_table.proofs.Running.{runs_same}
+use Rattle.rowex_table.proofs.Runs.{runs_same}
 use Rattle.hot_index_calls.specs.Traces.{untold}
-use Rattle.hot_index.proofs.Counted.{last_of}
+use Rattle.hot_index.proofs.KeyCounts.Counted.{last_of}
 use Rattle.hot_index_calls.proofs.Noting.{longer}
 use Rattle.linearizability.specs.Moments.{Happening, IsCallTurn, IsMomentStep, IsNewIndex, IsShowing, IsSoundMoment, Moment, Pending, invokes, refuses, responds, shows, steps}
-use Rattle.linearizability.proofs.Growing.{runs_stay_sound}
+use Rattle.linearizability.proofs.Moments.{runs_stay_sound}
 use Rattle.index_laws.specs.Executions.{IsExecution, LeadsOn}
 use Rattle.index_laws.specs.Traced.{CallsMakeNoAsides, ContractsLeadOn, EndedBeforeLoaded, EndedOrLoadedBefore, EndedOrShownBefore, Instant, IsSeatShowing, IsSeatStep, IsSeatTurn, IsShownItself, IsShownSteps, IsTracedExecution, LoadsRootBehind, LoadsSeeAll, MetAreOfOneRun, TracedAreExecutions, core_led_to, moment_of}
-use Rattle.index_laws.proofs.Timed.{executions_are_runs, opening_is_new}
+use Rattle.index_laws.proofs.Executions.{executions_are_runs, opening_is_new}
 
 -- The core to which steps lead
 

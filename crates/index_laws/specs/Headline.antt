@@ -161,6 +161,7 @@ ValuesInReach =
     (c : Core) → IsLawful c → (q : ℕ) (p : Pin) → c.pins q ≡ Some p → (m l : ℕ) (u : Tree) → p.version ≤ m → m ≤ c.past.now → Stands c.past m (a_leaf l) u →
     (o : ℕ) × (v : Tree) × (m ≤ o) × StoodLast c.past o (a_leaf l) v × (head_value v ≡ Some (record_word c (a_leaf l) VALUE_OFFSET))
 
+-- The promises, one by one.
 pub record Headline : Type 0 where
   pub history : History
   pub one_history : OneHistory

@@ -149,7 +149,7 @@ HandleHasDone index q done h = (h.index ≡ index) × (h.pass ≡ pass_of h.pass
 
 -- A handle has seen what its leader had, as `hot_see` of C and `stamp` with `follow` say: the leader has made a stamp, and the handle has
 -- followed it.
-pub record HasSeen (was now leader led : HandleView) : Type 0 where
+pub record HasSeenLeader (was now leader led : HandleView) : Type 0 where
   pub follows : Stays (λ index k j. HasCaughtUp index.layout leader.pass.front k j) was now
   pub traced : RunBeginsWith now.pass.seat.trace leader.pass.seat.trace
   pub stamped : Stays (λ index k j. HasStamped k j) leader led
@@ -159,7 +159,7 @@ pub record HasSeen (was now leader led : HandleView) : Type 0 where
 abbrev pub SeeingIsDone : Type 0
 SeeingIsDone =
     (index : TableView) (p q : ℕ) (ours theirs : List Happening) (was now leader led : HandleView) → HandleHasDone index p ours was →
-    HandleHasDone index q theirs leader → HasSeen was now leader led →
+    HandleHasDone index q theirs leader → HasSeenLeader was now leader led →
     HandleHasDone index p (ours ++ shows p now.pass.seat.known.front ∷ []) now × HandleHasDone index q (theirs ++ shows q leader.pass.seat.known.front ∷ []) led ×
     IsTableRun index.layout now.pass.seat.trace × RunBeginsWith now.pass.seat.trace leader.pass.seat.trace
 
@@ -170,7 +170,7 @@ abbrev pub HandlesAreLinearizable : Type 0
 HandlesAreLinearizable =
     (index : TableView) (run : List Event) (done : ℕ → List Happening) (was now leader led : ℕ → HandleView) → IsTableRun index.layout run →
     ((q : ℕ) → q < index.layout.passes → HandleHasDone index q (done q) (was q)) → ((q : ℕ) → q < index.layout.passes → RunBeginsWith run (was q).pass.seat.trace) →
-    ((q : ℕ) → q < index.layout.passes → HasSeen (was q) (now q) (leader q) (led q)) →
+    ((q : ℕ) → q < index.layout.passes → HasSeenLeader (was q) (now q) (leader q) (led q)) →
     ((q : ℕ) → q < index.layout.passes → RunBeginsWith (leader q).pass.seat.trace run) →
     (last : ℕ) × (at : ℕ → Instant) × (happens : ℕ → Happening) ×
     IsExecutionOf index run done (λ q. (was q).pass.seat) last at happens × IsLinearizable index.layout last (λ t. moment_of index.layout (at t)) happens

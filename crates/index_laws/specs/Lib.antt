@@ -5,4 +5,5 @@ pub mod Traced
 pub mod Statements
 pub mod Lives
 pub mod Joined
+pub mod Rest
 pub mod Headline

@@ -46,6 +46,7 @@ ExecutionsAreLinearizable =
     (layout : Layout) (last later : ℕ) (at : ℕ → Moment) (happens : ℕ → Happening) → last ≤ later → IsExecution layout later at happens →
     PendingEndOrChangeAsAsked layout last later at → IsLinearizable layout last at happens
 
+-- The laws of calls and their responses, one by one.
 pub record Responses : Type 0 where
   pub opening : OpeningIsNew
   pub returned : ReturnedResponds

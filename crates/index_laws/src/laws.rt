@@ -1,6 +1,7 @@
 //! Laws of the index over whole runs. The functions do nothing: their contracts are the laws.
 ghost use Rattle.index_laws.specs.Headline.{Headline};
 ghost use Rattle.index_laws.specs.Joined.{AnInsertIsFound, HandlesAreLinearizable, LoadedHaveEnded, OneRunIsAnExecution, SeeingIsDone, ShownHaveEnded, SilentStepsEnd, StepsNeedNoGate, TwoThatMeetHaveEnded};
+ghost use Rattle.index_laws.specs.Rest.{NoRecordIsLost, OnePassLosesNone};
 ghost use Rattle.index_laws.specs.Statements.{AGetReturns, Responses};
 ghost use Rattle.index_laws.specs.Steps.{StepsAreMoments, StepsFollow};
 ghost use Rattle.index_laws.specs.Traced.{AGetIsTraced, CallsMakeNoAsides, EndedBeforeLoaded, EndedOrLoadedBefore, EndedOrShownBefore, LoadsAreMoments, LoadsSeeAll, MetAreOfOneRun, TracedAreExecutions};
@@ -131,4 +132,16 @@ pub fn met_passes_are_of_one_run()
 /// A call that makes steps, as one with one key or a scan does, makes no stamp, follows none and meets no other pass.
 pub fn calls_neither_stamp_nor_follow_nor_meet()
     ensures { CallsMakeNoAsides }
+{}
+
+/// Let no call of an index be running, and fewer steps have been made than there are epochs. A `collect` that runs alone then leaves each record
+/// free or in the tree: all leaf records are free but one for each key, and all node records but fewer than there are keys. A `census` behind
+/// it counts just these.
+pub fn no_record_is_lost<G: Gate>()
+    ensures { NoRecordIsLost G.becomes }
+{}
+
+/// In an index of one pass that is so between any two calls.
+pub fn one_pass_loses_no_record<G: Gate>()
+    ensures { OnePassLosesNone G.becomes }
 {}

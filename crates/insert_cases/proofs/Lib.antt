@@ -1,5 +1,4 @@
 -- The lemmas of the crate.
 pub mod NodeFacts
-pub mod Affecting
-pub mod Choosing
+pub mod Ways
 pub mod Pairs

@@ -8,13 +8,13 @@ use Rattle.compound_node.specs.declared.entries.Entry.TheVariants.{Leaf}
 use Rattle.compound_node.specs.declared.halves.Cut.{Cut}
 use Rattle.compound_node.specs.declared.halves.Half.{Half}
 use Rattle.compound_node.specs.declared.halves.Half.TheVariants.{One, Many, Same}
-use Rattle.tries.proofs.Building.{greatest-append}
+use Rattle.tries.proofs.Tree.Building.{greatest-append}
 use Rattle.node_tries.specs.Changes.{replaced}
 use Rattle.node_tries.specs.Growth.{forked, grown}
 use Rattle.node_tries.specs.Piece.{Piece, Place, Fork, places, size}
 use Rattle.node_tries.specs.Grafts.{grafted, IsAbovePath}
 use Rattle.insert_cases.specs.Grown.{is_same, half_piece}
-use Rattle.node_tries.proofs.Grafting.{size-replaced}
+use Rattle.node_tries.proofs.Grafts.{size-replaced}
 
 pub height_positive : (n : NodeView) → IsLawfulNode n → 0 < n.height
 height_positive n l = let several = l.several in omega (arith, l.above 0 (Leaf 0) (omega arith))

@@ -7,10 +7,10 @@ use Rattle.compound_node.specs.Nodes.{IsEntry, height_of}
 use Rattle.compound_node.specs.declared.entries.Entry.{Entry}
 use Rattle.tries.specs.Content.{first}
 use Rattle.tries.specs.Tree.{Tree, leaf, node, fork, subtrie, IsTrie, IsBuilt, IsLower}
-use Rattle.tries.proofs.Building.{bit_below}
-use Rattle.tries.proofs.Fitting.{children_are, all_above}
-use Rattle.tries.proofs.Ranges.{has_key}
-use Rattle.tries.proofs.Tries.{has_first}
+use Rattle.tries.proofs.Tree.Building.{bit_below}
+use Rattle.tries.proofs.Tree.Fitting.{children_are, all_above}
+use Rattle.tries.proofs.Keys.{has_key}
+use Rattle.tries.proofs.Tree.{has_first}
 
 pub tip_entry : (e : Entry) (t : Tree) → subtrie t ≡ Place e → IsBuilt t → IsEntry e
 tip_entry e t h b = subst (λ x. All IsEntry (places x)) h (children_are t b) 0 e (omega arith)

@@ -27,10 +27,12 @@ abbrev pub GrownShows : NodeView → Grown → Piece Entry → Type 0
 GrownShows old (Whole node) shown = IsBuiltFrom node shown
 GrownShows old (Two cut) shown = IsCutOf old cut shown
 
+-- it is one node
 abbrev pub is_whole : Grown → Bool
 is_whole (Whole node) = true
 is_whole (Two cut) = false
 
+-- the half is the old node as it stands
 abbrev pub is_same : Half → Bool
 is_same (One entry) = false
 is_same (Many node) = false
@@ -40,6 +42,7 @@ is_same Same = true
 abbrev pub keeps_side : Cut → Bool
 keeps_side cut = is_same cut.zero || is_same cut.one
 
+-- the old node stays in the tree
 abbrev pub keeps_node : Grown → Bool
 keeps_node (Whole node) = false
 keeps_node (Two cut) = keeps_side cut

@@ -32,11 +32,13 @@ pub record IsStep (k : Key) (s : PathNode) (n : ℕ) (x : Fixed) (b : Tree) : Ty
   pub count : s.count ≡ size (subtrie b)
   pub at : s.slot ≡ spot k (subtrie b)
 
-abbrev pub IsStepAt : Key → PathNode → Tree → Type 0
-IsStepAt k s (leaf n l v) = ⊥
-IsStepAt k s (node n x b) = IsStep k s n x b
-IsStepAt k s (fork p a b) = ⊥
+-- the step at the top of a tree, which is a node
+abbrev pub IsStepAtTopNode : Key → PathNode → Tree → Type 0
+IsStepAtTopNode k s (leaf n l v) = ⊥
+IsStepAtTopNode k s (node n x b) = IsStep k s n x b
+IsStepAtTopNode k s (fork p a b) = ⊥
 
+-- the tree is a leaf
 abbrev pub IsLeaf : Tree → Type 0
 IsLeaf (leaf n l v) = Unit {0}
 IsLeaf (node n x b) = ⊥
@@ -45,7 +47,7 @@ IsLeaf (fork p a b) = ⊥
 -- the steps of a key's search through a tree, down to a leaf
 abbrev pub IsWay : Key → Tree → List PathNode → Type 0
 IsWay k t [] = IsLeaf t
-IsWay k t (s ∷ ss) = IsStepAt k s t × IsWay k (below k t) ss
+IsWay k t (s ∷ ss) = IsStepAtTopNode k s t × IsWay k (below k t) ss
 
 -- each fork on the key's way through a body has a lower position than this; nodes that stand there as entries are not entered
 abbrev pub WayBelow : ℕ → Key → Tree → Type 0
@@ -53,11 +55,13 @@ WayBelow p k (leaf n l v) = Unit {0}
 WayBelow p k (node n x b) = Unit {0}
 WayBelow p k (fork q a b) = (q < p) × MatchBool (bit k q) (WayBelow p k b) (WayBelow p k a)
 
+-- what stands below the top node; of another tree the tree itself
 abbrev pub body : Tree → Tree
 body (leaf n l v) = leaf n l v
 body (node n x b) = b
 body (fork p a b) = fork p a b
 
+-- the same, told as a value
 abbrev pub is_leaf : Tree → Bool
 is_leaf (leaf n l v) = true
 is_leaf (node n x b) = false

@@ -15,8 +15,8 @@ use Rattle.finite_map.specs.Fronts.{BeginsWith, FitsKind, LegalFrom, LegalFront,
 use Rattle.finite_map.specs.Maps.{IsRising, Map, value_at, without}
 use Rattle.finite_map.specs.Reverse.{falling_scan}
 use Rattle.finite_map.specs.Scans.{IsHeldBetween, IsLawfulScanWith, ScanOrder, rising_scan}
-use Rattle.finite_map.proofs.Growth.{changed_by-other, map_of-push, map_of-rising}
-use Rattle.finite_map.proofs.Held.{value_at-without_same}
+use Rattle.finite_map.proofs.Fronts.{changed_by-other, map_of-push, map_of-rising}
+use Rattle.finite_map.proofs.Maps.{value_at-without_same}
 use Rattle.record_words.specs.declared.layout.Layout.{Layout}
 use Rattle.rowex_core.specs.declared.event.Act.{Act}
 use Rattle.rowex_core.specs.declared.event.Act.TheVariants.{Publish, Load}
@@ -25,12 +25,12 @@ use Rattle.rowex_core.specs.Events.{IsAtomic, Legal, after as next_core, loaded_
 use Rattle.rowex_core.specs.Statements.{Appends}
 use Rattle.tries.specs.Content.{Item}
 use Rattle.versions.specs.Told.{added_change, items_of}
-use Rattle.rowex_core.proofs.Appending.{only_publish_appends}
-use Rattle.rowex_core.proofs.Keeping.{seen_by}
+use Rattle.rowex_core.proofs.Events.Appending.{only_publish_appends}
+use Rattle.rowex_core.proofs.Knowing.Keeping.{seen_by}
 use Rattle.linearizability.specs.Moments.{Continues, Happening, IsWholeRun, Moment, invokes, refuses, responds, shows, steps}
 use Rattle.linearizability.specs.Scanning.{IsScanInTime, WasHeld, WasThere}
 use Rattle.linearizability.specs.Statements.{ScansInTime}
-use Rattle.linearizability.proofs.Growing.{grown, loaded_since, longer, runs_stay_sound}
+use Rattle.linearizability.proofs.Moments.{grown, loaded_since, longer, runs_stay_sound}
 
 -- A moment makes one change at most; or pairs are loaded at it, before any change
 

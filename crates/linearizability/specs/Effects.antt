@@ -12,6 +12,7 @@ use Rattle.rowex_core.specs.Statements.{call_of_change}
 use Rattle.linearizability.specs.Histories.{replied}
 use Rattle.linearizability.specs.Moments.{Moment, Pending}
 
+-- two kinds of changes are one
 abbrev pub same_kind : Kind → Kind → Bool
 same_kind Added Added = true
 same_kind Replaced Replaced = true

@@ -18,6 +18,7 @@ abbrev pub responder : Happening → ℕ
 responder (responds q notes) = q
 responder _ = 0
 
+-- the notes that an event responds with
 abbrev pub answers : Happening → List Note
 answers (responds q notes) = notes
 answers _ = []

@@ -2,9 +2,9 @@
 use Rattle.std.proofs.Common.{Bool, List, [], ap, arith, false, nat_lt, not, refl, sym, true, ℕ, ⊎_elim, ◌&&◌, ◌+◌, ◌-◌, ◌<◌, ◌||◌, ◌∙◌, ◌∷◌, ◌≡◌, ◌≤◌}
 use Rattle.std.proofs.lemmas.Bool.{cases_Bool, cases_lt, false≢true, le-ltb, lt-ltb, ltb-false, ltb-true}
 use Rattle.std.proofs.lemmas.Bool.Decides.{nat_tests}
-use Rattle.node_tries.proofs.Growing.{affected_fits}
+use Rattle.node_tries.proofs.Growth.{affected_fits}
 use Rattle.node_tries.proofs.Positions.{has_after}
-use Rattle.node_tries.proofs.Tests.{same_bools}
+use Rattle.node_tries.proofs.Positions.Tests.{same_bools}
 use Rattle.node_tries.specs.Growth.{affected_first, affected_count}
 use Rattle.node_tries.specs.Piece.{Piece, Place, Fork, size, RisesFrom, UsesOnly}
 use Rattle.node_tries.specs.Positions.{Ascends}

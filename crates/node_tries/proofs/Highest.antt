@@ -1,7 +1,7 @@
 -- The place of the last element of a list that passes a test.
 use Rattle.std.proofs.Common.{Bool, List, [], ap, arith, cond, false, get_or, length, map, refl, suc, true, zero, ℕ, ⊎_elim, ◌++◌, ◌+◌, ◌<◌, ◌||◌, ◌∷◌, ◌≡◌}
 use Rattle.std.proofs.lemmas.Bool.{cases_Bool, or_parts, or_right}
-use Rattle.node_tries.proofs.Tests.{any-append, any-map, Agree, any_agree}
+use Rattle.node_tries.proofs.Positions.Tests.{any-append, any-map, Agree, any_agree}
 use Rattle.node_tries.specs.Highest.{highest}
 use Rattle.node_tries.specs.Positions.{any}
 

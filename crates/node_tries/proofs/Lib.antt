@@ -1,16 +1,10 @@
 -- The lemmas of the crate.
-pub mod Tests
 pub mod Highest
 pub mod Positions
-pub mod Paths
-pub mod Using
+pub mod Piece
 pub mod Edits
-pub mod Growing
+pub mod Growth
 pub mod Affected
-pub mod Replacing
-pub mod Removing
-pub mod Grafting
-pub mod Mapping
-pub mod Beside
-pub mod Seams
+pub mod Changes
+pub mod Grafts
 pub mod Worked

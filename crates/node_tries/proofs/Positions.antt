@@ -1,7 +1,8 @@
 -- Positions in rising lists.
+pub mod Tests
 use Rattle.std.proofs.Common.{Bool, List, [], ap, arith, cond, drop, eqb, false, get_or, length, map, nat_lt, refl, replicate, slice_index, suc, sym, take, true, zero, ℕ, ⊎_elim, ◌++◌, ◌+◌, ◌<◌, ◌||◌, ◌∙◌, ◌∷◌, ◌≡◌, ◌≢◌, ◌≤◌}
 use Rattle.std.proofs.lemmas.Bool.{cases_Bool, eq-eqb, eqb-true, false_from_ne_true, false≢true, le-ltb, lt-ltb, ltb-false, ltb-true, ne_eqb, or_cases, or_left, or_parts, or_right}
-use Rattle.node_tries.proofs.Tests.{same_bools}
+use Rattle.node_tries.proofs.Positions.Tests.{same_bools}
 use Rattle.node_tries.specs.Kept.{kept}
 use Rattle.node_tries.specs.Positions.{has, Ascends, AllBelow, front_below, with_position}
 

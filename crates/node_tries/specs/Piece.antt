@@ -3,6 +3,7 @@ use Rattle.std.specs.Prelude.{Bool, List, [], cond, eqb, false, map, true, ℕ, 
 use Rattle.node_tries.specs.Kept.{kept}
 use Rattle.node_tries.specs.Positions.{has}
 
+-- A bit trie down to places: forks at positions, with what stands at the places.
 pub data Piece (A : Type 0) : Type 0 where
   Place : A → Piece A
   Fork : ℕ → Piece A → Piece A → Piece A

@@ -6,10 +6,12 @@ abbrev pub has : List ℕ → ℕ → Bool
 has [] q = false
 has (p ∷ ps) q = eqb p q || has ps q
 
+-- each element passes the test
 abbrev pub all : {X : Type 0} → (X → Bool) → List X → Bool
 all t [] = true
 all t (x ∷ xs) = t x && all t xs
 
+-- one of them does
 abbrev pub any : {X : Type 0} → (X → Bool) → List X → Bool
 any t [] = false
 any t (x ∷ xs) = t x || any t xs

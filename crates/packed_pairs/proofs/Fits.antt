@@ -3,18 +3,18 @@ use Rattle.std.proofs.Common.{◌≡◌, ℕ, ◌-◌, ◌<◌, ◌≤◌, suc, 
 use Rattle.std.proofs.Math.Seq.{take-append_seam}
 use Rattle.std.proofs.lemmas.Bool.{le-leb, leb-true, lt-leb}
 use Rattle.std.proofs.lemmas.List.{length-take-le, take-append-drop}
-use Rattle.packed_pairs.specs.declared.head.Head.{Head}
+use Rattle.packed_pairs.specs.declared.head.PairHead.{PairHead}
 use Rattle.packed_pairs.specs.Packed.{ArePacked, unpacked}
 use Rattle.packed_pairs.specs.Parts.{fitting, packed_head, keys_in}
 
-pub heads_are : (heads : List Head) (bytes : List ℕ) → ArePacked heads bytes → heads ≡ map packed_head (unpacked heads bytes)
+pub heads_are : (heads : List PairHead) (bytes : List ℕ) → ArePacked heads bytes → heads ≡ map packed_head (unpacked heads bytes)
 heads_are [] bytes none = refl
 heads_are (h ∷ heads) bytes (low, key, rest) =
     let count : h.count ≡ length (take h.count bytes) = sym (length-take-le h.count bytes low) in
     let first : h ≡ packed_head (take h.count bytes, h.value) = ap (λ n. record { count = n; value = h.value }) count in
-    ap (λ (l : List Head). h ∷ l) (heads_are heads (drop h.count bytes) rest) ∙ ap (λ (x : Head). x ∷ map packed_head (unpacked heads (drop h.count bytes))) first
+    ap (λ (l : List PairHead). h ∷ l) (heads_are heads (drop h.count bytes) rest) ∙ ap (λ (x : PairHead). x ∷ map packed_head (unpacked heads (drop h.count bytes))) first
 
-pub keys_are : (heads : List Head) (bytes : List ℕ) → ArePacked heads bytes → bytes ≡ keys_in (unpacked heads bytes)
+pub keys_are : (heads : List PairHead) (bytes : List ℕ) → ArePacked heads bytes → bytes ≡ keys_in (unpacked heads bytes)
 keys_are [] bytes none = none
 keys_are (h ∷ heads) bytes (low, key, rest) = sym (take-append-drop h.count bytes) ∙ ap (λ l. take h.count bytes ++ l) (keys_are heads (drop h.count bytes) rest)
 

@@ -1,6 +1,4 @@
 -- What is true of packed pairs.
-pub mod Copying
-pub mod Packing
-pub mod Lasts
-pub mod Backwards
+pub mod Packed
+pub mod Last
 pub mod Fits

@@ -2,15 +2,15 @@
 use Rattle.std.specs.Prelude.{ℕ, ◌≡◌, ◌≤◌, List, [], ◌∷◌, length, take, drop}
 use denote.Ref.{Bor}
 use Rattle.key_bits.specs.Key.{IsKey}
-use Rattle.packed_pairs.specs.declared.head.Head.{Head}
+use Rattle.packed_pairs.specs.declared.head.PairHead.{PairHead}
 
 -- the pairs of these heads: the first key has the first of the bytes
-abbrev pub unpacked : List Head → List ℕ → List (List ℕ × ℕ)
+abbrev pub unpacked : List PairHead → List ℕ → List (List ℕ × ℕ)
 unpacked [] bytes = []
 unpacked (head ∷ heads) bytes = (take head.count bytes, head.value) ∷ unpacked heads (drop head.count bytes)
 
 -- each of them has a key, and these have all of the bytes
-abbrev pub ArePacked : List Head → List ℕ → Type 0
+abbrev pub ArePacked : List PairHead → List ℕ → Type 0
 ArePacked [] bytes = bytes ≡ []
 ArePacked (head ∷ heads) bytes = (head.count ≤ length bytes) × IsKey (take head.count bytes) × ArePacked heads (drop head.count bytes)
 

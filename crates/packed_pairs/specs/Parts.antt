@@ -1,9 +1,9 @@
 -- The parts of packed pairs: their heads, and their keys one after another.
 use Rattle.std.specs.Prelude.{ℕ, ◌-◌, List, [], ◌∷◌, ◌++◌, length, nat_le, if◌then◌else◌}
-use Rattle.packed_pairs.specs.declared.head.Head.{Head}
+use Rattle.packed_pairs.specs.declared.head.PairHead.{PairHead}
 
 -- how long the key is, and the value
-abbrev pub packed_head : List ℕ × ℕ → Head
+abbrev pub packed_head : List ℕ × ℕ → PairHead
 packed_head (key, value) = record { count = length key; value = value }
 
 -- the keys, one after another

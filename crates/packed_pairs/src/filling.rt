@@ -5,7 +5,7 @@ ghost use Rattle.std.specs.Vec.{vec_capacity, vec_len};
 ghost use Rattle.key_bits.specs.Key.{IsKey};
 ghost use Rattle.key_bits.specs.declared.TheConstants.{MAX_BYTES};
 
-use crate::head::Head;
+use crate::head::PairHead;
 use crate::keys::{KeyBytes, copy_key};
 use crate::pairs::Pairs;
 use key_bits::MAX_BYTES;
@@ -21,7 +21,7 @@ use std::mem;
 pub struct Filling {
     bytes: Vec<u8>,
     used: usize,
-    heads: Vec<Head>,
+    heads: Vec<PairHead>,
     room: usize,
 }
 
@@ -133,7 +133,7 @@ impl Filling {
     {
         copy_key(&mut self.bytes, self.used, places, length);
         self.used += length;
-        self.heads.push_reserved(Head {
+        self.heads.push_reserved(PairHead {
             count: length as u8,
             value,
         });
@@ -144,7 +144,7 @@ impl Filling {
 /// Returns `heads` with room for `count` more, and whether memory was there for it. Never inline, so that callers have less code; and by
 /// value, so that a caller's list still lies in registers.
 #[inline(never)]
-fn add_heads_room(mut heads: Vec<Head>, count: usize) -> (Vec<Head>, bool)
+fn add_heads_room(mut heads: Vec<PairHead>, count: usize) -> (Vec<PairHead>, bool)
     ensures same { result.0.items ≡ heads.items }
     ensures room { IsTrue result.1 → vec_len result.0 + count ≤ vec_capacity result.0 }
 {

@@ -5,7 +5,7 @@ ghost use Rattle.std.specs.Iterator.{YieldsFirst};
 ghost use Rattle.key_bits.specs.Key.{IsKey};
 ghost use Rattle.packed_pairs.specs.Packed.{ArePacked, unpacked};
 
-use crate::head::Head;
+use crate::head::PairHead;
 use key_bits::{Key, MAX_BYTES};
 use std::marker::Model;
 
@@ -13,7 +13,7 @@ use std::marker::Model;
 #[derive(Drop)]
 pub struct Iter<'a> {
     pub(crate) bytes: &'a [u8],
-    pub(crate) heads: &'a [Head],
+    pub(crate) heads: &'a [PairHead],
 }
 
 impl<'a> Model for Iter<'a> {
@@ -29,7 +29,7 @@ impl<'a> Model for Iter<'a> {
 
 impl<'a> Iter<'a> {
     /// An iterator over the pairs of `heads`. `bytes` are the bytes of their keys, one key behind the other, and no others.
-    pub(crate) fn of(bytes: &'a [u8], heads: &'a [Head]) -> Iter<'a>
+    pub(crate) fn of(bytes: &'a [u8], heads: &'a [PairHead]) -> Iter<'a>
         requires { ArePacked heads.now bytes.now }
         ensures { result ≡ unpacked heads.now bytes.now }
     {

@@ -16,6 +16,6 @@ mod parts;
 
 pub use direction::Direction;
 pub use filling::Filling;
-pub use head::Head;
+pub use head::PairHead;
 pub use iter::Iter;
 pub use pairs::Pairs;

@@ -4,7 +4,7 @@ ghost use Rattle.std.specs.Prelude.{◌≡◌, ◌≢◌, ◌<◌, ◌^◌, [], 
 ghost use Rattle.key_bits.specs.Key.{IsKey};
 ghost use Rattle.packed_pairs.specs.Last.{IsLastKey};
 
-use crate::head::Head;
+use crate::head::PairHead;
 use crate::iter::{Iter, key_from_bytes};
 use crate::keys::KeyBytes;
 use key_bits::Key;
@@ -17,7 +17,7 @@ use std::marker::Model;
 #[derive(Drop)]
 pub struct Pairs {
     pub(crate) bytes: KeyBytes,
-    pub(crate) heads: Vec<Head>,
+    pub(crate) heads: Vec<PairHead>,
 }
 
 impl Model for Pairs {

@@ -3,12 +3,12 @@
 ghost use Rattle.std.specs.Prelude.{◌≡◌, [], length, map, pred, take};
 ghost use Rattle.packed_pairs.specs.Parts.{fitting, packed_head, keys_in};
 
-use crate::head::Head;
+use crate::head::PairHead;
 use crate::pairs::Pairs;
 
 impl Pairs {
     /// The heads of the list's pairs, and the bytes of their keys, one key behind the other, both in the list's order.
-    pub fn parts(&self) -> (&[Head], &[u8])
+    pub fn parts(&self) -> (&[PairHead], &[u8])
         ensures heads { result.0.now ≡ map packed_head self.now }
         ensures keys { result.1.now ≡ keys_in self.now }
     {

@@ -3,19 +3,19 @@ use Rattle.std.proofs.Common.{List, [], ap, arith, drop, eqb, false, get_or, len
 use Rattle.std.proofs.lemmas.Bool.{cases_Bool, cases_lt, cases_order, eq-eqb, eqb-true, false≢true, lt-ltb, ltb-false, ltb-true, ne_eqb}
 use Rattle.std.proofs.lemmas.List.{get_or-map, length-map, length-take-le, map-append, take-append-drop}
 use Rattle.std.proofs.lemmas.Nat.{shr_high}
-use Rattle.key_bits.proofs.Gathering.{code-lt}
+use Rattle.key_bits.proofs.Gather.{code-lt}
 use Rattle.key_bits.specs.Gather.{code}
-use Rattle.partial_keys.proofs.Codes.{code-join}
-use Rattle.partial_keys.proofs.Reading.{row, row-set}
+use Rattle.partial_keys.proofs.Rows.{code-join}
+use Rattle.partial_keys.proofs.Shown.{row, row-set}
 use Rattle.partial_keys.specs.Rows.{row_of}
 use Rattle.partial_keys.specs.Runs.{agree_in, IsRunStart, IsRunEnd}
 use Rattle.partial_keys.specs.Shows.{ShowsPiece}
 use Rattle.node_tries.proofs.Affected.{within, within_past, within_before, within_shift, within_all, within_in, within_true, rises_after, whole_first}
-use Rattle.node_tries.proofs.Growing.{affected_fits}
-use Rattle.node_tries.proofs.Paths.{NoneHas, only_path, length-paths, paths-left, paths-right, none_before}
+use Rattle.node_tries.proofs.Growth.{affected_fits}
+use Rattle.node_tries.proofs.Piece.{NoneHas, only_path, length-paths, paths-left, paths-right, none_before}
 use Rattle.node_tries.proofs.Positions.{has_after, Ascends-front, below_front, ascends_back, IsPlaceOf}
-use Rattle.node_tries.proofs.Tests.{same_bools}
-use Rattle.node_tries.proofs.Using.{later_columns}
+use Rattle.node_tries.proofs.Positions.Tests.{same_bools}
+use Rattle.node_tries.proofs.Piece.Using.{later_columns}
 use Rattle.node_tries.specs.Growth.{affected_first, affected_count}
 use Rattle.node_tries.specs.Piece.{Piece, Place, Fork, size, paths, RisesFrom, UsesOnly}
 use Rattle.node_tries.specs.Positions.{has, Ascends, AllBelow}

@@ -1,20 +1,14 @@
 -- The lemmas of the crate.
 pub mod Putting
 pub mod Taking
-pub mod Codes
+pub mod Rows
 pub mod Keeping
-pub mod Search
-pub mod Lanes
-pub mod Rowing
-pub mod Reading
-pub mod Showing
-pub mod Growing
-pub mod Joining
+pub mod Leads
+pub mod Spread
+pub mod Shown
+pub mod Shows
 pub mod Affected
-pub mod Squeezing
-pub mod Cutting
-pub mod Closing
+pub mod Squeezed
 pub mod Worked
 pub mod Windows
-pub mod Sliding
 pub mod Reaching

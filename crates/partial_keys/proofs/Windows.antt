@@ -18,10 +18,10 @@ use Rattle.std.proofs.lemmas.Simd.{Each1-all, Each1-get_or, Each1-weaker, Each1-
 use Rattle.std.specs.List.{range_with_len}
 use lib.Lanes.{zip2, sel_l, pick_l, mask_l, top, Each1, chunk}
 use Rattle.key_bits.specs.Gather.{code, gathered}
-use Rattle.key_bits.proofs.Gathering.{code-lt, code-shifted}
+use Rattle.key_bits.proofs.Gather.{code-lt, code-shifted}
 use Rattle.node_tries.specs.Positions.{Ascends}
 use Rattle.partial_keys.specs.Columns.{AreColumnLanes, HoldsColumns, IsColumns}
-use Rattle.partial_keys.proofs.Codes.{code-append, code-falses}
+use Rattle.partial_keys.proofs.Rows.{code-append, code-falses}
 use Rattle.partial_keys.specs.declared.gathering.TheConstants.{MASKS}
 use Rattle.partial_keys.specs.Windows.{byte_lane, mask_lane, missed_lane}
 

@@ -13,9 +13,11 @@ dense_of columns bit = gathered bit columns
 abbrev pub row_of : List ℕ → List ℕ → ℕ
 row_of columns path = gathered (has path) columns
 
+-- the rows of a piece, a path each, in order
 abbrev pub rows_of : {A : Type 0} → List ℕ → Piece A → List ℕ
 rows_of columns piece = map (row_of columns) (paths piece)
 
+-- the row has a 1 only where the dense key has one
 abbrev pub complies : ℕ → ℕ → Bool
 complies dense row = eqb (bit_and dense row) row
 

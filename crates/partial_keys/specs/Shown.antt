@@ -14,5 +14,6 @@ shown x (suc w) (c ∷ cs) rows entries =
     cond (nat_eq k (length rows)) (shown x w cs rows entries)
     (Fork c (shown x w cs (take k rows) (take k entries)) (shown x w cs (map (λ row. row - 2 ^ w) (drop k rows)) (drop k entries)))
 
+-- the piece that rows show, with this entry where they show none
 abbrev pub piece_of : {A : Type 0} → A → List ℕ → List ℕ → List A → Piece A
 piece_of x columns rows entries = shown x 32 columns rows entries

@@ -87,7 +87,7 @@ pub fn extract_dense_key_by_lanes(lanes: u16x32, count: u8, key: &Key) -> u32
     let first = lanes.to_array()[0] as usize / 9;
     let key_length = key.as_bytes().len();
     let bytes = bytes_at(lanes);
-    if fits_window(bytes, first, key_length) {
+    if window_has_all_bits(bytes, first, key_length) {
         let (masks, window) = (masks_at(lanes), window_at(key, first));
         mark_zeros(find_missing_bits(bytes, masks, window, first as u8, (key_length - 1) as u8))
     } else {
@@ -98,7 +98,7 @@ pub fn extract_dense_key_by_lanes(lanes: u16x32, count: u8, key: &Key) -> u32
 /// Whether the sixteen bytes from byte `first` on have all bits at columns that a key of `key_length` bytes has. `bytes` says in which byte
 /// each column has its bit, never in one before `first`. False also for an empty key, and where the sixteen would end behind `MAX_BYTES`.
 #[inline(always)]
-fn fits_window(bytes: u8x32, first: usize, key_length: usize) -> bool
+fn window_has_all_bits(bytes: u8x32, first: usize, key_length: usize) -> bool
     requires lanes { length bytes ≡ 32 }
     requires short { key_length ≤ MAX_BYTES }
     ensures near { IsTrue result → (1 ≤ key_length) × (first + 16 ≤ MAX_BYTES) ×

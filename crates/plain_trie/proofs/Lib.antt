@@ -1,3 +1,2 @@
 -- The lemmas of the crate.
-pub mod Trees
-pub mod Inserting
+pub mod Views

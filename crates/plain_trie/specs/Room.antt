@@ -20,6 +20,7 @@ IsAtLimit v = (2 ^ 32 ≤ length v.leaves) ⊎ (2 ^ 32 < length v.nodes + most_n
 abbrev pub MustGrow : PlainView → Type 0
 MustGrow v = (v.leaf_capacity ≤ length v.leaves) ⊎ (v.node_capacity < length v.nodes + most_new_nodes v.top)
 
+-- a new key finds no room: there are as many leaves as may be, or the nodes must grow
 abbrev pub LacksRoom : PlainView → Type 0
 LacksRoom v = IsAtLimit v ⊎ MustGrow v
 

@@ -23,6 +23,7 @@ pub record PlainView : Type 0 where
 abbrev pub shown_tree : PlainView → Option Tree
 shown_tree v = option_and_then (λ e. entry_tree v.nodes v.leaves (height_of e) e) v.top
 
+-- the map of a tree that was read; empty where there is none
 abbrev pub map_read : Option Tree → Map
 map_read None = []
 map_read (Some t) = pairs (items t)

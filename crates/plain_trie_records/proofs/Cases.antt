@@ -14,7 +14,7 @@ use Rattle.insert_cases.specs.declared.raising.Risen.{Risen}
 use Rattle.insert_cases.specs.declared.raising.Risen.TheVariants.{Whole, Split}
 use Rattle.insert_cases.specs.Risen.{subtrie_of}
 use Rattle.insert_cases.specs.Ways.{below, body, case_of, is_leaf, stage, IsAffectedNode, WayBelow}
-use Rattle.insert_cases.proofs.Choosing.{part_of_two, size_affected, tip_child, tip_of_one_place}
+use Rattle.insert_cases.proofs.Ways.{part_of_two, size_affected, tip_child, tip_of_one_place}
 use Rattle.tries.specs.Affected.{affected, subtrie_forked, IsPart}
 use Rattle.tries.specs.Content.{Item}
 use Rattle.tries.specs.Keys.{Key, bit}
@@ -25,7 +25,7 @@ use Rattle.plain_trie_records.specs.declared.leaf.LeafRecord.{LeafRecord}
 use Rattle.plain_trie_records.specs.Cases.{IsOneSide, IsByCase, AddsByCase, DoesLevel, DoesCase, IsNewNode, IsPutBetween, DoesLevels, TakesFork, is_overflow, is_split}
 use Rattle.plain_trie_records.specs.Rising.{IsAddable, NoNode}
 use Rattle.plain_trie_records.specs.Risen.{AllStay, OthersStay}
-use Rattle.plain_trie_records.proofs.Climbing.{IsHere, child_addable, part, range}
+use Rattle.plain_trie_records.proofs.rising.Rising.{IsHere, child_addable, part, range}
 
 -- ---- what becomes of a node's record
 -- so where the new node is whole if there is room, and else one side is left

@@ -14,8 +14,8 @@ use Rattle.insert_cases.specs.declared.growth.Grown.TheVariants.{One as Whole, T
 use Rattle.plain_trie_records.specs.Heights.{Remains, HasHeightAnew, KeepsHeight, KeepsHeights, IsHalfSteady, IsGrownSteady}
 use Rattle.plain_trie_records.specs.Rising.{IsNew}
 use Rattle.plain_trie_records.specs.Risen.{OthersStay, AllStay, pushed_nodes, kept_nodes}
-use Rattle.insert_cases.proofs.Choosing.{some_injective}
-use Rattle.plain_trie_records.proofs.Storing.{set_back, push_back, push_old, others_kept, others_pushed}
+use Rattle.insert_cases.proofs.Ways.{some_injective}
+use Rattle.plain_trie_records.proofs.Risen.{set_back, push_back, push_old, others_kept, others_pushed}
 
 same_steady : {u v : NodeView} → v ≡ u → KeepsHeight u v
 same_steady e columns rows = ap (λ (n : NodeView). n.height) e

@@ -4,8 +4,8 @@ use Rattle.finite_map.specs.Maps.{value_at}
 use Rattle.tries.specs.Keys.{Key, bit}
 use Rattle.tries.specs.Tree.{Tree, leaf, node, fork, Has, IsTrie}
 use Rattle.tries.specs.Content.{items, pairs, IsIn}
-use Rattle.tries.proofs.Contents.{content_rises, in_append_left, in_append_right, holds_has}
-use Rattle.tries.proofs.Maps.{are_keys, lookup_in, value_holds}
+use Rattle.tries.proofs.Content.{content_rises, in_append_left, in_append_right, holds_has}
+use Rattle.tries.proofs.Content.Maps.{are_keys, lookup_in, value_holds}
 use Rattle.tries.specs.Search.{found}
 
 -- a search ends at a leaf of the tree

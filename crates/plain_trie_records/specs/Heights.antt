@@ -33,6 +33,7 @@ IsHalfSteady old (One entry) = Unit {0}
 IsHalfSteady old (Many node) = KeepsHeight old node
 IsHalfSteady old Same = Unit {0}
 
+-- what a node has grown to is no lower than it was
 abbrev pub IsGrownSteady : NodeView → Grown → Type 0
 IsGrownSteady old (Whole node) = KeepsHeight old node
 IsGrownSteady old (Two cut) = IsHalfSteady old cut.zero × IsHalfSteady old cut.one

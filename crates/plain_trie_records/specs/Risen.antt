@@ -25,6 +25,7 @@ pub record IsNamed (nodes : List NodeView) (old : NodeView) (entry : Entry) (sho
 abbrev pub IsFor : List NodeView → NodeView → Entry → Subtrie → Type 0
 IsFor nodes old entry shown = (shown ≡ Place entry) ⊎ IsNamed nodes old entry shown
 
+-- what has risen shows this subtrie: one entry, or two sides of a fork
 abbrev pub RisenShows : List NodeView → NodeView → Risen → Subtrie → Type 0
 RisenShows nodes old (Whole entry) shown = IsNamed nodes old entry shown
 RisenShows nodes old (Split position zero one) shown = AtRootFork (λ p a b. (position ≡ p) × IsFor nodes old zero a × IsFor nodes old one b) shown
@@ -43,6 +44,7 @@ pushed_nodes nodes (One entry) = nodes
 pushed_nodes nodes (Many node) = nodes ++ node ∷ []
 pushed_nodes nodes Same = nodes
 
+-- its entry, where that node has this number
 abbrev pub pushed_entry : ℕ → Entry → Half → Entry
 pushed_entry number old (One entry) = entry
 pushed_entry number old (Many node) = Node number node.height
@@ -54,6 +56,7 @@ kept_nodes nodes number (One entry) = nodes
 kept_nodes nodes number (Many node) = slice_set nodes number node
 kept_nodes nodes number Same = nodes
 
+-- its entry, where the node has the number of the old one
 abbrev pub kept_entry : ℕ → Entry → Half → Entry
 kept_entry number old (One entry) = entry
 kept_entry number old (Many node) = Node number node.height

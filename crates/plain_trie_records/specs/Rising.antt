@@ -52,6 +52,7 @@ pub record Records : Type 0 where
   pub nodes : List NodeView
   pub leaves : List LeafRecord
 
+-- the records of these nodes and leaves
 abbrev pub records : List NodeView → List LeafRecord → Records
 records nodes leaves = record { nodes = nodes; leaves = leaves }
 
@@ -62,6 +63,7 @@ pub record Level : Type 0 where
   pub at : ℕ
   pub low : ℕ
 
+-- a level of a way, of these numbers
 abbrev pub level : ℕ → ℕ → ℕ → ℕ → Level
 level number height at low = record { number = number; height = height; at = at; low = low }
 

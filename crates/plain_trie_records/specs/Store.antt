@@ -42,5 +42,6 @@ pub record ShowsSound (nodes : List NodeView) (leaves : List LeafRecord) (t : Tr
   pub shown : ShowsTree nodes leaves t
   pub sound : IsSound t
 
+-- the record of a leaf with this key and value
 abbrev pub item_record : Item → LeafRecord
 item_record x = record { key = x.key; value = x.value }

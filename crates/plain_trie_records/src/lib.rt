@@ -32,4 +32,4 @@ pub use overflow::place;
 pub use places::Place;
 pub use rising::{make_root, raise_newcomer};
 pub use room::make_room;
-pub use scanning::{Range, scan_below};
+pub use scanning::{ScanRange, scan_below};

@@ -16,7 +16,7 @@ use std::alloc::AllocError;
 
 /// The range of a scan, and how many pairs it returns at most.
 #[derive(Clone, Copy)]
-pub struct Range<'a> {
+pub struct ScanRange<'a> {
     /// The first key of the range.
     pub from: &'a Key,
     /// The last key of the range, itself included.
@@ -32,7 +32,7 @@ pub fn scan_below(
     nodes: &Vec<Node>,
     leaves: &Vec<LeafRecord>,
     entry: Entry,
-    range: Range,
+    range: ScanRange,
     scan: &mut Scan,
 ) -> Result<(), AllocError>
     requires shown { (t : Tree) × (subtrie t ≡ At entry) × ShowsSound nodes.now.items leaves.now.items t }
@@ -55,7 +55,7 @@ pub fn scan_below(
 
 /// Goes on with `scan`, a scan of the pairs before `leaf`: adds the leaf's pair if its key is in `range`. Where the limit is reached it
 /// sets `more` instead. `AllocError` if memory is refused for the pair.
-fn scan_leaf(leaf: &LeafRecord, range: Range, scan: &mut Scan) -> Result<(), AllocError>
+fn scan_leaf(leaf: &LeafRecord, range: ScanRange, scan: &mut Scan) -> Result<(), AllocError>
     ensures scan { (m : Map) → IsScanOf m range.entry.from.now range.entry.upto.now range.entry.limit scan.old →
         MatchResult result (λ _. IsScanOf (m ++ (leaf.now.key, leaf.now.value) ∷ []) range.entry.from.now range.entry.upto.now range.entry.limit scan.new)
         (λ _. take range.entry.limit (range_of (m ++ (leaf.now.key, leaf.now.value) ∷ []) range.entry.from.now range.entry.upto.now) ≢ []) }
@@ -73,7 +73,7 @@ fn scan_leaf(leaf: &LeafRecord, range: Range, scan: &mut Scan) -> Result<(), All
 }
 
 /// Whether `key` is neither below `range` nor above it.
-fn is_in_range(range: Range, key: &Key) -> bool
+fn is_in_range(range: ScanRange, key: &Key) -> bool
     ensures { result ≡ is_within range.entry.from.now range.entry.upto.now key.now }
 {
     *range.from <= *key && !(*range.upto < *key)

@@ -10,9 +10,9 @@ use Rattle.rowex_core.specs.Having.{OwnsJust, LocksJust, IsUnlinkedBefore, is_am
 use Rattle.rowex_table.proofs.Rights.{unlocks_anchor}
 use Rattle.std.specs.Prelude.{not}
 use Rattle.record_words.specs.declared.records.Rec.TheVariants.{Node as a_node}
-use Rattle.rowex_core.proofs.Kept.{kept_are_not_gone, filter_apart}
+use Rattle.rowex_core.proofs.Having.Kept.{kept_are_not_gone, filter_apart}
 use Rattle.rowex_core.proofs.Having.{owns_none, locks_none}
-use Rattle.rowex_table.proofs.ActsAfter.{marks_own, unlocks_node, unlock_round, epoch_owns, epoch_leaves, mark_gives, mark_leaves, unlock_gives, unlock_leaves, unlock_anchor_gives}
+use Rattle.rowex_table.proofs.Made.ActsAfter.{marks_own, unlocks_node, unlock_round, epoch_owns, epoch_leaves, mark_gives, mark_leaves, unlock_gives, unlock_leaves, unlock_anchor_gives}
 use Rattle.rowex_table.specs.Runs.{silent}
 use Rattle.publish_laws.specs.Ending.{KeptAreNotGone, EndInAnyOrder, EndBegins, EndMarks, EndRests, EndUnlocks, EndUnlocksAnchor, EndsAtOnce, MarksEach, Settles, UnlocksEach}
 

@@ -1,15 +1,11 @@
 -- The lemmas of the crate.
 pub mod Stages
-pub mod Holding
-pub mod Publishing
-pub mod Bounding
+pub mod Spots
 pub mod Sure
-pub mod Rising
-pub mod Inserting
+pub mod Rises
 pub mod Insertions
-pub mod Valuing
-pub mod Replacing
-pub mod Merging
-pub mod Acting
+pub mod Cases
+pub mod Acts
 pub mod Loops
 pub mod Ending
+pub mod Lone

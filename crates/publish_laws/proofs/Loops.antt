@@ -13,13 +13,13 @@ use Rattle.rowex_core.specs.Reading.{IsPacked}
 use Rattle.rowex_core.specs.Knowing.{Knows, IsEvent}
 use Rattle.rowex_core.specs.declared.event.Act.{Act}
 use Rattle.rowex_table.specs.Stays.{KeepsRecall, LeavesLocks, LeavesAnchor}
-use Rattle.rowex_table.proofs.ActsLeave.{act_leaves}
+use Rattle.rowex_table.proofs.Made.ActsLeave.{act_leaves}
 use Rattle.rowex_core.specs.Sharing.{IsOwned}
-use Rattle.rowex_core.proofs.Owning.{knows_all}
+use Rattle.rowex_core.proofs.Sharing.Owning.{knows_all}
 use Rattle.rowex_core.proofs.Having.{owned_used}
 use Rattle.versions.specs.Trades.{IsOneOf, AreApart}
-use Rattle.versions.proofs.Members.{of_right, all_of}
-use Rattle.rowex_table.proofs.ActsBefore.{ready_gives_next, recalls_on, later_trans, same_later, value_loaded}
+use Rattle.versions.proofs.Trades.{of_right, all_of}
+use Rattle.rowex_table.proofs.Made.ActsBefore.{ready_gives_next, recalls_on, later_trans, same_later, value_loaded}
 use Rattle.rowex_table.specs.Runs.{silent}
 use Rattle.rowex_table.specs.Made.{HasReadied, IsLater, Made, held_as, recs_of, HoldsMade}
 use Rattle.publish_laws.specs.Loops.{KeepsLoaded, KeepsValues, ReadiesEach, StaysLocked}

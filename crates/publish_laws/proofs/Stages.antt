@@ -1,4 +1,5 @@
 -- What holds in each core in which a writer's records are made, from their words and those of its locks.
+pub mod Valuing
 use Rattle.std.proofs.Common.{◌≡◌, inl, inr, ℕ, ◌+◌, ◌-◌, ◌*◌, ◌<◌, ◌≤◌, List, length, set, Some, refl, sym, ap, ap₂, subst, ◌∙◌, arith}
 use Rattle.std.specs.Prelude.{All}
 use Rattle.compound_node.specs.declared.entries.Entry.{Entry}
@@ -17,10 +18,10 @@ use Rattle.tries.specs.Content.{Item}
 use Rattle.tries.specs.Place.{spot, with_entry}
 use Rattle.tries.specs.Affected.{subtrie_affected, IsLowerSubtrie, IsTipSubtrie, FirstForkIsBefore}
 use Rattle.tries.specs.Search.{seek}
-use Rattle.tries.proofs.Places.{spot_below}
+use Rattle.tries.proofs.Place.{spot_below}
 use Rattle.record_words.specs.declared.records.Rec.TheVariants.{Node as a_node, Leaf as a_leaf}
 use Rattle.versions.specs.Heap.{NodeWords}
-use Rattle.versions.proofs.Legal.{same_rec_refl}
+use Rattle.versions.proofs.Core.{same_rec_refl}
 use Rattle.version_laws.specs.Writer.{IsNewLeaf, IsSubtrieStored}
 use Rattle.version_laws.specs.Spots.{IsLockedNode}
 use Rattle.version_laws.specs.Rise.{IsNewSubtrie, IsUpper}
@@ -32,19 +33,19 @@ use Rattle.rowex_core.specs.Cores.{Core, IsLawful, IsWhole, bare, heap_of}
 use Rattle.rowex_core.specs.Events.{IsPackedAt, IsLockedAt, stored_words}
 use Rattle.rowex_core.specs.Sharing.{IsLocked, IsOwned}
 use Rattle.rowex_core.specs.Knowing.{Knows}
-use Rattle.rowex_core.proofs.Owning.{knows_all, recalls}
+use Rattle.rowex_core.proofs.Sharing.Owning.{knows_all, recalls}
 use Rattle.rowex_core.specs.declared.known.Holding.TheVariants.{Ready}
-use Rattle.rowex_core.proofs.Leafing.{leaf_is}
+use Rattle.rowex_core.proofs.Reading.Leafing.{leaf_is}
 use Rattle.rowex_core.proofs.Reading.{node_is}
-use Rattle.rowex_core.proofs.Publishing.{other_words}
+use Rattle.rowex_core.proofs.Cores.Publishing.{other_words}
 use Rattle.versions.specs.Trades.{IsOneOf}
-use Rattle.versions.proofs.Members.{of_left, of_right, all_of, map_of}
+use Rattle.versions.proofs.Trades.{of_left, of_right, all_of, map_of}
 use Rattle.rowex_core.proofs.Having.{node_used}
-use Rattle.rowex_core.proofs.Slots.{slot_is_stored}
+use Rattle.rowex_core.proofs.Writers.Slots.{slot_is_stored}
 use Rattle.rowex_table.specs.Made.{Made, held_as}
 use Rattle.publish_laws.specs.Stages.{HasReady, HasLeaf, IsLockedAbove, IsStage}
-use Rattle.versions.proofs.Heaps.{node_number, leaf_node}
-use Rattle.tries.proofs.Building.{size-piece}
+use Rattle.versions.proofs.Heap.{node_number, leaf_node}
+use Rattle.tries.proofs.Tree.Building.{size-piece}
 
 abbrev pub node_fixed : NodeView → Fixed
 node_fixed v = record { height = v.height; columns = v.columns; rows = v.rows }

@@ -12,7 +12,7 @@ use Rattle.version_laws.specs.Scan.{EntryStoodSince, IsShaped, IsPlaced, IsRead}
 use Rattle.versions.specs.State.{Past, IsReach, IsSteady}
 use Rattle.versions.specs.Core.{pin_version}
 use Rattle.versions.specs.Frames.{IsGrown}
-use Rattle.versions.proofs.States.{steady}
+use Rattle.versions.proofs.State.{steady}
 use Rattle.version_laws.specs.Writer.{IsWayBelow, Newcomer}
 use Rattle.version_laws.proofs.Ways.{way_begins, way_goes_on, way_ends, way_is_below}
 use Rattle.rowex_core.specs.declared.known.Known.{Known}
@@ -22,8 +22,8 @@ use Rattle.rowex_core.specs.Knowing.{Recalls, IsPinnedSince}
 use Rattle.rowex_table.specs.Made.{IsLater}
 use Rattle.publish_laws.specs.Stages.{IsSure}
 use Rattle.publish_laws.specs.Sure.{DescentFinds}
-use Rattle.rowex_core.proofs.Loading.{view}
-use Rattle.rowex_table.proofs.ActsBefore.{recalls_before}
+use Rattle.rowex_core.proofs.Cores.Loading.{view}
+use Rattle.rowex_table.proofs.Made.ActsBefore.{recalls_before}
 
 -- what stood since a pass's pin is still in that life, in each core in which it recalls its pin
 pub reach_since : (k : Known) (m : ℕ) → IsPinnedSince k m → (c : Core) → IsLawful c → Recalls c k → IsReach (view c) m

@@ -6,6 +6,9 @@ ghost use Rattle.publish_laws.specs.Ending.{EndBegins, EndInAnyOrder, EndMarks, 
 ghost use Rattle.publish_laws.specs.Insertions.{Insertion, NormalInsert, Overflow, PullUp, PullUpOverflow, StaysWhole};
 ghost use Rattle.publish_laws.specs.Rises.{AboveGoesOn};
 ghost use Rattle.publish_laws.specs.Sure.{DescentFinds};
+ghost use Rattle.publish_laws.specs.Lone.{FreeStays, SpareStays};
+
+use rowex_core::Gate;
 
 // What a pass is sure of: it is true of the past in each lawful state in which all is true that the pass recalls
 
@@ -164,4 +167,17 @@ pub fn end_leaves_nothing()
 /// Its front, which ends with its own change, and the lock of the anchor are as they were after the publish.
 pub fn finished_end_leaves_nothing()
     ensures { Settles }
+{}
+
+// Runs of one pass
+
+/// In a table with one pass steps that are no publishes leave a node record outside the tree, where one stood there.
+pub fn spare_stays<G: Gate>()
+    ensures { SpareStays G.becomes }
+{}
+
+/// In a table with one pass, let steps that are no publishes begin and end where the pass has no record. They leave each node record free that
+/// was free.
+pub fn free_stays<G: Gate>()
+    ensures { FreeStays G.becomes }
 {}

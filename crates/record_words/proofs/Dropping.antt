@@ -10,7 +10,7 @@ use Rattle.std.proofs.lemmas.Option.{slice_get-get_or, slice_get_past}
 use Rattle.compound_node.specs.declared.entries.Entry.{Entry}
 use Rattle.compound_node.specs.declared.entries.Entry.TheVariants.{Leaf, Node}
 use Rattle.compound_node.specs.Nodes.{IsEntry, IsLawfulNode, NodeView, StandsBelow, greatest_height, head_of, height_of, piece}
-use Rattle.compound_node.proofs.Taken.{one_left}
+use Rattle.compound_node.proofs.Removal.Taken.{one_left}
 use Rattle.node_tries.specs.Changes.{without}
 use Rattle.node_tries.specs.Piece.{Place}
 use Rattle.record_words.specs.Entry.{HasEntryWord, entry_word}

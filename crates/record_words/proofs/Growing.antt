@@ -9,12 +9,12 @@ use Rattle.std.proofs.lemmas.Option.{slice_get-get_or, slice_get_past}
 use Rattle.compound_node.specs.declared.entries.Entry.{Entry}
 use Rattle.compound_node.specs.declared.entries.Entry.TheVariants.{Leaf}
 use Rattle.compound_node.specs.Nodes.{NodeView, IsLawfulNode, head_of}
-use Rattle.compound_node.proofs.Forks.{NewLeaf, new_leaf}
+use Rattle.compound_node.proofs.Forking.{NewLeaf, new_leaf}
 use Rattle.compound_node.proofs.Lawful.{same_count}
 use Rattle.record_words.specs.Entry.{HasEntryWord, entry_word}
 use Rattle.record_words.specs.Node.{HasNodeWords, HaveEntryWords, CanGrowAt, entry_words, head_words, node_words}
 use Rattle.record_words.proofs.Nodes.{head_part, length-head_words, length-node_words, node_words-entry}
-use Rattle.record_words.proofs.Spelled.{entries_counted, height_read}
+use Rattle.record_words.proofs.Reading.{entries_counted, height_read}
 
 -- ---- a word put in among the first `count`, over the one behind them
 abbrev pub put : List ℕ → (count at word : ℕ) → List ℕ

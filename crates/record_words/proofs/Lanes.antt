@@ -12,7 +12,7 @@ use Rattle.compound_node.specs.Nodes.{NodeView, IsLawfulNode}
 use Rattle.compound_node.proofs.Lawful.{same_count}
 use Rattle.record_words.specs.Kinds.{with_free_to_16}
 use Rattle.record_words.specs.Packed.{position_at, row_at, row_word}
-use Rattle.record_words.proofs.Digits.{base_8, number-lt, number_of_digits}
+use Rattle.record_words.proofs.near.Digits.{base_8, number-lt, number_of_digits}
 use Rattle.record_words.proofs.Lawful.{get_or-padded, length-with_unused}
 use Rattle.partial_keys.specs.Columns.{AreColumnLanes, IsColumns}
 use Rattle.partial_keys.specs.Rows.{with_unused}

@@ -2,7 +2,7 @@
 use Rattle.std.proofs.Common.{ℕ, ◌≡◌, ◌-◌, ◌^◌, ◌<◌, ◌≤◌, ◌++◌, ⊎_elim, arith, List, [], ◌∷◌, get_or, length, replicate, lit<, sym, ◌∙◌, refl, zero, suc, length-append}
 use Rattle.std.proofs.lemmas.Bool.{cases_lt}
 use Rattle.std.proofs.lemmas.List.{length-map, length-replicate, get_or-map, get_or_past, get_or_append_left, get_or-append_right, get_or-replicate}
-use Rattle.key_bits.proofs.Gathering.{code-lt}
+use Rattle.key_bits.proofs.Gather.{code-lt}
 use Rattle.node_tries.specs.Positions.{AllBelow}
 use Rattle.node_tries.specs.Piece.{paths}
 use Rattle.partial_keys.specs.Rows.{row_of, with_unused}

@@ -11,7 +11,7 @@ use Rattle.key_bits.specs.Key.{HoldsKey, with_zeros}
 use Rattle.key_bits.proofs.Holding.{holds, length-with_zeros}
 use Rattle.record_words.proofs.Lawful.{get_or-padded}
 use Rattle.record_words.proofs.Bytes.{same_key_bytes}
-use Rattle.record_words.proofs.Offsets.{words_by_offset, word_by_offset}
+use Rattle.record_words.proofs.leaf.Offsets.{words_by_offset, word_by_offset}
 
 -- the three parts of a leaf's words
 pub record IsLeafOf (leaf : List ℕ × ℕ) (words : List ℕ) : Type 0 where
@@ -33,7 +33,7 @@ leaf_words_parts leaf words same = record {
   bytes = λ j small. word_by_offset (leaf_word leaf) words 32 (2 + j) same (omega arith) ∙ grind (arith, nat_tests);
 }
 
-byte-lt : (key : List ℕ) → All (λ byte. byte < 256) key → (i : ℕ) → get_or key i 0 < 256
+pub byte-lt : (key : List ℕ) → All (λ byte. byte < 256) key → (i : ℕ) → get_or key i 0 < 256
 byte-lt key bytes i =
     ⊎_elim (λ (inside : i < length key). All-get_or (λ byte. byte < 256) key i 0 inside bytes) (λ (past : length key ≤ i). rw (get_or_past key i 0 past) (lit< tt)) (cases_lt i (length key))
 

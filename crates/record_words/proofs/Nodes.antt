@@ -7,17 +7,17 @@ use Rattle.compound_node.proofs.Lawful.{same_count}
 use Rattle.record_words.specs.Entry.{entry_word}
 use Rattle.record_words.specs.Kinds.{bit_mask, first_byte, kind_of, mask_index, position_index}
 use Rattle.record_words.specs.Node.{HasNodeWords, head_words, entry_words, node_words}
-use Rattle.record_words.specs.declared.kind.Kind.{Kind}
-use Rattle.record_words.specs.declared.kind.Kind.TheVariants.{Middle, Narrow, Wide}
+use Rattle.record_words.specs.declared.kind.HeadKind.{HeadKind}
+use Rattle.record_words.specs.declared.kind.HeadKind.TheVariants.{Middle, Narrow, Wide}
 use Rattle.record_words.proofs.Entries.{length-entry_words, entry_words_at, same_entries}
-use Rattle.record_words.proofs.Fixing.{columns_same, rows_same}
+use Rattle.record_words.proofs.fixed.Fixing.{columns_same, rows_same}
 use Rattle.record_words.proofs.Heads.{same_fields}
-use Rattle.record_words.proofs.HeadsByKind.{Tells, head_parts}
+use Rattle.record_words.proofs.HeadParts.HeadsByKind.{Tells, head_parts}
 use Rattle.record_words.proofs.Lawful.{column-lt, row-lt}
-use Rattle.record_words.proofs.NearLanes.{first_lowest, lane_read, used_lane}
-use Rattle.record_words.proofs.NearKinds.{IsNearKind, middle_kind, narrow_kind}
+use Rattle.record_words.proofs.near.NearLanes.{first_lowest, lane_read, used_lane}
+use Rattle.record_words.proofs.near.NearKinds.{IsNearKind, middle_kind, narrow_kind}
 use Rattle.record_words.proofs.OfKinds.{are_near_unless_wide}
-use Rattle.record_words.proofs.TellingHead.{near_index, near_mask, near_row_is, told, wide}
+use Rattle.record_words.proofs.HeadParts.{near_index, near_mask, near_row_is, told, wide}
 
 -- ---- the two parts of a node's words
 pub length-head_words : (node : NodeView) → length (head_words (head_of node)) ≡ 25
@@ -84,13 +84,13 @@ module _ (a b : NodeView) (lawful_a : IsLawfulNode a) (lawful_b : IsLawfulNode b
   near_columns : kind_of b.columns ≢ Wide → a.columns ≡ b.columns
   near_columns other = ext_get_or 0 a.columns b.columns as_many (near_column other)
 
-  near_both : (kind : Kind) → IsNearKind kind → kind_of b.columns ≡ kind → (a.columns ≡ b.columns) × (a.rows ≡ b.rows)
+  near_both : (kind : HeadKind) → IsNearKind kind → kind_of b.columns ≡ kind → (a.columns ≡ b.columns) × (a.rows ≡ b.rows)
   near_both kind near e = (
     near_columns (λ wide. near.other (sym e ∙ wide)),
     ext_get_or 0 a.rows b.rows counts (λ i h. sym (near_row_is a lawful_a words same kind near (kinds ∙ e) i h) ∙ near_row_is b lawful_b words refl kind near e i (omega (arith, h, counts))),
   )
 
-  both : (kind : Kind) → kind_of b.columns ≡ kind → (a.columns ≡ b.columns) × (a.rows ≡ b.rows)
+  both : (kind : HeadKind) → kind_of b.columns ≡ kind → (a.columns ≡ b.columns) × (a.rows ≡ b.rows)
   both Wide e =
       let fixed_a = wide a lawful_a words same (kinds ∙ e) in
       let fixed_b = wide b lawful_b words refl e in (

@@ -5,8 +5,8 @@ use Rattle.std.proofs.lemmas.Bool.{eqb-false, false≢true, le-leb, leb-true, lt
 use Rattle.partial_keys.specs.Columns.{IsColumns}
 use Rattle.node_tries.specs.Positions.{all}
 use Rattle.record_words.specs.Kinds.{HasNearLanes, are_near, first_byte, is_near, kind_of}
-use Rattle.record_words.specs.declared.kind.Kind.{Kind}
-use Rattle.record_words.specs.declared.kind.Kind.TheVariants.{Middle, Narrow, Wide}
+use Rattle.record_words.specs.declared.kind.HeadKind.{HeadKind}
+use Rattle.record_words.specs.declared.kind.HeadKind.TheVariants.{Middle, Narrow, Wide}
 
 -- a position in the sixteen bytes from this one on, and not the bit that says that there is a byte
 pub record IsNear (first p : ℕ) : Type 0 where
@@ -27,7 +27,7 @@ and_right : (a b : Bool) → a && b ≡ true → b ≡ true
 and_right true b e = e
 and_right false b e = absurd (false≢true e)
 
-not_true : (b : Bool) → not b ≡ true → b ≡ false
+pub not_true : (b : Bool) → not b ≡ true → b ≡ false
 not_true true e = absurd (false≢true e)
 not_true false e = refl
 
@@ -96,10 +96,10 @@ has_near_lanes columns positions other = record {
 }
 
 -- no kind is another
-pub narrow-not-wide : (kind : Kind) → kind ≡ Narrow → kind ≢ Wide
+pub narrow-not-wide : (kind : HeadKind) → kind ≡ Narrow → kind ≢ Wide
 narrow-not-wide kind e wide = cc
 
-pub middle-not-wide : (kind : Kind) → kind ≡ Middle → kind ≢ Wide
+pub middle-not-wide : (kind : HeadKind) → kind ≡ Middle → kind ≢ Wide
 middle-not-wide kind e wide = cc
 
 pub narrow_few : (columns : List ℕ) → kind_of columns ≡ Narrow → length columns ≤ 8

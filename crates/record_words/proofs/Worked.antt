@@ -2,7 +2,7 @@
 use Rattle.std.proofs.Common.{◌≡◌, List, ℕ, [], ◌∷◌, refl, replicate}
 use Rattle.record_words.specs.Kinds.{kind_of, lane_words}
 use Rattle.record_words.specs.Packed.{kind_words, position_word, row_word}
-use Rattle.record_words.specs.declared.kind.Kind.TheVariants.{Middle, Narrow}
+use Rattle.record_words.specs.declared.kind.HeadKind.TheVariants.{Middle, Narrow}
 
 abbrev columns : List ℕ
 columns = 7 ∷ 8 ∷ []

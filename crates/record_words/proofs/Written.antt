@@ -11,8 +11,8 @@ use Rattle.partial_keys.specs.Rows.{with_unused}
 use Rattle.record_words.specs.Entry.{HasEntryWord, entry_word}
 use Rattle.record_words.specs.Node.{HaveEntryWords, head_words, entry_words, node_words}
 use Rattle.record_words.specs.Packed.{fixed_words, row_at, row_word}
-use Rattle.record_words.proofs.Fixing.{fixed_words-same}
-use Rattle.record_words.proofs.HeadsByKind.{head_parts}
+use Rattle.record_words.proofs.fixed.Fixing.{fixed_words-same}
+use Rattle.record_words.proofs.HeadParts.HeadsByKind.{head_parts}
 use Rattle.record_words.proofs.Lawful.{row_at-with_unused}
 use Rattle.record_words.proofs.Nodes.{length-head_words, node_words-entry}
 use borrow.Rule.Slice.PartMut.{mid_of, put_mid}

@@ -9,8 +9,8 @@ use Rattle.compound_node.specs.declared.entries.Entry.TheVariants.{Leaf, Node}
 use Rattle.key_bits.specs.declared.TheConstants.{MAX_BYTES}
 use Rattle.record_words.specs.Entry.{entry_word}
 use Rattle.record_words.specs.Kinds.{kind_in, mask_index, position_index}
-use Rattle.record_words.specs.declared.kind.Kind.{Kind}
-use Rattle.record_words.specs.declared.kind.Kind.TheVariants.{Wide, Narrow, Middle}
+use Rattle.record_words.specs.declared.kind.HeadKind.{HeadKind}
+use Rattle.record_words.specs.declared.kind.HeadKind.TheVariants.{Wide, Narrow, Middle}
 use Rattle.record_words.specs.declared.TheConstants.{FIRST_KEY_WORD, FIRST_MIDDLE_ROWS, FIRST_NARROW_ROWS, FIRST_POSITIONS, FIRST_ROWS, HEIGHT_BIT, LENGTH_INDEX, NUMBERS_INDEX, VALUE_INDEX}
 
 -- ---- an entry word
@@ -44,19 +44,19 @@ abbrev pub column_byte : ℕ → ℕ → ℕ
 column_byte j word = word / 2 ^ (8 * (7 - j % 8)) % 2 ^ 8
 
 -- a near column: how many bytes behind the first one its byte is, and the mask of its bit
-abbrev pub near_column_in : Kind → List ℕ → ℕ → ℕ
+abbrev pub near_column_in : HeadKind → List ℕ → ℕ → ℕ
 near_column_in kind head j =
     9 * (first_byte_in (numbers_in head) + column_byte j (get_or head (position_index kind j) 0)) +
     1 + count_leading_zeros 8 (column_byte j (get_or head (mask_index kind j) 0))
 
 -- the position of column j in the words of a head of this kind; a wide one has it in 16 bits
-abbrev pub column_in : Kind → List ℕ → ℕ → ℕ
+abbrev pub column_in : HeadKind → List ℕ → ℕ → ℕ
 column_in Wide head j = get_or head (FIRST_POSITIONS + j / 4) 0 / 2 ^ (16 * (j % 4)) % 2 ^ 16
 column_in Narrow head j = near_column_in Narrow head j
 column_in Middle head j = near_column_in Middle head j
 
 -- the sparse partial key of place i in the words of a head of this kind: its highest 8 or 16 bits, or all 32
-abbrev pub row_in : Kind → List ℕ → ℕ → ℕ
+abbrev pub row_in : HeadKind → List ℕ → ℕ → ℕ
 row_in Wide head i = get_or head (FIRST_ROWS + i / 2) 0 / 2 ^ (32 * (i % 2)) % 2 ^ 32
 row_in Narrow head i = get_or head (FIRST_NARROW_ROWS + i / 8) 0 / 2 ^ (8 * (i % 8)) % 2 ^ 8 * 2 ^ 24
 row_in Middle head i = get_or head (FIRST_MIDDLE_ROWS + i / 4) 0 / 2 ^ (16 * (i % 4)) % 2 ^ 16 * 2 ^ 16

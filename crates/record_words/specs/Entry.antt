@@ -10,6 +10,7 @@ HasEntryWord None = Unit {0}
 HasEntryWord (Some (Leaf number)) = number < 2 ^ 32
 HasEntryWord (Some (Node number height)) = (number < 2 ^ 32) × (1 ≤ height) × (height < 2 ^ 16)
 
+-- the word of an entry, or of none
 abbrev pub entry_word : Option Entry → ℕ
 entry_word None = 0
 entry_word (Some (Leaf number)) = 4 * number + 1

@@ -3,17 +3,17 @@ use Rattle.std.specs.Prelude.{ℕ, ◌≡◌, ◌≢◌, List, drop, length, sli
 use Rattle.compound_node.specs.Nodes.{HeadView, IsLawfulNode, NodeView, head_of}
 use Rattle.record_words.specs.Kinds.{first_byte, kind_of}
 use Rattle.record_words.specs.Node.{HasHeadWords, head_words}
-use Rattle.record_words.specs.declared.kind.Kind.{Kind}
-use Rattle.record_words.specs.declared.kind.Kind.TheVariants.{Wide}
+use Rattle.record_words.specs.declared.kind.HeadKind.{HeadKind}
+use Rattle.record_words.specs.declared.kind.HeadKind.TheVariants.{Wide}
 use Rattle.record_words.specs.declared.numbers.HeadNumbers.{HeadNumbers}
 use Rattle.record_words.specs.declared.TheConstants.{FIRST_ROWS, MIDDLE_HEAD_WORDS, NARROW_HEAD_WORDS}
 
 -- some node has the head, and it is of this kind
-abbrev pub HasHeadOf : Kind → HeadView → Type 0
+abbrev pub HasHeadOf : HeadKind → HeadView → Type 0
 HasHeadOf kind head = HasHeadWords head × (kind_of head.columns ≡ kind)
 
 -- each node whose head is of this kind, and has these words in this part, is so
-abbrev pub InNodesOfKind : Kind → (HeadView → List ℕ) → List ℕ → (NodeView → Type 0) → Type 0
+abbrev pub InNodesOfKind : HeadKind → (HeadView → List ℕ) → List ℕ → (NodeView → Type 0) → Type 0
 InNodesOfKind kind part words IsSo = (node : NodeView) → IsLawfulNode node → kind_of node.columns ≡ kind → part (head_of node) ≡ words → IsSo node
 
 -- the words of a wide head with the numbers and the positions
@@ -28,6 +28,7 @@ back_words head = drop FIRST_ROWS (head_words head)
 abbrev pub narrow_words : HeadView → List ℕ
 narrow_words head = take NARROW_HEAD_WORDS (head_words head)
 
+-- the words of a head that a search of a middle one loads
 abbrev pub middle_words : HeadView → List ℕ
 middle_words head = take MIDDLE_HEAD_WORDS (head_words head)
 

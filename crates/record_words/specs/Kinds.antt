@@ -5,8 +5,8 @@ use lib.Lanes.{digits_l, number_l}
 use Rattle.key_bits.specs.declared.TheConstants.{MAX_BYTES}
 use Rattle.partial_keys.specs.Columns.{IsColumns}
 use Rattle.node_tries.specs.Positions.{all}
-use Rattle.record_words.specs.declared.kind.Kind.{Kind}
-use Rattle.record_words.specs.declared.kind.Kind.TheVariants.{Wide, Narrow, Middle}
+use Rattle.record_words.specs.declared.kind.HeadKind.{HeadKind}
+use Rattle.record_words.specs.declared.kind.HeadKind.TheVariants.{Wide, Narrow, Middle}
 use Rattle.record_words.specs.declared.TheConstants.{FIRST_MIDDLE_ROWS, FIRST_NARROW_ROWS, FIRST_POSITIONS, FIRST_ROWS, HEAD_WORDS, MIDDLE_COLUMNS, MIDDLE_HEAD_WORDS, NARROW_COLUMNS, NARROW_HEAD_WORDS, WINDOW_BYTES}
 
 -- the byte of a key that has the bit at the first column
@@ -22,50 +22,45 @@ abbrev pub are_near : List ℕ → Bool
 are_near columns = nat_le (first_byte columns + WINDOW_BYTES) MAX_BYTES && all (is_near (first_byte columns)) columns
 
 -- the smallest kind that can spell the columns
-abbrev pub kind_of : List ℕ → Kind
+abbrev pub kind_of : List ℕ → HeadKind
 kind_of columns = cond (are_near columns && nat_le (length columns) MIDDLE_COLUMNS) (cond (nat_le (length columns) NARROW_COLUMNS) Narrow Middle) Wide
 
 -- how many words of a head say something
-abbrev pub head_size : Kind → ℕ
+abbrev pub head_size : HeadKind → ℕ
 head_size Wide = HEAD_WORDS
 head_size Narrow = NARROW_HEAD_WORDS
 head_size Middle = MIDDLE_HEAD_WORDS
 
 -- the index of the first word with rows, and how many rows a word has
-abbrev pub rows_from : Kind → ℕ
+abbrev pub rows_from : HeadKind → ℕ
 rows_from Wide = FIRST_ROWS
 rows_from Narrow = FIRST_NARROW_ROWS
 rows_from Middle = FIRST_MIDDLE_ROWS
 
-abbrev pub rows_a_word : Kind → ℕ
+-- how many rows a word of a head has, by its kind
+abbrev pub rows_a_word : HeadKind → ℕ
 rows_a_word Wide = 2
 rows_a_word Narrow = 8
 rows_a_word Middle = 4
 
 -- what the first word of a head says of its kind, and of the byte from which a near one counts; a wide head has 0
-abbrev pub kind_part : Kind → List ℕ → ℕ
+abbrev pub kind_part : HeadKind → List ℕ → ℕ
 kind_part Wide columns = 0
 kind_part Narrow columns = 2 ^ 40 + 2 ^ 32 * first_byte columns
 kind_part Middle columns = 2 ^ 41 + 2 ^ 32 * first_byte columns
 
 -- the kind that the first word of a head tells
-abbrev pub kind_in : ℕ → Kind
+abbrev pub kind_in : ℕ → HeadKind
 kind_in word = cond (eqb (word / 2 ^ 40) 1) Narrow (cond (eqb (word / 2 ^ 40) 2) Middle Wide)
 
--- the index behind the last word in which so many columns have something
-abbrev pub columns_end : Kind → ℕ → ℕ
-columns_end Wide count = FIRST_POSITIONS + (count + 3) / 4
-columns_end Narrow count = FIRST_NARROW_ROWS
-columns_end Middle count = FIRST_MIDDLE_ROWS
-
 -- the index of the word with the position of a column, or with the index of its byte
-abbrev pub position_index : Kind → ℕ → ℕ
+abbrev pub position_index : HeadKind → ℕ → ℕ
 position_index Wide column = FIRST_POSITIONS + column / 4
 position_index Narrow column = FIRST_POSITIONS
 position_index Middle column = cond (nat_lt column 8) (FIRST_POSITIONS + 1) FIRST_POSITIONS
 
 -- the index of the word with the mask of a column; a wide head has none, and its position stands for it
-abbrev pub mask_index : Kind → ℕ → ℕ
+abbrev pub mask_index : HeadKind → ℕ → ℕ
 mask_index Wide column = position_index Wide column
 mask_index Narrow column = position_index Narrow column + 1
 mask_index Middle column = position_index Middle column + 2

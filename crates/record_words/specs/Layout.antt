@@ -14,6 +14,7 @@ use Rattle.record_words.specs.Leaf.{words_for}
 abbrev pub node_start : Layout → ℕ → ℕ
 node_start layout n = FIRST_PIN + LINE_WORDS * layout.passes + NODE_WORDS * n
 
+-- how many words a leaf record of a class has
 abbrev pub class_size : LeafClass → ℕ
 class_size Short = SHORT_WORDS
 class_size Medium = MEDIUM_WORDS
@@ -85,9 +86,11 @@ pub record HasStock (layout : Layout) (stock : Stock) : Type 0 where
 abbrev pub leaf_start : Layout → ℕ → ℕ
 leaf_start layout n = node_start layout layout.nodes + words_below layout n
 
+-- how many words a table has
 abbrev pub word_count : Layout → ℕ
 word_count layout = leaf_start layout layout.leaves
 
+-- the word of a location
 abbrev pub address : Layout → Location → ℕ
 address layout Epoch = EPOCH_WORD
 address layout Root = ROOT_WORD
@@ -96,6 +99,7 @@ address layout (Pin pass) = FIRST_PIN + LINE_WORDS * pass
 address layout (NodeWord n offset) = node_start layout n + offset
 address layout (LeafWord n offset) = leaf_start layout n + offset
 
+-- the location is one of the table's
 abbrev pub IsInTable : Layout → Location → Type 0
 IsInTable layout Epoch = Unit {0}
 IsInTable layout Root = Unit {0}

@@ -2,8 +2,8 @@
 use Rattle.std.specs.Prelude.{ℕ, ◌+◌, ◌-◌, ◌*◌, ◌/◌, ◌^◌, ◌++◌, List, ◌∷◌, drop, length, map, replicate, slice_index_or}
 use Rattle.std.specs.List.{range_with_len}
 use Rattle.record_words.specs.Kinds.{head_size, index_lanes, kind_of, kind_part, lane_words, mask_lanes}
-use Rattle.record_words.specs.declared.kind.Kind.{Kind}
-use Rattle.record_words.specs.declared.kind.Kind.TheVariants.{Wide, Narrow, Middle}
+use Rattle.record_words.specs.declared.kind.HeadKind.{HeadKind}
+use Rattle.record_words.specs.declared.kind.HeadKind.TheVariants.{Wide, Narrow, Middle}
 use Rattle.partial_keys.specs.declared.TheConstants.{MAX_ENTRIES}
 use Rattle.record_words.specs.declared.TheConstants.{HEAD_WORDS}
 
@@ -29,7 +29,7 @@ unfoldable pub row_word : List ℕ → ℕ → ℕ
 row_word rows j = row_at rows (2 * j) + 2 ^ 32 * row_at rows (2 * j + 1)
 
 -- the words of the columns of a head. The first eight lanes of a narrow one are 0, and have no word
-abbrev pub column_words : Kind → List ℕ → List ℕ
+abbrev pub column_words : HeadKind → List ℕ → List ℕ
 column_words Wide columns = map (position_word columns) (range_with_len 0 8)
 column_words Narrow columns = lane_words 8 1 (drop 8 (index_lanes columns)) ++ lane_words 8 1 (drop 8 (mask_lanes columns))
 column_words Middle columns = lane_words 8 2 (index_lanes columns) ++ lane_words 8 2 (mask_lanes columns)
@@ -39,21 +39,21 @@ abbrev pub row_lanes : ℕ → List ℕ → List ℕ
 row_lanes low rows = map (λ i. row_at rows i / 2 ^ low) (range_with_len 0 MAX_ENTRIES)
 
 -- the words of the sparse partial keys of a head
-abbrev pub row_words : Kind → List ℕ → List ℕ
+abbrev pub row_words : HeadKind → List ℕ → List ℕ
 row_words Wide rows = map (row_word rows) (range_with_len 0 16)
 row_words Narrow rows = lane_words 8 4 (row_lanes 24 rows)
 row_words Middle rows = lane_words 16 8 (row_lanes 16 rows)
 
 -- the word of the numbers of a head
-abbrev pub numbers_word : Kind → ℕ → ℕ → List ℕ → ℕ
+abbrev pub numbers_word : HeadKind → ℕ → ℕ → List ℕ → ℕ
 numbers_word kind count height columns = meta_word count (length columns) height + kind_part kind columns
 
 -- all ones, in the words of a head in which this kind has nothing
-abbrev pub unused_words : Kind → List ℕ
+abbrev pub unused_words : HeadKind → List ℕ
 unused_words kind = replicate (HEAD_WORDS - head_size kind) (2 ^ 64 - 1)
 
 -- the words of a head of this kind
-abbrev pub kind_words : Kind → ℕ → ℕ → List ℕ → List ℕ → List ℕ
+abbrev pub kind_words : HeadKind → ℕ → ℕ → List ℕ → List ℕ → List ℕ
 kind_words kind count height columns rows = numbers_word kind count height columns ∷ (column_words kind columns ++ (row_words kind rows ++ unused_words kind))
 
 -- the words at offsets 1 to HEAD_WORDS of a node record, in the kind that the columns take

@@ -12,6 +12,7 @@ HasStateWord Live = Unit {0}
 HasStateWord Locked = Unit {0}
 HasStateWord (Obsolete epoch) = (1 ≤ epoch) × (epoch < EPOCHS)
 
+-- the word of a state
 abbrev pub state_word : Tag → ℕ
 state_word Free = 0
 state_word Held = 1

@@ -3,11 +3,11 @@
 ghost use Rattle.std.specs.Prelude.{ℕ, ◌≡◌, ◌+◌, ◌<◌, length, slice_index};
 ghost use Rattle.record_words.specs.Kinds.{kind_of};
 ghost use Rattle.record_words.specs.Packed.{numbers_word, position_at, position_word, row_word, row_words};
-ghost use Rattle.record_words.specs.declared.kind.Kind.TheVariants.{Middle, Narrow};
+ghost use Rattle.record_words.specs.declared.kind.HeadKind.TheVariants.{Middle, Narrow};
 ghost use Rattle.record_words.specs.Node.{InNodesOf};
 ghost use Rattle.partial_keys.specs.Columns.{with_free};
 
-use crate::kind::Kind;
+use crate::kind::HeadKind;
 use crate::search::positions_in;
 use crate::{HEAD_WORDS, MIDDLE_KIND, NARROW_KIND};
 use partial_keys::{Columns, MAX_COLUMNS};
@@ -26,16 +26,16 @@ pub(crate) fn read_positions(words: &[u64]) -> [u16; MAX_COLUMNS]
 /// The first word of a head of the kind `kind` over `columns`. Its lowest byte is the number of entries, `count`, and the next one that of
 /// columns. Bits 16 to 31 have the height. Bits 32 to 39 have the index of the first column's byte, or 0 if the kind is wide. The bits from
 /// 40 on have the kind: 0 for wide, 1 for narrow, 2 for middle.
-pub(crate) fn word_of_numbers(count: u8, columns: &Columns, height: u16, kind: Kind) -> u64
+pub(crate) fn word_of_numbers(count: u8, columns: &Columns, height: u16, kind: HeadKind) -> u64
     requires { kind ≡ kind_of columns.now }
     ensures { result ≡ numbers_word kind count height columns.now }
 {
     let numbers = count as u64 + 256 * columns.count() as u64 + 65_536 * height as u64;
     let first = (columns.first() as u64 / 9) << 32;
     match kind {
-        Kind::Wide => numbers,
-        Kind::Narrow => numbers + first + (NARROW_KIND << 40),
-        Kind::Middle => numbers + first + (MIDDLE_KIND << 40),
+        HeadKind::Wide => numbers,
+        HeadKind::Narrow => numbers + first + (NARROW_KIND << 40),
+        HeadKind::Middle => numbers + first + (MIDDLE_KIND << 40),
     }
 }
 

@@ -13,7 +13,7 @@ use partial_keys::Columns;
 /// How a head spells its columns and rows. The columns decide it: near ones have their bits in sixteen bytes, and none is the bit that says
 /// that there is a byte.
 #[derive(Clone, Copy, PartialEq, Eq)]
-pub enum Kind {
+pub enum HeadKind {
     /// Any columns: 16 bits for each, and rows of 32 bits.
     Wide = 0,
     /// At most 8 near columns: two bytes for each, and rows of 8 bits.
@@ -22,7 +22,7 @@ pub enum Kind {
     Middle = 2,
 }
 
-impl Kind {
+impl HeadKind {
     ghost use Rattle.std.specs.Prelude.{◌≡◌};
     ghost use Rattle.record_words.specs.Kinds.{head_size, rows_from, rows_a_word};
 
@@ -32,9 +32,9 @@ impl Kind {
         ensures { result ≡ head_size self }
     {
         match self {
-            Kind::Wide => HEAD_WORDS,
-            Kind::Narrow => NARROW_HEAD_WORDS,
-            Kind::Middle => MIDDLE_HEAD_WORDS,
+            HeadKind::Wide => HEAD_WORDS,
+            HeadKind::Narrow => NARROW_HEAD_WORDS,
+            HeadKind::Middle => MIDDLE_HEAD_WORDS,
         }
     }
 
@@ -44,9 +44,9 @@ impl Kind {
         ensures { result ≡ rows_from self }
     {
         match self {
-            Kind::Wide => FIRST_ROWS,
-            Kind::Narrow => FIRST_NARROW_ROWS,
-            Kind::Middle => FIRST_MIDDLE_ROWS,
+            HeadKind::Wide => FIRST_ROWS,
+            HeadKind::Narrow => FIRST_NARROW_ROWS,
+            HeadKind::Middle => FIRST_MIDDLE_ROWS,
         }
     }
 
@@ -56,25 +56,25 @@ impl Kind {
         ensures { result ≡ rows_a_word self }
     {
         match self {
-            Kind::Wide => 2,
-            Kind::Narrow => 8,
-            Kind::Middle => 4,
+            HeadKind::Wide => 2,
+            HeadKind::Narrow => 8,
+            HeadKind::Middle => 4,
         }
     }
 }
 
 /// The kind of a head with `columns`: the smallest that can spell them.
-pub fn kind_of(columns: &Columns) -> Kind
+pub fn kind_of(columns: &Columns) -> HeadKind
     ensures { result ≡ kind_of columns.now }
 {
     let count = columns.count() as usize;
     if count > MIDDLE_COLUMNS || !are_near(columns) {
-        return Kind::Wide;
+        return HeadKind::Wide;
     }
     if count <= NARROW_COLUMNS {
-        Kind::Narrow
+        HeadKind::Narrow
     } else {
-        Kind::Middle
+        HeadKind::Middle
     }
 }
 

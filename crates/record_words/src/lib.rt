@@ -44,7 +44,7 @@
 //! |---|---|
 //! | `kind_of` | the definition `kind_of` |
 //! | `read_numbers` | numbers, kind and first byte of each node with this word |
-//! | `HeadNumbers::row_of`, `position_of` | the row, the position, as read of the words at `index_of_row`, `index_of_position`, `index_of_mask` |
+//! | `HeadNumbers::row_of`, `read_position` | the row, the position, as read of the words at `index_of_row`, `index_of_position`, `index_of_mask` |
 //! | `first_position_of` | the first position, as read of the word at `index_of_first_position` |
 //! | `positions_in`, `rows_in` | all columns, all rows of each node with these words, as lanes: whatever reads a whole head goes through these two |
 //! | `near_lanes_of`, `near_positions` | near columns to lanes, and back |
@@ -93,7 +93,7 @@ mod stock;
 pub use affected::affected_slots;
 pub use entry::{pack_entry, read_entry, read_some_entry};
 use key_bits::MAX_BYTES;
-pub use kind::{Kind, kind_of};
+pub use kind::{HeadKind, kind_of};
 pub use layout::{Layout, LayoutFault, LeafClass, Location, Stock};
 pub use leaf::{count_key_words, count_leaf_words, key_word_at, pack_leaf, write_key_word};
 pub use node::{add_leaf, can_take_leaf, close_fork, drop_entry, pack_head, pack_node, read_node};

@@ -17,14 +17,14 @@ ghost use Rattle.record_words.specs.Node.{CanCloseAt, CanTakeLeaf, HasHeadWords,
 ghost use Rattle.record_words.specs.Kinds.{head_size, index_lanes, kind_of, lane_words, mask_lanes, rows_from};
 ghost use Rattle.record_words.specs.Packed.{column_words, fixed_words, position_word, row_words};
 ghost use Rattle.record_words.specs.Reading.{IsSpelledBy, IsSpelling};
-ghost use Rattle.record_words.specs.declared.kind.Kind.TheVariants.{Wide};
+ghost use Rattle.record_words.specs.declared.kind.HeadKind.TheVariants.{Wide};
 
 use crate::entry::{pack_entry, read_some_entry};
 use crate::fixed::{
     read_positions, word_of_numbers, word_of_positions, words_of_high_bytes, words_of_high_halves,
     words_of_rows,
 };
-use crate::kind::{Kind, kind_of};
+use crate::kind::{HeadKind, kind_of};
 use crate::near::{near_lanes_of, words_of_bytes};
 use crate::numbers::read_numbers;
 use crate::search::{has_lane, positions_in, rows_in, with_unused_from};
@@ -95,20 +95,20 @@ fn put_parts(
 /// A middle one has the indexes of their bytes in two words, and their masks in two; a narrow one has one word of each. All other words
 /// stay.
 #[inline(always)]
-fn put_columns(words: &mut [u64; NODE_FIELDS], kind: Kind, columns: &Columns)
+fn put_columns(words: &mut [u64; NODE_FIELDS], kind: HeadKind, columns: &Columns)
     requires kind { kind ≡ kind_of columns.now }
     requires columns { IsColumns columns.now }
     ensures columns { take (rows_from kind - FIRST_POSITIONS) (drop FIRST_POSITIONS words.new) ≡ column_words kind columns.now }
     ensures others { (k : ℕ) → (k < FIRST_POSITIONS) ⊎ (rows_from kind ≤ k) → slice_index words.new k ≡ slice_index words.old k }
 {
     match kind {
-        Kind::Wide => put_positions(words, columns.padded_positions()),
-        Kind::Narrow => {
+        HeadKind::Wide => put_positions(words, columns.padded_positions()),
+        HeadKind::Narrow => {
             let (indexes, masks) = near_words_of(columns);
             words[FIRST_POSITIONS] = indexes.to_array()[1];
             words[FIRST_POSITIONS + 1] = masks.to_array()[1];
         }
-        Kind::Middle => {
+        HeadKind::Middle => {
             let (indexes, masks) = near_words_of(columns);
             indexes.copy_to_slice(&mut words[FIRST_POSITIONS..]);
             masks.copy_to_slice(&mut words[FIRST_POSITIONS + 2..]);
@@ -140,17 +140,21 @@ fn near_words_of(columns: &Columns) -> (u64x2, u64x2)
 /// Writes `rows` to their place in `words`, the words of a node, as a head of the kind `kind` has them. A wide head has two rows in each
 /// word. A middle one has the higher halves of four, and a narrow one the highest bytes of eight. All other words stay.
 #[inline(always)]
-fn put_rows(words: &mut [u64; NODE_FIELDS], kind: Kind, rows: u32x32)
+fn put_rows(words: &mut [u64; NODE_FIELDS], kind: HeadKind, rows: u32x32)
     ensures rows { take (head_size kind - rows_from kind) (drop (rows_from kind) words.new) ≡ row_words kind rows }
     ensures others { (k : ℕ) → (k < rows_from kind) ⊎ (head_size kind ≤ k) → slice_index words.new k ≡ slice_index words.old k }
 {
     match kind {
-        Kind::Wide => {
+        HeadKind::Wide => {
             words_of_rows(rows.extract::<0, 16>()).copy_to_slice(&mut words[FIRST_ROWS..]);
             words_of_rows(rows.extract::<16, 16>()).copy_to_slice(&mut words[FIRST_ROWS + 8..]);
         }
-        Kind::Narrow => words_of_high_bytes(rows).copy_to_slice(&mut words[FIRST_NARROW_ROWS..]),
-        Kind::Middle => words_of_high_halves(rows).copy_to_slice(&mut words[FIRST_MIDDLE_ROWS..]),
+        HeadKind::Narrow => words_of_high_bytes(rows).copy_to_slice(
+            &mut words[FIRST_NARROW_ROWS..],
+        ),
+        HeadKind::Middle => words_of_high_halves(rows).copy_to_slice(
+            &mut words[FIRST_MIDDLE_ROWS..],
+        ),
     }
 }
 

@@ -7,10 +7,8 @@ ghost use Rattle.record_words.specs.HeadParts.{AreNumbersOf, InNodesWith};
 ghost use Rattle.record_words.specs.Kinds.{bit_mask, kind_in, mask_index};
 ghost use Rattle.record_words.specs.Node.{head_words};
 
-use crate::kind::Kind;
-use crate::{
-    FIRST_MIDDLE_ROWS, FIRST_NARROW_ROWS, FIRST_POSITIONS, HEAD_WORDS, MIDDLE_KIND, NARROW_KIND,
-};
+use crate::kind::HeadKind;
+use crate::{FIRST_POSITIONS, HEAD_WORDS, MIDDLE_KIND, NARROW_KIND};
 
 /// The numbers in the first word of a head.
 #[derive(Clone, Copy)]
@@ -22,7 +20,7 @@ pub struct HeadNumbers {
     /// Its stored height.
     pub height: u16,
     /// How its columns and rows are spelled.
-    pub kind: Kind,
+    pub kind: HeadKind,
     /// The byte with the bit at the first column; 0 in a wide head.
     pub first_byte: u8,
 }
@@ -31,31 +29,10 @@ impl HeadNumbers {
     ghost use Rattle.std.specs.Prelude.{◌≡◌, ◌+◌, ◌-◌, ◌/◌, slice_index};
     ghost use Rattle.compound_node.specs.Nodes.{head_of};
     ghost use Rattle.record_words.specs.HeadParts.{InNodesWith};
-    ghost use Rattle.record_words.specs.Kinds.{columns_end, mask_index, position_index, rows_a_word, rows_from};
+    ghost use Rattle.record_words.specs.Kinds.{mask_index, position_index, rows_a_word, rows_from};
     ghost use Rattle.record_words.specs.Node.{head_words};
     ghost use Rattle.record_words.specs.Packed.{position_at, row_at};
     ghost use Rattle.record_words.specs.declared.TheConstants.{HEAD_WORDS};
-
-    /// The index behind the last word in which the columns of the node have something.
-    #[inline(always)]
-    pub fn columns_end(self) -> usize
-        ensures { result ≡ columns_end self.kind self.columns }
-    {
-        match self.kind {
-            Kind::Wide => FIRST_POSITIONS + (self.columns as usize + 3) / 4,
-            Kind::Narrow => FIRST_NARROW_ROWS,
-            Kind::Middle => FIRST_MIDDLE_ROWS,
-        }
-    }
-
-    /// The index behind the last word with a row of the node.
-    #[inline(always)]
-    pub fn rows_end(self) -> usize
-        ensures { result ≡ rows_from self.kind + (self.count + rows_a_word self.kind - 1) / rows_a_word self.kind }
-    {
-        let rows = self.kind.rows_a_word();
-        self.kind.first_rows() + (self.count as usize + rows - 1) / rows
-    }
 
     /// The index behind the word of the node's last entry.
     #[inline(always)]
@@ -79,10 +56,10 @@ impl HeadNumbers {
         ensures { result ≡ position_index self.kind column }
     {
         match self.kind {
-            Kind::Wide => FIRST_POSITIONS + column as usize / 4,
-            Kind::Narrow => FIRST_POSITIONS,
-            Kind::Middle if column < 8 => FIRST_POSITIONS + 1,
-            Kind::Middle => FIRST_POSITIONS,
+            HeadKind::Wide => FIRST_POSITIONS + column as usize / 4,
+            HeadKind::Narrow => FIRST_POSITIONS,
+            HeadKind::Middle if column < 8 => FIRST_POSITIONS + 1,
+            HeadKind::Middle => FIRST_POSITIONS,
         }
     }
 
@@ -93,9 +70,9 @@ impl HeadNumbers {
     {
         let index = self.index_of_position(column);
         match self.kind {
-            Kind::Wide => index,
-            Kind::Narrow => index + 1,
-            Kind::Middle => index + 2,
+            HeadKind::Wide => index,
+            HeadKind::Narrow => index + 1,
+            HeadKind::Middle => index + 2,
         }
     }
 
@@ -109,16 +86,16 @@ impl HeadNumbers {
             return u32::MAX;
         }
         match self.kind {
-            Kind::Wide => (word >> (32 * (slot % 2)) & 0xffff_ffff) as u32,
-            Kind::Narrow => ((word >> (8 * (slot % 8)) & 0xff) as u32) << 24,
-            Kind::Middle => ((word >> (16 * (slot % 4)) & 0xffff) as u32) << 16,
+            HeadKind::Wide => (word >> (32 * (slot % 2)) & 0xffff_ffff) as u32,
+            HeadKind::Narrow => ((word >> (8 * (slot % 8)) & 0xff) as u32) << 24,
+            HeadKind::Middle => ((word >> (16 * (slot % 4)) & 0xffff) as u32) << 16,
         }
     }
 
     /// The position of column `column`, in each node whose head has these numbers, `word` at [`HeadNumbers::index_of_position`] and `masks`
     /// at [`HeadNumbers::index_of_mask`]. It is 65,535 past the last column.
     #[inline(always)]
-    pub fn position_of(self, word: u64, masks: u64, column: u8) -> u16
+    pub fn read_position(self, word: u64, masks: u64, column: u8) -> u16
         ensures { InNodesWith self (position_index self.kind column) word (λ node. slice_index (head_words (head_of node)) (mask_index self.kind column) ≡ masks →
             result ≡ position_at node.columns column) }
     {
@@ -128,7 +105,7 @@ impl HeadNumbers {
         // A word of a near head has a byte for each of eight columns, the highest for the first of them.
         let low = 8 * (7 - column % 8);
         match self.kind {
-            Kind::Wide => (word >> (16 * (column % 4)) & 0xffff) as u16,
+            HeadKind::Wide => (word >> (16 * (column % 4)) & 0xffff) as u16,
             _ => near_position(
                 self.first_byte,
                 (word >> low & 0xff) as u8,
@@ -157,18 +134,18 @@ pub fn read_numbers(word: u64) -> HeadNumbers
 
 /// The kind of each node whose head begins with `word`.
 #[inline(always)]
-fn read_kind(word: u64) -> Kind
+fn read_kind(word: u64) -> HeadKind
     ensures { result ≡ kind_in word }
 {
     match kind_number(word) {
-        NARROW_KIND => Kind::Narrow,
-        MIDDLE_KIND => Kind::Middle,
-        _ => Kind::Wide,
+        NARROW_KIND => HeadKind::Narrow,
+        MIDDLE_KIND => HeadKind::Middle,
+        _ => HeadKind::Wide,
     }
 }
 
 /// The number that tells the kind of each node whose head begins with `word`: `NARROW_KIND`, `MIDDLE_KIND`, or 0 for a wide one. A search
-/// compares it as it is, since a `Kind` takes some ten instructions more.
+/// compares it as it is, since a `HeadKind` takes some ten instructions more.
 #[inline(always)]
 pub fn kind_number(word: u64) -> u64
     ensures { result ≡ word / 2 ^ 40 }
@@ -186,13 +163,13 @@ fn near_position(first_byte: u8, index: u8, mask: u8) -> u16
 
 /// The index of the word that tells the first position of a head of these numbers: with it in a wide head, else with its mask.
 #[inline(always)]
-pub fn index_of_first_position(kind: Kind) -> usize
+pub fn index_of_first_position(kind: HeadKind) -> usize
     ensures { result ≡ mask_index kind 0 }
 {
     match kind {
-        Kind::Wide => FIRST_POSITIONS,
-        Kind::Narrow => FIRST_POSITIONS + 1,
-        Kind::Middle => FIRST_POSITIONS + 3,
+        HeadKind::Wide => FIRST_POSITIONS,
+        HeadKind::Narrow => FIRST_POSITIONS + 1,
+        HeadKind::Middle => FIRST_POSITIONS + 3,
     }
 }
 
@@ -202,7 +179,7 @@ pub fn first_position_of(numbers: HeadNumbers, word: u64) -> u16
     ensures { InNodesWith numbers (mask_index numbers.kind 0) word (λ node. result ≡ slice_index node.columns 0) }
 {
     match numbers.kind {
-        Kind::Wide => (word % 65_536) as u16,
+        HeadKind::Wide => (word % 65_536) as u16,
         _ => near_position(numbers.first_byte, 0, (word >> 56) as u8),
     }
 }

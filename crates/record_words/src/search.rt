@@ -11,10 +11,10 @@ ghost use Rattle.node_tries.specs.Positions.{has};
 ghost use Rattle.record_words.specs.HeadParts.{HasHeadOf, InNodesOfKind, back_words, front_words, middle_words, narrow_words};
 ghost use Rattle.record_words.specs.Node.{InNodesOf};
 ghost use Rattle.record_words.specs.Reading.{IsSpelling};
-ghost use Rattle.record_words.specs.declared.kind.Kind.TheVariants.{Middle, Narrow, Wide};
+ghost use Rattle.record_words.specs.declared.kind.HeadKind.TheVariants.{Middle, Narrow, Wide};
 ghost use Rattle.record_words.specs.declared.TheConstants.{HEAD_WORDS};
 
-use crate::kind::Kind;
+use crate::kind::HeadKind;
 use crate::near::{bytes_of_words, extract_near, near_positions};
 use crate::numbers::read_numbers;
 use crate::{
@@ -104,13 +104,13 @@ pub(crate) fn positions_in(words: &[u64]) -> u16x32
 {
     let first = read_numbers(words[0]).first_byte;
     match read_numbers(words[0]).kind {
-        Kind::Wide => split_into_quarters(u64x8::from_slice(&words[FIRST_POSITIONS..])),
-        Kind::Narrow => widen(near_positions(
+        HeadKind::Wide => split_into_quarters(u64x8::from_slice(&words[FIRST_POSITIONS..])),
+        HeadKind::Narrow => widen(near_positions(
             bytes_of_words(0, words[1]),
             bytes_of_words(0, words[2]),
             first,
         )),
-        Kind::Middle => widen(near_positions(
+        HeadKind::Middle => widen(near_positions(
             bytes_of_words(words[1], words[2]),
             bytes_of_words(words[3], words[4]),
             first,
@@ -134,13 +134,13 @@ pub(crate) fn rows_in(words: &[u64]) -> u32x32
 {
     let count = read_numbers(words[0]).count;
     match read_numbers(words[0]).kind {
-        Kind::Wide => wide_rows_in(&words[FIRST_ROWS..]),
-        Kind::Narrow => with_unused_from(
+        HeadKind::Wide => wide_rows_in(&words[FIRST_ROWS..]),
+        HeadKind::Narrow => with_unused_from(
             bytes_in(u64x4::from_slice(&words[FIRST_NARROW_ROWS..])).cast::<u32>()
                 << u32x32::splat(24),
             count,
         ),
-        Kind::Middle => with_unused_from(
+        HeadKind::Middle => with_unused_from(
             split_into_quarters(u64x8::from_slice(&words[FIRST_MIDDLE_ROWS..])).cast::<u32>()
                 << u32x32::splat(16),
             count,

@@ -1,4 +1,6 @@
 -- Reading the words of a record that spell a value gives the value's parts.
+pub mod Leafing
+pub mod Storing
 use Rattle.std.proofs.Common.{◌≡◌, ◌⊎◌, inl, inr, ℕ, zero, suc, ◌+◌, ◌-◌, ◌*◌, ◌/◌, ◌%◌, ◌^◌, ◌<◌, ◌≤◌, List, [], ◌∷◌, ◌++◌, length, get_or, take, drop, map, Option, Some, None, nat_lt, eqb, ltb, if◌then◌else◌, true, false, refl, sym, ap, ap₂, ◌∙◌, arith, length-take, get_or-take, get_or-drop}
 use Rattle.std.specs.Prelude.{All, slice_get}
 use Rattle.std.specs.Option.{unwrap_or}
@@ -16,17 +18,17 @@ use Rattle.record_words.specs.Entry.{HasEntryWord, entry_word}
 use Rattle.record_words.specs.Node.{HasNodeWords, head_words, entry_words, node_words}
 use Rattle.record_words.specs.Kinds.{kind_in, kind_of, mask_index, position_index}
 use Rattle.record_words.specs.Packed.{fixed_words}
-use Rattle.record_words.specs.declared.kind.Kind.{Kind}
-use Rattle.record_words.specs.declared.kind.Kind.TheVariants.{Middle, Narrow, Wide}
+use Rattle.record_words.specs.declared.kind.HeadKind.{HeadKind}
+use Rattle.record_words.specs.declared.kind.HeadKind.TheVariants.{Middle, Narrow, Wide}
 use Rattle.record_words.proofs.Entries.{length-entry_words, entry_words_at}
-use Rattle.record_words.proofs.HeadsByKind.{Tells}
-use Rattle.record_words.proofs.TellingHead.{middle_row_is, narrow_row_is, near_column_is, told, whole, wide_position, wide_row}
+use Rattle.record_words.proofs.HeadParts.HeadsByKind.{Tells}
+use Rattle.record_words.proofs.HeadParts.{middle_row_is, narrow_row_is, near_column_is, told, whole, wide_position, wide_row}
 use Rattle.tries.specs.Tree.{Subtrie}
 use Rattle.tries.specs.Place.{entry_at}
 use Rattle.versions.specs.Heap.{NodeWords}
 use Rattle.record_words.specs.Decoding.{column_byte, column_in, entry_of, entries_of, row_in}
 use Rattle.rowex_core.specs.Reading.{fixed_of, node_words_of}
-use Rattle.node_tries.proofs.Paths.{length-places}
+use Rattle.node_tries.proofs.Piece.{length-places}
 
 -- Entries
 
@@ -98,7 +100,7 @@ module _ (view : NodeView) (words : List ℕ) (small : All (λ w. w < 2 ^ 64) wo
   column_is : (i : ℕ) → i < length view.columns → column_in (kind_in (get_or (take 25 words) 0 0)) (take 25 words) i ≡ get_or view.columns i 0
   column_is i used = ap (λ kind. column_in kind (take 25 words) i) first.kind_told ∙ go (kind_of view.columns) refl
     where
-      go : (kind : Kind) → kind_of view.columns ≡ kind → column_in kind (take 25 words) i ≡ get_or view.columns i 0
+      go : (kind : HeadKind) → kind_of view.columns ≡ kind → column_in kind (take 25 words) i ≡ get_or view.columns i 0
       go Wide e = wide_position view has.lawful (take 25 words) head_is e i (omega (arith, used, has.lawful.positions.few)) ∙ get_or_default view.columns i 65535 0 used
       go Narrow e = near_column_is view has.lawful (take 25 words) head_is (λ wide. cc) i _ _ _ used refl
           (ap (λ kind. column_byte i (get_or (take 25 words) (position_index kind i) 0)) (sym e)) (ap (λ kind. column_byte i (get_or (take 25 words) (mask_index kind i) 0)) (sym e))
@@ -108,7 +110,7 @@ module _ (view : NodeView) (words : List ℕ) (small : All (λ w. w < 2 ^ 64) wo
   row_is : (i : ℕ) → i < length view.rows → row_in (kind_in (get_or (take 25 words) 0 0)) (take 25 words) i ≡ get_or view.rows i 0
   row_is i used = ap (λ kind. row_in kind (take 25 words) i) first.kind_told ∙ go (kind_of view.columns) refl
     where
-      go : (kind : Kind) → kind_of view.columns ≡ kind → row_in kind (take 25 words) i ≡ get_or view.rows i 0
+      go : (kind : HeadKind) → kind_of view.columns ≡ kind → row_in kind (take 25 words) i ≡ get_or view.rows i 0
       go Wide e = wide_row view has.lawful (take 25 words) head_is e i (omega (arith, used, room)) ∙ get_or_default view.rows i 4294967295 0 used
       go Narrow e = narrow_row_is view has.lawful (take 25 words) head_is e i used
       go Middle e = middle_row_is view has.lawful (take 25 words) head_is e i used

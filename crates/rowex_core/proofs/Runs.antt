@@ -7,9 +7,9 @@ use Rattle.rowex_core.specs.Knowing.{Knowing}
 use Rattle.rowex_core.specs.Opening.{opening}
 use Rattle.rowex_core.specs.Runs.{EventsLead}
 use Rattle.rowex_core.specs.Statements.{RunsStayLawful, RunsKeep}
-use Rattle.rowex_core.proofs.Keeping.{keeps}
-use Rattle.rowex_core.proofs.Promises.{opening_is_lawful}
-use Rattle.rowex_core.proofs.Staying.{stays_lawful}
+use Rattle.rowex_core.proofs.Knowing.Keeping.{keeps}
+use Rattle.rowex_core.proofs.Statements.Promises.{opening_is_lawful}
+use Rattle.rowex_core.proofs.Cores.{stays_lawful}
 
 stay : (c : Core) (xs : List Event) (d : Core) → IsLawful c → EventsLead c xs d → IsLawful d
 stay c [] d law e = subst IsLawful (sym e) law

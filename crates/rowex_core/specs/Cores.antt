@@ -31,6 +31,7 @@ heap_of words = record { nodes = λ n. node_words_of (words (a_node n)); leaves 
 abbrev pub bare : Core → Versions
 bare c = record { heap = heap_of c.words; shared = c.shared }
 
+-- the table has this record
 abbrev pub HasRecord : Layout → Rec → Type 0
 HasRecord layout (a_node n) = n < layout.nodes
 HasRecord layout (a_leaf n) = n < layout.leaves
@@ -60,6 +61,7 @@ fields_in layout table (a_node n) = map (λ i. get_or table (node_start layout n
 fields_in layout table (a_leaf n) =
     map (λ i. if nat_lt (FIELDS_OFFSET + i) (leaf_size layout n) then get_or table (leaf_start layout n + (FIELDS_OFFSET + i)) 0 else 0) (range_with_len 0 LEAF_FIELDS)
 
+-- a record has as many words as its kind, of 64 bits each
 abbrev pub IsSized : Rec → List ℕ → Type 0
 IsSized r words = (length words ≡ word_count_of r) × All (λ w. w < 2 ^ 64) words
 

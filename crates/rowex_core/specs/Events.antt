@@ -46,11 +46,13 @@ with_word words r offset w i = if same_rec i r then set (words r) (offset - FIEL
 
 -- Publishing: what a word stored at a spot makes
 
+-- the words after a store to a spot: a slot and a value are words of a record, the root is none
 abbrev pub stored_words : Core → Spot → ℕ → Rec → List ℕ
 stored_words c Root w = c.words
 stored_words c (Slot n j) w = with_word c.words (a_node n) (FIRST_ENTRY + j) w
 stored_words c (Value l) w = with_word c.words (a_leaf l) VALUE_OFFSET w
 
+-- the root after it
 abbrev pub stored_root : Core → Spot → ℕ → Option Entry
 stored_root c Root w = entry_of w
 stored_root c (Slot n j) w = c.root
@@ -91,12 +93,14 @@ next_tree c spot w = tree_of (heap_of (stored_words c spot w)) (stored_root c sp
 abbrev pub value_change : Core → ℕ → ℕ → ℕ → Change
 value_change c q l w = record { pass = q; key = (leaf_of (c.words (a_leaf l))).key; value = w; kind = Replaced }
 
+-- the change that a store to a spot makes to the map
 abbrev pub next_change : Core → ℕ → Spot → ℕ → Change
 next_change c q (Value l) w = value_change c q l w
 next_change c q spot w = change_between q (items_of (c.past.version c.past.now)) (items_of (next_tree c spot w))
 
 -- A bulk load: what the words of a table show that is made of sorted pairs
 
+-- the root that a table's words name
 abbrev pub loaded_root : List ℕ → Option Entry
 loaded_root words = entry_of (get_or words ROOT_WORD 0)
 
@@ -125,6 +129,7 @@ abbrev pub IsFixedOffset : Rec → ℕ → Type 0
 IsFixedOffset (a_node n) offset = (FIELDS_OFFSET ≤ offset) × (offset < FIRST_ENTRY)
 IsFixedOffset (a_leaf n) offset = (VALUE_OFFSET < offset) × (offset < LEAF_WORDS)
 
+-- the node is in the tree
 abbrev pub IsInTree : Core → ℕ → Type 0
 IsInTree c n = (since : ℕ) × (c.fate (a_node n) ≡ InTree since)
 
@@ -159,6 +164,7 @@ abbrev pub MayStoreAt : Core → ℕ → Spot → ℕ → Type 0
 MayStoreAt c q (Value l) w = IsLockedAt c q (Value l) × (w < 2 ^ 64)
 MayStoreAt c q spot w = IsLegalPublish c q spot w
 
+-- When a pass may make an act, and what it finds.
 abbrev pub LegalAct : Core → ℕ → Act → Type 0
 LegalAct c q (Claim r found) = HasRecord c.layout r × (found ≡ state_at c r)
 LegalAct c q (Fill r offset w) = HasRecord c.layout r × (c.fate r ≡ Held q) × IsOffset r offset × (w < 2 ^ 64) × HasWord c.layout r offset
@@ -250,6 +256,7 @@ shared_after c q (LoadState r w) = c.shared
 shared_after c q (GiveBack r epoch found) = given_back c.shared r epoch (c.fate r)
 shared_after c q (Load words) = loaded_by c.shared q (loaded_root words.now) (loaded_tree c.layout words.now)
 
+-- the core after an act of a pass
 abbrev pub after : Core → ℕ → Act → Core
 after c q act = record { layout = c.layout; words = words_after c act; shared = shared_after c q act }
 
@@ -260,6 +267,7 @@ IsAtomic act = Unit {0}
 
 -- The word of a step: which it is, what the step leaves there, and what its caller is told
 
+-- where the word of a record at an offset stands
 abbrev pub word_of : Rec → ℕ → Location
 word_of (a_node n) offset = NodeWord n offset
 word_of (a_leaf n) offset = LeafWord n offset
@@ -268,15 +276,18 @@ word_of (a_leaf n) offset = LeafWord n offset
 abbrev pub state_of : Rec → Location
 state_of r = word_of r 0
 
+-- the word of a spot
 abbrev pub spot_word : Spot → Location
 spot_word Root = RootWord
 spot_word (Slot n j) = NodeWord n (FIRST_ENTRY + j)
 spot_word (Value l) = LeafWord l VALUE_OFFSET
 
+-- the word of what is locked
 abbrev pub target_word : Target → Location
 target_word Anchor = AnchorWord
 target_word (NodeTarget n) = state_of (a_node n)
 
+-- the word that an act loads, stores or exchanges
 abbrev pub location_of : ℕ → Act → Location
 location_of q (Claim r found) = state_of r
 location_of q (Fill r offset w) = word_of r offset

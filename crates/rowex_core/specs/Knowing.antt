@@ -57,6 +57,7 @@ StoodAs s since at r P = (n : ℕ) × (u : Tree) × (since ≤ n) × (n ≤ at) 
 abbrev pub HoldsIfStood : Past → ℕ → ℕ → Rec → (Tree → Type 0) → Type 0
 HoldsIfStood s since at r P = (m : ℕ) → since ≤ m → StoodBetween s m at r → StoodAs s m at r P
 
+-- what a fact says of the past
 abbrev pub IsFact : Past → Fact → Type 0
 IsFact s (Rooted since at e) = (since ≤ at) × (at ≤ s.now) × (root_of (s.version at) ≡ e)
 IsFact s (Placed since at n j e) = (at ≤ s.now) × HoldsIfStood s since at (a_node n) (λ u. entry_in u j ≡ e)
@@ -98,6 +99,7 @@ pub record Recalls (c : Core) (k : Known) : Type 0 where
 abbrev pub IsPinnedSince : Known → ℕ → Type 0
 IsPinnedSince k m = (p : Pin) × (k.pin ≡ Some p) × (p.version ≤ m)
 
+-- none of the changes is this pass's
 abbrev pub NoChangeBy : ℕ → List Change → Type 0
 NoChangeBy q changes = All (λ x. x.pass ≢ q) changes
 
@@ -106,6 +108,7 @@ pub record IsUntouched (c : Core) (q : ℕ) : Type 0 where
   pub changes : NoChangeBy q c.changes
   pub own : share q c ≡ nothing
 
+-- what a view says of a core: of a pass what it knows, of a dealer that the passes to come have done nothing
 abbrev pub Knowing : Core → View → Type 0
 Knowing c Spent = Unit {0}
 Knowing c (Dealer m) = (q : ℕ) → m ≤ q → IsUntouched c q
@@ -132,21 +135,27 @@ abbrev pub facts_with : Option Pin → (ℕ → Fact) → List Fact → List Fac
 facts_with None f facts = facts
 facts_with (Some p) f facts = f p.version ∷ facts
 
+-- a pass that remembers one more failed act, of its latest step
 abbrev pub failed_with : Known → FailedAct → Location → ℕ → Known
 failed_with k act location w = record k { failed = record { act = act; location = location; word = w; step = k.steps } ∷ k.failed }
 
+-- a record is held in another way
 abbrev pub with_holding : Rec → Holding → Owned → Owned
 with_holding r h o = if same_rec o.rec r then record o { holding = h } else o
 
+-- a word of an own record is filled
 abbrev pub with_filled_word : Rec → ℕ → ℕ → Owned → Owned
 with_filled_word r offset w o = if same_rec o.rec r then record o { words = set o.words (offset - FIELDS_OFFSET) w } else o
 
+-- the own records but one
 abbrev pub without_record : Rec → List Owned → List Owned
 without_record r own = filter (λ o. not (same_rec o.rec r)) own
 
+-- the locks but that of one node
 abbrev pub without_lock : ℕ → List Locked → List Locked
 without_lock n locks = filter (λ l. not (nat_eq l.node n)) locks
 
+-- what a claim teaches: the record is the pass's, or whose it is
 abbrev pub claim_learned : Core → Rec → ℕ → Fate → Known → Known
 claim_learned c r found Free k = record k { own = record { rec = r; holding = Held; words = c.words r } ∷ k.own }
 claim_learned c r found f k = failed_with k (a_claim (holder_of f)) (state_of r) found
@@ -166,10 +175,12 @@ abbrev pub blocking_pass_at : Core → Target → Option ℕ
 blocking_pass_at c Anchor = c.anchor
 blocking_pass_at c (NodeTarget n) = blocking_pass_of c n (c.fate (a_node n))
 
+-- what a try of the anchor's lock teaches
 abbrev pub anchor_learned : Core → ℕ → Option ℕ → Known → Known
 anchor_learned c found None k = record k { anchor = Some c.root; values = [] }
 anchor_learned c found (Some q) k = failed_with k (a_lock (Some q)) (target_word Anchor) found
 
+-- what a try of a node's lock teaches
 abbrev pub node_learned : Core → ℕ → ℕ → Known → Known
 node_learned c n found k =
     if nat_eq found (state_word Live) then record k { locks = record { node = n; words = c.words (a_node n) } ∷ k.locks; values = [] }
@@ -184,6 +195,7 @@ abbrev pub version_of : Option Pin → ℕ
 version_of None = 0
 version_of (Some p) = p.version
 
+-- what a load of an entry teaches: of the root also all changes up to now
 abbrev pub entry_learned : Core → Spot → Known → Known
 entry_learned c Root k = record k {
   front = c.changes;
@@ -206,6 +218,7 @@ records_of (leaf n k v) = a_leaf n ∷ []
 records_of (node n x b) = a_node n ∷ records_of b
 records_of (fork p a b) = records_of a ++ records_of b
 
+-- the records of a tree, if there is one
 abbrev pub records_in : Option Tree → List Rec
 records_in None = []
 records_in (Some t) = records_of t
@@ -221,6 +234,7 @@ own_after c t own =
     map (λ r. owned_unlinked c r (c.fate r)) (filter (λ r. not (is_linked t r)) (records_in (c.past.version c.past.now))) ++
     filter (λ o. not (is_linked t o.rec)) own
 
+-- a lock, with the words that its node has now
 abbrev pub locked_with_words : (Rec → List ℕ) → Locked → Locked
 locked_with_words words l = record l { words = words (a_node l.node) }
 
@@ -228,11 +242,13 @@ locked_with_words words l = record l { words = words (a_node l.node) }
 abbrev pub locks_after : (Rec → List ℕ) → Option Tree → List Locked → List Locked
 locks_after words t locks = map (λ l. locked_with_words words l) (filter (λ l. is_linked t (a_node l.node)) locks)
 
+-- the root as the holder of the anchor knows it, after a store to a spot
 abbrev pub anchor_after : Spot → Option Entry → Option (Option Entry) → Option (Option Entry)
 anchor_after Root root anchor = Some root
 anchor_after (Slot n j) root anchor = anchor
 anchor_after (Value l) root anchor = anchor
 
+-- what a publish teaches its pass
 abbrev pub publish_learned : Core → Spot → ℕ → Known → Known
 publish_learned c spot w k = record k {
   front = c.changes ++ next_change c k.pass spot w ∷ [];
@@ -250,6 +266,7 @@ load_learned c t k = record k {
   values = [];
 }
 
+-- What each act teaches its pass.
 abbrev pub learned_by : Core → Act → Known → Known
 learned_by c (Claim r found) k = claim_learned c r found (c.fate r) k
 learned_by c (Fill r offset w) k = record k { own = map (with_filled_word r offset w) k.own }

@@ -22,15 +22,18 @@ use Rattle.versions.specs.Heap.{NodeWords, LeafWords}
 abbrev pub fixed_of : List ℕ → Fixed
 fixed_of head = record { height = height_in (numbers_in head); columns = columns_in head; rows = rows_in head }
 
+-- a node of the words of its head and of those of its entries
 abbrev pub node_words_from : List ℕ → List ℕ → NodeWords
 node_words_from head tail = record {
   fixed = fixed_of head;
   subtrie = piece_of (Leaf 0) (fixed_of head).columns (fixed_of head).rows (entries_of (count_in (numbers_in head)) tail);
 }
 
+-- a node of its words, from offset 1 on
 unfoldable pub node_words_of : List ℕ → NodeWords
 node_words_of words = node_words_from (take HEAD_WORDS words) (drop HEAD_WORDS words)
 
+-- a leaf of its words
 unfoldable pub leaf_of : List ℕ → LeafWords
 leaf_of words = record { key = leaf_key_in words; value = leaf_value_in words }
 
@@ -47,6 +50,7 @@ head_entry (leaf n k v) = Some (Leaf n)
 head_entry (node n x b) = Some (Node n x.height)
 head_entry (fork p a b) = None
 
+-- the entry of a tree, if there is one
 abbrev pub root_of : Option Tree → Option Entry
 root_of None = None
 root_of (Some t) = head_entry t

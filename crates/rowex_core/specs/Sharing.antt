@@ -29,6 +29,7 @@ abbrev pub is_by : ℕ → Option ℕ → Bool
 is_by q None = false
 is_by q (Some p) = nat_eq p q
 
+-- the record is linked
 abbrev pub is_in_tree : Fate → Bool
 is_in_tree (InTree since) = true
 is_in_tree f = false
@@ -71,6 +72,7 @@ share q c = record {
 abbrev pub of_record : Rec → List Owned → List Owned
 of_record r own = filter (λ o. same_rec r o.rec) own
 
+-- the locks of this node
 abbrev pub of_node : ℕ → List Locked → List Locked
 of_node n locks = filter (λ l. nat_eq n l.node) locks
 
@@ -96,14 +98,17 @@ nothing = record {
 
 -- In other words: what the pass knows of each record and node by itself
 
+-- the fate of a record that a pass holds so
 abbrev pub fate_of : ℕ → Holding → Fate
 fate_of q Held = HeldBy q
 fate_of q IsReady = ReadyBy q
 fate_of q (Unlinked since last) = UnlinkedBy since last q
 
+-- a record is the pass's as it knows it, and has the words that it knows
 abbrev pub IsOwned : ℕ → Core → Owned → Type 0
 IsOwned q c o = (c.fate o.rec ≡ fate_of q o.holding) × (c.words o.rec ≡ o.words)
 
+-- a node is locked by the pass and in the tree, and has the words that it knows
 abbrev pub IsLocked : ℕ → Core → Locked → Type 0
 IsLocked q c l = (c.lock l.node ≡ Some q) × IsInTree c l.node × (c.words (a_node l.node) ≡ l.words)
 

@@ -97,6 +97,7 @@ Appends (Load words) c d =
     (q : ℕ) × (d.changes ≡ c.changes ++ map (added_change q) (items_of (loaded_tree c.layout words.now))) × (d.past ≡ loaded_past (loaded_tree c.layout words.now))
 Appends _ c d = (d.changes ≡ c.changes) × (d.past ≡ c.past)
 
+-- Only a publish appends a change.
 abbrev pub OnlyPublishAppends : Type 0
 OnlyPublishAppends = (c : Core) (q : ℕ) (act : Act) → Appends act c (after c q act)
 
@@ -142,6 +143,7 @@ call_of_kind Added key value = Upsert key value
 call_of_kind Replaced key value = Upsert key value
 call_of_kind Removed key value = Remove key
 
+-- a call that makes this change
 abbrev pub call_of_change : Change → Call
 call_of_change x = call_of_kind x.kind x.key x.value
 

@@ -14,6 +14,7 @@ use Rattle.versions.specs.declared.Pin.{Pin}
 use Rattle.versions.specs.Core.{Fate, Free, Held, Ready, InTree, Unlinked, Marked}
 use Rattle.rowex_core.specs.Cores.{Core}
 
+-- the state of a live node, by its lock
 abbrev pub lock_tag : Option ℕ → Tag
 lock_tag None = Live
 lock_tag (Some q) = Locked
@@ -32,9 +33,11 @@ abbrev pub lock_of : Core → Rec → Option ℕ
 lock_of c (a_node n) = c.lock n
 lock_of c (a_leaf n) = None
 
+-- the state word of a record
 abbrev pub state_at : Core → Rec → ℕ
 state_at c r = state_word (tag_of (lock_of c r) (c.fate r))
 
+-- the word of a pin, or of none
 abbrev pub pin_word : Option Pin → ℕ
 pin_word None = NO_PIN
 pin_word (Some p) = p.word
@@ -44,6 +47,7 @@ abbrev pub record_word : Core → Rec → ℕ → ℕ
 record_word c r zero = state_at c r
 record_word c r (suc offset) = get_or (c.words r) offset 0
 
+-- What stands at a location.
 abbrev pub word_at : Core → Location → ℕ
 word_at c Epoch = c.epoch
 word_at c Root = entry_word c.root

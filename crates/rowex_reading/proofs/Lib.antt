@@ -1,24 +1,6 @@
 -- The lemmas of the crate.
-pub mod Seeing
-pub mod Later
-pub mod Loading
-pub mod Rooting
-pub mod Standing
-pub mod Placing
-pub mod Valuing
-pub mod Wording
-pub mod Heading
-pub mod Leafing
-pub mod Fronting
-pub mod Whole
-pub mod Comparing
-pub mod Led
+pub mod Seen
+pub mod Possible
 pub mod Touching
-pub mod Looking
-pub mod Shapes
 pub mod Ways
-pub mod Descents
 pub mod Counting
-pub mod SideBySide
-pub mod Stepping
-pub mod Naming

@@ -15,7 +15,7 @@ use Rattle.compound_node.specs.declared.entries.Entry.{Entry}
 use Rattle.record_words.specs.declared.records.Rec.{Rec}
 use Rattle.rowex_reading.specs.Lookups.{search_touches}
 use Rattle.rowex_reading.specs.Seen.{AreLoaded, IsLedTo}
-use Rattle.rowex_reading.proofs.Led.{reads_trans}
+use Rattle.rowex_reading.proofs.Seen.Led.{reads_trans}
 
 -- touches after touches
 pub touched_on : (n m : ℕ) (r s t : SeatView) → s ≡ touched n r → t ≡ touched m s → t ≡ touched (n + m) r

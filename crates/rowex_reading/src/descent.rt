@@ -50,6 +50,8 @@ pub fn search_way<G: Gate>(
     ensures way { IsWayOf table.now.layout seat.new.known (since seat.new.known) key.now way.new.items result }
     ensures found { HasFound seat.new.known key.now (value_of result) }
 {
+    // What a function has is 0 where it begins, so this costs nothing there.
+    let mut places = [0; MAX_BYTES];
     way.clear();
     let Some(mut entry) = load_root(table, seat, gate) else {
         prove!(key.as_bytes().len() <= MAX_BYTES);
@@ -58,7 +60,6 @@ pub fn search_way<G: Gate>(
     loop {
         match entry {
             Entry::Leaf(number) => {
-                let mut places = [0; MAX_BYTES];
                 let leaf = table.locate(Rec::Leaf(number));
                 let (length, value) = load_leaf(table, seat, gate, leaf, &mut places);
                 return Found::Leaf {

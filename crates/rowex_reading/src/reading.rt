@@ -23,7 +23,7 @@ use insert_cases::PathNode;
 use key_bits::{Key, MAX_BYTES};
 use record_words::{
     CACHE_LINE_WORDS, FIELDS_OFFSET, FIRST_KEY_WORD, FIRST_POSITIONS, FIRST_ROWS, HEAD_WORDS,
-    HeadNumbers, KEY_OFFSET, Kind, LENGTH_OFFSET, MIDDLE_HEAD_WORDS, MIDDLE_KIND,
+    HeadKind, HeadNumbers, KEY_OFFSET, LENGTH_OFFSET, MIDDLE_HEAD_WORDS, MIDDLE_KIND,
     NARROW_HEAD_WORDS, NARROW_KIND, NODE_WORDS, NUMBERS_INDEX, ROW_WORDS, count_key_words,
     extract_dense_key, first_position_of, index_of_first_position, key_word_at, kind_number,
     read_entry, read_numbers, read_some_entry, search_middle, search_narrow, search_row_words,
@@ -89,7 +89,7 @@ pub(crate) fn load_head_words<G: Gate>(
     words[NUMBERS_INDEX] = first[0];
     let from = FIRST_POSITIONS;
     match read_numbers(first[0]).kind {
-        Kind::Narrow => {
+        HeadKind::Narrow => {
             load_head_part(
                 table,
                 seat,
@@ -99,7 +99,7 @@ pub(crate) fn load_head_words<G: Gate>(
                 &mut words[from..NARROW_HEAD_WORDS],
             );
         }
-        Kind::Middle => {
+        HeadKind::Middle => {
             load_head_part(
                 table,
                 seat,
@@ -109,7 +109,7 @@ pub(crate) fn load_head_words<G: Gate>(
                 &mut words[from..MIDDLE_HEAD_WORDS],
             );
         }
-        Kind::Wide => load_head_part(table, seat, gate, node, from, &mut words[from..]),
+        HeadKind::Wide => load_head_part(table, seat, gate, node, from, &mut words[from..]),
     }
     words
 }
@@ -197,14 +197,14 @@ pub fn search_node<G: Gate>(
             let mut words = [first[0]; NARROW_HEAD_WORDS];
             load_head_part(table, seat, gate, node, from, &mut words[from..]);
             let slot = search_narrow(&words, key);
-            let word = words[index_of_first_position(Kind::Narrow)];
+            let word = words[index_of_first_position(HeadKind::Narrow)];
             path_node(number, numbers, word, slot)
         }
         MIDDLE_KIND => {
             let mut words = [first[0]; MIDDLE_HEAD_WORDS];
             load_head_part(table, seat, gate, node, from, &mut words[from..]);
             let slot = search_middle(&words, key);
-            let word = words[index_of_first_position(Kind::Middle)];
+            let word = words[index_of_first_position(HeadKind::Middle)];
             path_node(number, numbers, word, slot)
         }
         _ => {
@@ -214,7 +214,7 @@ pub fn search_node<G: Gate>(
             let mut back = [0; ROW_WORDS];
             load_head_part(table, seat, gate, node, FIRST_ROWS, &mut back);
             let slot = search_row_words(&back, dense);
-            let word = front[index_of_first_position(Kind::Wide)];
+            let word = front[index_of_first_position(HeadKind::Wide)];
             path_node(number, numbers, word, slot)
         }
     }

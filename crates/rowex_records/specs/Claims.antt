@@ -27,6 +27,7 @@ abbrev pub record_of : RecordKind → ℕ → Rec
 record_of Node = a_node
 record_of (Leaf first end) = λ i. a_leaf (first + i)
 
+-- how many records a claim of this kind may search
 abbrev pub count_of : RecordKind → Layout → ℕ
 count_of Node layout = layout.nodes
 count_of (Leaf first end) layout = end - first

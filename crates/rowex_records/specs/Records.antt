@@ -37,6 +37,7 @@ abbrev pub stored : List ℕ → ℕ → List ℕ → List ℕ
 stored words zero old = old
 stored words (suc i) old = set (stored words i old) i (get_or words i 0)
 
+-- an own record of which the first i words have been stored
 abbrev pub stored_in : Rec → List ℕ → ℕ → Owned → Owned
 stored_in r words i o = if same_rec o.rec r then record o { words = stored words i o.words } else o
 

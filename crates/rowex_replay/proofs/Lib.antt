@@ -1,3 +1,2 @@
 -- The lemmas of the crate.
 pub mod Runs
-pub mod Walks

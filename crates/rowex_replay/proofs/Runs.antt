@@ -19,7 +19,7 @@ use Rattle.rowex_replay_state.specs.States.{StateView, IsStateOf, HasLock, IsLoc
 use Rattle.rowex_replay.specs.Replays.{IsAfter, MayWantMemory}
 use Rattle.record_words.specs.declared.records.Rec.TheVariants.{Leaf as a_leaf}
 use Rattle.rowex_replay_state.proofs.Tables.{within, has_words}
-use Rattle.rowex_replay_state.proofs.Valued.{namer_at}
+use Rattle.rowex_replay_state.proofs.States.Valued.{namer_at}
 
 -- ---- runs
 

@@ -27,8 +27,10 @@ HasLegalEvents run = EventsLead (opening run.layout) run.events (core_of run)
 
 -- a run of no event yet, and one with one event more
 
+-- a run without events
 abbrev pub new_run : Layout → Run
 new_run layout = record { layout = layout; events = [] }
 
+-- a run with one event more
 abbrev pub with_event : Run → Event → Run
 with_event run x = record { layout = run.layout; events = run.events ++ x ∷ [] }

@@ -14,7 +14,7 @@ use Rattle.rowex_core.specs.Events.{LegalAct, after, IsFixedOffset}
 use Rattle.rowex_replay_state.specs.Records.{HasState, HasWordStored}
 use Rattle.rowex_replay_state.specs.States.{StateView, IsStateOf, IsStepped}
 use Rattle.rowex_replay_state.proofs.Tables as table
-use Rattle.rowex_replay_state.proofs.Reading.{state_from, state_is, words_from}
+use Rattle.rowex_replay_state.proofs.States.{state_from, state_is, words_from}
 
 -- what a test decides that is true exactly where the act is legal, of an act that changes nothing
 pub decided : (b : Bool) (s : StateView) (q : ℕ) (act : Act) → ((c : Core) → IsStateOf s c → IsStateOf s (after c q act)) →

@@ -10,7 +10,7 @@ use Rattle.rowex_replay_state.specs.declared.fate.Fate.TheVariants.{InTree as Is
 use Rattle.rowex_replay_state.specs.Records.{RecordsView, HasState, fate_in, lock_in, with_lock_in}
 use Rattle.rowex_replay_state.specs.States.{StateView, IsStateOf}
 use Rattle.rowex_replay_state.proofs.Tables as table
-use Rattle.rowex_replay_state.proofs.Reading.{state_from, fate_at, tree_from, with_records_is}
+use Rattle.rowex_replay_state.proofs.States.{state_from, fate_at, tree_from, with_records_is}
 use Rattle.versions.specs.Steps.{with_lock}
 
 pub lock_is : (s : StateView) (c : Core) → IsStateOf s c → (n : ℕ) (o : Option ℕ) → IsStateOf (record s { records = with_lock_in s.records n o }) (record c { shared = with_lock c.shared n o })

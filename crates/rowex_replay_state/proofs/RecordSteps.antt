@@ -14,9 +14,9 @@ use Rattle.rowex_replay_state.specs.Fates.{stored_fate}
 use Rattle.rowex_replay_state.specs.Records.{RecordsView, HasState, IsPackedIn, words_in, fate_in, with_fate_in, with_words_in}
 use Rattle.rowex_replay_state.specs.States.{StateView, IsStateOf}
 use Rattle.rowex_replay_state.proofs.Tables as table
-use Rattle.rowex_replay_state.proofs.Reading.{held_at, state_from, state_is, words_from, with_records_is}
+use Rattle.rowex_replay_state.proofs.States.{held_at, state_from, state_is, words_from, with_records_is}
 use Rattle.versions.specs.Steps.{with_fate}
-use Rattle.rowex_core.proofs.States.{free_tag}
+use Rattle.rowex_core.proofs.Words.{free_tag}
 
 -- the replay with one fate changed is at the core with that fate changed
 pub with_fate_is : (s : StateView) (c : Core) → IsStateOf s c → (r : Rec) (g : Stored) → IsStateOf (record s { records = with_fate_in s.records r g }) (record c { shared = with_fate c.shared r (stored_fate g) })

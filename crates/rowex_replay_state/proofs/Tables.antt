@@ -8,7 +8,7 @@ use Rattle.record_words.specs.declared.records.Rec.{Rec}
 use Rattle.record_words.specs.declared.records.Rec.TheVariants.{Node as a_node, Leaf as a_leaf}
 use Rattle.versions.specs.Core.{Fate}
 use Rattle.versions.specs.Steps.{same_rec}
-use Rattle.versions.proofs.Legal.{same_rec_refl, same_rec_true}
+use Rattle.versions.proofs.Core.{same_rec_refl, same_rec_true}
 use Rattle.rowex_core.specs.Cores.{HasRecord}
 use Rattle.rowex_replay_state.specs.declared.fate.Fate.{Fate as Stored}
 use Rattle.rowex_replay_state.specs.Fates.{stored_fate}

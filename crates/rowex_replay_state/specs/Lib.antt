@@ -6,3 +6,7 @@ pub mod Links
 pub mod Passes
 pub mod States
 pub mod Publishing
+pub mod Versions
+pub mod Parts
+pub mod Changed
+pub mod Statements

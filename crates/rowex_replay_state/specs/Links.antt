@@ -21,6 +21,7 @@ MayBeUnlinked q linked lock f = linked ≡ false → IsStoredInTree f → lock �
 abbrev pub AllMayBeLinked : ℕ → List Bool → List Stored → Type 0
 AllMayBeLinked q linked fates = (i : ℕ) (f : Stored) → slice_get fates i ≡ Some f → MayBeLinked q (get_or linked i false) f
 
+-- each node that is linked no more may be unlinked by the pass
 abbrev pub AllMayBeUnlinked : ℕ → List Bool → List (Option ℕ) → List Stored → Type 0
 AllMayBeUnlinked q linked locks fates =
     (i : ℕ) (f : Stored) → slice_get fates i ≡ Some f → MayBeUnlinked q (get_or linked i false) (get_or locks i None) f

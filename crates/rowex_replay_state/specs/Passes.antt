@@ -15,6 +15,7 @@ fresh_pass = record { pin = None; epoch = 0; version = 0; bound = 0; seen = repl
 abbrev pub in_round : PassState → ℕ → ℕ → PassState
 in_round p epoch version = record { pin = p.pin; epoch = epoch; version = version; bound = epoch; seen = replicate MAX_STOCK_PASSES false }
 
+-- a bound, lowered to a pin
 abbrev pub lowered_by : ℕ → Option ℕ → ℕ
 lowered_by bound None = bound
 lowered_by bound (Some w) = min bound w

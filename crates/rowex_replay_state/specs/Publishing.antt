@@ -1,7 +1,7 @@
 -- A publish, once its word is stored.
 use Rattle.std.specs.Prelude.{◌≡◌, ℕ, List, length, slice_get, Bool, true, false, if◌then◌else◌, nat_eq, Option, Some}
-use Rattle.replay_trees.specs.declared.linked.Item.{Item as ReadItem}
-use Rattle.replay_trees.specs.Versions.{read_item}
+use Rattle.rowex_replay_state.specs.declared.linked.Item.{Item as ReadItem}
+use Rattle.rowex_replay_state.specs.Versions.{read_item}
 use Rattle.tries.specs.Content.{Item, item}
 use Rattle.compound_node.specs.declared.entries.Entry.{Entry}
 use Rattle.finite_map.specs.declared.Change.{Change}

@@ -27,14 +27,17 @@ pub record RecordsView : Type 0 where
 
 -- what is stored of a record, where the table has it
 
+-- the words of a record, if there is one
 abbrev pub words_in : RecordsView → Rec → Option (List ℕ)
 words_in s (a_node n) = slice_get s.nodes n
 words_in s (a_leaf n) = slice_get s.leaves n
 
+-- its fate
 abbrev pub fate_in : RecordsView → Rec → Option Stored
 fate_in s (a_node n) = slice_get s.node_fates n
 fate_in s (a_leaf n) = slice_get s.leaf_fates n
 
+-- who has locked it, or nobody
 abbrev pub lock_in : RecordsView → Rec → Option (Option ℕ)
 lock_in s (a_node n) = slice_get s.locks n
 lock_in s (a_leaf n) = Some None
@@ -77,10 +80,12 @@ IsPackedIn s r = (words : List ℕ) × (words_in s r ≡ Some words) × IsPacked
 
 -- the records with one fate, one lock or the words of one record changed
 
+-- the records, one with another fate
 abbrev pub with_fate_in : RecordsView → Rec → Stored → RecordsView
 with_fate_in s (a_node n) f = record s { node_fates = set s.node_fates n f }
 with_fate_in s (a_leaf n) f = record s { leaf_fates = set s.leaf_fates n f }
 
+-- a node with another lock
 abbrev pub with_lock_in : RecordsView → ℕ → Option ℕ → RecordsView
 with_lock_in s n o = record s { locks = set s.locks n o }
 
@@ -89,6 +94,7 @@ abbrev pub with_fate_unlocked_in : RecordsView → Rec → Stored → RecordsVie
 with_fate_unlocked_in s (a_node n) f = with_fate_in (with_lock_in s n None) (a_node n) f
 with_fate_unlocked_in s (a_leaf n) f = with_fate_in s (a_leaf n) f
 
+-- a record with other words
 abbrev pub with_words_in : RecordsView → Rec → List ℕ → RecordsView
 with_words_in s (a_node n) words = record s { nodes = set s.nodes n words }
 with_words_in s (a_leaf n) words = record s { leaves = set s.leaves n words }

@@ -13,8 +13,8 @@ use Rattle.rowex_core.specs.declared.event.Spot.TheVariants.{Root, Slot, Value}
 use Rattle.partial_keys.specs.declared.TheConstants.{MAX_ENTRIES}
 use Rattle.rowex_core.specs.Cores.{Core, IsLawful}
 use Rattle.rowex_core.specs.Events.{LegalAct, after}
-use Rattle.replay_trees.specs.declared.linked.Item.{Item as ReadItem}
-use Rattle.replay_trees.specs.Versions.{read_item}
+use Rattle.rowex_replay_state.specs.declared.linked.Item.{Item as ReadItem}
+use Rattle.rowex_replay_state.specs.Versions.{read_item}
 use Rattle.rowex_replay_state.specs.declared.passes.PassState.{PassState}
 use Rattle.rowex_replay_state.specs.Passes.{ArePassesOf}
 use Rattle.rowex_replay_state.specs.Records.{RecordsView, AreRecordsOf, HasLockedEntry, lock_in, words_in}

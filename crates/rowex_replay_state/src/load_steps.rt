@@ -5,11 +5,11 @@ ghost use Rattle.rowex_core.specs.declared.event.Act.TheVariants.{LoadFixed, Loa
 ghost use Rattle.record_words.specs.Entry.{HasEntryWord, entry_word};
 ghost use Rattle.rowex_replay_state.specs.States.{IsStepped};
 
+use crate::entry::unpack_entry;
 use crate::record_steps::is_offset_of_fixed_word;
 use crate::state::State;
 use compound_node::Entry;
 use record_words::{HEAD_WORDS, MAX_ENTRIES};
-use replay_trees::unpack_entry;
 use rowex_core::{Rec, Spot};
 
 impl State {

@@ -8,12 +8,15 @@ ghost use Rattle.record_words.specs.Decoding.{entry_of};
 ghost use Rattle.rowex_replay_state.specs.Publishing.{AreRevalued, IsPublishJudged};
 ghost use Rattle.rowex_replay_state.specs.States.{HasLock, HasNamerLocked, IsStepped};
 
+use crate::changes::change_between;
+use crate::entry::unpack_entry;
+use crate::linked::Item;
 use crate::records::{are_node_words, with_word};
 use crate::state::State;
+use crate::trees::read_tree;
 use compound_node::Entry;
 use finite_map::{Change, Kind};
 use record_words::{HEAD_WORDS, MAX_ENTRIES, pack_entry};
-use replay_trees::{Item, change_between, read_tree, unpack_entry};
 use rowex_core::{Rec, Spot};
 use std::alloc::AllocError;
 

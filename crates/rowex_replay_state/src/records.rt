@@ -7,10 +7,11 @@ ghost use Rattle.rowex_replay_state.specs.declared.fate.Fate.TheVariants.{Held, 
 ghost use Rattle.record_words.specs.declared.records.Rec.TheVariants.{Node as a_node, Leaf as a_leaf};
 
 use crate::fate::Fate;
+use crate::leaf::unpack_leaf;
 use crate::links::{may_link, may_unlink, update_each_fate};
+use crate::node::unpack_node;
 use key_bits::Key;
 use record_words::{HEAD_WORDS, LEAF_FIELDS, Layout, MAX_ENTRIES, NODE_FIELDS, Tag, unpack_state};
-use replay_trees::{unpack_leaf, unpack_node};
 use rowex_core::Rec;
 use std::alloc::{AllocError, Global};
 use std::marker::Model;

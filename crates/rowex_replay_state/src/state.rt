@@ -4,13 +4,13 @@ ghost use Rattle.std.specs.Prelude.{◌≡◌, ◌<◌, IfOk, OnErr, OnOk, lengt
 ghost use Rattle.rowex_core.specs.Events.{IsAtomic as IsAtomicAct};
 
 use crate::fault::ReplayFault;
+use crate::linked::Item;
 use crate::passes::PassState;
 use crate::records::{Records, repeat_item};
 use compound_node::Entry;
 use finite_map::Change;
 use key_bits::Key;
 use record_words::Layout;
-use replay_trees::Item;
 use rowex_core::{Act, Event};
 use std::alloc::{AllocError, Global};
 use std::marker::Model;

@@ -1,11 +1,4 @@
 -- The lemmas of the crate.
-pub mod Ordering
-pub mod Directed
 pub mod Walking
-pub mod Passing
-pub mod Starting
-pub mod Turning
+pub mod Starts
 pub mod Scanned
-pub mod Parts
-pub mod Begins
-pub mod Runs

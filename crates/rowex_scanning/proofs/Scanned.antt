@@ -14,14 +14,14 @@ use Rattle.rowex_core.specs.declared.known.Known.{Known}
 use Rattle.rowex_core.specs.Knowing.{IsEvent}
 use Rattle.tries.specs.Keys.{Key}
 use Rattle.version_laws.specs.Scan.{Pair, Range, in_order_taken}
-use Rattle.version_laws.proofs.Fronts.{scan_is_lawful}
+use Rattle.version_laws.proofs.Scan.Fronts.{scan_is_lawful}
 use Rattle.rowex_reading.specs.Seen.{seen, since}
 use Rattle.version_laws.specs.Directions.{IsAnswer, IsLawfulBy}
 use Rattle.rowex_scanning.specs.Scanning.{HasScanned, HasTaken}
 use Rattle.rowex_scanning.specs.Tallies.{tally_of_pairs, values_taken}
 use Rattle.packed_pairs.specs.declared.direction.Direction.{Direction}
-use Rattle.rowex_reading.proofs.Seeing.{seen_told, seen_steady}
-use Rattle.rowex_reading.proofs.Later.{event_recalls}
+use Rattle.rowex_reading.proofs.Seen.{seen_told, seen_steady}
+use Rattle.rowex_reading.proofs.Seen.Later.{event_recalls}
 
 -- What a scan has taken is lawful from the last load of the root to what the pass has seen.
 module _ (d : Direction) (k : Known) (g : Range) (scan : Scan) (layout : Layout) (said : Known → List Note) (j : Known) (kf : IsKey g.from) (ku : IsKey g.upto) (p : Pin) (pin : k.pin ≡ Some p) (event : IsEvent layout ClearPin said k j) where

@@ -1,4 +1,5 @@
 -- The steps of a walk, over what its pass knows.
+use Rattle.std.proofs.Math.Nat.{min-eq_left, min-eq_right}
 use Rattle.std.proofs.Common.{◌≡◌, ◌≢◌, ◌⊎◌, inl, inr, ℕ, suc, ◌+◌, ◌-◌, ◌*◌, ◌^◌, ◌<◌, ◌≤◌, List, [], ◌∷◌, ◌++◌, length, refl, ap, sym, ◌∙◌, subst, arith, Bool, true, false, length-append, Option, Some, None, ⊎_elim}
 use Rattle.std.specs.Prelude.{◌↔◌, IsSome, IsTrue, option_to_list}
 use Rattle.std.proofs.Math.Nat.{add-mul, pow-suc, pow-le-pow_right, one-le-pow, mul-le-mul_right}
@@ -13,28 +14,28 @@ use Rattle.std.specs.declared.cmp.Ordering.TheVariants.{Less, Equal, Greater}
 use Rattle.key_bits.specs.Bits.{bit_of, IsFirstDifference}
 use Rattle.key_bits.specs.Key.{IsKey}
 use Rattle.key_bits.specs.declared.TheConstants.{MAX_BYTES}
-use Rattle.key_bits.proofs.Order.{first_difference, greater_by_first, less_iff_first}
+use Rattle.key_bits.proofs.Bits.Order.{first_difference, greater_by_first, less_iff_first}
 use Rattle.compound_node.specs.Nodes.{HeadView, IsLawfulNode, node_of, leaves}
 use Rattle.compound_node.specs.declared.entries.Entry.{Entry}
 use Rattle.compound_node.specs.declared.entries.Entry.TheVariants.{Leaf, Node}
 use Rattle.node_tries.specs.Piece.{size}
-use Rattle.node_tries.proofs.Paths.{length-places}
+use Rattle.node_tries.proofs.Piece.{length-places}
 use Rattle.tries.specs.Keys.{Key, bit, IsBefore, IsAtMost}
 use Rattle.versions.specs.State.{IsSteady}
 use Rattle.rowex_core.specs.declared.event.Event.{Event}
 use Rattle.rowex_core.specs.declared.known.Known.{Known}
 use Rattle.rowex_core.specs.Cores.{Core, IsLawful}
 use Rattle.rowex_core.specs.Knowing.{Recalls, IsPinnedSince}
-use Rattle.rowex_core.proofs.Owning.{recalls}
+use Rattle.rowex_core.proofs.Sharing.Owning.{recalls}
 use Rattle.record_words.specs.declared.TheConstants.{HEAD_WORDS, LEAF_FIELDS}
 use Rattle.record_words.specs.declared.layout.Layout.{Layout}
 use Rattle.insert_cases.specs.declared.choice.PathNode.{PathNode}
-use Rattle.version_laws.proofs.Starts.{beyond_at_place, beyond_behind, beyond_in_child, beyond_grown}
-use Rattle.version_laws.specs.Scan.{Pair, Range, IsInRange, IsRooted, IsPlaced, IsRead, IsBlank, IsShaped, IsStack, in_order_taken, Frame as Stage}
-use Rattle.version_laws.proofs.Scans.{leaf_may_stand, shaped_several}
-use Rattle.version_laws.proofs.Walk.{before, behind, scan_ended, scan_filled, scan_passed, scan_popped, scan_pushed, scan_taken, stack_shape}
-use Rattle.version_laws.proofs.Ends.{answer_blank, answer_nought, answer_one, answer_outside, none_between, stack_depth, stack_high, stack_low, stack_seen}
-use Rattle.version_laws.proofs.Persist.{rooted_grown, scan_grown}
+use Rattle.version_laws.proofs.Directions.Starts.{beyond_at_place, beyond_behind, beyond_in_child, beyond_grown}
+use Rattle.version_laws.specs.Scan.{Pair, Range, IsInRange, IsRooted, IsPlaced, IsRead, IsBlank, IsShaped, IsStack, Frame as Stage}
+use Rattle.version_laws.proofs.Scan.{leaf_may_stand, shaped_several}
+use Rattle.version_laws.proofs.Directions.{before, behind, scan_ended, scan_filled, scan_passed, scan_popped, scan_pushed, scan_taken, stack_shape}
+use Rattle.version_laws.proofs.Scan.Ends.{answer_blank, answer_nought, answer_one, answer_outside, none_between, stack_depth, stack_high, stack_low, stack_seen}
+use Rattle.version_laws.proofs.Scan.Persist.{rooted_grown, scan_grown}
 use Rattle.rowex_table.specs.Made.{IsLater}
 use Rattle.rowex_table.specs.Seats.{SeatView, TableView}
 use Rattle.rowex_reading.specs.Lookups.{HasSearched}
@@ -43,9 +44,10 @@ use Rattle.rowex_reading.specs.Reads.{Reads}
 use Rattle.rowex_reading.specs.Seen.{seen, Sure, IsAtRoot, IsLedTo, since, shape_of}
 use Rattle.rowex_reading.specs.Ways.{step_at}
 use Rattle.rowex_reading.proofs.Counting.{looks_count}
-use Rattle.rowex_reading.proofs.Led.{looks_on, placed_led, reads_trans, shape_place, HasShape}
-use Rattle.rowex_reading.proofs.Seeing.{placed_stable, recalls_before, seen_grown, seen_steady, since_later, sure_later, IsStable}
-use Rattle.rowex_scanning.specs.Counts.{AreWalkLoads, Scans, Walks, scan_loads}
+use Rattle.rowex_reading.proofs.Seen.Led.{looks_on, placed_led, reads_trans, shape_place, HasShape}
+use Rattle.rowex_reading.proofs.Seen.{placed_stable, recalls_before, seen_grown, seen_steady, since_later, sure_later, IsStable}
+use Rattle.rowex_scanning.specs.Counts.{AreWalkLoads, Scans, Walks, limit_by, scan_loads}
+use Rattle.rowex_scanning.specs.declared.ahead.TheConstants.{MOST_AHEAD}
 use Rattle.rowex_scanning.specs.Ahead.{HasPlaces, entries_ahead}
 use Rattle.rowex_scanning.specs.declared.ahead.Ahead.{Ahead}
 use Rattle.version_laws.specs.Directions.{IsAnswer, IsPastKey, IsEarlier, IsNoLater, IsScanBy, first_gap, first_key, gap_after, gap_before, gap_behind, last_key, place_ahead, to_come}
@@ -55,7 +57,7 @@ use Rattle.packed_pairs.specs.declared.direction.Direction.{Direction}
 use Rattle.packed_pairs.specs.declared.direction.Direction.TheVariants.{Upwards, Downwards}
 use Rattle.rowex_scanning.specs.declared.scan.Verdict.{Verdict}
 use Rattle.rowex_scanning.specs.declared.scan.Verdict.TheVariants.{Further, Past as IsPast, Full}
-use Rattle.rowex_scanning.proofs.Directed.{before_fits, behind_fits, come_after, come_behind, come_first, come_most, first_fits, gap_before_place, place_inside, out_first, out_last}
+use Rattle.rowex_scanning.proofs.direction.Directed.{before_fits, behind_fits, come_after, come_behind, come_first, come_most, first_fits, gap_before_place, place_inside, out_first, out_last}
 
 -- What a walk has still to do, at most: its measure.
 abbrev pub rest_of_frames : Direction → List PathNode → ℕ
@@ -143,10 +145,6 @@ module _ {A : Type 0} where
   pub empty_is : (xs : List A) → length xs ≡ 0 → xs ≡ []
   empty_is [] e = refl
   empty_is (x ∷ xs) e = absurd (omega arith)
-
-pub length_in_order_taken : (xs : List Pair) → length (in_order_taken xs) ≡ length xs
-length_in_order_taken [] = refl
-length_in_order_taken (x ∷ xs) = let e = length-append (in_order_taken xs) ((x.key, x.value) ∷ []) in let h = length_in_order_taken xs in omega arith
 
 pub length_frames : (fs : List Stage) → length (frames_of fs) ≡ length fs
 length_frames [] = refl
@@ -587,16 +585,24 @@ paid_most : (d : Direction) (loads entries seen more pairs limit : ℕ) (top : P
 paid_most d loads entries seen more pairs limit top frames (low, paid) few short within asked =
     let most = spare_most d frames in record { most = omega (arith, paid, short, within, asked, most); few = omega (arith, low, few, asked) }
 
-pub paid_last : {G : Type 0} {table : TableView} {becomes : G → Event → G → Type 0} {a b y z : SeatView × G} {d : Direction} {m : ℕ} {g : Range} {top : PathNode} {frames : List PathNode} {t : Tally} →
-    (loads entries : ℕ) × IsPaid d loads entries t.size top frames × Reads table becomes entries loads a b → IsWalk b.0.known m (d, g) top frames t → IsPossible table.layout b.0.known → (ahead : Ahead) →
-    t.size + entries_ahead ahead ≤ g.limit + 1 → (n : ℕ) × (n ≤ entries_ahead ahead + ahead.count) × Reads table becomes (entries_ahead ahead) n b y → (n : ℕ) × (n ≤ LEAF_FIELDS * ahead.count) × Reads table becomes 0 n y z →
-    Walks table becomes 0 g.limit a z
-paid_last {d = d} {g = g} {top = top} {frames = frames} {t = t} (loads, entries, paid, before) w possible ahead asked (seen, few, looks) (leaves, less, reads) = (
+pub paid_last : {G : Type 0} {table : TableView} {becomes : G → Event → G → Type 0} {a b y z : SeatView × G} {d : Direction} {m : ℕ} {g : Range} {top : PathNode} {frames : List PathNode} {t : Tally} (limit : ℕ) →
+    (loads entries : ℕ) × IsPaid d loads entries t.size top frames × Reads table becomes entries loads a b → IsWalk b.0.known m (d, g) top frames t → IsPossible table.layout b.0.known → (ahead : Ahead) → t.size ≤ limit →
+    t.size + entries_ahead ahead ≤ limit + 1 → (n : ℕ) × (n ≤ entries_ahead ahead + ahead.count) × Reads table becomes (entries_ahead ahead) n b y → (n : ℕ) × (n ≤ LEAF_FIELDS * ahead.count) × Reads table becomes 0 n y z →
+    Walks table becomes 0 limit a z
+paid_last {d = d} {top = top} {frames = frames} {t = t} limit (loads, entries, paid, before) w possible ahead within asked (seen, few, looks) (leaves, less, reads) = (
   loads + (seen + leaves),
   entries + (entries_ahead ahead + 0),
-  paid_most d loads entries (entries_ahead ahead + 0) (seen + leaves) t.size g.limit top frames paid (omega (arith, few, less)) (way_short w possible) (walk_short w possible) (omega (arith, asked)),
+  paid_most d loads entries (entries_ahead ahead + 0) (seen + leaves) t.size limit top frames paid (omega (arith, few, less)) (way_short w possible) within (omega (arith, asked)),
   reads_trans before (reads_trans looks reads),
 )
+
+-- one more than the leaves at most
+pub ahead_most : (a : Ahead) → entries_ahead a ≤ a.count + 1
+ahead_most a = let most = one_most a.node in omega (arith, most)
+  where
+    one_most : {A : Type 0} (o : Option A) → length (option_to_list o) ≤ 1
+    one_most None = omega arith
+    one_most (Some x) = omega arith
 
 -- at the end of the way
 pub paid_end : (d : Direction) (loads entries pairs limit : ℕ) (top : PathNode) (frames : List PathNode) → IsPaid d loads entries pairs top frames → frames ≡ [] → pairs ≤ limit → AreWalkLoads 0 limit entries loads
@@ -627,6 +633,14 @@ searched_scans limit s within (loads, entries, are, rest) =
 pub scans_few : {G : Type 0} {table : TableView} {becomes : G → Event → G → Type 0} {a d : SeatView × G} (limit : ℕ) → Scans table becomes limit a d → d.0.known.steps ≤ a.0.known.steps + (1 + scan_loads limit)
 scans_few {table = table} {becomes = becomes} {a = a} {d = d} limit (loads, entries, are, looks) =
     let count = looks_count table becomes entries loads a d looks in let most = are.most in let few = are.few in omega (arith, count, few, most)
+
+-- by the lesser of the limit and of the pairs that were taken
+pub scans_least : {G : Type 0} {table : TableView} {becomes : G → Event → G → Type 0} {a d : SeatView × G} (limit taken : ℕ) → Scans table becomes limit a d → Scans table becomes (taken + MOST_AHEAD) a d →
+    Scans table becomes (limit_by limit taken) a d
+scans_least {table = table} {becomes = becomes} {a = a} {d = d} limit taken by_limit by_taken = ⊎_elim
+    (λ (low : limit < taken + MOST_AHEAD). subst (λ n. Scans table becomes n a d) (sym (min-eq_left (omega (arith, low)))) by_limit)
+    (λ (high : taken + MOST_AHEAD ≤ limit). subst (λ n. Scans table becomes n a d) (sym (min-eq_right high)) by_taken)
+    (cases_lt limit (taken + MOST_AHEAD))
 
 -- What comes later than the first key
 

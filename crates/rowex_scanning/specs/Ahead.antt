@@ -86,6 +86,7 @@ AreWithin j m g leaves count = (i : ℕ) → i < count → Sure j (λ s. (key : 
 abbrev pub IsLeafPast : Known → ℕ → Request → ℕ → Type 0
 IsLeafPast j m r number = Sure j (λ s. (key : Key) × (value : ℕ) × IsRead s m number key value × IsEarlier r.0 (last_key r.0 r.1) key)
 
+-- the pass is sure that the leaf's key isn't past the range
 abbrev pub IsLeafNotPast : Known → ℕ → Request → ℕ → Type 0
 IsLeafNotPast j m r number = Sure j (λ s. (key : Key) × (value : ℕ) × IsRead s m number key value × IsNoLater r.0 key (last_key r.0 r.1))
 

@@ -1,10 +1,11 @@
 -- How many loads a scan makes at most.
-use Rattle.std.specs.Prelude.{ℕ, ◌+◌, ◌*◌, ◌≤◌}
+use Rattle.std.specs.Prelude.{ℕ, ◌+◌, ◌*◌, ◌≤◌, min}
 use Rattle.key_bits.specs.declared.TheConstants.{MAX_BYTES}
 use Rattle.record_words.specs.declared.TheConstants.{HEAD_WORDS, LEAF_FIELDS}
 use Rattle.rowex_core.specs.declared.event.Event.{Event}
 use Rattle.rowex_table.specs.Seats.{SeatView, TableView}
 use Rattle.rowex_reading.specs.Reads.{Looks, Reads}
+use Rattle.rowex_scanning.specs.declared.ahead.TheConstants.{MOST_AHEAD}
 
 -- The entries that the walk of a scan loads: one for each node that it enters, and at most one for each leaf that it reads. A node has
 -- two entries or more, so it enters as many nodes as it reads leaves, and at most two more for each node on its way.
@@ -30,6 +31,7 @@ scan_entries limit = 9 * MAX_BYTES + walk_entries limit
 abbrev pub loads_by : ℕ → ℕ → ℕ
 loads_by limit entries = LEAF_FIELDS + (HEAD_WORDS + LEAF_FIELDS) + 26 * entries + 8 * (limit + 1)
 
+-- a scan has loaded no more than its limit allows for
 pub record AreScanLoads (limit entries loads : ℕ) : Type 0 where
   pub most : entries ≤ scan_entries limit
   pub few : loads ≤ loads_by limit entries
@@ -41,3 +43,7 @@ Scans table becomes limit a b = (loads entries : ℕ) × AreScanLoads limit entr
 -- the loads of a scan below the root, whatever it finds
 abbrev pub scan_loads : ℕ → ℕ
 scan_loads limit = loads_by limit (scan_entries limit)
+
+-- A walk that took so many pairs has looked at 16 leaves more at most: it makes no more loads than with this limit, if that is the lesser.
+abbrev pub limit_by : ℕ → ℕ → ℕ
+limit_by limit taken = min limit (taken + MOST_AHEAD)

@@ -19,6 +19,7 @@ use Rattle.rowex_scanning.specs.declared.scan.Range.{Range as Asked}
 use Rattle.rowex_scanning.specs.declared.scan.Verdict.{Verdict}
 use Rattle.rowex_scanning.specs.declared.scan.Verdict.TheVariants.{Further, Past as IsPast, Full}
 
+-- the range and the limit that are asked for
 abbrev pub asked_range : Asked → Range
 asked_range r = record { from = r.from.now; upto = r.upto.now; limit = r.limit }
 
@@ -26,6 +27,7 @@ asked_range r = record { from = r.from.now; upto = r.upto.now; limit = r.limit }
 abbrev pub Request : Type 0
 Request = Direction × Range
 
+-- what a scan asks for, as a definition
 abbrev pub request_of : Asked → Request
 request_of r = (r.direction, asked_range r)
 
@@ -33,6 +35,7 @@ request_of r = (r.direction, asked_range r)
 abbrev pub first_key_of : Asked → Key
 first_key_of r = first_key r.direction (asked_range r)
 
+-- the key at which it ends
 abbrev pub last_key_of : Asked → Key
 last_key_of r = last_key r.direction (asked_range r)
 
@@ -54,6 +57,7 @@ pub record HasScanned (d : Direction) (k : Known) (g : Range) (pairs : List (Key
   pub pairs_are : pairs ≡ in_order_taken taken
   pub answer : Sure k (λ s. IsAnswer d s (since k) g taken more)
 
+-- a scan that was cut at the number of these pairs, below its limit, has listed them, and there were more
 abbrev pub HasScannedPart : Direction → Known → Range → List (Key × ℕ) → Type 0
 HasScannedPart d k g pairs = (length pairs < g.limit) × HasScanned d k (limited g (length pairs)) pairs true
 

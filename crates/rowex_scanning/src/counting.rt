@@ -9,7 +9,7 @@ ghost use Rattle.record_words.specs.declared.TheConstants.{LEAF_FIELDS};
 ghost use Rattle.rowex_reading.specs.Reads.{IsReader, Reads};
 ghost use Rattle.rowex_reading.specs.Seen.{IsLedTo, since};
 ghost use Rattle.rowex_scanning.specs.Ahead.{AreBehindGap, AreParted, IsLeafNotPast, IsLeafPast};
-ghost use Rattle.rowex_scanning.specs.Counts.{Scans, scan_loads};
+ghost use Rattle.rowex_scanning.specs.Counts.{Scans, limit_by, scan_loads};
 ghost use Rattle.rowex_scanning.specs.Scanning.{HasTaken, asked_range, request_of};
 ghost use Rattle.rowex_scanning.specs.Tallies.{tally_of_number};
 ghost use Rattle.rowex_table.specs.Seats.{IsSeatOf};
@@ -44,11 +44,6 @@ impl Tallies for Number {
 
     #[inline(always)]
     fn touch_leaf(&self, _scan: &Scan, _seat: &mut TableSeat, _leaf: RecordAt) {}
-
-    #[inline(always)]
-    fn reset(&mut self) {
-        self.count = 0;
-    }
 
     #[inline(always)]
     fn size(&self) -> usize {
@@ -106,10 +101,10 @@ pub fn count_root<G: Gate>(
 ) -> (usize, bool)
     requires own { IsSeatOf table.now seat.old }
     requires pinned { IsSome seat.old.known.pin }
-    ensures looks { Scans table.now G.becomes range.now.limit (seat.old, gate.old) (seat.new, gate.new) }
+    ensures looks { Scans table.now G.becomes (limit_by range.now.limit result.0) (seat.old, gate.old) (seat.new, gate.new) }
     ensures keys { IsKey range.now.from.now × IsKey range.now.upto.now }
     ensures counted { HasTaken range.now.direction seat.new.known (asked_range range.now) (tally_of_number result.0) result.1 }
-    ensures few { seat.new.known.steps ≤ seat.old.known.steps + (1 + scan_loads range.now.limit) }
+    ensures few { seat.new.known.steps ≤ seat.old.known.steps + (1 + scan_loads (limit_by range.now.limit result.0)) }
 {
     let mut number = Number { count: 0 };
     match walk_root(table, seat, gate, way, range, &mut number) {

@@ -14,6 +14,7 @@ ghost use Rattle.rowex_scanning.specs.Counts.{Scans, Walks, scan_loads};
 ghost use Rattle.rowex_scanning.specs.Scanning.{HasScanned, HasScannedPart, HasTaken, HasTakenPart};
 ghost use Rattle.rowex_scanning.specs.Scanning.{IsEntered, IsWalkAlong, asked_range, first_key_of, request_of};
 ghost use Rattle.rowex_scanning.specs.Tallies.{IsNone, tally_of_values};
+ghost use Rattle.rowex_scanning.specs.declared.ahead.TheConstants.{MOST_AHEAD};
 
 use crate::ahead::{MOST_AHEAD, load_entries_ahead};
 use crate::direction::{
@@ -57,6 +58,7 @@ pub fn scan_root<G: Gate>(
     ensures few { seat.new.known.steps ≤ seat.old.known.steps + (1 + scan_loads range.now.limit) }
 {
     let mut filling = Filling::take(pairs);
+    filling.clear();
     let scan = walk_root(table, seat, gate, way, range, &mut filling);
     filling.put_back(pairs);
     scan
@@ -80,11 +82,12 @@ pub fn scan_values<G: Gate>(
     ensures part { OnErr result (HasTakenPart range.now.direction seat.new.known (asked_range range.now) (tally_of_values values.new.items)) }
     ensures few { seat.new.known.steps ≤ seat.old.known.steps + (1 + scan_loads range.now.limit) }
 {
+    values.clear();
     walk_root(table, seat, gate, way, range, values)
 }
 
-/// Gives `sink` the first pairs of `range` in its direction, `range.limit` at most, in place of those that it has. Returns whether there is
-/// a further one. An error if memory is refused. Inline, as [`scan_root`] is.
+/// Gives `sink`, which has no pair before, the first pairs of `range` in its direction, `range.limit` at most. Returns whether there is a
+/// further one. An error if memory is refused. Inline, as [`scan_root`] is.
 #[inline(always)]
 pub(crate) fn walk_root<G: Gate, S: Sink>(
     table: &HotTable,
@@ -96,14 +99,15 @@ pub(crate) fn walk_root<G: Gate, S: Sink>(
 ) -> Result<bool, AllocError>
     requires own { IsSeatOf table.now seat.old }
     requires pinned { IsSome seat.old.known.pin }
+    requires empty { IsNone (S.tally sink.old) }
     ensures looks { Scans table.now G.becomes range.now.limit (seat.old, gate.old) (seat.new, gate.new) }
+    ensures passed { Scans table.now G.becomes ((S.tally sink.new).size + MOST_AHEAD) (seat.old, gate.old) (seat.new, gate.new) }
     ensures keys { IsKey range.now.from.now × IsKey range.now.upto.now }
     ensures scanned { IfOk result (HasTaken range.now.direction seat.new.known (asked_range range.now) (S.tally sink.new)) }
     ensures part { OnErr result (HasTakenPart range.now.direction seat.new.known (asked_range range.now) (S.tally sink.new)) }
     ensures refused { OnErr result S.may_refuse }
     ensures few { seat.new.known.steps ≤ seat.old.known.steps + (1 + scan_loads range.now.limit) }
 {
-    sink.reset();
     if is_key_before(range.upto.as_bytes(), range.from.as_bytes()) {
         load_root(table, seat, gate);
         return Ok(false);
@@ -182,6 +186,7 @@ fn scan_node<G: Gate, S: Sink>(
     requires way { IsSearchEnd scan.now.table.now.layout seat.old.known (since seat.old.known) (first_key_of scan.now.range.now) way.old.items found }
     requires empty { IsNone (S.tally sink.old) }
     ensures reads { Walks scan.now.table.now G.becomes (HEAD_WORDS + LEAF_FIELDS) scan.now.range.now.limit (seat.old, gate.old) (seat.new, gate.new) }
+    ensures passed { Walks scan.now.table.now G.becomes (HEAD_WORDS + LEAF_FIELDS) ((S.tally sink.new).size + MOST_AHEAD) (seat.old, gate.old) (seat.new, gate.new) }
     ensures scanned { IfOk result (HasTaken scan.now.range.now.direction seat.new.known (asked_range scan.now.range.now) (S.tally sink.new)) }
     ensures part { OnErr result (HasTakenPart scan.now.range.now.direction seat.new.known (asked_range scan.now.range.now) (S.tally sink.new)) }
     ensures refused { OnErr result S.may_refuse }
@@ -220,6 +225,7 @@ fn walk_slots<G: Gate, S: Sink>(
     requires origins { scan.now.origins.now.layout ≡ scan.now.table.now.layout }
     requires walk { IsWalkAlong seat.old.known (since seat.old.known) (request_of scan.now.range.now) way.old.items (S.tally sink.old) }
     ensures reads { Walks scan.now.table.now G.becomes 0 scan.now.range.now.limit (seat.old, gate.old) (seat.new, gate.new) }
+    ensures passed { Walks scan.now.table.now G.becomes 0 ((S.tally sink.new).size + MOST_AHEAD) (seat.old, gate.old) (seat.new, gate.new) }
     ensures scanned { IfOk result (HasTaken scan.now.range.now.direction seat.new.known (asked_range scan.now.range.now) (S.tally sink.new)) }
     ensures part { OnErr result (HasTakenPart scan.now.range.now.direction seat.new.known (asked_range scan.now.range.now) (S.tally sink.new)) }
     ensures refused { OnErr result S.may_refuse }

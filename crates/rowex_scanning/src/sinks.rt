@@ -8,7 +8,7 @@ ghost use Rattle.record_words.specs.declared.TheConstants.{LEAF_FIELDS};
 ghost use Rattle.rowex_reading.specs.Reads.{IsReader, Reads};
 ghost use Rattle.rowex_scanning.specs.Ahead.{AreNext, AreStarts, AreTakenOnWays};
 ghost use Rattle.rowex_scanning.specs.Scanning.{HasTakenPart, asked_range, request_of};
-ghost use Rattle.rowex_scanning.specs.Tallies.{IsKept, IsNone, IsOneMore};
+ghost use Rattle.rowex_scanning.specs.Tallies.{IsKept, IsOneMore};
 ghost use Rattle.rowex_table.specs.Rule.{IsLeafRecordAt};
 ghost use Rattle.rowex_table.specs.Seats.{HasTouched, IsSeatOf};
 
@@ -45,10 +45,6 @@ pub(crate) trait Tallies {
     {
         touch_leaf(scan, seat, leaf);
     }
-
-    /// Drops what it has.
-    fn reset(&mut self)
-        ensures { IsNone (tally self.new) };
 
     /// How many pairs were taken.
     fn size(&self) -> usize
@@ -93,6 +89,7 @@ pub(crate) trait Sink: Tallies {
         requires starts { AreStarts scan.now.table.now.layout leaves.now starts.now }
         requires few { (Self.tally self.old).size + length leaves.now ≤ scan.now.range.now.limit + 1 }
         ensures reads { (n : ℕ) × (n ≤ LEAF_FIELDS * length leaves.now) × Reads scan.now.table.now G.becomes 0 n (seat.old, gate.old) (seat.new, gate.new) }
+        ensures more { (Self.tally self.old).size ≤ (Self.tally self.new).size }
         ensures taken { IfOk result (AreTakenOnWays seat.old.known seat.new.known (request_of scan.now.range.now) (Self.tally self.old) leaves.now
             (Self.tally self.new)) }
         ensures part { OnErr result (HasTakenPart scan.now.range.now.direction seat.new.known (asked_range scan.now.range.now) (Self.tally self.new)) }
@@ -110,11 +107,6 @@ impl Tallies for Filling {
     ghost room = { λ filling. filling.room };
 
     ghost may_refuse = { Unit {0} };
-
-    #[inline(always)]
-    fn reset(&mut self) {
-        self.clear();
-    }
 
     #[inline(always)]
     fn size(&self) -> usize {
@@ -144,11 +136,6 @@ impl Tallies for Vec<u64> {
     ghost room = { λ values. vec_capacity values - vec_len values };
 
     ghost may_refuse = { Unit {0} };
-
-    #[inline(always)]
-    fn reset(&mut self) {
-        self.clear();
-    }
 
     #[inline(always)]
     fn size(&self) -> usize {

@@ -43,6 +43,7 @@ pub(crate) fn take_each_leaf<G: Gate, S: Tallies>(
     requires starts { AreStarts scan.now.table.now.layout leaves.now starts.now }
     requires few { (S.tally sink.old).size + length leaves.now ≤ scan.now.range.now.limit + 1 }
     ensures reads { (n : ℕ) × (n ≤ LEAF_FIELDS * length leaves.now) × Reads scan.now.table.now G.becomes 0 n (seat.old, gate.old) (seat.new, gate.new) }
+    ensures more { (S.tally sink.old).size ≤ (S.tally sink.new).size }
     ensures taken { IfOk result (AreTakenOnWays seat.old.known seat.new.known (request_of scan.now.range.now) (S.tally sink.old) leaves.now (S.tally sink.new)) }
     ensures part { OnErr result (HasTakenPart scan.now.range.now.direction seat.new.known (asked_range scan.now.range.now) (S.tally sink.new)) }
     ensures refused { OnErr result S.may_refuse }
@@ -125,6 +126,7 @@ fn take_leaves_to_end<G: Gate, S: Tallies>(
     requires next { (top : PathNode) × (frames : List PathNode) × AreNext seat.old.known (request_of scan.now.range.now) top frames (S.tally sink.old) leaves.now }
     requires starts { AreStarts scan.now.table.now.layout leaves.now starts.now }
     ensures reads { (n : ℕ) × (n ≤ LEAF_FIELDS * length leaves.now) × Reads scan.now.table.now G.becomes 0 n (seat.old, gate.old) (seat.new, gate.new) }
+    ensures more { (S.tally sink.old).size ≤ (S.tally sink.new).size }
     ensures taken { IfOk result (AreTakenOnWays seat.old.known seat.new.known (request_of scan.now.range.now) (S.tally sink.old) leaves.now (S.tally sink.new)) }
     ensures part { OnErr result (HasTakenPart scan.now.range.now.direction seat.new.known (asked_range scan.now.range.now) (S.tally sink.new)) }
     ensures refused { OnErr result S.may_refuse }
@@ -202,6 +204,7 @@ pub(crate) fn take_leaf<G: Gate, S: Tallies>(
     requires start { IsStartOf scan.now.table.now.layout (a_leaf number) start }
     requires few { (S.tally sink.old).size ≤ scan.now.range.now.limit }
     ensures reads { (n : ℕ) × (n ≤ LEAF_FIELDS) × Reads scan.now.table.now G.becomes 0 n (seat.old, gate.old) (seat.new, gate.new) }
+    ensures more { (S.tally sink.old).size ≤ (S.tally sink.new).size }
     ensures taken { IfOk result (IsLeafTaken seat.old.known seat.new.known (request_of scan.now.range.now) number (S.tally sink.old) (S.tally sink.new)) }
     ensures refused { OnErr result (IsLeafRefused seat.old.known seat.new.known (asked_range scan.now.range.now) number (S.tally sink.old) (S.tally sink.new)) }
     ensures may { OnErr result S.may_refuse }
@@ -226,6 +229,7 @@ pub(crate) fn take_pair_in_range<S: Tallies>(
     requires fits { length ≤ MAX_BYTES }
     requires reached { IsNoLater range.now.direction (first_key_of range.now) (take length places.now) }
     requires few { (S.tally sink.old).size ≤ range.now.limit }
+    ensures more { (S.tally sink.old).size ≤ (S.tally sink.new).size }
     ensures taken { IfOk result (IsPairTaken (request_of range.now) (S.tally sink.old) (take length places.now) value (S.tally sink.new)) }
     ensures refused { OnErr result (IsPairRefused (asked_range range.now) (S.tally sink.old) (take length places.now) (S.tally sink.new)) }
     ensures may { OnErr result S.may_refuse }

@@ -19,7 +19,7 @@ use Rattle.rowex_core.specs.Words.{lock_tag, state_at, word_at}
 use Rattle.rowex_core.specs.Reading.{IsPacked}
 use Rattle.rowex_core.specs.Events.{IsOffset, state_of}
 use Rattle.rowex_core.specs.Sharing.{IsOwned}
-use Rattle.rowex_core.proofs.Owning.{knows_all}
+use Rattle.rowex_core.proofs.Sharing.Owning.{knows_all}
 use Rattle.rowex_core.specs.Knowing.{Knows}
 use Rattle.rowex_table.specs.Rule.{MayStep}
 use Rattle.rowex_table.specs.Rights.{OwnsAs}

@@ -78,6 +78,7 @@ load_of words = Load (record { ref_ptr = (0, 0); now = words })
 abbrev pub loader_of : Layout → List ℕ → Known
 loader_of layout words = record (learned (opening layout) (load_of words) (opening_of 0)) { notes = added_notes 0 (items_of (loaded_tree layout words)) }
 
+-- the trace of a table that was made with words: its load alone
 abbrev pub load_trace : List ℕ → Trace
 load_trace words = record { events = record { pass = 0; act = load_of words } ∷ []; asides = 0; touches = 0 }
 
@@ -91,6 +92,7 @@ abbrev pub known_of : TracedView → Known
 known_of (Pass k t) = k
 known_of _ = opening_of 0
 
+-- the steps of a pass; of another view none
 abbrev pub trace_of : TracedView → Trace
 trace_of (Pass k t) = t
 trace_of _ = untraced
@@ -128,6 +130,7 @@ record_number (a_leaf l) = l
 abbrev pub IsNodeRecordAt : Layout → RecordAt → Type 0
 IsNodeRecordAt layout at = (at.rec ≡ a_node (record_number at.rec)) × IsStartOf layout (a_node (record_number at.rec)) at.start
 
+-- the record is a leaf's, and begins at this word
 abbrev pub IsLeafRecordAt : Layout → RecordAt → Type 0
 IsLeafRecordAt layout at = (at.rec ≡ a_leaf (record_number at.rec)) × IsStartOf layout (a_leaf (record_number at.rec)) at.start
 
@@ -151,6 +154,7 @@ found_by act w = act
 abbrev pub MayStep : Layout → (ℕ → Act) → Known → Type 0
 MayStep layout act k = (c : Core) → IsLawful c → c.layout ≡ layout → Knows c k → Legal c k.pass (act (word_at c (location_of k.pass (act 0))))
 
+-- an act of a pass happens: it is legal, and the pass learns of it
 abbrev pub Happens : Option Layout → Act → (Known → List Note) → TracedView → TracedView → Type 0
 Happens (Some layout) act said (Pass k t) w =
     (j : Known) × (u : Trace) × (event : IsEvent layout act said k j) × (w ≡ Pass j u) × IsNextStep layout k.pass act event.core t.events u.events × (u.asides ≡ t.asides) ×
@@ -174,11 +178,13 @@ touching st m told m' = (m'.1 ≡ m.1) × (m'.0 ≡ touched_once m.0)
 
 -- Seats dealt, and two that meet
 
+-- a dealer who has dealt one seat more
 abbrev pub next_dealer : TracedView → TracedView
 next_dealer (Dealer m) = Dealer (m + 1)
 next_dealer (Founder k t m) = Dealer m
 next_dealer v = v
 
+-- the seat that is dealt next
 abbrev pub dealt : TracedView → TracedView
 dealt (Dealer m) = Pass (opening_of m) untraced
 dealt (Founder k t m) = Pass k t
@@ -193,22 +199,27 @@ abbrev pub dealer_at : TracedView → ℕ → TracedView
 dealer_at first zero = first
 dealer_at first (suc q) = Dealer (suc q)
 
+-- the seat of the pass of this number, where the table had this view first
 abbrev pub dealt_at : TracedView → ℕ → TracedView
 dealt_at first zero = dealt first
 dealt_at first (suc q) = Pass (opening_of (suc q)) untraced
 
+-- the seats of two passes as one
 abbrev pub paired : TracedView → TracedView → TracedView
 paired (Pass j t) (Pass k u) = Pair j t k u
 paired v w = Spent
 
+-- the first of them
 abbrev pub first_of_two : TracedView → TracedView
 first_of_two (Pair j t k u) = Pass j t
 first_of_two v = v
 
+-- and the second
 abbrev pub second_of_two : TracedView → TracedView
 second_of_two (Pair j t k u) = Pass k u
 second_of_two v = Spent
 
+-- a pass that has seen these changes
 abbrev pub with_front : List Change → Known → Known
 with_front front k = record k { front = front }
 
@@ -231,6 +242,7 @@ Meeting (Some layout) (Pair j t k u) w =
     (t'.events ≡ u'.events) × HasBeenShown layout j t j' t' × HasBeenShown layout k u k' u'
 Meeting _ _ w = Unit {0}
 
+-- a step at which two passes meet
 abbrev pub met : {S : Type 0} → Option Layout → Step S → Me S TracedView → ℕ → Me S TracedView → Type 0
 met layout st m told m' = (m'.1 ≡ m.1) × Meeting layout m.0 m'.0
 
@@ -241,6 +253,7 @@ abbrev pub witnessed : TracedView → List Change
 witnessed (Witness front events) = front
 witnessed v = []
 
+-- the steps of which a stamp tells
 abbrev pub witnessed_steps : TracedView → List Event
 witnessed_steps (Witness front events) = events
 witnessed_steps v = []
@@ -249,6 +262,7 @@ witnessed_steps v = []
 abbrev pub IsOfStamp : {S : Type 0} → Me S TracedView → Type 0
 IsOfStamp me = me ≡ (Witness (witnessed me.0) (witnessed_steps me.0), [])
 
+-- the stamp of a pass
 abbrev pub stamped : TracedView → TracedView
 stamped (Pass k t) = Witness k.front t.events
 stamped v = Spent
@@ -258,6 +272,7 @@ abbrev pub stamping : TracedView → TracedView
 stamping (Pass k t) = Pass k (record { events = t.events; asides = suc t.asides; touches = t.touches })
 stamping v = v
 
+-- a pass with the stamp that it follows
 abbrev pub following : TracedView → TracedView → TracedView
 following (Pass k t) (Witness front events) = Follower k t front events
 following v w = Spent
@@ -275,5 +290,6 @@ Following (Some layout) (Follower k t stamp events) w =
     (j : Known) × (u : Trace) × (w ≡ Pass j u) × HasFollowed layout stamp k j × HasBeenShown layout k t j u × RunBeginsWith u.events events
 Following _ _ w = Unit {0}
 
+-- a step at which a pass follows a stamp
 abbrev pub followed : {S : Type 0} → Option Layout → Step S → Me S TracedView → ℕ → Me S TracedView → Type 0
 followed layout st m told m' = (m'.1 ≡ m.1) × Following layout m.0 m'.0

@@ -3,6 +3,7 @@ pub mod Going
 pub mod Loads
 pub mod Runs
 pub mod Locks
+pub mod Others
 pub mod Spans
 pub mod Tried
 pub mod Shapes

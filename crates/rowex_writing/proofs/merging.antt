@@ -1,5 +1,4 @@
 -- A removal after which two nodes are one.
-pub mod WideningLocks
 pub mod Beside
 pub mod Merging
 pub mod Leaving

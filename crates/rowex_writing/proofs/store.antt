@@ -1,6 +1,4 @@
 -- The store that is the change, and the end after it.
-pub mod PublishingRecords
-pub mod EndingChange
 pub mod Retiring
 pub mod Values
 pub mod Stores

@@ -2,5 +2,6 @@
 pub mod Going
 pub mod Loads
 pub mod Locks
+pub mod Others
 pub mod Checks
 pub mod Jobs

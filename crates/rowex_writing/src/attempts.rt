@@ -8,7 +8,7 @@ ghost use Rattle.rowex_reading.specs.Possible.{IsPossible};
 ghost use Rattle.publish_laws.specs.Ending.{IsAtRest};
 ghost use Rattle.rowex_table.specs.Made.{IsLater};
 ghost use Rattle.rowex_table.specs.Seats.{IsSeatOf};
-ghost use Rattle.lone_runs.specs.Lone.{HasRoom, KeepsSpare};
+ghost use Rattle.publish_laws.specs.Lone.{HasRoom, KeepsSpare};
 ghost use Rattle.rowex_writing.specs.build.Spare.{IsRemoval};
 ghost use Rattle.rowex_writing.specs.attempts.Attempts.{HasAnswered, HasAttempted, HasFailed, HasRefused, IsFullOfNew, IsLeafless, refusal_of as the_refusal};
 ghost use Rattle.rowex_writing.specs.store.Values.{HasDoneDeed, HasFoundOther, HasLoadedFound, IsFoundAgain};
@@ -16,7 +16,6 @@ ghost use Rattle.rowex_writing.specs.plan.Planned.{HasLoadedRoot};
 ghost use Rattle.rowex_reading.specs.Ways.{value_of as the_value};
 ghost use Rattle.rowex_writing.specs.plan.Asking.{aim_of as the_aim, value_in as the_value_in};
 ghost use Rattle.rowex_writing.specs.build.Deeds.{MayReplace, leaf_gone};
-ghost use Rattle.rowex_table.specs.Stays.{LeavesPin};
 ghost use Rattle.rowex_writing.specs.build.Building.{HasNotMade};
 ghost use Rattle.rowex_writing.specs.build.Changes.{HasChanged, HasPlanned};
 ghost use Rattle.rowex_writing.specs.locks.Checks.{HasTakenPlan, HasTakenSpan};
@@ -25,7 +24,8 @@ ghost use Rattle.rowex_writing.specs.build.Taking.{HasClaimed, IsLeftOfNode, Tak
 ghost use Rattle.rowex_writing.specs.declared.plan.Deed.TheVariants.{Take};
 ghost use Rattle.rowex_writing.specs.plan.Plans.{TakesLeaf};
 ghost use Rattle.rowex_writing.specs.locks.Jobs.{HoldsSpan, IsJobFrom, IsWithinWay};
-ghost use Rattle.rowex_writing.specs.locks.Locks.{HasMadeNoChange, HasMetLock, TriesNodesBy, Works, locks_of, span_numbers, HasRun, HasTriedOnce};
+ghost use Rattle.rowex_writing.specs.locks.Locks.{HasMadeNoChange, IsOfAttempt, TriesNodesBy, Works, locks_of, span_numbers, HasRun, HasTriedOnce};
+ghost use Rattle.rowex_writing.specs.locks.Others.{IsBlocked, IsHindered};
 ghost use Rattle.rowex_writing.specs.plan.Counts.{change_steps, held_loads, most_locks, most_steps_of, span_steps, value_steps};
 ghost use Rattle.record_words.specs.declared.TheConstants.{HEAD_WORDS};
 
@@ -100,6 +100,7 @@ pub fn attempt<G: Gate>(
     ensures few { seat.new.known.steps ≤ seat.old.known.steps + most_steps_of call.now table.now.layout }
     ensures spares { KeepsSpare table.now.layout seat.old seat.new }
     ensures finds { IsRemoval call.now → HasRoom table.now.layout seat.old → result ≢ Err TryFault.FullNodes }
+    ensures hindered { IfErr result (λ fault. fault ≡ TryFault.Busy → IsHindered table.now.layout seat.old seat.new) }
 {
     let key = call.key();
     let found = search_way(table, seat, gate, key, way);
@@ -131,6 +132,7 @@ pub fn attempt<G: Gate>(
 ///
 /// If another pass is at work there, or no record is free, nothing is changed, and the fault tells which. Before and after the pass has no
 /// record and no lock.
+#[inline(always)]
 fn try_plan<G: Gate>(
     table: &HotTable,
     seat: &mut TableSeat,
@@ -159,6 +161,7 @@ fn try_plan<G: Gate>(
     ensures leafless { TakesLeaf job.now.deed → result ≢ Err TryFault.FullLeaves }
     ensures spares { KeepsSpare table.now.layout seat.old seat.new }
     ensures finds { TakesLeaf job.now.deed → HasRoom table.now.layout seat.old → result ≢ Err TryFault.FullNodes }
+    ensures hindered { IfErr result (λ fault. fault ≡ TryFault.Busy → IsHindered table.now.layout seat.old seat.new) }
 {
     if !lock_and_check_span(table, seat, gate, job) {
         return Err(TryFault::Busy);
@@ -337,14 +340,14 @@ fn lock_and_check_span<G: Gate>(
         (0 < locks) × (locks ≤ locks_of job.now.span) × (result ≡ true → locks ≡ locks_of job.now.span) ×
         (seat.new.known.steps ≤ seat.old.known.steps + 3 * locks + 1) }
     ensures nodes { result ≡ true → 0 < job.now.span.end →
-        TriesNodesBy LeavesPin table.now G.becomes (span_numbers job.now.way.now job.now.span) (seat.old, gate.old) (seat.new, gate.new) ×
+        TriesNodesBy IsOfAttempt table.now G.becomes (span_numbers job.now.way.now job.now.span) (seat.old, gate.old) (seat.new, gate.new) ×
         (seat.new.known.steps ≤ seat.old.known.steps + 3 * locks_of job.now.span + 1) }
     ensures later { IsLater seat.old.known seat.new.known }
     ensures taken { result ≡ true → (m : ℕ) → IsJobFrom table.now.layout seat.old.known m job.now →
         HasTakenSpan table.now seat.new m job.now.key.now job.now.way.now job.now.found job.now.span }
     ensures rest { result ≡ false → IsAtRest seat.new.known }
     ensures busy { result ≡ false → (m : ℕ) → IsJobFrom table.now.layout seat.old.known m job.now →
-        HasMetLock table.now.layout seat.old.known seat.new.known ⊎ (m < length seat.new.known.front) }
+        IsBlocked table.now.layout seat.old seat.new ⊎ (m < length seat.new.known.front) }
     ensures spares { KeepsSpare table.now.layout seat.old seat.new }
     ensures room { result ≡ true → HasRoom table.now.layout seat.old → HasRoom table.now.layout seat.new }
 {

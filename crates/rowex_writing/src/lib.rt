@@ -36,7 +36,7 @@
 //! are held for the shortest time.
 //!
 //! `attempt` begins and ends with a pinned pass that has nothing (`IsAtRest`). Its parts (`docs/ARCHITECTURE.md`) hand on facts that last
-//! (`IsWayOf`), a plan (`IsPlan`), locks (`HasTriedOnce`, `HasMetLock`), what was checked (`IsChecked`, or the front is longer) and the
+//! (`IsWayOf`), a plan (`IsPlan`), locks (`HasTriedOnce`, `IsBlocked`), what was checked (`IsChecked`, or the front is longer) and the
 //! change (`HasChanged`). A leaf for a node of leaves goes into its words (`make_node_with_leaf`, `SpellBuilt`); other nodes are made as
 //! values (`raise_with_leaf`). All claims of a change share one walk (`IsClaimWalk`). `AreAttemptSteps` bounds it by entries, locks and
 //! records.

@@ -2,9 +2,11 @@
 
 ghost use Rattle.std.specs.Prelude.{◌≡◌, ◌<◌, ◌≤◌, ℕ, [], ◌∷◌, length, true, false, None, ◌+◌, ◌*◌};
 ghost use Rattle.versions.specs.Trades.{AreApart};
+ghost use Rattle.rowex_core.specs.Knowing.{version_of};
 ghost use Rattle.rowex_table.specs.Seats.{IsSeatOf};
 ghost use Rattle.rowex_table.specs.Rights.{MayLock};
-ghost use Rattle.rowex_writing.specs.locks.Locks.{AreLed, AreNodes, HasJustLocked, HasLockedSpan, HasMadeNoChange, HasMetLock, HasNoLock, HasNotLocked, HasTheSame, IsRefusedLock, KnowsSameButLocks, LocksAnchor, LocksOne, Tries, TriesNodes, TriesOnce, Works, locks_of, numbers_of, span_numbers};
+ghost use Rattle.rowex_writing.specs.locks.Locks.{AreLed, AreNodes, HasJustLocked, HasLockedSpan, HasMadeNoChange, HasNoLock, HasNotLocked, HasTheSame, IsRefusedLock, KnowsSameButLocks, LocksAnchor, LocksOne, Tries, TriesNodes, TriesOnce, Works, locks_of, numbers_of, span_numbers};
+ghost use Rattle.rowex_writing.specs.locks.Others.{HasMetOther, IsBlocked};
 
 pub mod checking;
 pub mod locked;
@@ -37,7 +39,7 @@ pub(crate) fn lock_span<G: Gate>(
         (seat.new.known.steps < seat.old.known.steps + 2 * locks) }
     ensures same { seat.new.known.own ≡ seat.old.known.own }
     ensures locked { result ≡ true → HasLockedSpan seat.new.known way.now span }
-    ensures refused { result ≡ false → HasNoLock seat.new.known × HasMetLock table.now.layout seat.old.known seat.new.known }
+    ensures refused { result ≡ false → HasNoLock seat.new.known × IsBlocked table.now.layout seat.old seat.new }
     ensures nodes { result ≡ true → 0 < span.end → TriesNodes table.now G.becomes (span_numbers way.now span) (seat.old, gate.old) (seat.new, gate.new) }
     ensures few { result ≡ true → seat.new.known.steps ≤ seat.old.known.steps + locks_of span }
 {
@@ -74,7 +76,7 @@ pub(crate) fn lock_node<G: Gate>(
     ensures tries { Tries table.now G.becomes (Target.Node number ∷ []) (seat.old, gate.old) (seat.new, gate.new) }
     ensures locked { result ≡ true → LocksOne number seat.old.known seat.new.known }
     ensures same { result ≡ false → HasTheSame seat.old.known seat.new.known }
-    ensures refused { result ≡ false → HasNotLocked seat.old.known number → HasMetLock table.now.layout seat.old.known seat.new.known }
+    ensures refused { result ≡ false → HasNotLocked seat.old.known number → IsBlocked table.now.layout seat.old seat.new }
     ensures few { seat.new.known.steps ≤ seat.old.known.steps + 1 }
 {
     let found = table.lock(seat, gate, Target::Node(number));
@@ -88,6 +90,7 @@ pub(crate) fn lock_anchor<G: Gate>(table: &HotTable, seat: &mut TableSeat, gate:
     ensures tries { Tries table.now G.becomes (Target.Anchor ∷ []) (seat.old, gate.old) (seat.new, gate.new) }
     ensures locked { result ≡ true → LocksAnchor seat.old.known seat.new.known }
     ensures refused { result ≡ false → IsRefusedLock table.now.layout seat.old.known seat.new.known }
+    ensures met { result ≡ false → HasMetOther table.now.layout (version_of seat.old.known.pin) seat.old seat.new }
     ensures few { seat.new.known.steps ≤ seat.old.known.steps + 1 }
 {
     let found = table.lock(seat, gate, Target::Anchor);

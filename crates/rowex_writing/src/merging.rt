@@ -13,7 +13,7 @@ ghost use Rattle.publish_laws.specs.Rises.{IsSide};
 ghost use Rattle.publish_laws.specs.Stages.{AreBeside, merged};
 ghost use Rattle.rowex_table.specs.Made.{IsLater, Made};
 ghost use Rattle.rowex_table.specs.Seats.{IsSeatOf};
-ghost use Rattle.lone_runs.specs.Lone.{HasSpare, KeepsSpare};
+ghost use Rattle.publish_laws.specs.Lone.{HasSpare, KeepsSpare};
 ghost use Rattle.rowex_writing.specs.store.Values.{HasDoneDeed, HasLoadedFound};
 ghost use Rattle.rowex_writing.specs.build.Building.{IsBuilding};
 ghost use Rattle.rowex_writing.specs.locks.Going.{HasLocked, HasLockedNode, IsLockedBy, ReadsOn, WorksOn};
@@ -30,7 +30,7 @@ use crate::build::nodes::make_node_from_words;
 use crate::locks::locked::{
     load_locked_entry, load_locked_node_words, load_position, load_sibling, read_locked_node,
 };
-use crate::merging::widening::{lock_for_merge, unlock_for_merge};
+use crate::merging::widening::{lock_for_merge, release_merge_locks};
 use crate::plan::job::{Job, Left, Merge};
 use crate::store::Store;
 use crate::store::publishing::{publish_entry, spot_above};
@@ -83,7 +83,7 @@ pub(crate) fn try_merge<G: Gate>(
         return false;
     }
     if !is_unchanged(table, seat, gate, job) {
-        unlock_for_merge(table, seat, gate, job, merge.number);
+        release_merge_locks(table, seat, gate, job, merge.number);
         return false;
     }
     merge_under_locks(table, seat, gate, build, job, merge)
@@ -158,7 +158,7 @@ fn merge_under_locks<G: Gate>(
         publish_merge(table, seat, gate, build, job, entry);
         return true;
     }
-    unlock_for_merge(table, seat, gate, job, merge.number);
+    release_merge_locks(table, seat, gate, job, merge.number);
     false
 }
 

@@ -18,7 +18,7 @@ pub enum Task {
 
 /// A small index, of `nodes` node records and `leaves` leaf records, and what is done on it.
 #[derive(Drop)]
-pub struct Case<'a> {
+pub struct TestCase<'a> {
     pub alloc: Global,
     pub nodes: u32,
     pub leaves: u32,
@@ -32,10 +32,10 @@ pub struct Case<'a> {
     pub counter: Option<Key>,
 }
 
-impl<'a> Case<'a> {
+impl<'a> TestCase<'a> {
     /// A case on an index of one node record and one leaf record, with nothing to do.
-    pub fn new(alloc: Global) -> Case<'a> {
-        Case {
+    pub fn new(alloc: Global) -> TestCase<'a> {
+        TestCase {
             alloc,
             nodes: 1,
             leaves: 1,
@@ -57,7 +57,7 @@ impl<'a> Case<'a> {
     }
 
     /// Has each thread add to the value of the key that `text` stands for; `bad_line` if it is none, and the case stays.
-    pub fn set_counter(&mut self, text: &str) -> io::Result<()> {
+    pub fn set_counted_key(&mut self, text: &str) -> io::Result<()> {
         self.counter = Some(parse_key(text)?);
         Ok(())
     }

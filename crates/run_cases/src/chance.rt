@@ -3,7 +3,7 @@
 ghost use Rattle.std.specs.Prelude.{All};
 ghost use Rattle.hot_index_calls.specs.Passes.{Owns};
 
-use crate::cases::{Case, Task, parse_two_numbers};
+use crate::cases::{Task, TestCase, parse_two_numbers};
 use crate::guests::{Guest, create_index, do_tasks, lowest_key};
 use crate::judge::{Stopper, prepare_guest, verdict};
 use finite_map::Call;
@@ -47,7 +47,7 @@ impl Chance {
 
 /// Takes turns on a new index of `case`, and prints whether all were lawful. `text` has the seed and how many turns; `bad_line` if it
 /// hasn't, or there is no such index. An error if memory is refused, or a write failed.
-pub fn run_turns<R: Print + AllocGlobal>(rt: &R, case: &Case, text: &str) -> io::Result<()> {
+pub fn run_turns<R: Print + AllocGlobal>(rt: &R, case: &TestCase, text: &str) -> io::Result<()> {
     let (seed, turns) = parse_two_numbers(text)?;
     let (index, passes) = create_index(case.alloc, 2, case.nodes, case.leaves)?;
     let wrong = take_turns_on_new_index(case, &index, passes, seed, turns)?;
@@ -56,7 +56,7 @@ pub fn run_turns<R: Print + AllocGlobal>(rt: &R, case: &Case, text: &str) -> io:
 
 /// Does what `case` does beforehand and then what `take_turns` does, on `index`, which was just made, with its two `passes`.
 fn take_turns_on_new_index(
-    case: &Case,
+    case: &TestCase,
     index: &Index,
     passes: Vec<Pass>,
     seed: u32,
@@ -70,7 +70,7 @@ fn take_turns_on_new_index(
 
 /// Takes `turns` turns, each by `run_random_turn`, from `seed`. Returns how often something was wrong; an error if memory is refused.
 fn take_turns(
-    case: &Case,
+    case: &TestCase,
     guest: &mut Guest,
     gate: &mut Stopper,
     seed: u32,
@@ -87,7 +87,7 @@ fn take_turns(
 /// first has so many steps. `turn` is the value of both. Every 32nd turn it drops the steps that were kept, and compares scans by `guest`
 /// with the replay. `gate.judge` counts what is wrong. An error if memory is refused.
 fn run_random_turn(
-    case: &Case,
+    case: &TestCase,
     guest: &mut Guest,
     gate: &mut Stopper,
     chance: &mut Chance,

@@ -3,7 +3,7 @@
 ghost use Rattle.std.specs.Prelude.{All};
 ghost use Rattle.hot_index_calls.specs.Passes.{Owns};
 
-use crate::cases::{Case, Task, bad_line};
+use crate::cases::{Task, TestCase, bad_line};
 use crate::guests::{Guest, do_tasks, pop_guest, scan_from_highest, scan_from_lowest};
 use hot_index::{Event, Gate, Index, Pass, Scan, keep_one_node};
 use record_words::Layout;
@@ -103,7 +103,7 @@ impl<'a> Gate for Stopper<'a> {
 /// Pass 0 of `index`, which was just made for `case` with two `passes`, and its gate, which stops it for pass 1. It has done what `case`
 /// does beforehand. `bad_line` if a pass is missing or a size is out of range; an error if memory is refused.
 pub fn prepare_guest<'a>(
-    case: &Case,
+    case: &TestCase,
     index: &'a Index,
     mut passes: Vec<Pass>,
 ) -> io::Result<(Guest<'a>, Stopper<'a>)>

@@ -20,7 +20,7 @@ mod judge;
 mod stops;
 mod turns;
 
-use crate::cases::{Case, parse_keys, parse_tasks};
+use crate::cases::{TestCase, parse_keys, parse_tasks};
 use std::rt::{Env, Files};
 use std::thread::Threads;
 use std::{fs, io};
@@ -43,7 +43,7 @@ fn run_file<R>(rt: &R, text: &str) -> io::Result<()>
 where
     R: Print + AllocGlobal + Threads + Sync,
 {
-    let mut case = Case::new(rt.alloc());
+    let mut case = TestCase::new(rt.alloc());
     for line in text.lines() {
         run_line(rt, &mut case, line)?;
     }
@@ -52,7 +52,7 @@ where
 
 /// Keeps in `case` what `line` says of it, or makes the runs that it asks for. Empty lines and those that begin with `# ` do nothing.
 /// `bad_line` for any other; else the error of the runs.
-fn run_line<'a, R>(rt: &R, case: &mut Case<'a>, line: &'a str) -> io::Result<()>
+fn run_line<'a, R>(rt: &R, case: &mut TestCase<'a>, line: &'a str) -> io::Result<()>
 where
     R: Print + AllocGlobal + Threads + Sync,
 {
@@ -63,7 +63,7 @@ where
         "before" => parse_tasks(&mut case.before, rest),
         "other" => Ok(case.others.push(rest)?),
         "keys" => parse_keys(&mut case.keys, rest),
-        "counter" => case.set_counter(rest),
+        "counter" => case.set_counted_key(rest),
         "steps" => stops::print_steps(rt, case, rest),
         "stop" => stops::stop_for_each_other(rt, case, rest, false),
         "tell" => stops::stop_for_each_other(rt, case, rest, true),

@@ -4,7 +4,7 @@ ghost use Rattle.std.specs.Prelude.{All};
 ghost use Rattle.hot_index_calls.specs.Passes.{Owns};
 
 use crate::acts::write_act;
-use crate::cases::{Case, Task, bad_line, parse_tasks};
+use crate::cases::{Task, TestCase, bad_line, parse_tasks};
 use crate::guests::{Guest, create_index, do_tasks};
 use crate::judge::{Stopper, prepare_guest, verdict};
 use hot_index::{Event, Index, Pass};
@@ -16,7 +16,7 @@ const MAX_STEPS: u64 = 10_000;
 
 /// Lets pass 0 of a new index of `case` do the tasks of `text`, after those of `before`. Prints what it was answered, each of its steps,
 /// and whether all were lawful. `bad_line` if no index is made, or at a bad task; an error if memory is refused, or a write failed.
-pub fn print_steps<R: Print + AllocGlobal>(rt: &R, case: &Case, text: &str) -> io::Result<()> {
+pub fn print_steps<R: Print + AllocGlobal>(rt: &R, case: &TestCase, text: &str) -> io::Result<()> {
     let mut lines = String::new(case.alloc);
     let (index, passes) = create_index(case.alloc, 2, case.nodes, case.leaves)?;
     write_steps(case, &index, passes, text, &mut lines)?;
@@ -25,7 +25,7 @@ pub fn print_steps<R: Print + AllocGlobal>(rt: &R, case: &Case, text: &str) -> i
 
 /// Lets pass 0 of `index`, just made with `passes`, do the tasks of `text`. Adds what `print_steps` prints of that to `lines`.
 fn write_steps(
-    case: &Case,
+    case: &TestCase,
     index: &Index,
     passes: Vec<Pass>,
     text: &str,
@@ -39,7 +39,7 @@ fn write_steps(
 
 /// Does what `write_steps` does, by `guest`, whose steps `gate` is told.
 fn write_steps_of_guest(
-    case: &Case,
+    case: &TestCase,
     guest: &mut Guest,
     gate: &mut Stopper,
     text: &str,
@@ -53,7 +53,7 @@ fn write_steps_of_guest(
 
 /// Lets `guest` do `tasks`. Adds its answers, the steps that `gate` keeps and the verdict to `lines`. An error if memory is refused.
 fn write_replies_and_acts(
-    case: &Case,
+    case: &TestCase,
     guest: &mut Guest,
     gate: &mut Stopper,
     tasks: &[Task],
@@ -79,7 +79,7 @@ fn write_acts(lines: &mut String, told: &[Event]) -> Result<(), AllocError> {
 /// `bad_line` if no index is made, at a bad task, or after `MAX_STEPS`; an error if memory is refused, or a write failed.
 pub fn stop_for_each_other<R: Print + AllocGlobal>(
     rt: &R,
-    case: &Case,
+    case: &TestCase,
     text: &str,
     tells: bool,
 ) -> io::Result<()> {
@@ -104,7 +104,7 @@ struct Stop {
 /// index, until it makes fewer steps. It prints and fails as `stop_for_each_other` does.
 fn stop_at_each_step<R: Print + AllocGlobal>(
     rt: &R,
-    case: &Case,
+    case: &TestCase,
     tasks: &[Task],
     other: &str,
     tells: bool,
@@ -116,7 +116,7 @@ fn stop_at_each_step<R: Print + AllocGlobal>(
 /// Does what `stop_at_each_step` does, with a text `said` for what was answered at a stop, and one for the stop `before` it.
 fn stop_in_turn<R: Print + AllocGlobal>(
     rt: &R,
-    case: &Case,
+    case: &TestCase,
     tasks: &[Task],
     other: &str,
     tells: bool,
@@ -143,7 +143,7 @@ fn stop_in_turn<R: Print + AllocGlobal>(
 
 /// Lets pass 0 of a new index do `tasks`, and stops it after `step` steps for pass 1 to do `other`. Adds the answers of both to `said`.
 fn stop_at_step(
-    case: &Case,
+    case: &TestCase,
     tasks: &[Task],
     other: &str,
     step: u64,
@@ -155,7 +155,7 @@ fn stop_at_step(
 
 /// Does what `stop_at_step` does, on `index`, which was just made, with its `passes`.
 fn stop_on_index(
-    case: &Case,
+    case: &TestCase,
     index: &Index,
     passes: Vec<Pass>,
     tasks: &[Task],
@@ -171,7 +171,7 @@ fn stop_on_index(
 
 /// Does what `stop_at_step` does, by `guest`, which `gate` stops. Compares scans of the index with the replay afterwards.
 fn make_stop(
-    case: &Case,
+    case: &TestCase,
     guest: &mut Guest,
     gate: &mut Stopper,
     tasks: &[Task],

@@ -3,7 +3,7 @@
 ghost use Rattle.std.specs.Prelude.{All};
 ghost use Rattle.hot_index_calls.specs.Passes.{Owns};
 
-use crate::cases::{Case, bad_line, parse_two_numbers};
+use crate::cases::{TestCase, bad_line, parse_two_numbers};
 use crate::chance::Chance;
 use crate::guests::{Guest, create_index, do_tasks, pop_guest};
 use crate::judge::{Judge, verdict};
@@ -118,7 +118,7 @@ fn add_one(guest: &mut Guest, gate: &mut Turns, key: &Key) {
 
 /// Does `TASKS` tasks by chance, by `pass`, each step in its turn, and adds to the value of `case.counter` after each. Returns its steps,
 /// each with its number. `rota.lost` counts what failed.
-fn run_thread(case: &Case, rota: &Rota, index: &Index, pass: Pass) -> Vec<(u64, Event)>
+fn run_thread(case: &TestCase, rota: &Rota, index: &Index, pass: Pass) -> Vec<(u64, Event)>
     requires { Owns index.now pass }
 {
     let mut guest = Handle::new(index, pass);
@@ -186,7 +186,7 @@ fn judge_step(judge: &mut Judge, event: &Option<Event>) {
 /// out of range, memory is refused, or a thread can't be started.
 fn run_order<R: AllocGlobal + Threads + Sync>(
     rt: &R,
-    case: &Case,
+    case: &TestCase,
     threads: u32,
     seed: u64,
 ) -> io::Result<u64> {
@@ -198,7 +198,7 @@ fn run_order<R: AllocGlobal + Threads + Sync>(
 /// Does what `run_order` does, on `index`, which was just made, with all its passes, `seats`, in number `passes`.
 fn run_threads<R: AllocGlobal + Threads + Sync>(
     rt: &R,
-    case: &Case,
+    case: &TestCase,
     index: &Index,
     mut seats: Vec<Pass>,
     passes: u32,
@@ -222,7 +222,7 @@ fn run_threads<R: AllocGlobal + Threads + Sync>(
 /// memory is refused, or a thread can't be started.
 fn step_threads<R: AllocGlobal + Threads + Sync>(
     rt: &R,
-    case: &Case,
+    case: &TestCase,
     index: &Index,
     seats: Vec<Pass>,
     seed: u64,
@@ -251,7 +251,7 @@ fn step_threads<R: AllocGlobal + Threads + Sync>(
 /// How often `judge`, which knows all before the steps `told`, finds one of them or a scan by `last` wrong, plus `sums.lost`. One more if
 /// the value of `case.counter` isn't `sums.added`. An error if memory is refused.
 fn count_wrong(
-    case: &Case,
+    case: &TestCase,
     judge: &mut Judge,
     last: &mut Guest,
     told: &[Vec<(u64, Event)>],
@@ -269,7 +269,7 @@ fn count_wrong(
 /// Lets threads step in turns on new indexes of `case`, and prints whether all was lawful. `text` has two numbers: of the threads, which
 /// must be `MOST_THREADS` at most, and of the orders, each on an index; else `bad_line`. Another error is that of a `run_order`, or of the
 /// write.
-pub fn run_orders<R>(rt: &R, case: &Case, text: &str) -> io::Result<()>
+pub fn run_orders<R>(rt: &R, case: &TestCase, text: &str) -> io::Result<()>
 where
     R: Print + AllocGlobal + Threads + Sync,
 {

@@ -7,14 +7,14 @@ use Rattle.finite_map.specs.declared.Scan.{Scan}
 use Rattle.finite_map.specs.Maps.{Map, map_after, reply_of}
 use Rattle.finite_map.specs.Scans.{IsScanOf}
 use Rattle.hot_scripts.specs.declared.command.Command.{Command}
-use Rattle.hot_scripts.specs.declared.command.Range.{Range}
+use Rattle.hot_scripts.specs.declared.command.KeyRange.{KeyRange}
 use Rattle.hot_scripts.specs.Grammar.{commands_of}
 use Rattle.hot_scripts.specs.Meaning.{line, reply_text, scan_lines, scan_text, script_meaning, text_from}
 use Rattle.script_runs.specs.Answers.{Answered, called, refused, listed, IsGranted, answered_command}
 use Rattle.script_runs.specs.Runs.{AreAnswered, IsAnsweredScript, text_told}
 
 -- the lines of a scan are those that a script means
-pub lines_of_scan : (m : Map) (range : Range) (scan : Scan) → IsScanOf m range.from range.upto range.limit scan
+pub lines_of_scan : (m : Map) (range : KeyRange) (scan : Scan) → IsScanOf m range.from range.upto range.limit scan
     → scan_lines scan.pairs.items scan.more ≡ scan_text m range
 lines_of_scan m range scan is = ap₂ scan_lines is.pairs (ltb_from_iff is.more)
 

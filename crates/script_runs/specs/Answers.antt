@@ -7,15 +7,17 @@ use Rattle.rowex_writing.specs.declared.plan.Full.{Full}
 use Rattle.rowex_writing.specs.declared.plan.Full.TheVariants.{Nodes, Leaves}
 use Rattle.hot_scripts.specs.declared.command.Command.{Command}
 use Rattle.hot_scripts.specs.declared.command.Command.TheVariants.{Call as Asks, Scan as Lists}
-use Rattle.hot_scripts.specs.declared.command.Range.{Range}
+use Rattle.hot_scripts.specs.declared.command.KeyRange.{KeyRange}
 use Rattle.hot_scripts.specs.Meaning.{line, reply_text, scan_lines}
 use Rattle.script_runs.specs.declared.answer.Answer.{Answer}
 use Rattle.script_runs.specs.declared.answer.Answer.TheVariants.{Reply, Full as Refused}
 
+-- what a refusal reads as
 abbrev pub full_text : Full → List ℕ
 full_text Nodes = codes "full nodes"
 full_text Leaves = codes "full leaves"
 
+-- what an answer reads as
 abbrev pub answer_text : Answer → List ℕ
 answer_text (Reply reply) = reply_text reply
 answer_text (Refused full) = full_text full
@@ -25,7 +27,7 @@ answer_text (Refused full) = full_text full
 pub data Answered : Type 0 where
   called : Note → Answered
   refused : Call → Full → Answered
-  listed : Range → Scan → ℕ → ℕ → Answered
+  listed : KeyRange → Scan → ℕ → ℕ → Answered
 
 -- the command
 abbrev pub answered_command : Answered → Command

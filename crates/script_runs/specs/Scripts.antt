@@ -25,12 +25,15 @@ pub record Ran : Type 0 where
   pub answers : List Answered
   pub front : List Change
 
+-- the commands that were answered
 abbrev pub commands_in : Ran → List Command
 commands_in ran = map answered_command ran.answers
 
+-- their notes
 abbrev pub notes_in : Ran → List Note
 notes_in ran = filter_map note_of ran.answers
 
+-- and what is printed for them
 abbrev pub text_in : Ran → List ℕ
 text_in ran = flat_map lines_of_answer ran.answers
 

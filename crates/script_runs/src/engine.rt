@@ -12,7 +12,7 @@ use crate::callers::Caller;
 use finite_map::Call;
 use hot_index::{Gate, Handle, Index, Pairs};
 use hot_scripts::answer::push_scan;
-use hot_scripts::command::{Command, Range};
+use hot_scripts::command::{Command, KeyRange};
 use hot_scripts::script::Script;
 use std::alloc::{AllocError, Global};
 
@@ -46,7 +46,7 @@ fn make_call<C: Caller, G: Gate>(
 /// answer go to the end of the text. If memory is refused, an error, and perhaps a part of these.
 fn run_scan<G: Gate>(
     handle: &mut Handle<&Index>,
-    range: &Range,
+    range: &KeyRange,
     gate: &mut G,
     output: &mut Output,
 ) -> Result<(), AllocError>

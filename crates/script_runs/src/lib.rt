@@ -24,7 +24,7 @@
 //! What a pass goes through is said command by command (`IsCommandTold`). `run_one`: the only pass of an index made all changes, so by
 //! `lone_calls_are_a_run` and `still_scan_gives_first_pairs` its results are the map's (`IsAnsweredScript`). `run_scripts`: each thread
 //! promises what its pass did and what its gate was told (`Promise`). After the second meeting all calls are legal in one front
-//! (`LawfulScripts`, `script_runs/proofs/Joint`).
+//! (`LawfulScripts`, `script_runs/proofs/Scripts`).
 #![tactic(auto)]
 
 mod answer;

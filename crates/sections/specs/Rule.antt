@@ -3,9 +3,9 @@ use Rattle.std.specs.Prelude.{◌≡◌, ◌+◌, ◌*◌, ◌-◌, ◌<◌, ◌
 use mathlib.Core.Option.{some}
 use lib.ListN.{get_elem?}
 use Rattle.atomic_table.specs.Table.{State, Me, Step}
-use Rattle.sections.specs.declared.events.Event.{Event}
-use Rattle.sections.specs.declared.events.Event.TheVariants.{Entered, Left, Taken}
-use Rattle.sections.specs.declared.events.Known.{Known}
+use Rattle.sections.specs.declared.events.SectionEvent.{SectionEvent}
+use Rattle.sections.specs.declared.events.SectionEvent.TheVariants.{Entered, Left, Taken}
+use Rattle.sections.specs.declared.events.SectionKnowledge.{SectionKnowledge}
 use Rattle.sections.specs.declared.events.Seated.{Seated}
 use Rattle.sections.specs.declared.events.Seated.TheVariants.{Dealer, Owner}
 use Rattle.sections.specs.declared.table.TheConstants.{MOST_MOMENTS, MOMENTS, REACH, FIRST_SECTION}
@@ -22,7 +22,7 @@ abbrev pub section_place : ℕ → ℕ
 section_place q = FIRST_SECTION + 8 * q
 
 -- The words show the run: the number of its moments, and the word of each section. No section from the reach on was ever entered.
-pub record ShowsRun (count : ℕ) (run : List Event) (words : List ℕ) : Type 0 where
+pub record ShowsRun (count : ℕ) (run : List SectionEvent) (words : List ℕ) : Type 0 where
   pub size : length words ≡ sections_words count
   pub moments : slice_index words MOMENTS ≡ moments_in run
   pub reach : slice_index words REACH ≤ count
@@ -37,36 +37,38 @@ HasSection (Dealer next count) q = next ≤ q
 HasSection (Owner k) q = k.number ≡ q
 
 -- what a seat knows is true of a run with this reach, at a table of so many sections
-abbrev pub IsTrueOfRun : ℕ → ℕ → List Event → Seated → Type 0
+abbrev pub IsTrueOfRun : ℕ → ℕ → List SectionEvent → Seated → Type 0
 IsTrueOfRun count reach run (Dealer next n) = (n ≡ count) × ((q : ℕ) → next ≤ q → HasNoneOf q run)
 IsTrueOfRun count reach run (Owner k) = (k.count ≡ count) × OthersRunOn k.number k.run run × (k.counted ≡ true → k.number < reach)
 
 -- There is a lawful run which the words show. What each seat knows is true of it, and no two seats have one number.
 pub record SectionsRuled {S : Type 0} (count : ℕ) (s : State S Seated) : Type 0 where
-  pub run : List Event
+  pub run : List SectionEvent
   pub lawful : IsLawfulRun run
   pub shows : ShowsRun count run s.words
   pub knows : (i : ℕ) (v : Seated) → get_elem? s.views i ≡ some v → IsTrueOfRun count (slice_index s.words REACH) run v
   pub apart : (i j q : ℕ) (v w : Seated) → get_elem? s.views i ≡ some v → get_elem? s.views j ≡ some w → HasSection v q → HasSection w q → i ≡ j
 
 -- what the owner of a new section knows
-abbrev pub new_section : ℕ → ℕ → Known
+abbrev pub new_section : ℕ → ℕ → SectionKnowledge
 new_section q count = record { number = q; count = count; counted = false; run = [] }
 
 -- what an owner's seat knows
-abbrev pub owner_of : Seated → Known
+abbrev pub owner_of : Seated → SectionKnowledge
 owner_of (Owner k) = k
 owner_of (Dealer next count) = new_section 0 0
 
 -- The seat is the owner's of the section of this number. Whether looks take it in, and its word, are as its owner knows.
 abbrev pub IsOwners : {S : Type 0} → Me S Seated → ℕ → Bool → ℕ → Type 0
-IsOwners me q counted word = let k : Known = owner_of me.0 in
+IsOwners me q counted word = let k : SectionKnowledge = owner_of me.0 in
     (me ≡ (Owner k, [])) × (k.number ≡ q) × (k.counted ≡ counted) × (word_in q k.run ≡ word) × (q < k.count)
 
+-- a dealer who has dealt one section more
 abbrev pub next_section : Seated → Seated
 next_section (Dealer next count) = Dealer (next + 1) count
 next_section v = v
 
+-- the section that is dealt next
 abbrev pub section_dealt : Seated → Seated
 section_dealt (Dealer next count) = Owner (new_section next count)
 section_dealt v = v
@@ -75,47 +77,54 @@ section_dealt v = v
 
 -- A load: its owner knows of the run so far, which is lawful, and in which nothing of its own is new. `Found` is what the word that it found
 -- tells of that run.
-abbrev pub Finds : (Known → List Event → Type 0) → Seated → Seated → Type 0
-Finds Found (Owner k) w = (run : List Event) × (w ≡ Owner (record k { run = run })) × OthersRunOn k.number k.run run × IsLawfulRun run × Found k run
+abbrev pub Finds : (SectionKnowledge → List SectionEvent → Type 0) → Seated → Seated → Type 0
+Finds Found (Owner k) w = (run : List SectionEvent) × (w ≡ Owner (record k { run = run })) × OthersRunOn k.number k.run run × IsLawfulRun run × Found k run
 Finds Found v w = Unit {0}
 
-abbrev pub finding : {S : Type 0} → (ℕ → ℕ → Known → List Event → Type 0) → Step S → Me S Seated → ℕ → Me S Seated → Type 0
+-- a step that finds something and changes nothing
+abbrev pub finding : {S : Type 0} → (ℕ → ℕ → SectionKnowledge → List SectionEvent → Type 0) → Step S → Me S Seated → ℕ → Me S Seated → Type 0
 finding Found st m told m' = (m'.1 ≡ m.1) × Finds (Found st.word told) m.0 m'.0
 
-abbrev pub found_moments : ℕ → ℕ → Known → List Event → Type 0
+-- the number of moments that were taken
+abbrev pub found_moments : ℕ → ℕ → SectionKnowledge → List SectionEvent → Type 0
 found_moments word told k run = (told ≡ moments_in run) × (told ≤ MOST_MOMENTS)
 
-abbrev pub found_reach : ℕ → ℕ → Known → List Event → Type 0
+-- a number of sections, such that none from there on was ever entered
+abbrev pub found_reach : ℕ → ℕ → SectionKnowledge → List SectionEvent → Type 0
 found_reach word told k run = (told ≤ k.count) × ((q : ℕ) → told ≤ q → HasNoneOf q run)
 
-abbrev pub found_word : ℕ → ℕ → Known → List Event → Type 0
+-- a section's word
+abbrev pub found_word : ℕ → ℕ → SectionKnowledge → List SectionEvent → Type 0
 found_word word told k run = (q : ℕ) → word ≡ section_place q → q < k.count → told ≡ word_in q run
 
 -- The owner's section is within the reach from now on.
 abbrev pub Counted : Seated → Seated → Type 0
-Counted (Owner k) w = (run : List Event) × (w ≡ Owner (record k { counted = true; run = run })) × OthersRunOn k.number k.run run
+Counted (Owner k) w = (run : List SectionEvent) × (w ≡ Owner (record k { counted = true; run = run })) × OthersRunOn k.number k.run run
 Counted v w = Unit {0}
 
+-- a step that counts a section in
 abbrev pub counting : {S : Type 0} → Step S → Me S Seated → ℕ → Me S Seated → Type 0
 counting st m told m' = (m'.1 ≡ m.1) × Counted m.0 m'.0
 
 -- The event happens next, and the owner knows of it.
-abbrev pub EventHappens : (Known → List Event → List Event) → Seated → Seated → Type 0
-EventHappens next (Owner k) w = (before : List Event) × (w ≡ Owner (record k { run = next k before })) × OthersRunOn k.number k.run before
+abbrev pub EventHappens : (SectionKnowledge → List SectionEvent → List SectionEvent) → Seated → Seated → Type 0
+EventHappens next (Owner k) w = (before : List SectionEvent) × (w ≡ Owner (record k { run = next k before })) × OthersRunOn k.number k.run before
 EventHappens next v w = Unit {0}
 
 -- the owner's section is entered, with one moment less than its word says
 abbrev pub entering : {S : Type 0} → Step S → Me S Seated → ℕ → Me S Seated → Type 0
 entering st m told m' = (m'.1 ≡ m.1) × EventHappens (λ k run. Entered k.number (told - 1) ∷ run) m.0 m'.0
 
+-- a step that leaves a section
 abbrev pub leaving : {S : Type 0} → Step S → Me S Seated → ℕ → Me S Seated → Type 0
 leaving st m told m' = (m'.1 ≡ m.1) × EventHappens (λ k run. Left k.number ∷ run) m.0 m'.0
 
 -- A moment is taken, if as many had been taken as was expected.
 abbrev pub Takes : ℕ → ℕ → Seated → Seated → Type 0
-Takes expected told (Owner k) w = (before : List Event) × (w ≡ Owner (record k { run = if nat_eq told expected then Taken ∷ before else before }))
+Takes expected told (Owner k) w = (before : List SectionEvent) × (w ≡ Owner (record k { run = if nat_eq told expected then Taken ∷ before else before }))
     × OthersRunOn k.number k.run before × (told ≡ moments_in before)
 Takes expected told v w = Unit {0}
 
+-- a step that takes a moment
 abbrev pub taking : {S : Type 0} → Step S → Me S Seated → ℕ → Me S Seated → Type 0
 taking st m told m' = (m'.1 ≡ m.1) × Takes st.first told m.0 m'.0

@@ -1,9 +1,9 @@
 -- Tables of sections, and the sections, as contracts see them; and what their calls do.
 use Rattle.std.specs.Prelude.{◌≡◌, ◌+◌, ◌<◌, ◌≤◌, ◌⊎◌, ℕ, true, List, ◌∷◌}
 use Rattle.atomic_table.specs.Seated.{TableId}
-use Rattle.sections.specs.declared.events.Event.{Event}
-use Rattle.sections.specs.declared.events.Event.TheVariants.{Entered, Left}
-use Rattle.sections.specs.declared.events.Known.{Known}
+use Rattle.sections.specs.declared.events.SectionEvent.{SectionEvent}
+use Rattle.sections.specs.declared.events.SectionEvent.TheVariants.{Entered, Left}
+use Rattle.sections.specs.declared.events.SectionKnowledge.{SectionKnowledge}
 use Rattle.sections.specs.declared.table.TheConstants.{MOST_MOMENTS}
 use Rattle.sections.specs.Rule.{new_section}
 use Rattle.sections.specs.Runs.{IsLawfulRun, IsOpen, OthersRunOn, moments_in}
@@ -16,7 +16,7 @@ pub record SectionsView : Type 0 where
 -- a section: its table, and what its owner knows
 pub record SectionView : Type 0 where
   pub table : TableId
-  pub known : Known
+  pub known : SectionKnowledge
 
 -- the section is one of this table
 abbrev pub IsSectionOf : SectionsView → SectionView → Type 0
@@ -44,7 +44,7 @@ pub record SeesOthers (s t : SectionView) : Type 0 where
 -- The section is entered: the last event of the run is this one. It comes with the number of moments that had been taken when the call loaded it.
 pub record Enters (s t : SectionView) : Type 0 where
   pub one : IsOneSection s t
-  pub before : List Event
+  pub before : List SectionEvent
   pub others : OthersRunOn s.known.number s.known.run before
   pub moments : ℕ
   pub fresh : moments_in s.known.run ≤ moments
@@ -53,7 +53,7 @@ pub record Enters (s t : SectionView) : Type 0 where
 -- The section is left: the last event of the run is this one.
 pub record Leaves (s t : SectionView) : Type 0 where
   pub one : IsOneSection s t
-  pub before : List Event
+  pub before : List SectionEvent
   pub others : OthersRunOn s.known.number s.known.run before
   pub run : t.known.run ≡ Left s.known.number ∷ before
 
@@ -61,7 +61,7 @@ pub record Leaves (s t : SectionView) : Type 0 where
 -- that a table tells apart have been taken, and it is the next number.
 pub record TakesMoment (moment : ℕ) (s t : SectionView) : Type 0 where
   pub one : IsOneSection s t
-  pub before : List Event
+  pub before : List SectionEvent
   pub others : OthersRunOn s.known.number s.known.run before
   pub fewer : moments_in before < moment
   pub until : OthersRunOn s.known.number before t.known.run

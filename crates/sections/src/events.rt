@@ -4,7 +4,7 @@
 use std::collections::LinkedList;
 
 /// What changes a section, or takes a moment.
-pub enum Event {
+pub enum SectionEvent {
     /// The section of this number is entered. Before that, so many moments had been taken when it loaded their number.
     Entered(u64, u64),
     /// The section of this number is left.
@@ -14,7 +14,7 @@ pub enum Event {
 }
 
 /// What the owner of a section knows.
-pub struct Known {
+pub struct SectionKnowledge {
     /// The number of the section.
     pub number: u64,
     /// How many sections the table has.
@@ -22,12 +22,12 @@ pub struct Known {
     /// Whether a look takes its word in, as it does from the first entry on.
     pub counted: bool,
     /// What has happened, up to the last event of which it knows. The newest event comes first.
-    pub run: LinkedList<Event>,
+    pub run: LinkedList<SectionEvent>,
 }
 
 /// What a seat of the table knows.
 pub enum Seated {
     /// That the sections from this number on are still to be dealt, and how many the table has.
     Dealer(u64, u64),
-    Owner(Known),
+    Owner(SectionKnowledge),
 }

@@ -9,9 +9,9 @@ use Rattle.tries.specs.Tree.{subtrie, IsLower, Tree, leaf, node, fork, Has, IsTr
 use Rattle.tries.specs.Search.{Follows, child}
 use Rattle.tries.specs.Content.{Item, first}
 use Rattle.tries.proofs.Changes.{put, IsPathBelow, IsInOwnSubtrie}
-use Rattle.tries.proofs.Places.{grown}
+use Rattle.tries.proofs.Place.{grown}
 use Rattle.tries.specs.Affected.{affected, IsPart, subtrie_affected, subtrie_forked, subtrie_grown, IsPartSubtrie, IsLowerSubtrie}
-use Rattle.tries.proofs.Tries.{has_first, has_within, within_trans, within_child, rises}
+use Rattle.tries.proofs.Tree.{has_first, has_within, within_trans, within_child, rises}
 
 -- A key that follows a stem within a side agrees with the side's keys before the fork, and takes that side.
 pub follows_agree : (p : ℕ) (s : Tree) {t : Tree} (u : Bool) → Within s t → IsTrie t →

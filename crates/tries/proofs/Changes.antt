@@ -1,4 +1,6 @@
 -- One tree put in the place of another; the keys that this exchanges or takes away.
+pub mod Adding
+pub mod Puts
 use Rattle.std.specs.Prelude.{ℕ, ◌<◌}
 use Rattle.tries.specs.Keys.{Key}
 use Rattle.tries.specs.Tree.{Tree, node, fork, Within, here, inside, zero_side, one_side, Has, IsTrie}

@@ -1,15 +1,9 @@
 -- The lemmas of the crate.
-pub mod Tries
-pub mod Contents
+pub mod Tree
+pub mod Content
 pub mod Counts
-pub mod Maps
-pub mod Ranges
-pub mod Places
+pub mod Keys
+pub mod Place
 pub mod Changes
-pub mod Puts
-pub mod Adding
 pub mod Affected
-pub mod Spots
-pub mod Fitting
-pub mod Building
-pub mod Reading
+pub mod Read

@@ -23,20 +23,24 @@ abbrev pub subtrie_affected : ℕ → Key → Subtrie → Subtrie
 subtrie_affected p k (Place e) = Place e
 subtrie_affected p k (Fork q x y) = if nat_lt q p then (if bit k q then subtrie_affected p k y else subtrie_affected p k x) else Fork q x y
 
+-- a new fork, with the new entry on this side
 abbrev pub subtrie_forked : Bool → ℕ → Entry → Subtrie → Subtrie
 subtrie_forked false p e x = Fork p (Place e) x
 subtrie_forked true p e x = Fork p x (Place e)
 
+-- a subtrie with a new key's entry, at the fork where the key parts
 abbrev pub subtrie_grown : ℕ → Key → Entry → Subtrie → Subtrie
 subtrie_grown p k e (Place f) = subtrie_forked (bit k p) p e (Place f)
 subtrie_grown p k e (Fork q x y) =
     if nat_lt q p then (if bit k q then Fork q x (subtrie_grown p k e y) else Fork q (subtrie_grown p k e x) y) else subtrie_forked (bit k p) p e (Fork q x y)
 
+-- it is not one node alone
 abbrev pub IsPartSubtrie : Subtrie → Type 0
 IsPartSubtrie (Place (Leaf n)) = Unit {0}
 IsPartSubtrie (Place (Node n h)) = ⊥
 IsPartSubtrie (Fork q x y) = Unit {0}
 
+-- all its nodes are below this height
 abbrev pub IsLowerSubtrie : ℕ → Subtrie → Type 0
 IsLowerSubtrie h (Place (Leaf n)) = 0 < h
 IsLowerSubtrie h (Place (Node n g)) = g < h
@@ -47,6 +51,7 @@ abbrev pub FirstForkIsBefore : ℕ → Subtrie → Type 0
 FirstForkIsBefore p (Place e) = ⊥
 FirstForkIsBefore p (Fork q x y) = q < p
 
+-- it is one entry
 abbrev pub IsTipSubtrie : Subtrie → Type 0
 IsTipSubtrie (Place e) = Unit {0}
 IsTipSubtrie (Fork q x y) = ⊥

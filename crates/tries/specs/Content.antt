@@ -10,9 +10,11 @@ pub record Item : Type 0 where
   pub key : Key
   pub value : ℕ
 
+-- a leaf of this number, key and value
 abbrev pub item : ℕ → Key → ℕ → Item
 item n k v = record { number = n; key = k; value = v }
 
+-- the leaves of a tree, in order
 abbrev pub items : Tree → List Item
 items (leaf n k v) = record { number = n; key = k; value = v } ∷ []
 items (node n h b) = items b
@@ -23,10 +25,12 @@ abbrev pub pairs : List Item → List (Key × ℕ)
 pairs [] = []
 pairs (x ∷ xs) = (x.key, x.value) ∷ pairs xs
 
+-- each leaf is so
 abbrev pub Each : (Item → Type 0) → List Item → Type 0
 Each P [] = Unit {0}
 Each P (x ∷ xs) = P x × Each P xs
 
+-- the leaf is among them
 abbrev pub IsIn : Item → List Item → Type 0
 IsIn x [] = ⊥
 IsIn x (y ∷ ys) = (x ≡ y) ⊎ IsIn x ys
@@ -47,6 +51,7 @@ IsAbove p (leaf n k v) = Unit {0}
 IsAbove p (node n h b) = IsAbove p b
 IsAbove p (fork q a b) = p < q
 
+-- the first key
 abbrev pub first : Tree → Key
 first (leaf n k v) = k
 first (node n h b) = first b

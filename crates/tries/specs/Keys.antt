@@ -22,5 +22,6 @@ IsParted p k l = AgreeBelow p k l × (bit k p ≡ false) × (bit l p ≡ true)
 abbrev pub IsBefore : Key → Key → Type 0
 IsBefore k l = (p : ℕ) × IsParted p k l
 
+-- the key is this one or before it
 abbrev pub IsAtMost : Key → Key → Type 0
 IsAtMost k l = (k ≡ l) ⊎ IsBefore k l

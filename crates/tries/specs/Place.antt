@@ -11,6 +11,7 @@ abbrev pub spot : Key → Subtrie → ℕ
 spot k (Place e) = 0
 spot k (Fork p x y) = if bit k p then size x + spot k y else spot k x
 
+-- the entry at a place
 abbrev pub entry_at : Subtrie → ℕ → Entry
 entry_at (Place e) i = e
 entry_at (Fork p x y) i = if nat_lt i (size x) then entry_at x i else entry_at y (i - size x)
@@ -43,6 +44,7 @@ joined q true x (Fork p a b) r = Fork q x r
 joined q false (Place e) y r = y
 joined q false (Fork p a b) y r = Fork q r y
 
+-- a subtrie without the entry of a key; one entry stays
 abbrev pub subtrie_without : Key → Subtrie → Subtrie
 subtrie_without k (Place e) = Place e
 subtrie_without k (Fork q x y) = joined q (bit k q) x y (if bit k q then subtrie_without k y else subtrie_without k x)
@@ -54,6 +56,7 @@ side_beside q true x (Fork p a b) below = below
 side_beside q false (Place e) y below = Some (q, y)
 side_beside q false (Fork p a b) y below = below
 
+-- the last fork on the way of a key, and what is on its other side
 abbrev pub subtrie_sibling : Key → Subtrie → Option (ℕ × Subtrie)
 subtrie_sibling k (Place e) = None
 subtrie_sibling k (Fork q x y) = side_beside q (bit k q) x y (if bit k q then subtrie_sibling k y else subtrie_sibling k x)
@@ -65,6 +68,7 @@ fork_closed q true f x (Fork p a b) below = Fork q x below
 fork_closed q false f (Place e) y below = Place f
 fork_closed q false f (Fork p a b) y below = Fork q below y
 
+-- a subtrie with this entry in the place of that last fork
 abbrev pub subtrie_collapsed : Key → Entry → Subtrie → Subtrie
 subtrie_collapsed k f (Place e) = Place e
 subtrie_collapsed k f (Fork q x y) = fork_closed q (bit k q) f x y (if bit k q then subtrie_collapsed k f y else subtrie_collapsed k f x)

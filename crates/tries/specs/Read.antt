@@ -4,11 +4,13 @@ use Rattle.compound_node.specs.declared.entries.Entry.{Entry}
 use Rattle.node_tries.specs.Piece.{Place, Fork}
 use Rattle.tries.specs.Tree.{Fixed, Subtrie, Tree, node, fork}
 
+-- a fork of two trees, if both are there
 abbrev pub join_fork : ℕ → Option Tree → Option Tree → Option Tree
 join_fork p (Some a) (Some b) = Some (fork p a b)
 join_fork p (Some a) None = None
 join_fork p None o = None
 
+-- a node around a body, if it is there
 abbrev pub join_node : ℕ → Fixed → Option Tree → Option Tree
 join_node n x (Some b) = Some (node n x b)
 join_node n x None = None

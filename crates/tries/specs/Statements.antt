@@ -12,6 +12,7 @@ use Rattle.tries.specs.Content.{Item, items, pairs, IsMore, IsExchange, IsLocal}
 abbrev pub ContentRises : Type 0
 ContentRises = (t : Tree) → IsTrie t → IsStrictlySortedBy (slice_cmp nat_cmp) (keys_of (pairs (items t)))
 
+-- Local rules make a trie, and a trie has them.
 abbrev pub LocalIsTrie : Type 0
 LocalIsTrie = (t : Tree) → IsLocal t ↔ IsTrie t
 

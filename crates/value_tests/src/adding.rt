@@ -7,7 +7,8 @@ ghost use Rattle.node_tries.specs.Growth.{IsAffected};
 use crate::nodes::comb_node;
 use compound_node::{Entry, Node};
 use record_words::{
-    HEAD_WORDS, Kind, NODE_FIELDS, add_leaf, affected_slots, can_take_leaf, pack_entry, pack_node,
+    HEAD_WORDS, HeadKind, NODE_FIELDS, add_leaf, affected_slots, can_take_leaf, pack_entry,
+    pack_node,
 };
 use std::process::Abort;
 
@@ -43,7 +44,7 @@ fn words_with_last(rt: &impl Abort, positions: &[u16], position: u16) -> [u64; N
 
 /// The words of a node whose head is of the kind `kind`: those of `front` first, those of `rows` where its rows begin, all ones up to the
 /// entries, and then those of `leaves`.
-fn words_of(kind: Kind, front: &[u64], rows: &[u64], leaves: &[u32]) -> [u64; NODE_FIELDS] {
+fn words_of(kind: HeadKind, front: &[u64], rows: &[u64], leaves: &[u32]) -> [u64; NODE_FIELDS] {
     let mut words = [0; NODE_FIELDS];
     for index in 0..HEAD_WORDS {
         words[index] = u64::MAX;
@@ -74,11 +75,11 @@ fn leaves_up_to(last: usize) -> [u32; 32] {
 /// Columns of a node, the position of a new one behind, and what the head is then: its kind, its numbers and columns, and its rows. A
 /// narrow head has 8 columns at most, and a middle one 16. Neither has a column over 15 bytes behind its first, or one that says whether
 /// there is a byte.
-const LAST: [(&[u16], u16, Kind, &[u64], &[u64]); 8] = [
+const LAST: [(&[u16], u16, HeadKind, &[u64], &[u64]); 8] = [
     (
         &[1],
         143,
-        Kind::Narrow,
+        HeadKind::Narrow,
         &[
             0x100_0001_0203,
             0x000f_0000_0000_0000,
@@ -89,35 +90,35 @@ const LAST: [(&[u16], u16, Kind, &[u64], &[u64]); 8] = [
     (
         &[1],
         144,
-        Kind::Wide,
+        HeadKind::Wide,
         &[0x1_0203, 0xffff_ffff_0090_0001],
         &[0x8000_0000_0000_0000, 0xffff_ffff_c000_0000],
     ),
     (
         &[1],
         145,
-        Kind::Wide,
+        HeadKind::Wide,
         &[0x1_0203, 0xffff_ffff_0091_0001],
         &[0x8000_0000_0000_0000, 0xffff_ffff_c000_0000],
     ),
     (
         &[1],
         9,
-        Kind::Wide,
+        HeadKind::Wide,
         &[0x1_0203, 0xffff_ffff_0009_0001],
         &[0x8000_0000_0000_0000, 0xffff_ffff_c000_0000],
     ),
     (
         &[1, 2, 3, 4, 5, 6, 7],
         8,
-        Kind::Narrow,
+        HeadKind::Narrow,
         &[0x100_0001_0809, 0, 0x8040_2010_0804_0201],
         &[0xfefc_f8f0_e0c0_8000],
     ),
     (
         &[1, 2, 3, 4, 5, 6, 7, 8],
         10,
-        Kind::Middle,
+        HeadKind::Middle,
         &[
             0x200_0001_090a,
             0x0100_0000_0000_0000,
@@ -134,7 +135,7 @@ const LAST: [(&[u16], u16, Kind, &[u64], &[u64]); 8] = [
     (
         &[1, 2, 3, 4, 5, 6, 7, 8, 10, 11, 12, 13, 14, 15, 16],
         17,
-        Kind::Middle,
+        HeadKind::Middle,
         &[
             0x200_0001_1011,
             0x0101_0101_0101_0101,
@@ -152,7 +153,7 @@ const LAST: [(&[u16], u16, Kind, &[u64], &[u64]); 8] = [
     (
         &[1, 2, 3, 4, 5, 6, 7, 8, 10, 11, 12, 13, 14, 15, 16, 17],
         19,
-        Kind::Wide,
+        HeadKind::Wide,
         &[
             0x1_1112,
             0x0004_0003_0002_0001,
@@ -193,15 +194,15 @@ fn leaves_are_added_to_narrow_words(rt: HostRuntime) {
     let words = words_with_leaf(&rt, &node, (0, 0), 8, true);
     let front = [0x100_0001_0204, 0, 0x0201_0000_0000_0000];
     let rows = [0xffff_ffff_c080_4000];
-    assert!(rt; words == words_of(Kind::Narrow, &front, &rows, &[0, 40, 1, 2]));
+    assert!(rt; words == words_of(HeadKind::Narrow, &front, &rows, &[0, 40, 1, 2]));
     let words = words_with_leaf(&rt, &node, (0, 2), 6, true);
     let front = [0x100_0001_0304, 0, 0x0402_0100_0000_0000];
     let rows = [0xffff_ffff_8060_4000];
-    assert!(rt; words == words_of(Kind::Narrow, &front, &rows, &[0, 1, 2, 40]));
+    assert!(rt; words == words_of(HeadKind::Narrow, &front, &rows, &[0, 1, 2, 40]));
     let words = words_with_leaf(&rt, &node, (2, 2), 200, false);
     let front = [0x1_0304, 0xffff_00c8_0008_0007];
     let rows = [0x8000_0000_0000_0000, 0xe000_0000_c000_0000];
-    assert!(rt; words == words_of(Kind::Wide, &front, &rows, &[0, 1, 40, 2]));
+    assert!(rt; words == words_of(HeadKind::Wide, &front, &rows, &[0, 1, 40, 2]));
 }
 
 /// A middle head keeps its columns.
@@ -222,7 +223,7 @@ fn leaves_are_added_to_middle_words(rt: HostRuntime) {
         0xffff_ff80_ff00_fe00,
     ];
     let leaves = [40, 0, 1, 2, 3, 4, 5, 6, 7, 8, 9];
-    assert!(rt; words == words_of(Kind::Middle, &front, &rows, &leaves));
+    assert!(rt; words == words_of(HeadKind::Middle, &front, &rows, &leaves));
 }
 
 /// A wide head keeps its columns.
@@ -232,7 +233,7 @@ fn leaves_are_added_to_wide_words(rt: HostRuntime) {
     let words = words_with_leaf(&rt, &node, (0, 0), 200, true);
     let front = [0x1_0204, 0xffff_ffff_00c8_0007];
     let rows = [0x4000_0000_0000_0000, 0xc000_0000_8000_0000];
-    assert!(rt; words == words_of(Kind::Wide, &front, &rows, &[0, 40, 1, 2]));
+    assert!(rt; words == words_of(HeadKind::Wide, &front, &rows, &[0, 40, 1, 2]));
 }
 
 /// The affected slots that the words of the head of `node` tell, of `slot` and `position`.

@@ -6,7 +6,7 @@ use crate::nodes::{comb_node, key};
 use compound_node::Node;
 use key_bits::Key;
 use record_words::{
-    FIRST_ROWS, HEAD_WORDS, Kind, MIDDLE_HEAD_WORDS, NARROW_HEAD_WORDS, NODE_FIELDS, ROW_WORDS,
+    FIRST_ROWS, HEAD_WORDS, HeadKind, MIDDLE_HEAD_WORDS, NARROW_HEAD_WORDS, NODE_FIELDS, ROW_WORDS,
     extract_dense_key, first_position_of, index_of_first_position, pack_node, read_node,
     read_numbers, search_middle, search_narrow, search_row_words,
 };
@@ -14,48 +14,48 @@ use std::process::Abort;
 
 /// Columns and the kind of their head: 8 of them and 9, 16 and 17, in byte 15 and 16, with a bit that says that there is a byte, and at the
 /// last bytes of a key.
-const KINDS: [(&[u16], Kind); 13] = [
-    (&[7, 8], Kind::Narrow),
-    (&[1, 2, 10, 20, 35, 71, 100, 143], Kind::Narrow),
-    (&[1, 2, 10, 20, 35, 71, 100, 142, 143], Kind::Middle),
+const KINDS: [(&[u16], HeadKind); 13] = [
+    (&[7, 8], HeadKind::Narrow),
+    (&[1, 2, 10, 20, 35, 71, 100, 143], HeadKind::Narrow),
+    (&[1, 2, 10, 20, 35, 71, 100, 142, 143], HeadKind::Middle),
     (
         &[
             28, 29, 30, 31, 32, 33, 34, 35, 37, 38, 39, 40, 41, 42, 169, 170,
         ],
-        Kind::Middle,
+        HeadKind::Middle,
     ),
     (
         &[
             28, 29, 30, 31, 32, 33, 34, 35, 37, 38, 39, 40, 41, 42, 43, 169, 170,
         ],
-        Kind::Wide,
+        HeadKind::Wide,
     ),
-    (&[1, 144], Kind::Wide),
-    (&[1, 145], Kind::Wide),
-    (&[10, 145], Kind::Narrow),
-    (&[9, 10], Kind::Wide),
-    (&[8, 9, 10], Kind::Wide),
-    (&[2017, 2018, 2159], Kind::Narrow),
-    (&[2026, 2159], Kind::Wide),
+    (&[1, 144], HeadKind::Wide),
+    (&[1, 145], HeadKind::Wide),
+    (&[10, 145], HeadKind::Narrow),
+    (&[9, 10], HeadKind::Wide),
+    (&[8, 9, 10], HeadKind::Wide),
+    (&[2017, 2018, 2159], HeadKind::Narrow),
+    (&[2026, 2159], HeadKind::Wide),
     (
         &[
             1, 2, 3, 4, 5, 6, 7, 8, 10, 11, 12, 13, 14, 15, 16, 17, 19, 20, 21, 22, 23, 24, 25, 26,
             28, 29, 30, 31, 32, 33, 34,
         ],
-        Kind::Wide,
+        HeadKind::Wide,
     ),
 ];
 
 /// The position of column `j` of the head with `words`, whose kind is `kind`, as the layout tells it.
-fn plain_position(words: &[u64; NODE_FIELDS], kind: Kind, j: usize) -> u16
+fn plain_position(words: &[u64; NODE_FIELDS], kind: HeadKind, j: usize) -> u16
     requires { j < 31 }
 {
-    if kind == Kind::Wide {
+    if kind == HeadKind::Wide {
         return (words[1 + j / 4] >> (16 * (j % 4)) & 0xffff) as u16;
     }
     let first = words[0] >> 32 & 0xff;
     let (index, mask) = match kind {
-        Kind::Narrow => (words[1], words[2]),
+        HeadKind::Narrow => (words[1], words[2]),
         _ if j < 8 => (words[2], words[4]),
         _ => (words[1], words[3]),
     };
@@ -70,13 +70,13 @@ fn plain_position(words: &[u64; NODE_FIELDS], kind: Kind, j: usize) -> u16
 }
 
 /// The row of slot `i` of the head with `words`, whose kind is `kind`, as the layout tells it.
-fn plain_row(words: &[u64; NODE_FIELDS], kind: Kind, i: usize) -> u32
+fn plain_row(words: &[u64; NODE_FIELDS], kind: HeadKind, i: usize) -> u32
     requires { i < 32 }
 {
     match kind {
-        Kind::Wide => (words[9 + i / 2] >> (32 * (i % 2)) & 0xffff_ffff) as u32,
-        Kind::Narrow => ((words[3 + i / 8] >> (8 * (i % 8)) & 0xff) as u32) << 24,
-        Kind::Middle => ((words[5 + i / 4] >> (16 * (i % 4)) & 0xffff) as u32) << 16,
+        HeadKind::Wide => (words[9 + i / 2] >> (32 * (i % 2)) & 0xffff_ffff) as u32,
+        HeadKind::Narrow => ((words[3 + i / 8] >> (8 * (i % 8)) & 0xff) as u32) << 24,
+        HeadKind::Middle => ((words[5 + i / 4] >> (16 * (i % 4)) & 0xffff) as u32) << 16,
     }
 }
 
@@ -84,19 +84,19 @@ fn plain_row(words: &[u64; NODE_FIELDS], kind: Kind, i: usize) -> u32
 fn search_words(node: &Node, key: &Key) -> u8 {
     let words = pack_node(node);
     match read_numbers(words[0]).kind {
-        Kind::Wide => {
+        HeadKind::Wide => {
             let mut front = [0; FIRST_ROWS];
             front.copy_from_slice(&words[..FIRST_ROWS]);
             let mut back = [0; ROW_WORDS];
             back.copy_from_slice(&words[FIRST_ROWS..HEAD_WORDS]);
             search_row_words(&back, extract_dense_key(&front, key))
         }
-        Kind::Narrow => {
+        HeadKind::Narrow => {
             let mut front = [0; NARROW_HEAD_WORDS];
             front.copy_from_slice(&words[..NARROW_HEAD_WORDS]);
             search_narrow(&front, key)
         }
-        Kind::Middle => {
+        HeadKind::Middle => {
             let mut front = [0; MIDDLE_HEAD_WORDS];
             front.copy_from_slice(&words[..MIDDLE_HEAD_WORDS]);
             search_middle(&front, key)
@@ -105,7 +105,7 @@ fn search_words(node: &Node, key: &Key) -> u8 {
 }
 
 /// Asserts that `words` are those of `node`, by each function that reads them.
-fn expect_words(rt: &impl Abort, words: &[u64; NODE_FIELDS], node: &Node, want: Kind) {
+fn expect_words(rt: &impl Abort, words: &[u64; NODE_FIELDS], node: &Node, want: HeadKind) {
     let numbers = read_numbers(words[0]);
     let columns = node.columns();
     assert!(rt; numbers.kind == want);
@@ -120,7 +120,7 @@ fn expect_words(rt: &impl Abort, words: &[u64; NODE_FIELDS], node: &Node, want: 
         let word = words[numbers.index_of_position(j)];
         let masks = words[numbers.index_of_mask(j)];
         assert!(rt;
-            numbers.position_of(word, masks, j) == position,
+            numbers.read_position(word, masks, j) == position,
             "column {j}"
         );
     }

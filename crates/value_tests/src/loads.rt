@@ -64,6 +64,7 @@ fn keys_without_records_are_refused(rt: HostRuntime) {
     for (nodes, leaves, taken, want) in [
         (8, 2, 2, LoadFault::LeavesFull),
         (1, 8, 1, LoadFault::NodesFull),
+        (2, 40, 32, LoadFault::NodesFull),
     ] {
         let mut loader = new_loader(&rt, rt.alloc(), nodes, leaves);
         for byte in 0..taken {

@@ -160,7 +160,7 @@ fn one_entry_takes_the_place_of_two(rt: HostRuntime) {
     }
 }
 
-/// In a wide head `row_of` reads the half of a word by the slot, and `position_of` the quarter by the column.
+/// In a wide head `row_of` reads the half of a word by the slot, and `read_position` the quarter by the column.
 #[test]
 fn rows_and_positions_are_read(rt: HostRuntime) {
     let words = pack_node(&comb_node(&rt, &POSITIONS));
@@ -171,9 +171,9 @@ fn rows_and_positions_are_read(rt: HostRuntime) {
     }
     for column in 0..31u8 {
         let word = words[numbers.index_of_position(column)];
-        let position = numbers.position_of(word, words[numbers.index_of_mask(column)], column);
+        let position = numbers.read_position(word, words[numbers.index_of_mask(column)], column);
         assert!(rt; position == u16::from(column), "{column}");
     }
     assert!(rt; numbers.row_of(0xc000_0000_8000_0000, 7) == 0xc000_0000);
-    assert!(rt; numbers.position_of(0xffff_0008_0006_0004, 0, 9) == 6);
+    assert!(rt; numbers.read_position(0xffff_0008_0006_0004, 0, 9) == 6);
 }

@@ -15,7 +15,7 @@ use record_words::{
     HEAD_WORDS, LEAF_FIELDS, NODE_FIELDS, Tag, pack_entry, pack_leaf, pack_node, pack_state,
     unpack_state,
 };
-use replay_trees::{unpack_entry, unpack_head, unpack_leaf, unpack_node};
+use rowex_replay_state::{unpack_entry, unpack_head, unpack_leaf, unpack_node};
 use std::process::Abort;
 
 /// The key with the bytes `bytes`; panics if they are more than 240.

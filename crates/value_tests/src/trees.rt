@@ -3,7 +3,7 @@
 use crate::nodes::{key, words_of_leaf, words_of_three};
 use compound_node::Entry;
 use record_words::{LEAF_FIELDS, NODE_FIELDS};
-use replay_trees::{Linked, read_tree};
+use rowex_replay_state::{Linked, read_tree};
 use std::alloc::Global;
 use std::process::Abort;
 

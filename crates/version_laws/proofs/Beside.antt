@@ -5,7 +5,7 @@ use Rattle.compound_node.specs.declared.entries.Entry.{Entry}
 use Rattle.compound_node.specs.declared.entries.Entry.TheVariants.{Node}
 use Rattle.compound_node.specs.Nodes.{greatest_height}
 use Rattle.node_tries.specs.Piece.{Place, Fork, RisesFrom, places}
-use Rattle.node_tries.proofs.Removing.{RisesFrom-without}
+use Rattle.node_tries.proofs.Changes.{RisesFrom-without}
 use Rattle.tries.specs.Tree.{Fixed, Tree, leaf, node, fork, subtrie, Has, IsLower, IsTrie, IsBuilt, Subtrie, Within, here, inside, zero_side, one_side}
 use Rattle.tries.specs.Search.{child, seek}
 use Rattle.tries.proofs.Changes.{put, IsInOwnSubtrie}
@@ -15,14 +15,14 @@ use Rattle.versions.specs.State.{IsLawfulState, Links}
 use Rattle.versions.specs.Core.{BareCore, view}
 use Rattle.record_words.specs.declared.records.Rec.{Rec}
 use Rattle.record_words.specs.declared.records.Rec.TheVariants.{Node as a_node}
-use Rattle.tries.proofs.Building.{greatest-append, greatest_if_lower, greatest_without}
-use Rattle.tries.proofs.Spots.{without_spot}
-use Rattle.tries.proofs.Tries.{built_within, rises, within_trans}
-use Rattle.versions.proofs.Heaps.{shown_within}
-use Rattle.versions.proofs.Stored.{lower_within, not_beside}
+use Rattle.tries.proofs.Tree.Building.{greatest-append, greatest_if_lower, greatest_without}
+use Rattle.tries.proofs.Place.Spots.{without_spot}
+use Rattle.tries.proofs.Tree.{built_within, rises, within_trans}
+use Rattle.versions.proofs.Heap.{shown_within}
+use Rattle.versions.proofs.Heap.Stored.{lower_within, not_beside}
 use Rattle.version_laws.proofs.Now.{shown_now}
 use Rattle.version_laws.proofs.Standing.{entry_node}
-use Rattle.version_laws.proofs.Scans.{node_of}
+use Rattle.version_laws.proofs.Scan.{node_of}
 use Rattle.std.proofs.lemmas.Option.{none-some}
 
 -- The last fork on a key's way

@@ -12,10 +12,10 @@ use Rattle.versions.specs.Told.{items_of}
 use Rattle.versions.specs.Core.{BareCore, view}
 use Rattle.versions.specs.Steps.{IsVersionPublish}
 use Rattle.versions.specs.Trades.{IsOneOf, HasTraded}
-use Rattle.versions.proofs.Members.{of_append, of_left, of_right}
+use Rattle.versions.proofs.Trades.{of_append, of_left, of_right}
 use Rattle.version_laws.specs.Statements.{IsPublished}
 use Rattle.version_laws.proofs.Trading.{IsTrade, old_now}
-use Rattle.versions.proofs.Heaps.{leaf_node, leaf_number}
+use Rattle.versions.proofs.Heap.{leaf_node, leaf_number}
 
 -- a leaf is linked where its number is among the leaves
 leaf_among : (t : Tree) (n : ℕ) → Links t (a_leaf n) → (x : Item) × IsOneOf x (items t) × (x.number ≡ n)

@@ -15,17 +15,17 @@ use Rattle.versions.specs.Core.{Fate, Free, Held, Ready, InTree, Unlinked, Marke
 use Rattle.versions.specs.Steps.{at_root, at_slot, IsNextVersion, IsVersionPublish}
 use Rattle.tries.proofs.Changes.{put, IsInOwnSubtrie}
 use Rattle.version_laws.specs.Writer.{IsSubtrieStored}
-use Rattle.versions.proofs.Publish.{links_within, within_links}
-use Rattle.versions.proofs.Quiet.{shown_if_same_words}
-use Rattle.versions.proofs.Heaps.{shown_within, near_refl, node_number}
-use Rattle.versions.proofs.Stored.{not_above, lower_within, put_shown, put_built}
-use Rattle.versions.proofs.Growth.{in_tree_now}
-use Rattle.tries.proofs.Tries.{built_within}
-use Rattle.tries.proofs.Fitting.{fit_swap}
-use Rattle.tries.proofs.Puts.{subtrie_put, lower_in_own_subtrie, built_in_own_subtrie}
+use Rattle.versions.proofs.State.Publish.{links_within, within_links}
+use Rattle.versions.proofs.State.Quiet.{shown_if_same_words}
+use Rattle.versions.proofs.Heap.{shown_within, near_refl, node_number}
+use Rattle.versions.proofs.Heap.Stored.{not_above, lower_within, put_shown, put_built}
+use Rattle.versions.proofs.Core.Growth.{in_tree_now}
+use Rattle.tries.proofs.Tree.{built_within}
+use Rattle.tries.proofs.Tree.Fitting.{fit_swap}
+use Rattle.tries.proofs.Changes.Puts.{subtrie_put, lower_in_own_subtrie, built_in_own_subtrie}
 use Rattle.version_laws.proofs.Now.{built_now, shown_now, trie_now}
-use Rattle.version_laws.proofs.AtHand.{IsAtHand}
-use Rattle.tries.proofs.Reading.{some_injective as some_same}
+use Rattle.version_laws.proofs.Writer.AtHand.{IsAtHand}
+use Rattle.tries.proofs.Read.{some_injective as some_same}
 
 -- A part put in its own place leaves the tree.
 put_own : {s t : Tree} (w : Within s t) → put w s ≡ t

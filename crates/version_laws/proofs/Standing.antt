@@ -9,13 +9,13 @@ use Rattle.versions.specs.Heap.{NodeWords, LeafWords, IsShown}
 use Rattle.versions.specs.State.{IsLawfulState, IsTop}
 use Rattle.record_words.specs.declared.records.Rec.TheVariants.{Node as a_node}
 use Rattle.versions.specs.Core.{InTree, BareCore, view}
-use Rattle.tries.proofs.Tries.{within_trans, subtrie_child, within_child}
-use Rattle.versions.proofs.Heaps.{shown_within}
-use Rattle.versions.proofs.Growth.{in_tree_now}
+use Rattle.tries.proofs.Tree.{within_trans, subtrie_child, within_child}
+use Rattle.versions.proofs.Heap.{shown_within}
+use Rattle.versions.proofs.Core.Growth.{in_tree_now}
 use Rattle.compound_node.specs.declared.entries.Entry.{Entry}
 use Rattle.version_laws.proofs.Now.{shown_now}
-use Rattle.version_laws.proofs.Scans.{node_of, leaf_of as leaf_named}
-use Rattle.tries.proofs.Reading.{some_injective as some_same}
+use Rattle.version_laws.proofs.Scan.{node_of, leaf_of as leaf_named}
+use Rattle.tries.proofs.Read.{some_injective as some_same}
 
 -- A leaf is the one of its number, with its words.
 pub leaf_of : (c : BareCore) {j : ℕ} (u : Tree) → IsShown c.heap u → subtrie u ≡ Place (Leaf j) → u ≡ leaf j (c.heap.leaves j).key (c.heap.leaves j).value

@@ -3,14 +3,14 @@ use Rattle.std.proofs.Common.{◌≡◌, inl, inr, ℕ, List, [], ◌∷◌, Boo
 use Rattle.tries.specs.Tree.{Fixed, Tree, leaf, node, IsTrie, IsBuilt, Within, here, inside, zero_side, one_side}
 use Rattle.tries.proofs.Changes.{put}
 use Rattle.tries.specs.Content.{Item}
-use Rattle.tries.proofs.Places.{grown}
-use Rattle.tries.proofs.Tries.{built_within}
+use Rattle.tries.proofs.Place.{grown}
+use Rattle.tries.proofs.Tree.{built_within}
 use Rattle.versions.specs.Heap.{Heap, IsShown}
 use Rattle.versions.specs.State.{Links, IsLawfulState}
 use Rattle.record_words.specs.declared.records.Rec.{Rec}
 use Rattle.record_words.specs.declared.records.Rec.TheVariants.{Node as a_node, Leaf as a_leaf}
-use Rattle.versions.proofs.Stored.{not_above, not_beside}
-use Rattle.versions.proofs.Heaps.{shown_within}
+use Rattle.versions.proofs.Heap.Stored.{not_above, not_beside}
+use Rattle.versions.proofs.Heap.{shown_within}
 use Rattle.version_laws.proofs.Replaced.{linked_after_put, linked_before_put, links_new, links_old, linked_fate}
 use Rattle.versions.specs.Trades.{IsOneOf, AreApart}
 use Rattle.tries.specs.Keys.{Key, bit}

@@ -1,4 +1,5 @@
 -- The descent of a writer below its lock; and where nothing has changed since.
+pub mod Descent
 use Rattle.std.proofs.Common.{◌≡◌, ◌⊎◌, inl, inr, ℕ, ◌<◌, ◌≤◌, false, true, refl, ap, sym, ◌∙◌, subst, arith, Some, Bool}
 use Rattle.std.proofs.lemmas.Bool.{false≢true, cases_lt}
 use Rattle.compound_node.specs.declared.entries.Entry.{Entry}
@@ -9,17 +10,17 @@ use Rattle.tries.specs.Tree.{Fixed, Subtrie, Tree, leaf, node, fork, subtrie, Ha
 use Rattle.tries.specs.Search.{child, seek, Kin, tips, forks, found}
 use Rattle.tries.specs.Content.{Item, first}
 use Rattle.tries.specs.Place.{spot, shape}
-use Rattle.tries.proofs.Tries.{has_first, has_within, within_trans, trie_within, built_within, rises, within_child}
+use Rattle.tries.proofs.Tree.{has_first, has_within, within_trans, trie_within, built_within, rises, within_child}
 use Rattle.versions.specs.State.{Past, Stands, StoodWithKeys, IsSteady}
 use Rattle.record_words.specs.declared.records.Rec.TheVariants.{Node as a_node, Leaf as a_leaf}
-use Rattle.versions.proofs.Stored.{lower_within}
+use Rattle.versions.proofs.Heap.Stored.{lower_within}
 use Rattle.version_laws.specs.Scan.{IsRooted, IsBlank, at_place, IsPlaced}
 use Rattle.version_laws.specs.Ways.{IsOnWay, IsWayFrom, from_leaf, from_node, WayBegins, WayGoesOn, WayEnds, WayOfLeaf, WayIsBelow, StillRooted, StillPlaced, StillGrows, OneBody, RootedSame, PlacedSame, FoundSame}
 use Rattle.version_laws.specs.Writer.{BeganAt, IsWayBelow, at_leaf, below}
-use Rattle.version_laws.proofs.Scans.{node_of, leaf_of, within_at, placed_stands, at_spot, shaped, place_same}
-use Rattle.tries.proofs.Places.{spot_shape}
-use Rattle.tries.proofs.Contents.{found_child}
-use Rattle.tries.proofs.Reading.{some_injective as some_same}
+use Rattle.version_laws.proofs.Scan.{node_of, leaf_of, within_at, placed_stands, at_spot, shaped, place_same}
+use Rattle.tries.proofs.Place.{spot_shape}
+use Rattle.tries.proofs.Content.{found_child}
+use Rattle.tries.proofs.Read.{some_injective as some_same}
 use Rattle.std.proofs.lemmas.Option.{none-some}
 
 -- keys of a body that is kin to one whose keys agree with `like` before r agree with it too

@@ -47,18 +47,22 @@ place_ahead Downwards gap entries = gap - suc entries
 
 -- Keys
 
+-- a scan comes to the first key before the second
 abbrev pub IsEarlier : Direction → Key → Key → Type 0
 IsEarlier Upwards a b = IsBefore a b
 IsEarlier Downwards a b = IsBefore b a
 
+-- the same, or they are one
 abbrev pub IsNoLater : Direction → Key → Key → Type 0
 IsNoLater Upwards a b = IsAtMost a b
 IsNoLater Downwards a b = IsAtMost b a
 
+-- the key with which a scan of a range begins
 abbrev pub first_key : Direction → Range → Key
 first_key Upwards g = g.from
 first_key Downwards g = g.upto
 
+-- and that with which it ends
 abbrev pub last_key : Direction → Range → Key
 last_key Upwards g = g.upto
 last_key Downwards g = g.from
@@ -82,14 +86,14 @@ abbrev pub MayStandPassed : Direction → Past → ℕ → ℕ → ℕ → Key �
 MayStandPassed d s m r gap k = (j : ℕ) × WasPassed d gap j × MayStandAt s m r j k
 
 -- it may stand before the place of one of the frames
-abbrev pub WasPassedOnWay : Direction → Past → ℕ → Key → List Frame → Type 0
-WasPassedOnWay d s m k [] = ⊥
-WasPassedOnWay d s m k (f ∷ fs) = MayStandPassed d s m f.number (gap_before d f.place) k ⊎ WasPassedOnWay d s m k fs
+abbrev pub MayStandBeforeFrames : Direction → Past → ℕ → Key → List Frame → Type 0
+MayStandBeforeFrames d s m k [] = ⊥
+MayStandBeforeFrames d s m k (f ∷ fs) = MayStandPassed d s m f.number (gap_before d f.place) k ⊎ MayStandBeforeFrames d s m k fs
 
 -- the scan has passed the key
 abbrev pub HasPassed : Direction → Past → ℕ → Key → List Frame → Type 0
 HasPassed d s m k [] = ⊥
-HasPassed d s m k (f ∷ fs) = MayStandPassed d s m f.number f.place k ⊎ WasPassedOnWay d s m k fs
+HasPassed d s m k (f ∷ fs) = MayStandPassed d s m f.number f.place k ⊎ MayStandBeforeFrames d s m k fs
 
 -- the key was in the node of one of the frames, behind its place
 abbrev pub ComesOnWay : Direction → Past → ℕ → Key → List Frame → Type 0

@@ -71,14 +71,17 @@ IsStack s m (f ∷ []) = IsRooted s m (Node f.number f.height) × IsShaped s m f
 IsStack s m (f ∷ g ∷ gs) =
     IsPlaced s m g.number g.place (Node f.number f.height) × IsShaped s m f.number f.shape × IsStack s m (g ∷ gs)
 
+-- A pair that a scan lists.
 pub record Pair : Type 0 where
   pub key : Key
   pub value : ℕ
 
+-- each pair is so
 abbrev pub Every : (Pair → Type 0) → List Pair → Type 0
 Every P [] = Unit {0}
 Every P (x ∷ xs) = P x × Every P xs
 
+-- the key is among them
 abbrev pub IsKeyListed : Key → List Pair → Type 0
 IsKeyListed k [] = ⊥
 IsKeyListed k (x ∷ xs) = (k ≡ x.key) ⊎ IsKeyListed k xs
@@ -89,6 +92,7 @@ pub record Range : Type 0 where
   pub upto : Key
   pub limit : ℕ
 
+-- the key is in the range
 abbrev pub IsInRange : Range → Key → Type 0
 IsInRange g k = IsAtMost g.from k × IsAtMost k g.upto
 

@@ -29,6 +29,7 @@ pub data IsWayBelow (s : Past) (since : ℕ) (k : Key) (x : Subtrie) (l : Key) :
   at_leaf : (j : ℕ) → seek k x ≡ Leaf j → StoodWithKeys s since (λ y. y ≡ l) (Leaf j) → IsWayBelow s since k x l
   below : (a h r : ℕ) (like : Key) → seek k x ≡ Node a h → BeganAt s since r like a → AgreeBelow r like l → IsWayBelow s since k x l
 
+-- a record that the pass has made ready is this leaf
 pub record IsNewLeaf (c : BareCore) (q : ℕ) (x : Item) : Type 0 where
   pub key : IsKey x.key
   pub fate : c.fate (a_leaf x.number) ≡ Ready q

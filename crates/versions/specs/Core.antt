@@ -17,6 +17,7 @@ pub data Fate : Type 0 where
   Unlinked : (since last by : ℕ) → Fate
   Marked : (since last epoch : ℕ) → Fate
 
+-- the life of a record, by its fate
 abbrev pub life_of : Fate → Life
 life_of Free = Out
 life_of (Held q) = Out
@@ -25,6 +26,7 @@ life_of (InTree f) = Linked f
 life_of (Unlinked f l q) = Retired f l
 life_of (Marked f l s) = Retired f l
 
+-- the pass is among those whose pins were loaded
 abbrev pub has_seen : List ℕ → ℕ → Bool
 has_seen [] i = false
 has_seen (x ∷ xs) i = if nat_eq i x then true else has_seen xs i
@@ -48,6 +50,7 @@ pub record BareCore : Type 0 where
   pub shared : Shared
   pub open shared use *
 
+-- the version since which a pass is pinned
 abbrev pub pin_version : Option Pin → Option ℕ
 pin_version None = None
 pin_version (Some p) = Some p.version

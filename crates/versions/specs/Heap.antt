@@ -4,14 +4,17 @@ use Rattle.tries.specs.Keys.{Key}
 use Rattle.tries.specs.Tree.{Fixed, Subtrie, Tree, leaf, node, fork, subtrie}
 use Rattle.tries.specs.Place.{Swap}
 
+-- what a node's words say
 pub record NodeWords : Type 0 where
   pub fixed : Fixed
   pub subtrie : Subtrie
 
+-- what a leaf's words say
 pub record LeafWords : Type 0 where
   pub key : Key
   pub value : ℕ
 
+-- the words of all records
 pub record Heap : Type 0 where
   pub nodes : ℕ → NodeWords
   pub leaves : ℕ → LeafWords

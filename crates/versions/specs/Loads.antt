@@ -24,6 +24,7 @@ first_leaves (leaf n k v) (suc i) = Some (leaf n k v)
 first_leaves (node n x b) i = first_leaves b i
 first_leaves (fork p a b) i = forked p (first_leaves a i) (first_leaves b (i - length (items a)))
 
+-- the same of a tree, if there is one
 abbrev pub first_leaves_of : Option Tree → ℕ → Option Tree
 first_leaves_of None i = None
 first_leaves_of (Some t) i = first_leaves t i

@@ -10,6 +10,7 @@ use Rattle.node_tries.specs.Piece.{Place, Fork}
 use Rattle.tries.specs.Search.{Follows, Kin}
 use Rattle.versions.specs.Heap.{Heap, IsCopied, IsShown}
 
+-- the record that an entry names
 abbrev pub rec_of : Entry → Rec
 rec_of (Leaf n) = a_leaf n
 rec_of (Node n h) = a_node n
@@ -55,6 +56,7 @@ pub record Past : Type 0 where
   pub now : ℕ
   pub version : ℕ → Option Tree
 
+-- the words, the root and the versions so far
 pub record State : Type 0 where
   pub heap : Heap
   pub root : Option Entry
@@ -87,6 +89,7 @@ IsTop m (Some e) (Some t) = (subtrie t ≡ Place e) × IsShown m t
 abbrev pub IsReach : State → ℕ → Type 0
 IsReach s m = (n : ℕ) → m ≤ n → n ≤ s.now → (r : Rec) (u : Tree) → Stands s.past n r u → Spans s.now (s.life r) n
 
+-- What holds in each state.
 pub record IsLawfulState (s : State) : Type 0 where
   pub trees : (n : ℕ) (t : Tree) → n ≤ s.now → s.version n ≡ Some t → IsTrie t × IsBuilt t
   pub top : IsTop s.heap s.root (s.version s.now)

@@ -14,11 +14,13 @@ use Rattle.finite_map.specs.Fronts.{map_of}
 use Rattle.versions.specs.Told.{content}
 use Rattle.versions.specs.Steps.{IsLawfulCore, IsCoreStep, bare_opening}
 
+-- A search may go on in a node that has changed since.
 abbrev pub StateHindsight : Type 0
 StateHindsight =
     (s : State) → IsLawfulState s → (m : ℕ) → IsReach s m → (k : Key) (n h : ℕ) →
     IsLed s.past m k (Node n h) → IsLed s.past m k (seek k (s.heap.nodes n).subtrie)
 
+-- Keys below two places of a node are parted by the fork between the places, whatever versions they are of.
 abbrev pub StateParting : Type 0
 StateParting =
     (s : State) → IsLawfulState s → (r : Rec) (n o x y : ℕ) (g h : Fixed) (b c : Tree) → n ≤ s.now → o ≤ s.now →

@@ -15,17 +15,20 @@ use Rattle.versions.specs.Core.{Fate, Free, Held, Ready, InTree, Unlinked, Marke
 use Rattle.versions.specs.declared.Pin.{Pin}
 use Rattle.versions.specs.declared.Round.{Round}
 
+-- two records are one
 abbrev pub same_rec : Rec → Rec → Bool
 same_rec (a_node n) (a_node m) = nat_eq n m
 same_rec (a_node n) (a_leaf m) = false
 same_rec (a_leaf n) (a_node m) = false
 same_rec (a_leaf n) (a_leaf m) = nat_eq n m
 
+-- the tree has this record
 abbrev pub links : Tree → Rec → Bool
 links (leaf n k v) r = same_rec r (a_leaf n)
 links (node n h b) r = same_rec r (a_node n) || links b r
 links (fork p a b) r = links a r || links b r
 
+-- the same of a tree, if there is one
 abbrev pub is_linked : Option Tree → Rec → Bool
 is_linked None r = false
 is_linked (Some t) r = links t r
@@ -77,12 +80,15 @@ pub record IsVersionPublish (c : BareCore) (q : ℕ) (heap : Heap) (root : Optio
 
 -- What steps make of what passes share
 
+-- a record has another fate
 abbrev pub with_fate : Shared → Rec → Fate → Shared
 with_fate s r f = record s { fate = λ i. if same_rec i r then f else s.fate i }
 
+-- the anchor is locked by another pass, or by none
 abbrev pub with_anchor : Shared → Option ℕ → Shared
 with_anchor s o = record s { anchor = o }
 
+-- and a node
 abbrev pub with_lock : Shared → ℕ → Option ℕ → Shared
 with_lock s n o = record s { lock = λ i. if nat_eq i n then o else s.lock i }
 
@@ -90,12 +96,15 @@ with_lock s n o = record s { lock = λ i. if nat_eq i n then o else s.lock i }
 abbrev pub unlocked : Shared → Rec → Shared
 unlocked s r = record s { lock = λ i. if same_rec (a_node i) r then None else s.lock i }
 
+-- a retired record is marked with an epoch
 abbrev pub after_mark : Shared → Rec → (since last epoch : ℕ) → Shared
 after_mark s r since last epoch = with_fate (unlocked s r) r (Marked since last epoch)
 
+-- the epoch is another one
 abbrev pub with_epoch : Shared → ℕ → Shared
 with_epoch s e = record s { epoch = e }
 
+-- a pass has another pin
 abbrev pub with_pin : Shared → ℕ → Option Pin → Shared
 with_pin s q p = record s { pins = λ i. if nat_eq i q then p else s.pins i }
 
@@ -103,6 +112,7 @@ with_pin s q p = record s { pins = λ i. if nat_eq i q then p else s.pins i }
 abbrev pub after_set_pin : Shared → ℕ → ℕ → Shared
 after_set_pin s q w = with_pin s q (Some (record { word = w; version = s.past.now; floor = s.epoch }))
 
+-- a pass is at another place of its round
 abbrev pub with_round : Shared → ℕ → Round → Shared
 with_round s q o = record s { rounds = λ i. if nat_eq i q then o else s.rounds i }
 
@@ -110,9 +120,11 @@ with_round s q o = record s { rounds = λ i. if nat_eq i q then o else s.rounds 
 abbrev pub begun_round : ℕ → ℕ → Round
 begun_round epoch now = record { epoch = epoch; version = now; bound = epoch; seen = [] }
 
+-- the pass begins a round
 abbrev pub after_load_epoch : Shared → ℕ → Shared
 after_load_epoch s q = with_round s q (begun_round s.epoch s.past.now)
 
+-- a bound, lowered to a pin
 abbrev pub lowered : ℕ → Option Pin → ℕ
 lowered b None = b
 lowered b (Some p) = min b p.word
@@ -121,9 +133,11 @@ lowered b (Some p) = min b p.word
 abbrev pub with_seen : Round → ℕ → Option Pin → Round
 with_seen o q p = record { epoch = o.epoch; version = o.version; bound = lowered o.bound p; seen = q ∷ o.seen }
 
+-- the pass has loaded a pin for its round
 abbrev pub after_load_pin : Shared → ℕ → ℕ → Shared
 after_load_pin s q o = with_round s q (with_seen (s.rounds q) o (s.pins o))
 
+-- what passes share, after a publish: the change, the version, and the fates of what is linked anew or no more
 abbrev pub published_by : Shared → ℕ → Option Entry → Option Tree → Change → Shared
 published_by s q root t x = record s {
   root = root;
@@ -132,6 +146,7 @@ published_by s q root t x = record s {
   fate = λ r. next_fate s.past.now q (is_linked t r) (s.fate r);
 }
 
+-- the core after it
 abbrev pub after_publish : BareCore → ℕ → Heap → Option Entry → Option Tree → Change → BareCore
 after_publish c q heap root t x = record { heap = heap; shared = published_by c.shared q root t x }
 
@@ -193,5 +208,6 @@ at_first = record {
   rounds = λ q. record { epoch = 0; version = 0; bound = 0; seen = [] };
 }
 
+-- the core of a new table
 abbrev pub bare_opening : Heap → BareCore
 bare_opening heap = record { heap = heap; shared = at_first }

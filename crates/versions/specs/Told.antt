@@ -12,6 +12,7 @@ use Rattle.tries.specs.Tree.{Tree}
 use Rattle.tries.specs.Content.{Item, items, pairs, IsMore, IsExchange}
 use Rattle.versions.specs.State.{Past}
 
+-- the leaves of a tree, if there is one
 abbrev pub items_of : Option Tree → List Item
 items_of None = []
 items_of (Some t) = items t
@@ -28,9 +29,11 @@ item_of n x = record { number = n; key = x.key; value = x.value }
 abbrev pub added_change : ℕ → Item → Change
 added_change q x = record { pass = q; key = x.key; value = x.value; kind = Added }
 
+-- a change that replaces the value of a leaf
 abbrev pub replaced_change : ℕ → Item → Change
 replaced_change q x = record { pass = q; key = x.key; value = x.value; kind = Replaced }
 
+-- and one that removes it
 abbrev pub removed_change : ℕ → Item → Change
 removed_change q x = record { pass = q; key = x.key; value = x.value; kind = Removed }
 

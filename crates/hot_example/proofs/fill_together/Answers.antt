@@ -1,7 +1,7 @@
 -- Why `fill_together` meets its contract.
 use Rattle.std.proofs.Common.{[], ◌∷◌, ◌∙◌}
 use Rattle.finite_map.specs.declared.Call.TheVariants.{Insert}
-use Rattle.hot_example.proofs.Asking.{have_ended}
+use Rattle.hot_example.proofs.Ended.{have_ended}
 use Rattle.hot_example.proofs.fill_together.Goals as goal
 
 pub returns : goal.returns

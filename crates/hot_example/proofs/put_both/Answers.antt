@@ -3,7 +3,7 @@ use Rattle.std.proofs.Common.{[], ◌∷◌, subst}
 use Rattle.finite_map.specs.declared.Call.TheVariants.{Insert}
 use Rattle.hot_index.specs.Handles.{HandleView}
 use Rattle.hot_index_calls.specs.Passes.{Owns}
-use Rattle.hot_example.proofs.Asking.{asks_first, asks_more}
+use Rattle.hot_example.proofs.Ended.{asks_first, asks_more}
 use Rattle.hot_example.proofs.put_both.Goals as goal
 
 pub returns-clause-asked : goal.returns-clause-asked

@@ -1,6 +1,6 @@
 -- A byte behind a 1 has the nine bits that it gives.
 use Rattle.std.proofs.Common.{◌≡◌, ℕ, ◌+◌, ◌*◌, ◌/◌, ◌%◌, ◌-◌, get_or, arith}
-use Rattle.key_bits.proofs.Bytes.{nine_bits}
+use Rattle.key_bits.proofs.Bits.Bytes.{nine_bits}
 use Rattle.key_bits.proofs.bit_of_bytes.Goals as goal
 
 pub returns-in-Some : goal.returns-in-Some

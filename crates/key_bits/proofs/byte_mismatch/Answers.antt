@@ -1,5 +1,5 @@
 -- Leading zeros of the exclusive or count the bits in front of the first difference.
-use Rattle.key_bits.proofs.Bytes.{leading_zeros-differ}
+use Rattle.key_bits.proofs.Bits.Bytes.{leading_zeros-differ}
 use Rattle.key_bits.proofs.byte_mismatch.Goals as goal
 
 pub returns-clause-bound : goal.returns-clause-bound

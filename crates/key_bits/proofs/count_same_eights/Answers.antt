@@ -1,7 +1,7 @@
 -- Eights with the same number have the same bytes.
 use Rattle.std.proofs.Common.{◌≡◌, ◌+◌, ◌*◌, ◌∙◌, ap, arith, sym}
 use Rattle.std.specs.Int.{to_be_bytes, w64}
-use Rattle.key_bits.proofs.Difference.{take_both}
+use Rattle.key_bits.proofs.Bits.{take_both}
 use Rattle.key_bits.proofs.count_same_eights.Goals as goal
 
 pub loop-j-preserved : goal.loop-j-preserved

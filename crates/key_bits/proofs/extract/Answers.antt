@@ -2,7 +2,7 @@
 use Rattle.std.proofs.Common.{◌≡◌, List, ℕ, take}
 use Rattle.std.proofs.lemmas.List.{take_all}
 use Rattle.key_bits.specs.Bits.{bit_of}
-use Rattle.key_bits.proofs.Gathering.{binary-shl_or, binary-gathered}
+use Rattle.key_bits.proofs.Gather.{binary-shl_or, binary-gathered}
 use Rattle.key_bits.proofs.extract.Goals as goal
 
 pub loop-position-preserved : goal.loop-position-preserved

@@ -1,7 +1,7 @@
 -- The bits so far, as a binary number.
 use Rattle.std.proofs.Common.{◌≡◌, map, take}
 use Rattle.key_bits.specs.Bits.{bit_of}
-use Rattle.key_bits.proofs.Gathering.{binary}
+use Rattle.key_bits.proofs.Gather.{binary}
 use Rattle.key_bits.proofs.extract.Given as goal
 
 abbrev pub invariant-loop-position : goal.invariant-loop-position

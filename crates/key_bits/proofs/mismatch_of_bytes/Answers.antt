@@ -2,8 +2,8 @@
 use Rattle.std.proofs.Common.{◌≡◌, ℕ, suc, ◌+◌, ◌*◌, List, get_or, drop, arith}
 use Rattle.std.proofs.Math.Seq.{drop-cons}
 use Rattle.key_bits.specs.Bits.{IsFirstDifference}
-use Rattle.key_bits.proofs.Difference.{first-bytes, first-drop, first-front}
-use Rattle.key_bits.proofs.Order.{less_by_first}
+use Rattle.key_bits.proofs.Bits.{first-bytes, first-drop, first-front}
+use Rattle.key_bits.proofs.Bits.Order.{less_by_first}
 use Rattle.key_bits.proofs.mismatch_of_bytes.Goals as goal
 
 first_at_byte : (c : goal.After-byte_mismatch) → IsFirstDifference c.args.xs.now c.args.ys.now (9 * c.loop-i.i + 1 + c.byte_mismatch.result)

@@ -1,5 +1,5 @@
 -- One byte more.
-use Rattle.key_ranges.proofs.Places.{holds_one_more}
+use Rattle.key_ranges.proofs.Ranges.Places.{holds_one_more}
 use Rattle.key_ranges.proofs.key_with_last_byte.Goals as goal
 
 pub from_padded-requires : goal.from_padded-requires

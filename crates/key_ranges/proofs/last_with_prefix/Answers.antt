@@ -2,7 +2,7 @@
 use Rattle.std.proofs.Common.{ap, sym, subst, ◌∙◌}
 use Rattle.key_bits.specs.Key.{IsKey}
 use Rattle.key_ranges.specs.Ranges.{last_with}
-use Rattle.key_ranges.proofs.Places.{holds_last, takes_last, written_last}
+use Rattle.key_ranges.proofs.Ranges.Places.{holds_last, takes_last, written_last}
 use Rattle.key_ranges.proofs.last_with_prefix.Goals as goal
 
 pub from_padded-requires : goal.from_padded-requires

@@ -1,7 +1,7 @@
 -- The next key has a byte more, or one raised; of 255s alone there is none.
 use Rattle.std.proofs.Common.{◌≡◌, ◌≤◌, ℕ, List, length, subst}
 use Rattle.key_bits.specs.declared.TheConstants.{MAX_BYTES}
-use Rattle.key_ranges.proofs.Nexts.{cut, cut_more, next_longer, next_raised, no_next}
+use Rattle.key_ranges.proofs.Ranges.Nexts.{cut, cut_more, next_longer, next_raised, no_next}
 use Rattle.key_ranges.proofs.next_key.Goals as goal
 
 full : (bytes key : List ℕ) → bytes ≡ key → MAX_BYTES ≤ length bytes → MAX_BYTES ≤ length key

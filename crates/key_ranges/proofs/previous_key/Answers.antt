@@ -1,6 +1,6 @@
 -- The previous key lacks the last byte, or has one that is less.
 use Rattle.std.proofs.Common.{◌-◌, sym, ◌∙◌, arith}
-use Rattle.key_ranges.proofs.Previous.{of_front_key, previous_lowered, previous_shorter}
+use Rattle.key_ranges.proofs.Ranges.Previous.{of_front_key, previous_lowered, previous_shorter}
 use Rattle.key_ranges.proofs.previous_key.Goals as goal
 
 pub returns-then-last-gt0-clause-some : goal.returns-then-last-gt0-clause-some

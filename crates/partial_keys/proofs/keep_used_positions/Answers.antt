@@ -3,7 +3,7 @@ use Rattle.std.proofs.Common.{[], ap, arith, drop, get_or, length, refl, replica
 use Rattle.std.proofs.lemmas.List.{drop-set-lt, length_push, take_more_set}
 use Rattle.std.proofs.lemmas.List.Edits.{fill_from_more}
 use Rattle.partial_keys.proofs.Keeping.{filled_behind, more_behind, same_behind}
-use Rattle.partial_keys.proofs.Squeezing.{kept_clear, kept_set}
+use Rattle.partial_keys.proofs.Squeezed.{kept_clear, kept_set}
 use Rattle.partial_keys.specs.Squeezed.{used_bits}
 use Rattle.node_tries.proofs.Positions.{kept_nil}
 use Rattle.node_tries.specs.Kept.{kept}

@@ -1,7 +1,7 @@
 -- Why `search_plain` meets its contract.
 use Rattle.std.proofs.Common.{arith}
 use Rattle.partial_keys.specs.Rows.{IsHighest}
-use Rattle.partial_keys.proofs.Search.{highest-value, place_for_dense, place_for_key}
+use Rattle.partial_keys.proofs.Leads.{highest-value, place_for_dense, place_for_key}
 use Rattle.partial_keys.proofs.search_plain.Goals as goal
 
 pub returns : goal.returns

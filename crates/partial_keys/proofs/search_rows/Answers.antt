@@ -1,6 +1,6 @@
 -- Why `search_rows` meets its contract.
-use Rattle.partial_keys.proofs.Lanes.{highest_of_lanes}
-use Rattle.partial_keys.proofs.Search.{highest-value, place_for_dense, place_for_key}
+use Rattle.partial_keys.proofs.Rows.Lanes.{highest_of_lanes}
+use Rattle.partial_keys.proofs.Leads.{highest-value, place_for_dense, place_for_key}
 use Rattle.partial_keys.proofs.search_rows.Goals as goal
 
 pub overflow_sub-result : goal.overflow_sub-result

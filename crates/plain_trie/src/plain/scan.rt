@@ -7,7 +7,7 @@ ghost use Rattle.plain_trie.specs.Views.{trie_map};
 use super::PlainTrie;
 use finite_map::Scan;
 use key_bits::Key;
-use plain_trie_records::{Range, scan_below};
+use plain_trie_records::{ScanRange, scan_below};
 use std::alloc::{AllocError, Global};
 
 impl PlainTrie {
@@ -32,7 +32,7 @@ impl PlainTrie {
         let Some(top) = self.top else {
             return Ok(scan);
         };
-        let range = Range { from, upto, limit };
+        let range = ScanRange { from, upto, limit };
         scan_below(&self.nodes, &self.leaves, top, range, &mut scan)?;
         Ok(scan)
     }

@@ -9,8 +9,7 @@ use Rattle.rowex_core.specs.declared.event.Event.{Event}
 use Rattle.rowex_core.specs.declared.event.Spot.TheVariants.{Root, Slot, Value}
 use Rattle.rowex_table.specs.Runs.{Runs}
 use Rattle.rowex_table.specs.Seats.{TableView, SeatView}
-use Rattle.rowex_table.specs.Stays.{LeavesPin}
-use Rattle.rowex_table.proofs.Running.{runs_append}
+use Rattle.rowex_table.proofs.Runs.{runs_append}
 use Rattle.rowex_reading.specs.Lookups.{HasSearched}
 use Rattle.rowex_reading.specs.Reads.{IsBelowRoot, Reads, entries_in}
 use Rattle.rowex_reading.proofs.Counting.{looks_count, runs_count}
@@ -19,7 +18,7 @@ use Rattle.record_words.specs.declared.TheConstants.{HEAD_WORDS}
 use Rattle.rowex_writing.proofs.locks.Onward.{reads_run}
 use Rattle.rowex_writing.proofs.locks.Runs.{once_run, run_once, goes_run, runs_trans}
 use Rattle.rowex_writing.specs.plan.Counts.{attempt_steps, change_steps, most_locks, most_nodes, most_steps, rest_steps, search_steps, span_steps}
-use Rattle.rowex_writing.specs.locks.Locks.{TriesNodesBy, locks_of, span_numbers, targets_of, HasRun, HasTriedOnce}
+use Rattle.rowex_writing.specs.locks.Locks.{IsOfAttempt, TriesNodesBy, locks_of, span_numbers, targets_of, HasRun, HasTriedOnce}
 use Rattle.rowex_writing.specs.merging.Merging.{EndsChange}
 use Rattle.rowex_writing.specs.declared.plan.job.Job.{Job}
 use Rattle.rowex_writing.proofs.locks.Spans.{numbers_few}
@@ -27,7 +26,7 @@ use Rattle.rowex_writing.proofs.locks.Tried.{once_after, targets_append, nodes_t
 use Rattle.rowex_writing.proofs.store.Values.{job_later}
 use Rattle.rowex_core.specs.declared.known.Known.{Known}
 use Rattle.rowex_table.specs.Made.{IsLater}
-use Rattle.rowex_reading.proofs.Seeing.{later_trans}
+use Rattle.rowex_reading.proofs.Seen.{later_trans}
 use Rattle.rowex_writing.specs.declared.attempts.TryFault.{TryFault}
 use Rattle.rowex_writing.specs.declared.attempts.TryFault.TheVariants.{Busy, FullNodes, FullLeaves}
 use Rattle.record_words.specs.declared.records.Rec.{Rec}
@@ -42,7 +41,7 @@ below_search (LoadRef (Slot n i) w) t = t
 below_search (LoadRef (Value l) w) t = t
 below_search _ t = t
 
-search_pin : (act : Act) → IsOfSearch act → LeavesPin act
+search_pin : (act : Act) → IsOfSearch act → IsOfAttempt act
 search_pin (LoadRef spot w) t = tt
 search_pin (LoadFixed r offset w) t = tt
 search_pin _ t = absurd t
@@ -98,7 +97,7 @@ module _ {G : Type 0} (table : TableView) (becomes : G → Event → G → Type 
     rest = rest;
     acts_are = refl;
     searches = searches;
-    pinned = All-append LeavesPin search rest (All-weaker IsOfSearch LeavesPin search_pin search searches) tried.1.each;
+    pinned = All-append IsOfAttempt search rest (All-weaker IsOfSearch IsOfAttempt search_pin search searches) tried.1.each;
     once = once_after search rest none tried.2;
     depth = omega (arith, nodes_are, searched.low);
     locks = omega (arith, targets_are, most);
@@ -131,7 +130,7 @@ changed_run table becomes a m b taken all (locks, tried, some, upto, each, few) 
 -- or a change that tries more of them
 pub ended_run : {G : Type 0} (table : TableView) (becomes : G → Event → G → Type 0) (job : Job) (a m b : SeatView × G) (taken : Bool) → ((locks : ℕ) × HasTriedOnce table becomes locks a m ×
     (0 < locks) × (locks ≤ locks_of job.span) × (taken ≡ true → locks ≡ locks_of job.span) × (m.0.known.steps ≤ a.0.known.steps + 3 * locks + 1)) →
-    (0 < job.span.end → TriesNodesBy LeavesPin table becomes (span_numbers job.way.now job.span) a m × (m.0.known.steps ≤ a.0.known.steps + 3 * locks_of job.span + 1)) → taken ≡ true →
+    (0 < job.span.end → TriesNodesBy IsOfAttempt table becomes (span_numbers job.way.now job.span) a m × (m.0.known.steps ≤ a.0.known.steps + 3 * locks_of job.span + 1)) → taken ≡ true →
     (job.span.end ≤ job.span.len) × (job.span.len ≤ length job.way.now) → length job.way.now ≤ most_nodes → EndsChange table becomes job 0 m b →
     (locks : ℕ) × HasTriedOnce table becomes locks a b × (0 < locks) × (locks ≤ most_locks) × (b.0.known.steps + HEAD_WORDS ≤ a.0.known.steps + span_steps locks + change_steps table.layout locks)
 ended_run table becomes job a m b taken took nodes is within depth (inl (run, few)) = changed_run table becomes a m b taken (locks_of job.span) took is (omega (arith, within.1, depth)) run (omega (arith, few))

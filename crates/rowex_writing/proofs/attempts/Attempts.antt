@@ -14,7 +14,7 @@ use Rattle.finite_map.specs.declared.Reply.TheVariants.{Exchanged, Exists, Absen
 use Rattle.finite_map.specs.Calls.{effect_of}
 use Rattle.finite_map.specs.Fronts.{OthersGoOn}
 use Rattle.finite_map.specs.Maps.{Map, key_of, step_if, with_value, without, wrapped_sum}
-use Rattle.finite_map.proofs.Growth.{others_on}
+use Rattle.finite_map.proofs.Fronts.{others_on}
 use Rattle.insert_cases.specs.declared.choice.Case.{Case}
 use Rattle.insert_cases.specs.declared.choice.Case.TheVariants.{LeafPushdown, NormalInsert, Overflow}
 use Rattle.insert_cases.specs.declared.choice.PathNode.{PathNode}
@@ -27,17 +27,17 @@ use Rattle.rowex_core.specs.declared.event.Event.{Event}
 use Rattle.rowex_core.specs.declared.known.Known.{Known}
 use Rattle.rowex_table.specs.Seats.{TableView, SeatView, IsSeatOf}
 use Rattle.rowex_records.specs.Claims.{IsAnothers}
-use Rattle.rowex_records.proofs.Claimed.{all_earlier}
+use Rattle.rowex_records.proofs.Claims.{all_earlier}
 use Rattle.rowex_reading.specs.Possible.{IsPossible}
 use Rattle.rowex_reading.specs.Reads.{Looks, Reads}
-use Rattle.rowex_reading.proofs.Led.{looked_at, looks_same, reads_later, reads_same, reads_sees}
+use Rattle.rowex_reading.proofs.Seen.Led.{looked_at, looks_same, reads_later, reads_same, reads_sees}
 use Rattle.publish_laws.specs.Ending.{IsAtRest}
 use Rattle.version_laws.specs.Scan.{IsShaped}
 use Rattle.rowex_table.specs.Made.{IsLater}
 use Rattle.rowex_reading.specs.Lookups.{HasFound, HasSearched}
 use Rattle.rowex_core.specs.Knowing.{IsPinnedSince}
 use Rattle.rowex_reading.specs.Seen.{Sure, since}
-use Rattle.rowex_reading.proofs.Seeing.{later_trans, held_stable, missed_stable, shaped_stable, sure_later, since_later}
+use Rattle.rowex_reading.proofs.Seen.{later_trans, held_stable, missed_stable, shaped_stable, sure_later, since_later}
 use Rattle.rowex_writing.specs.plan.Asking.{aim_of, aim_where, reply_to, value_in}
 use Rattle.rowex_writing.specs.attempts.Attempts.{HasAnswered, HasLooked, HasRefused, IsAttemptCause, IsChangeOf, IsLeafless, refusal_of, HasFailed, HasMetKey, HasMissedKey, IsFullFault, IsFullOfNew, WantsRecord}
 use Rattle.rowex_writing.specs.store.Values.{HasDoneDeed, revalued}
@@ -444,6 +444,12 @@ pub refused_failed : (layout : Layout) (job : Job) (k i j : Known) (made : List 
 refused_failed layout job k i j made Busy m from loaded first (rest, later, moved) = refused_busy layout job.key.now k i j m made from.since loaded first later (inr (moved m from))
 refused_failed layout job k i j made FullNodes m from loaded first none = refused_full layout job.key.now k i j made Nodes loaded first none
 refused_failed layout job k i j made FullLeaves m from loaded first none = refused_full layout job.key.now k i j made Leaves loaded first none
+
+-- as busy only where it had moved
+pub failed_moved : (layout : Layout) (job : Job) (i j : Known) (made : List Rec) (fault : TryFault) (m : ℕ) → IsJobFrom layout i m job → HasFailed layout job i j made fault → fault ≡ Busy → m < length j.front
+failed_moved layout job i j made Busy m from (rest, later, moved) is = moved m from
+failed_moved layout job i j made FullNodes m from none is = absurd (cc)
+failed_moved layout job i j made FullLeaves m from none is = absurd (cc)
 
 pub failed_later : (layout : Layout) (job : Job) (i j : Known) (made : List Rec) (fault : TryFault) → HasFailed layout job i j made fault → IsLater i j
 failed_later layout job i j made Busy failed = failed.1

@@ -7,7 +7,7 @@ use Rattle.finite_map.specs.Maps.{Map, value_at}
 use Rattle.record_words.specs.declared.layout.Layout.{Layout}
 use Rattle.tries.specs.Keys.{Key}
 use Rattle.tries.specs.Tree.{Tree, Holds}
-use Rattle.tries.proofs.Maps.{value_holds}
+use Rattle.tries.proofs.Content.Maps.{value_holds}
 use Rattle.versions.specs.Told.{content}
 use Rattle.rowex_core.specs.declared.known.Known.{Known}
 use Rattle.rowex_table.specs.Made.{IsLater}
@@ -17,7 +17,7 @@ use Rattle.rowex_reading.specs.Seen.{since}
 use Rattle.rowex_reading.specs.Ways.{value_of}
 use Rattle.rowex_reading.specs.declared.descent.Found.{Found}
 use Rattle.rowex_reading.specs.declared.descent.Found.TheVariants.{Nothing, Leaf}
-use Rattle.rowex_reading.proofs.Seeing.{later_trans, seen_told}
+use Rattle.rowex_reading.proofs.Seen.{later_trans, seen_told}
 use Rattle.rowex_writing.specs.plan.Asking.{aim_of}
 use Rattle.rowex_writing.specs.store.Values.{HasFoundOther, HasLoadedFound, HoldsFound, IsFoundAgain, revalued}
 use Rattle.rowex_writing.specs.declared.plan.Aim.{Aim}

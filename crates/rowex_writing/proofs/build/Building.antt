@@ -8,7 +8,7 @@ use Rattle.compound_node.specs.declared.entries.Entry.{Entry}
 use Rattle.compound_node.specs.declared.entries.Entry.TheVariants.{Node}
 use Rattle.compound_node.specs.declared.halves.Half.{Half}
 use Rattle.compound_node.specs.declared.halves.Half.TheVariants.{Many}
-use Rattle.rowex_table.proofs.ActsLeave.{act_leaves}
+use Rattle.rowex_table.proofs.Made.ActsLeave.{act_leaves}
 use Rattle.record_words.specs.Layout.{leaf_size}
 use Rattle.record_words.specs.Leaf.{HasLeafWords, leaf_words, words_for}
 use Rattle.record_words.specs.Node.{HasNodeWords}
@@ -18,8 +18,8 @@ use Rattle.versions.specs.Trades.{IsOneOf}
 use Rattle.record_words.specs.declared.records.Rec.{Rec}
 use Rattle.record_words.specs.declared.records.Rec.TheVariants.{Node as a_node, Leaf as a_leaf}
 use Rattle.versions.specs.Steps.{same_rec}
-use Rattle.versions.proofs.Legal.{same_rec_refl}
-use Rattle.versions.proofs.Members.{all_of, of_map, map_of}
+use Rattle.versions.proofs.Core.{same_rec_refl}
+use Rattle.versions.proofs.Trades.{all_of, of_map, map_of}
 use Rattle.rowex_core.specs.declared.event.Act.{Act}
 use Rattle.rowex_core.specs.declared.event.Act.TheVariants.{Claim, Fill, LoadState}
 use Rattle.rowex_core.specs.declared.event.Event.{Event}
@@ -31,23 +31,23 @@ use Rattle.rowex_core.specs.Events.{word_of}
 use Rattle.rowex_core.specs.Knowing.{failed_with}
 use Rattle.rowex_core.specs.declared.known.FailedAct.TheVariants.{LoadState as a_load}
 use Rattle.rowex_core.specs.Reading.{IsPacked}
-use Rattle.rowex_core.proofs.Leafing.{leaf_size_is}
+use Rattle.rowex_core.proofs.Reading.Leafing.{leaf_size_is}
 use Rattle.rowex_table.specs.Made.{IsLater, Made, held_as, recs_of}
 use Rattle.rowex_table.specs.Runs.{Runs, Does, InTurn, Steps}
 use Rattle.rowex_table.specs.Seats.{TableView, SeatView, IsSeatOf}
-use Rattle.rowex_table.proofs.Running.{runs_same}
+use Rattle.rowex_table.proofs.Runs.{runs_same}
 use Rattle.rowex_records.specs.Claims.{claiming, wrapped, Misses, MissesOne, MissesNumber, HoldsOneMore, ClaimsOne, FindsFree, FindsNone, Claims}
 use Rattle.rowex_records.specs.Records.{fill_with, owning, stored, stored_in, SetsAll, SetsSome, StoresWord}
-use Rattle.rowex_records.proofs.Filled.{leaf_stored, left_beside}
-use Rattle.rowex_records.proofs.Making.{counted, looks_one}
+use Rattle.rowex_records.proofs.Records.{leaf_stored, left_beside}
+use Rattle.rowex_records.proofs.Claims.Making.{counted, looks_one}
 use Rattle.publish_laws.specs.Loops.{StaysLocked}
 use Rattle.publish_laws.specs.Rises.{made_of_node}
 use Rattle.rowex_reading.specs.Possible.{IsPossible}
-use Rattle.rowex_reading.proofs.Later.{event_possible}
+use Rattle.rowex_reading.proofs.Seen.Later.{event_possible}
 use Rattle.rowex_writing.specs.build.Building.{IsBuilding, IsHalfMade, HasLeafMade, HasNotMade}
 use Rattle.rowex_writing.specs.locks.Going.{WorksOn, TriesNoLock}
 use Rattle.rowex_writing.proofs.locks.Going.{goes_none, goes_more}
-use Rattle.rowex_table.proofs.ActsBefore.{same_later}
+use Rattle.rowex_table.proofs.Made.ActsBefore.{same_later}
 use Rattle.publish_laws.specs.Stages.{HasLoaded}
 
 -- ---- steps that change what the pass owns

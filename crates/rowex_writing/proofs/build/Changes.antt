@@ -13,7 +13,7 @@ use Rattle.record_words.specs.declared.records.Rec.{Rec}
 use Rattle.record_words.specs.declared.records.Rec.TheVariants.{Node as a_node, Leaf as a_leaf}
 use Rattle.versions.specs.Core.{Fate, Free}
 use Rattle.versions.specs.Trades.{IsOneOf, AreApart}
-use Rattle.versions.proofs.Members.{all_of, map_of, of_map, of_append, apart_push}
+use Rattle.versions.proofs.Trades.{all_of, map_of, of_map, of_append, apart_push}
 use Rattle.rowex_core.specs.declared.event.Act.{Act}
 use Rattle.rowex_core.specs.declared.event.Act.TheVariants.{Claim, Lock, LoadState}
 use Rattle.rowex_core.specs.declared.event.Event.{Event}
@@ -28,14 +28,14 @@ use Rattle.rowex_core.specs.Events.{target_word, word_of}
 use Rattle.rowex_core.specs.Knowing.{IsEvent, failed_with, claim_learned, anchor_learned, node_learned, state_learned, blocking_pass_at}
 use Rattle.rowex_core.specs.Sharing.{IsOwned}
 use Rattle.rowex_core.proofs.Having.{owned_used}
-use Rattle.rowex_core.proofs.Owning.{knows_all}
+use Rattle.rowex_core.proofs.Sharing.Owning.{knows_all}
 use Rattle.rowex_table.specs.Made.{Made, held_as, recs_of, IsLater}
 use Rattle.rowex_table.specs.Rights.{IsClaimed}
 use Rattle.rowex_table.specs.Runs.{Runs, silent}
 use Rattle.rowex_table.specs.Seats.{TableView, SeatView}
-use Rattle.rowex_table.proofs.ActsLeave.{act_leaves}
+use Rattle.rowex_table.proofs.Made.ActsLeave.{act_leaves}
 use Rattle.rowex_records.specs.Claims.{AllMissed, AllMissedFrom, HasMissedSince, IsAnothers}
-use Rattle.rowex_records.proofs.Claimed.{among_held}
+use Rattle.rowex_records.proofs.Claims.{among_held}
 use Rattle.rowex_writing.specs.build.Walks.{HasNoOther}
 use Rattle.rowex_records.specs.Records.{HoldsJust}
 use Rattle.rowex_writing.specs.build.Building.{IsBuilding}
@@ -44,7 +44,7 @@ use Rattle.rowex_writing.specs.locks.Locks.{AreNodes, HasRun}
 use Rattle.rowex_writing.specs.build.Putting.{AreInTable}
 use Rattle.rowex_reading.specs.Ways.{IsWayOf}
 use Rattle.rowex_reading.specs.declared.descent.Found.{Found}
-use Rattle.finite_map.proofs.Growth.{others_on}
+use Rattle.finite_map.proofs.Fronts.{others_on}
 
 -- ---- steps that failed are remembered
 one_more : {X : Type 0} (xs : List X) (y x : X) → Contains xs x → Contains (y ∷ xs) x

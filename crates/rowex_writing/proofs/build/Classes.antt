@@ -15,7 +15,7 @@ use Rattle.rowex_table.specs.Made.{nodes_of}
 use Rattle.rowex_table.specs.Seats.{TableView, SeatView}
 use Rattle.rowex_records.specs.declared.claiming.RecordKind.TheVariants.{Leaf}
 use Rattle.rowex_records.specs.Claims.{AllMissed, AllMissedFrom, HasMissedSince, IsAnothers, IsAnothersBut, IsAnothersTo, record_of}
-use Rattle.rowex_records.proofs.Claimed.{anothers_among, missed_so}
+use Rattle.rowex_records.proofs.Claims.{anothers_among, missed_so}
 use Rattle.rowex_writing.specs.build.Changes.{LacksLeaves}
 use Rattle.rowex_writing.specs.build.Classes.{AllMissedBetween}
 use Rattle.rowex_writing.specs.locks.Going.{WorksOn}

@@ -12,14 +12,12 @@ use Rattle.insert_cases.specs.declared.choice.PathNode.{PathNode}
 use Rattle.versions.specs.Trades.{IsOneOf, AreApart}
 use Rattle.record_words.specs.declared.records.Rec.{Rec}
 use Rattle.record_words.specs.declared.records.Rec.TheVariants.{Node as a_node}
-use Rattle.versions.proofs.Members.{map_of, of_append, of_left, of_map, of_right}
-use Rattle.node_tries.specs.Piece.{Place, places}
+use Rattle.versions.proofs.Trades.{map_of, of_append, of_left, of_map, of_right}
+use Rattle.node_tries.specs.Piece.{Place}
 use Rattle.record_words.specs.Entry.{HasEntryWord, entry_word}
 use Rattle.record_words.specs.declared.layout.Layout.{Layout}
 use Rattle.tries.specs.Content.{Item, item}
 use Rattle.tries.specs.Keys.{Key}
-use Rattle.tries.specs.Tree.{Tree, subtrie, IsBuilt}
-use Rattle.tries.proofs.Fitting.{children_are}
 use Rattle.rowex_core.specs.Cores.{HasRecord}
 use Rattle.rowex_core.specs.Having.{AreKept, LocksJust}
 use Rattle.rowex_core.specs.declared.event.Spot.{Spot}
@@ -29,17 +27,18 @@ use Rattle.rowex_core.specs.declared.known.Locked.{Locked}
 use Rattle.publish_laws.specs.Spots.{IsSpotOf}
 use Rattle.publish_laws.specs.Rises.{HasFoundBelow}
 use Rattle.publish_laws.specs.Stages.{HasRisen}
-use Rattle.publish_laws.proofs.Holding.{spot_stays}
-use Rattle.publish_laws.proofs.Inserting.{insertion}
-use Rattle.publish_laws.proofs.Rising.{risen_stays}
+use Rattle.publish_laws.proofs.Spots.{spot_stays}
+use Rattle.publish_laws.proofs.Insertions.Inserting.{insertion}
+use Rattle.publish_laws.proofs.Rises.{risen_stays}
 use Rattle.rowex_table.specs.Made.{IsLater, nodes_of}
 use Rattle.rowex_table.specs.Publishes.{Publishes}
 use Rattle.rowex_table.specs.Rule.{HasSpot}
 use Rattle.record_words.specs.Leaf.{words_for}
-use Rattle.insert_cases.proofs.Choosing.{some_at}
+use Rattle.insert_cases.proofs.Ways.{some_at}
+use Rattle.insert_cases.proofs.Pairs.{tip_entry}
 use Rattle.publish_laws.specs.Loops.{StaysLocked}
 use Rattle.publish_laws.proofs.Sure.{found_stays}
-use Rattle.tries.proofs.Places.{spot_below}
+use Rattle.tries.proofs.Place.{spot_below}
 use Rattle.rowex_writing.specs.plan.Plans.{change}
 use Rattle.rowex_reading.specs.Ways.{IsWayOf}
 use Rattle.rowex_writing.specs.declared.plan.Aim.{Aim}
@@ -53,9 +52,9 @@ use Rattle.rowex_core.specs.declared.event.Event.{Event}
 use Rattle.publish_laws.specs.Ending.{IsAtRest}
 use Rattle.publish_laws.proofs.Loops.{later_transitive}
 use Rattle.rowex_writing.specs.declared.plan.Full.TheVariants.{Nodes, Leaves}
-use Rattle.rowex_writing.specs.build.Building.{FitsAbove, HasLeafMade, IsChain, HasRisenTo, gone_unless_whole, gone_with_way, newcomer_of}
+use Rattle.rowex_writing.specs.build.Building.{FitsAbove, HasLeafMade, IsLockedSpan, HasRisenTo, gone_unless_whole, gone_with_way, newcomer_of}
 use Rattle.rowex_records.specs.Claims.{AllMissed, IsAnothers, IsAnothersBut}
-use Rattle.rowex_records.proofs.Claimed.{anothers_among, missed_so}
+use Rattle.rowex_records.proofs.Claims.{anothers_among, missed_so}
 use Rattle.rowex_writing.specs.build.Changes.{HasNoRoom, IsFull, IsPutChange, LacksLeaves, LacksNodes, MayPublishOnceReady}
 use Rattle.rowex_writing.specs.locks.Checks.{HasTakenSpan, IsChecked}
 use Rattle.rowex_writing.specs.plan.Planned.{IsPlanned}
@@ -68,9 +67,9 @@ use Rattle.rowex_writing.specs.build.Walks.{nodes_among}
 use Rattle.rowex_writing.specs.declared.plan.job.Job.{Job}
 use Rattle.rowex_writing.specs.declared.plan.Span.{Span}
 use Rattle.rowex_writing.specs.declared.build.remaking.NewLeaf.{NewLeaf}
-use Rattle.rowex_writing.proofs.build.GrowingUnderLocks.{IsGrowPlan, chain_at, found_below, grow_plan, part_at, leads_at, pulled_full, spot_of, top_within}
+use Rattle.rowex_writing.proofs.build.growing.Growing.{IsGrowPlan, chain_at, found_below, grow_plan, part_at, leads_at, pulled_full, spot_of, top_within}
 use Rattle.rowex_writing.proofs.build.Above.{locked_at}
-use Rattle.rowex_writing.proofs.build.RisingLevel.{gone_more}
+use Rattle.rowex_writing.proofs.build.rising.Rising.{gone_more}
 use Rattle.rowex_writing.proofs.locks.Runs.{works_run}
 use Rattle.rowex_writing.proofs.build.Counts.{among_nodes}
 use Rattle.rowex_writing.proofs.build.Changes.{lacks_so, missed_from_on, missed_on}
@@ -261,8 +260,8 @@ may_grow table a b made m job aim new t planned is_took stays made_leaf = record
       leads = leads_at table.layout a.known m new.key.now job.way.now job.found job.span t.possible t.own w t.locked t.checked new.position plan s at words held ∙ is_took s (ap (slice_get job.way.now) last_is ∙ at);
     };
     full = λ more. pulled_full table.layout a.known m new.key.now job.way.now job.found job.span t.possible t.own w t.locked t.checked new.position plan plan.chosen.level s (omega (arith, more, len_is)) (omega arith) at words held;
-    chain = subst (λ n. IsChain table.layout.nodes b.known.locks job.way.now new.key.now new.position job.span.end n) (sym last_is)
-        (subst (λ ls. IsChain table.layout.nodes ls job.way.now new.key.now new.position job.span.end plan.chosen.level) (sym stays.1) (chain_at table.layout a.known m new.key.now job.way.now job.found job.span t.possible t.own w t.locked t.checked new.position plan));
+    chain = subst (λ n. IsLockedSpan table.layout.nodes b.known.locks job.way.now new.key.now new.position job.span.end n) (sym last_is)
+        (subst (λ ls. IsLockedSpan table.layout.nodes ls job.way.now new.key.now new.position job.span.end plan.chosen.level) (sym stays.1) (chain_at table.layout a.known m new.key.now job.way.now job.found job.span t.possible t.own w t.locked t.checked new.position plan));
   };
   item_is = refl;
   place = λ u us e spot there locked fits where_it_is.
@@ -329,10 +328,6 @@ grown_stored k m key value way found span aim position leaf planned =
     subst (λ f. IsPutChange k.pass key value f (added_change k.pass (item leaf key value)) None) (sym plan.found_is) (refl, refl)
 
 -- ---- the store
--- the entry for a tree has a word
-tip_word : (e : Entry) (t : Tree) → subtrie t ≡ Place e → IsBuilt t → IsEntry e
-tip_word e t h b = subst (λ x. All IsEntry (places x)) h (children_are t b) 0 e (omega arith)
-
 entry_has : (e : Entry) → HasNumber e → IsEntry e → HasEntryWord (Some e)
 entry_has (LeafEntry n) low is = omega (arith, low)
 entry_has (Node n h) low is = (omega (arith, low), omega (arith, is.0), omega (arith, is.1))
@@ -369,5 +364,5 @@ module _ (table : TableView) (a b : SeatView) (made after : List Rec) (job : Job
         (subst (λ held. IsSpotOf j held new.key.now new.position risen.0.number e spot) (sym locks) (spot_stays a.known j a.known.locks new.key.now new.position risen.0.number e spot (same ∙ anchor) (grown_spot spot at))) in
         subst (λ y. Publishes table.layout j spot (entry_word (Some e)) y None gone) (ap₂ added_change (on.pass ∙ later.pass) may.item_is)
         (insertion table.layout j b.known.locks risen.2.news gone ready (newcomer_of may.growing.lowest) risen.0.number (entry_word (Some e)) e spot still b_risen.leaf place
-        (entry_has e number (tip_word e t subtrie_is built), refl));
+        (entry_has e number (tip_entry e t subtrie_is built), refl));
   }

@@ -12,10 +12,10 @@ use Rattle.insert_cases.specs.declared.choice.Choice.{Choice}
 use Rattle.insert_cases.specs.declared.choice.PathNode.{PathNode}
 use Rattle.insert_cases.specs.Levels.{IsLevel, IsChosen}
 use Rattle.insert_cases.specs.Ways.{case_of}
-use Rattle.insert_cases.proofs.Affecting.{key_part}
+use Rattle.insert_cases.proofs.Ways.Affecting.{key_part}
 use Rattle.key_bits.specs.Key.{IsKey}
 use Rattle.node_tries.specs.Piece.{Place, Fork, size, places}
-use Rattle.node_tries.proofs.Paths.{size_pos}
+use Rattle.node_tries.proofs.Piece.{size_pos}
 use Rattle.record_words.specs.Entry.{entry_word}
 use Rattle.tries.specs.Affected.{subtrie_affected, subtrie_forked, IsTipSubtrie}
 use Rattle.tries.specs.Content.{Item, item}
@@ -23,7 +23,7 @@ use Rattle.tries.specs.Keys.{Key, bit}
 use Rattle.tries.specs.Place.{shape}
 use Rattle.tries.specs.Search.{seek}
 use Rattle.tries.specs.Tree.{Subtrie, leaf}
-use Rattle.tries.proofs.Tries.{trie_within}
+use Rattle.tries.proofs.Tree.{trie_within}
 use Rattle.record_words.specs.declared.records.Rec.{Rec}
 use Rattle.versions.specs.Trades.{IsOneOf}
 use Rattle.version_laws.specs.Scan.{IsRead}
@@ -33,19 +33,19 @@ use Rattle.rowex_core.specs.declared.event.Spot.TheVariants.{Root, Slot, Value}
 use Rattle.rowex_core.specs.declared.known.Known.{Known}
 use Rattle.rowex_core.specs.declared.known.Locked.{Locked}
 use Rattle.rowex_core.specs.Reading.{node_words_of}
-use Rattle.rowex_core.proofs.Owning.{recalls}
+use Rattle.rowex_core.proofs.Sharing.Owning.{recalls}
 use Rattle.rowex_table.specs.Made.{Made, IsLater}
 use Rattle.rowex_table.specs.Publishes.{Publishes}
 use Rattle.rowex_table.specs.Seats.{TableView, SeatView}
 use Rattle.rowex_reading.specs.Seen.{Sure}
-use Rattle.rowex_reading.proofs.Seeing.{read_stable, seen_within, since_later, stands_in}
-use Rattle.rowex_reading.proofs.Standing.{led_in_table}
+use Rattle.rowex_reading.proofs.Seen.{read_stable, seen_within, since_later, stands_in}
+use Rattle.rowex_reading.proofs.Seen.Standing.{led_in_table}
 use Rattle.publish_laws.specs.Cases.{IsWord}
 use Rattle.publish_laws.specs.Rises.{made_of_leaf, made_of_node, IsBuiltAnew, IsSide, one, anew}
 use Rattle.publish_laws.specs.Stages.{IsLeafThere, IsSure, SpellsLeaf, HasLoaded}
-use Rattle.publish_laws.proofs.Inserting.{first_made, pair}
+use Rattle.publish_laws.proofs.Insertions.Inserting.{first_made, pair}
 use Rattle.publish_laws.proofs.Loops.{later_transitive, later_if_same}
-use Rattle.publish_laws.proofs.Replacing.{leaf_stays, store_value}
+use Rattle.publish_laws.proofs.Cases.{leaf_stays, store_value}
 use Rattle.publish_laws.proofs.Sure.{seen_is_sure, sure_stays}
 use Rattle.rowex_writing.specs.build.Building.{HasLeafMade, IsBuilding}
 use Rattle.rowex_writing.specs.build.Changes.{IsPutChange, MayPublishOnceReady}

@@ -10,7 +10,7 @@ use Rattle.versions.specs.Core.{Fate, Free, Held, Ready, InTree, Unlinked, Marke
 use Rattle.versions.specs.Trades.{IsOneOf}
 use Rattle.record_words.specs.declared.records.Rec.{Rec}
 use Rattle.record_words.specs.declared.records.Rec.TheVariants.{Node as a_node, Leaf as a_leaf}
-use Rattle.versions.proofs.Members.{all_of, map_of, of_left, of_map}
+use Rattle.versions.proofs.Trades.{all_of, map_of, of_left, of_map}
 use Rattle.rowex_core.specs.declared.event.Act.{Act}
 use Rattle.rowex_core.specs.declared.event.Act.TheVariants.{Claim, LoadRef, LoadState, Publish, Load}
 use Rattle.rowex_core.specs.declared.event.Event.{Event}
@@ -33,10 +33,10 @@ use Rattle.rowex_table.specs.Stays.{KeepsRecall}
 use Rattle.rowex_table.proofs.Onward.{led_more}
 use Rattle.rowex_reading.specs.Reads.{IsBelowRoot, Looks, Reads}
 use Rattle.rowex_records.specs.Claims.{FindsFree, FindsNone, Misses, begin_of, wrapped}
-use Rattle.rowex_records.proofs.Claimed.{begins_low, turned_to}
-use Rattle.lone_runs.specs.Lone.{HasFree, HasRoom, HasSpare, IsLone, IsUnpublished, KeepsSpare}
-use Rattle.lone_runs.proofs.Lone.{look_free, one_of, runs_free, runs_out, runs_spare, step_back}
-use Rattle.lone_runs.proofs.Published.{gone_out, publish_free, publish_spare}
+use Rattle.rowex_records.proofs.Claims.{begins_low, turned_to}
+use Rattle.publish_laws.specs.Lone.{HasFree, HasRoom, HasSpare, IsLone, IsUnpublished, KeepsSpare}
+use Rattle.publish_laws.proofs.Lone.{look_free, one_of, runs_free, runs_out, runs_spare, step_back}
+use Rattle.publish_laws.proofs.Lone.Published.{gone_out, publish_free, publish_spare}
 use Rattle.rowex_writing.specs.build.Building.{IsBuilding}
 use Rattle.rowex_writing.specs.build.Deeds.{gone_of_span, leaf_gone}
 use Rattle.rowex_writing.specs.locks.Going.{TriesNoLock, WorksOn}

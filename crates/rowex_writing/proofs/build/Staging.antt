@@ -14,12 +14,12 @@ use Rattle.rowex_table.specs.Made.{Made, HoldsMade, HasReadied}
 use Rattle.rowex_table.specs.Runs.{silent}
 use Rattle.publish_laws.specs.Loops.{ReadiesEach}
 use Rattle.publish_laws.specs.Stages.{IsStage, HasLeaf, HasRisen}
-use Rattle.publish_laws.proofs.Bounding.{number_of, tree_risen}
+use Rattle.publish_laws.proofs.Rises.Bounding.{number_of, tree_risen}
 use Rattle.publish_laws.proofs.Loops.{holds_rights, ready_next, readies_all}
-use Rattle.publish_laws.proofs.Rising.{stage_earlier}
+use Rattle.publish_laws.proofs.Rises.{stage_earlier}
 use Rattle.publish_laws.proofs.Stages.{stage_of}
 use Rattle.rowex_reading.specs.Possible.{IsPossible}
-use Rattle.rowex_reading.proofs.Later.{event_possible}
+use Rattle.rowex_reading.proofs.Seen.Later.{event_possible}
 use Rattle.rowex_writing.specs.build.Building.{AreMadePacked}
 use Rattle.rowex_writing.specs.build.Remaking.{IsSubtrieOfTree}
 

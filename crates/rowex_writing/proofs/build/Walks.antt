@@ -19,10 +19,10 @@ use Rattle.rowex_table.specs.Made.{Made, nodes_of}
 use Rattle.rowex_table.specs.Rights.{IsClaimed}
 use Rattle.rowex_table.specs.Runs.{Steps}
 use Rattle.rowex_table.specs.Seats.{TableView, SeatView}
-use Rattle.rowex_table.proofs.Running.{does_count}
+use Rattle.rowex_table.proofs.Runs.{does_count}
 use Rattle.rowex_records.specs.Claims.{AllMissed, Claims, FindsNone, HasMissedSince, IsAnothers, IsAnothersBut, IsAnothersTo, MissesOne, begin_of, claiming, records_had, wrapped}
-use Rattle.rowex_records.proofs.Claimed.{anothers_among, anothers_before, held_misses, missed_among, missed_earlier, missed_so, turned_to}
-use Rattle.rowex_records.proofs.Making.{looks_one}
+use Rattle.rowex_records.proofs.Claims.{anothers_among, anothers_before, held_misses, missed_among, missed_earlier, missed_so, turned_to}
+use Rattle.rowex_records.proofs.Claims.Making.{looks_one}
 use Rattle.rowex_writing.specs.declared.build.kept.Build.{Build}
 use Rattle.rowex_writing.specs.build.Building.{IsBuilding}
 use Rattle.rowex_writing.specs.locks.Going.{WorksOn}

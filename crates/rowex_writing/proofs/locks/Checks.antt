@@ -12,13 +12,13 @@ use Rattle.tries.specs.Keys.{Key}
 use Rattle.tries.specs.Place.{entry_at}
 use Rattle.tries.specs.Search.{seek}
 use Rattle.tries.specs.Tree.{Subtrie, Tree, subtrie}
-use Rattle.tries.proofs.Places.{seek_spot, spot_below}
+use Rattle.tries.proofs.Place.{seek_spot, spot_below}
 use Rattle.versions.specs.Heap.{Heap, NodeWords}
 use Rattle.versions.specs.State.{IsTop}
 use Rattle.versions.specs.declared.Pin.{Pin}
 use Rattle.record_words.specs.declared.records.Rec.TheVariants.{Node as a_node}
 use Rattle.versions.specs.Trades.{IsOneOf}
-use Rattle.versions.proofs.Members.{all_of, map_of}
+use Rattle.versions.proofs.Trades.{all_of, map_of}
 use Rattle.rowex_core.specs.declared.event.Act.TheVariants.{LoadRef}
 use Rattle.rowex_core.specs.declared.event.Spot.TheVariants.{Slot, Root}
 use Rattle.rowex_core.specs.declared.event.Event.{Event}
@@ -29,22 +29,22 @@ use Rattle.rowex_core.specs.Knowing.{IsEvent, IsPinnedSince, Recalls}
 use Rattle.record_words.specs.Decoding.{entry_of}
 use Rattle.rowex_core.specs.Reading.{node_words_of}
 use Rattle.rowex_core.specs.Sharing.{IsLocked}
-use Rattle.rowex_core.proofs.Owning.{knows_all, recalls}
+use Rattle.rowex_core.proofs.Sharing.Owning.{knows_all, recalls}
 use Rattle.rowex_core.proofs.Reading.{entry_of_word, entry_at_is}
 use Rattle.rowex_table.specs.Made.{IsLater}
 use Rattle.rowex_table.specs.Runs.{silent}
 use Rattle.rowex_table.specs.Seats.{TableView, SeatView}
-use Rattle.rowex_table.proofs.ActsBefore.{entry_of_locked}
-use Rattle.rowex_table.proofs.Running.{runs_one}
+use Rattle.rowex_table.proofs.Made.ActsBefore.{entry_of_locked}
+use Rattle.rowex_table.proofs.Runs.{runs_one}
 use Rattle.version_laws.specs.Scan.{IsPlaced, IsRooted, IsBlank}
 use Rattle.version_laws.proofs.Ways.{placed_same, rooted_same}
 use Rattle.rowex_reading.specs.Possible.{IsPossible}
 use Rattle.rowex_reading.specs.Reads.{ReadsRoot}
 use Rattle.rowex_reading.specs.Seen.{seen, since, HasPlace, RootIs, Sure}
-use Rattle.rowex_reading.proofs.Later.{event_knows, event_later}
-use Rattle.rowex_reading.proofs.Placing.{slot_later, slot_some, slot_placed}
-use Rattle.rowex_reading.proofs.Rooting.{root_fresh}
-use Rattle.rowex_reading.proofs.Seeing.{seen_steady, since_later, sure_later, blank_stable, placed_stable, rooted_stable, seen_stable, shaped_stable}
+use Rattle.rowex_reading.proofs.Seen.Later.{event_knows, event_later}
+use Rattle.rowex_reading.proofs.Possible.Placing.{slot_later, slot_some, slot_placed}
+use Rattle.rowex_reading.proofs.Possible.Rooting.{root_fresh}
+use Rattle.rowex_reading.proofs.Seen.{seen_steady, since_later, sure_later, blank_stable, placed_stable, rooted_stable, seen_stable, shaped_stable}
 use Rattle.std.proofs.lemmas.List.Elements.{All-cons, All-nil}
 use Rattle.publish_laws.proofs.Loops.{still_locked}
 use Rattle.rowex_writing.specs.locks.Checks.{EntriesStand}

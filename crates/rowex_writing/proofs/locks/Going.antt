@@ -7,7 +7,7 @@ use Rattle.record_words.specs.declared.layout.Layout.{Layout}
 use Rattle.compound_node.specs.Nodes.{NodeView, head_of}
 use Rattle.record_words.specs.Kinds.{head_size, kind_in, kind_of}
 use Rattle.record_words.specs.Node.{head_words}
-use Rattle.record_words.proofs.TellingHead.{past_kind, told}
+use Rattle.record_words.proofs.HeadParts.{past_kind, told}
 use Rattle.rowex_core.proofs.Reading.{node_is}
 use Rattle.record_words.proofs.Nodes.{length-node_words}
 use Rattle.record_words.proofs.Unused.{zero_in}
@@ -22,14 +22,14 @@ use Rattle.rowex_core.specs.Cores.{IsWhole}
 use Rattle.rowex_core.specs.Knowing.{IsEvent}
 use Rattle.rowex_core.specs.Reading.{IsPacked, node_words_of}
 use Rattle.rowex_core.specs.Sharing.{IsLocked}
-use Rattle.rowex_core.proofs.Owning.{knows_all}
+use Rattle.rowex_core.proofs.Sharing.Owning.{knows_all}
 use Rattle.rowex_table.specs.Runs.{Steps, silent}
 use Rattle.rowex_table.specs.Seats.{TableView, SeatView, IsSeatOf}
-use Rattle.rowex_table.proofs.Running.{runs_one, runs_append, runs_same}
+use Rattle.rowex_table.proofs.Runs.{runs_one, runs_append, runs_same}
 use Rattle.versions.specs.Trades.{IsOneOf}
-use Rattle.rowex_table.proofs.ActsBefore.{entry_of_locked, fixed_of_locked}
+use Rattle.rowex_table.proofs.Made.ActsBefore.{entry_of_locked, fixed_of_locked}
 use Rattle.publish_laws.proofs.Loops.{still_locked, locked_on as stays_on, locked_same}
-use Rattle.versions.proofs.Members.{all_of}
+use Rattle.versions.proofs.Trades.{all_of}
 use Rattle.rowex_writing.specs.locks.Going.{WorksOn, ReadsOn, HasLocked, IsNodeOf, TriesNoLock}
 use Rattle.rowex_writing.specs.locks.Loads.{AreRead, AreThose}
 use Rattle.rowex_writing.proofs.locks.Loads.{head_word}

@@ -1,5 +1,5 @@
 -- Steps after which a pass recalls what it did, one after the other; locks that are taken and refused.
-use Rattle.std.proofs.Common.{◌≡◌, ◌≢◌, inl, inr, ℕ, zero, suc, ◌-◌, ◌<◌, ◌≤◌, List, [], ◌∷◌, ◌++◌, length, get_or, true, false, nat_eq, Option, Some, None, IsSome, refl, sym, ap, subst, ◌∙◌, arith}
+use Rattle.std.proofs.Common.{◌≡◌, ◌≢◌, inl, inr, ℕ, ◌-◌, ◌<◌, ◌≤◌, List, [], ◌∷◌, ◌++◌, length, get_or, true, false, nat_eq, Option, Some, None, IsSome, refl, sym, ap, subst, ◌∙◌, arith}
 use Rattle.std.specs.Prelude.{All, Contains, slice_get}
 use Rattle.std.proofs.lemmas.Bool.{cases_lt, eqb-true, false≢true}
 use Rattle.std.proofs.lemmas.Option.{slice_get-get_or}
@@ -12,7 +12,7 @@ use Rattle.finite_map.specs.Fronts.{OthersGoOn}
 use Rattle.versions.specs.State.{IsLived}
 use Rattle.versions.specs.Steps.{IsLockable}
 use Rattle.versions.specs.Trades.{IsOneOf}
-use Rattle.versions.proofs.Members.{map_of}
+use Rattle.versions.proofs.Trades.{map_of}
 use Rattle.rowex_core.specs.declared.known.Holding.TheVariants.{Unlinked as IsUnlinked}
 use Rattle.rowex_core.specs.declared.known.Locked.{Locked}
 use Rattle.rowex_core.specs.declared.known.Owned.{Owned}
@@ -38,16 +38,17 @@ use Rattle.rowex_core.specs.declared.known.Known.{Known}
 use Rattle.rowex_core.specs.Events.{target_word}
 use Rattle.rowex_core.specs.Knowing.{IsEvent, IsPinnedSince, Knows, maker_of, blocking_pass_at, blocking_pass_of}
 use Rattle.rowex_core.specs.Words.{tag_of, lock_tag}
-use Rattle.rowex_core.proofs.Owning.{knows_all, recalls, pin_is}
+use Rattle.rowex_core.proofs.Sharing.Owning.{knows_all, recalls, pin_is}
 use Rattle.rowex_table.specs.Made.{IsLater, nodes_of}
 use Rattle.rowex_table.specs.Stays.{KeepsRecall}
 use Rattle.rowex_table.specs.Runs.{Runs, Steps, silent}
 use Rattle.rowex_table.specs.Seats.{TableView, SeatView, IsSeatOf}
-use Rattle.rowex_table.proofs.ActsBefore as before
-use Rattle.rowex_table.proofs.ActsLeave as leave
-use Rattle.rowex_table.proofs.Running.{runs_same}
+use Rattle.rowex_table.proofs.Made.ActsBefore as before
+use Rattle.rowex_table.proofs.Made.ActsLeave as leave
+use Rattle.rowex_table.proofs.Runs.{runs_same}
 use Rattle.publish_laws.specs.Stages.{IsSure}
 use Rattle.publish_laws.proofs.Loops.{later_if_same, later_transitive}
+use Rattle.publish_laws.proofs.Lone.{one_of}
 use Rattle.rowex_writing.proofs.locks.Runs.{plain_recalls}
 use Rattle.rowex_writing.proofs.locks.Tried.{tries_none, tries_one, tries_more}
 use Rattle.rowex_writing.specs.locks.Locks.{Tries, Works, HasTheSame, LoadsNoRoot, IsTakenWord, LocksOne, LocksAnchor, IsRefusedLock, NoChangeFrom, HasMadeNoChange, targets_of}
@@ -114,14 +115,8 @@ pub no_change_made_later : (k j : Known) → IsLater k j → HasMadeNoChange k �
 no_change_made_later k j later quiet p is =
     subst (λ q. NoChangeFrom q p.version j.front) (sym later.pass) (no_change_from_later k.pass p.version k.front j.front (quiet p (sym later.pin ∙ is)) later.front)
 
--- what is contained is one of them
-is_there : {X : Type 0} (xs : List X) (x : X) → Contains xs x → IsOneOf x xs
-is_there [] x (i, low, is) = absurd (omega arith)
-is_there (y ∷ ys) x (zero, low, is) = inl (sym is)
-is_there (y ∷ ys) x (suc i, low, is) = inr (is_there ys x (i, omega arith, is))
-
 -- another pass of the index is in the way
-abbrev IsAnother : Core → Known → Option ℕ → Type 0
+abbrev pub IsAnother : Core → Known → Option ℕ → Type 0
 IsAnother c k taker = (by : ℕ) × (taker ≡ Some by) × (by ≢ k.pass) × (by < c.layout.passes)
 
 -- A pass that has nothing of its own, has made no change since its pin and has not locked the node.
@@ -129,11 +124,11 @@ module _ (c : Core) (k : Known) (law : IsLawful c) (knows : Knows c k) (own : k.
   -- the lock is another's, where the node is in the tree or its lock's pass has unlinked it
   other_lock : (q : ℕ) → c.lock n ≡ Some q → (f : Fate) → c.fate (a_node n) ≡ f → IsLockable q f → q ≢ k.pass
   other_lock q has (InTree s) fate may same =
-      free (map_of (λ (l : Locked). l.node) _ k.locks (is_there k.locks _ ((knows_all c k knows).all_locks n (has ∙ ap Some same) (s, fate))))
+      free (map_of (λ (l : Locked). l.node) _ k.locks (one_of k.locks _ ((knows_all c k knows).all_locks n (has ∙ ap Some same) (s, fate))))
   other_lock q has (Unlinked s l p) fate may same =
       let mine : c.fate (a_node n) ≡ fate_of k.pass (IsUnlinked s l) = fate ∙ ap (Unlinked s l) (may ∙ same) in
       let o : Owned = record { rec = a_node n; holding = IsUnlinked s l; words = c.words (a_node n) } in
-      subst (λ z. IsOneOf o z) own (is_there k.own o ((knows_all c k knows).all_own (a_node n) (IsUnlinked s l) mine))
+      subst (λ z. IsOneOf o z) own (one_of k.own o ((knows_all c k knows).all_own (a_node n) (IsUnlinked s l) mine))
   other_lock q has _ fate may same = absurd may
 
   lock_taker : (f : Fate) → c.fate (a_node n) ≡ f → (lock : Option ℕ) → c.lock n ≡ lock → IsSome lock → IsAnother c k (c.lock n)
@@ -151,7 +146,7 @@ module _ (c : Core) (k : Known) (law : IsLawful c) (knows : Knows c k) (own : k.
         law.makers last d low,
       )
 
-  node_taker : (m at : ℕ) → NoChangeFrom k.pass m k.front → m ≤ at → (f : Fate) → c.fate (a_node n) ≡ f → Spans c.past.now (life_of f) at → state_word (tag_of (c.lock n) f) ≢ 2 → IsAnother c k (blocking_pass_of c n f)
+  pub node_taker : (m at : ℕ) → NoChangeFrom k.pass m k.front → m ≤ at → (f : Fate) → c.fate (a_node n) ≡ f → Spans c.past.now (life_of f) at → state_word (tag_of (c.lock n) f) ≢ 2 → IsAnother c k (blocking_pass_of c n f)
   node_taker m at none late Free fate s ne = absurd s
   node_taker m at none late (Held p) fate s ne = absurd s
   node_taker m at none late (Ready p) fate s ne = absurd s
@@ -169,7 +164,7 @@ module _ (c : Core) (k : Known) (law : IsLawful c) (knows : Knows c k) (own : k.
       let lived = subst (λ z. IsLived c.past.now (life_of z)) fate (law.core.state.lived (a_node n)) in retirer m at l none late s.1 lived.1
 
 -- the anchor's lock is another's, where the pass doesn't have it
-anchor_taker : (c : Core) (k : Known) → IsLawful c → Knows c k → k.anchor ≡ None → (lock : Option ℕ) → c.anchor ≡ lock → state_word (lock_tag lock) ≢ 2 → IsAnother c k c.anchor
+pub anchor_taker : (c : Core) (k : Known) → IsLawful c → Knows c k → k.anchor ≡ None → (lock : Option ℕ) → c.anchor ≡ lock → state_word (lock_tag lock) ≢ 2 → IsAnother c k c.anchor
 anchor_taker c k law knows none None has ne = absurd (ne refl)
 anchor_taker c k law knows none (Some q) has ne =
     (q, has, (λ same. let x : None ≡ Some c.root = sym none ∙ (knows_all c k knows).all_anchor (has ∙ ap Some same) in cc), law.lockers.root q has)

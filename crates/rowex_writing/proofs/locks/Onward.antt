@@ -11,21 +11,20 @@ use Rattle.rowex_core.specs.declared.event.Target.{Target}
 use Rattle.rowex_core.specs.declared.known.Known.{Known}
 use Rattle.rowex_reading.specs.Possible.{IsPossible}
 use Rattle.rowex_reading.specs.Reads.{IsBelowRoot, Looks, Reads}
-use Rattle.rowex_reading.proofs.Later.{event_possible}
-use Rattle.rowex_reading.proofs.Seeing.{later_trans}
+use Rattle.rowex_reading.proofs.Seen.Later.{event_possible}
+use Rattle.rowex_reading.proofs.Seen.{later_trans}
 use Rattle.rowex_table.specs.Runs.{Runs}
 use Rattle.rowex_table.specs.Seats.{TableView, SeatView, IsSeatOf}
-use Rattle.rowex_table.specs.Stays.{LeavesPin}
-use Rattle.rowex_table.proofs.Running.{runs_same}
+use Rattle.rowex_table.proofs.Runs.{runs_same}
 use Rattle.rowex_writing.specs.locks.Going.{TriesNoLock, WorksOn}
-use Rattle.rowex_writing.specs.locks.Locks.{Tries, Works, HasRun, HasTried}
+use Rattle.rowex_writing.specs.locks.Locks.{IsOfAttempt, Tries, Works, HasRun, HasTried}
 use Rattle.rowex_writing.proofs.locks.Runs.{goes_run, works_run}
 use Rattle.rowex_writing.proofs.locks.Tried.{no_lock_is_tried, tries_more}
 use Rattle.rowex_writing.proofs.locks.Locks.{works_later, works_seat}
 use Rattle.rowex_table.specs.Made.{IsLater}
 
--- a load below the root leaves the pin
-below_pin : (act : Act) → IsBelowRoot act → LeavesPin act
+-- a load below the root leaves the pin, and gives no record back
+below_pin : (act : Act) → IsBelowRoot act → IsOfAttempt act
 below_pin (LoadRef Root w) below = absurd below
 below_pin (LoadRef (Slot n i) w) below = tt
 below_pin (LoadRef (Value l) w) below = tt
@@ -47,12 +46,12 @@ module _ {G : Type 0} (table : TableView) (becomes : G → Event → G → Type 
 
   -- ---- runs
   pub reads_run : (e n : ℕ) (a b : SeatView × G) → Reads table becomes e n a b → HasRun table becomes a b
-  reads_run e n a b r = record { acts = r.acts; each = All-weaker IsBelowRoot LeavesPin below_pin r.acts r.below; tried_are = no_lock_is_tried r.acts (All-weaker IsBelowRoot TriesNoLock below_tries_no_lock r.acts r.below); steps = r.steps }
+  reads_run e n a b r = record { acts = r.acts; each = All-weaker IsBelowRoot IsOfAttempt below_pin r.acts r.below; tried_are = no_lock_is_tried r.acts (All-weaker IsBelowRoot TriesNoLock below_tries_no_lock r.acts r.below); steps = r.steps }
 
   pub looks_run : (e n : ℕ) (a b : SeatView × G) → Looks table becomes e n a b → HasRun table becomes a b
   looks_run e n a b l = record {
     acts = LoadRef Root l.root.0 ∷ l.rest.acts;
-    each = All-cons LeavesPin (LoadRef Root l.root.0) l.rest.acts tt (All-weaker IsBelowRoot LeavesPin below_pin l.rest.acts l.rest.below);
+    each = All-cons IsOfAttempt (LoadRef Root l.root.0) l.rest.acts tt (All-weaker IsBelowRoot IsOfAttempt below_pin l.rest.acts l.rest.below);
     tried_are = no_lock_is_tried l.rest.acts (All-weaker IsBelowRoot TriesNoLock below_tries_no_lock l.rest.acts l.rest.below);
     steps = (l.at, l.root.1, l.rest.steps);
   }

@@ -3,7 +3,7 @@ use Rattle.std.proofs.Common.{◌≡◌, ◌≤◌, ℕ, List, [], ◌∷◌, �
 use Rattle.std.specs.Prelude.{All}
 use Rattle.std.proofs.lemmas.List.Elements.{All-head, All-tail, All-weaker}
 use Rattle.finite_map.specs.Fronts.{BeginsWith}
-use Rattle.finite_map.proofs.Growth.{begins_itself, begins_on, begins_push}
+use Rattle.finite_map.proofs.Fronts.{begins_itself, begins_on, begins_push}
 use Rattle.record_words.specs.declared.layout.Layout.{Layout}
 use Rattle.versions.specs.Trades.{AreApart}
 use Rattle.rowex_core.specs.declared.event.Act.{Act}
@@ -19,15 +19,16 @@ use Rattle.rowex_core.specs.Knowing.{IsEvent, version_of}
 use Rattle.rowex_table.specs.Runs.{Runs, Steps, silent}
 use Rattle.rowex_table.specs.Seats.{TableView, SeatView}
 use Rattle.rowex_table.specs.Stays.{KeepsRecall, LeavesFresh, LeavesFront, LeavesPin}
-use Rattle.rowex_table.proofs.ActsLeave.{act_leaves}
+use Rattle.rowex_table.proofs.Made.ActsLeave.{act_leaves}
 use Rattle.rowex_writing.specs.plan.Planned.{HasLoadedRoot}
 use Rattle.rowex_writing.specs.locks.Going.{TriesNoLock, WorksOn}
-use Rattle.rowex_writing.specs.locks.Locks.{LoadsNoRoot, Tries, TriesNodes, TriesNodesBy, TriesOnce, Works, targets_of, HasRun, HasTried, HasTriedOnce}
+use Rattle.rowex_writing.specs.locks.Locks.{IsOfAttempt, LoadsNoRoot, Tries, TriesNodes, TriesNodesBy, TriesOnce, Works, targets_of, HasRun, HasTried, HasTriedOnce}
 use Rattle.rowex_writing.proofs.locks.Tried.{once_then, then_once, no_lock_is_tried, tries_more, tries_none, tries_one}
 
 -- ---- kinds of steps
 pub plain_recalls : (act : Act) → LoadsNoRoot act → KeepsRecall act
 plain_recalls (LoadRef Root w) t = absurd t
+plain_recalls (GiveBack r epoch found) t = absurd t
 plain_recalls _ t = t
 
 plain_fresh : (act : Act) → LoadsNoRoot act → LeavesFresh act
@@ -35,13 +36,26 @@ plain_fresh (LoadRef Root w) t = t
 plain_fresh (Load words) t = absurd t
 plain_fresh _ t = tt
 
-pub recalls_pin : (act : Act) → KeepsRecall act → LeavesPin act
-recalls_pin (SetPin w) t = absurd t
-recalls_pin ClearPin t = absurd t
-recalls_pin _ t = tt
+pub plain_of : (act : Act) → LoadsNoRoot act → IsOfAttempt act
+plain_of (SetPin w) t = absurd t
+plain_of ClearPin t = absurd t
+plain_of (GiveBack r epoch found) t = absurd t
+plain_of _ t = tt
+
+pub quiet_of : (act : Act) → TriesNoLock act → IsOfAttempt act
+quiet_of (SetPin w) t = absurd t
+quiet_of ClearPin t = absurd t
+quiet_of (GiveBack r epoch found) t = absurd t
+quiet_of _ t = tt
+
+pub of_attempt_pin : (act : Act) → IsOfAttempt act → LeavesPin act
+of_attempt_pin (SetPin w) t = absurd t
+of_attempt_pin ClearPin t = absurd t
+of_attempt_pin _ t = tt
 
 pub quiet_recalls : (act : Act) → TriesNoLock act → KeepsRecall act
 quiet_recalls (Lock target found) t = absurd t
+quiet_recalls (GiveBack r epoch found) t = absurd t
 quiet_recalls _ t = t
 
 -- ---- one step
@@ -156,7 +170,7 @@ module _ {G : Type 0} (table : TableView) (becomes : G → Event → G → Type 
   pub run_none : (a : SeatView × G) → HasRun table becomes a a
   run_none a = tries_none table becomes a
 
-  pub run_one : (act : Act) (a b : SeatView × G) → LeavesPin act → Steps table becomes act a b → HasTried table becomes (targets_of (act ∷ [])) a b
+  pub run_one : (act : Act) (a b : SeatView × G) → IsOfAttempt act → Steps table becomes act a b → HasTried table becomes (targets_of (act ∷ [])) a b
   run_one act a b leaves s = tries_one table becomes act a b leaves s
 
   pub runs_trans : (a m b : SeatView × G) → HasRun table becomes a m → HasRun table becomes m b → HasRun table becomes a b
@@ -173,18 +187,18 @@ module _ {G : Type 0} (table : TableView) (becomes : G → Event → G → Type 
   none_once a b r = ([], r, subst AreApart (sym r.tried_are) tt, refl)
 
   pub works_run : {tried : List Target} (a b : SeatView × G) → Tries table becomes tried a b → HasTried table becomes tried a b
-  works_run a b w = record { acts = w.acts; each = All-weaker LoadsNoRoot LeavesPin (λ act t. recalls_pin act (plain_recalls act t)) w.acts w.each; tried_are = w.tried_are; steps = w.steps }
+  works_run a b w = record { acts = w.acts; each = All-weaker LoadsNoRoot IsOfAttempt plain_of w.acts w.each; tried_are = w.tried_are; steps = w.steps }
 
   pub tries_once : {locks : ℕ} (a b : SeatView × G) → TriesOnce table becomes locks a b → HasTriedOnce table becomes locks a b
   unfolding works_run
   tries_once a b (tried, run, once, count) = (tried, works_run a b run, once, count)
 
-  pub nodes_run : (nodes : List ℕ) (a b : SeatView × G) → TriesNodes table becomes nodes a b → TriesNodesBy LeavesPin table becomes nodes a b
+  pub nodes_run : (nodes : List ℕ) (a b : SeatView × G) → TriesNodes table becomes nodes a b → TriesNodesBy IsOfAttempt table becomes nodes a b
   unfolding works_run
   nodes_run nodes a b h = record { tried = h.tried; run = works_run a b h.run; once = h.once; count = h.count; among = h.among }
 
   pub goes_run : (a b : SeatView × G) → WorksOn table becomes a b → HasRun table becomes a b
-  goes_run a b w = record { acts = w.acts; each = All-weaker TriesNoLock LeavesPin (λ act t. recalls_pin act (quiet_recalls act t)) w.acts w.plain; tried_are = no_lock_is_tried w.acts w.plain; steps = w.steps }
+  goes_run a b w = record { acts = w.acts; each = All-weaker TriesNoLock IsOfAttempt quiet_of w.acts w.plain; tried_are = no_lock_is_tried w.acts w.plain; steps = w.steps }
 
   -- what they leave
   pub works_fresh : (a b : SeatView × G) → Works table becomes a b → b.0.known.fresh ≡ a.0.known.fresh

@@ -9,29 +9,29 @@ use Rattle.record_words.specs.declared.layout.Layout.{Layout}
 use Rattle.tries.specs.Keys.{Key}
 use Rattle.tries.specs.Place.{shape, spot}
 use Rattle.tries.specs.Tree.{Subtrie, Tree, Fixed, node, subtrie, first_position}
-use Rattle.tries.proofs.Places.{shape_tips, spot_shape}
+use Rattle.tries.proofs.Place.{shape_tips, spot_shape}
 use Rattle.record_words.specs.declared.records.Rec.TheVariants.{Node as a_node}
 use Rattle.versions.specs.Heap.{NodeWords}
 use Rattle.versions.specs.State.{Past, Stands, IsSteady}
-use Rattle.versions.proofs.Growth.{in_tree_now}
-use Rattle.versions.proofs.Members.{all_of}
+use Rattle.versions.proofs.Core.Growth.{in_tree_now}
+use Rattle.versions.proofs.Trades.{all_of}
 use Rattle.rowex_core.specs.declared.known.Known.{Known}
 use Rattle.rowex_core.specs.Cores.{bare}
 use Rattle.rowex_core.specs.Knowing.{IsPinnedSince}
 use Rattle.rowex_core.specs.Reading.{node_words_of}
 use Rattle.rowex_core.specs.Sharing.{IsLocked}
-use Rattle.rowex_core.proofs.Owning.{knows_all, recalls}
+use Rattle.rowex_core.proofs.Sharing.Owning.{knows_all, recalls}
 use Rattle.version_laws.specs.Scan.{EntryStoodSince, IsShaped}
-use Rattle.version_laws.proofs.Scans.{shaped, node_of as node_named}
+use Rattle.version_laws.proofs.Scan.{shaped, node_of as node_named, first_shape}
 use Rattle.rowex_reading.specs.Possible.{IsPossible}
 use Rattle.rowex_reading.specs.Seen.{seen, Sure}
-use Rattle.rowex_reading.proofs.Seeing.{seen_past, seen_stable, shaped_stable}
+use Rattle.rowex_reading.proofs.Seen.{seen_past, seen_stable, shaped_stable}
 use Rattle.publish_laws.proofs.Sure.{reach_since}
-use Rattle.versions.proofs.States.{steady}
+use Rattle.versions.proofs.State.{steady}
 use Rattle.rowex_writing.specs.locks.Going.{HasLocked}
 use Rattle.rowex_writing.specs.plan.Planned.{AffectsJust}
 use Rattle.rowex_reading.specs.Ways.{IsWayNode}
-use Rattle.rowex_core.proofs.Loading.{view}
+use Rattle.rowex_core.proofs.Cores.Loading.{view}
 
 -- A node that stands now has the forks and the height of before.
 now_shaped : (s : Past) (m n h : ℕ) (x : Subtrie) (w : NodeWords) (b : Tree) → IsSteady s m → m ≤ s.now → EntryStoodSince s m (Node n h) → IsShaped s m n x →
@@ -67,12 +67,8 @@ shape_size x forks e = sym (shape_tips x) ∙ ap size e
 pub shape_spot : (key : Key) (x forks : Subtrie) → shape x ≡ forks → spot key x ≡ spot key forks
 shape_spot key x forks e = sym (spot_shape key x) ∙ ap (spot key) e
 
-first_of_shape : (x : Subtrie) → first_position (shape x) ≡ first_position x
-first_of_shape (Place e) = refl
-first_of_shape (Fork p a b) = refl
-
 pub shape_first : (x forks : Subtrie) → shape x ≡ forks → first_position x ≡ first_position forks
-shape_first x forks e = sym (first_of_shape x) ∙ ap first_position e
+shape_first x forks e = sym (first_shape x) ∙ ap first_position e
 
 affected_from_shape : (p i : ℕ) (x : Subtrie) → affected_first p i (shape x) ≡ affected_first p i x
 affected_from_shape p i (Place e) = refl

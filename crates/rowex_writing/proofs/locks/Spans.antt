@@ -8,7 +8,7 @@ use Rattle.insert_cases.specs.declared.choice.PathNode.{PathNode}
 use Rattle.compound_node.specs.declared.entries.Entry.TheVariants.{Node}
 use Rattle.version_laws.specs.Scan.{EntryStoodSince}
 use Rattle.versions.specs.Trades.{IsOneOf}
-use Rattle.versions.proofs.Members.{map_of, none_of, of_map}
+use Rattle.versions.proofs.Trades.{map_of, none_of, of_map}
 use Rattle.rowex_core.specs.declared.known.Known.{Known}
 use Rattle.rowex_core.specs.declared.known.Locked.{Locked}
 use Rattle.rowex_core.specs.Having.{LocksJust}

@@ -12,17 +12,17 @@ use Rattle.tries.specs.Tree.{Fixed, node as node_tree}
 use Rattle.record_words.specs.declared.records.Rec.TheVariants.{Node as a_node}
 use Rattle.versions.specs.State.{Stands}
 use Rattle.versions.specs.Trades.{AreApart, IsOneOf}
-use Rattle.versions.proofs.Members.{of_map}
-use Rattle.versions.proofs.States.{steady}
-use Rattle.rowex_core.proofs.Loading.{view}
+use Rattle.versions.proofs.Trades.{of_map}
+use Rattle.versions.proofs.State.{steady}
+use Rattle.rowex_core.proofs.Cores.Loading.{view}
 use Rattle.rowex_core.specs.Knowing.{IsPinnedSince}
-use Rattle.rowex_core.proofs.Owning.{recalls}
+use Rattle.rowex_core.proofs.Sharing.Owning.{recalls}
 use Rattle.rowex_core.specs.declared.known.Known.{Known}
 use Rattle.version_laws.specs.Scan.{EntryStoodSince}
-use Rattle.version_laws.proofs.Scans.{node_of as node_named}
+use Rattle.version_laws.proofs.Scan.{node_of as node_named}
 use Rattle.rowex_reading.specs.Possible.{IsPossible}
 use Rattle.rowex_reading.specs.Seen.{Sure, seen}
-use Rattle.rowex_reading.proofs.Seeing.{seen_past, seen_stable}
+use Rattle.rowex_reading.proofs.Seen.{seen_past, seen_stable}
 use Rattle.publish_laws.specs.Stages.{IsSure}
 use Rattle.publish_laws.proofs.Sure.{reach_since, seen_is_sure}
 use Rattle.rowex_writing.specs.locks.Locks.{AreLed, numbers_of}

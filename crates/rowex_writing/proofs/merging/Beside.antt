@@ -9,13 +9,13 @@ use Rattle.compound_node.specs.Nodes.{NodeView, piece}
 use Rattle.compound_node.specs.declared.entries.Entry.TheVariants.{Node}
 use Rattle.node_tries.specs.Changes.{beside}
 use Rattle.node_tries.specs.Piece.{Place, size}
-use Rattle.node_tries.proofs.Beside.{beside_elsewhere, sibling_beside}
+use Rattle.node_tries.proofs.Changes.Beside.{beside_elsewhere, sibling_beside}
 use Rattle.record_words.specs.Packed.{position_at}
 use Rattle.tries.specs.Place.{entry_at, spot, subtrie_sibling}
 use Rattle.tries.specs.Tree.{Subtrie}
-use Rattle.tries.proofs.Building.{size-piece}
-use Rattle.tries.proofs.Places.{spot_below}
-use Rattle.tries.proofs.Spots.{sibling_spot}
+use Rattle.tries.proofs.Tree.Building.{size-piece}
+use Rattle.tries.proofs.Place.{spot_below}
+use Rattle.tries.proofs.Place.Spots.{sibling_spot}
 use Rattle.versions.specs.Heap.{NodeWords}
 use Rattle.rowex_core.specs.Reading.{node_words_of}
 use Rattle.rowex_core.specs.declared.event.Event.{Event}
@@ -26,7 +26,7 @@ use Rattle.rowex_reading.specs.Seen.{HasPlace}
 use Rattle.rowex_reading.specs.Ways.{IsWayOf}
 use Rattle.rowex_reading.specs.declared.descent.Found.TheVariants.{Leaf}
 use Rattle.rowex_writing.specs.locks.Going.{HasLocked, IsLockedBy, IsNodeOf, WorksOn}
-use Rattle.publish_laws.proofs.Merging.{beside_in_table}
+use Rattle.publish_laws.proofs.Cases.Merging.{beside_in_table}
 use Rattle.rowex_writing.specs.merging.Merging.{IsNeighbour}
 use Rattle.rowex_writing.specs.build.Taking.{IsTaking, TakesOn, lower, no_step, upper}
 use Rattle.rowex_writing.specs.declared.plan.job.Job.{Job}
@@ -37,7 +37,7 @@ use Rattle.rowex_writing.proofs.locks.Going.{locked_on, seat_of}
 use Rattle.rowex_writing.proofs.build.Building.{goes_possible}
 use Rattle.rowex_writing.proofs.locks.Shapes.{shape_size, way_node_locked}
 use Rattle.publish_laws.proofs.Loops.{locked_on as stays_on}
-use Rattle.rowex_writing.proofs.build.TakingUnderLocks.{way_on}
+use Rattle.rowex_writing.proofs.build.taking.Taking.{way_on}
 
 -- the pass goes on
 pub takes_on : {G : Type 0} (table : TableView) (becomes : G → Event → G → Type 0) (a b : SeatView × G) (job : Job) → WorksOn table becomes a b → TakesOn table a.0 job → TakesOn table b.0 job

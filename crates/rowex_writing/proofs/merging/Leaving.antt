@@ -3,7 +3,7 @@ use Rattle.std.proofs.Common.{◌≡◌, ℕ, List, sym, ap, subst, ◌∙◌}
 use Rattle.compound_node.specs.Nodes.{NodeView, IsBuiltFrom, piece}
 use Rattle.node_tries.specs.Changes.{without}
 use Rattle.tries.specs.Place.{spot, subtrie_without}
-use Rattle.tries.proofs.Spots.{without_spot}
+use Rattle.tries.proofs.Place.Spots.{without_spot}
 use Rattle.versions.specs.Heap.{NodeWords}
 use Rattle.rowex_core.specs.Reading.{node_words_of}
 use Rattle.rowex_core.specs.declared.event.Event.{Event}

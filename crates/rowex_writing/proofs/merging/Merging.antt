@@ -12,7 +12,7 @@ use Rattle.compound_node.specs.declared.entries.Entry.{Entry}
 use Rattle.compound_node.specs.declared.entries.Entry.TheVariants.{Leaf as LeafEntry, Node}
 use Rattle.finite_map.specs.declared.Change.{Change}
 use Rattle.insert_cases.specs.declared.choice.PathNode.{PathNode}
-use Rattle.insert_cases.proofs.Choosing.{some_injective}
+use Rattle.insert_cases.proofs.Ways.{some_injective}
 use Rattle.node_tries.specs.Changes.{beside, collapsed, without}
 use Rattle.node_tries.specs.Piece.{Place, RisesFrom, places, size}
 use Rattle.record_words.specs.declared.layout.Layout.{Layout}
@@ -23,14 +23,14 @@ use Rattle.tries.specs.Keys.{Key, bit}
 use Rattle.tries.specs.Place.{fork_of, spot, subtrie_collapsed, subtrie_sibling, subtrie_without}
 use Rattle.tries.specs.Search.{seek}
 use Rattle.tries.specs.Tree.{Subtrie}
-use Rattle.tries.proofs.Building.{size-piece}
-use Rattle.tries.proofs.Places.{spot_below}
-use Rattle.tries.proofs.Spots.{collapsed_spot, without_spot}
+use Rattle.tries.proofs.Tree.Building.{size-piece}
+use Rattle.tries.proofs.Place.{spot_below}
+use Rattle.tries.proofs.Place.Spots.{collapsed_spot, without_spot}
 use Rattle.versions.specs.Heap.{NodeWords}
 use Rattle.versions.specs.Trades.{AreApart, IsOneOf}
 use Rattle.record_words.specs.declared.records.Rec.{Rec}
 use Rattle.record_words.specs.declared.records.Rec.TheVariants.{Node as a_node, Leaf as a_leaf}
-use Rattle.versions.proofs.Members.{all_of, map_of, of_map}
+use Rattle.versions.proofs.Trades.{all_of, map_of, of_map}
 use Rattle.rowex_core.specs.Cores.{HasRecord}
 use Rattle.rowex_core.specs.Having.{AreKept}
 use Rattle.rowex_core.specs.Reading.{node_words_of}
@@ -40,7 +40,7 @@ use Rattle.rowex_core.specs.declared.event.Spot.{Spot}
 use Rattle.rowex_core.specs.declared.event.Spot.TheVariants.{Root, Slot, Value}
 use Rattle.rowex_core.specs.declared.known.Known.{Known}
 use Rattle.rowex_core.specs.declared.known.Locked.{Locked}
-use Rattle.rowex_core.proofs.Owning.{knows_all}
+use Rattle.rowex_core.proofs.Sharing.Owning.{knows_all}
 use Rattle.rowex_table.specs.Made.{IsLater, Made, nodes_of}
 use Rattle.rowex_table.specs.Publishes.{Publishes}
 use Rattle.rowex_table.specs.Seats.{TableView, SeatView, IsSeatOf}
@@ -48,14 +48,14 @@ use Rattle.rowex_reading.specs.Possible.{IsPossible}
 use Rattle.rowex_reading.specs.Ways.{IsWayOf, named}
 use Rattle.rowex_reading.specs.declared.descent.Found.{Found}
 use Rattle.rowex_reading.specs.declared.descent.Found.TheVariants.{Leaf, Leaf as FoundLeaf}
-use Rattle.rowex_reading.proofs.Seeing.{later_trans}
+use Rattle.rowex_reading.proofs.Seen.{later_trans}
 use Rattle.rowex_reading.proofs.Ways.{named_at, way_later}
 use Rattle.publish_laws.specs.Loops.{StaysLocked}
 use Rattle.publish_laws.specs.Rises.{IsSide, made_of_node, one, anew}
 use Rattle.publish_laws.specs.Spots.{HoldsAt, FitsAt, at_root, in_node}
 use Rattle.publish_laws.specs.Stages.{AreBeside, merged, HasLoaded}
 use Rattle.publish_laws.proofs.Loops.{later_transitive}
-use Rattle.publish_laws.proofs.Merging.{collapsed_low, merge, merged_low, merged_rises}
+use Rattle.publish_laws.proofs.Cases.Merging.{collapsed_low, merge, merged_low, merged_rises}
 use Rattle.version_laws.specs.Writer.{removed_change}
 use Rattle.rowex_writing.specs.build.Building.{HasNotMade, IsBuilding}
 use Rattle.rowex_writing.specs.build.Changes.{IsTakeChange, MayPublishOnceReady, KnowsWas}
@@ -74,12 +74,12 @@ use Rattle.rowex_writing.proofs.merging.Beside.{lower_at, lower_locked, lower_ra
 use Rattle.rowex_writing.proofs.locks.Checks.{span_later}
 use Rattle.rowex_writing.proofs.locks.Going.{locked_on, seat_of, locked_node}
 use Rattle.rowex_writing.proofs.build.Building.{goes_possible}
-use Rattle.rowex_writing.proofs.build.RemakingForks.{entries_under}
+use Rattle.rowex_writing.proofs.build.remaking.Remaking.{entries_under}
 use Rattle.rowex_writing.specs.build.Deeds.{MayReplace}
 use Rattle.rowex_writing.specs.declared.plan.job.Raised.{Raised}
 use Rattle.rowex_writing.specs.declared.plan.Deed.{Deed}
 use Rattle.rowex_writing.specs.declared.plan.Deed.TheVariants.{Take}
-use Rattle.rowex_writing.proofs.build.TakingUnderLocks.{has_read, leaf_gone_record, leaf_there, low_names, taken_below, told_value, side_low}
+use Rattle.rowex_writing.proofs.build.taking.Taking.{has_read, leaf_gone_record, leaf_there, low_names, taken_below, told_value, side_low}
 use Rattle.rowex_writing.proofs.locks.Shapes.{way_node_locked}
 use Rattle.rowex_writing.proofs.locks.Spans.{slice_more, slice_none}
 use Rattle.rowex_writing.proofs.store.Stores.{take_was, store_of}
@@ -88,7 +88,7 @@ use Rattle.rowex_writing.specs.store.Retiring.{MayStore}
 use Rattle.rowex_writing.specs.declared.build.kept.Build.{Build}
 use Rattle.rowex_writing.proofs.build.Growths.{range_nodes}
 use Rattle.rowex_writing.proofs.build.Changes.{step_nodes}
-use Rattle.rowex_writing.proofs.build.DeedRecords.{spot_there}
+use Rattle.rowex_writing.proofs.build.deeds.Deeds.{spot_there}
 
 -- a locked node has just these words
 pub same_words : (layout : Layout) (k : Known) (n : ℕ) (xs ys : List ℕ) → IsPossible layout k → HasLocked k n xs → HasLocked k n ys → xs ≡ ys

@@ -5,9 +5,9 @@ use Rattle.std.proofs.lemmas.Option.{slice_get_within}
 use Rattle.std.specs.Prelude.{slice_get}
 use Rattle.insert_cases.specs.declared.choice.PathNode.{PathNode}
 use Rattle.insert_cases.specs.Levels.{IsLevel}
-use Rattle.insert_cases.proofs.Choosing.{some_at}
+use Rattle.insert_cases.proofs.Ways.{some_at}
 use Rattle.node_tries.specs.Growth.{affected_first, affected_count}
-use Rattle.node_tries.proofs.Growing.{affected_fits}
+use Rattle.node_tries.proofs.Growth.{affected_fits}
 use Rattle.record_words.specs.declared.layout.Layout.{Layout}
 use Rattle.tries.specs.Keys.{Key}
 use Rattle.tries.specs.Place.{spot}
@@ -17,8 +17,8 @@ use Rattle.version_laws.specs.Scan.{IsShaped}
 use Rattle.rowex_table.specs.Made.{IsLater}
 use Rattle.rowex_reading.specs.Possible.{IsPossible}
 use Rattle.rowex_reading.specs.Seen.{Sure}
-use Rattle.rowex_reading.proofs.Shapes.{same_shape}
-use Rattle.rowex_reading.proofs.Seeing.{shaped_stable, since_later, sure_later}
+use Rattle.rowex_reading.proofs.Possible.Shapes.{same_shape}
+use Rattle.rowex_reading.proofs.Seen.{shaped_stable, since_later, sure_later}
 use Rattle.rowex_writing.specs.plan.Plans.{DiffersAt, IsPlan}
 use Rattle.rowex_writing.specs.declared.plan.Aim.{Aim}
 use Rattle.rowex_writing.specs.declared.plan.Plan.{Plan}

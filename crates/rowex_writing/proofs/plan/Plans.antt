@@ -9,7 +9,7 @@ use Rattle.insert_cases.specs.declared.choice.Choice.{Choice}
 use Rattle.insert_cases.specs.declared.choice.PathNode.{PathNode}
 use Rattle.insert_cases.specs.Levels.{IsChainEnd, IsChosen, IsLevel}
 use Rattle.insert_cases.specs.Ways.{case_of}
-use Rattle.insert_cases.proofs.Choosing.{some_at, some_injective}
+use Rattle.insert_cases.proofs.Ways.{some_at, some_injective}
 use Rattle.rowex_writing.specs.plan.Plans.{change, LiesOnWay, IsCase, IsBeside, IsNewLeafPlan, IsPlan, TakesLeaf, removal_deed}
 use Rattle.rowex_writing.specs.declared.plan.Aim.{Aim}
 use Rattle.rowex_writing.specs.declared.plan.Aim.TheVariants.{Insert, Upsert, Remove, Insert as ToInsert, Upsert as ToUpsert, Remove as ToRemove}

@@ -5,7 +5,7 @@ use Rattle.std.proofs.lemmas.Bool.{cases_lt}
 use Rattle.std.proofs.lemmas.Option.{slice_get-get_or}
 use Rattle.compound_node.specs.declared.entries.Entry.TheVariants.{Leaf as LeafEntry}
 use Rattle.insert_cases.specs.declared.choice.PathNode.{PathNode}
-use Rattle.insert_cases.proofs.Choosing.{some_injective}
+use Rattle.insert_cases.proofs.Ways.{some_injective}
 use Rattle.tries.specs.Keys.{Key}
 use Rattle.tries.specs.Place.{spot}
 use Rattle.rowex_core.specs.declared.event.Spot.{Spot}
@@ -31,14 +31,14 @@ use Rattle.finite_map.specs.Maps.{value_at}
 use Rattle.record_words.specs.declared.layout.Layout.{Layout}
 use Rattle.tries.specs.Tree.{Within, leaf}
 use Rattle.versions.specs.Heap.{LeafWords}
-use Rattle.version_laws.proofs.Holding.{newest_tree_if_spot_held, leaf_at}
+use Rattle.version_laws.proofs.Spots.{newest_tree_if_spot_held, leaf_at}
 use Rattle.rowex_core.specs.declared.event.Act.TheVariants.{LoadRef}
 use Rattle.rowex_core.specs.declared.known.Known.{Known}
 use Rattle.rowex_core.specs.Knowing.{IsEvent}
 use Rattle.rowex_table.specs.Runs.{silent}
 use Rattle.publish_laws.specs.Stages.{HasReady, IsLeafThere}
-use Rattle.publish_laws.proofs.Holding.{spot_in}
-use Rattle.publish_laws.proofs.Publishing.{leaf_held}
+use Rattle.publish_laws.proofs.Spots.{spot_in}
+use Rattle.publish_laws.proofs.Cases.Publishing.{leaf_held}
 use Rattle.publish_laws.proofs.Stages.{stage_of}
 use Rattle.publish_laws.proofs.Loops.{later_if_same}
 use Rattle.rowex_writing.specs.store.Values.{HoldsFound}

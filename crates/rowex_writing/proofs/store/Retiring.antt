@@ -7,7 +7,7 @@ use Rattle.record_words.specs.declared.layout.Layout.{Layout}
 use Rattle.record_words.specs.declared.records.Rec.{Rec}
 use Rattle.versions.specs.declared.Round.{Round}
 use Rattle.versions.specs.Trades.{IsOneOf}
-use Rattle.versions.proofs.Members.{none_of}
+use Rattle.versions.proofs.Trades.{none_of}
 use Rattle.rowex_core.specs.declared.event.Act.TheVariants.{LoadEpoch, Mark, Release}
 use Rattle.rowex_core.specs.declared.event.Event.{Event}
 use Rattle.rowex_core.specs.declared.known.Known.{Known}
@@ -15,8 +15,8 @@ use Rattle.rowex_core.specs.Having.{OwnsJust, IsUnlinkedBefore, LocksJust}
 use Rattle.rowex_core.specs.Knowing.{IsEvent}
 use Rattle.rowex_table.specs.Runs.{silent}
 use Rattle.rowex_table.specs.Seats.{TableView, SeatView}
-use Rattle.rowex_table.proofs.ActsAfter.{epoch_owns, mark_gives}
-use Rattle.rowex_table.proofs.ActsLeave.{act_leaves}
+use Rattle.rowex_table.proofs.Made.ActsAfter.{epoch_owns, mark_gives}
+use Rattle.rowex_table.proofs.Made.ActsLeave.{act_leaves}
 use Rattle.rowex_records.specs.Records.{GivesUpAll}
 use Rattle.rowex_writing.proofs.locks.Spans.{locked_same}
 use Rattle.rowex_writing.specs.locks.Locks.{HasJustLocked, LoadsNoRoot, Works, targets_of}

@@ -25,12 +25,12 @@ use Rattle.rowex_writing.specs.declared.build.kept.Build.{Build}
 use Rattle.rowex_writing.specs.declared.plan.job.Job.{Job}
 use Rattle.rowex_writing.specs.declared.plan.job.Raised.{Raised}
 use Rattle.rowex_writing.proofs.build.Changes.{step_nodes}
-use Rattle.rowex_writing.proofs.build.DeedRecords.{gone_records, kept_nodes, kept_raised, span_anchor, spot_there}
+use Rattle.rowex_writing.proofs.build.deeds.Deeds.{gone_records, kept_nodes, kept_raised, span_anchor, spot_there}
 use Rattle.rowex_core.specs.Events.{IsOfEntry}
 use Rattle.rowex_writing.specs.store.Values.{HasLoadedFound}
 use Rattle.publish_laws.specs.Stages.{HasLoaded}
 use Rattle.record_words.specs.declared.records.Rec.TheVariants.{Node as a_node, Leaf as a_leaf}
-use Rattle.versions.proofs.Members.{of_append}
+use Rattle.versions.proofs.Trades.{of_append}
 use Rattle.tries.specs.Keys.{Key}
 use Rattle.rowex_reading.specs.declared.descent.Found.{Found}
 use Rattle.rowex_reading.specs.declared.descent.Found.TheVariants.{Leaf as FoundLeaf}

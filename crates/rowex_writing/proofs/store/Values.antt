@@ -6,14 +6,14 @@ use Rattle.std.proofs.lemmas.List.Elements.{All-cons}
 use Rattle.compound_node.specs.declared.entries.Entry.TheVariants.{Leaf as LeafEntry}
 use Rattle.finite_map.specs.declared.Change.{Change}
 use Rattle.finite_map.specs.Fronts.{BeginsWith}
-use Rattle.finite_map.proofs.Growth.{begins_on}
+use Rattle.finite_map.proofs.Fronts.{begins_on}
 use Rattle.insert_cases.specs.declared.choice.PathNode.{PathNode}
 use Rattle.record_words.specs.declared.layout.Layout.{Layout}
 use Rattle.tries.specs.Keys.{Key}
 use Rattle.tries.specs.Tree.{leaf, Holds}
-use Rattle.tries.proofs.Maps.{holds_value}
+use Rattle.tries.proofs.Content.Maps.{holds_value}
 use Rattle.version_laws.specs.Scan.{IsRead}
-use Rattle.version_laws.proofs.Search.{holds_within}
+use Rattle.version_laws.proofs.Statements.Search.{holds_within}
 use Rattle.versions.specs.State.{IsSteady, Past, Stands}
 use Rattle.versions.specs.Trades.{IsOneOf}
 use Rattle.record_words.specs.declared.records.Rec.TheVariants.{Leaf as a_leaf}
@@ -25,23 +25,23 @@ use Rattle.rowex_core.specs.declared.known.Fresh.{Fresh}
 use Rattle.rowex_core.specs.declared.known.Known.{Known}
 use Rattle.rowex_core.specs.declared.known.Locked.{Locked}
 use Rattle.rowex_core.specs.Knowing.{IsEvent, IsPinnedSince}
-use Rattle.rowex_core.proofs.Owning.{recalls}
+use Rattle.rowex_core.proofs.Sharing.Owning.{recalls}
 use Rattle.rowex_table.specs.Made.{IsLater, Made, nodes_of}
 use Rattle.rowex_table.specs.Publishes.{HasPublished}
 use Rattle.rowex_table.specs.Rule.{record_number}
 use Rattle.rowex_table.specs.Runs.{Steps, silent}
 use Rattle.rowex_table.specs.Seats.{SeatView, TableView}
-use Rattle.rowex_table.proofs.ActsBefore.{value_loaded}
-use Rattle.rowex_table.proofs.ActsLeave.{act_leaves}
-use Rattle.rowex_table.proofs.Running.{runs_one}
+use Rattle.rowex_table.proofs.Made.ActsBefore.{value_loaded}
+use Rattle.rowex_table.proofs.Made.ActsLeave.{act_leaves}
+use Rattle.rowex_table.proofs.Runs.{runs_one}
 use Rattle.rowex_reading.specs.Possible.{IsPossible}
 use Rattle.rowex_reading.specs.Seen.{seen, IsLedTo, Sure}
 use Rattle.rowex_reading.specs.Ways.{IsFoundAt, IsWayOf, end_of, named, RootWas}
 use Rattle.rowex_reading.specs.declared.descent.Found.{Found}
 use Rattle.rowex_reading.specs.declared.descent.Found.TheVariants.{Nothing, Leaf}
-use Rattle.rowex_reading.proofs.Later.{event_later, event_possible}
-use Rattle.rowex_reading.proofs.Seeing.{later_reflexive, read_stable, seen_steady, since_later, sure_later}
-use Rattle.rowex_reading.proofs.Valuing.{both_read, value_read}
+use Rattle.rowex_reading.proofs.Seen.Later.{event_later, event_possible}
+use Rattle.rowex_reading.proofs.Seen.{later_reflexive, read_stable, seen_steady, since_later, sure_later}
+use Rattle.rowex_reading.proofs.Seen.Valuing.{both_read, value_read}
 use Rattle.rowex_reading.proofs.Ways.{way_later}
 use Rattle.publish_laws.specs.Ending.{IsAtRest}
 use Rattle.publish_laws.specs.Stages.{HasLoaded}
@@ -63,8 +63,8 @@ use Rattle.rowex_writing.specs.build.Building.{IsBuilding}
 use Rattle.rowex_writing.specs.declared.plan.job.Raised.{Raised}
 use Rattle.record_words.specs.declared.records.Rec.{Rec}
 use Rattle.rowex_core.specs.Having.{AreKept, LocksJust}
-use Rattle.versions.proofs.Members.{map_of}
-use Rattle.rowex_reading.proofs.Standing.{led_in_table}
+use Rattle.versions.proofs.Trades.{map_of}
+use Rattle.rowex_reading.proofs.Seen.Standing.{led_in_table}
 use Rattle.rowex_writing.proofs.build.Putting.{some_spot}
 
 -- ---- in one version a leaf has one value

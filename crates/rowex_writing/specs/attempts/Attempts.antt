@@ -20,14 +20,13 @@ use Rattle.rowex_reading.specs.Lookups.{HasFound}
 use Rattle.rowex_reading.specs.Reads.{IsBelowRoot, entries_in}
 use Rattle.rowex_table.specs.Runs.{Runs}
 use Rattle.rowex_table.specs.Seats.{TableView, SeatView}
-use Rattle.rowex_table.specs.Stays.{LeavesPin}
 use Rattle.rowex_writing.specs.plan.Asking.{reply_to}
 use Rattle.rowex_writing.specs.build.Changes.{HasChanged, HasNoRoom, IsFull}
 use Rattle.rowex_writing.specs.declared.plan.job.Job.{Job}
 use Rattle.rowex_table.specs.Made.{IsLater}
 use Rattle.publish_laws.specs.Ending.{IsAtRest}
 use Rattle.rowex_writing.specs.plan.Counts.{attempt_steps, most_locks, most_nodes}
-use Rattle.rowex_writing.specs.locks.Locks.{HasMetLock, TriesLocksOnce, targets_of}
+use Rattle.rowex_writing.specs.locks.Locks.{HasMetLock, IsOfAttempt, TriesLocksOnce, targets_of}
 use Rattle.rowex_writing.specs.declared.plan.Full.{Full}
 use Rattle.rowex_writing.specs.declared.plan.Full.TheVariants.{Nodes, Leaves}
 use Rattle.rowex_writing.specs.declared.attempts.TryFault.{TryFault}
@@ -41,14 +40,14 @@ abbrev pub IsOfSearch : Act → Type 0
 IsOfSearch (LoadRef Root word) = Unit {0}
 IsOfSearch act = IsBelowRoot act
 
--- The steps of an attempt, but for its pin: those of its search, which loads one entry in each node on its way, and the rest. Each
--- lock is tried once at most. They are so many at most for so many nodes and locks.
+-- The steps of an attempt, but for its pin: those of its search, which loads one entry in each node on its way, and the rest. None of them
+-- gives a record back, and each lock is tried once at most. They are so many at most for so many nodes and locks.
 pub record AreAttemptSteps (layout : Layout) (acts : List Act) : Type 0 where
   pub search : List Act
   pub rest : List Act
   pub acts_are : acts ≡ search ++ rest
   pub searches : All IsOfSearch search
-  pub pinned : All LeavesPin acts
+  pub pinned : All IsOfAttempt acts
   pub once : TriesLocksOnce acts
   pub depth : entries_in search ≤ most_nodes
   pub locks : length (targets_of acts) ≤ most_locks

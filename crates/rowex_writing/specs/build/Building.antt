@@ -132,6 +132,7 @@ abbrev pub IsLowRisen : ℕ → Risen → Type 0
 IsLowRisen height (Whole e) = height_of e ≤ height
 IsLowRisen height (Split position zero one) = (height_of zero ≤ height) × (height_of one ≤ height)
 
+-- what has risen is two sides of a fork
 abbrev pub IsSplit : Risen → Type 0
 IsSplit (Whole e) = ⊥
 IsSplit (Split position zero one) = Unit {0}
@@ -185,7 +186,7 @@ gone_unless_whole stays n = if stays then [] else a_node n ∷ []
 -- ---- a span
 -- Of the locked nodes of the way from `end` to `level` each is named by the one above it, which is higher. An insertion at p affects no
 -- more than that place there. Those between the two are full.
-pub record IsChain (nodes : ℕ) (held : List Locked) (way : List PathNode) (key : Key) (p end level : ℕ) : Type 0 where
+pub record IsLockedSpan (nodes : ℕ) (held : List Locked) (way : List PathNode) (key : Key) (p end level : ℕ) : Type 0 where
   pub there : (i : ℕ) (s : PathNode) → i < level → slice_get way i ≡ Some s → s.number < nodes
   pub above : (i : ℕ) (s u : PathNode) → end ≤ i → i < level → slice_get way i ≡ Some s → slice_get way (i + 1) ≡ Some u →
       (over : IsLockedAbove held key p s.number u.number) × ((node_words_of over.lower).fixed.height < (node_words_of over.upper).fixed.height)
@@ -202,7 +203,7 @@ pub record Rises (table : TableView) (a : SeatView) (made : List Rec) (way : Lis
   pub low : (other : List ℕ) → HasLocked a.known step.number other → IsLowRisen (node_words_of other).fixed.height rise.risen
   pub split : rise.end < rise.level → IsSplit rise.risen
   pub single : (other : List ℕ) → HasLocked a.known step.number other → size (node_words_of other).subtrie < 32 → IsSingle rise.risen
-  pub chain : IsChain table.layout.nodes a.known.locks way here.newcomer.item.key here.newcomer.mismatch rise.end rise.level
+  pub chain : IsLockedSpan table.layout.nodes a.known.locks way here.newcomer.item.key here.newcomer.mismatch rise.end rise.level
 
 -- how many nodes what has risen is to rise on through
 abbrev pub levels_above : Rise → ℕ
@@ -224,4 +225,4 @@ pub record IsGrowing (table : TableView) (a : SeatView) (made : List Rec) (way :
   pub low : step.number < table.layout.nodes
   pub lowest : GetsLeaf table a made step.number new
   pub full : span.end < span.len - 1 → size (node_words_of lowest.words).subtrie ≡ 32
-  pub chain : IsChain table.layout.nodes a.known.locks way lowest.item.key new.position span.end (span.len - 1)
+  pub chain : IsLockedSpan table.layout.nodes a.known.locks way lowest.item.key new.position span.end (span.len - 1)

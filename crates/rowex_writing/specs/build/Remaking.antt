@@ -43,6 +43,7 @@ IsLowHalf height Same = Unit {0}
 abbrev pub AreNoHigher : ℕ → Cut → Type 0
 AreNoHigher height cut = IsLowHalf height cut.zero × IsLowHalf height cut.one
 
+-- what a node has grown to is no higher than this
 abbrev pub IsNoHigher : ℕ → Grown → Type 0
 IsNoHigher height (Whole node) = node.height ≤ height
 IsNoHigher height (Two cut) = AreNoHigher height cut

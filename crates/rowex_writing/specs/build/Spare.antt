@@ -6,7 +6,7 @@ use Rattle.record_words.specs.declared.layout.Layout.{Layout}
 use Rattle.versions.specs.Trades.{IsOneOf}
 use Rattle.record_words.specs.declared.records.Rec.{Rec}
 use Rattle.record_words.specs.declared.records.Rec.TheVariants.{Node as a_node}
-use Rattle.lone_runs.specs.Lone.{HasFree, HasRoom, HasSpare}
+use Rattle.publish_laws.specs.Lone.{HasFree, HasRoom, HasSpare}
 use Rattle.rowex_table.specs.Seats.{SeatView}
 use Rattle.rowex_writing.specs.build.Deeds.{gone_of_span}
 use Rattle.rowex_writing.specs.build.Walks.{nodes_among}

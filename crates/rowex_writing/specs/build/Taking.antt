@@ -51,6 +51,7 @@ no_step = record { number = 0; height = 0; first_position = 0; count = 0; slot =
 abbrev pub lower : Job → PathNode
 lower job = get_or job.way.now job.span.end no_step
 
+-- the node above that
 abbrev pub upper : Job → PathNode
 upper job = get_or job.way.now (job.span.end - 1) no_step
 

@@ -7,7 +7,7 @@ use Rattle.tries.specs.Place.{spot}
 use Rattle.versions.specs.Trades.{IsOneOf}
 use Rattle.rowex_core.specs.Reading.{node_words_of}
 use Rattle.rowex_core.specs.declared.event.Act.{Act}
-use Rattle.rowex_core.specs.declared.event.Act.TheVariants.{Lock}
+use Rattle.rowex_core.specs.declared.event.Act.TheVariants.{GiveBack, Lock}
 use Rattle.rowex_core.specs.declared.event.Event.{Event}
 use Rattle.rowex_core.specs.declared.known.Known.{Known}
 use Rattle.rowex_table.specs.Runs.{Runs}
@@ -15,9 +15,10 @@ use Rattle.rowex_table.specs.Seats.{TableView, SeatView}
 use Rattle.rowex_table.specs.Stays.{KeepsRecall}
 use Rattle.publish_laws.specs.Loops.{StaysLocked}
 
--- a step that tries no lock, and after which the pass recalls all that it did before
+-- a step that tries no lock and gives no record back, and after which the pass recalls all that it did before
 abbrev pub TriesNoLock : Act → Type 0
 TriesNoLock (Lock target found) = ⊥
+TriesNoLock (GiveBack r epoch found) = ⊥
 TriesNoLock act = KeepsRecall act
 
 -- The pass makes steps of which the gate is told, and tries no lock; it recalls all that it did, and has locked what it had locked.

@@ -10,7 +10,7 @@ use Rattle.versions.specs.declared.Pin.{Pin}
 use Rattle.versions.specs.Trades.{IsOneOf, AreApart}
 use Rattle.version_laws.specs.Scan.{EntryStoodSince}
 use Rattle.rowex_core.specs.declared.event.Act.{Act}
-use Rattle.rowex_core.specs.declared.event.Act.TheVariants.{LoadRef, Lock}
+use Rattle.rowex_core.specs.declared.event.Act.TheVariants.{ClearPin, GiveBack, LoadRef, Lock, SetPin}
 use Rattle.rowex_core.specs.declared.event.Event.{Event}
 use Rattle.rowex_core.specs.declared.event.Spot.TheVariants.{Root}
 use Rattle.rowex_core.specs.declared.event.Target.{Target}
@@ -24,15 +24,23 @@ use Rattle.rowex_core.specs.Having.{LocksJust}
 use Rattle.rowex_core.specs.Knowing.{IsPinnedSince}
 use Rattle.rowex_reading.specs.Possible.{IsPossible}
 use Rattle.rowex_table.specs.Made.{IsLater, nodes_of}
-use Rattle.rowex_table.specs.Stays.{KeepsRecall, LeavesPin}
+use Rattle.rowex_table.specs.Stays.{KeepsRecall}
 use Rattle.rowex_table.specs.Runs.{Runs}
 use Rattle.rowex_table.specs.Seats.{TableView, SeatView, IsSeatOf}
 use Rattle.publish_laws.specs.Stages.{IsSure}
 use Rattle.rowex_writing.specs.declared.plan.Span.{Span}
 
--- a step that is no load of the root, and after which the pass recalls all that it did before
+-- a step that neither sets nor clears the pin, and gives no record back
+abbrev pub IsOfAttempt : Act → Type 0
+IsOfAttempt (SetPin w) = ⊥
+IsOfAttempt ClearPin = ⊥
+IsOfAttempt (GiveBack r epoch found) = ⊥
+IsOfAttempt act = Unit {0}
+
+-- a step that is no load of the root and gives no record back, and after which the pass recalls all that it did before
 abbrev pub LoadsNoRoot : Act → Type 0
 LoadsNoRoot (LoadRef Root w) = ⊥
+LoadsNoRoot (GiveBack r epoch found) = ⊥
 LoadsNoRoot act = KeepsRecall act
 
 -- what these acts try to lock, in order
@@ -76,6 +84,7 @@ pub record TriesNodesBy {G : Type 0} (Is : Act → Type 0) (table : TableView) (
   pub count : length tried ≡ length nodes
   pub among : (t : Target) → IsOneOf t tried → IsOneOf t (map NodeTarget nodes)
 
+-- the same, with no load of the root
 abbrev pub TriesNodes : {G : Type 0} → TableView → (G → Event → G → Type 0) → List ℕ → SeatView × G → SeatView × G → Type 0
 TriesNodes table becomes nodes a b = TriesNodesBy LoadsNoRoot table becomes nodes a b
 
@@ -87,6 +96,7 @@ HasNoLock k = (k.locks ≡ []) × (k.anchor ≡ None)
 abbrev pub HasJustLocked : Known → List ℕ → Type 0
 HasJustLocked k nodes = LocksJust k.locks nodes × AreApart nodes
 
+-- the numbers of the nodes of a way
 abbrev pub numbers_of : List PathNode → List ℕ
 numbers_of steps = map (λ (s : PathNode). s.number) steps
 
@@ -98,6 +108,7 @@ AreNodes layout steps = All (λ (s : PathNode). s.number < layout.nodes) steps
 abbrev pub IsLedStep : Layout → Known → PathNode → Type 0
 IsLedStep layout k s = (s.number < layout.nodes) × ((m : ℕ) × (h : ℕ) × IsPinnedSince k m × IsSure k (λ past. EntryStoodSince past m (Node s.number h)))
 
+-- the pass was led to each node of the way
 abbrev pub AreLed : Layout → Known → List PathNode → Type 0
 AreLed layout k steps = All (IsLedStep layout k) steps
 
@@ -187,9 +198,9 @@ IsRefusedLock layout k j = HasMetLock layout k j × (j.locks ≡ k.locks) × (j.
 abbrev pub KnowsSameButLocks : Known → Known → Type 0
 KnowsSameButLocks k j = (j.own ≡ k.own) × (j.anchor ≡ k.anchor) × (j.front ≡ k.front) × (j.round ≡ k.round) × (j.failed ≡ k.failed)
 
--- The pass makes steps that neither set nor clear its pin, and tries these locks,
+-- The pass makes steps that neither set nor clear its pin and give no record back, and tries these locks,
 abbrev pub HasTried : {G : Type 0} → TableView → (G → Event → G → Type 0) → List Target → SeatView × G → SeatView × G → Type 0
-HasTried table becomes tried a b = TriesBy LeavesPin table becomes tried a b
+HasTried table becomes tried a b = TriesBy IsOfAttempt table becomes tried a b
 
 -- none,
 abbrev pub HasRun : {G : Type 0} → TableView → (G → Event → G → Type 0) → SeatView × G → SeatView × G → Type 0
@@ -197,4 +208,4 @@ HasRun table becomes a b = HasTried table becomes [] a b
 
 -- or so many, each once.
 abbrev pub HasTriedOnce : {G : Type 0} → TableView → (G → Event → G → Type 0) → ℕ → SeatView × G → SeatView × G → Type 0
-HasTriedOnce table becomes locks a b = TriesOnceBy LeavesPin table becomes locks a b
+HasTriedOnce table becomes locks a b = TriesOnceBy IsOfAttempt table becomes locks a b

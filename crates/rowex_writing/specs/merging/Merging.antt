@@ -24,7 +24,6 @@ use Rattle.rowex_core.specs.declared.known.Known.{Known}
 use Rattle.rowex_core.specs.declared.known.Locked.{Locked}
 use Rattle.rowex_table.specs.Made.{IsLater, nodes_of}
 use Rattle.rowex_table.specs.Seats.{TableView, SeatView, IsSeatOf}
-use Rattle.rowex_table.specs.Stays.{LeavesPin}
 use Rattle.rowex_reading.specs.Possible.{IsPossible}
 use Rattle.rowex_reading.specs.Ways.{named}
 use Rattle.rowex_reading.specs.declared.descent.Found.{Found}
@@ -32,7 +31,7 @@ use Rattle.rowex_reading.specs.declared.descent.Found.TheVariants.{Leaf}
 use Rattle.rowex_writing.specs.build.Changes.{IsTakeChange, MayPublishOnceReady}
 use Rattle.rowex_writing.specs.plan.Counts.{change_steps, level_steps}
 use Rattle.rowex_writing.specs.locks.Going.{HasLocked}
-use Rattle.rowex_writing.specs.locks.Locks.{LocksLast, TriesNodesBy, locks_of, span_numbers, HasRun, HasTriedOnce}
+use Rattle.rowex_writing.specs.locks.Locks.{IsOfAttempt, LocksLast, TriesNodesBy, locks_of, span_numbers, HasRun, HasTriedOnce}
 use Rattle.rowex_writing.specs.build.Putting.{IsSpotAbove}
 use Rattle.rowex_writing.specs.build.Taking.{IsTaking, lower, upper}
 use Rattle.rowex_writing.specs.declared.plan.job.Job.{Job}
@@ -88,18 +87,18 @@ pub record IsWide (table : TableView) (b : SeatView) (job : Job) (number : ℕ) 
 -- After the locks of these nodes the pass tries two more, or fewer: each that it has tried until then, once. It has tried both where this is
 -- true.
 abbrev pub TriesMore : {G : Type 0} → TableView → (G → Event → G → Type 0) → List ℕ → Bool → SeatView × G → SeatView × G → Type 0
-TriesMore {G} table becomes nodes both b c = (a : SeatView × G) → TriesNodesBy LeavesPin table becomes nodes a b →
+TriesMore {G} table becomes nodes both b c = (a : SeatView × G) → TriesNodesBy IsOfAttempt table becomes nodes a b →
     (locks : ℕ) × HasTriedOnce table becomes locks a c × (length nodes ≤ locks) × (locks ≤ length nodes + 2) × (both ≡ true → locks ≡ length nodes + 2)
 
 -- so many steps at most and these more, where each record may be tried that is left
 abbrev pub TriesFew : {G : Type 0} → TableView → (G → Event → G → Type 0) → List ℕ → (left more : ℕ) → SeatView × G → SeatView × G → Type 0
-TriesFew {G} table becomes nodes left more b c = (a : SeatView × G) → TriesNodesBy LeavesPin table becomes nodes a b →
+TriesFew {G} table becomes nodes left more b c = (a : SeatView × G) → TriesNodesBy IsOfAttempt table becomes nodes a b →
     (locks : ℕ) × HasTriedOnce table becomes locks a c × (length nodes ≤ locks) × (locks ≤ length nodes + 2) ×
     (c.0.known.steps ≤ b.0.known.steps + 2 * left + (locks - length nodes) * level_steps + more)
 
 -- and a change under all these locks, with room for so many steps before it
 abbrev pub ChangesOn : {G : Type 0} → TableView → (G → Event → G → Type 0) → List ℕ → ℕ → SeatView × G → SeatView × G → Type 0
-ChangesOn {G} table becomes nodes room b c = (a : SeatView × G) → TriesNodesBy LeavesPin table becomes nodes a b →
+ChangesOn {G} table becomes nodes room b c = (a : SeatView × G) → TriesNodesBy IsOfAttempt table becomes nodes a b →
     (locks : ℕ) × HasTriedOnce table becomes locks a c × (length nodes ≤ locks) × (locks ≤ length nodes + 2) ×
     (c.0.known.steps + room ≤ b.0.known.steps + change_steps table.layout locks)
 

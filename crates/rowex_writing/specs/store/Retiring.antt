@@ -35,6 +35,7 @@ pub record HasToMark (k : Known) (epoch : ℕ) (recs : List Rec) : Type 0 where
 abbrev pub KeepsLocks : Known → Known → Type 0
 KeepsLocks k j = (j.locks ≡ k.locks) × (j.anchor ≡ k.anchor) × (j.front ≡ k.front)
 
+-- the spot is the root
 abbrev pub is_root : Spot → Bool
 is_root Root = true
 is_root (Slot n i) = false

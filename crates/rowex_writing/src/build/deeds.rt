@@ -1,7 +1,7 @@
 //! What is done under the locks of a span: records are made for what comes in the place of its nodes, and none of them is linked yet.
 
 ghost use Rattle.std.specs.Prelude.{◌≢◌, Err, IfOk};
-ghost use Rattle.lone_runs.specs.Lone.{HasRoom, HasSpare};
+ghost use Rattle.publish_laws.specs.Lone.{HasRoom, HasSpare};
 ghost use Rattle.rowex_writing.specs.build.Spare.{WillSpareOne};
 ghost use Rattle.rowex_writing.specs.locks.Checks.{HasTakenPlan};
 ghost use Rattle.rowex_writing.specs.build.Deeds.{CarriesOut};

@@ -3,7 +3,7 @@
 ghost use Rattle.std.specs.Prelude.{◌≡◌, ◌≤◌, ◌+◌, IfErr, IfOk, None};
 ghost use Rattle.version_laws.specs.Writer.{added_change};
 ghost use Rattle.tries.specs.Content.{item};
-ghost use Rattle.lone_runs.specs.Lone.{HasFree, HasSpare};
+ghost use Rattle.publish_laws.specs.Lone.{HasFree, HasSpare};
 ghost use Rattle.rowex_writing.specs.build.Spare.{WillSpareOne};
 ghost use Rattle.rowex_writing.specs.declared.plan.Deed.TheVariants.{Grow};
 ghost use Rattle.rowex_writing.specs.locks.Checks.{HasTakenPlan};

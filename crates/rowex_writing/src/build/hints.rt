@@ -125,7 +125,7 @@ impl Stretch {
     /// One that began in the stretch and ended behind it has found no free record from there on. The next one begins where the stretch does;
     /// and if this one did so, too, nothing of it is free. One that began behind the stretch and ended in it has found nothing free behind:
     /// from then on claims go on in the stretch.
-    pub fn note_claimed(&mut self, start: u32, number: u32)
+    pub fn advance_past_claim(&mut self, start: u32, number: u32)
         ensures within { self.old.first ≤ number → number < self.old.end → (self.new.first ≡ self.old.first) × (self.new.end ≡ self.old.end) }
         ensures behind { self.old.first ≤ self.old.end → self.old.end ≤ number → number + 1 < 2 ^ 32 → self.new.end ≡ number + 1 }
     {
@@ -175,7 +175,7 @@ pub(crate) fn claim_by_hint<G: Gate>(
     }
     hint.next = hint.stretch.start();
     let number = claim_record(table, seat, gate, kind, hint.next)?;
-    hint.stretch.note_claimed(hint.next, number);
+    hint.stretch.advance_past_claim(hint.next, number);
     Some(number)
 }
 
@@ -229,7 +229,7 @@ pub(crate) fn claim_node_on_walk<G: Gate>(
         return Some(number);
     }
     let number = claim_next_record(table, seat, gate, RecordKind::Node, hint.next, left)?;
-    hint.stretch.note_claimed(hint.next, number);
+    hint.stretch.advance_past_claim(hint.next, number);
     hint.next = number + 1;
     Some(number)
 }

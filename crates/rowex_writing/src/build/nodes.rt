@@ -16,7 +16,7 @@ ghost use Rattle.rowex_writing.specs.locks.Going.{WorksOn};
 ghost use Rattle.rowex_writing.specs.build.Walks.{Makes, HasWalked, IsClaimWalk, looks_for, looks_unless};
 ghost use Rattle.record_words.specs.declared.records.Rec.TheVariants.{Node as a_node};
 ghost use Rattle.rowex_records.specs.Claims.{AllMissed, HoldsOneMore, HasMissedSince, IsAnothersBut};
-ghost use Rattle.lone_runs.specs.Lone.{HasFree};
+ghost use Rattle.publish_laws.specs.Lone.{HasFree};
 ghost use Rattle.record_words.specs.declared.records.Rec.{Rec as Record};
 
 use crate::build::hints::claim_node_on_walk;

@@ -4,7 +4,7 @@
 ghost use Rattle.std.specs.Prelude.{◌≡◌, ◌≢◌, Err, ℕ, [], IfErr, IfOk, MatchOption, None, Option, Some, ◌≤◌, ◌+◌, ◌*◌};
 ghost use Rattle.version_laws.specs.Writer.{removed_change};
 ghost use Rattle.tries.specs.Content.{item};
-ghost use Rattle.lone_runs.specs.Lone.{HasRoom, HasSpare};
+ghost use Rattle.publish_laws.specs.Lone.{HasRoom, HasSpare};
 ghost use Rattle.rowex_writing.specs.build.Spare.{WillSpareOne};
 ghost use Rattle.rowex_writing.specs.build.Changes.{IsTakeChange};
 ghost use Rattle.rowex_writing.specs.locks.Checks.{HasTakenPlan};

@@ -16,7 +16,7 @@ ghost use Rattle.rowex_writing.specs.locks.Loads.{AreRead, ReadsGroup, ReadsRest
 
 use compound_node::{Entry, Node, find_sibling};
 use record_words::{
-    FIELDS_OFFSET, HEAD_WORDS, HeadNumbers, Kind, MAX_ENTRIES, MIDDLE_HEAD_WORDS,
+    FIELDS_OFFSET, HEAD_WORDS, HeadKind, HeadNumbers, MAX_ENTRIES, MIDDLE_HEAD_WORDS,
     NARROW_HEAD_WORDS, NODE_FIELDS, NUMBERS_INDEX, SLOT_GROUP, read_node, read_numbers,
     read_some_entry,
 };
@@ -75,9 +75,9 @@ fn load_locked_head<G: Gate>(
 {
     words[NUMBERS_INDEX] = load_locked_word(table, seat, gate, node, NUMBERS_INDEX);
     match read_numbers(words[NUMBERS_INDEX]).kind {
-        Kind::Narrow => load_rest_of_head(table, seat, gate, node, words, NARROW_HEAD_WORDS),
-        Kind::Middle => load_rest_of_head(table, seat, gate, node, words, MIDDLE_HEAD_WORDS),
-        Kind::Wide => load_rest_of_head(table, seat, gate, node, words, HEAD_WORDS),
+        HeadKind::Narrow => load_rest_of_head(table, seat, gate, node, words, NARROW_HEAD_WORDS),
+        HeadKind::Middle => load_rest_of_head(table, seat, gate, node, words, MIDDLE_HEAD_WORDS),
+        HeadKind::Wide => load_rest_of_head(table, seat, gate, node, words, HEAD_WORDS),
     }
 }
 
@@ -196,7 +196,7 @@ pub(crate) fn load_position<G: Gate>(
     let word = load_locked_word(table, seat, gate, node, index);
     let mask = numbers.index_of_mask(column);
     let masks = load_locked_word(table, seat, gate, node, mask);
-    numbers.position_of(word, masks, column)
+    numbers.read_position(word, masks, column)
 }
 
 /// Loads the entry in `slot` of the locked node `number`, which has that slot.

@@ -9,7 +9,7 @@ ghost use Rattle.rowex_reading.specs.Possible.{IsPossible};
 ghost use Rattle.rowex_reading.specs.Seen.{HasPlace};
 ghost use Rattle.rowex_table.specs.Made.{IsLater};
 ghost use Rattle.rowex_table.specs.Seats.{IsSeatOf};
-ghost use Rattle.lone_runs.specs.Lone.{KeepsSpare};
+ghost use Rattle.publish_laws.specs.Lone.{KeepsSpare};
 ghost use Rattle.rowex_writing.specs.locks.Going.{HasLocked};
 ghost use Rattle.rowex_writing.specs.locks.Jobs.{IsJobFrom};
 ghost use Rattle.rowex_writing.specs.locks.Locks.{AreNodes, HasTheSame, KeepsRecords, LocksLast, Works, span_numbers, HasRun, HasTried};
@@ -201,7 +201,7 @@ fn unlock_target_above<G: Gate>(
 }
 
 /// Unlocks what [`lock_for_merge`] has locked: what names the upper node, and node `number`.
-pub(crate) fn unlock_for_merge<G: Gate>(
+pub(crate) fn release_merge_locks<G: Gate>(
     table: &HotTable,
     seat: &mut TableSeat,
     gate: &mut G,

@@ -8,7 +8,7 @@ ghost use Rattle.record_words.specs.declared.records.Rec.TheVariants.{Node as a_
 ghost use Rattle.record_words.specs.Decoding.{entry_of};
 ghost use Rattle.rowex_table.specs.Made.{Made};
 ghost use Rattle.publish_laws.specs.Stages.{HasReady};
-ghost use Rattle.lone_runs.specs.Lone.{HasSpare};
+ghost use Rattle.publish_laws.specs.Lone.{HasSpare};
 ghost use Rattle.rowex_writing.specs.build.Spare.{WillSpare, WillSpareOne};
 ghost use Rattle.rowex_writing.specs.store.Values.{HasLoadedFound};
 ghost use Rattle.rowex_writing.specs.build.Building.{IsBuilding};

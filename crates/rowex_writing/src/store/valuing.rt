@@ -5,7 +5,7 @@ ghost use Rattle.publish_laws.specs.Ending.{IsAtRest};
 ghost use Rattle.rowex_reading.specs.Possible.{IsPossible};
 ghost use Rattle.rowex_reading.specs.Ways.{IsFoundAt};
 ghost use Rattle.rowex_table.specs.Seats.{IsSeatOf};
-ghost use Rattle.lone_runs.specs.Lone.{KeepsSpare};
+ghost use Rattle.publish_laws.specs.Lone.{KeepsSpare};
 ghost use Rattle.rowex_writing.specs.store.Values.{HasDoneDeed, HasLoadedFound, HasMoved, HoldsFound, revalued};
 ghost use Rattle.rowex_writing.specs.locks.Checks.{HasTakenPlan};
 ghost use Rattle.rowex_writing.specs.plan.Counts.{held_loads};

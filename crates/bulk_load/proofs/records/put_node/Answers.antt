@@ -1,7 +1,7 @@
 -- The words are those of the node.
 use Rattle.std.proofs.Common.{◌+◌, ◌∙◌, ap, get_or, sym, arith, length}
 use Rattle.record_words.proofs.Nodes.{length-node_words}
-use Rattle.bulk_load.proofs.Fields.{node_fields_are}
+use Rattle.bulk_load.proofs.records.Fields.{node_fields_are}
 use Rattle.bulk_load.proofs.records.put_node.Goals as goal
 
 pub returns-clause-fields : goal.returns-clause-fields

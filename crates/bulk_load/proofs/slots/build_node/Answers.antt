@@ -1,7 +1,7 @@
 -- The columns, rows and entries show the piece of the slots.
 use Rattle.std.proofs.Common.{arith, length, refl, subst, sym, ◌∙◌, ◌≡◌}
 use Rattle.std.proofs.lemmas.List.{length-map}
-use Rattle.bulk_load.proofs.Building.{built, front_rows, node_of_slots}
+use Rattle.bulk_load.proofs.slots.Slots.{built, front_rows, node_of_slots}
 use Rattle.bulk_load.specs.Slots.{entries_in_slots}
 use Rattle.bulk_load.specs.declared.slots.Slot.{Slot}
 use Rattle.compound_node.specs.Nodes.{IsBuiltFrom}

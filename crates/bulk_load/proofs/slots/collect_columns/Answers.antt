@@ -1,6 +1,6 @@
 -- The next position is a column then.
 use Rattle.std.proofs.Common.{ap, arith, get_or, length, subst, sym, ◌∙◌}
-use Rattle.bulk_load.proofs.Building.{more_columns, same_columns}
+use Rattle.bulk_load.proofs.slots.Slots.{more_columns, same_columns}
 use Rattle.bulk_load.specs.Slots.{slot}
 use Rattle.compound_node.specs.declared.entries.Entry.TheVariants.{Leaf}
 use Rattle.node_tries.proofs.Positions.{length-with_position}

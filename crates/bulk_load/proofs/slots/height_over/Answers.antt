@@ -1,6 +1,6 @@
 -- A height above that of each entry fits 16 bits.
 use Rattle.std.proofs.Common.{◌≡◌, ◌∙◌, ap, arith, drop}
-use Rattle.bulk_load.proofs.Building.{entries_fit}
+use Rattle.bulk_load.proofs.slots.Slots.{entries_fit}
 use Rattle.bulk_load.specs.Slots.{entries_in_slots}
 use Rattle.compound_node.proofs.Heights.{greatest_height-fits}
 use Rattle.compound_node.specs.Nodes.{greatest_height}

@@ -1,6 +1,6 @@
 -- The next row goes to the first unused place.
 use Rattle.std.proofs.Common.{◌++◌, ◌∙◌, ap, arith, replicate, sym}
-use Rattle.bulk_load.proofs.Building.{next_last, next_rows, rows_end, rows_start}
+use Rattle.bulk_load.proofs.slots.Slots.{next_last, next_rows, rows_end, rows_start}
 use Rattle.bulk_load.specs.Slots.{slot}
 use Rattle.compound_node.specs.declared.entries.Entry.TheVariants.{Leaf}
 use Rattle.bulk_load.proofs.slots.make_rows.Goals as goal

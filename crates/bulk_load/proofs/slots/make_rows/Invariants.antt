@@ -1,6 +1,6 @@
 -- The rows so far stand in front of unused ones, and the last of them is at hand.
 use Rattle.std.proofs.Common.{◌≡◌, ◌-◌, ◌++◌, ◌∷◌, replicate, take}
-use Rattle.bulk_load.proofs.Rows.{last_row}
+use Rattle.bulk_load.proofs.slots.Rows.{last_row}
 use Rattle.bulk_load.specs.Slots.{forks_between, rows_behind}
 use Rattle.bulk_load.proofs.slots.make_rows.Given as goal
 

@@ -3,7 +3,7 @@ use Rattle.std.proofs.Common.{arith, subst, sym, ◌^◌, ◌∙◌}
 use Rattle.std.proofs.lemmas.List.{length-drop, length-take-le, take_rest}
 use Rattle.std.proofs.lemmas.List.Elements.{All-drop, All-take}
 use Rattle.std.specs.List.{All}
-use Rattle.compound_node.proofs.Sides.{Parts, parts}
+use Rattle.compound_node.proofs.halves.Halves.{Parts, parts}
 use Rattle.compound_node.specs.Nodes.{IsEntry}
 use Rattle.compound_node.specs.declared.entries.Entry.TheVariants.{Leaf}
 use Rattle.partial_keys.specs.Shown.{piece_of}

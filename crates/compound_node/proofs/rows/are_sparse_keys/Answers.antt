@@ -1,7 +1,7 @@
 -- All ones but the low bits, as a mask.
 use Rattle.std.proofs.Common.{sym, ◌∙◌}
 use Rattle.std.proofs.lemmas.Bool.{eq-eqb, eqb-true}
-use Rattle.compound_node.proofs.Full.{high_ones}
+use Rattle.compound_node.proofs.Removal.Full.{high_ones}
 use Rattle.compound_node.proofs.rows.are_sparse_keys.Goals as goal
 
 pub returns-then-is_ladder : goal.returns-then-is_ladder

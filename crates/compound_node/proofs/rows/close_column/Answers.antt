@@ -1,5 +1,5 @@
 -- Two masks part the row round the column.
-use Rattle.compound_node.proofs.Closing.{close_is}
+use Rattle.compound_node.proofs.rows.Closing.{close_is}
 use Rattle.compound_node.proofs.rows.close_column.Goals as goal
 
 pub returns : goal.returns

@@ -1,5 +1,5 @@
 -- Two masks part each lane round the column.
-use Rattle.compound_node.proofs.Closing.{lanes_closed}
+use Rattle.compound_node.proofs.rows.Closing.{lanes_closed}
 use Rattle.compound_node.proofs.rows.close_lanes.Goals as goal
 
 pub returns : goal.returns

@@ -1,5 +1,5 @@
 -- The lanes behind the first one move up, and those of the part have the bits.
-use Rattle.compound_node.proofs.Shifting.{rows_joined}
+use Rattle.compound_node.proofs.rows.Shifting.{rows_joined}
 use Rattle.compound_node.proofs.rows.fork_rows_before.Goals as goal
 
 pub returns : goal.returns

@@ -1,5 +1,5 @@
 -- The two masks part each lane at the column.
-use Rattle.compound_node.proofs.Spreading.{lanes_spread}
+use Rattle.compound_node.proofs.rows.Spreading.{lanes_spread}
 use Rattle.compound_node.proofs.rows.spread_lanes.Goals as goal
 
 pub returns : goal.returns

@@ -1,5 +1,5 @@
 -- The two masks part the row at the column.
-use Rattle.compound_node.proofs.Spreading.{spread_is}
+use Rattle.compound_node.proofs.rows.Spreading.{spread_is}
 use Rattle.compound_node.proofs.rows.spread_row.Goals as goal
 
 pub returns : goal.returns

@@ -1,7 +1,7 @@
 -- A column that `used` has not got goes.
 use Rattle.std.proofs.Common.{ap, arith, length, map, sym, take, ◌+◌, ◌-◌, ◌∙◌, ◌≡◌}
 use Rattle.std.proofs.lemmas.List.{length-map, take-map}
-use Rattle.partial_keys.proofs.Closing.{all-closed, all-end, all-kept, all-start, squeezed_from}
+use Rattle.partial_keys.proofs.Squeezed.Closing.{all-closed, all-end, all-kept, all-start, squeezed_from}
 use Rattle.partial_keys.specs.Squeezed.{closed_row}
 use Rattle.compound_node.proofs.rows.squeeze_lanes.Goals as goal
 

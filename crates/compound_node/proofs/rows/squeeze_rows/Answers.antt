@@ -1,6 +1,6 @@
 -- A column that `used` has not got goes.
 use Rattle.std.proofs.Common.{ap, arith, map, sym, ◌+◌, ◌-◌, ◌∙◌, ◌≡◌}
-use Rattle.partial_keys.proofs.Closing.{all-closed, all-end, all-kept, all-start, squeezed_from}
+use Rattle.partial_keys.proofs.Squeezed.Closing.{all-closed, all-end, all-kept, all-start, squeezed_from}
 use Rattle.partial_keys.specs.Squeezed.{closed_row}
 use Rattle.compound_node.proofs.rows.squeeze_rows.Goals as goal
 

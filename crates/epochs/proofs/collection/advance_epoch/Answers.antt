@@ -1,5 +1,5 @@
 -- Two steps, or at the last epoch one.
-use Rattle.epochs.proofs.Advancing.{advanced, stayed}
+use Rattle.epochs.proofs.collection.Advancing.{advanced, stayed}
 use Rattle.epochs.proofs.collection.advance_epoch.Goals as goal
 
 pub returns-then-expected-lt-EPOCHS-clause-steps : goal.returns-then-expected-lt-EPOCHS-clause-steps

@@ -1,5 +1,5 @@
 -- The parts of a round make the whole; its beginning alone is one that is spared.
-use Rattle.epochs.proofs.Whole.{round_of, spared_of}
+use Rattle.epochs.proofs.Rounds.{round_of, spared_of}
 use Rattle.epochs.proofs.collection.collect_if_risen.Goals as goal
 
 pub returns-then-bound-limbo-clause-spared : goal.returns-then-bound-limbo-clause-spared

@@ -1,5 +1,5 @@
 -- The parts of a round make the whole.
-use Rattle.epochs.proofs.Whole.{round_of}
+use Rattle.epochs.proofs.Rounds.{round_of}
 use Rattle.epochs.proofs.collection.collect_round.Goals as goal
 
 pub returns-clause-round : goal.returns-clause-round

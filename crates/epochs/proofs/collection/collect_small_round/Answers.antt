@@ -1,5 +1,5 @@
 -- The parts of a small round make the whole.
-use Rattle.epochs.proofs.Whole.{small_round_of}
+use Rattle.epochs.proofs.Rounds.{small_round_of}
 use Rattle.epochs.proofs.collection.collect_small_round.Goals as goal
 
 pub returns-clause-round : goal.returns-clause-round

@@ -1,6 +1,6 @@
 -- No pin, and one pin more.
 use Rattle.std.proofs.Common.{rules}
-use Rattle.epochs.proofs.Bounding.{bound_none, bound_more, finds_none, finds_more}
+use Rattle.epochs.proofs.Rounds.Bounding.{bound_none, bound_more, finds_none, finds_more}
 use Rattle.epochs.proofs.collection.find_bound.Goals as goal
 
 pub loop-pass-init : goal.loop-pass-init

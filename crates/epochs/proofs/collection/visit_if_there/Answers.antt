@@ -1,5 +1,5 @@
 -- One visit, or none.
-use Rattle.epochs.proofs.Visiting.{some_none, some_one}
+use Rattle.epochs.proofs.collection.Visiting.{some_none, some_one}
 use Rattle.epochs.proofs.collection.visit_if_there.Goals as goal
 
 pub returns-then-not-has_record-clause-steps : goal.returns-then-not-has_record-clause-steps

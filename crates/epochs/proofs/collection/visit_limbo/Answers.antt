@@ -1,6 +1,6 @@
 -- One visit more, and the end of them.
 use Rattle.std.proofs.Common.{rules, arith}
-use Rattle.epochs.proofs.Visiting.{some_append, some_none}
+use Rattle.epochs.proofs.collection.Visiting.{some_append, some_none}
 use Rattle.epochs.proofs.collection.visit_limbo.Goals as goal
 
 pub loop-index-init : goal.loop-index-init

@@ -1,7 +1,7 @@
 -- A visit, with an exchange or without one.
 use Rattle.std.proofs.Common.{Bool, sym, subst}
 use Rattle.epochs.specs.Rounds.{VisitsOne}
-use Rattle.epochs.proofs.Visiting.{visit_passes, visit_tries}
+use Rattle.epochs.proofs.collection.Visiting.{visit_passes, visit_tries}
 use Rattle.epochs.proofs.collection.visit_record.Goals as goal
 
 pub returns-in_default-clause-steps : goal.returns-in_default-clause-steps

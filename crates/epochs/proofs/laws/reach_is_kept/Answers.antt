@@ -1,5 +1,5 @@
 -- The law reach_is_kept.
-use Rattle.epochs.proofs.Reaching.{reach_is_kept}
+use Rattle.epochs.proofs.Reach.{reach_is_kept}
 use Rattle.epochs.proofs.laws.reach_is_kept.Goals as goal
 
 pub returns : goal.returns

@@ -1,5 +1,5 @@
 -- The law runs_keep_reach.
-use Rattle.epochs.proofs.Reaching.{runs_keep_reach}
+use Rattle.epochs.proofs.Reach.{runs_keep_reach}
 use Rattle.epochs.proofs.laws.runs_keep_reach.Goals as goal
 
 pub returns : goal.returns

@@ -1,5 +1,5 @@
 -- Two steps.
-use Rattle.epochs.proofs.Doing.{does_two}
+use Rattle.epochs.proofs.Runs.{does_two}
 use Rattle.epochs.proofs.pinning.pin.Goals as goal
 
 pub returns-clause-steps : goal.returns-clause-steps

@@ -1,7 +1,7 @@
 -- The count is made on the handle's pass.
 use Rattle.std.proofs.Common.{refl}
-use Rattle.hot_c.proofs.Answered.{of_key}
-use Rattle.hot_c.proofs.Numbered.{counted}
+use Rattle.hot_c.proofs.Statuses.{of_key}
+use Rattle.hot_c.proofs.counting.Counting.{counted}
 use Rattle.hot_c.proofs.counting.hot_count.Goals as goal
 
 pub returns-clause-call : goal.returns-clause-call

@@ -1,6 +1,6 @@
 -- The pair that the scan found is told.
 use Rattle.std.proofs.Common.{refl}
-use Rattle.hot_c.proofs.Found.{found, unfound}
+use Rattle.hot_c.proofs.ends.Ends.{found, unfound}
 use Rattle.hot_c.proofs.ends.find_pair.Goals as goal
 
 pub returns-in-Ok-clause-call : goal.returns-in-Ok-clause-call

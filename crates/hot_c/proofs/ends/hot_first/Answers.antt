@@ -1,6 +1,6 @@
 -- The first pair is the one that a scan up to the last key of all finds.
 use Rattle.std.proofs.Common.{arith}
-use Rattle.hot_c.proofs.Found.{as_fit}
+use Rattle.hot_c.proofs.ends.Ends.{as_fit}
 use Rattle.hot_c.proofs.ends.hot_first.Goals as goal
 
 pub returns : goal.returns

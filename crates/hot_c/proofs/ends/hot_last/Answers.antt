@@ -1,6 +1,6 @@
 -- The last pair is the one that a scan downwards to the first key of all finds.
 use Rattle.std.proofs.Common.{arith}
-use Rattle.hot_c.proofs.Found.{as_fit}
+use Rattle.hot_c.proofs.ends.Ends.{as_fit}
 use Rattle.hot_c.proofs.ends.hot_last.Goals as goal
 
 pub returns : goal.returns

@@ -1,7 +1,7 @@
 -- The handles are open on the new index.
 use Rattle.std.proofs.Common.{inl, refl}
 use Rattle.hot_c.specs.Calls.{HasCounts}
-use Rattle.hot_c.proofs.Shares.{have_opened}
+use Rattle.hot_c.proofs.opening.Shares.{have_opened}
 use Rattle.hot_c.proofs.exports.hot_create.Goals as goal
 
 pub returns-in-Ok-clause-made : goal.returns-in-Ok-clause-made

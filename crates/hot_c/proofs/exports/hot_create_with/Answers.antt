@@ -3,7 +3,7 @@ use Rattle.std.proofs.Common.{inl, refl}
 use Rattle.record_words.specs.Layout.{HasStock}
 use Rattle.hot_index.specs.Kept.{kept_stock}
 use Rattle.hot_c.specs.Stocks.{stock_in}
-use Rattle.hot_c.proofs.Shares.{have_opened}
+use Rattle.hot_c.proofs.opening.Shares.{have_opened}
 use Rattle.hot_c.proofs.exports.hot_create_with.Goals as goal
 
 pub returns-in-Ok-clause-made : goal.returns-in-Ok-clause-made

@@ -2,7 +2,7 @@
 use Rattle.std.proofs.Common.{◌≡◌, ◌∙◌, length, map, ap, refl, arith}
 use Rattle.std.proofs.lemmas.List.{length-map}
 use Rattle.hot_c.specs.Lookups.{are_answered, key_in}
-use Rattle.hot_c.proofs.LookedUp.{first_of, looked_up}
+use Rattle.hot_c.proofs.lookups.Lookups.{first_of, looked_up}
 use Rattle.hot_c.proofs.exports.hot_get_many.Goals as goal
 
 pub returns-clause-call : goal.returns-clause-call

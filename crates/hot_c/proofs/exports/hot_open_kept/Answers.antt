@@ -2,7 +2,7 @@
 use Rattle.std.proofs.Common.{◌≡◌, [], Some, MatchOption, inl, inr, refl, sym, ◌∙◌, subst}
 use Rattle.hot_c.specs.declared.opened.Opened.{Opened}
 use Rattle.hot_c.specs.Calls.{HasOpenedNext, KeepsAll}
-use Rattle.hot_c.proofs.Places.{same}
+use Rattle.hot_c.proofs.opening.Places.{same}
 use Rattle.hot_c.proofs.exports.hot_open_kept.Goals as goal
 
 pub returns-in-Ok-Some-clause-opened : goal.returns-in-Ok-Some-clause-opened

@@ -1,6 +1,6 @@
 -- The layout that was made is the one of the stock, with the node record that is kept.
 use Rattle.std.proofs.Common.{◌≡◌, ◌∙◌, refl, sym}
-use Rattle.hot_index.proofs.Making.{kept_has}
+use Rattle.hot_index.proofs.Passes.{kept_has}
 use Rattle.hot_c.proofs.exports.hot_stock_bytes.Goals as goal
 
 pub returns-in-Ok-with_stock-clause-done : goal.returns-in-Ok-with_stock-clause-done

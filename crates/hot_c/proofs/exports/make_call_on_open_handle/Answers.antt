@@ -1,6 +1,6 @@
 -- The call is made on the handle's pass.
 use Rattle.std.proofs.Common.{length, refl}
-use Rattle.hot_c.proofs.Answered.{answered, for_size, told_may}
+use Rattle.hot_c.proofs.Statuses.{answered, for_size, told_may}
 use Rattle.hot_c.proofs.exports.make_call_on_open_handle.Goals as goal
 
 pub returns-clause-call : goal.returns-clause-call

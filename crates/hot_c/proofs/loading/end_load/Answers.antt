@@ -4,9 +4,9 @@ use Rattle.record_words.specs.declared.layout.Layout.{Layout}
 use Rattle.tries.specs.Content.{pairs}
 use Rattle.hot_index.specs.Loads.{IsPassOfLoad}
 use Rattle.hot_index_calls.specs.Passes.{Owns}
-use Rattle.load_handles.specs.declared.open_load.OpenLoad.{OpenLoad}
+use Rattle.hot_handles.specs.declared.load.open_load.OpenLoad.{OpenLoad}
 use Rattle.hot_c.specs.Loads.{KeepsLoadedPasses}
-use Rattle.hot_c.proofs.Keepers.{all_of, passes_kept}
+use Rattle.hot_c.proofs.opening.Keepers.{all_of, passes_kept}
 use Rattle.hot_c.proofs.loading.end_load.Goals as goal
 
 pub keep_passes-requires : goal.keep_passes-requires

@@ -1,7 +1,7 @@
 -- The pair is given to the load that was lent.
 use Rattle.std.proofs.Common.{refl}
-use Rattle.hot_c.proofs.Answered.{of_key}
-use Rattle.hot_c.proofs.Pushed.{given_pair}
+use Rattle.hot_c.proofs.Statuses.{of_key}
+use Rattle.hot_c.proofs.Loads.{given_pair}
 use Rattle.hot_c.proofs.loading.hot_load_pair.Goals as goal
 
 pub returns-in-Ok : goal.returns-in-Ok

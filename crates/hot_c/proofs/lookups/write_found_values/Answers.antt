@@ -1,6 +1,6 @@
 -- One look-up more is answered.
 use Rattle.std.proofs.Common.{arith}
-use Rattle.hot_c.proofs.LookedUp.{none_answered, one_answered}
+use Rattle.hot_c.proofs.lookups.Lookups.{none_answered, one_answered}
 use Rattle.hot_c.proofs.lookups.write_found_values.Goals as goal
 
 pub loop-place-init : goal.loop-place-init

@@ -4,7 +4,7 @@ use Rattle.record_words.specs.declared.layout.Layout.{Layout}
 use Rattle.hot_index.specs.Kept.{kept_stock}
 use Rattle.hot_index_calls.specs.Passes.{IsNewPass, Owns}
 use Rattle.hot_c.specs.Calls.{IsKeeper}
-use Rattle.hot_c.proofs.Keepers.{all_of, passes_kept, told_as}
+use Rattle.hot_c.proofs.opening.Keepers.{all_of, passes_kept, told_as}
 use Rattle.hot_c.proofs.opening.make_keeper.Goals as goal
 
 pub keep_passes-requires : goal.keep_passes-requires

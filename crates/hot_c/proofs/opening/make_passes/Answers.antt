@@ -1,6 +1,6 @@
 -- The passes are those of the new index.
 use Rattle.hot_c.specs.Calls.{HasCounts}
-use Rattle.hot_c.proofs.Shares.{are_new}
+use Rattle.hot_c.proofs.opening.Shares.{are_new}
 use Rattle.hot_c.proofs.opening.make_passes.Goals as goal
 
 pub returns-clause-made : goal.returns-clause-made

@@ -1,7 +1,7 @@
 -- The passes are those of the new index.
 use Rattle.record_words.specs.Layout.{HasStock}
 use Rattle.hot_index.specs.Kept.{kept_stock}
-use Rattle.hot_c.proofs.Shares.{are_new}
+use Rattle.hot_c.proofs.opening.Shares.{are_new}
 use Rattle.hot_c.proofs.opening.make_passes_with_stock.Goals as goal
 
 pub returns-clause-made : goal.returns-clause-made

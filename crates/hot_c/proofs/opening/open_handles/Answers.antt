@@ -2,15 +2,15 @@
 use Rattle.std.proofs.Common.{◌≡◌, ◌+◌, ◌<◌, ◌∙◌, None, Some, All, ap, sym, subst, length, drop, arith}
 use Rattle.std.proofs.lemmas.List.{drop-set-lt, length-set}
 use Rattle.std.specs.Vec.Iter.{into_iter_items}
-use Rattle.hot_c.specs.declared.handle.Handle.{Handle}
-use Rattle.hot_c.proofs.Places.{alike, all_after, first_after, one_less, same_image}
+use Rattle.hot_c.specs.declared.handle.IndexHandle.{IndexHandle}
+use Rattle.hot_c.proofs.opening.Places.{alike, all_after, first_after, one_less, same_image}
 use Rattle.hot_c.proofs.opening.open_handles.Goals as goal
 
 pub open-requires : goal.open-requires
 open-requires c =
     let at = c.loop-opened in
     let shorter = ap length c.in-Some.ensures.steps.0 in
-    first_after (λ (h : Handle). h.slot.opened ≡ None) at.place at.handles c.index-handles-place.result (omega (arith, shorter, at.invariant.count)) at.invariant.closed
+    first_after (λ (h : IndexHandle). h.cell.opened ≡ None) at.place at.handles c.index-handles-place.result (omega (arith, shorter, at.invariant.count)) at.invariant.closed
 
 pub loop-opened-preserved : goal.loop-opened-preserved
 loop-opened-preserved c =
@@ -27,9 +27,9 @@ loop-opened-preserved c =
       long = omega (arith, long, less, shorter);
       count = omega (arith, count, shorter, kept);
       left = sym (one_less at.place c.args.passes.items ∙ ap (drop 1) (sym at.invariant.left ∙ steps));
-      done = alike (λ (h : Handle). h.slot.opened) (λ b. Some b.value) at.place at.handles c.args.passes.items opened c.in-Some.opened (into_iter_items c.next.new.self) inside
+      done = alike (λ (h : IndexHandle). h.cell.opened) (λ b. Some b.value) at.place at.handles c.args.passes.items opened c.in-Some.opened (into_iter_items c.next.new.self) inside
           (sym at.invariant.left ∙ steps) c.open.ensures.opened at.invariant.done;
-      closed = subst (All (λ (h : Handle). h.slot.opened ≡ None)) (sym (drop-set-lt (at.place + 1) at.handles at.place opened (omega arith)))
-          (all_after (λ (h : Handle). h.slot.opened ≡ None) at.place at.handles at.invariant.closed);
-      places = same_image (λ (h : Handle). h.place) at.place at.handles opened c.index-handles-place.result inside c.open.ensures.place ∙ at.invariant.places;
+      closed = subst (All (λ (h : IndexHandle). h.cell.opened ≡ None)) (sym (drop-set-lt (at.place + 1) at.handles at.place opened (omega arith)))
+          (all_after (λ (h : IndexHandle). h.cell.opened ≡ None) at.place at.handles at.invariant.closed);
+      places = same_image (λ (h : IndexHandle). h.place) at.place at.handles opened c.index-handles-place.result inside c.open.ensures.place ∙ at.invariant.places;
     }

@@ -7,7 +7,7 @@ use Rattle.hot_index.specs.Handles.{HandleView}
 use Rattle.hot_index_calls.specs.Passes.{PassView, Owns, IsNewPass}
 use Rattle.rowex_table.specs.Seats.{TableView}
 use Rattle.hot_c.specs.declared.opened.Opened.{Opened}
-use Rattle.hot_c.proofs.Places.{AreFrom, each_longer, first_of, rest_of}
+use Rattle.hot_c.proofs.opening.Places.{AreFrom, each_longer, first_of, rest_of}
 use Rattle.hot_c.proofs.opening.share_index.Goals as goal
 
 pub new-handle-requires : goal.new-handle-requires

@@ -4,7 +4,7 @@ use Rattle.std.specs.Global.{Global}
 use Rattle.std.specs.Vec.Iter.{into_iter_items, into_iter_len}
 use Rattle.hot_index_calls.specs.Passes.{PassView, Owns, IsNewPass}
 use Rattle.hot_c.specs.declared.opened.Opened.{Opened}
-use Rattle.hot_c.proofs.Places.{AreFrom}
+use Rattle.hot_c.proofs.opening.Places.{AreFrom}
 use Rattle.hot_c.proofs.opening.share_index.Given as goal
 
 abbrev pub invariant-loop-pass : goal.invariant-loop-pass

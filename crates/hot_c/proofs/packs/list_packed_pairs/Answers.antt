@@ -5,7 +5,7 @@ use Rattle.packed_pairs.specs.Parts.{fitting, keys_in}
 use Rattle.packed_pairs.proofs.Fits.{few_fit, room_fits}
 use Rattle.hot_c.specs.Orders.{IsFilledIn}
 use Rattle.hot_c.specs.Packs.{IsListedByParts}
-use Rattle.hot_c.proofs.Listed.{by_parts, count_here, few_here, listed, made_here}
+use Rattle.hot_c.proofs.Orders.{by_parts, count_here, few_here, listed, made_here}
 use Rattle.hot_c.proofs.packs.list_packed_pairs.Goals as goal
 use Rattle.hot_c.proofs.packs.list_packed_pairs.Goals.{in-Ok, in-Err, then-is_more, else-is_more}
 

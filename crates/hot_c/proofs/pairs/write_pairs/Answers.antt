@@ -1,5 +1,5 @@
 -- One pair more is written.
-use Rattle.hot_c.proofs.Written.{all_written, one_more, others_kept}
+use Rattle.hot_c.proofs.pairs.Pairs.{all_written, one_more, others_kept}
 use Rattle.hot_c.proofs.pairs.write_pairs.Goals as goal
 
 pub loop-place-preserved : goal.loop-place-preserved

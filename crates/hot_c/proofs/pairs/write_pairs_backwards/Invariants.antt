@@ -1,7 +1,7 @@
 -- The last pairs are written, the last one first, and the iterator has the others.
 use Rattle.std.specs.Iterator.Adapters.{enumerate_count, enumerate_source, rev_source}
 use Rattle.std.specs.Prelude.{reverse}
-use Rattle.hot_c.proofs.Written.{HasWritten}
+use Rattle.hot_c.proofs.pairs.Pairs.{HasWritten}
 use Rattle.hot_c.proofs.pairs.write_pairs_backwards.Given as goal
 
 abbrev pub invariant-loop-place : goal.invariant-loop-place

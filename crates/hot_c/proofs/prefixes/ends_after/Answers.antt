@@ -1,6 +1,6 @@
 -- The range begins at the key after the other one, or at the prefix.
 use Rattle.std.proofs.Common.{rules, refl, sym, ◌∙◌}
-use Rattle.hot_c.proofs.Prefixed.{from_next, from_start, none_after}
+use Rattle.hot_c.proofs.prefixes.Prefixes.{from_next, from_start, none_after}
 use Rattle.hot_c.proofs.prefixes.ends_after.Goals as goal
 
 pub returns-in-Less-clause-range : goal.returns-in-Less-clause-range

@@ -1,6 +1,6 @@
 -- The range ends at the key before the other one, or at the last key with the prefix.
 use Rattle.std.proofs.Common.{rules, refl, sym, ◌∙◌}
-use Rattle.hot_c.proofs.Prefixed.{none_before, up_to_end, up_to_previous}
+use Rattle.hot_c.proofs.prefixes.Prefixes.{none_before, up_to_end, up_to_previous}
 use Rattle.hot_c.proofs.prefixes.ends_before.Goals as goal
 
 pub returns-in-Greater-clause-range : goal.returns-in-Greater-clause-range

@@ -1,7 +1,7 @@
 -- The range that is listed has exactly the keys with the prefix that are below the other one.
 use Rattle.std.proofs.Common.{IsOk, refl, subst, sym}
 use Rattle.hot_c.specs.Prefixes.{HasPrefixBelow}
-use Rattle.hot_c.proofs.Prefixed.{rest_listed}
+use Rattle.hot_c.proofs.prefixes.Prefixes.{rest_listed}
 use Rattle.hot_c.proofs.prefixes.hot_scan_prefix_before.Goals as goal
 
 pub returns-clause-call : goal.returns-clause-call

@@ -1,7 +1,7 @@
 -- The scan is made on the handle's pass.
 use Rattle.std.proofs.Common.{refl}
-use Rattle.hot_c.proofs.Answered.{of_key}
-use Rattle.hot_c.proofs.Listed.{filled, unfilled}
+use Rattle.hot_c.proofs.Statuses.{of_key}
+use Rattle.hot_c.proofs.Orders.{filled, unfilled}
 use Rattle.hot_c.proofs.scans.fill_list.Goals as goal
 
 pub returns-in-Ok-clause-ok : goal.returns-in-Ok-clause-ok

@@ -1,7 +1,7 @@
 -- The pairs of the list stand in the array.
 use Rattle.std.proofs.Common.{rules, ◌≡◌, ◌≤◌, ◌∙◌, length, drop, refl, subst, sym}
 use Rattle.hot_c.specs.Orders.{IsListedIn, in_order}
-use Rattle.hot_c.proofs.Listed.{as_many, count_here, few_here, in_its_order, listed, made_here}
+use Rattle.hot_c.proofs.Orders.{as_many, count_here, few_here, in_its_order, listed, made_here}
 use Rattle.hot_c.proofs.scans.list_pairs_of_query.Goals as goal
 
 pub write_pairs_in_order-requires : goal.write_pairs_in_order-requires

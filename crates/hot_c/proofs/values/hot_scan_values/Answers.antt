@@ -1,7 +1,7 @@
 -- The scan is made on the handle's pass, and its values stand in the array.
 use Rattle.std.proofs.Common.{◌≡◌, ◌++◌, List, ℕ, arith, rules, length, drop, ap, refl, subst}
-use Rattle.hot_c.proofs.Answered.{of_key}
-use Rattle.hot_c.proofs.Numbered.{values_listed, values_refused}
+use Rattle.hot_c.proofs.Statuses.{of_key}
+use Rattle.hot_c.proofs.counting.Counting.{values_listed, values_refused}
 use Rattle.hot_c.proofs.values.hot_scan_values.Goals as goal
 
 pub write_values-requires : goal.write_values-requires

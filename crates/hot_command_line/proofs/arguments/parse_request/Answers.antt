@@ -10,8 +10,8 @@ use Rattle.clap.specs.declared.builder.arg.Arg.{Arg}
 use Rattle.clap.specs.declared.builder.command.Command.{Command}
 use Rattle.record_words.specs.declared.TheConstants.{MAX_LEAVES, MAX_NODES}
 use Rattle.hot_command_line.specs.Options.{IsArgument, command_line, count_rule, names_rule}
-use Rattle.hot_command_line.proofs.Given.{faultless_at, few_named, many_named, names_given, number_given, refused_so, rows_are}
-use Rattle.hot_command_line.proofs.Ranges.{InRange-other, IsOpen-added, IsOpen-new, option_parsed, or_in_range}
+use Rattle.hot_command_line.proofs.arguments.Arguments.{faultless_at, few_named, many_named, names_given, number_given, refused_so, rows_are}
+use Rattle.hot_command_line.proofs.arguments.Ranges.{InRange-other, IsOpen-added, IsOpen-new, option_parsed, or_in_range}
 use Rattle.hot_command_line.proofs.arguments.parse_request.Goals as goal
 
 -- two texts whose first bytes differ

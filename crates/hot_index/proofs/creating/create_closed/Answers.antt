@@ -4,7 +4,7 @@ use Rattle.std.proofs.Common.{◌≡◌, ◌∙◌}
 use Rattle.record_words.specs.Layout.{HasStock}
 use Rattle.record_words.specs.declared.layout.Layout.{Layout}
 use Rattle.hot_index.specs.Kept.{kept_stock}
-use Rattle.hot_index.proofs.Making.{kept_has, made_kept, told_as_found}
+use Rattle.hot_index.proofs.Passes.{kept_has, made_kept, told_as_found}
 use Rattle.hot_index.proofs.creating.create_closed.Goals as goal
 
 pub returns-clause-passes : goal.returns-clause-passes

@@ -3,7 +3,7 @@ use Rattle.std.proofs.Common.{◌≡◌, ◌∷◌, [], ◌++◌, append_assoc, 
 use Rattle.std.specs.Vec.Iter.{into_iter_items}
 use Rattle.hot_index_calls.specs.Passes.{pass_of}
 use Rattle.hot_index.specs.Passes.{AreSettled}
-use Rattle.hot_index.proofs.Making.{none_settled}
+use Rattle.hot_index.proofs.Passes.{none_settled}
 use Rattle.hot_index.proofs.creating.make_closed_passes.Goals as goal
 
 pub invariant_of-push : goal.invariant_of-push

@@ -1,6 +1,6 @@
 -- No count yet, one more, and all.
 use Rattle.std.proofs.Common.{rules, arith}
-use Rattle.hot_index.proofs.Sizes.{all_below, none_below, one_more_below}
+use Rattle.hot_index.proofs.key_counts.KeyCounts.{all_below, none_below, one_more_below}
 use Rattle.hot_index.proofs.key_counts.total.Goals as goal
 
 pub loop-place-init : goal.loop-place-init

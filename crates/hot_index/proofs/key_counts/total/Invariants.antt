@@ -2,7 +2,7 @@
 use Rattle.std.proofs.Common.{◌<◌, ◌^◌, List}
 use Rattle.finite_map.specs.declared.Change.{Change}
 use Rattle.hot_index.specs.KeyCounts.{AreCounts, IsDifference, puts, takes}
-use Rattle.hot_index.proofs.Sizes.{of_below}
+use Rattle.hot_index.proofs.key_counts.KeyCounts.{of_below}
 use Rattle.hot_index.proofs.key_counts.total.Given as goal
 
 abbrev pub invariant-loop-place : goal.invariant-loop-place

@@ -1,5 +1,5 @@
 -- The law all_long_full_is_full.
-use Rattle.hot_index.proofs.Longs.{all_long_full_is_full}
+use Rattle.hot_index.proofs.laws.Longs.{all_long_full_is_full}
 use Rattle.hot_index.proofs.laws.all_long_full_is_full.Goals as goal
 
 pub returns : goal.returns

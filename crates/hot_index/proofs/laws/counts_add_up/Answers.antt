@@ -1,5 +1,5 @@
 -- The law counts_add_up.
-use Rattle.hot_index.proofs.Counted.{counts_add_up}
+use Rattle.hot_index.proofs.KeyCounts.Counted.{counts_add_up}
 use Rattle.hot_index.proofs.laws.counts_add_up.Goals as goal
 
 pub returns : goal.returns

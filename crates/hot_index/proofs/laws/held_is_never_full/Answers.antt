@@ -1,5 +1,5 @@
 -- The law held_is_never_full.
-use Rattle.hot_index.proofs.Held.{held_is_never_full}
+use Rattle.hot_index.proofs.Statements.Held.{held_is_never_full}
 use Rattle.hot_index.proofs.laws.held_is_never_full.Goals as goal
 
 pub returns : goal.returns

@@ -1,5 +1,5 @@
 -- The law one_pass_keeps_spare.
-use Rattle.hot_index.proofs.Spared.{collects, counts, new_has_spare, reads, shown}
+use Rattle.hot_index.proofs.laws.Spared.{collects, counts, new_has_spare, reads, shown}
 use Rattle.hot_index.proofs.laws.one_pass_keeps_spare.Goals as goal
 
 pub returns : goal.returns

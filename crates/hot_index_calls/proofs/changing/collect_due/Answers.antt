@@ -1,7 +1,7 @@
 -- A small round, or nothing.
-use Rattle.hot_index_calls.proofs.Roomy.{small_spare}
+use Rattle.hot_index_calls.proofs.Rooms.{small_spare}
 use Rattle.std.proofs.Common.{inl, inr, refl}
-use Rattle.hot_index_calls.proofs.Collected.{does_idle}
+use Rattle.hot_index_calls.proofs.Passes.Collected.{does_idle}
 use Rattle.hot_index_calls.proofs.changing.collect_due.Goals as goal
 
 pub returns-then-is_due-clause-idle : goal.returns-then-is_due-clause-idle

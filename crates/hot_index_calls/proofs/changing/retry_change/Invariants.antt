@@ -1,12 +1,12 @@
 -- So far each try was refused, and none of these refusals is final; and together they are not noted.
-use Rattle.lone_runs.specs.Lone.{KeepsSpare}
+use Rattle.publish_laws.specs.Lone.{KeepsSpare}
 use Rattle.std.specs.Prelude.{◌≡◌, List, []}
 use Rattle.hot_index_calls.specs.Asked.{IsIdle}
 use Rattle.hot_index_calls.specs.Calls.{AreTriesRefused}
 use Rattle.hot_index_calls.specs.Passes.{pass_of}
 use Rattle.hot_index_calls.specs.declared.refusals.Refusal.{Refusal}
-use Rattle.hot_index_calls.proofs.Tracing.{HasSteps}
-use Rattle.hot_index_calls.proofs.Trying.{HasWaited}
+use Rattle.hot_index_calls.proofs.Traces.{HasSteps}
+use Rattle.hot_index_calls.proofs.Counts.{HasWaited}
 use Rattle.hot_index_calls.proofs.changing.retry_change.Given as goal
 
 abbrev pub invariant-loop : goal.invariant-loop

@@ -1,7 +1,7 @@
 -- The try, and the count after it.
 use Rattle.rowex_writing.specs.declared.attempts.TryFault.TheVariants.{FullNodes}
-use Rattle.hot_index_calls.proofs.Roomy.{counts_spare, runs_longer}
-use Rattle.std.proofs.Common.{◌≡◌, ◌+◌, ◌∙◌, ℕ, List, Err, length, ap, inl, refl, sym, subst, arith}
+use Rattle.hot_index_calls.proofs.Rooms.{counts_spare, runs_longer}
+use Rattle.std.proofs.Common.{◌≡◌, ◌≤◌, ◌+◌, ◌∙◌, ℕ, List, Err, length, ap, inl, refl, sym, subst, arith}
 use Rattle.std.proofs.lemmas.Bool.{false≢true}
 use Rattle.finite_map.specs.Maps.{key_of}
 use Rattle.record_words.specs.declared.layout.Layout.{Layout}
@@ -15,13 +15,16 @@ use Rattle.hot_index_calls.specs.Asked.{HasAsked, HasLacked, HasReplied}
 use Rattle.hot_index_calls.specs.Calls.{IsTried}
 use Rattle.hot_index_calls.specs.Census.{loads_in}
 use Rattle.hot_index_calls.specs.Passes.{pass_of}
-use Rattle.hot_index_calls.specs.Refusals.{AreAllAtRest, IsLeftOne, Judges, fault_in}
+use Rattle.hot_index_calls.specs.Refusals.{AreAllAtRest, IsLeftOne, IsShortOf, Judges, fault_in}
 use Rattle.hot_index_calls.specs.Rooms.{FindsRoom, IsEarly}
 use Rattle.hot_index_calls.specs.Traces.{AreAttempts, is_full}
-use Rattle.hot_index_calls.proofs.Resting.{lacked_full}
-use Rattle.hot_index_calls.proofs.Settled.{counts_rest}
+use Rattle.hot_index_calls.proofs.changing.Resting.{lacked_full}
+use Rattle.hot_index_calls.specs.Lacking.{LeavesUsed}
+use Rattle.key_bits.specs.declared.TheConstants.{MAX_BYTES}
+use Rattle.hot_index_calls.proofs.Lacked.{counts_short}
+use Rattle.hot_index_calls.proofs.Passes.Settled.{counts_rest}
 use Rattle.hot_index_calls.proofs.Refusing.{counted_replied, judged_fault, nodes_most, stepped_on, told_after}
-use Rattle.hot_index_calls.proofs.Trying.{has_tried}
+use Rattle.hot_index_calls.proofs.Counts.{has_tried}
 use Rattle.hot_index_calls.proofs.changing.try_and_count.Goals as goal
 
 pub try_change-requires : goal.try_change-requires
@@ -108,10 +111,15 @@ returns-else-is_left_one-clause-tried g c =
     omega (arith, c.saturating_add-needs.ensures, c.count_node_records.ensures, ap (λ (l : List Rec). length (nodes_among l)) c.as_slice.ensures.value, nodes_most c.as_slice.result.now, c.as_slice.ensures.fits) in
     let steps = c.count_records-counts.ensures.steps in
     let full = ap (λ (f : TryFault). is_full (Err f)) c.in-Some.ensures.some ∙ lacked_full c.in-Some.lacks in
-    let rest : table.layout.passes ≡ 1 → IsEarly c.count_records-counts.new.seat → AreAllAtRest c.count_records-counts.result = λ one early.
+    let rest : table.layout.passes ≡ 1 → IsEarly c.count_records-counts.new.seat → AreAllAtRest c.count_records-counts.result × IsShortOf c.in-Some.lacks c.saturating_add-needs.result (length (key_of call)) c.count_records-counts.result = λ one early.
     let longer = runs_longer table g.G.Gate.becomes (loads_in table.layout steps.0) (c.try_change.new.seat, c.try_change.new.gate) (c.count_records-counts.new.seat, c.count_records-counts.new.gate) steps.3.steps in
-    subst AreAllAtRest (sym steps.2)
-    (counts_rest table g.G.Gate.becomes one steps.0 (c.try_change.new.seat, c.try_change.new.gate) (c.count_records-counts.new.seat, c.count_records-counts.new.gate) steps.3.steps asked.replied.idle.1.own (c.in-Err.ensures.none one full (omega (arith, early, longer)))) in
+    let all = counts_rest table g.G.Gate.becomes one steps.0 (c.try_change.new.seat, c.try_change.new.gate) (c.count_records-counts.new.seat, c.count_records-counts.new.gate) steps.3.steps asked.replied.idle.1.own (c.in-Err.ensures.none one full (omega (arith, early, longer))) in
+    let key : length (key_of call) ≤ MAX_BYTES = subst (λ (k : List ℕ). length k ≤ MAX_BYTES) c.key.ensures c.as_bytes-size.ensures.key.short in
+    let used = subst (λ (f : TryFault). LeavesUsed table.layout (key_of call) (nodes_among c.try_change.new.scratch.build.made.items) (Err f) c.try_change.new.seat) c.in-Some.ensures.some c.in-Err.ensures.used in
+    subst (λ z. AreAllAtRest z × IsShortOf c.in-Some.lacks c.saturating_add-needs.result (length (key_of call)) z) (sym steps.2) (
+      all,
+      counts_short table g.G.Gate.becomes one steps.0 (c.try_change.new.seat, c.try_change.new.gate) (c.count_records-counts.new.seat, c.count_records-counts.new.gate) steps.1 steps.3.steps (key_of call) key (nodes_among c.try_change.new.scratch.build.made.items) c.in-Some.lacks used all c.saturating_add-needs.result needs,
+    ) in
     let other = λ (left : IsLeftOne table.layout.passes call). false≢true (sym c.if-is_left_one.false ∙ c.is_left_one.ensures.1 (subst (λ (l : Layout). IsLeftOne l.passes call) (sym c.layout-passes.ensures) left)) in
     record {
       mid = (pass_of c.try_change.new.seat, c.try_change.new.gate);

@@ -1,5 +1,5 @@
 -- A small round or nothing, and then the tries.
-use Rattle.hot_index_calls.proofs.Trying.{tidied_asked, tidied_few, tidied_lacks}
+use Rattle.hot_index_calls.proofs.Counts.{tidied_asked, tidied_few, tidied_lacks}
 use Rattle.hot_index_calls.proofs.changing.try_change.Goals as goal
 
 pub returns : goal.returns
@@ -10,4 +10,5 @@ returns g c = record {
   spares = λ was. c.try_twice.ensures.spares (c.collect_due.ensures.spares was);
   room = λ removal one was early. c.try_twice.ensures.room removal one (c.collect_due.ensures.spares was) early;
   none = c.try_twice.ensures.none;
+  used = c.try_twice.ensures.used;
 }

@@ -1,9 +1,9 @@
 -- Where the first attempt was refused as full, a round follows; and what the second leaves is what the whole call leaves.
-use Rattle.hot_index_calls.proofs.Roomy.{collecting_room, collecting_still, collects_spare, ended_longer, runs_longer}
+use Rattle.hot_index_calls.proofs.Rooms.{collecting_room, collecting_still, collects_spare, ended_longer, runs_longer}
 use Rattle.std.proofs.Common.{◌≤◌, ◌∙◌, ◌∷◌, Result, Err, inl, inr, refl, sym, ap, subst, le_trans, arith}
 use Rattle.finite_map.specs.declared.Reply.{Reply}
 use Rattle.finite_map.specs.Maps.{key_of}
-use Rattle.finite_map.proofs.Growth.{begins_on}
+use Rattle.finite_map.proofs.Fronts.{begins_on}
 use Rattle.rowex_core.specs.declared.known.Fresh.{Fresh}
 use Rattle.rowex_core.specs.declared.known.Known.{Known}
 use Rattle.rowex_writing.specs.declared.attempts.TryFault.{TryFault}
@@ -14,12 +14,17 @@ use Rattle.std.proofs.lemmas.Bool.{false≢true}
 use Rattle.rowex_writing.specs.build.Changes.{LacksNodes}
 use Rattle.rowex_writing.specs.build.Walks.{nodes_among}
 use Rattle.hot_index_calls.specs.Passes.{pass_of}
-use Rattle.hot_index_calls.proofs.Collected.{between, does_idle, none_between}
-use Rattle.hot_index_calls.proofs.Conflicts.{may_take_from_before, no_further}
-use Rattle.hot_index_calls.proofs.Resting.{cause_still, lacked_full, lacks_still}
-use Rattle.hot_index_calls.proofs.Settled.{full_unnoted, refused_still}
-use Rattle.hot_index_calls.proofs.Tracing.{ended_again}
-use Rattle.hot_index_calls.proofs.Trying.{full_fault, lacks_from_before, once_asked, once_few, outcome_then, round_later, then_collected, twice_few, unnoted_then}
+use Rattle.hot_index_calls.proofs.Passes.Collected.{between, does_idle, none_between}
+use Rattle.hot_index_calls.proofs.changing.Conflicts.{may_take_from_before, no_further}
+use Rattle.hot_index_calls.specs.Lacking.{LeavesUsed}
+use Rattle.hot_index_calls.proofs.Lacked.{none_lacked, rested_leaves}
+use Rattle.hot_index_calls.proofs.changing.Resting.{cause_still, lacked_full, lacks_still}
+use Rattle.hot_index_calls.proofs.Passes.Settled.{full_unnoted, refused_still}
+use Rattle.hot_index_calls.proofs.Traces.{ended_again}
+use Rattle.hot_index_calls.proofs.Counts.{full_fault, lacks_from_before, once_asked, once_few, outcome_then, round_later, then_collected, twice_few, unnoted_then}
+use Rattle.rowex_table.proofs.Onward.{begins_on as run_begins_on}
+use Rattle.rowex_writing.proofs.Cited.{runs_begin}
+use Rattle.hot_index_calls.proofs.Hindered.{ended_begin}
 use Rattle.hot_index_calls.proofs.changing.try_twice.Goals as goal
 
 pub make_attempt-requires : goal.make_attempt-requires
@@ -38,6 +43,7 @@ returns-in_default g c = record {
   spares = c.make_attempt-first.ensures.spares;
   room = λ removal one was early is. absurd (false≢true (sym (c.full_kind.ensures.none c.in_default.is) ∙ ap is_full is));
   none = λ one full early. absurd (false≢true (sym (c.full_kind.ensures.none c.in_default.is) ∙ full));
+  used = none_lacked c.args.table.now.layout (key_of c.args.call.now) _ c.make_attempt-first.result c.make_attempt-first.new.seat (c.full_kind.ensures.none c.in_default.is);
 }
 
 pub returns-then-collect_between : goal.returns-then-collect_between
@@ -50,7 +56,11 @@ returns-then-collect_between g c =
     let again = c.make_attempt.ensures.asked in
     let unnoted = first.replied.refused.refused.unnoted in
     let later = round_later k (c.make_attempt-first.new.seat, c.make_attempt-first.new.gate) (c.collect_between.new.seat, c.collect_between.new.gate) unnoted first.later first.replied.idle.1 round in
-    let both = outcome_then table.layout k (pass_of c.collect_between.new.seat) (pass_of c.make_attempt.new.seat) (then_collected k (c.make_attempt-first.new.seat, c.make_attempt-first.new.gate) (c.collect_between.new.seat, c.collect_between.new.gate) unnoted first.later first.replied.idle.1 round) later call c.make_attempt.result again.replied.noted again.replied.refused in
+    let both = outcome_then table.layout k (pass_of c.collect_between.new.seat) (pass_of c.make_attempt.new.seat) (then_collected k (c.make_attempt-first.new.seat, c.make_attempt-first.new.gate) (c.collect_between.new.seat, c.collect_between.new.gate) unnoted first.later first.replied.idle.1 round) later
+    (run_begins_on c.args.seat.now.trace c.make_attempt-first.new.seat.trace c.collect_between.new.seat.trace
+    (ended_begin table g.G.Gate.becomes (c.args.seat.now, c.args.gate.now) (c.make_attempt-first.new.seat, c.make_attempt-first.new.gate) first.ended)
+    (runs_begin table g.G.Gate.becomes (round.first ∷ round.rest) (c.make_attempt-first.new.seat, c.make_attempt-first.new.gate) (c.collect_between.new.seat, c.collect_between.new.gate) round.does.steps))
+    call c.make_attempt.result again.replied.noted again.replied.refused in
     record {
       asked = record {
         replied = record { idle = again.replied.idle; noted = both.0; refused = both.1; leafless = again.replied.leafless; loaded = le_trans later again.replied.loaded };
@@ -70,6 +80,7 @@ returns-then-collect_between g c =
           let idle = c.make_attempt-first.ensures.asked.replied.idle.1 in
           c.make_attempt.ensures.room removal
           (collecting_room c.args.table.now g.G.Gate.becomes (c.make_attempt-first.new.seat, c.make_attempt-first.new.gate) (c.collect_between.new.seat, c.collect_between.new.gate) c.collect_between.ensures.collects one idle.pin idle.own (omega (arith, early, longer, c.make_attempt.ensures.longer)) (c.make_attempt-first.ensures.spares was));
+      used = c.make_attempt.ensures.used;
       none = λ one full early.
           let longer = runs_longer c.args.table.now g.G.Gate.becomes (round.first ∷ round.rest) (c.make_attempt-first.new.seat, c.make_attempt-first.new.gate) (c.collect_between.new.seat, c.collect_between.new.gate) round.does.steps in
           let idle = c.make_attempt-first.ensures.asked.replied.idle in
@@ -123,6 +134,9 @@ returns g c =
       spares = λ was. c.pin_and_unpin.ensures.spares (collects_spare c.args.table.now g.G.Gate.becomes (c.make_attempt-first.new.seat, c.make_attempt-first.new.gate) (c.collect_between.new.seat, c.collect_between.new.gate) c.collect_between.ensures.collects (c.make_attempt-first.ensures.spares was));
       room = λ removal one was early is. elim (c.collect_between.ensures.not c.if-collect_between.false) [ inl plain ↦ absurd (false≢true (sym plain ∙ c.is_removal.ensures.1 removal)) | inr several ↦ absurd (omega (arith, several, one)) ];
       asked = subst (λ (z : Result Reply TryFault). HasAsked table g.G.Gate.becomes (AreTries table g.G.Gate.becomes call z) call z (c.args.seat.now, c.args.gate.now) (c.pin_and_unpin.new.seat, c.pin_and_unpin.new.gate)) (sym c.in-Some.ensures.some) whole;
+      used = subst (λ made. LeavesUsed table.layout (key_of call) (nodes_among made) c.make_attempt-first.result c.pin_and_unpin.new.seat) (sym c.collect_between.ensures.made)
+          (rested_leaves table g.G.Gate.becomes (key_of call) (nodes_among c.make_attempt-first.new.scratch.build.made.items) c.in-Some.lacks c.make_attempt-first.result (c.make_attempt-first.new.seat, c.make_attempt-first.new.gate) (c.collect_between.new.seat, c.collect_between.new.gate) (c.pin_and_unpin.new.seat, c.pin_and_unpin.new.gate)
+          c.in-Some.ensures.some (c.collect_between.ensures.none c.if-collect_between.false) again.ended c.make_attempt-first.ensures.used);
       none = λ one full early.
           let longer = runs_longer c.args.table.now g.G.Gate.becomes (round.first ∷ round.rest) (c.make_attempt-first.new.seat, c.make_attempt-first.new.gate) (c.collect_between.new.seat, c.collect_between.new.gate) round.does.steps in
           let later = ended_longer c.args.table.now g.G.Gate.becomes (c.collect_between.new.seat, c.collect_between.new.gate) (c.pin_and_unpin.new.seat, c.pin_and_unpin.new.gate) again.ended in

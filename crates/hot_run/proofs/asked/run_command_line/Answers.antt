@@ -1,6 +1,6 @@
 -- By what the run that was asked for has ended.
 use Rattle.std.proofs.lemmas.Result.{err_from_is_err_and}
-use Rattle.hot_run.proofs.Asking.{asked_ended, words_ended}
+use Rattle.hot_run.proofs.asked.Asked.{asked_ended, words_ended}
 use Rattle.hot_run.proofs.asked.run_command_line.Goals as goal
 
 pub returns-in_err-request-clause-fault : goal.returns-in_err-request-clause-fault

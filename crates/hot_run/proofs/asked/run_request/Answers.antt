@@ -1,7 +1,7 @@
 -- What a run with files has answered, or by what it has ended.
 use Rattle.std.proofs.Common.{inl, inr}
 use Rattle.std.proofs.lemmas.Result.{IfErr-weaker, err_from_is_err_and, on_ok_weaker}
-use Rattle.hot_run.proofs.Asking.{files_answered, no_items, not_empty, run_ended}
+use Rattle.hot_run.proofs.asked.Asked.{files_answered, no_items, not_empty, run_ended}
 use Rattle.hot_run.proofs.asked.run_request.Goals as goal
 
 pub returns-then-is_empty-clause-ok : goal.returns-then-is_empty-clause-ok

@@ -2,7 +2,7 @@
 use Rattle.std.proofs.Common.{◌≡◌, length, map, arith}
 use Rattle.std.specs.List.{zip}
 use Rattle.std.proofs.lemmas.Slice.Zip.{length-zip}
-use Rattle.script_runs.proofs.Joint.{scripts_untold}
+use Rattle.script_runs.proofs.Scripts.{scripts_untold}
 use Rattle.hot_run.proofs.scripts.run_scripts.Goals as goal
 
 pub returns-clause-ok : goal.returns-clause-ok

@@ -5,8 +5,8 @@ use Rattle.std.specs.List.{flat_map}
 use Rattle.std.proofs.lemmas.Result.{err_from_is_err_and}
 use Rattle.hot_scripts.specs.declared.script.Script.{Script}
 use Rattle.hot_scripts.specs.Parses.{script_commands}
-use Rattle.hot_run.proofs.Asking.{parse_ended, read_ended}
-use Rattle.script_runs.proofs.Joint.{each_told}
+use Rattle.hot_run.proofs.asked.Asked.{parse_ended, read_ended}
+use Rattle.script_runs.proofs.Scripts.{each_told}
 use Rattle.hot_run.proofs.scripts.run_scripts_with.Goals as goal
 
 pub returns-in_err-scripts-clause-fault : goal.returns-in_err-scripts-clause-fault

@@ -3,7 +3,7 @@ use Rattle.std.proofs.Common.{◌≡◌, ◌+◌, ◌≤◌, length, map}
 use Rattle.std.specs.Vec.Iter.{into_iter_items}
 use Rattle.hot_scripts.specs.Parses.{script_commands}
 use Rattle.hot_scripts.specs.InFiles.{commands_of_files}
-use Rattle.hot_scripts.proofs.Commands.{with_scripts}
+use Rattle.hot_scripts.proofs.in_files.InFiles.{with_scripts}
 use Rattle.hot_scripts.proofs.in_files.parse_files.Given as goal
 
 abbrev pub invariant-loop-file : goal.invariant-loop-file

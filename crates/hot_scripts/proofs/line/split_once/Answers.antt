@@ -1,6 +1,6 @@
 -- Why `split_once` meets its contract.
 use Rattle.std.proofs.Common.{◌==◌, rules}
-use Rattle.hot_scripts.proofs.Cuts.{slice_split-Some, slice_split-None}
+use Rattle.hot_scripts.proofs.line.Cuts.{slice_split-Some, slice_split-None}
 use Rattle.hot_scripts.proofs.line.split_once.Goals as goal
 
 pub returns-in-Some-clause-parts : goal.returns-in-Some-clause-parts

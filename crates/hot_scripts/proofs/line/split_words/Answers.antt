@@ -2,7 +2,7 @@
 use Rattle.std.proofs.Common.{◌≡◌, ◌==◌, ◌<◌, ◌∷◌, length, ap, arith, rules}
 use Rattle.std.specs.List.{slice_split}
 use Rattle.hot_scripts.specs.Grammar.{line_words}
-use Rattle.hot_scripts.proofs.Cuts.{some_part}
+use Rattle.hot_scripts.proofs.line.Cuts.{some_part}
 use Rattle.hot_scripts.proofs.line.split_words.Goals as goal
 
 pub returns-in-Some-rest-3 : goal.returns-in-Some-rest-3

@@ -1,6 +1,6 @@
 -- Why `write_answers` meets its contract.
 use Rattle.std.proofs.lemmas.Result.{on_ok_weaker}
-use Rattle.hot_scripts.proofs.Writing.{appends_kept}
+use Rattle.hot_scripts.proofs.streams.Streams.{appends_kept}
 use Rattle.hot_scripts.proofs.streams.write_answers.Goals as goal
 
 pub returns-clause-ok : goal.returns-clause-ok

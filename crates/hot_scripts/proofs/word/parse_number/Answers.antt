@@ -1,7 +1,7 @@
 -- Why `parse_number` meets its contract.
 use Rattle.std.proofs.Common.{◌≡◌, true, rules, ◌∙◌}
 use Rattle.hot_scripts.specs.Grammar.{is_number}
-use Rattle.hot_scripts.proofs.Numbers.{IsUtf8-number, parsed_number}
+use Rattle.hot_scripts.proofs.Grammar.{IsUtf8-number, parsed_number}
 use Rattle.hot_scripts.proofs.word.parse_number.Goals as goal
 
 pub returns-in-Err : goal.returns-in-Err

@@ -1,5 +1,5 @@
 -- The law allowed_steps_are_steps_of_the_run.
-use Rattle.index_laws.proofs.Stepping.{steps_are_moments}
+use Rattle.index_laws.proofs.Steps.{steps_are_moments}
 use Rattle.index_laws.proofs.laws.allowed_steps_are_steps_of_the_run.Goals as goal
 
 pub returns : goal.returns

@@ -1,5 +1,5 @@
 -- The law seeing_is_done.
-use Rattle.index_laws.proofs.Joining.{seeing_is_done}
+use Rattle.index_laws.proofs.Joined.{seeing_is_done}
 use Rattle.index_laws.proofs.laws.seeing_is_done.Goals as goal
 
 pub returns : goal.returns

@@ -2,7 +2,7 @@
 use Rattle.std.proofs.Common.{◌+◌, get_or}
 use Rattle.std.proofs.lemmas.Option.{slice_get-get_or}
 use Rattle.insert_cases.specs.declared.choice.PathNode.{PathNode}
-use Rattle.insert_cases.proofs.Choosing.{chosen, chosen_several, chosen_next, chosen_leaf}
+use Rattle.insert_cases.proofs.Ways.{chosen, chosen_several, chosen_next, chosen_leaf}
 use Rattle.insert_cases.proofs.choice.choose_case.Goals as goal
 
 no_step : PathNode

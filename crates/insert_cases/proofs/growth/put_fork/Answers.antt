@@ -7,8 +7,8 @@ use Rattle.node_tries.specs.Changes.{replaced}
 use Rattle.node_tries.specs.Growth.{forked, grown, IsAffected}
 use Rattle.node_tries.specs.Piece.{Place, size, places}
 use Rattle.node_tries.specs.Grafts.{grafted, IsAbovePath}
-use Rattle.node_tries.proofs.Grafting.{old_at, size-replaced, size-grown, affected_alone, replaced-grown}
-use Rattle.tries.proofs.Building.{size-piece}
+use Rattle.node_tries.proofs.Grafts.{old_at, size-replaced, size-grown, affected_alone, replaced-grown}
+use Rattle.tries.proofs.Tree.Building.{size-piece}
 use Rattle.insert_cases.proofs.NodeFacts.{height_positive, greatest-grown, greatest-grafted}
 use Rattle.insert_cases.proofs.growth.put_fork.Goals as goal
 

@@ -2,7 +2,7 @@
 use Rattle.std.specs.Cmp.Lexicographic.{nat_list_cmp_total}
 use Rattle.std.proofs.lemmas.Cmp.{tied_itself}
 use Rattle.std.proofs.lemmas.Map.Lookups.{exact_bytes}
-use Rattle.key_bits.proofs.Order.{less_by_first, greater_by_first}
+use Rattle.key_bits.proofs.Bits.Order.{less_by_first, greater_by_first}
 use Rattle.key_bits.proofs.KeyOrd.cmp.Goals as goal
 
 pub returns-clause-equal : goal.returns-clause-equal

@@ -1,4 +1,4 @@
-use Rattle.linearizability.proofs.Asking.{refused_change_nothing}
+use Rattle.linearizability.proofs.laws.Asking.{refused_change_nothing}
 use Rattle.linearizability.proofs.laws.refusals_change_nothing.Goals as goal
 
 pub returns : goal.returns

@@ -1,6 +1,6 @@
 -- The bytes before stay, and behind them stand those of the places.
 use Rattle.std.proofs.Common.{◌++◌, length, take, ap, ◌∙◌, arith}
-use Rattle.packed_pairs.proofs.Copying.{copied}
+use Rattle.packed_pairs.proofs.keys.Copying.{copied}
 use Rattle.packed_pairs.proofs.keys.copy_key.Goals as goal
 
 pub returns-then-size-eq8-clause-copied : goal.returns-then-size-eq8-clause-copied

@@ -9,12 +9,12 @@ use Rattle.std.proofs.lemmas.List.{get_or-map, get_or_past}
 use Rattle.std.proofs.lemmas.List.Elements.{All-get_or}
 use Rattle.partial_keys.proofs.gathering.extract_dense_key_by_lanes.Goals as goal
 
-pub returns-then-fits_window : goal.returns-then-fits_window
-returns-then-fits_window c =
+pub returns-then-window_has_all_bits : goal.returns-then-window_has_all_bits
+returns-then-window_has_all_bits c =
     let key : List ℕ = c.args.key.now in
     let lanes : List ℕ = c.args.lanes in
     let first : ℕ = get_or lanes 0 0 / 9 in
-    let near = c.if-fits_window.ensures.near refl in
+    let near = c.if-window_has_all_bits.ensures.near refl in
     let count : length c.as_bytes-key_length.result.now ≡ length key = ap length c.as_bytes-key_length.ensures.bytes in
     let its = c.as_bytes-key_length.ensures.key in
     let long : length lanes ≡ 32 = c.fits-lanes.0 in

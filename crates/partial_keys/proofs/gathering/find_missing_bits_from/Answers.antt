@@ -6,7 +6,7 @@ use Rattle.std.proofs.lemmas.List.Elements.{All-get_or}
 use Rattle.std.proofs.lemmas.Simd.{get_or-zip2, length-zip2}
 use Rattle.std.proofs.Math.Nat.{min-le_left, min-le_right}
 use Rattle.partial_keys.specs.Windows.{bit_within, byte_lane, mask_lane, missed_lane}
-use Rattle.partial_keys.proofs.Sliding.{lane_within}
+use Rattle.partial_keys.proofs.gathering.Sliding.{lane_within}
 use Rattle.partial_keys.proofs.gathering.find_missing_bits_from.Goals as goal
 
 pub returns-clause-whole : goal.returns-clause-whole

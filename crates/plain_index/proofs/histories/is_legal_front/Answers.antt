@@ -1,7 +1,7 @@
 -- The change at `i` fits the map of those before it, or the front is not legal.
 use Rattle.std.proofs.Common.{true, sym, subst, ◌≡◌}
 use Rattle.finite_map.specs.Fronts.{FitsKind}
-use Rattle.plain_index.proofs.Deciding.{legal_take_more, legal_front-fits}
+use Rattle.plain_index.proofs.histories.Histories.{legal_take_more, legal_front-fits}
 use Rattle.plain_index.proofs.histories.is_legal_front.Goals as goal
 
 pub returns-then-not-is_legal_change : goal.returns-then-not-is_legal_change

@@ -1,5 +1,5 @@
 -- The law is a lemma on legal calls.
-use Rattle.finite_map.proofs.Legal.{legal_longer}
+use Rattle.finite_map.proofs.Calls.{legal_longer}
 use Rattle.plain_index.proofs.laws.legal_calls_stay_legal_in_longer_fronts.Goals as goal
 
 pub returns : goal.returns

@@ -1,5 +1,5 @@
 -- The laws are lemmas on the weave.
-use Rattle.plain_index.proofs.Together.{woven-in_order, woven-in_order_two}
+use Rattle.plain_index.proofs.Orders.{woven-in_order, woven-in_order_two}
 use Rattle.plain_index.proofs.laws.weave_of_passes_keeps_calls.Goals as goal
 
 pub returns : goal.returns

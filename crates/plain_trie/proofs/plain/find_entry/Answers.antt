@@ -1,5 +1,5 @@
 -- The entry at the place to which the search leads.
-use Rattle.plain_trie_records.proofs.Searching.{sought_entry}
+use Rattle.plain_trie_records.proofs.Store.Searching.{sought_entry}
 use Rattle.plain_trie.proofs.plain.find_entry.Goals as goal
 
 pub returns : goal.returns

@@ -3,7 +3,7 @@ use Rattle.std.proofs.Common.{◌≡◌, refl, arith, length}
 use Rattle.std.specs.Vec.{vec_len}
 use Rattle.plain_trie_records.specs.Risen.{pushed_nodes}
 use Rattle.plain_trie_records.proofs.Heights.{heights_double}
-use Rattle.plain_trie_records.proofs.Storing.{double_shows, double_side, single_side, others_kept, others_pushed}
+use Rattle.plain_trie_records.proofs.Risen.{double_shows, double_side, single_side, others_kept, others_pushed}
 use Rattle.plain_trie_records.proofs.raising.store_cut.Goals as goal
 
 pub returns-in-One-clause-side : goal.returns-in-One-clause-side

@@ -2,7 +2,7 @@
 use Rattle.std.proofs.Common.{arith}
 use Rattle.plain_trie_records.proofs.Heights.{heights_whole}
 use Rattle.compound_node.specs.Nodes.{IsBuiltFrom}
-use Rattle.plain_trie_records.proofs.Storing.{set_other, set_same}
+use Rattle.plain_trie_records.proofs.Risen.{set_other, set_same}
 use Rattle.plain_trie_records.proofs.raising.store_grown.Goals as goal
 
 pub returns-in-One-clause-heights : goal.returns-in-One-clause-heights

@@ -5,7 +5,7 @@ use Rattle.std.proofs.lemmas.Bool.{cases_lt, false≢true}
 use Rattle.node_tries.specs.Changes.{AtRootFork}
 use Rattle.node_tries.specs.Growth.{affected_first, affected_count, grown, IsAffected}
 use Rattle.node_tries.specs.Piece.{Place, Fork, size}
-use Rattle.node_tries.proofs.Grafting.{size-grown}
+use Rattle.node_tries.proofs.Grafts.{size-grown}
 use Rattle.compound_node.specs.Nodes.{NodeView, piece, height_of, IsLawfulNode}
 use Rattle.compound_node.specs.declared.entries.Entry.{Entry}
 use Rattle.compound_node.specs.declared.entries.Entry.TheVariants.{Leaf, Node}
@@ -19,17 +19,17 @@ use Rattle.tries.specs.Keys.{bit}
 use Rattle.tries.specs.Place.{spot}
 use Rattle.tries.specs.Search.{child, seek}
 use Rattle.tries.specs.Tree.{Tree, Fixed, node, subtrie}
-use Rattle.tries.proofs.Building.{size-piece}
+use Rattle.tries.proofs.Tree.Building.{size-piece}
 use Rattle.plain_trie_records.specs.declared.leaf.LeafRecord.{LeafRecord}
 use Rattle.plain_trie_records.specs.Rising.{IsAddable, IsLifting, IsRaised, level, records}
 use Rattle.plain_trie_records.specs.Cases.{AddsByCase, IsLevelDone, IsPutBetween, is_split}
 use Rattle.plain_trie_records.specs.Risen.{RisenShows}
 use Rattle.plain_trie_records.proofs.Cases.{above_by_case, does_grown, forked_split, leaf_by_case, node_by_case, pushed_by_case, taken_by_case}
 use Rattle.plain_trie_records.proofs.Heights.{heights_over}
-use Rattle.plain_trie_records.proofs.Lifting.{not_below, old_stays}
-use Rattle.plain_trie_records.proofs.Steady.{grow_steady}
-use Rattle.plain_trie_records.proofs.Searching.{read_at}
-use Rattle.plain_trie_records.proofs.Climbing.{IsHere, old_at, addable_to, node_here, here_positive, here_within, here_high, here_spot, here_from, here_upto, here_entry, here_raised, here_lifting, range, part, way_below, child_addable, child_low, beside_raised}
+use Rattle.plain_trie_records.proofs.rising.Lifting.{not_below, old_stays}
+use Rattle.plain_trie_records.proofs.rising.Steady.{grow_steady}
+use Rattle.plain_trie_records.proofs.Store.Searching.{read_at}
+use Rattle.plain_trie_records.proofs.rising.Rising.{IsHere, old_at, addable_to, node_here, here_positive, here_within, here_high, here_spot, here_from, here_upto, here_entry, here_raised, here_lifting, range, part, way_below, child_addable, child_low, beside_raised}
 use Rattle.plain_trie_records.proofs.rising.+raise_newcomer.Goals as goal
 use Rattle.plain_trie_records.proofs.rising.+raise_newcomer.Goals.{After-affected-first, After-raise_newcomer-risen}
 

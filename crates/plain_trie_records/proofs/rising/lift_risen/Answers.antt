@@ -9,14 +9,14 @@ use Rattle.compound_node.specs.Nodes.{NodeView, piece, IsBuiltFrom, IsLawfulNode
 use Rattle.insert_cases.specs.Grown.{GrownShows, is_whole}
 use Rattle.insert_cases.specs.Risen.{subtrie_of}
 use Rattle.insert_cases.specs.declared.raising.Risen.TheVariants.{Whole}
-use Rattle.insert_cases.proofs.Choosing.{some_injective}
-use Rattle.tries.proofs.Building.{size-piece}
+use Rattle.insert_cases.proofs.Ways.{some_injective}
+use Rattle.tries.proofs.Tree.Building.{size-piece}
 use Rattle.plain_trie_records.proofs.Cases.{takes_fork}
-use Rattle.plain_trie_records.proofs.Climbing.{old_at, old_high, at_within, above_path, pair_here, stands_here, lift, between}
+use Rattle.plain_trie_records.proofs.rising.Rising.{old_at, old_high, at_within, above_path, pair_here, stands_here, lift, between}
 use Rattle.plain_trie_records.proofs.Heights.{heights_new, heights_over}
-use Rattle.plain_trie_records.proofs.Searching.{read_at}
-use Rattle.plain_trie_records.proofs.Steady.{pull_steady, size-grafted}
-use Rattle.plain_trie_records.proofs.Storing.{push_old}
+use Rattle.plain_trie_records.proofs.Store.Searching.{read_at}
+use Rattle.plain_trie_records.proofs.rising.Steady.{pull_steady, size-grafted}
+use Rattle.plain_trie_records.proofs.Risen.{push_old}
 use Rattle.plain_trie_records.proofs.rising.lift_risen.Goals as goal
 
 -- ---- one entry

@@ -7,8 +7,8 @@ use Rattle.plain_trie_records.specs.Cases.{IsNewNode, is_split}
 use Rattle.plain_trie_records.specs.Rising.{IsRaised}
 use Rattle.insert_cases.specs.Risen.{subtrie_of}
 use Rattle.insert_cases.proofs.Pairs.{pair_facts}
-use Rattle.plain_trie_records.proofs.Climbing.{raised_in_new_node}
-use Rattle.plain_trie_records.proofs.Keeping.{lower_more}
+use Rattle.plain_trie_records.proofs.rising.Rising.{raised_in_new_node}
+use Rattle.plain_trie_records.proofs.Store.{lower_more}
 use Rattle.plain_trie_records.proofs.rising.make_root.Goals as goal
 
 pub push_pair-requires : goal.push_pair-requires

@@ -5,11 +5,11 @@ use Rattle.std.proofs.lemmas.Option.{slice_get_within}
 use Rattle.node_tries.specs.Changes.{replaced}
 use Rattle.node_tries.specs.Piece.{size}
 use Rattle.compound_node.specs.Nodes.{NodeView, piece}
-use Rattle.plain_trie_records.proofs.Climbing.{replaced_named}
+use Rattle.plain_trie_records.proofs.rising.Rising.{replaced_named}
 use Rattle.plain_trie_records.proofs.Heights.{heights_set}
-use Rattle.tries.proofs.Building.{size-piece}
-use Rattle.plain_trie_records.proofs.Searching.{read_at}
-use Rattle.plain_trie_records.proofs.Storing.{set_same, set_other}
+use Rattle.tries.proofs.Tree.Building.{size-piece}
+use Rattle.plain_trie_records.proofs.Store.Searching.{read_at}
+use Rattle.plain_trie_records.proofs.Risen.{set_same, set_other}
 use Rattle.plain_trie_records.proofs.rising.replace_entry.Goals as goal
 
 pub prove-unreachable-requires : goal.prove-unreachable-requires

@@ -12,10 +12,10 @@ use Rattle.compound_node.specs.declared.entries.Entry.TheVariants.{Leaf, Node}
 use Rattle.tries.specs.Content.{items, pairs}
 use Rattle.tries.specs.Tree.{Tree, subtrie}
 use Rattle.plain_trie_records.specs.Store.{ShowsSound}
-use Rattle.plain_trie_records.proofs.Parts.{items_of_all, leaves-append, leaves_more}
-use Rattle.plain_trie_records.proofs.Scans.{pairs-append, some_more}
-use Rattle.plain_trie_records.proofs.Searching.{read_at}
-use Rattle.plain_trie_records.proofs.Standing.{IsNodeAt, below, leaf_pairs, no_tree, node_at, node_within}
+use Rattle.plain_trie_records.proofs.scanning.Parts.{items_of_all, leaves-append, leaves_more}
+use Rattle.plain_trie_records.proofs.scanning.Scanning.{pairs-append, some_more}
+use Rattle.plain_trie_records.proofs.Store.Searching.{read_at}
+use Rattle.plain_trie_records.proofs.scanning.Standing.{IsNodeAt, below, leaf_pairs, no_tree, node_at, node_within}
 use Rattle.plain_trie_records.proofs.scanning.+scan_below.Goals as goal
 use Rattle.plain_trie_records.specs.declared.leaf.LeafRecord.{LeafRecord}
 use Rattle.plain_trie_records.proofs.scanning.+scan_below.Goals.{After-entry}

@@ -7,8 +7,8 @@ use Rattle.compound_node.specs.Nodes.{height_of}
 use Rattle.tries.specs.Content.{pairs}
 use Rattle.tries.specs.Tree.{Tree, subtrie}
 use Rattle.plain_trie_records.specs.Store.{ShowsSound}
-use Rattle.plain_trie_records.proofs.Parts.{items_of_all}
-use Rattle.plain_trie_records.proofs.Standing.{below}
+use Rattle.plain_trie_records.proofs.scanning.Parts.{items_of_all}
+use Rattle.plain_trie_records.proofs.scanning.Standing.{below}
 use Rattle.plain_trie_records.proofs.scanning.+scan_below.Given as goal
 
 abbrev pub decreases-scan_below : goal.decreases-scan_below

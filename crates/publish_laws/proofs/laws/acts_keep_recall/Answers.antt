@@ -1,4 +1,4 @@
-use Rattle.publish_laws.proofs.Acting.{act_goes_on}
+use Rattle.publish_laws.proofs.Acts.{act_goes_on}
 use Rattle.publish_laws.proofs.laws.acts_keep_recall.Goals as goal
 
 pub returns : goal.returns

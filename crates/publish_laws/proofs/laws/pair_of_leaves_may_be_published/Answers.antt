@@ -1,4 +1,4 @@
-use Rattle.publish_laws.proofs.Inserting.{pair}
+use Rattle.publish_laws.proofs.Insertions.Inserting.{pair}
 use Rattle.publish_laws.proofs.laws.pair_of_leaves_may_be_published.Goals as goal
 
 pub returns : goal.returns

@@ -1,4 +1,4 @@
-use Rattle.publish_laws.proofs.Rising.{above_goes_on}
+use Rattle.publish_laws.proofs.Rises.{above_goes_on}
 use Rattle.publish_laws.proofs.laws.upper_fork_is_before_insertion.Goals as goal
 
 pub returns : goal.returns

@@ -10,9 +10,9 @@ use Rattle.partial_keys.specs.Rows.{with_unused}
 use Rattle.node_tries.specs.Growth.{affected_count, affected_first}
 use Rattle.node_tries.specs.Positions.{front_below}
 use Rattle.record_words.specs.Node.{head_words}
-use Rattle.record_words.proofs.Fronts.{affected_by_counts, columns_below, end_some, few_below, rows_in_front}
+use Rattle.record_words.proofs.affected.Affected.{affected_by_counts, columns_below, end_some, few_below, rows_in_front}
 use Rattle.record_words.proofs.Lawful.{row-lt}
-use Rattle.record_words.proofs.Spelled.{count_read, its, lawful_its, same_its}
+use Rattle.record_words.proofs.Reading.{count_read, its, lawful_its, same_its}
 use Rattle.record_words.proofs.affected.affected_slots.Goals as goal
 use Rattle.record_words.proofs.affected.affected_slots.Goals.{After-min-end}
 

@@ -1,7 +1,7 @@
 -- It is read of its word.
 use Rattle.std.proofs.Common.{◌+◌, ◌/◌, ◌∙◌, ap, arith, get_or, sym}
 use Rattle.record_words.specs.Kinds.{rows_a_word, rows_from}
-use Rattle.record_words.proofs.HeadsByKind.{row_within}
+use Rattle.record_words.proofs.HeadParts.HeadsByKind.{row_within}
 use Rattle.record_words.proofs.affected.row_in.Goals as goal
 
 pub bounds-words-index_of_row : goal.bounds-words-index_of_row

@@ -1,7 +1,7 @@
 -- The places are those of the columns.
 use Rattle.std.proofs.Common.{◌∙◌, ap, arith, sym, take}
 use Rattle.std.proofs.lemmas.List.{length-take-le}
-use Rattle.record_words.proofs.Spelled.{places_taken}
+use Rattle.record_words.proofs.Reading.{places_taken}
 use Rattle.record_words.proofs.fixed.read_positions.Goals as goal
 
 pub slice_bounds-copy_from_slice-end-3 : goal.slice_bounds-copy_from_slice-end-3

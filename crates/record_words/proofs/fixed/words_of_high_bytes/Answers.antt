@@ -1,7 +1,7 @@
 -- The words are made of the highest bytes.
 use Rattle.std.proofs.Common.{ap, ◌^◌}
 use Rattle.record_words.specs.Kinds.{lane_words}
-use Rattle.record_words.proofs.Highs.{bytes_fit, highs_are}
+use Rattle.record_words.proofs.fixed.Highs.{bytes_fit, highs_are}
 use Rattle.record_words.proofs.fixed.words_of_high_bytes.Goals as goal
 use lib.Lanes.{digits_l, number_l}
 

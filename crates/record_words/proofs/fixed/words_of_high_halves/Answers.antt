@@ -1,9 +1,9 @@
 -- The words are made of the higher halves.
 use Rattle.std.proofs.Common.{ap, ◌^◌, ◌∙◌}
 use Rattle.record_words.specs.Packed.{row_lanes}
-use Rattle.record_words.specs.declared.kind.Kind.TheVariants.{Middle}
-use Rattle.record_words.proofs.Highs.{halves_fit, highs_are, rows_small, words_by_bytes}
-use Rattle.record_words.proofs.NearKinds.{lanes_small, middle_kind, rows_long}
+use Rattle.record_words.specs.declared.kind.HeadKind.TheVariants.{Middle}
+use Rattle.record_words.proofs.fixed.Highs.{halves_fit, highs_are, rows_small, words_by_bytes}
+use Rattle.record_words.proofs.near.NearKinds.{lanes_small, middle_kind, rows_long}
 use Rattle.record_words.proofs.fixed.words_of_high_halves.Goals as goal
 use lib.Lanes.{digits_l, number_l}
 

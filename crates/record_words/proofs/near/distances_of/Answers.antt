@@ -1,6 +1,6 @@
 -- Each lane is the distance of its position, in the opposite order.
 use Rattle.std.proofs.Common.{◌∙◌, ◌*◌, ◌-◌, ◌<◌, arith}
-use Rattle.record_words.proofs.NearSpelling.{apart, apart_at, apart_long, upside_at}
+use Rattle.record_words.proofs.near.NearSpelling.{apart, apart_at, apart_long, upside_at}
 use Rattle.record_words.proofs.near.distances_of.Goals as goal
 
 pub returns-clause-each : goal.returns-clause-each

@@ -4,7 +4,7 @@ use Rattle.std.proofs.lemmas.List.{get_or-drop, get_or-take}
 use Rattle.std.proofs.lemmas.Simd.{get_or-chunk}
 use lib.Lanes.{chunk}
 use Rattle.key_bits.specs.Key.{with_zeros}
-use Rattle.record_words.proofs.NearDense.{dense_is, indexes_ok, told_fits, window_within}
+use Rattle.record_words.proofs.near.NearDense.{dense_is, indexes_ok, told_fits, window_within}
 use Rattle.record_words.proofs.near.extract_near.Goals as goal
 
 -- the window begins at its first byte

@@ -1,7 +1,7 @@
 -- A distance of less than sixteen bytes has an index and a bit.
 use Rattle.std.proofs.Common.{ℕ, ◌≡◌, ◌∙◌, ◌-◌, ◌/◌, ◌<◌, List, ap, get_or}
 use Rattle.record_words.specs.Kinds.{HasNearLanes, distance_from, first_byte, with_free_to_16}
-use Rattle.record_words.proofs.NearSpelling.{distance_near, first_place, indexes_made, masks_made, ninths_fit, rests_fit, rests_ok}
+use Rattle.record_words.proofs.near.NearSpelling.{distance_near, first_place, indexes_made, masks_made, ninths_fit, rests_fit, rests_ok}
 use Rattle.record_words.proofs.near.near_lanes_of.Goals as goal
 
 -- what is known of the distances

@@ -1,5 +1,5 @@
 -- Each lane's index and mask tell its position, in the opposite order.
-use Rattle.record_words.proofs.NearSpelling.{highs_ok, lows_ok, positions_made}
+use Rattle.record_words.proofs.near.NearSpelling.{highs_ok, lows_ok, positions_made}
 use Rattle.record_words.proofs.near.near_positions.Goals as goal
 
 pub swizzle-low : goal.swizzle-low

@@ -9,9 +9,9 @@ use Rattle.node_tries.specs.Positions.{front_below, has, with_position}
 use Rattle.record_words.specs.HeadParts.{AreNumbersOf}
 use Rattle.record_words.specs.Node.{CanGrowAt, head_words}
 use Rattle.record_words.specs.declared.numbers.HeadNumbers.{HeadNumbers}
-use Rattle.record_words.proofs.Forking.{has_column_fork, in_range, more_are_columns, ordered, room, room_for_one}
+use Rattle.record_words.proofs.node.Forking.{has_column_fork, in_range, more_are_columns, ordered, room, room_for_one}
 use Rattle.record_words.proofs.Nodes.{head_part}
-use Rattle.record_words.proofs.Spelled.{columns_in_front}
+use Rattle.record_words.proofs.Reading.{columns_in_front}
 use Rattle.record_words.proofs.node.add_column_fork.Goals as goal
 
 module _ {words : List ℕ} {position first last : ℕ} (numbers : HeadNumbers) (tells : (node : NodeView) → IsLawfulNode node → get_or (head_words (head_of node)) 0 0 ≡ get_or words 0 0 → AreNumbersOf numbers node)

@@ -5,7 +5,7 @@ use Rattle.partial_keys.proofs.Reaching.{front_below-le}
 use Rattle.node_tries.specs.Positions.{front_below, has}
 use Rattle.record_words.specs.Kinds.{kind_in}
 use Rattle.record_words.specs.Node.{CanGrowAt}
-use Rattle.record_words.proofs.Forking.{column_found, column_lacks, few_numbers, front_is, has_fork, in_range, kind_stays, ordered, room, some_before_rows}
+use Rattle.record_words.proofs.node.Forking.{column_found, column_lacks, few_numbers, front_is, has_fork, in_range, kind_stays, ordered, room, some_before_rows}
 use Rattle.record_words.proofs.Nodes.{head_part}
 use Rattle.record_words.proofs.node.add_fork.Goals as goal
 use Rattle.record_words.proofs.node.add_fork.Goals.{After-count_below}

@@ -5,9 +5,9 @@ use Rattle.compound_node.specs.Forking.{forked_head}
 use Rattle.compound_node.specs.Nodes.{IsBuiltFrom, NodeView, head_of, node_of, piece}
 use Rattle.compound_node.specs.declared.entries.Entry.TheVariants.{Leaf}
 use Rattle.node_tries.specs.Growth.{grown}
-use Rattle.record_words.proofs.Forking.{grown_leaf}
+use Rattle.record_words.proofs.node.Forking.{grown_leaf}
 use Rattle.record_words.proofs.Growing.{has_words, place_within, words_grown}
-use Rattle.record_words.proofs.Spelled.{entries_counted}
+use Rattle.record_words.proofs.Reading.{entries_counted}
 use Rattle.record_words.proofs.node.add_leaf.Goals as goal
 use Rattle.record_words.proofs.node.add_leaf.Goals.{then-bit, else-bit}
 

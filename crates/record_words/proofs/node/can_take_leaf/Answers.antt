@@ -1,5 +1,5 @@
 -- The first word tells the height and how many entries there are.
-use Rattle.record_words.proofs.Spelled.{first_word}
+use Rattle.record_words.proofs.Reading.{first_word}
 use Rattle.record_words.proofs.node.can_take_leaf.Goals as goal
 use Rattle.std.proofs.Common.{arith}
 use Rattle.std.proofs.lemmas.Bool.Decides.{nat_tests}

@@ -3,7 +3,7 @@ use Rattle.std.proofs.Common.{◌≡◌, ◌+◌, Some, ap, arith, length-set, s
 use Rattle.compound_node.specs.Nodes.{NodeView}
 use Rattle.record_words.specs.Entry.{HasEntryWord}
 use Rattle.record_words.specs.Node.{CanCloseAt, SpellLeft, node_words}
-use Rattle.record_words.proofs.Closed.{changed, changed_has, changed_spells, closed_piece, place_inside}
+use Rattle.record_words.proofs.node.Closed.{changed, changed_has, changed_spells, closed_piece, place_inside}
 use Rattle.record_words.proofs.node.close_fork.Goals as goal
 use Rattle.record_words.proofs.node.close_fork.Goals.{After-pack_entry}
 

@@ -12,8 +12,8 @@ use Rattle.record_words.specs.HeadParts.{AreNumbersOf}
 use Rattle.record_words.specs.Node.{head_words}
 use Rattle.record_words.specs.Packed.{fixed_words}
 use Rattle.record_words.specs.declared.numbers.HeadNumbers.{HeadNumbers}
-use Rattle.record_words.proofs.DroppedRows.{first_lanes}
-use Rattle.record_words.proofs.Spelled.{columns_in_front}
+use Rattle.record_words.proofs.node.DroppedRows.{first_lanes}
+use Rattle.record_words.proofs.Reading.{columns_in_front}
 use Rattle.record_words.proofs.node.drop_columns.Goals as goal
 
 module _ {words rows : List ℕ} {used : ℕ} (numbers : HeadNumbers) (tells : (node : NodeView) → IsLawfulNode node → get_or (head_words (head_of node)) 0 0 ≡ get_or words 0 0 → AreNumbersOf numbers node)

@@ -10,7 +10,7 @@ use Rattle.record_words.specs.Node.{HasNodeWords, SpellBuilt, SpellEntries, head
 use Rattle.record_words.specs.declared.numbers.HeadNumbers.{HeadNumbers}
 use Rattle.record_words.proofs.Dropping.{front_stays, left_has_words, other_left, spells_left, taken, words_left}
 use Rattle.record_words.proofs.Nodes.{head_part, length-node_words}
-use Rattle.record_words.proofs.Spelled.{entry_spelled}
+use Rattle.record_words.proofs.Reading.{entry_spelled}
 use Rattle.record_words.proofs.node.drop_entry.Goals as goal
 
 -- the numbers of each node with the words

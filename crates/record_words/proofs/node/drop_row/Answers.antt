@@ -14,10 +14,10 @@ use Rattle.record_words.specs.HeadParts.{AreNumbersOf}
 use Rattle.record_words.specs.Kinds.{kind_of, kind_part}
 use Rattle.record_words.specs.Dropping.{CanDropAt, CanDropColumns}
 use Rattle.record_words.specs.Packed.{meta_word}
-use Rattle.record_words.proofs.DroppedRows.{columns_same, first_long, left, left_built, left_fits, old_ladder, old_unused, over, rows_counted, rows_same, used}
-use Rattle.record_words.proofs.Forking.{some_before_rows}
-use Rattle.record_words.proofs.HeadsByKind.{head_parts}
-use Rattle.record_words.proofs.SameColumns.{has_next}
+use Rattle.record_words.proofs.node.DroppedRows.{columns_same, first_long, left, left_built, left_fits, old_ladder, old_unused, over, rows_counted, rows_same, used}
+use Rattle.record_words.proofs.node.Forking.{some_before_rows}
+use Rattle.record_words.proofs.HeadParts.HeadsByKind.{head_parts}
+use Rattle.record_words.proofs.node.SameColumns.{has_next}
 use Rattle.record_words.proofs.node.drop_row.Goals as goal
 
 module _ {words : List ℕ} {at : ℕ} (numbers : HeadNumbers) (tells : (node : NodeView) → IsLawfulNode node → get_or (head_words (head_of node)) 0 0 ≡ get_or words 0 0 → AreNumbersOf numbers node)

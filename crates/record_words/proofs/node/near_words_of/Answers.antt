@@ -2,9 +2,9 @@
 use Rattle.std.proofs.Common.{ℕ, List, ◌≡◌, ◌≢◌, ◌∙◌, ap}
 use Rattle.partial_keys.specs.Columns.{with_free}
 use Rattle.record_words.proofs.OfKinds.{few_and_near, has_near_lanes}
-use Rattle.record_words.proofs.HeadPut.{sixteen_places}
+use Rattle.record_words.proofs.node.HeadPut.{sixteen_places}
 use Rattle.record_words.specs.Kinds.{kind_of, lane_words, with_free_to_16}
-use Rattle.record_words.specs.declared.kind.Kind.TheVariants.{Wide}
+use Rattle.record_words.specs.declared.kind.HeadKind.TheVariants.{Wide}
 use lib.Lanes.{chunk}
 use Rattle.record_words.proofs.node.near_words_of.Goals as goal
 

@@ -2,17 +2,17 @@
 use Rattle.std.proofs.Common.{ℕ, List, ◌≡◌, ◌∙◌, ◌+◌, ◌-◌, ◌<◌, ◌≤◌, ◌⊎◌, ap, arith, get_or, get_or-set_other, get_or-set_same, inl, inr, length, length-set, rules, set, subst, sym, ⊎_elim}
 use Rattle.record_words.specs.Kinds.{index_lanes, lane_words, mask_lanes, rows_from}
 use Rattle.record_words.specs.Packed.{column_words, position_word}
-use Rattle.record_words.specs.declared.kind.Kind.{Kind}
-use Rattle.record_words.specs.declared.kind.Kind.TheVariants.{Middle, Narrow, Wide}
-use Rattle.record_words.proofs.HeadPut.{middle_columns, narrow_columns, wide_columns}
-use Rattle.record_words.proofs.HeadsByKind.{length-lane_words}
+use Rattle.record_words.specs.declared.kind.HeadKind.{HeadKind}
+use Rattle.record_words.specs.declared.kind.HeadKind.TheVariants.{Middle, Narrow, Wide}
+use Rattle.record_words.proofs.node.HeadPut.{middle_columns, narrow_columns, wide_columns}
+use Rattle.record_words.proofs.HeadParts.HeadsByKind.{length-lane_words}
 use Rattle.record_words.proofs.Written.{at_stored, before_stored, length-stored, other_stored, stored}
 use lib.Lanes.{chunk}
 use Rattle.record_words.proofs.node.put_columns.Goals as goal
 use Rattle.record_words.proofs.node.put_columns.Goals.{After-near_words_of-in-Middle}
 
 -- words that have the columns of a kind have those of this one
-for_kind : (kind this : Kind) (columns words : List ℕ) → kind ≡ this → chunk 1 (rows_from this - 1) words ≡ column_words this columns → chunk 1 (rows_from kind - 1) words ≡ column_words kind columns
+for_kind : (kind this : HeadKind) (columns words : List ℕ) → kind ≡ this → chunk 1 (rows_from this - 1) words ≡ column_words this columns → chunk 1 (rows_from kind - 1) words ≡ column_words kind columns
 for_kind kind this columns words is = subst (λ k. chunk 1 (rows_from k - 1) words ≡ column_words k columns) (sym is)
 
 pub returns-in-Wide-clause-columns : goal.returns-in-Wide-clause-columns

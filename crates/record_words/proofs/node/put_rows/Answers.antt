@@ -5,20 +5,20 @@ use Rattle.std.proofs.lemmas.List.{ext_get_or}
 use Rattle.std.proofs.lemmas.List.FromFn.{get_or-map-range_with_len, length-map-range_with_len}
 use Rattle.std.proofs.lemmas.Simd.{get_or-chunk, length-chunk, pick_l-range_with_len, pick_l_left}
 use Rattle.std.specs.List.{range_with_len}
-use Rattle.record_words.proofs.HeadsByKind.{length-row_words}
+use Rattle.record_words.proofs.HeadParts.HeadsByKind.{length-row_words}
 use Rattle.record_words.proofs.Written.{at_stored, before_stored, chunk_stored, half_words, length-stored, other_stored, stored}
 use Rattle.record_words.specs.Kinds.{head_size, rows_from}
 use Rattle.record_words.specs.Packed.{row_word, row_words}
-use Rattle.record_words.specs.declared.kind.Kind.{Kind}
-use Rattle.record_words.specs.declared.kind.Kind.TheVariants.{Middle, Narrow, Wide}
+use Rattle.record_words.specs.declared.kind.HeadKind.{HeadKind}
+use Rattle.record_words.specs.declared.kind.HeadKind.TheVariants.{Middle, Narrow, Wide}
 use Rattle.record_words.proofs.node.put_rows.Goals as goal
 use lib.Lanes.{chunk, pick_l}
 
 -- words that have the rows of a kind have those of this one
-for_kind : (kind this : Kind) (rows words : List ℕ) → kind ≡ this → chunk (rows_from this) (head_size this - rows_from this) words ≡ row_words this rows → chunk (rows_from kind) (head_size kind - rows_from kind) words ≡ row_words kind rows
+for_kind : (kind this : HeadKind) (rows words : List ℕ) → kind ≡ this → chunk (rows_from this) (head_size this - rows_from this) words ≡ row_words this rows → chunk (rows_from kind) (head_size kind - rows_from kind) words ≡ row_words kind rows
 for_kind kind this rows words is = subst (λ k. chunk (rows_from k) (head_size k - rows_from k) words ≡ row_words k rows) (sym is)
 
-outside : (kind this : Kind) (k : ℕ) → kind ≡ this → (k < rows_from kind) ⊎ (head_size kind ≤ k) → (k < rows_from this) ⊎ (head_size this ≤ k)
+outside : (kind this : HeadKind) (k : ℕ) → kind ≡ this → (k < rows_from kind) ⊎ (head_size kind ≤ k) → (k < rows_from this) ⊎ (head_size this ≤ k)
 outside kind this k is = subst (λ t. (k < rows_from t) ⊎ (head_size t ≤ k)) is
 
 -- ---- a half of the rows
@@ -79,7 +79,7 @@ returns-in-Wide-clause-others c = λ k out.
     others_stay c.args.rows c.args.words.now low.result high.result c.fits-rows.0 whole low.ensures.whole high.ensures.whole low.ensures.each high.ensures.each k (outside c.args.kind Wide k c.in-Wide.is out)
 
 -- ---- the highest bits of rows, which are stored at once
-module _ (kind this : Kind) (is : kind ≡ this) (inside : head_size this ≤ 57) (order : rows_from this ≤ head_size this) (rows words made : List ℕ) (whole : length words ≡ 57) (are : made ≡ row_words this rows) where
+module _ (kind this : HeadKind) (is : kind ≡ this) (inside : head_size this ≤ 57) (order : rows_from this ≤ head_size this) (rows words made : List ℕ) (whole : length words ≡ 57) (are : made ≡ row_words this rows) where
   long : length made ≡ head_size this - rows_from this
   long = omega (arith, ap length are, length-row_words this rows)
 

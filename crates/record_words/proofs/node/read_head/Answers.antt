@@ -5,7 +5,7 @@ use Rattle.compound_node.proofs.Lawful.{same_count}
 use Rattle.compound_node.specs.Nodes.{head_of}
 use Rattle.record_words.specs.Node.{HasHeadWords, head_words}
 use Rattle.record_words.specs.Reading.{IsSpelling}
-use Rattle.record_words.proofs.Spelled.{columns_in_front, head_is, is_head_read, its, lawful_its, same_its, spells_head, whole}
+use Rattle.record_words.proofs.Reading.{columns_in_front, head_is, is_head_read, its, lawful_its, same_its, spells_head, whole}
 use Rattle.record_words.proofs.node.read_head.Goals as goal
 use Rattle.record_words.proofs.node.read_head.Goals.{After-rows_in}
 

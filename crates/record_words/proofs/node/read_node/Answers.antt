@@ -4,7 +4,7 @@ use Rattle.std.proofs.lemmas.List.{take_all}
 use Rattle.compound_node.specs.declared.entries.Entry.TheVariants.{Leaf}
 use Rattle.compound_node.specs.Nodes.{head_of}
 use Rattle.record_words.proofs.Nodes.{head_part}
-use Rattle.record_words.proofs.Spelled.{both_read, spells_node, entry_spelled, one_more_read, entries_counted}
+use Rattle.record_words.proofs.Reading.{both_read, spells_node, entry_spelled, one_more_read, entries_counted}
 use Rattle.record_words.proofs.node.read_node.Goals as goal
 use Rattle.record_words.proofs.node.read_node.Goals.{After-loop-slot}
 

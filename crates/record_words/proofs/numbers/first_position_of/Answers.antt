@@ -2,8 +2,8 @@
 use Rattle.std.proofs.Common.{◌≡◌, ◌∙◌, ◌%◌, ap, arith, get_or, refl, sym}
 use Rattle.std.proofs.lemmas.List.{get_or_default}
 use Rattle.compound_node.specs.Nodes.{head_of}
-use Rattle.record_words.proofs.NearPositions.{near_is}
-use Rattle.record_words.proofs.TellingHead.{near_mask, wide_position}
+use Rattle.record_words.proofs.numbers.NearPositions.{near_is}
+use Rattle.record_words.proofs.HeadParts.{near_mask, wide_position}
 use Rattle.record_words.specs.Kinds.{mask_index}
 use Rattle.record_words.specs.Node.{head_words}
 use Rattle.record_words.proofs.numbers.first_position_of.Goals as goal

@@ -2,8 +2,8 @@
 use Rattle.std.proofs.Common.{ℕ, ◌≡◌, ◌≢◌, ◌-◌, ◌%◌, ◌∙◌, arith, refl, sym, ap}
 use lib.Count.{count_leading_zeros}
 use Rattle.record_words.specs.Kinds.{bit_mask}
-use Rattle.record_words.proofs.NearLanes.{mask_of_bit}
-use Rattle.record_words.proofs.TellingHead.{mask_place}
+use Rattle.record_words.proofs.near.NearLanes.{mask_of_bit}
+use Rattle.record_words.proofs.HeadParts.{mask_place}
 use Rattle.record_words.proofs.numbers.near_position.Goals as goal
 
 pub returns : goal.returns

@@ -8,10 +8,10 @@ use Rattle.partial_keys.specs.Rows.{dense_of}
 use Rattle.record_words.specs.HeadParts.{front_words}
 use Rattle.record_words.specs.Kinds.{kind_of}
 use Rattle.record_words.specs.Node.{head_words}
-use Rattle.record_words.specs.declared.kind.Kind.TheVariants.{Wide}
+use Rattle.record_words.specs.declared.kind.HeadKind.TheVariants.{Wide}
 use Rattle.record_words.proofs.Lanes.{column_lanes, part_at, place_lanes_read}
-use Rattle.record_words.proofs.Spelled.{columns_counted, kind_of_one, lawful_one, one_of_kind, part_of_one}
-use Rattle.record_words.proofs.TellingHead.{wide_position}
+use Rattle.record_words.proofs.Reading.{columns_counted, kind_of_one, lawful_one, one_of_kind, part_of_one}
+use Rattle.record_words.proofs.HeadParts.{wide_position}
 use Rattle.record_words.proofs.search.extract_dense_key.Goals as goal
 
 -- the lanes of such words, and a node

@@ -5,11 +5,11 @@ use Rattle.compound_node.specs.Nodes.{IsLawfulNode, NodeView, head_of}
 use Rattle.record_words.specs.HeadParts.{AreNumbersOf}
 use Rattle.record_words.specs.Kinds.{first_byte, kind_of}
 use Rattle.record_words.specs.Node.{head_words}
-use Rattle.record_words.specs.declared.kind.Kind.TheVariants.{Middle, Narrow, Wide}
+use Rattle.record_words.specs.declared.kind.HeadKind.TheVariants.{Middle, Narrow, Wide}
 use Rattle.record_words.proofs.Lanes.{place_lanes_read, widened}
-use Rattle.record_words.proofs.NearHeads.{middle_lanes, narrow_lanes}
+use Rattle.record_words.proofs.search.NearHeads.{middle_lanes, narrow_lanes}
 use Rattle.record_words.proofs.OfKinds.{middle-not-wide, narrow-not-wide}
-use Rattle.record_words.proofs.TellingHead.{wide_position}
+use Rattle.record_words.proofs.HeadParts.{wide_position}
 use Rattle.record_words.proofs.search.positions_in.Goals as goal
 use Rattle.record_words.proofs.search.positions_in.Goals.{Joined-read_numbers, in-Wide, in-Narrow, in-Middle}
 

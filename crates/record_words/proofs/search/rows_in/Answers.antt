@@ -9,11 +9,11 @@ use Rattle.record_words.specs.HeadParts.{AreNumbersOf}
 use Rattle.record_words.specs.Kinds.{kind_of}
 use Rattle.record_words.specs.Node.{head_words}
 use Rattle.record_words.specs.Packed.{row_lanes}
-use Rattle.record_words.specs.declared.kind.Kind.TheVariants.{Middle, Narrow, Wide}
+use Rattle.record_words.specs.declared.kind.HeadKind.TheVariants.{Middle, Narrow, Wide}
 use Rattle.record_words.proofs.Lawful.{row-lt}
-use Rattle.record_words.proofs.NearHeads.{narrow_rows, near_rows}
-use Rattle.record_words.proofs.NearKinds.{middle_kind}
-use Rattle.record_words.proofs.NearRows.{lanes_long, moved_up, near_rows_read, row_by_lane, up}
+use Rattle.record_words.proofs.search.NearHeads.{narrow_rows, near_rows}
+use Rattle.record_words.proofs.near.NearKinds.{middle_kind}
+use Rattle.record_words.proofs.search.NearRows.{lanes_long, moved_up, near_rows_read, row_by_lane, up}
 use Rattle.record_words.proofs.OfKinds.{middle_few, narrow_few}
 use Rattle.record_words.proofs.search.rows_in.Goals as goal
 use Rattle.record_words.proofs.search.rows_in.Goals.{Joined-read_numbers, in-Wide, in-Narrow, in-Middle}

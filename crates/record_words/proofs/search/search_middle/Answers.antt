@@ -5,13 +5,13 @@ use Rattle.record_words.specs.HeadParts.{AreNumbersOf, middle_words}
 use Rattle.record_words.specs.Kinds.{AreNearLanes, kind_of}
 use Rattle.record_words.specs.Node.{head_words}
 use Rattle.record_words.specs.Packed.{row_lanes}
-use Rattle.record_words.specs.declared.kind.Kind.TheVariants.{Middle}
+use Rattle.record_words.specs.declared.kind.HeadKind.TheVariants.{Middle}
 use Rattle.record_words.proofs.Lanes.{part_at}
-use Rattle.record_words.proofs.NearHeads.{front_at, middle_lanes, near_rows}
-use Rattle.record_words.proofs.NearKinds.{middle_kind}
-use Rattle.record_words.proofs.NearRows.{lanes_lead, lanes_odd}
+use Rattle.record_words.proofs.search.NearHeads.{front_at, middle_lanes, near_rows}
+use Rattle.record_words.proofs.near.NearKinds.{middle_kind}
+use Rattle.record_words.proofs.search.NearRows.{lanes_lead, lanes_odd}
 use Rattle.record_words.proofs.OfKinds.{middle-not-wide, middle_few}
-use Rattle.record_words.proofs.Spelled.{in_one}
+use Rattle.record_words.proofs.Reading.{in_one}
 use Rattle.record_words.proofs.search.search_middle.Goals as goal
 use Rattle.record_words.proofs.search.search_middle.Goals.{After-split_into_quarters-rows, After-bytes_of_words-masks}
 

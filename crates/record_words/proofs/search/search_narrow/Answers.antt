@@ -8,12 +8,12 @@ use Rattle.record_words.specs.HeadParts.{AreNumbersOf, narrow_words}
 use Rattle.record_words.specs.Kinds.{AreNearLanes, kind_of}
 use Rattle.record_words.specs.Node.{head_words}
 use Rattle.record_words.specs.Packed.{row_lanes}
-use Rattle.record_words.specs.declared.kind.Kind.TheVariants.{Narrow}
+use Rattle.record_words.specs.declared.kind.HeadKind.TheVariants.{Narrow}
 use Rattle.record_words.proofs.Lanes.{part_at}
-use Rattle.record_words.proofs.NearHeads.{front_at, narrow_lanes, narrow_rows}
-use Rattle.record_words.proofs.NearRows.{lanes_lead, lanes_odd}
+use Rattle.record_words.proofs.search.NearHeads.{front_at, narrow_lanes, narrow_rows}
+use Rattle.record_words.proofs.search.NearRows.{lanes_lead, lanes_odd}
 use Rattle.record_words.proofs.OfKinds.{narrow-not-wide, narrow_few}
-use Rattle.record_words.proofs.Spelled.{in_one}
+use Rattle.record_words.proofs.Reading.{in_one}
 use Rattle.record_words.proofs.search.search_narrow.Goals as goal
 use Rattle.record_words.proofs.search.search_narrow.Goals.{After-bytes_in-rows, After-bytes_of_words-masks}
 

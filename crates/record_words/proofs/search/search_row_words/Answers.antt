@@ -2,10 +2,10 @@
 use Rattle.std.proofs.Common.{◌∙◌, ap, get_or, refl}
 use Rattle.compound_node.proofs.Lawful.{head_leads}
 use Rattle.compound_node.specs.Nodes.{head_of}
-use Rattle.partial_keys.proofs.Search.{first_is_zero}
+use Rattle.partial_keys.proofs.Leads.{first_is_zero}
 use Rattle.record_words.specs.HeadParts.{back_words}
-use Rattle.record_words.specs.declared.kind.Kind.TheVariants.{Wide}
-use Rattle.record_words.proofs.Spelled.{kind_of_one, lawful_one, one_of_kind, part_of_one}
+use Rattle.record_words.specs.declared.kind.HeadKind.TheVariants.{Wide}
+use Rattle.record_words.proofs.Reading.{kind_of_one, lawful_one, one_of_kind, part_of_one}
 use Rattle.record_words.proofs.search.search_row_words.Goals as goal
 
 pub search_rows-requires : goal.search_rows-requires

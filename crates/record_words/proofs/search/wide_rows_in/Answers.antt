@@ -5,7 +5,7 @@ use Rattle.std.proofs.lemmas.Simd.{get_or-chunk, pick_l_whole}
 use Rattle.compound_node.specs.Nodes.{head_of}
 use Rattle.record_words.specs.Node.{head_words}
 use Rattle.record_words.proofs.Lanes.{row_lanes_read, rows_joined}
-use Rattle.record_words.proofs.TellingHead.{wide_row}
+use Rattle.record_words.proofs.HeadParts.{wide_row}
 use Rattle.record_words.proofs.search.wide_rows_in.Goals as goal
 
 pub returns : goal.returns

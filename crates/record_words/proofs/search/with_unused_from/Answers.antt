@@ -1,5 +1,5 @@
 -- Each lane is chosen by its place.
-use Rattle.record_words.proofs.NearRows.{selected_long, selected_unused, selected_used}
+use Rattle.record_words.proofs.search.NearRows.{selected_long, selected_unused, selected_used}
 use Rattle.record_words.proofs.search.with_unused_from.Goals as goal
 
 pub returns-clause-whole : goal.returns-clause-whole

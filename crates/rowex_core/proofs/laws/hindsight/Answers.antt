@@ -1,4 +1,4 @@
-use Rattle.rowex_core.proofs.Promises.{hindsight}
+use Rattle.rowex_core.proofs.Statements.Promises.{hindsight}
 use Rattle.rowex_core.proofs.laws.hindsight.Goals as goal
 
 pub returns : goal.returns

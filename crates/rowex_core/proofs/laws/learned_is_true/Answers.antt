@@ -1,4 +1,4 @@
-use Rattle.rowex_core.proofs.Learning.{learns}
+use Rattle.rowex_core.proofs.Knowing.{learns}
 use Rattle.rowex_core.proofs.laws.learned_is_true.Goals as goal
 
 pub returns : goal.returns

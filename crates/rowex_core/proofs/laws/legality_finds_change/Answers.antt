@@ -1,4 +1,4 @@
-use Rattle.rowex_core.proofs.Finding.{finds_change}
+use Rattle.rowex_core.proofs.Events.Finding.{finds_change}
 use Rattle.rowex_core.proofs.laws.legality_finds_change.Goals as goal
 
 pub returns : goal.returns

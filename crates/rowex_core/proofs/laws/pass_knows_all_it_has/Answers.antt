@@ -1,4 +1,4 @@
-use Rattle.rowex_core.proofs.Owning.{knows_all}
+use Rattle.rowex_core.proofs.Sharing.Owning.{knows_all}
 use Rattle.rowex_core.proofs.laws.pass_knows_all_it_has.Goals as goal
 
 pub returns : goal.returns

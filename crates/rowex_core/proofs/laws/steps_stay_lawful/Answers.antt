@@ -1,4 +1,4 @@
-use Rattle.rowex_core.proofs.Staying.{stays_lawful}
+use Rattle.rowex_core.proofs.Cores.{stays_lawful}
 use Rattle.rowex_core.proofs.laws.steps_stay_lawful.Goals as goal
 
 pub returns : goal.returns

@@ -4,10 +4,10 @@ use Rattle.compound_node.specs.Nodes.{HeadView, leaves, node_of}
 use Rattle.compound_node.specs.declared.entries.Entry.TheVariants.{Node}
 use Rattle.compound_node.proofs.Lawful.{same_count}
 use Rattle.record_words.proofs.Nodes.{same_head}
-use Rattle.rowex_reading.proofs.Heading.{spelled_so}
-use Rattle.rowex_reading.proofs.Led.{led_on, reader_then, reads_later}
-use Rattle.rowex_reading.proofs.Seeing.{room_stable, sure_later}
-use Rattle.rowex_reading.proofs.Shapes.{place_inside, rows_are}
+use Rattle.rowex_reading.proofs.reading.Heading.{spelled_so}
+use Rattle.rowex_reading.proofs.Seen.Led.{led_on, reader_then, reads_later}
+use Rattle.rowex_reading.proofs.Seen.{room_stable, sure_later}
+use Rattle.rowex_reading.proofs.Possible.Shapes.{place_inside, rows_are}
 use Rattle.rowex_reading.specs.Seen.{HasPlace, HasMorePlaces}
 use Rattle.rowex_reading.proofs.affected.find_affected.Goals as goal
 

@@ -2,15 +2,15 @@
 use Rattle.std.proofs.Common.{◌≡◌, ◌↔◌, IsNone, length, take, sym, ap, subst, arith}
 use Rattle.std.specs.Prelude.{IfSome}
 use Rattle.key_bits.specs.Bits.{IsFirstDifference}
-use Rattle.rowex_table.proofs.Located.{leaf_at, node_at}
+use Rattle.rowex_table.proofs.Rule.Located.{leaf_at, node_at}
 use Rattle.rowex_reading.specs.Seen.{since, RootIs}
 use Rattle.compound_node.specs.declared.entries.Entry.TheVariants.{Leaf, Node}
-use Rattle.rowex_reading.proofs.Looking.{none_searched, none_found, at_root, at_led, leaf_searched}
-use Rattle.rowex_reading.proofs.Led.{reader_then, root_reader, root_pinned}
-use Rattle.rowex_reading.proofs.Descents.{IsGoing, going_first, ends_nowhere, there, falls_on, led_down, way_on, way_room, way_ends, end_found}
+use Rattle.rowex_reading.proofs.lookup.Lookup.{none_searched, none_found, at_root, at_led, leaf_searched}
+use Rattle.rowex_reading.proofs.Seen.Led.{reader_then, root_reader, root_pinned}
+use Rattle.rowex_reading.proofs.descent.Descent.{IsGoing, going_first, ends_nowhere, there, falls_on, led_down, way_on, way_room, way_ends, end_found}
 use Rattle.rowex_reading.proofs.Touching.{entry_read, entry_touched}
-use Rattle.rowex_reading.proofs.Naming.{entry_told, leaf_led, leaf_told, node_led, node_place, step_told}
-use Rattle.rowex_reading.proofs.Standing.{led_in_table}
+use Rattle.rowex_reading.proofs.Seen.Naming.{entry_told, leaf_led, leaf_told, node_led, node_place, step_told}
+use Rattle.rowex_reading.proofs.Seen.Standing.{led_in_table}
 use Rattle.rowex_reading.proofs.descent.search_way.Goals as goal
 
 pub prove-unreachable-requires : goal.prove-unreachable-requires

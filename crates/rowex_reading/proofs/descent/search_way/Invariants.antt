@@ -2,8 +2,8 @@
 use Rattle.compound_node.specs.Nodes.{height_of}
 use Rattle.rowex_reading.specs.Reads.{IsReader}
 use Rattle.rowex_reading.specs.Seen.{since}
-use Rattle.rowex_reading.proofs.Looking.{IsAt}
-use Rattle.rowex_reading.proofs.Descents.{IsGoing}
+use Rattle.rowex_reading.proofs.lookup.Lookup.{IsAt}
+use Rattle.rowex_reading.proofs.descent.Descent.{IsGoing}
 use Rattle.rowex_reading.proofs.descent.search_way.Given as goal
 
 abbrev pub invariant-loop-entry : goal.invariant-loop-entry

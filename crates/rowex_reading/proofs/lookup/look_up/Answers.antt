@@ -2,13 +2,13 @@
 use Rattle.std.proofs.Common.{◌<◌, sym, subst}
 use Rattle.compound_node.specs.Nodes.{height_of}
 use Rattle.compound_node.specs.declared.entries.Entry.TheVariants.{Node}
-use Rattle.rowex_table.proofs.Located.{node_at}
+use Rattle.rowex_table.proofs.Rule.Located.{node_at}
 use Rattle.rowex_reading.specs.Seen.{since}
-use Rattle.rowex_reading.proofs.Looking.{IsAt, none_searched, none_found, at_root, at_led, place_of, next_of, leaf_searched, leaf_found}
-use Rattle.rowex_reading.proofs.Led.{reader_then, root_reader}
+use Rattle.rowex_reading.proofs.lookup.Lookup.{IsAt, none_searched, none_found, at_root, at_led, place_of, next_of, leaf_searched, leaf_found}
+use Rattle.rowex_reading.proofs.Seen.Led.{reader_then, root_reader}
 use Rattle.rowex_reading.proofs.Touching.{entry_read, entry_touched}
-use Rattle.rowex_reading.proofs.Naming.{entry_told, node_led, node_place, slot_told}
-use Rattle.rowex_reading.proofs.Standing.{led_in_table}
+use Rattle.rowex_reading.proofs.Seen.Naming.{entry_told, node_led, node_place, slot_told}
+use Rattle.rowex_reading.proofs.Seen.Standing.{led_in_table}
 use Rattle.rowex_reading.proofs.lookup.look_up.Given as given
 use Rattle.rowex_reading.proofs.lookup.look_up.Goals as goal
 use Rattle.rowex_reading.proofs.lookup.look_up.Goals.{After-load_entry-entry}

@@ -1,7 +1,7 @@
 -- The search has been led to the entry; a node's entries are lower than the node.
 use Rattle.compound_node.specs.Nodes.{height_of}
 use Rattle.rowex_reading.specs.Reads.{IsReader}
-use Rattle.rowex_reading.proofs.Looking.{IsAt}
+use Rattle.rowex_reading.proofs.lookup.Lookup.{IsAt}
 use Rattle.rowex_reading.proofs.lookup.look_up.Given as goal
 
 abbrev pub invariant-loop-entry : goal.invariant-loop-entry

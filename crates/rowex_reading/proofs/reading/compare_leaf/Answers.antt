@@ -9,11 +9,11 @@ use Rattle.rowex_reading.specs.Reads.{Reads}
 use Rattle.record_words.specs.Layout.{leaf_size}
 use Rattle.record_words.specs.Leaf.{words_for}
 use Rattle.record_words.proofs.Locations.{size_fits}
-use Rattle.rowex_reading.proofs.Leafing.{room_of}
-use Rattle.rowex_reading.proofs.Comparing.{first_same, next_same, other_key, same_key}
-use Rattle.rowex_reading.proofs.Led.{of_kind, reader_then, reads_one, reads_trans}
-use Rattle.rowex_reading.proofs.Valuing.{byte_word, length_word, words_with}
-use Rattle.rowex_reading.proofs.Wording.{IsKeyWord, none_loaded}
+use Rattle.rowex_reading.proofs.reading.Leafing.{room_of}
+use Rattle.rowex_reading.proofs.reading.Comparing.{first_same, next_same, other_key, same_key}
+use Rattle.rowex_reading.proofs.Seen.Led.{of_kind, reader_then, reads_one, reads_trans}
+use Rattle.rowex_reading.proofs.Seen.Valuing.{byte_word, length_word, words_with}
+use Rattle.rowex_reading.proofs.reading.Wording.{IsKeyWord, none_loaded}
 use Rattle.rowex_reading.proofs.reading.compare_leaf.Goals as goal
 
 pub load_fixed_at-requires : goal.load_fixed_at-requires

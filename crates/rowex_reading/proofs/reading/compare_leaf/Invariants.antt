@@ -6,8 +6,8 @@ use Rattle.record_words.specs.Layout.{leaf_size}
 use Rattle.record_words.specs.Leaf.{words_of_key}
 use Rattle.rowex_table.specs.Rule.{record_number}
 use Rattle.rowex_reading.specs.Reads.{IsReader, Reads}
-use Rattle.rowex_reading.proofs.Valuing.{words_with}
-use Rattle.rowex_reading.proofs.Wording.{IsKeyWord}
+use Rattle.rowex_reading.proofs.Seen.Valuing.{words_with}
+use Rattle.rowex_reading.proofs.reading.Wording.{IsKeyWord}
 use Rattle.rowex_reading.specs.Seen.{AreLoaded}
 use Rattle.rowex_reading.proofs.reading.compare_leaf.Given as goal
 

@@ -3,8 +3,8 @@ use Rattle.std.proofs.Common.{Some, refl}
 use Rattle.rowex_core.specs.declared.event.Act.TheVariants.{LoadRef}
 use Rattle.rowex_core.specs.declared.event.Spot.TheVariants.{Slot}
 use Rattle.rowex_table.specs.Rule.{record_number}
-use Rattle.rowex_reading.proofs.Led.{reads_one}
-use Rattle.rowex_reading.proofs.Placing.{is_entry, slot_spelled, slot_some, slot_placed, slot_lower, some_spelled}
+use Rattle.rowex_reading.proofs.Seen.Led.{reads_one}
+use Rattle.rowex_reading.proofs.Possible.Placing.{is_entry, slot_spelled, slot_some, slot_placed, slot_lower, some_spelled}
 use Rattle.rowex_reading.proofs.reading.load_entry.Goals as goal
 
 pub load_slot_at-word-requires : goal.load_slot_at-word-requires

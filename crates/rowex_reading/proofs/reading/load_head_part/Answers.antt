@@ -6,8 +6,8 @@ use Rattle.record_words.specs.declared.records.Rec.TheVariants.{Node as a_node}
 use Rattle.rowex_core.specs.declared.event.Act.TheVariants.{LoadFixed}
 use Rattle.rowex_table.specs.Rule.{record_number}
 use Rattle.rowex_reading.specs.Reads.{Reads}
-use Rattle.rowex_reading.proofs.Led.{of_kind, reader_then, reads_none, reads_one, reads_trans}
-use Rattle.rowex_reading.proofs.Wording.{fewer_loaded, led_stood, next_loaded, none_loaded}
+use Rattle.rowex_reading.proofs.Seen.Led.{of_kind, reader_then, reads_none, reads_one, reads_trans}
+use Rattle.rowex_reading.proofs.reading.Wording.{fewer_loaded, led_stood, next_loaded, none_loaded}
 use Rattle.rowex_reading.proofs.reading.load_head_part.Goals as goal
 
 pub loop-index-init : goal.loop-index-init

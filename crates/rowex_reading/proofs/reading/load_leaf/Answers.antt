@@ -8,10 +8,10 @@ use Rattle.record_words.proofs.Locations.{size_fits}
 use Rattle.rowex_core.specs.declared.event.Act.TheVariants.{LoadRef, LoadFixed}
 use Rattle.rowex_core.specs.declared.event.Spot.TheVariants.{Value}
 use Rattle.rowex_table.specs.Rule.{record_number}
-use Rattle.rowex_reading.proofs.Led.{of_kind, reader_then, reads_one, reads_trans}
-use Rattle.rowex_reading.proofs.Leafing.{AreSoFar, all_places, first_read, so_far_first, so_far_next, zero_small}
-use Rattle.rowex_reading.proofs.Fronting.{front, front_small, front_written, front_others, length-front}
-use Rattle.rowex_reading.proofs.Whole.{HasAll, whole_few, whole_key, whole_read, whole_reads}
+use Rattle.rowex_reading.proofs.Seen.Led.{of_kind, reader_then, reads_one, reads_trans}
+use Rattle.rowex_reading.proofs.reading.Leafing.{AreSoFar, all_places, first_read, so_far_first, so_far_next, zero_small}
+use Rattle.rowex_reading.proofs.reading.Fronting.{front, front_small, front_written, front_others, length-front}
+use Rattle.rowex_reading.proofs.reading.Whole.{HasAll, whole_few, whole_key, whole_read, whole_reads}
 use Rattle.rowex_reading.proofs.reading.load_leaf.Goals as goal
 
 pub load_value_at-value-requires : goal.load_value_at-value-requires

@@ -6,8 +6,8 @@ use Rattle.record_words.specs.Layout.{leaf_size}
 use Rattle.record_words.specs.Leaf.{words_of_key}
 use Rattle.rowex_table.specs.Rule.{record_number}
 use Rattle.rowex_reading.specs.Reads.{IsReader, Reads}
-use Rattle.rowex_reading.proofs.Leafing.{AreSoFar}
-use Rattle.rowex_reading.proofs.Fronting.{front}
+use Rattle.rowex_reading.proofs.reading.Leafing.{AreSoFar}
+use Rattle.rowex_reading.proofs.reading.Fronting.{front}
 use Rattle.rowex_reading.proofs.reading.load_leaf.Given as goal
 
 abbrev pub invariant-loop-index : goal.invariant-loop-index

@@ -1,6 +1,6 @@
 -- The step by the words of the head.
 use Rattle.std.proofs.Common.{ap, get_or}
-use Rattle.rowex_reading.proofs.Stepping.{step_spelled}
+use Rattle.rowex_reading.proofs.reading.Stepping.{step_spelled}
 use Rattle.rowex_reading.proofs.reading.load_path_node.Goals as goal
 
 pub returns-clause-step : goal.returns-clause-step

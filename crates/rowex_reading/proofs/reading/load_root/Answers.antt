@@ -1,6 +1,6 @@
 -- What a load of the root tells.
-use Rattle.rowex_reading.proofs.Loading.{pinned_by}
-use Rattle.rowex_reading.proofs.Rooting.{root_spelled, root_told, root_low}
+use Rattle.rowex_reading.proofs.Seen.Loading.{pinned_by}
+use Rattle.rowex_reading.proofs.Possible.Rooting.{root_spelled, root_told, root_low}
 use Rattle.rowex_reading.proofs.reading.load_root.Goals as goal
 
 pub read_entry-requires : goal.read_entry-requires

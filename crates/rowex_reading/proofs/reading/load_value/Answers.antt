@@ -2,7 +2,7 @@
 use Rattle.std.proofs.Common.{ap}
 use Rattle.compound_node.specs.declared.entries.Entry.TheVariants.{Leaf}
 use Rattle.rowex_table.specs.Rule.{record_number}
-use Rattle.rowex_reading.proofs.Standing.{led_in_table}
+use Rattle.rowex_reading.proofs.Seen.Standing.{led_in_table}
 use Rattle.rowex_reading.proofs.reading.load_value.Goals as goal
 
 pub locate-leaf-requires : goal.locate-leaf-requires

@@ -4,13 +4,13 @@ use Rattle.std.proofs.lemmas.Bool.{ne_eqb}
 use Rattle.std.proofs.lemmas.List.{get_or_append_left}
 use Rattle.compound_node.specs.declared.entries.Entry.TheVariants.{Node}
 use Rattle.record_words.specs.Kinds.{kind_in}
-use Rattle.record_words.specs.declared.kind.Kind.TheVariants.{Middle, Narrow, Wide}
+use Rattle.record_words.specs.declared.kind.HeadKind.TheVariants.{Middle, Narrow, Wide}
 use Rattle.rowex_table.specs.Rule.{record_number}
 use Rattle.rowex_reading.specs.Lookups.{search_touches}
 use Rattle.rowex_reading.specs.Seen.{AreHeadWords, IsLedTo}
-use Rattle.rowex_reading.proofs.Led.{led_on, reader_then, reads_trans}
+use Rattle.rowex_reading.proofs.Seen.Led.{led_on, reader_then, reads_trans}
 use Rattle.rowex_reading.proofs.Touching.{led_past, loaded_past, reader_past, searched}
-use Rattle.rowex_reading.proofs.Stepping.{back_spelled, begun, begun_loaded, begun_long, front_spelled, near_read, part_spelled, part_spot, step_found, wide_read, wide_spot}
+use Rattle.rowex_reading.proofs.reading.Stepping.{back_spelled, begun, begun_loaded, begun_long, front_spelled, near_read, part_spelled, part_spot, step_found, wide_read, wide_spot}
 use Rattle.rowex_reading.proofs.reading.search_node.Given as given
 use Rattle.rowex_reading.proofs.reading.search_node.Goals as goal
 use Rattle.rowex_reading.proofs.reading.search_node.Goals.{After-load_head_part-in-1, After-load_head_part-in-2, After-load_head_part-in_default-2}

@@ -4,13 +4,13 @@ use Rattle.compound_node.specs.Nodes.{height_of}
 use Rattle.compound_node.specs.declared.entries.Entry.TheVariants.{Node}
 use Rattle.rowex_table.specs.Rule.{record_number}
 use Rattle.rowex_table.specs.Seats.{SeatView}
-use Rattle.rowex_table.proofs.Located.{node_at}
+use Rattle.rowex_table.proofs.Rule.Located.{node_at}
 use Rattle.rowex_reading.specs.Seen.{since}
 use Rattle.rowex_reading.specs.Together.{HasComeTo}
-use Rattle.rowex_reading.proofs.Led.{reader_then}
-use Rattle.rowex_reading.proofs.Looking.{way_led, way_next, way_place}
+use Rattle.rowex_reading.proofs.Seen.Led.{reader_then}
+use Rattle.rowex_reading.proofs.lookup.Lookup.{way_led, way_next, way_place}
 use Rattle.rowex_reading.proofs.Touching.{entry_read, reads_on, reads_touching, reads_untouched, touches_last}
-use Rattle.rowex_reading.proofs.Standing.{led_in_table}
+use Rattle.rowex_reading.proofs.Seen.Standing.{led_in_table}
 use Rattle.rowex_reading.proofs.together.enter_node.Given as given
 use Rattle.rowex_reading.proofs.together.enter_node.Goals as goal
 use Rattle.rowex_reading.proofs.together.enter_node.Goals.{After-load_entry-entry}

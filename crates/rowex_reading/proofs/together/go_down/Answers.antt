@@ -6,8 +6,8 @@ use Rattle.compound_node.specs.declared.entries.Entry.{Entry}
 use Rattle.compound_node.specs.declared.entries.Entry.TheVariants.{Leaf, Node}
 use Rattle.rowex_table.specs.Seats.{SeatView}
 use Rattle.rowex_reading.specs.Together.{AreLeaves, HasComeTo}
-use Rattle.rowex_reading.proofs.Led.{reads_none}
-use Rattle.rowex_reading.proofs.SideBySide.{HaveGone, gone_down, gone_still}
+use Rattle.rowex_reading.proofs.Seen.Led.{reads_none}
+use Rattle.rowex_reading.proofs.together.Together.{HaveGone, gone_down, gone_still}
 use Rattle.rowex_reading.proofs.together.go_down.Given as given
 use Rattle.rowex_reading.proofs.together.go_down.Goals as goal
 use Rattle.rowex_reading.proofs.together.go_down.Goals.{After-index-keys-index, in-Node, in_default}

@@ -1,5 +1,5 @@
 -- The searches before the index have gone down a node.
-use Rattle.rowex_reading.proofs.SideBySide.{HaveGone}
+use Rattle.rowex_reading.proofs.together.Together.{HaveGone}
 use Rattle.rowex_reading.proofs.together.go_down.Given as goal
 
 abbrev pub invariant-loop-index : goal.invariant-loop-index

@@ -6,9 +6,9 @@ use Rattle.std.proofs.lemmas.Option.{slice_get_read, slice_get-get_or}
 use Rattle.compound_node.specs.declared.entries.Entry.TheVariants.{Leaf}
 use Rattle.rowex_reading.specs.Seen.{since}
 use Rattle.rowex_reading.specs.Together.{HasComeTo}
-use Rattle.rowex_reading.proofs.Led.{reader_then, reads_trans}
-use Rattle.rowex_reading.proofs.Looking.{way_found, way_led}
-use Rattle.rowex_reading.proofs.SideBySide.{found_more, found_on, ways_on}
+use Rattle.rowex_reading.proofs.Seen.Led.{reader_then, reads_trans}
+use Rattle.rowex_reading.proofs.lookup.Lookup.{way_found, way_led}
+use Rattle.rowex_reading.proofs.together.Together.{found_more, found_on, ways_on}
 use Rattle.rowex_reading.proofs.together.load_values.Given as given
 use Rattle.rowex_reading.proofs.together.load_values.Goals as goal
 use Rattle.rowex_reading.proofs.together.load_values.Goals.{After-index-keys-index}

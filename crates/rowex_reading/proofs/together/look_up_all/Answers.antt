@@ -4,9 +4,9 @@ use Rattle.std.proofs.lemmas.List.{length-set}
 use Rattle.std.proofs.lemmas.Option.{slice_get-get_or}
 use borrow.Rule.Slice.PartMut.{mid_len, mid_of, same_len_mid}
 use Rattle.rowex_reading.specs.Lookups.{HaveFound}
-use Rattle.rowex_reading.proofs.Led.{reader_then, root_pinned, root_reader}
-use Rattle.rowex_reading.proofs.Looking.{none_found}
-use Rattle.rowex_reading.proofs.SideBySide.{found_group, found_more, found_on, more_searched, none_searched, root_on}
+use Rattle.rowex_reading.proofs.Seen.Led.{reader_then, root_pinned, root_reader}
+use Rattle.rowex_reading.proofs.lookup.Lookup.{none_found}
+use Rattle.rowex_reading.proofs.together.Together.{found_group, found_more, found_on, more_searched, none_searched, root_on}
 use Rattle.rowex_reading.proofs.together.look_up_all.Goals as goal
 
 pub loop-index-preserved : goal.loop-index-preserved

@@ -1,8 +1,8 @@
 -- The root for each key, one node down, and the leaves.
 use Rattle.std.proofs.Common.{◌∙◌, ◌+◌, arith, le_trans, length, length-take-le}
 use Rattle.std.proofs.Math.Nat.{mul-le-mul_left}
-use Rattle.rowex_reading.proofs.Led.{reader_then, reads_none, reads_trans}
-use Rattle.rowex_reading.proofs.SideBySide.{heights_first, ways_first}
+use Rattle.rowex_reading.proofs.Seen.Led.{reader_then, reads_none, reads_trans}
+use Rattle.rowex_reading.proofs.together.Together.{heights_first, ways_first}
 use Rattle.rowex_reading.proofs.together.look_up_group.Goals as goal
 
 pub loop-init : goal.loop-init

@@ -1,7 +1,7 @@
 -- None may be tried, the first is free, and it is not.
 use Rattle.std.proofs.Common.{arith, ◌≡◌, ◌<◌}
 use Rattle.rowex_records.specs.Claims.{count_of}
-use Rattle.rowex_records.proofs.Claimed.{tries_behind, tries_first, tries_none}
+use Rattle.rowex_records.proofs.Claims.{tries_behind, tries_first, tries_none}
 use Rattle.rowex_records.proofs.claiming.claim_and_count_tries.Goals as goal
 use Rattle.rowex_records.proofs.claiming.claim_and_count_tries.Goals.{After-number_or_zero-begin}
 use Rattle.rowex_records.proofs.claiming.claim_and_count_tries.Given.{Over}

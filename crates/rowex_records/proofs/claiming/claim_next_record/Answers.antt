@@ -1,7 +1,7 @@
 -- What is left of those that may be tried.
 use Rattle.std.proofs.Common.{arith, ◌≡◌, min}
 use Rattle.rowex_records.specs.Claims.{count_of}
-use Rattle.rowex_records.proofs.Claimed.{has_tried, tries_held}
+use Rattle.rowex_records.proofs.Claims.{has_tried, tries_held}
 use Rattle.rowex_records.proofs.claiming.claim_next_record.Goals as goal
 
 pub returns-clause-claims : goal.returns-clause-claims

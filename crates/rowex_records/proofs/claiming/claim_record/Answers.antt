@@ -1,7 +1,7 @@
 -- As many may be tried as there are.
 use Rattle.std.proofs.Common.{◌≡◌}
 use Rattle.rowex_records.specs.Claims.{count_of}
-use Rattle.rowex_records.proofs.Claimed.{claims_whole, none_whole}
+use Rattle.rowex_records.proofs.Claims.{claims_whole, none_whole}
 use Rattle.rowex_records.proofs.claiming.claim_record.Goals as goal
 
 pub returns-clause-claims : goal.returns-clause-claims

@@ -2,7 +2,7 @@
 use Rattle.std.proofs.Common.{rules, arith, ◌≡◌, ◌+◌, ◌∙◌, ap, sym, subst, add-zero}
 use Rattle.std.specs.Prelude.{None}
 use Rattle.rowex_records.specs.Claims.{GoesOnTrying}
-use Rattle.rowex_records.proofs.Claimed.{has_index, span_none, span_more, span_claims, starts_at}
+use Rattle.rowex_records.proofs.Claims.{has_index, span_none, span_more, span_claims, starts_at}
 use Rattle.rowex_records.proofs.claiming.claim_record_in_span.Goals as goal
 
 pub loop-index-init : goal.loop-index-init

@@ -1,6 +1,6 @@
 -- The pass holds the record, and may release it.
 use Rattle.rowex_table.proofs.Rights.{releases}
-use Rattle.rowex_records.proofs.Filled.{gives_up}
+use Rattle.rowex_records.proofs.Records.{gives_up}
 use Rattle.rowex_records.proofs.claiming.give_up_record.Goals as goal
 
 pub release-requires-clause-may : goal.release-requires-clause-may

@@ -1,6 +1,6 @@
 -- None yet, one more, and all of them.
 use Rattle.std.proofs.Common.{rules}
-use Rattle.rowex_records.proofs.GivenUp.{gives_up_none, gives_up_more, gives_up_all, next_held}
+use Rattle.rowex_records.proofs.claiming.GivenUp.{gives_up_none, gives_up_more, gives_up_all, next_held}
 use Rattle.rowex_records.proofs.claiming.give_up_records.Goals as goal
 
 pub loop-index-init : goal.loop-index-init

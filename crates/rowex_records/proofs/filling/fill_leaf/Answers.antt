@@ -3,8 +3,8 @@ use Rattle.std.proofs.Common.{rules, arith, subst, length, ap, ◌≡◌, ◌+�
 use Rattle.record_words.specs.declared.records.Rec.TheVariants.{Leaf as a_leaf}
 use Rattle.record_words.specs.Leaf.{leaf_words, words_for}
 use Rattle.rowex_records.specs.Records.{SetsSome}
-use Rattle.rowex_records.proofs.Named.{stores_of}
-use Rattle.rowex_records.proofs.SetAll.{key_next, length_next, sets_leaf_value, sets_leaf_next, sets_count, sets_leaf}
+use Rattle.rowex_records.proofs.filling.Named.{stores_of}
+use Rattle.rowex_records.proofs.filling.SetAll.{key_next, length_next, sets_leaf_value, sets_leaf_next, sets_count, sets_leaf}
 use Rattle.rowex_records.proofs.filling.fill_leaf.Given as given
 use Rattle.rowex_records.proofs.filling.fill_leaf.Goals as goal
 use Rattle.rowex_records.proofs.filling.fill_leaf.Goals.{After-store_word-2}

@@ -3,8 +3,8 @@ use Rattle.std.proofs.Common.{arith, rules, length, refl, ◌≡◌}
 use Rattle.record_words.specs.declared.records.Rec.TheVariants.{Node as a_node}
 use Rattle.rowex_core.specs.Reading.{IsPacked}
 use Rattle.rowex_records.specs.Records.{SetsSome}
-use Rattle.rowex_records.proofs.Named.{claimed_at, more_of, stores_of}
-use Rattle.rowex_records.proofs.SetAll.{sets_eights, sets_node, sets_count, sets_give}
+use Rattle.rowex_records.proofs.filling.Named.{claimed_at, more_of, stores_of}
+use Rattle.rowex_records.proofs.filling.SetAll.{sets_eights, sets_node, sets_count, sets_give}
 use Rattle.rowex_records.proofs.filling.fill_node.Given as given
 use Rattle.rowex_records.proofs.filling.fill_node.Goals as goal
 use Rattle.rowex_records.proofs.filling.fill_node.Goals.{After-store_word}

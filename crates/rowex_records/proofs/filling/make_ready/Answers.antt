@@ -1,6 +1,6 @@
 -- The pass holds the record, and its words spell a value.
 use Rattle.rowex_table.proofs.Rights.{readies}
-use Rattle.rowex_records.proofs.Filled.{readies_of}
+use Rattle.rowex_records.proofs.Records.{readies_of}
 use Rattle.rowex_records.proofs.filling.make_ready.Goals as goal
 
 pub ready-requires-clause-may : goal.ready-requires-clause-may

@@ -1,6 +1,6 @@
 -- One word more.
 use Rattle.std.proofs.Common.{refl}
-use Rattle.rowex_records.proofs.SetAll.{more_sets}
+use Rattle.rowex_records.proofs.filling.SetAll.{more_sets}
 use Rattle.rowex_records.proofs.filling.store_group.Goals as goal
 
 pub loop-place-preserved : goal.loop-place-preserved

@@ -1,6 +1,6 @@
 use Rattle.std.proofs.Common.{◌≡◌, ℕ, ◌<◌, ◌≤◌, length, slice_get, Some}
-use Rattle.replay_trees.specs.declared.linked.Item.{Item}
-use Rattle.replay_trees.specs.Versions.{read_item}
+use Rattle.rowex_replay_state.specs.declared.linked.Item.{Item}
+use Rattle.rowex_replay_state.specs.Versions.{read_item}
 use Rattle.rowex_replay_state.specs.Publishing.{revalued_item}
 use Rattle.rowex_replay_state.proofs.publish.set_value.Given as goal
 

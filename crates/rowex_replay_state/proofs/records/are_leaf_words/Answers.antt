@@ -1,5 +1,5 @@
 -- Words are read exactly where they spell a leaf.
-use Rattle.rowex_replay_state.proofs.Packing.{packed_leaf}
+use Rattle.rowex_replay_state.proofs.records.Packing.{packed_leaf}
 use Rattle.rowex_replay_state.proofs.records.are_leaf_words.Goals as goal
 
 pub returns : goal.returns

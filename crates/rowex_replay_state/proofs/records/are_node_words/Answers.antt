@@ -1,5 +1,5 @@
 -- Words are read exactly where they spell a node.
-use Rattle.rowex_replay_state.proofs.Packing.{packed_node}
+use Rattle.rowex_replay_state.proofs.records.Packing.{packed_node}
 use Rattle.rowex_replay_state.proofs.records.are_node_words.Goals as goal
 
 pub returns : goal.returns

@@ -4,15 +4,15 @@ use Rattle.std.proofs.lemmas.List.{length-set}
 use Rattle.compound_node.specs.declared.entries.Entry.TheVariants.{Leaf, Node}
 use Rattle.rowex_table.specs.Seats.{SeatView}
 use Rattle.rowex_reading.specs.Seen.{HasPlace, IsLedTo, Sure}
-use Rattle.rowex_reading.proofs.Led.{placed_led, reader_then, reads_later, reads_none, reads_trans}
-use Rattle.rowex_reading.proofs.Naming.{entry_told, node_place}
-use Rattle.rowex_reading.proofs.Seeing.{since_later}
+use Rattle.rowex_reading.proofs.Seen.Led.{placed_led, reader_then, reads_later, reads_none, reads_trans}
+use Rattle.rowex_reading.proofs.Seen.Naming.{entry_told, node_place}
+use Rattle.rowex_reading.proofs.Seen.{since_later}
 use Rattle.rowex_reading.proofs.Touching.{reads_touching, reads_untouched, touches_last}
 use Rattle.version_laws.specs.Scan.{IsPlaced}
 use Rattle.rowex_scanning.specs.Ahead.{HasPlaces}
 use Rattle.version_laws.specs.Directions.{place_ahead}
-use Rattle.rowex_scanning.proofs.Begins.{begins_there, leaf_begins, leaf_there, node_begins, node_there}
-use Rattle.rowex_scanning.proofs.Passing.{ahead_later, ahead_more, loaded_at, places_later, starts_more}
+use Rattle.rowex_scanning.proofs.ahead.Begins.{begins_there, leaf_begins, leaf_there, node_begins, node_there}
+use Rattle.rowex_scanning.proofs.taking.Passing.{ahead_later, ahead_more, loaded_at, places_later, starts_more}
 use Rattle.rowex_scanning.proofs.ahead.load_entries_ahead.Given as given
 use Rattle.rowex_scanning.proofs.ahead.load_entries_ahead.Goals as goal
 use Rattle.rowex_scanning.proofs.ahead.load_entries_ahead.Goals.{After-slot_ahead-slot, In-Leaf}

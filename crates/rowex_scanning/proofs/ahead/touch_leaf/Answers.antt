@@ -3,7 +3,7 @@ use Rattle.std.proofs.Common.{◌∙◌, ap, arith, subst, sym}
 use Rattle.record_words.specs.declared.records.Rec.TheVariants.{Leaf as a_leaf}
 use Rattle.rowex_table.specs.Rule.{IsStartOf, record_number}
 use Rattle.rowex_reading.proofs.Touching.{touched_none, touched_on}
-use Rattle.rowex_scanning.proofs.Begins.{word_there}
+use Rattle.rowex_scanning.proofs.ahead.Begins.{word_there}
 use Rattle.rowex_scanning.proofs.ahead.touch_leaf.Goals as goal
 
 pub touch-requires-clause-start : goal.touch-requires-clause-start

@@ -2,11 +2,11 @@
 use Rattle.std.proofs.Common.{◌≡◌, ℕ, ◌+◌, ◌-◌, ◌*◌, ◌/◌, ◌<◌, ◌≤◌, arith, length, subst, get_or, sym}
 use Rattle.record_words.specs.declared.TheConstants.{LEAF_FIELDS}
 use Rattle.rowex_reading.specs.Seen.{since}
-use Rattle.rowex_reading.proofs.Led.{reader_then, reads_later, reads_trans}
-use Rattle.rowex_reading.proofs.Seeing.{later_reflexive}
+use Rattle.rowex_reading.proofs.Seen.Led.{reader_then, reads_later, reads_trans}
+use Rattle.rowex_reading.proofs.Seen.{later_reflexive}
 use Rattle.rowex_scanning.specs.Ahead.{IsLeafNotPast, IsLeafPast}
 use Rattle.rowex_scanning.specs.Scanning.{request_of}
-use Rattle.rowex_scanning.proofs.Runs.{behind_led, not_past_later, past_later, within_up_to}
+use Rattle.rowex_scanning.proofs.taking.Runs.{behind_led, not_past_later, past_later, within_up_to}
 use Rattle.rowex_scanning.proofs.counting.count_leaves_within.Goals as goal
 
 -- The leaf in the middle comes before the one that is past the range.

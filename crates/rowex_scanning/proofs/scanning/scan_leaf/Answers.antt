@@ -5,10 +5,10 @@ use Rattle.compound_node.specs.declared.entries.Entry.TheVariants.{Leaf}
 use Rattle.record_words.specs.declared.TheConstants.{LEAF_FIELDS}
 use Rattle.rowex_reading.specs.Reads.{Reads}
 use Rattle.rowex_reading.specs.Seen.{since}
-use Rattle.rowex_reading.proofs.Led.{reads_later, rooted_led, same_since}
+use Rattle.rowex_reading.proofs.Seen.Led.{reads_later, rooted_led, same_since}
 use Rattle.version_laws.specs.Directions.{IsEarlier, IsNoLater}
 use Rattle.rowex_scanning.specs.Scanning.{asked_range}
-use Rattle.rowex_scanning.proofs.Parts.{leaf_part}
+use Rattle.rowex_scanning.proofs.scanning.Parts.{leaf_part}
 use Rattle.rowex_scanning.proofs.Walking.{IsRootRead, leaf_early, leaf_full, leaf_unfilled}
 use Rattle.rowex_scanning.proofs.scanning.scan_leaf.Given as given
 use Rattle.rowex_scanning.proofs.scanning.scan_leaf.Goals as goal

@@ -5,16 +5,16 @@ use Rattle.std.proofs.lemmas.Result.{err_from_is_err_and}
 use Rattle.compound_node.specs.declared.entries.Entry.TheVariants.{Leaf}
 use Rattle.rowex_reading.specs.Reads.{Reads}
 use Rattle.rowex_reading.specs.Seen.{since}
-use Rattle.rowex_reading.proofs.Led.{reader_then, reads_later, reads_trans, same_since}
+use Rattle.rowex_reading.proofs.Seen.Led.{reader_then, reads_later, reads_trans, same_since}
 use Rattle.version_laws.specs.Directions.{first_key}
 use Rattle.rowex_scanning.specs.Scanning.{asked_range}
-use Rattle.rowex_scanning.proofs.Begins.{begins_there, leaf_there}
-use Rattle.rowex_scanning.proofs.Parts.{walk_part}
-use Rattle.rowex_scanning.proofs.Starting.{HasBegun, begun}
+use Rattle.rowex_scanning.proofs.ahead.Begins.{begins_there, leaf_there}
+use Rattle.rowex_scanning.proofs.scanning.Parts.{walk_part}
+use Rattle.rowex_scanning.proofs.Starts.{HasBegun, begun}
 use Rattle.rowex_scanning.proofs.Walking.{IsAtEntry, bound_later, bound_since, entry_led, entry_low, reads_both, walk_full, walk_further, walk_past, walk_since, walks_alone, walks_behind}
 use Rattle.rowex_scanning.proofs.scanning.scan_node.Given as given
 use Rattle.rowex_scanning.proofs.scanning.scan_node.Goals as goal
-use Rattle.rowex_scanning.proofs.scanning.scan_node.Goals.{After-take_leaf, After-truncate, then-start+in_ok-take_leaf+in-Further, else-start}
+use Rattle.rowex_scanning.proofs.scanning.scan_node.Goals.{After-take_leaf, After-truncate, After-walk_slots, then-start+in_ok-take_leaf+in-Further, else-start}
 
 -- where the scan begins
 begins : (g : given.Over) (c : After-truncate g) →
@@ -54,6 +54,9 @@ take_leaf-requires-clause-leaf g c =
 pub returns-in_err-take_leaf-clause-reads : goal.returns-in_err-take_leaf-clause-reads
 returns-in_err-take_leaf-clause-reads g c = walks_alone c.args.scan.now.range.now.limit (reads_both c.find_start-start.ensures.reads c.take_leaf.ensures.reads (omega arith))
 
+pub returns-in_err-take_leaf-clause-passed : goal.returns-in_err-take_leaf-clause-passed
+returns-in_err-take_leaf-clause-passed g c = walks_alone _ (reads_both c.find_start-start.ensures.reads c.take_leaf.ensures.reads (omega arith))
+
 pub returns-in_err-take_leaf-clause-part : goal.returns-in_err-take_leaf-clause-part
 returns-in_err-take_leaf-clause-part g c =
     let (a, same) = first g (goal.at.returns-in_err-take_leaf-clause-part g c).After-take_leaf in
@@ -66,12 +69,18 @@ gap_behind_slot-requires g c = entry_low ((begins g (goal.at.gap_behind_slot-req
 pub returns-in-Past-clause-reads : goal.returns-in-Past-clause-reads
 returns-in-Past-clause-reads g c = walks_alone c.args.scan.now.range.now.limit (reads_both c.find_start-start.ensures.reads c.take_leaf.ensures.reads (omega arith))
 
+pub returns-in-Past-clause-passed : goal.returns-in-Past-clause-passed
+returns-in-Past-clause-passed g c = walks_alone _ (reads_both c.find_start-start.ensures.reads c.take_leaf.ensures.reads (omega arith))
+
 pub returns-in-Past-clause-scanned : goal.returns-in-Past-clause-scanned
 returns-in-Past-clause-scanned g c =
     let (a, same) = first g (goal.at.returns-in-Past-clause-scanned g c).After-take_leaf in walk_past a (reads_later c.take_leaf.ensures.reads.2) c.in_ok-take_leaf.ensures.taken same c.in-Past.is
 
 pub returns-in-Full-clause-reads : goal.returns-in-Full-clause-reads
 returns-in-Full-clause-reads g c = walks_alone c.args.scan.now.range.now.limit (reads_both c.find_start-start.ensures.reads c.take_leaf.ensures.reads (omega arith))
+
+pub returns-in-Full-clause-passed : goal.returns-in-Full-clause-passed
+returns-in-Full-clause-passed g c = walks_alone _ (reads_both c.find_start-start.ensures.reads c.take_leaf.ensures.reads (omega arith))
 
 pub returns-in-Full-clause-scanned : goal.returns-in-Full-clause-scanned
 returns-in-Full-clause-scanned g c =
@@ -108,11 +117,18 @@ walk_slots-requires-clause-walk g c =
       ];
     }
 
-pub returns-clause-reads : goal.returns-clause-reads
-returns-clause-reads g c =
+-- The loads before the walk,
+before : (g : given.Over) (c : After-walk_slots g) → (n : ℕ) × (n ≤ 57) × Reads c.args.scan.now.table.now g.G.Gate.becomes 0 n (c.args.seat.now, c.args.gate.now) (c.if-start.seat, c.if-start.gate)
+before g c =
     let r = c.find_start-start.ensures.reads in let few = r.1 in
-    let before : (n : ℕ) × (n ≤ 57) × Reads c.args.scan.now.table.now g.G.Gate.becomes 0 n (c.args.seat.now, c.args.gate.now) (c.if-start.seat, c.if-start.gate) = elim c.if-start.branch [
+    elim c.if-start.branch [
       | then-start+in_ok-take_leaf+in-Further w ↦ rw (w.seat-is, w.gate-is) (reads_both r w.take_leaf.ensures.reads (omega arith))
       | else-start w ↦ rw (w.seat-is, w.gate-is) (r.0, omega (arith, few), r.2)
-    ] in
-    walks_behind before c.walk_slots.ensures.reads
+    ]
+
+-- and with it.
+pub returns-clause-reads : goal.returns-clause-reads
+returns-clause-reads g c = walks_behind (before g (goal.at.returns-clause-reads g c).After-walk_slots) c.walk_slots.ensures.reads
+
+pub returns-clause-passed : goal.returns-clause-passed
+returns-clause-passed g c = walks_behind (before g (goal.at.returns-clause-passed g c).After-walk_slots) c.walk_slots.ensures.passed

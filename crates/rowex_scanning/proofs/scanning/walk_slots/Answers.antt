@@ -5,15 +5,16 @@ use Rattle.std.proofs.lemmas.List.{length-take-le}
 use Rattle.compound_node.specs.declared.entries.Entry.TheVariants.{Node}
 use Rattle.insert_cases.specs.declared.choice.PathNode.{PathNode}
 use Rattle.rowex_reading.specs.Seen.{since}
-use Rattle.rowex_reading.proofs.Led.{reader_then, reads_later, reads_none, reads_trans, same_since}
-use Rattle.rowex_reading.proofs.Seeing.{placed_stable, sure_later}
+use Rattle.rowex_reading.proofs.Seen.Led.{reader_then, reads_later, reads_none, reads_trans, same_since}
+use Rattle.rowex_reading.proofs.Seen.{placed_stable, sure_later}
 use Rattle.rowex_scanning.specs.Ahead.{AreAhead, AreNext, HavePassed, IsNodeAhead, entries_ahead}
 use Rattle.rowex_scanning.specs.Counts.{Walks}
+use Rattle.rowex_scanning.specs.declared.ahead.TheConstants.{MOST_AHEAD}
 use Rattle.version_laws.specs.Directions.{first_key, place_ahead, to_come}
 use Rattle.rowex_scanning.specs.Scanning.{HasTaken, IsBound, IsBoundWalk, asked_range, request_of}
-use Rattle.rowex_scanning.proofs.Directed.{gap_before_place}
-use Rattle.rowex_scanning.proofs.Passing.{ahead_first, node_at, node_later, starts_first, taken_all}
-use Rattle.rowex_scanning.proofs.Walking.{after_less, bound_later, bound_pop, bound_push, bound_since, entered_first, entered_number, entry_led, last_is, none_popped, paid_ahead, paid_child, paid_end, paid_first, paid_last, paid_pop, pop_less, rest_of, walk_end, walk_fits, walk_inside, walk_later, walk_places, walk_pop, walk_push, walk_push_less, walk_several, walk_short, walk_since, way_short}
+use Rattle.rowex_scanning.proofs.direction.Directed.{gap_before_place}
+use Rattle.rowex_scanning.proofs.taking.Passing.{ahead_first, node_at, node_later, starts_first, taken_all}
+use Rattle.rowex_scanning.proofs.Walking.{after_less, ahead_most, bound_later, bound_pop, bound_push, bound_since, entered_first, entered_number, entry_led, last_is, none_popped, paid_ahead, paid_child, paid_end, paid_first, paid_last, paid_pop, pop_less, rest_of, walk_end, walk_fits, walk_inside, walk_later, walk_places, walk_pop, walk_push, walk_push_less, walk_several, walk_short, walk_since, way_short}
 use Rattle.rowex_scanning.proofs.scanning.walk_slots.Given as given
 use Rattle.rowex_scanning.proofs.scanning.walk_slots.Goals as goal
 use Rattle.rowex_scanning.proofs.scanning.walk_slots.Goals.{After-load_entries_ahead-ahead, After-take_leaves, After-push, In-Further, In-Some-node}
@@ -53,12 +54,20 @@ passed g c n next =
     subst (λ z. HavePassed k (since c.args.seat.now.known) r frames top size z t) n
     (subst (λ z. HavePassed k z r frames top size count t) (same_since (reads_trans c.loop-seat.invariant.reads.3 c.load_entries_ahead-ahead.ensures.reads.2)) p)
 
--- The loads so far, where the scan ends at a leaf.
+-- The loads so far, where the scan ends at a leaf: by the limit,
 paid : (g : given.Over) (c : After-take_leaves g) → length (take c.load_entries_ahead-ahead.result.count c.load_entries_ahead-ahead.result.leaves) ≡ c.load_entries_ahead-ahead.result.count →
     Walks c.args.scan.now.table.now g.G.Gate.becomes 0 c.args.scan.now.range.now.limit (c.args.seat.now, c.args.gate.now) (c.take_leaves.new.seat, c.take_leaves.new.gate)
 paid g c n =
     let i = c.loop-seat.invariant in let e = c.load_entries_ahead-ahead.ensures in let (t, few, reads) = c.take_leaves.ensures.reads in
-    paid_last i.reads i.walk i.reader.1 c.load_entries_ahead-ahead.result e.few e.reads (t, omega (arith, few, n), reads)
+    paid_last c.args.scan.now.range.now.limit i.reads i.walk i.reader.1 c.load_entries_ahead-ahead.result (walk_short i.walk i.reader.1) e.few e.reads (t, omega (arith, few, n), reads)
+
+-- and by the pairs that were taken.
+paid_so : (g : given.Over) (c : After-take_leaves g) → length (take c.load_entries_ahead-ahead.result.count c.load_entries_ahead-ahead.result.leaves) ≡ c.load_entries_ahead-ahead.result.count →
+    Walks c.args.scan.now.table.now g.G.Gate.becomes 0 ((g.S.Tallies.tally c.take_leaves.new.self).size + MOST_AHEAD) (c.args.seat.now, c.args.gate.now) (c.take_leaves.new.seat, c.take_leaves.new.gate)
+paid_so g c n =
+    let i = c.loop-seat.invariant in let e = c.load_entries_ahead-ahead.ensures in let (t, few, reads) = c.take_leaves.ensures.reads in
+    let more = c.take_leaves.ensures.more in let (most, _) = e.most in let seen = ahead_most c.load_entries_ahead-ahead.result in
+    paid_last ((g.S.Tallies.tally c.take_leaves.new.self).size + MOST_AHEAD) i.reads i.walk i.reader.1 c.load_entries_ahead-ahead.result (omega (arith, more)) (omega (arith, more, most, seen)) e.reads (t, omega (arith, few, n), reads)
 
 -- The walk is before the node that comes behind the leaves,
 node_ahead : (g : given.Over) (c : In-Some-node g) → IsNodeAhead c.args.scan.now.range.now.direction c.take_leaves.new.seat.known (since c.args.seat.now.known) c.loop-seat.top c.load_entries_ahead-ahead.result.count c.in-Some-node.number
@@ -112,8 +121,14 @@ take_leaves-requires-clause-few g c =
 pub returns-in_err-take_leaves-clause-reads : goal.returns-in_err-take_leaves-clause-reads
 returns-in_err-take_leaves-clause-reads g c = let at = goal.at.returns-in_err-take_leaves-clause-reads g c in paid g at.After-take_leaves (long g at.After-load_entries_ahead-ahead)
 
+pub returns-in_err-take_leaves-clause-passed : goal.returns-in_err-take_leaves-clause-passed
+returns-in_err-take_leaves-clause-passed g c = let at = goal.at.returns-in_err-take_leaves-clause-passed g c in paid_so g at.After-take_leaves (long g at.After-load_entries_ahead-ahead)
+
 pub returns-in-Past-clause-reads : goal.returns-in-Past-clause-reads
 returns-in-Past-clause-reads g c = let at = goal.at.returns-in-Past-clause-reads g c in paid g at.After-take_leaves (long g at.After-load_entries_ahead-ahead)
+
+pub returns-in-Past-clause-passed : goal.returns-in-Past-clause-passed
+returns-in-Past-clause-passed g c = let at = goal.at.returns-in-Past-clause-passed g c in paid_so g at.After-take_leaves (long g at.After-load_entries_ahead-ahead)
 
 pub returns-in-Past-clause-scanned : goal.returns-in-Past-clause-scanned
 returns-in-Past-clause-scanned g c =
@@ -121,6 +136,9 @@ returns-in-Past-clause-scanned g c =
 
 pub returns-in-Full-clause-reads : goal.returns-in-Full-clause-reads
 returns-in-Full-clause-reads g c = let at = goal.at.returns-in-Full-clause-reads g c in paid g at.After-take_leaves (long g at.After-load_entries_ahead-ahead)
+
+pub returns-in-Full-clause-passed : goal.returns-in-Full-clause-passed
+returns-in-Full-clause-passed g c = let at = goal.at.returns-in-Full-clause-passed g c in paid_so g at.After-take_leaves (long g at.After-load_entries_ahead-ahead)
 
 pub returns-in-Full-clause-scanned : goal.returns-in-Full-clause-scanned
 returns-in-Full-clause-scanned g c =
@@ -227,6 +245,15 @@ returns-in_default-pop-clause-reads g c =
       i.reads.1,
       paid_end c.args.scan.now.range.now.direction i.reads.0 i.reads.1 (g.S.Tallies.tally c.loop-seat.sink).size c.args.scan.now.range.now.limit c.loop-seat.top c.loop-seat.way.items i.reads.2 (none_popped c.pop-else-entries_to_come-gt0.ensures.variant c.in_default-pop.is)
           (walk_short i.walk i.reader.1),
+      i.reads.3,
+    )
+
+pub returns-in_default-pop-clause-passed : goal.returns-in_default-pop-clause-passed
+returns-in_default-pop-clause-passed g c =
+    let i = c.loop-seat.invariant in let size = (g.S.Tallies.tally c.loop-seat.sink).size in (
+      i.reads.0,
+      i.reads.1,
+      paid_end c.args.scan.now.range.now.direction i.reads.0 i.reads.1 size (size + MOST_AHEAD) c.loop-seat.top c.loop-seat.way.items i.reads.2 (none_popped c.pop-else-entries_to_come-gt0.ensures.variant c.in_default-pop.is) (omega arith),
       i.reads.3,
     )
 

@@ -5,14 +5,14 @@ use Rattle.std.proofs.lemmas.Option.{slice_get-get_or}
 use Rattle.insert_cases.specs.declared.choice.PathNode.{PathNode}
 use Rattle.rowex_core.specs.declared.known.Known.{Known}
 use Rattle.tries.specs.Keys.{Key}
-use Rattle.tries.proofs.Places.{spot_below}
-use Rattle.rowex_reading.proofs.Led.{reader_then, reads_later}
+use Rattle.tries.proofs.Place.{spot_below}
+use Rattle.rowex_reading.proofs.Seen.Led.{reader_then, reads_later}
 use Rattle.rowex_scanning.specs.Scanning.{first_key_of}
 use Rattle.rowex_scanning.specs.Starts.{IsSearchEnd, IsParting, IsStart}
 use Rattle.packed_pairs.specs.declared.direction.Direction.{Direction}
 use Rattle.packed_pairs.specs.declared.direction.Direction.TheVariants.{Downwards}
 use Rattle.rowex_scanning.specs.declared.start.Start.{Start}
-use Rattle.rowex_scanning.proofs.Turning.{turns_before, turns_behind, turns_same, turns_there}
+use Rattle.rowex_scanning.proofs.Starts.Turning.{turns_before, turns_behind, turns_same, turns_there}
 use Rattle.rowex_scanning.proofs.start.find_start.Given as given
 use Rattle.rowex_scanning.proofs.start.find_start.Goals as goal
 use Rattle.rowex_scanning.proofs.start.find_start.Goals.{After-find_start_of_upward_scan-start, else-start-way-via-then-start-way+else-lowest-start, else-start-way-via-else-start-way}

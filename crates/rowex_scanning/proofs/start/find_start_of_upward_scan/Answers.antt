@@ -2,7 +2,7 @@
 use Rattle.std.proofs.Common.{rules, ◌≡◌, ◌∙◌, ap, ◌+◌, ◌-◌, ◌<◌, ◌≤◌, ℕ, Bool, false, Some, sym, length, nat_eq, if◌then◌else◌, arith}
 use Rattle.std.specs.Prelude.{slice_get}
 use Rattle.std.proofs.lemmas.Option.{slice_get-get_or}
-use Rattle.rowex_reading.proofs.Led.{reader_then, reads_later}
+use Rattle.rowex_reading.proofs.Seen.Led.{reader_then, reads_later}
 use Rattle.rowex_reading.proofs.Ways.{way_place}
 use Rattle.insert_cases.specs.declared.choice.PathNode.{PathNode}
 use Rattle.key_bits.specs.Bits.{bit_of}
@@ -10,7 +10,7 @@ use Rattle.rowex_reading.specs.Ways.{IsWayOf}
 use Rattle.rowex_reading.specs.declared.descent.Found.TheVariants.{Leaf}
 use Rattle.rowex_scanning.specs.Scanning.{first_key_of}
 use Rattle.rowex_scanning.specs.Starts.{IsParting}
-use Rattle.rowex_scanning.proofs.Starting.{chosen_starts, is_below, not_below, starts_same}
+use Rattle.rowex_scanning.proofs.Starts.{chosen_starts, is_below, not_below, starts_same}
 use Rattle.rowex_scanning.proofs.start.find_start_of_upward_scan.Given as given
 use Rattle.rowex_scanning.proofs.start.find_start_of_upward_scan.Goals as goal
 use Rattle.rowex_scanning.proofs.start.find_start_of_upward_scan.Goals.{After-choose_case-part, then-below, else-below}

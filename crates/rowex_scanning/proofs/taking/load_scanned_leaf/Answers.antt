@@ -1,5 +1,5 @@
 -- The leaf is found by its number.
-use Rattle.rowex_scanning.proofs.Begins.{begins_there, leaf_there}
+use Rattle.rowex_scanning.proofs.ahead.Begins.{begins_there, leaf_there}
 use Rattle.rowex_scanning.proofs.taking.load_scanned_leaf.Goals as goal
 
 pub find-leaf-requires : goal.find-leaf-requires

@@ -6,14 +6,14 @@ use Rattle.insert_cases.specs.declared.choice.PathNode.{PathNode}
 use Rattle.record_words.specs.declared.TheConstants.{LEAF_FIELDS}
 use Rattle.rowex_reading.specs.Reads.{Reads}
 use Rattle.rowex_reading.specs.Seen.{Sure, since}
-use Rattle.rowex_reading.proofs.Led.{reader_then, reads_later, reads_none, reads_trans, same_since}
-use Rattle.rowex_reading.proofs.Seeing.{later_reflexive, read_stable, sure_later}
+use Rattle.rowex_reading.proofs.Seen.Led.{reader_then, reads_later, reads_none, reads_trans, same_since}
+use Rattle.rowex_reading.proofs.Seen.{later_reflexive, read_stable, sure_later}
 use Rattle.version_laws.specs.Directions.{IsNoLater}
 use Rattle.version_laws.specs.Scan.{IsRead}
 use Rattle.rowex_scanning.specs.Ahead.{AreNext, AreWithin, HavePassed, IsLeafNotPast, IsLeafPast}
 use Rattle.rowex_scanning.specs.Scanning.{HasTaken, asked_range, first_key_of, last_key_of, request_of}
-use Rattle.rowex_scanning.proofs.Passing.{next_few, next_first, next_kept, next_later, passed_as, passed_none, starts_first, taken_all, taken_full, taken_past}
-use Rattle.rowex_scanning.proofs.Runs.{behind_led, next_behind, not_past_later, past_later, run_cut, run_done, run_on, run_part, within_up_to}
+use Rattle.rowex_scanning.proofs.taking.Passing.{next_few, next_first, next_kept, next_later, passed_as, passed_none, starts_first, taken_all, taken_full, taken_past}
+use Rattle.rowex_scanning.proofs.taking.Runs.{behind_led, next_behind, not_past_later, past_later, run_cut, run_done, run_on, run_part, within_up_to}
 use Rattle.rowex_scanning.proofs.Walking.{bound_later, reads_both, walk_later}
 use Rattle.rowex_scanning.proofs.taking.take_each_leaf.Given as given
 use Rattle.rowex_scanning.proofs.taking.take_each_leaf.Goals as goal
@@ -106,6 +106,9 @@ make_room-requires-clause-few g c = let (top, frames, next) = c.requires.next in
 pub returns-in_err-make_room-clause-reads : goal.returns-in_err-make_room-clause-reads
 returns-in_err-make_room-clause-reads g c = let (n, few, reads) = c.load_leaf_at-length.ensures.reads in (n, omega (arith, few, c.if-count-eq0.false), reads)
 
+pub returns-in_err-make_room-clause-more : goal.returns-in_err-make_room-clause-more
+returns-in_err-make_room-clause-more g c = let same = c.make_room.ensures.kept.0 in omega (arith, same)
+
 pub returns-in_err-make_room-clause-part : goal.returns-in_err-make_room-clause-part
 returns-in_err-make_room-clause-part g c =
     let at = (goal.at.returns-in_err-make_room-clause-part g c).After-load_leaf_at-length in let (top, frames, next) = c.requires.next in
@@ -162,6 +165,10 @@ inside g c top frames next last =
 pub returns-then-room-count-clause-reads : goal.returns-then-room-count-clause-reads
 returns-then-room-count-clause-reads g c = loads g (goal.at.returns-then-room-count-clause-reads g c).After-take_leaves_before_last
 
+pub returns-then-room-count-clause-more : goal.returns-then-room-count-clause-more
+returns-then-room-count-clause-more g c =
+    let (top, frames, next) = c.requires.next in let p = passed g (goal.at.returns-then-room-count-clause-more g c).After-take_leaves_before_last top frames next in let more = p.more in omega (arith, more)
+
 pub returns-then-room-count-clause-taken : goal.returns-then-room-count-clause-taken
 returns-then-room-count-clause-taken g c = λ top frames next.
     let at = goal.at.returns-then-room-count-clause-taken g c in let here = at.After-load_leaf_at-length in let there = at.After-take_leaves_before_last in
@@ -175,6 +182,11 @@ take_pair-requires-clause-room g c =
 
 pub returns-clause-reads : goal.returns-clause-reads
 returns-clause-reads g c = loads g (goal.at.returns-clause-reads g c).After-take_leaves_before_last
+
+pub returns-clause-more : goal.returns-clause-more
+returns-clause-more g c =
+    let (top, frames, next) = c.requires.next in let p = passed g (goal.at.returns-clause-more g c).After-take_leaves_before_last top frames next in let more = p.more in
+    let one = c.take_pair.ensures.taken.0 in omega (arith, more, one)
 
 pub returns-clause-taken : goal.returns-clause-taken
 returns-clause-taken g c = λ top frames next.

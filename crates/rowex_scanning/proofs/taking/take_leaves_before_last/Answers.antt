@@ -2,11 +2,11 @@
 use Rattle.std.proofs.Common.{◌≡◌, ℕ, ◌+◌, ◌-◌, ◌*◌, ◌<◌, ◌≤◌, List, arith, length, subst, take}
 use Rattle.record_words.specs.declared.TheConstants.{LEAF_FIELDS}
 use Rattle.rowex_reading.specs.Seen.{since}
-use Rattle.rowex_reading.proofs.Led.{reader_then, reads_later, reads_none, reads_trans}
+use Rattle.rowex_reading.proofs.Seen.Led.{reader_then, reads_later, reads_none, reads_trans}
 use Rattle.rowex_scanning.specs.Ahead.{HavePassed}
 use Rattle.rowex_scanning.specs.Scanning.{request_of}
-use Rattle.rowex_scanning.proofs.Passing.{passed_later, passed_none}
-use Rattle.rowex_scanning.proofs.Runs.{behind_led, next_behind, not_past_later, run_on, within_up_to}
+use Rattle.rowex_scanning.proofs.taking.Passing.{passed_later, passed_none}
+use Rattle.rowex_scanning.proofs.taking.Runs.{behind_led, next_behind, not_past_later, run_on, within_up_to}
 use Rattle.rowex_scanning.proofs.taking.take_leaves_before_last.Goals as goal
 
 pub loop-index-init : goal.loop-index-init

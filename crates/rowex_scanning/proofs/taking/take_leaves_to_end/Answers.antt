@@ -6,12 +6,12 @@ use Rattle.record_words.specs.declared.TheConstants.{LEAF_FIELDS}
 use Rattle.insert_cases.specs.declared.choice.PathNode.{PathNode}
 use Rattle.rowex_reading.specs.Reads.{Reads}
 use Rattle.rowex_reading.specs.Seen.{since}
-use Rattle.rowex_reading.proofs.Led.{reader_then, reads_later, reads_none, reads_trans, same_since}
+use Rattle.rowex_reading.proofs.Seen.Led.{reader_then, reads_later, reads_none, reads_trans, same_since}
 use Rattle.rowex_scanning.specs.Ahead.{AreNext, HavePassed}
 use Rattle.version_laws.specs.Directions.{place_ahead}
 use Rattle.rowex_scanning.specs.Scanning.{asked_range, request_of}
-use Rattle.rowex_scanning.proofs.Parts.{walk_part}
-use Rattle.rowex_scanning.proofs.Passing.{ahead_later, leaf_at, leaf_reached, passed_more, passed_none}
+use Rattle.rowex_scanning.proofs.scanning.Parts.{walk_part}
+use Rattle.rowex_scanning.proofs.taking.Passing.{ahead_later, leaf_at, leaf_reached, passed_more, passed_none}
 use Rattle.rowex_scanning.proofs.Walking.{IsAtEntry, walk_fits, walk_full, walk_past, walk_short}
 use Rattle.rowex_scanning.proofs.taking.take_leaves_to_end.Given as given
 use Rattle.rowex_scanning.proofs.taking.take_leaves_to_end.Goals as goal
@@ -24,6 +24,10 @@ leaf : (g : given.Over) (c : After-take_leaf g) (top : PathNode) (frames : List 
     frames (g.S.Tallies.tally c.loop-index.sink) (Leaf (get_or c.args.leaves.now c.loop-index.index 0))
 leaf g c top frames next =
     let (ahead, p) = c.loop-index.invariant.passed top frames next in leaf_at (walk_fits next.bound.0) (let come = next.come in omega (arith, come, c.loop-index-test.true)) p (ahead c.loop-index.index c.loop-index-test.true)
+
+-- The pairs are no fewer than at first.
+grown : (g : given.Over) (c : After-take_leaf g) → (g.S.Tallies.tally c.args.sink.now).size ≤ (g.S.Tallies.tally c.take_leaf.new.sink).size
+grown g c = let (top, frames, next) = c.requires.next in let p = (c.loop-index.invariant.passed top frames next).1 in let so = p.more in let more = c.take_leaf.ensures.more in omega (arith, so, more)
 
 -- So many loads were made; and the root has not been loaded again.
 loads : (g : given.Over) (c : After-take_leaf g) → (n : ℕ) × (n ≤ LEAF_FIELDS * (c.loop-index.index + 1)) × Reads c.args.scan.now.table.now g.G.Gate.becomes 0 n (c.args.seat.now, c.args.gate.now) (c.take_leaf.new.seat, c.take_leaf.new.gate)
@@ -59,6 +63,9 @@ take_leaf-requires-clause-few g c = let (top, frames, next) = c.requires.next in
 pub returns-in_err-take_leaf-clause-reads : goal.returns-in_err-take_leaf-clause-reads
 returns-in_err-take_leaf-clause-reads g c = ended g (goal.at.returns-in_err-take_leaf-clause-reads g c).After-take_leaf
 
+pub returns-in_err-take_leaf-clause-more : goal.returns-in_err-take_leaf-clause-more
+returns-in_err-take_leaf-clause-more g c = grown g (goal.at.returns-in_err-take_leaf-clause-more g c).After-take_leaf
+
 pub returns-in_err-take_leaf-clause-part : goal.returns-in_err-take_leaf-clause-part
 returns-in_err-take_leaf-clause-part g c =
     let at = (goal.at.returns-in_err-take_leaf-clause-part g c).After-take_leaf in let i = c.loop-index.invariant in let (top, frames, next) = c.requires.next in
@@ -68,12 +75,18 @@ returns-in_err-take_leaf-clause-part g c =
 pub returns-in-Past-clause-reads : goal.returns-in-Past-clause-reads
 returns-in-Past-clause-reads g c = ended g (goal.at.returns-in-Past-clause-reads g c).After-take_leaf
 
+pub returns-in-Past-clause-more : goal.returns-in-Past-clause-more
+returns-in-Past-clause-more g c = grown g (goal.at.returns-in-Past-clause-more g c).After-take_leaf
+
 pub returns-in-Past-clause-taken : goal.returns-in-Past-clause-taken
 returns-in-Past-clause-taken g c = λ top frames next.
     let at = (goal.at.returns-in-Past-clause-taken g c).After-take_leaf in walk_past (leaf g at top frames next) (reads_later c.take_leaf.ensures.reads.2) c.in_ok-take_leaf.ensures.taken (same g at) c.in-Past.is
 
 pub returns-in-Full-clause-reads : goal.returns-in-Full-clause-reads
 returns-in-Full-clause-reads g c = ended g (goal.at.returns-in-Full-clause-reads g c).After-take_leaf
+
+pub returns-in-Full-clause-more : goal.returns-in-Full-clause-more
+returns-in-Full-clause-more g c = grown g (goal.at.returns-in-Full-clause-more g c).After-take_leaf
 
 pub returns-in-Full-clause-taken : goal.returns-in-Full-clause-taken
 returns-in-Full-clause-taken g c = λ top frames next.
@@ -95,6 +108,9 @@ loop-index-preserved g c =
 
 pub returns-clause-reads : goal.returns-clause-reads
 returns-clause-reads g c = let (n, few, reads) = c.loop-index.invariant.reads in (n, omega (arith, few, c.loop-index.auto.index-end), reads)
+
+pub returns-clause-more : goal.returns-clause-more
+returns-clause-more g c = let (top, frames, next) = c.requires.next in let p = (c.loop-index.invariant.passed top frames next).1 in let so = p.more in omega (arith, so)
 
 pub returns-clause-taken : goal.returns-clause-taken
 returns-clause-taken g c = λ top frames next.

@@ -2,7 +2,7 @@
 use Rattle.std.proofs.Common.{refl, sym, take, ◌∙◌}
 use Rattle.std.proofs.lemmas.Result.{err_from_is_err_and}
 use Rattle.rowex_scanning.specs.Scanning.{asked_range}
-use Rattle.rowex_scanning.proofs.Directed.{in_range}
+use Rattle.rowex_scanning.proofs.direction.Directed.{in_range}
 use Rattle.rowex_scanning.proofs.Walking.{kept_more}
 use Rattle.rowex_scanning.proofs.taking.take_pair_in_range.Goals as goal
 

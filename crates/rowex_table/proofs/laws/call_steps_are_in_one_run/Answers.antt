@@ -1,5 +1,5 @@
 -- The law call_steps_are_in_one_run.
-use Rattle.rowex_table.proofs.Linking.{call_steps_are_in_one_run}
+use Rattle.rowex_table.proofs.Runs.Linking.{call_steps_are_in_one_run}
 use Rattle.rowex_table.proofs.laws.call_steps_are_in_one_run.Goals as goal
 
 pub returns : goal.returns

@@ -1,5 +1,5 @@
 -- The law steps_are_in_one_run.
-use Rattle.rowex_table.proofs.Linking.{steps_are_in_one_run}
+use Rattle.rowex_table.proofs.Runs.Linking.{steps_are_in_one_run}
 use Rattle.rowex_table.proofs.laws.steps_are_in_one_run.Goals as goal
 
 pub returns : goal.returns

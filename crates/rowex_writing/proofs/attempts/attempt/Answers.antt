@@ -3,7 +3,7 @@ use Rattle.rowex_writing.proofs.build.Spare.{looks_room, looks_spare, reads_room
 use Rattle.std.proofs.Common.{[], Err, Some, inl, inr, ◌∙◌, ap, subst, sym, arith, refl, IsSome, ◌≡◌, ◌≤◌, ◌+◌}
 use Rattle.rowex_reading.specs.Seen.{since}
 use Rattle.rowex_reading.specs.Ways.{IsWayOf, value_of}
-use Rattle.rowex_reading.proofs.Led.{reads_later, same_since}
+use Rattle.rowex_reading.proofs.Seen.Led.{reads_later, same_since}
 use Rattle.rowex_reading.proofs.Ways.{way_later}
 use Rattle.rowex_writing.specs.attempts.Attempts.{HasAttempted}
 use Rattle.rowex_writing.specs.plan.Planned.{IsPlanned}
@@ -14,13 +14,14 @@ use Rattle.rowex_writing.proofs.attempts.Attempted.{attempted, searched_few, tri
 use Rattle.rowex_writing.proofs.locks.Onward.{reads_run}
 use Rattle.rowex_writing.proofs.locks.Runs.{none_once, run_loaded, run_none}
 use Rattle.rowex_writing.proofs.locks.Locks.{no_change_made_later}
+use Rattle.rowex_writing.proofs.locks.Others.{hindered_later, tried_begin}
 use Rattle.rowex_writing.proofs.attempts.attempt.Given as given
 use Rattle.rowex_writing.proofs.attempts.attempt.Goals as goal
 use Rattle.rowex_writing.proofs.attempts.attempt.Goals.{After-find_plan, After-try_plan, In-Change}
 use Rattle.rowex_writing.specs.plan.Asking.{aim_of, value_in}
 use Rattle.rowex_writing.specs.declared.attempts.TryFault.TheVariants.{FullNodes}
 use Rattle.rowex_writing.specs.declared.plan.Plan.TheVariants.{Change}
-use Rattle.rowex_reading.proofs.Seeing.{later_trans}
+use Rattle.rowex_reading.proofs.Seen.{later_trans}
 use Rattle.rowex_writing.specs.declared.plan.Deed.TheVariants.{Value as ValueDeed}
 
 -- what the search and the plan leave
@@ -232,3 +233,10 @@ returns-in-Err-clause-finds g c = λ removal room is.
     c.try_plan.ensures.finds
     (removal_takes c.find_plan.new.seat.known m c.key-key.result.now c.as_slice-way.result.now c.in-Some.request.aim c.search_way-found.result c.find_plan.result c.in-Change.span c.in-Change.deed removes c.in-Change.is planned)
     (reads_room c.args.table.now g.G.Gate.becomes (c.search_way-found.new.seat, c.search_way-found.new.gate) (c.find_plan.new.seat, c.find_plan.new.gate) c.find_plan.ensures.reads.2 none (looks_room c.args.table.now g.G.Gate.becomes (c.args.seat.now, c.args.gate.now) (c.search_way-found.new.seat, c.search_way-found.new.gate) c.search_way-found.ensures.searched.looks searched_none room)) (c.in-Err.is ∙ ap Err same)
+
+-- ---- what was in the way
+pub returns-in-Err-clause-hindered : goal.returns-in-Err-clause-hindered
+returns-in-Err-clause-hindered g c = λ is.
+    let b = begun g (goal.at.returns-in-Err-clause-hindered g c).After-find_plan in
+    hindered_later c.args.table.now.layout c.args.seat.now c.find_plan.new.seat c.try_plan.new.seat b.later
+    (tried_begin c.args.table.now g.G.Gate.becomes (c.args.seat.now, c.args.gate.now) (c.find_plan.new.seat, c.find_plan.new.gate) b.run) (c.in-Err.ensures.hindered is)

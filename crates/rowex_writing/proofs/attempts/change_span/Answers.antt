@@ -11,7 +11,7 @@ use Rattle.rowex_writing.proofs.attempts.Attempts.{loads_spared, leaves_refused,
 use Rattle.rowex_writing.proofs.build.Growths.{no_room}
 use Rattle.rowex_writing.proofs.build.Changes.{changed_since}
 use Rattle.rowex_writing.proofs.merging.Merging.{holds_on, is_taking}
-use Rattle.rowex_writing.proofs.build.TakingUnderLocks.{take_above}
+use Rattle.rowex_writing.proofs.build.taking.Taking.{take_above}
 use Rattle.rowex_writing.proofs.locks.Runs.{goes_run, runs_trans, works_run}
 use Rattle.rowex_writing.proofs.attempts.Named.{loaded_on}
 use Rattle.rowex_writing.proofs.store.Values.{held_few}

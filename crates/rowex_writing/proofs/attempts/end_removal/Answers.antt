@@ -1,7 +1,7 @@
 -- What is left is published, as one with the node beside it or alone.
 use Rattle.std.proofs.Common.{◌+◌, ◌*◌, arith, subst, sym}
 use Rattle.record_words.specs.declared.TheConstants.{NODE_FIELDS}
-use Rattle.rowex_reading.proofs.Seeing.{later_trans}
+use Rattle.rowex_reading.proofs.Seen.{later_trans}
 use Rattle.rowex_writing.specs.build.Changes.{IsTakeChange}
 use Rattle.rowex_writing.specs.locks.Locks.{span_numbers}
 use Rattle.rowex_writing.specs.build.Taking.{HasClaimed, IsLeftOfNode}
@@ -15,7 +15,7 @@ use Rattle.rowex_writing.proofs.locks.Runs.{goes_run, runs_trans}
 use Rattle.rowex_writing.proofs.build.Spare.{goes_spare, gone_node}
 use Rattle.rowex_writing.proofs.store.Values.{held_few}
 use Rattle.rowex_writing.proofs.attempts.Attempted.{busy_since}
-use Rattle.rowex_writing.proofs.merging.WideningLocks.{few_before, few_none, few_then}
+use Rattle.rowex_writing.proofs.merging.widening.Widening.{few_before, few_none, few_then}
 use Rattle.rowex_writing.proofs.attempts.end_removal.Goals as goal
 
 -- ---- no merge is found

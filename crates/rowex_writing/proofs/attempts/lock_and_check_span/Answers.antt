@@ -1,7 +1,7 @@
 -- The locks are taken, and what is found under them is what the search found; or all are given back.
 use Rattle.rowex_writing.proofs.build.Spare.{goes_room, goes_spare, works_room, works_spare}
 use Rattle.std.proofs.Common.{◌≡◌, true, false, inl, inr, ◌∙◌, arith}
-use Rattle.rowex_reading.proofs.Seeing.{later_trans}
+use Rattle.rowex_reading.proofs.Seen.{later_trans}
 use Rattle.rowex_writing.proofs.locks.Onward.{longer, run_possible, run_seat}
 use Rattle.rowex_writing.proofs.locks.Checks.{span_later}
 use Rattle.rowex_writing.specs.locks.Locks.{span_numbers}

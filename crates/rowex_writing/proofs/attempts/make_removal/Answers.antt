@@ -6,7 +6,7 @@ use Rattle.tries.specs.Content.{item}
 use Rattle.version_laws.specs.Writer.{removed_change}
 use Rattle.record_words.specs.declared.TheConstants.{NODE_FIELDS}
 use Rattle.publish_laws.specs.Rises.{one}
-use Rattle.rowex_reading.proofs.Seeing.{later_trans}
+use Rattle.rowex_reading.proofs.Seen.{later_trans}
 use Rattle.rowex_writing.specs.build.Building.{IsBuilding}
 use Rattle.rowex_writing.specs.build.Changes.{IsTakeChange}
 use Rattle.rowex_writing.specs.build.Deeds.{MayReplace, leaf_gone}
@@ -23,11 +23,11 @@ use Rattle.rowex_writing.proofs.locks.Going.{goes_more, locked_on, seat_of}
 use Rattle.rowex_writing.proofs.build.Building.{building_none, goes_possible, steps_rise}
 use Rattle.rowex_writing.proofs.merging.Merging.{entry_height, holds_on, is_taking, takes_taken}
 use Rattle.rowex_writing.proofs.attempts.Named.{loaded_on}
-use Rattle.rowex_writing.proofs.build.TakingUnderLocks.{low_step, lowest_leads, lowest_locked, taken_below, word_of, replaces_alone}
+use Rattle.rowex_writing.proofs.build.taking.Taking.{low_step, lowest_leads, lowest_locked, taken_below, word_of, replaces_alone}
 use Rattle.rowex_writing.proofs.locks.Runs.{goes_run, works_run}
 use Rattle.rowex_writing.proofs.build.Spare.{goes_room, goes_spare, gone_node, works_spare}
 use Rattle.rowex_writing.proofs.attempts.Attempted.{busy_leafless, busy_roomy, failed_before}
-use Rattle.rowex_writing.proofs.merging.WideningLocks.{few_none, removal_changes}
+use Rattle.rowex_writing.proofs.merging.widening.Widening.{few_none, removal_changes}
 use Rattle.rowex_writing.proofs.attempts.make_removal.Given as given
 use Rattle.rowex_writing.proofs.attempts.make_removal.Goals as goal
 use Rattle.rowex_writing.proofs.attempts.make_removal.Goals.{After-put_in_place}

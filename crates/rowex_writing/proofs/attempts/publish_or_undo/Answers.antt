@@ -2,10 +2,10 @@
 use Rattle.rowex_writing.specs.build.Spare.{by_gone}
 use Rattle.rowex_writing.proofs.build.Spare.{goes_spare, gone_node, works_spare}
 use Rattle.std.proofs.Common.{refl, arith}
-use Rattle.rowex_reading.proofs.Seeing.{later_trans}
+use Rattle.rowex_reading.proofs.Seen.{later_trans}
 use Rattle.rowex_writing.proofs.build.Changes.{changed_since}
 use Rattle.rowex_writing.proofs.build.Building.{building_on}
-use Rattle.rowex_writing.proofs.build.DeedRecords.{replace_later}
+use Rattle.rowex_writing.proofs.build.deeds.Deeds.{replace_later}
 use Rattle.rowex_writing.proofs.locks.Runs.{goes_run, runs_trans, works_run}
 use Rattle.rowex_writing.proofs.store.Values.{front_grown, holds_reads, replaced_made}
 use Rattle.rowex_writing.proofs.locks.Locks.{works_later}

@@ -3,17 +3,18 @@ use Rattle.rowex_writing.proofs.build.Spare.{goes_room, goes_spare, works_spare}
 use Rattle.std.proofs.Common.{◌≡◌, inl, inr, ap, refl, sym, subst, ◌∙◌, arith, Err, [], IsSome, length}
 use Rattle.rowex_core.specs.declared.known.Fresh.{Fresh}
 use Rattle.rowex_reading.specs.Ways.{IsFoundAt, value_of}
-use Rattle.rowex_reading.proofs.Seeing.{later_trans}
+use Rattle.rowex_reading.proofs.Seen.{later_trans}
 use Rattle.rowex_writing.specs.plan.Asking.{value_in}
 use Rattle.rowex_writing.specs.build.Changes.{IsDeedChange}
 use Rattle.rowex_writing.specs.locks.Checks.{HasTakenSpan}
 use Rattle.rowex_writing.specs.plan.Planned.{IsPlanned}
 use Rattle.rowex_writing.proofs.attempts.Attempted.{ended_run, ends_after}
-use Rattle.rowex_writing.proofs.attempts.Attempts.{one_lock, planned_again, planned_later, refused_busy, refused_failed, failed_later}
+use Rattle.rowex_writing.proofs.attempts.Attempts.{one_lock, planned_again, planned_later, refused_busy, refused_failed, failed_later, failed_moved}
 use Rattle.rowex_writing.proofs.build.Changes.{changed_since, made_held}
 use Rattle.rowex_writing.proofs.locks.Runs.{goes_run, run_loaded, runs_trans, works_fresh, works_run}
 use Rattle.rowex_writing.proofs.store.Values.{held_again, held_few, holds_reads, holds_taken, taken_again}
 use Rattle.rowex_writing.proofs.locks.Locks.{works_later}
+use Rattle.rowex_writing.proofs.locks.Others.{blocked_hindered, met_or_moved, seen_since}
 use Rattle.rowex_writing.proofs.attempts.try_plan.Given as given
 use Rattle.rowex_writing.proofs.attempts.try_plan.Goals as goal
 use Rattle.rowex_writing.proofs.attempts.try_plan.Goals.{In-Some}
@@ -28,7 +29,8 @@ use Rattle.rowex_writing.proofs.attempts.Named.{found_again, found_other}
 pub returns-then-not-lock_and_check_span-clause-refused : goal.returns-then-not-lock_and_check_span-clause-refused
 returns-then-not-lock_and_check_span-clause-refused g c k loaded later =
     let (m, aim, way, planned) = c.requires.planned in
-    refused_busy c.args.table.now.layout c.args.job.now.key.now k _ _ m _ way.since loaded later c.lock_and_check_span.ensures.later (c.lock_and_check_span.ensures.busy c.if-not-lock_and_check_span.true m way)
+    refused_busy c.args.table.now.layout c.args.job.now.key.now k _ _ m _ way.since loaded later c.lock_and_check_span.ensures.later
+    (met_or_moved c.args.table.now.layout c.args.seat.now c.lock_and_check_span.new.seat m (c.lock_and_check_span.ensures.busy c.if-not-lock_and_check_span.true m way))
 
 -- ---- what was found is loaded again
 pub load_found_again-found-requires : goal.load_found_again-found-requires
@@ -213,3 +215,18 @@ returns-in-Err-clause-finds g c = λ take room is.
     let reads = c.load_found_again-found.ensures.reads in
     c.change_span.ensures.finds take
     (goes_room c.args.table.now g.G.Gate.becomes (c.lock_and_check_span.new.seat, c.lock_and_check_span.new.gate) (c.load_found_again-found.new.seat, c.load_found_again-found.new.gate) reads.goes (reads.own ∙ taken.own) (c.lock_and_check_span.ensures.room c.if-not-lock_and_check_span.false room)) (c.in-Err.is ∙ ap Err same)
+
+-- ---- what was in the way
+pub returns-then-not-lock_and_check_span-clause-hindered : goal.returns-then-not-lock_and_check_span-clause-hindered
+returns-then-not-lock_and_check_span-clause-hindered g c = λ is.
+    let (m, aim, way, planned) = c.requires.planned in
+    blocked_hindered c.args.table.now.layout c.args.seat.now c.lock_and_check_span.new.seat m way.since (c.lock_and_check_span.ensures.busy c.if-not-lock_and_check_span.true m way)
+
+pub returns-in-Err-clause-hindered : goal.returns-in-Err-clause-hindered
+returns-in-Err-clause-hindered g c = λ is.
+    let at = (goal.at.returns-in-Err-clause-hindered g c).In-Some in
+    let (m, aim, way, planned) = c.requires.planned in
+    let taken = again_taken g at m (c.lock_and_check_span.ensures.taken c.if-not-lock_and_check_span.false m way) in
+    let now : Job = record { way = c.args.job.now.way; key = c.args.job.now.key; value = c.in-Some.request.value; found = c.load_found_again-found.result; span = c.args.job.now.span; deed = c.args.job.now.deed } in
+    seen_since c.args.table.now.layout c.args.seat.now c.change_span.new.seat m way.since
+    (failed_moved c.args.table.now.layout now c.load_found_again-found.new.seat.known c.change_span.new.seat.known _ c.in-Err.fault m taken.way_of c.in-Err.ensures.failed is)

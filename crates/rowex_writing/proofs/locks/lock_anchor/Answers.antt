@@ -2,6 +2,8 @@
 use Rattle.rowex_core.specs.declared.event.Act.TheVariants.{Lock}
 use Rattle.rowex_core.specs.declared.event.Target.TheVariants.{Anchor}
 use Rattle.rowex_writing.proofs.locks.Locks.{works_one, anchor_locked, anchor_met, is_live, is_not_live}
+use Rattle.rowex_writing.proofs.locks.Others.{anchor_blocked}
+use Rattle.rowex_core.specs.Knowing.{version_of}
 use Rattle.rowex_reading.proofs.Counting.{step_few}
 use Rattle.rowex_writing.proofs.locks.lock_anchor.Goals as goal
 
@@ -16,6 +18,10 @@ returns-clause-locked g c t =
 pub returns-clause-refused : goal.returns-clause-refused
 returns-clause-refused g c f =
     anchor_met c.args.table.now.layout c.args.seat.now.known c.lock-found.new.seat.known c.lock-found.result c.requires.free c.lock-found.ensures.event (is_not_live c.lock-found.result c.pack_state.result c.pack_state.ensures f)
+
+pub returns-clause-met : goal.returns-clause-met
+returns-clause-met g c f =
+    anchor_blocked c.args.table.now g.G.Gate.becomes (c.args.seat.now, c.args.gate.now) (c.lock-found.new.seat, c.lock-found.new.gate) c.lock-found.result (version_of c.args.seat.now.known.pin) c.requires.free c.lock-found.ensures (is_not_live c.lock-found.result c.pack_state.result c.pack_state.ensures f)
 
 pub returns-clause-few : goal.returns-clause-few
 returns-clause-few g c =

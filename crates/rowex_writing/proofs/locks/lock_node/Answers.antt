@@ -2,6 +2,7 @@
 use Rattle.rowex_core.specs.declared.event.Act.TheVariants.{Lock}
 use Rattle.rowex_core.specs.declared.event.Target.TheVariants.{Node as NodeTarget}
 use Rattle.rowex_writing.proofs.locks.Locks.{works_one, node_locked, node_met, node_same, is_live, is_not_live}
+use Rattle.rowex_writing.proofs.locks.Others.{node_blocked}
 use Rattle.rowex_reading.proofs.Counting.{step_few}
 use Rattle.rowex_writing.proofs.locks.lock_node.Goals as goal
 
@@ -19,7 +20,10 @@ returns-clause-same g c f =
 
 pub returns-clause-refused : goal.returns-clause-refused
 returns-clause-refused g c f h =
-    (node_met c.args.table.now.layout c.args.seat.now.known c.lock-found.new.seat.known c.args.number h.since h.height c.lock-found.result h.pinned h.led h.own h.free h.quiet c.lock-found.ensures.event (is_not_live c.lock-found.result c.pack_state.result c.pack_state.ensures f)).0
+    let other = is_not_live c.lock-found.result c.pack_state.result c.pack_state.ensures f in (
+      (node_met c.args.table.now.layout c.args.seat.now.known c.lock-found.new.seat.known c.args.number h.since h.height c.lock-found.result h.pinned h.led h.own h.free h.quiet c.lock-found.ensures.event other).0,
+      node_blocked c.args.table.now g.G.Gate.becomes (c.args.seat.now, c.args.gate.now) (c.lock-found.new.seat, c.lock-found.new.gate) c.args.number h.since h.height c.lock-found.result h.pinned h.led h.own h.free h.quiet c.lock-found.ensures other,
+    )
 
 pub returns-clause-few : goal.returns-clause-few
 returns-clause-few g c =

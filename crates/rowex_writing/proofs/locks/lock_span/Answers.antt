@@ -2,12 +2,13 @@
 use Rattle.std.proofs.Common.{ℕ, ◌≡◌, ◌∷◌, ◌+◌, ◌-◌, ◌<◌, ◌≤◌, le_trans, length, rules, true, false, refl, sym, ap, subst, ◌∙◌, arith, get_or}
 use Rattle.std.specs.Prelude.{slice_range}
 use Rattle.insert_cases.specs.declared.choice.PathNode.{PathNode}
-use Rattle.publish_laws.proofs.Acting.{led_may_lock}
+use Rattle.publish_laws.proofs.Acts.{led_may_lock}
 use Rattle.rowex_writing.specs.locks.Locks.{HasJustLocked, HasNotLocked, TriesNodes, numbers_of}
 use Rattle.versions.specs.Trades.{IsOneOf}
 use Rattle.rowex_writing.proofs.locks.Tried.{anchor_more, nodes_more, nodes_none, nodes_once, number_new, once_then}
 use Rattle.rowex_writing.proofs.locks.Locks.{works_seat, works_later, works_count, no_change_made_later}
 use Rattle.rowex_writing.proofs.locks.Spans.{slice_more, slice_none, none_taken, locked_more, locked_same, led_at, led_nodes, met_since, not_locked, numbers_few, slice_few}
+use Rattle.rowex_writing.proofs.locks.Others.{met_under_pin, tried_begin}
 use Rattle.rowex_writing.proofs.locks.lock_span.Goals as goal
 
 not_taken : {A : Type 0} → false ≡ true → A
@@ -103,11 +104,17 @@ returns-then-not-lock_node-clause-refused g c e =
           (number_new c.args.way.now (c.loop-index.index - 1) c.args.span.len no_step (below c.loop-index-test.true i.range.1) c.requires.span.1 c.requires.apart);
       quiet = no_change_made_later c.args.seat.now.known c.loop-index.seat.known later c.requires.quiet;
     } in
+    let refused = c.lock_node.ensures.refused c.if-not-lock_node.true others in
     let u = c.unlock_nodes.ensures in (
       (u.free, u.rest.1 ∙ (r.1 ∙ i.anchor)),
-      met_since c.args.table.now.layout c.args.seat.now.known c.loop-index.seat.known c.lock_node.new.seat.known c.unlock_nodes.new.seat.known
-          (works_count c.args.table.now g.G.Gate.becomes (c.args.seat.now, c.args.gate.now) (c.loop-index.seat, c.loop-index.gate) i.tries.run)
-          later.pass u.rest.4 (c.lock_node.ensures.refused c.if-not-lock_node.true others),
+      (
+        met_since c.args.table.now.layout c.args.seat.now.known c.loop-index.seat.known c.lock_node.new.seat.known c.unlock_nodes.new.seat.known
+            (works_count c.args.table.now g.G.Gate.becomes (c.args.seat.now, c.args.gate.now) (c.loop-index.seat, c.loop-index.gate) i.tries.run)
+            later.pass u.rest.4 refused.0,
+        met_under_pin c.args.table.now.layout c.args.seat.now c.loop-index.seat c.lock_node.new.seat c.unlock_nodes.new.seat later
+            (tried_begin c.args.table.now g.G.Gate.becomes (c.args.seat.now, c.args.gate.now) (c.loop-index.seat, c.loop-index.gate) i.tries.run)
+            (tried_begin c.args.table.now g.G.Gate.becomes (c.lock_node.new.seat, c.lock_node.new.gate) (c.unlock_nodes.new.seat, c.unlock_nodes.new.gate) c.unlock_nodes.ensures.works) refused.1,
+      ),
     )
 
 pub loop-index-preserved : goal.loop-index-preserved
@@ -212,11 +219,17 @@ pub returns-clause-refused : goal.returns-clause-refused
 returns-clause-refused g c e =
     let i = c.loop-index.invariant in
     let r = c.lock_anchor.ensures.refused c.if-lock_anchor.false in
+    let later = works_later c.args.table.now g.G.Gate.becomes (c.args.seat.now, c.args.gate.now) (c.loop-index.seat, c.loop-index.gate) i.tries.run in
     let u = c.unlock_nodes-2.ensures in (
       (u.free, u.rest.1 ∙ (r.2 ∙ i.anchor)),
-      met_since c.args.table.now.layout c.args.seat.now.known c.loop-index.seat.known c.lock_anchor.new.seat.known c.unlock_nodes-2.new.seat.known
-          (works_count c.args.table.now g.G.Gate.becomes (c.args.seat.now, c.args.gate.now) (c.loop-index.seat, c.loop-index.gate) i.tries.run)
-          (works_later c.args.table.now g.G.Gate.becomes (c.args.seat.now, c.args.gate.now) (c.loop-index.seat, c.loop-index.gate) i.tries.run).pass u.rest.4 r.0,
+      (
+        met_since c.args.table.now.layout c.args.seat.now.known c.loop-index.seat.known c.lock_anchor.new.seat.known c.unlock_nodes-2.new.seat.known
+            (works_count c.args.table.now g.G.Gate.becomes (c.args.seat.now, c.args.gate.now) (c.loop-index.seat, c.loop-index.gate) i.tries.run)
+            later.pass u.rest.4 r.0,
+        met_under_pin c.args.table.now.layout c.args.seat.now c.loop-index.seat c.lock_anchor.new.seat c.unlock_nodes-2.new.seat later
+            (tried_begin c.args.table.now g.G.Gate.becomes (c.args.seat.now, c.args.gate.now) (c.loop-index.seat, c.loop-index.gate) i.tries.run)
+            (tried_begin c.args.table.now g.G.Gate.becomes (c.lock_anchor.new.seat, c.lock_anchor.new.gate) (c.unlock_nodes-2.new.seat, c.unlock_nodes-2.new.gate) c.unlock_nodes-2.ensures.works) (c.lock_anchor.ensures.met c.if-lock_anchor.false),
+      ),
     )
 
 pub bounds-way-index : goal.bounds-way-index

@@ -1,8 +1,8 @@
 -- The first of those that are left is unlocked.
 use Rattle.std.proofs.Common.{inl, refl, ◌∙◌, arith}
 use Rattle.rowex_table.specs.Runs.{silent}
-use Rattle.rowex_table.proofs.ActsAfter.{unlocks_node, unlock_gives}
-use Rattle.rowex_table.proofs.ActsLeave.{act_leaves}
+use Rattle.rowex_table.proofs.Made.ActsAfter.{unlocks_node, unlock_gives}
+use Rattle.rowex_table.proofs.Made.ActsLeave.{act_leaves}
 use Rattle.rowex_writing.proofs.locks.Locks.{works_none, works_one, works_more, works_seat}
 use Rattle.rowex_writing.proofs.locks.Spans.{first_locked, none_locked}
 use Rattle.rowex_reading.proofs.Counting.{step_few}

@@ -11,7 +11,7 @@ use Rattle.rowex_writing.proofs.merging.Leaving.{claimed_same}
 use Rattle.rowex_writing.proofs.locks.Going.{goes_more, seat_of}
 use Rattle.rowex_writing.proofs.build.Building.{goes_possible, set_all_on}
 use Rattle.rowex_writing.proofs.merging.Merging.{beside_now, beside_on, closed_made, closes_for, may_merge_into, merged_for, wide_now}
-use Rattle.rowex_writing.proofs.build.TakingUnderLocks.{word_of, claimed_again, claimed_filled, claimed_held}
+use Rattle.rowex_writing.proofs.build.taking.Taking.{word_of, claimed_again, claimed_filled, claimed_held}
 use Rattle.rowex_writing.proofs.merging.make_merge_records.Goals as goal
 
 pub fill_node-requires-clause-own : goal.fill_node-requires-clause-own

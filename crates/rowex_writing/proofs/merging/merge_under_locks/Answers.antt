@@ -1,7 +1,7 @@
 -- The store, or the wider locks are given back.
 use Rattle.rowex_writing.proofs.build.Spare.{goes_spare}
 use Rattle.std.proofs.Common.{refl, sym, subst}
-use Rattle.rowex_reading.proofs.Seeing.{later_trans}
+use Rattle.rowex_reading.proofs.Seen.{later_trans}
 use Rattle.rowex_writing.specs.build.Changes.{IsDeedChange}
 use Rattle.rowex_writing.specs.merging.Merging.{MayMergeInto}
 use Rattle.rowex_writing.specs.declared.plan.Deed.TheVariants.{Take}
@@ -36,25 +36,25 @@ returns-in-Some-clause-done g c = λ e.
     let later = c.make_merge_records.ensures.goes.stays.0 in
     (x, was, subst (λ q. IsDeedChange q Take job.key.now job.value job.found x was) later.pass is, changed_since c.args.seat.now.known c.make_merge_records.new.seat.known c.publish_merge.new.seat.known x was later changed)
 
-pub unlock_for_merge-requires : goal.unlock_for_merge-requires
-unlock_for_merge-requires g c = record { wide = wide_on c.args.table.now g.G.Gate.becomes (c.args.seat.now, c.args.gate.now) (c.make_merge_records.new.seat, c.make_merge_records.new.gate) c.args.job.now c.args.merge.now.number c.make_merge_records.ensures.goes c.requires.wide }
+pub release_merge_locks-requires : goal.release_merge_locks-requires
+release_merge_locks-requires g c = record { wide = wide_on c.args.table.now g.G.Gate.becomes (c.args.seat.now, c.args.gate.now) (c.make_merge_records.new.seat, c.make_merge_records.new.gate) c.args.job.now c.args.merge.now.number c.make_merge_records.ensures.goes c.requires.wide }
 
 pub returns-clause-run : goal.returns-clause-run
 returns-clause-run g c =
-    runs_trans c.args.table.now g.G.Gate.becomes (c.args.seat.now, c.args.gate.now) (c.make_merge_records.new.seat, c.make_merge_records.new.gate) (c.unlock_for_merge.new.seat, c.unlock_for_merge.new.gate)
-    (goes_run c.args.table.now g.G.Gate.becomes (c.args.seat.now, c.args.gate.now) (c.make_merge_records.new.seat, c.make_merge_records.new.gate) c.make_merge_records.ensures.goes) c.unlock_for_merge.ensures.run
+    runs_trans c.args.table.now g.G.Gate.becomes (c.args.seat.now, c.args.gate.now) (c.make_merge_records.new.seat, c.make_merge_records.new.gate) (c.release_merge_locks.new.seat, c.release_merge_locks.new.gate)
+    (goes_run c.args.table.now g.G.Gate.becomes (c.args.seat.now, c.args.gate.now) (c.make_merge_records.new.seat, c.make_merge_records.new.gate) c.make_merge_records.ensures.goes) c.release_merge_locks.ensures.run
 
 pub returns-clause-later : goal.returns-clause-later
-returns-clause-later g c = λ e. later_trans c.make_merge_records.ensures.goes.stays.0 c.unlock_for_merge.ensures.later
+returns-clause-later g c = λ e. later_trans c.make_merge_records.ensures.goes.stays.0 c.release_merge_locks.ensures.later
 
 pub returns-clause-same : goal.returns-clause-same
 returns-clause-same g c = λ e w.
     let kept = c.in_default.ensures.same refl in
-    let s = c.unlock_for_merge.ensures.same (wide_on c.args.table.now g.G.Gate.becomes (c.args.seat.now, c.args.gate.now) (c.make_merge_records.new.seat, c.make_merge_records.new.gate) c.args.job.now c.args.merge.now.number c.make_merge_records.ensures.goes w) in
+    let s = c.release_merge_locks.ensures.same (wide_on c.args.table.now g.G.Gate.becomes (c.args.seat.now, c.args.gate.now) (c.make_merge_records.new.seat, c.make_merge_records.new.gate) c.args.job.now c.args.merge.now.number c.make_merge_records.ensures.goes w) in
     (s.0, s.1, claimed_same kept s.2)
 
 pub returns-in-Some-clause-spares : goal.returns-in-Some-clause-spares
 returns-in-Some-clause-spares g c = λ was. c.publish_merge.ensures.spares
 
 pub returns-clause-spares : goal.returns-clause-spares
-returns-clause-spares g c = λ was. c.unlock_for_merge.ensures.spares (goes_spare c.args.table.now g.G.Gate.becomes (c.args.seat.now, c.args.gate.now) (c.make_merge_records.new.seat, c.make_merge_records.new.gate) c.make_merge_records.ensures.goes was)
+returns-clause-spares g c = λ was. c.release_merge_locks.ensures.spares (goes_spare c.args.table.now g.G.Gate.becomes (c.args.seat.now, c.args.gate.now) (c.make_merge_records.new.seat, c.make_merge_records.new.gate) c.make_merge_records.ensures.goes was)

@@ -1,7 +1,7 @@
 -- The node beside, the wider locks, and the store under them.
 use Rattle.rowex_writing.proofs.build.Spare.{goes_spare}
 use Rattle.std.proofs.Common.{sym, ◌∙◌, subst, arith}
-use Rattle.rowex_reading.proofs.Seeing.{later_trans}
+use Rattle.rowex_reading.proofs.Seen.{later_trans}
 use Rattle.rowex_writing.specs.build.Changes.{IsDeedChange}
 use Rattle.rowex_writing.specs.locks.Locks.{span_numbers}
 use Rattle.rowex_writing.specs.merging.Merging.{TriesMore}
@@ -11,7 +11,7 @@ use Rattle.rowex_writing.proofs.merging.Leaving.{claimed_same, left_on, left_wid
 use Rattle.rowex_writing.proofs.merging.Merging.{beside_wider, beside_on, way_wide, wide_on}
 use Rattle.rowex_writing.proofs.locks.Onward.{run_possible, run_seat}
 use Rattle.rowex_writing.proofs.locks.Runs.{goes_run, run_none, runs_trans}
-use Rattle.rowex_writing.proofs.merging.WideningLocks.{few_both, few_more}
+use Rattle.rowex_writing.proofs.merging.widening.Widening.{few_both, few_more}
 use Rattle.rowex_writing.proofs.merging.try_merge.Goals as goal
 use Rattle.rowex_reading.specs.Ways.{IsWayOf}
 use Rattle.rowex_writing.proofs.locks.Going.{seat_of}
@@ -43,20 +43,20 @@ is_unchanged-requires-clause-from g c =
     (w.taking.since, subst (IsWayOf c.args.table.now.layout c.lock_for_merge.new.seat.known w.taking.since job.key.now job.way.now) (sym w.taking.found) (way_wide c.args.table.now c.lock_for_merge.new.seat job c.args.merge.now.number w))
 
 -- it is another: the wider locks are given back
-pub unlock_for_merge-requires : goal.unlock_for_merge-requires
-unlock_for_merge-requires g c =
+pub release_merge_locks-requires : goal.release_merge_locks-requires
+release_merge_locks-requires g c =
     let (w, locks, anchor) = c.lock_for_merge.ensures.wide c.if-not-lock_for_merge.false in
     record { wide = wide_on c.args.table.now g.G.Gate.becomes (c.lock_for_merge.new.seat, c.lock_for_merge.new.gate) (c.is_unchanged.new.seat, c.is_unchanged.new.gate) c.args.job.now c.args.merge.now.number c.is_unchanged.ensures.reads.goes w }
 
 pub returns-then-not-is_unchanged-clause-tries : goal.returns-then-not-is_unchanged-clause-tries
 returns-then-not-is_unchanged-clause-tries g c =
     let table = c.args.table.now in
-    few_both table g.G.Gate.becomes (span_numbers c.args.job.now.way.now c.args.job.now.span) c.args.build.now.left_nodes (c.args.seat.now, c.args.gate.now) (c.args.seat.now, c.args.gate.now) (c.lock_for_merge.new.seat, c.lock_for_merge.new.gate) (c.unlock_for_merge.new.seat, c.unlock_for_merge.new.gate)
+    few_both table g.G.Gate.becomes (span_numbers c.args.job.now.way.now c.args.job.now.span) c.args.build.now.left_nodes (c.args.seat.now, c.args.gate.now) (c.args.seat.now, c.args.gate.now) (c.lock_for_merge.new.seat, c.lock_for_merge.new.gate) (c.release_merge_locks.new.seat, c.release_merge_locks.new.gate)
     (run_none table g.G.Gate.becomes (c.args.seat.now, c.args.gate.now))
     (subst (λ both. TriesMore table g.G.Gate.becomes (span_numbers c.args.job.now.way.now c.args.job.now.span) both (c.args.seat.now, c.args.gate.now) (c.lock_for_merge.new.seat, c.lock_for_merge.new.gate)) c.if-not-lock_for_merge.false c.lock_for_merge.ensures.tries)
-    (runs_trans table g.G.Gate.becomes (c.lock_for_merge.new.seat, c.lock_for_merge.new.gate) (c.is_unchanged.new.seat, c.is_unchanged.new.gate) (c.unlock_for_merge.new.seat, c.unlock_for_merge.new.gate)
-    (goes_run table g.G.Gate.becomes (c.lock_for_merge.new.seat, c.lock_for_merge.new.gate) (c.is_unchanged.new.seat, c.is_unchanged.new.gate) c.is_unchanged.ensures.reads.goes) c.unlock_for_merge.ensures.run)
-    (omega (arith, c.lock_for_merge.ensures.few, c.is_unchanged.ensures.few, held_few c.args.job.now.found, c.unlock_for_merge.ensures.few))
+    (runs_trans table g.G.Gate.becomes (c.lock_for_merge.new.seat, c.lock_for_merge.new.gate) (c.is_unchanged.new.seat, c.is_unchanged.new.gate) (c.release_merge_locks.new.seat, c.release_merge_locks.new.gate)
+    (goes_run table g.G.Gate.becomes (c.lock_for_merge.new.seat, c.lock_for_merge.new.gate) (c.is_unchanged.new.seat, c.is_unchanged.new.gate) c.is_unchanged.ensures.reads.goes) c.release_merge_locks.ensures.run)
+    (omega (arith, c.lock_for_merge.ensures.few, c.is_unchanged.ensures.few, held_few c.args.job.now.found, c.release_merge_locks.ensures.few))
 
 pub returns-then-not-is_unchanged-clause-later : goal.returns-then-not-is_unchanged-clause-later
 returns-then-not-is_unchanged-clause-later g c = λ e.
@@ -65,15 +65,15 @@ returns-then-not-is_unchanged-clause-later g c = λ e.
     let reads = c.is_unchanged.ensures.reads in
     let own = seat_of table g.G.Gate.becomes (c.lock_for_merge.new.seat, c.lock_for_merge.new.gate) (c.is_unchanged.new.seat, c.is_unchanged.new.gate) reads.goes l.1 in
     let possible = goes_possible table g.G.Gate.becomes (c.lock_for_merge.new.seat, c.lock_for_merge.new.gate) (c.is_unchanged.new.seat, c.is_unchanged.new.gate) reads.goes l.2 in (
-      later_trans l.0 (later_trans reads.goes.stays.0 c.unlock_for_merge.ensures.later),
-      run_seat table g.G.Gate.becomes (c.is_unchanged.new.seat, c.is_unchanged.new.gate) (c.unlock_for_merge.new.seat, c.unlock_for_merge.new.gate) c.unlock_for_merge.ensures.run own,
-      run_possible table g.G.Gate.becomes (c.is_unchanged.new.seat, c.is_unchanged.new.gate) (c.unlock_for_merge.new.seat, c.unlock_for_merge.new.gate) c.unlock_for_merge.ensures.run possible,
+      later_trans l.0 (later_trans reads.goes.stays.0 c.release_merge_locks.ensures.later),
+      run_seat table g.G.Gate.becomes (c.is_unchanged.new.seat, c.is_unchanged.new.gate) (c.release_merge_locks.new.seat, c.release_merge_locks.new.gate) c.release_merge_locks.ensures.run own,
+      run_possible table g.G.Gate.becomes (c.is_unchanged.new.seat, c.is_unchanged.new.gate) (c.release_merge_locks.new.seat, c.release_merge_locks.new.gate) c.release_merge_locks.ensures.run possible,
     )
 
 pub returns-then-not-is_unchanged-clause-same : goal.returns-then-not-is_unchanged-clause-same
 returns-then-not-is_unchanged-clause-same g c = λ e.
     let (w, locks, anchor) = c.lock_for_merge.ensures.wide c.if-not-lock_for_merge.false in
-    let s = c.unlock_for_merge.ensures.same
+    let s = c.release_merge_locks.ensures.same
     (wide_on c.args.table.now g.G.Gate.becomes (c.lock_for_merge.new.seat, c.lock_for_merge.new.gate) (c.is_unchanged.new.seat, c.is_unchanged.new.gate) c.args.job.now c.args.merge.now.number c.is_unchanged.ensures.reads.goes w) in
     (s.0 ∙ locks, s.1 ∙ anchor, claimed_same c.requires.claimed (s.2 ∙ (c.is_unchanged.ensures.reads.own ∙ c.lock_for_merge.ensures.later.3)))
 
@@ -139,7 +139,7 @@ returns-clause-same g c = λ e.
 
 pub returns-then-not-is_unchanged-clause-spares : goal.returns-then-not-is_unchanged-clause-spares
 returns-then-not-is_unchanged-clause-spares g c = λ was.
-    c.unlock_for_merge.ensures.spares (goes_spare c.args.table.now g.G.Gate.becomes (c.lock_for_merge.new.seat, c.lock_for_merge.new.gate) (c.is_unchanged.new.seat, c.is_unchanged.new.gate) c.is_unchanged.ensures.reads.goes (c.lock_for_merge.ensures.spares was))
+    c.release_merge_locks.ensures.spares (goes_spare c.args.table.now g.G.Gate.becomes (c.lock_for_merge.new.seat, c.lock_for_merge.new.gate) (c.is_unchanged.new.seat, c.is_unchanged.new.gate) c.is_unchanged.ensures.reads.goes (c.lock_for_merge.ensures.spares was))
 
 pub returns-clause-spares : goal.returns-clause-spares
 returns-clause-spares g c = λ was.

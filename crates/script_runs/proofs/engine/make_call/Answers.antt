@@ -1,5 +1,5 @@
 -- Why `make_call` meets its contract.
-use Rattle.script_runs.proofs.Progressing.{called_of}
+use Rattle.script_runs.proofs.Progress.{called_of}
 use Rattle.script_runs.proofs.engine.make_call.Goals as goal
 
 pub returns-in-Ok-clause-told : goal.returns-in-Ok-clause-told

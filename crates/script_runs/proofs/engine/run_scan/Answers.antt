@@ -1,6 +1,6 @@
 -- Why `run_scan` meets its contract.
 use Rattle.std.proofs.lemmas.Result.{on_ok_weaker}
-use Rattle.script_runs.proofs.Progressing.{HasAnsweredCommand-list}
+use Rattle.script_runs.proofs.Progress.{HasAnsweredCommand-list}
 use Rattle.script_runs.proofs.engine.run_scan.Goals as goal
 
 pub returns-clause-answered : goal.returns-clause-answered

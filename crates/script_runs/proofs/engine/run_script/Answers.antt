@@ -2,7 +2,7 @@
 use Rattle.std.proofs.Common.{◌≡◌, ◌∷◌, [], ◌∙◌, append_assoc, append-nil, rules}
 use Rattle.hot_index_calls.specs.Passes.{PassView}
 use Rattle.hot_scripts.specs.Parses.{commands_left}
-use Rattle.script_runs.proofs.Progressing.{HasRunCommands-none, HasRunCommands-more}
+use Rattle.script_runs.proofs.Progress.{HasRunCommands-none, HasRunCommands-more}
 use Rattle.script_runs.proofs.engine.run_script.Goals as goal
 
 pub loop-command-preserved : goal.loop-command-preserved

@@ -2,7 +2,7 @@
 use Rattle.std.proofs.Common.{◌≡◌, ◌+◌, [], ◌∷◌, ◌++◌, length, ap, subst, arith, length-append}
 use Rattle.script_runs.specs.Progress.{IsNewPassOf}
 use Rattle.script_runs.specs.Scripts.{AllFrom}
-use Rattle.script_runs.proofs.Numbered.{AllFrom-zero, AllFrom-left, AllFrom-right}
+use Rattle.script_runs.proofs.together.Numbered.{AllFrom-zero, AllFrom-left, AllFrom-right}
 use Rattle.script_runs.proofs.indexes.create_index_for_files.Goals as goal
 
 pub returns-clause-each : goal.returns-clause-each

@@ -3,7 +3,7 @@ use Rattle.std.proofs.Common.{refl, ap, ◌∙◌}
 use Rattle.std.proofs.lemmas.Result.{IfOk-weaker}
 use Rattle.finite_map.specs.Fronts.{map_of}
 use Rattle.script_runs.specs.Runs.{text_told}
-use Rattle.script_runs.proofs.Alone.{alone_at_first, told_alone}
+use Rattle.script_runs.proofs.one.Alone.{alone_at_first, told_alone}
 use Rattle.script_runs.proofs.one.run_on_new_index.Goals as goal
 
 pub returns : goal.returns

@@ -7,8 +7,8 @@ use Rattle.hot_index.specs.Handles.{handle_at}
 use Rattle.hot_scripts.specs.Parses.{script_commands}
 use Rattle.script_runs.specs.Progress.{IsNewPassOf}
 use Rattle.script_runs.specs.Told.{IsOfSize}
-use Rattle.script_runs.proofs.Joint.{lawful_together}
-use Rattle.script_runs.proofs.Numbered.{all_at, done_at, done_long, owns_first}
+use Rattle.script_runs.proofs.Scripts.{lawful_together}
+use Rattle.script_runs.proofs.together.Numbered.{all_at, done_at, done_long, owns_first}
 use Rattle.script_runs.proofs.together.run_all_scripts.Goals as goal
 
 pub handles_of-requires : goal.handles_of-requires

@@ -4,7 +4,7 @@ use Rattle.std.specs.List.{AllZip, zip}
 use Rattle.std.proofs.lemmas.Result.{IfOk-weaker}
 use Rattle.hot_scripts.specs.Parses.{script_commands}
 use Rattle.script_runs.specs.Progress.{AllThree, HasKept, IsDone}
-use Rattle.script_runs.proofs.Numbered.{all_joined}
+use Rattle.script_runs.proofs.together.Numbered.{all_joined}
 use Rattle.script_runs.proofs.together.run_files_in_scope.Goals as goal
 
 pub returns : goal.returns

@@ -4,9 +4,9 @@ use Rattle.std.proofs.lemmas.Result.{IfOk-weaker}
 use Rattle.hot_index.specs.Handles.{HandleView}
 use Rattle.hot_index_calls.specs.Passes.{Owns}
 use Rattle.hot_scripts.specs.Parses.{script_commands}
-use Rattle.script_runs.proofs.Joint.{met_long}
-use Rattle.script_runs.proofs.Numbered.{at_own}
-use Rattle.script_runs.proofs.Progressing.{HasRunCommands-untold}
+use Rattle.script_runs.proofs.Scripts.{met_long}
+use Rattle.script_runs.proofs.together.Numbered.{at_own}
+use Rattle.script_runs.proofs.Progress.{HasRunCommands-untold}
 use Rattle.script_runs.proofs.together.run_last_script.Goals as goal
 
 pub meet_all_passes-requires : goal.meet_all_passes-requires

@@ -1,5 +1,5 @@
 -- The law runs_are_one.
-use Rattle.sections.proofs.Dealing.{runs_are_one}
+use Rattle.sections.proofs.Rule.Dealing.{runs_are_one}
 use Rattle.sections.proofs.laws.runs_are_one.Goals as goal
 
 pub returns : goal.returns

@@ -5,13 +5,13 @@ use Rattle.compound_node.specs.Nodes.{NodeView, head_of}
 use Rattle.record_words.specs.HeadParts.{HasHeadOf}
 use Rattle.record_words.specs.Kinds.{kind_of}
 use Rattle.record_words.specs.Node.{HasNodeWords, head_words, node_words}
-use Rattle.record_words.specs.declared.kind.Kind.{Kind}
+use Rattle.record_words.specs.declared.kind.HeadKind.{HeadKind}
 use Rattle.record_words.proofs.Nodes.{head_part}
-use Rattle.record_words.proofs.Spelled.{first_word}
+use Rattle.record_words.proofs.Reading.{first_word}
 use Rattle.value_tests.proofs.kinds.search_words.Goals as goal
 
 module _ (node : NodeView) (words : List ℕ) (has : HasNodeWords node) (same : words ≡ node_words node) where
-  of_kind : (kind other : Kind) → other ≡ kind_of node.columns → other ≡ kind → HasHeadOf kind (head_of node)
+  of_kind : (kind other : HeadKind) → other ≡ kind_of node.columns → other ≡ kind → HasHeadOf kind (head_of node)
   of_kind kind other is e = ((node, has.lawful, refl), sym is ∙ e)
 
   front : (n : ℕ) (part : List ℕ) → n ≤ 25 → part ≡ take n words → take n (head_words (head_of node)) ≡ part

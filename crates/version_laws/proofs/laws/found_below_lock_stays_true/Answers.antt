@@ -1,4 +1,4 @@
-use Rattle.version_laws.proofs.Steady.{found_kept}
+use Rattle.version_laws.proofs.Writer.{found_kept}
 use Rattle.version_laws.proofs.laws.found_below_lock_stays_true.Goals as goal
 
 pub returns : goal.returns

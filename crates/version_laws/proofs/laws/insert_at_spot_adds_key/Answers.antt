@@ -1,4 +1,4 @@
-use Rattle.version_laws.proofs.Rising.{insert_at_spot}
+use Rattle.version_laws.proofs.Rise.{insert_at_spot}
 use Rattle.version_laws.proofs.laws.insert_at_spot_adds_key.Goals as goal
 
 pub returns : goal.returns

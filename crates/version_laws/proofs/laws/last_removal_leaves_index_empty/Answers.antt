@@ -1,4 +1,4 @@
-use Rattle.version_laws.proofs.Taking.{remove_only}
+use Rattle.version_laws.proofs.Rise.Taking.{remove_only}
 use Rattle.version_laws.proofs.laws.last_removal_leaves_index_empty.Goals as goal
 
 pub returns : goal.returns

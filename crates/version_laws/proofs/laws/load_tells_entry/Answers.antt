@@ -1,4 +1,4 @@
-use Rattle.version_laws.proofs.Loads.{loads_place}
+use Rattle.version_laws.proofs.Scan.Loads.{loads_place}
 use Rattle.version_laws.proofs.laws.load_tells_entry.Goals as goal
 
 pub returns : goal.returns

@@ -1,4 +1,4 @@
-use Rattle.version_laws.proofs.Leaves.{pair_at_spot}
+use Rattle.version_laws.proofs.Statements.Leaves.{pair_at_spot}
 use Rattle.version_laws.proofs.laws.pair_at_spot_adds_key.Goals as goal
 
 pub returns : goal.returns

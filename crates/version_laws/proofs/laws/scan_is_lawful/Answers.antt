@@ -1,4 +1,4 @@
-use Rattle.version_laws.proofs.Fronts.{scan_is_lawful}
+use Rattle.version_laws.proofs.Scan.Fronts.{scan_is_lawful}
 use Rattle.version_laws.proofs.laws.scan_is_lawful.Goals as goal
 
 pub returns : goal.returns

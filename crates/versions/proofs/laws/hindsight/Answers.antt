@@ -1,4 +1,4 @@
-use Rattle.versions.proofs.States.{hindsight}
+use Rattle.versions.proofs.State.{hindsight}
 use Rattle.versions.proofs.laws.hindsight.Goals as goal
 
 pub returns : goal.returns

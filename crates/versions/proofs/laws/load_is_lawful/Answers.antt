@@ -1,4 +1,4 @@
-use Rattle.versions.proofs.Loading.{load_is_lawful}
+use Rattle.versions.proofs.Loads.{load_is_lawful}
 use Rattle.versions.proofs.laws.load_is_lawful.Goals as goal
 
 pub returns : goal.returns

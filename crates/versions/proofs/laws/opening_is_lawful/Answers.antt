@@ -1,4 +1,4 @@
-use Rattle.versions.proofs.Stepping.{opening_core}
+use Rattle.versions.proofs.Steps.{opening_core}
 use Rattle.versions.proofs.laws.opening_is_lawful.Goals as goal
 
 pub returns : goal.returns

@@ -1,21 +1,22 @@
 -- The leaf stands beside the piece at the top.
 use Rattle.std.proofs.Common.{◌≡◌, inl, inr, ◌+◌, ◌≤◌, ◌∷◌, ◌++◌, [], Some, length, map, ap, sym, subst, ◌∙◌, arith, rules}
 use Rattle.std.proofs.lemmas.List.{length-append, length-set, with_items_is, places, map-append}
-use Rattle.std.proofs.lemmas.List.Elements.{All-push, All-from_recursion}
+use Rattle.std.proofs.lemmas.List.Elements.{All-nil, All-push, All-from_recursion}
+use Rattle.std.specs.Prelude.{All}
 use Rattle.compound_node.specs.declared.entries.Entry.TheVariants.{Leaf}
 use Rattle.tries.specs.Content.{item}
 use Rattle.tries.specs.Keys.{IsParted}
 use Rattle.tries.specs.Tree.{leaf, fork}
 use Rattle.record_words.specs.declared.records.Rec.TheVariants.{Leaf as a_leaf}
 use Rattle.bulk_load.specs.declared.builder.Part.{Part}
-use Rattle.bulk_load.specs.Loading.{IsStackOf, greatest_key}
+use Rattle.bulk_load.specs.Loading.{IsLow, IsStackOf, greatest_key}
 use Rattle.bulk_load.specs.Slots.{slot}
 use Rattle.bulk_load.specs.Stacks.{left_piece, whole_of}
 use Rattle.std.proofs.Math.ListN.{set}
 use Rattle.bulk_load.specs.Tables.{AreCursors, IsPut, HoldsTree}
-use Rattle.bulk_load.proofs.Cursors.{cursors_moved}
-use Rattle.bulk_load.proofs.Stacking.{last_joined}
-use Rattle.bulk_load.proofs.Pushing.{local_grown, built_grown, holds_grown, taken_grown, slots_grown, content_grown, holds_first, no_node, nodes_grown}
+use Rattle.bulk_load.proofs.Tables.{cursors_moved}
+use Rattle.bulk_load.proofs.Stacks.{last_joined}
+use Rattle.bulk_load.proofs.builder.Pushing.{local_grown, built_grown, holds_grown, taken_grown, slots_grown, content_grown, holds_first, no_node, nodes_grown, low_grown}
 use Rattle.bulk_load.proofs.builder.Builder.add_leaf.Goals as goal
 
 pub returns-clause-taken : goal.returns-clause-taken
@@ -46,6 +47,8 @@ returns-clause-taken c = λ xs nodes m.
         room = nodes_grown l.nodes l.layout.nodes (length l.parts.items) (length l.slots.items) (length c.push_reserved-2.new.self.items) (length c.push_reserved.new.self.items)
             parts slots nodes;
         few = omega (arith, e.0.no_nodes, ap length e.0.no_slots, slots, length-append xs (item n k v ∷ []));
+        low = λ z. subst (All IsLow) (sym c.push_reserved-2.ensures.items) (low_grown l.parts.items (subst (All IsLow) (sym e.0.no_parts) (All-nil IsLow)));
+        bare = λ h. e.0.no_nodes;
       } in record { stack = stack; alone = λ q. tt })
       | inr s ↦ (let ls = s.0.stack.levels in let top = s.0.stack.top in let t = s.0.stack.tree in
           let parted : IsParted p (greatest_key top) k = subst (λ key. IsParted p key k) (s.0.stack.last ∙ last_joined ls top) s.1 in
@@ -72,6 +75,8 @@ returns-clause-taken c = λ xs nodes m.
             room = nodes_grown l.nodes l.layout.nodes (length l.parts.items) (length l.slots.items) (length c.push_reserved-2.new.self.items) (length c.push_reserved.new.self.items)
                 parts slots nodes;
             few = omega (arith, s.0.stack.few, slots, length-append xs (item n k v ∷ []));
+            low = λ z. subst (All IsLow) (sym c.push_reserved-2.ensures.items) (low_grown l.parts.items (s.0.stack.low z));
+            bare = λ h. s.0.stack.bare (omega (arith, h, length-append xs (item n k v ∷ [])));
           } in record { stack = stack; alone = λ q. tt })
     ]
 

@@ -7,8 +7,8 @@ use Rattle.record_words.specs.declared.layout.Layout.{Layout}
 use Rattle.record_words.specs.declared.TheConstants.{ROOT_WORD}
 use Rattle.record_words.specs.Entry.{entry_word}
 use Rattle.bulk_load.specs.Finished.{IsFinished}
-use Rattle.bulk_load.proofs.Finishing.{nothing_written, tree_written}
-use Rattle.bulk_load.proofs.Joining.{none_loaded, stack_loaded}
+use Rattle.bulk_load.proofs.Finished.{nothing_written, tree_written}
+use Rattle.bulk_load.proofs.Stacks.Joining.{none_loaded, stack_loaded}
 use Rattle.bulk_load.proofs.builder.Builder.close_all.Goals as goal
 
 pub returns-then-is_empty : goal.returns-then-is_empty

@@ -1,6 +1,6 @@
 -- Each class has been tried.
 use Rattle.std.proofs.Common.{arith}
-use Rattle.bulk_load.proofs.Cursors.{none_left}
+use Rattle.bulk_load.proofs.Tables.{none_left}
 use Rattle.bulk_load.proofs.builder.Builder.find_leaf.Goals as goal
 
 pub returns-clause-none : goal.returns-clause-none

@@ -1,8 +1,8 @@
 -- Each fault comes where its clause says.
 use Rattle.std.proofs.Common.{arith, rules}
 use Rattle.std.proofs.lemmas.Result.{err_from_is_err_and}
-use Rattle.bulk_load.proofs.Listing.{taken_if_used}
-use Rattle.bulk_load.proofs.Taking.{falls, rises}
+use Rattle.bulk_load.proofs.Views.{taken_if_used}
+use Rattle.bulk_load.proofs.Loading.{falls, rises}
 use Rattle.bulk_load.proofs.builder.Builder.find_next_leaf.Goals as goal
 
 pub returns-in_err-fork_position-clause-rising : goal.returns-in_err-fork_position-clause-rising

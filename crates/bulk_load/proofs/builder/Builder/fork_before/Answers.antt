@@ -4,8 +4,8 @@ use Rattle.std.specs.declared.cmp.Ordering.TheVariants.{Less, Equal}
 use Rattle.std.specs.Vec.{vec_len}
 use Rattle.finite_map.specs.Maps.{key_order}
 use Rattle.tries.specs.Keys.{Key}
-use Rattle.tries.proofs.Maps.{same_order}
-use Rattle.bulk_load.proofs.Pushing.{parted_by}
+use Rattle.tries.proofs.Content.Maps.{same_order}
+use Rattle.bulk_load.proofs.builder.Pushing.{parted_by}
 use Rattle.bulk_load.proofs.builder.Builder.fork_before.Goals as goal
 
 not_above : (k l : Key) → k ≡ l → key_order k l ≢ Less

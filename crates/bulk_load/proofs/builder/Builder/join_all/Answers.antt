@@ -1,6 +1,6 @@
 -- At last one piece is left.
 use Rattle.std.proofs.Common.{refl, ◌∙◌, arith}
-use Rattle.bulk_load.proofs.Joining.{alone}
+use Rattle.bulk_load.proofs.Stacks.Joining.{alone}
 use Rattle.bulk_load.proofs.builder.Builder.join_all.Goals as goal
 
 pub joins-init : goal.joins-init

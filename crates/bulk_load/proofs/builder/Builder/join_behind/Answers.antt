@@ -1,7 +1,7 @@
 -- The fork before the piece at the top is behind the position.
 use Rattle.std.proofs.Common.{◌≡◌, ◌+◌, ◌-◌, inr, length, arith}
-use Rattle.bulk_load.proofs.Joining.{stack_of, top_within, parting_alone, parting_low, next_ready}
-use Rattle.bulk_load.proofs.Taking.{nodes_more, nodes_stay}
+use Rattle.bulk_load.proofs.Stacks.Joining.{stack_of, top_within, parting_alone, parting_low, next_ready}
+use Rattle.bulk_load.proofs.Loading.{nodes_more, nodes_stay}
 use Rattle.bulk_load.proofs.builder.Builder.join_behind.Goals as goal
 
 pub overflow_sub-len-in-joins : goal.overflow_sub-len-in-joins

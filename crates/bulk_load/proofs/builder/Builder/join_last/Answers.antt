@@ -3,10 +3,12 @@ use Rattle.std.proofs.Common.{◌≡◌, ◌+◌, ◌-◌, ◌<◌, take, slice_
 use Rattle.std.specs.Vec.{vec_len}
 use Rattle.std.proofs.lemmas.List.{length-set, length-take}
 use Rattle.record_words.specs.declared.layout.Layout.{Layout}
+use Rattle.std.specs.Prelude.{All}
 use Rattle.bulk_load.specs.declared.builder.Part.{Part}
-use Rattle.bulk_load.proofs.Closing.{fits}
-use Rattle.bulk_load.proofs.Joining.{first_piece, second_piece, joined_stack, each_few, first_node, nodes_then, piece_closed, second_node}
-use Rattle.bulk_load.proofs.Taking.{leaves_more}
+use Rattle.bulk_load.specs.Loading.{IsLow}
+use Rattle.bulk_load.proofs.Stacks.Closing.{fits}
+use Rattle.bulk_load.proofs.Stacks.Joining.{first_piece, second_piece, joined_stack, each_few, each_low, first_node, low_joined, nodes_then, none_before, piece_closed, second_node, stays_bare}
+use Rattle.bulk_load.proofs.Loading.{leaves_more}
 use Rattle.bulk_load.proofs.builder.Builder.join_last.Goals as goal
 
 pub plan_join-plan-requires : goal.plan_join-plan-requires
@@ -83,6 +85,10 @@ returns-clause-joined c = λ xs s.
     let popped : length c.pop.new.self.items + 1 ≡ length l.parts.items =
     let same = c.close_piece.ensures.parts ∙ c.close_piece-behind.ensures.parts in let ps = o.parts in
     omega (arith, ap length c.pop.ensures.rest, length-take (vec_len ps - 1) ps.items, ap vec_len same, ps.ok.0, l.parts.ok.0, c.requires.several) in
+    let bare = stays_bare l m o xs s (c.len-top.result - 1 - 1) (c.len-top.result - 1) c.index.result.now c.index-2.result.now c.plan_join-plan.result.closes_left c.plan_join-plan.result.closes_right
+    c.close_piece.result c.close_piece-behind.result (omega (arith, l.parts.ok.0, c.len-top.ensures, c.requires.several)) c.index.ensures
+    (omega (arith, l.parts.ok.0, c.len-top.ensures, c.requires.several)) c.index-2.ensures c.plan_join-plan.ensures.even
+    c.close_piece-behind.ensures.nodes c.close_piece-behind.ensures.count c.close_piece-behind.ensures.slots c.close_piece.ensures.nodes c.close_piece.ensures.count c.close_piece.ensures.slots in
     let (y, st, t) = c.close_piece-behind.ensures.closed s.levels s.top None
     (first_piece l xs s (c.len-top.result - 1) c.index-2.result.now (omega (arith, l.parts.ok.0, c.len-top.ensures, c.requires.several)) c.index-2.ensures) in
     let whole : Part = record { count = c.close_piece.result + c.close_piece-behind.result; height = c.plan_join-plan.result.height } in
@@ -97,8 +103,16 @@ returns-clause-joined c = λ xs s.
     parts_are
     (c.close_piece.ensures.kept.last ∙ c.close_piece-behind.ensures.kept.last)
     (nodes_then l m o c.index.result.now.count c.index-2.result.now.count (length (slice_set c.pop.new.self.items (c.len-top.result - 1 - 1) whole)) 0 i j
-    (c.close_piece.ensures.kept.layout ∙ c.close_piece-behind.ensures.kept.layout) (ap (λ n. n + 1) (length-set c.pop.new.self.items (c.len-top.result - 1 - 1) whole) ∙ popped) s.room)
+    (c.close_piece.ensures.kept.layout ∙ c.close_piece-behind.ensures.kept.layout) (ap (λ n. n + 1) (length-set c.pop.new.self.items (c.len-top.result - 1 - 1) whole) ∙ popped) bare s.room)
     (let few = s.few in omega (arith, few, i.spared, j.spared))
+    (λ z.
+    let second = none_before m.nodes o.nodes c.plan_join-plan.result.closes_left c.close_piece.ensures.nodes z in
+    let first = none_before l.nodes m.nodes c.plan_join-plan.result.closes_right c.close_piece-behind.ensures.nodes second.0 in
+    let lows = s.low first.0 in
+    let left = each_low l.parts.items (c.len-top.result - 1 - 1) c.index.result.now lows (omega (arith, l.parts.ok.0, c.len-top.ensures, c.requires.several)) c.index.ensures in
+    let right = each_low l.parts.items (c.len-top.result - 1) c.index-2.result.now lows (omega (arith, l.parts.ok.0, c.len-top.ensures, c.requires.several)) c.index-2.ensures in
+    subst (All IsLow) (sym parts_are) (low_joined l.parts.items (c.len-top.result - 1 - 1) whole lows (c.plan_join-plan.ensures.low left right second.1 first.1)))
+    (λ h. let few = s.few in (bare (s.bare h) (omega (arith, few, h))).0)
     c.close_piece.ensures.closed s.levels s.top s.parts s.content s.last y st t
 
 pub returns-clause-kept : goal.returns-clause-kept
@@ -111,6 +125,11 @@ returns-clause-kept c =
     let popped : length c.pop.new.self.items + 1 ≡ length l.parts.items =
     let same = c.close_piece.ensures.parts ∙ c.close_piece-behind.ensures.parts in let ps = o.parts in
     omega (arith, ap length c.pop.ensures.rest, length-take (vec_len ps - 1) ps.items, ap vec_len same, ps.ok.0, l.parts.ok.0, c.requires.several) in
+    let (xs, s) = c.requires.stack in
+    let bare = stays_bare l m o xs s (c.len-top.result - 1 - 1) (c.len-top.result - 1) c.index.result.now c.index-2.result.now c.plan_join-plan.result.closes_left c.plan_join-plan.result.closes_right
+    c.close_piece.result c.close_piece-behind.result (omega (arith, l.parts.ok.0, c.len-top.ensures, c.requires.several)) c.index.ensures
+    (omega (arith, l.parts.ok.0, c.len-top.ensures, c.requires.several)) c.index-2.ensures c.plan_join-plan.ensures.even
+    c.close_piece-behind.ensures.nodes c.close_piece-behind.ensures.count c.close_piece-behind.ensures.slots c.close_piece.ensures.nodes c.close_piece.ensures.count c.close_piece.ensures.slots in
     let kept = leaves_more l m o c.close_piece-behind.ensures.kept c.close_piece.ensures.kept in record {
       leaves = record {
         layout = kept.layout;
@@ -122,6 +141,6 @@ returns-clause-kept c =
             (s.0, omega (arith, less, popped, c.pop.new.self.ok.0, o.parts.ok.0, l.parts.ok.0, c.pop.ensures.capacity, ap vec_len (c.close_piece.ensures.parts ∙ c.close_piece-behind.ensures.parts)));
       };
       nodes = λ more h. nodes_then l m o c.index.result.now.count c.index-2.result.now.count _ more i j (c.close_piece.ensures.kept.layout ∙ c.close_piece-behind.ensures.kept.layout)
-          (ap (λ n. n + 1) (length-set c.pop.new.self.items (c.len-top.result - 1 - 1) _) ∙ popped) h;
+          (ap (λ n. n + 1) (length-set c.pop.new.self.items (c.len-top.result - 1 - 1) _) ∙ popped) bare h;
       few = λ n h. omega (arith, h, i.spared, j.spared);
     }

@@ -1,6 +1,6 @@
 -- The leaf stands beside the piece at the top, once the pieces behind it have joined.
 use Rattle.std.proofs.Common.{inr}
-use Rattle.bulk_load.proofs.Taking.{can_join, cursors_stay, may_take, rootless_then}
+use Rattle.bulk_load.proofs.Loading.{can_join, cursors_stay, may_take, rootless_then}
 use Rattle.bulk_load.proofs.builder.Builder.take.Goals as goal
 
 pub join_behind-requires : goal.join_behind-requires

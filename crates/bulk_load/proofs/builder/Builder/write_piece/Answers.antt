@@ -11,10 +11,10 @@ use Rattle.bulk_load.specs.Stacks.{LeftPiece, whole_of, position_of, front_slots
 use Rattle.bulk_load.specs.Tables.{IsPut, state_in}
 use Rattle.compound_node.specs.declared.entries.Entry.TheVariants.{Leaf}
 use Rattle.bulk_load.specs.Tables.{HoldsTree}
-use Rattle.bulk_load.proofs.Closing.{fits, taken_part, slots_given, each_given, merged, closed, holds_closed, local_closed, all_built, taken_closed, slots_closed}
-use Rattle.bulk_load.proofs.Putting.{state_stays}
+use Rattle.bulk_load.proofs.Stacks.Closing.{fits, taken_part, slots_given, each_given, merged, closed, holds_closed, local_closed, all_built, taken_closed, slots_closed}
+use Rattle.bulk_load.proofs.Tables.Putting.{state_stays}
 use Rattle.record_words.specs.declared.records.Rec.TheVariants.{Leaf as a_leaf}
-use Rattle.versions.proofs.Heaps.{node_leaf}
+use Rattle.versions.proofs.Heap.{node_leaf}
 use Rattle.bulk_load.proofs.builder.Builder.write_piece.Goals as goal
 use Rattle.bulk_load.proofs.builder.Builder.write_piece.Goals.{After-deref}
 

@@ -3,7 +3,7 @@ use Rattle.std.proofs.Common.{◌++◌, ◌∷◌, [], ap, ◌∙◌}
 use Rattle.tries.specs.Content.{item}
 use Rattle.bulk_load.specs.Loading.{items_in}
 use Rattle.bulk_load.specs.Views.{LoadView, with_item}
-use Rattle.bulk_load.proofs.Taking.{loading_shown, same_loading, same_view}
+use Rattle.bulk_load.proofs.Loading.{loading_shown, same_loading, same_view}
 use Rattle.bulk_load.proofs.loader.Loader.push.Goals as goal
 
 pub invariant_of-self : goal.invariant_of-self

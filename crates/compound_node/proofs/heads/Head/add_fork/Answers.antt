@@ -1,6 +1,6 @@
 -- The words with a new fork are those of the head.
 use Rattle.std.proofs.Common.{ap, arith, drop, false, length, subst, sym, take, ◌%◌, ◌*◌, ◌++◌, ◌+◌, ◌-◌, ◌<◌, ◌^◌, ◌∙◌, ◌≡◌}
-use Rattle.compound_node.proofs.Forked.{new_fits, new_rows, room_for_column, words_forked}
+use Rattle.compound_node.proofs.Forking.Forked.{new_fits, new_rows, room_for_column, words_forked}
 use Rattle.compound_node.specs.Forking.{forked_head}
 use Rattle.compound_node.specs.Nodes.{FitsHead, HeadView, IsLawfulNode, leaves, node_of}
 use Rattle.partial_keys.specs.Spread.{forked_rows}

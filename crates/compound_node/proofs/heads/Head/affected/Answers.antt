@@ -1,7 +1,7 @@
 -- The run of rows is the affected range.
 use Rattle.std.proofs.Common.{ap, arith, length, subst, sym, ◌∙◌, ◌≡◌}
 use Rattle.compound_node.proofs.Lawful.{length-leaves}
-use Rattle.compound_node.proofs.Ranges.{IsRange, range_of_head}
+use Rattle.compound_node.proofs.heads.Ranges.{IsRange, range_of_head}
 use Rattle.compound_node.specs.Nodes.{HeadView, IsLawfulNode, NodeView, head_of}
 use Rattle.partial_keys.specs.Runs.{IsRunEnd, IsRunStart}
 use Rattle.node_tries.specs.Positions.{front_below}

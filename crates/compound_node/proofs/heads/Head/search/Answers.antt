@@ -3,7 +3,7 @@ use Rattle.std.proofs.Common.{ap, get_or, length, refl, subst, sym, ◌<◌, ◌
 use Rattle.compound_node.proofs.Lawful.{head_leads, head_leads-fits}
 use Rattle.compound_node.specs.Nodes.{HeadView}
 use Rattle.key_bits.specs.Bits.{bit_of}
-use Rattle.partial_keys.proofs.Search.{first_is_zero}
+use Rattle.partial_keys.proofs.Leads.{first_is_zero}
 use Rattle.compound_node.proofs.heads.Head.search.Goals as goal
 
 pub search_lanes-requires : goal.search_lanes-requires

@@ -1,7 +1,7 @@
 -- The head and the entries with the fork make a node, built from the piece with it.
 use Rattle.std.proofs.Common.{ap, arith, length, subst, sym, ◌+◌, ◌-◌, ◌<◌, ◌∙◌, ◌≡◌}
 use Rattle.std.specs.List.{All}
-use Rattle.compound_node.proofs.Forks.{NewFork, new_fork}
+use Rattle.compound_node.proofs.Forking.{NewFork, new_fork}
 use Rattle.compound_node.proofs.Lawful.{same_count}
 use Rattle.compound_node.specs.Nodes.{IsBuiltFrom, IsEntry, NodeView, greatest_height, node_of, piece}
 use Rattle.node_tries.specs.Growth.{edited, forked_places, grown}

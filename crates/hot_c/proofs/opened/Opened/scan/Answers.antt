@@ -6,7 +6,7 @@ use Rattle.hot_index_calls.specs.Answers.{range_from}
 use Rattle.hot_index_calls.specs.Calls.{IsListReadBy}
 use Rattle.hot_index_calls.specs.Traces.{untold}
 use Rattle.version_laws.specs.Directions.{IsLawfulBy}
-use Rattle.hot_c.proofs.Listed.{filled_in}
+use Rattle.hot_c.proofs.Orders.{filled_in}
 use Rattle.hot_c.proofs.opened.Opened.scan.Goals as goal
 
 pub returns-clause-call : goal.returns-clause-call

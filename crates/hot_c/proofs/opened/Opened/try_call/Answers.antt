@@ -1,6 +1,6 @@
 -- What the call of the index leaves is told.
 use Rattle.std.proofs.Common.{refl}
-use Rattle.hot_c.proofs.Answered.{told_refusal, told_reply}
+use Rattle.hot_c.proofs.Statuses.{told_refusal, told_reply}
 use Rattle.hot_c.proofs.opened.Opened.try_call.Goals as goal
 
 pub returns-in-Ok : goal.returns-in-Ok

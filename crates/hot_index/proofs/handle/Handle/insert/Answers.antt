@@ -2,7 +2,7 @@
 use Rattle.finite_map.specs.declared.Call.TheVariants.{Insert}
 use Rattle.hot_index_calls.specs.Asked.{last_try}
 use Rattle.hot_index_calls.specs.Calls.{HasCause}
-use Rattle.hot_index.proofs.Staying.{stays}
+use Rattle.hot_index.proofs.Handles.{stays}
 use Rattle.hot_index.proofs.handle.Handle.insert.Goals as goal
 
 pub returns-clause-cause : goal.returns-clause-cause

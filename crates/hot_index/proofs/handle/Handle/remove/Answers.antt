@@ -6,7 +6,7 @@ use Rattle.std.specs.Prelude.{◌<◌, IsOk}
 use Rattle.std.proofs.Common.{subst}
 use Rattle.rowex_table.specs.Seats.{TableView}
 use Rattle.hot_index.specs.Handles.{HandleView}
-use Rattle.hot_index.proofs.Staying.{stays}
+use Rattle.hot_index.proofs.Handles.{stays}
 use Rattle.hot_index.proofs.handle.Handle.remove.Goals as goal
 
 pub returns-clause-cause : goal.returns-clause-cause

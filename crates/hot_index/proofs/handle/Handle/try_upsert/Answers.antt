@@ -1,7 +1,7 @@
 -- The change is that of the index on the handle's pass.
 use Rattle.finite_map.specs.declared.Call.TheVariants.{Upsert}
 use Rattle.hot_index_calls.specs.Calls.{HasCause}
-use Rattle.hot_index.proofs.Staying.{stays}
+use Rattle.hot_index.proofs.Handles.{stays}
 use Rattle.hot_index.proofs.handle.Handle.try_upsert.Goals as goal
 
 pub returns-clause-cause : goal.returns-clause-cause

@@ -5,7 +5,7 @@ use Rattle.hot_index_calls.specs.Answers.{IsUnnoted}
 use Rattle.hot_index_calls.specs.Census.{HasCounted}
 use Rattle.hot_index_calls.specs.Passes.{PassView, pass_of}
 use Rattle.hot_index_calls.proofs.Counted.{counts_settled, counts_unnoted, has_counted}
-use Rattle.hot_index.proofs.Counted.{settled_on}
+use Rattle.hot_index.proofs.KeyCounts.Counted.{settled_on}
 use Rattle.hot_index.proofs.index.Index.census_with.Goals as goal
 
 pub invariant_of-pass : goal.invariant_of-pass

@@ -5,8 +5,8 @@ use Rattle.rowex_table.specs.Seats.{TableView}
 use Rattle.hot_index_calls.specs.Answers.{IsUnnoted}
 use Rattle.hot_index_calls.specs.Passes.{PassView, pass_of}
 use Rattle.hot_index_calls.specs.Traces.{HasCollected}
-use Rattle.hot_index_calls.proofs.Collected.{round_few, round_settled, round_unnoted}
-use Rattle.hot_index.proofs.Counted.{settled_on}
+use Rattle.hot_index_calls.proofs.Passes.Collected.{round_few, round_settled, round_unnoted}
+use Rattle.hot_index.proofs.KeyCounts.Counted.{settled_on}
 use Rattle.hot_index.proofs.index.Index.collect_with.Goals as goal
 
 pub invariant_of-pass : goal.invariant_of-pass

@@ -2,7 +2,7 @@
 use Rattle.std.proofs.Common.{◌≡◌, ◌≤◌, ℕ, List, length, refl, sym, subst, ◌∙◌, arith}
 use Rattle.std.proofs.lemmas.Result.{err_from_is_err_and}
 use Rattle.std.specs.Option.{option_to_list}
-use Rattle.hot_index.proofs.Firsts.{one_at_most, only}
+use Rattle.hot_index.proofs.index.Firsts.{one_at_most, only}
 use Rattle.hot_index.proofs.Reading.{range_first, range_refused, range_uncopied}
 use Rattle.hot_index.proofs.index.Index.find_first_pair.Goals as goal
 

@@ -3,8 +3,8 @@ use Rattle.std.proofs.Common.{subst}
 use Rattle.rowex_table.specs.Seats.{StampView, TableView}
 use Rattle.hot_index_calls.specs.Passes.{PassView, pass_of}
 use Rattle.hot_index.specs.Stamps.{HasCaughtUp}
-use Rattle.hot_index.proofs.Counted.{settled_on}
-use Rattle.hot_index.proofs.Stamped.{caught_up, followed_settled}
+use Rattle.hot_index.proofs.KeyCounts.Counted.{settled_on}
+use Rattle.hot_index.proofs.Stamps.{caught_up, followed_settled}
 use Rattle.hot_index.proofs.index.Index.follow.Goals as goal
 
 pub invariant_of-pass : goal.invariant_of-pass

@@ -1,5 +1,5 @@
 -- The notes of the gets.
-use Rattle.hot_index.proofs.ManyNoted.{gets_said}
+use Rattle.hot_index.proofs.index.ManyNoted.{gets_said}
 use Rattle.hot_index.proofs.index.Index.get_many_with.Given as goal
 
 abbrev pub ghost-end_gets : goal.ghost-end_gets

@@ -5,10 +5,10 @@ use Rattle.rowex_table.specs.Seats.{TableView}
 use Rattle.hot_index_calls.specs.Passes.{PassView, pass_of}
 use Rattle.hot_index_calls.specs.Answers.{IsNoted, got}
 use Rattle.hot_index_calls.specs.Traces.{HasGot}
-use Rattle.rowex_reading.proofs.Led.{looks_same}
+use Rattle.rowex_reading.proofs.Seen.Led.{looks_same}
 use Rattle.hot_index_calls.proofs.Noting.{get_noted}
-use Rattle.hot_index_calls.proofs.Tracing.{has_got}
-use Rattle.hot_index.proofs.Counted.{got_on}
+use Rattle.hot_index_calls.proofs.Traces.{has_got}
+use Rattle.hot_index.proofs.KeyCounts.Counted.{got_on}
 use Rattle.hot_index.proofs.Reading.{still_pinned}
 use Rattle.hot_index.proofs.index.Index.get_with.Goals as goal
 

@@ -5,8 +5,8 @@ use Rattle.rowex_table.specs.Seats.{IsShownAll, TableView}
 use Rattle.hot_index_calls.specs.Answers.{HaveMet}
 use Rattle.hot_index_calls.specs.Passes.{PassView, pass_of}
 use Rattle.hot_index.specs.Stamps.{HasSeenMore}
-use Rattle.hot_index.proofs.Counted.{settled_on}
-use Rattle.hot_index.proofs.Meets.{first_settled, second_settled, passes_met, seen_more}
+use Rattle.hot_index.proofs.KeyCounts.Counted.{settled_on}
+use Rattle.hot_index.proofs.index.Meets.{first_settled, second_settled, passes_met, seen_more}
 use Rattle.hot_index.proofs.index.Index.meet.Goals as goal
 
 pub returns-clause-rest : goal.returns-clause-rest

@@ -1,6 +1,6 @@
 -- The change of a copy of the key, which takes no record.
 use Rattle.finite_map.specs.declared.Call.TheVariants.{Add}
-use Rattle.hot_index.proofs.Held.{is_busy}
+use Rattle.hot_index.proofs.Statements.Held.{is_busy}
 use Rattle.hot_index.proofs.index.Index.try_add_with.Goals as goal
 
 pub returns : goal.returns

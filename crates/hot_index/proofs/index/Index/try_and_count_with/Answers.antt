@@ -1,7 +1,7 @@
 -- What the call leaves on the seat, as the pass sees it.
-use Rattle.hot_index_calls.proofs.Trying.{counted_seen, replied_cause, replied_outcome, replied_own}
+use Rattle.hot_index_calls.proofs.Counts.{counted_seen, replied_cause, replied_outcome, replied_own}
 use Rattle.hot_index_calls.specs.Refusals.{as_tried}
-use Rattle.hot_index.proofs.Counted.{counted_on}
+use Rattle.hot_index.proofs.KeyCounts.Counted.{counted_on}
 use Rattle.hot_index.proofs.index.Index.try_and_count_with.Goals as goal
 
 pub invariant_of-pass : goal.invariant_of-pass

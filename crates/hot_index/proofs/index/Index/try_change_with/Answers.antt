@@ -1,6 +1,6 @@
 -- What the call leaves on the seat, as the pass sees it.
-use Rattle.hot_index_calls.proofs.Trying.{made_seen, replied_cause, replied_outcome, replied_own, room_seen}
-use Rattle.hot_index.proofs.Counted.{tried_on}
+use Rattle.hot_index_calls.proofs.Counts.{made_seen, replied_cause, replied_outcome, replied_own, room_seen}
+use Rattle.hot_index.proofs.KeyCounts.Counted.{tried_on}
 use Rattle.hot_index.proofs.index.Index.try_change_with.Goals as goal
 
 pub invariant_of-pass : goal.invariant_of-pass

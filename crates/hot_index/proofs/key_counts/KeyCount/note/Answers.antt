@@ -2,7 +2,7 @@
 use Rattle.std.proofs.Common.{◌+◌, ◌%◌, ◌^◌, ◌++◌, ◌∷◌, [], sym, subst}
 use Rattle.finite_map.specs.Calls.{changes_of}
 use Rattle.hot_index.specs.KeyCounts.{IsNet}
-use Rattle.hot_index.proofs.Nets.{noted, one_more}
+use Rattle.hot_index.proofs.key_counts.Nets.{noted, one_more}
 use Rattle.hot_index.proofs.key_counts.KeyCount.note.Goals as goal
 
 pub returns : goal.returns

@@ -5,8 +5,8 @@ use Rattle.tries.specs.Content.{pairs}
 use Rattle.bulk_load.specs.Views.{LoadView}
 use Rattle.hot_index_calls.specs.Passes.{Owns, PassView}
 use Rattle.hot_index.specs.Loads.{IsPassOfLoad}
-use Rattle.hot_index.proofs.Making.{passes_of}
-use Rattle.hot_index.proofs.Loaded.{loaded_settled, pass_of_load, words_for_table}
+use Rattle.hot_index.proofs.Passes.{passes_of}
+use Rattle.hot_index.proofs.Loads.{loaded_settled, pass_of_load, words_for_table}
 use Rattle.hot_index.proofs.loading.Load.finish.Goals as goal
 
 pub make_closed_passes-requires : goal.make_closed_passes-requires

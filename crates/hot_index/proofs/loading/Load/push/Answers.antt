@@ -3,7 +3,7 @@ use Rattle.std.proofs.Common.{◌≡◌, sym, subst}
 use Rattle.tries.specs.Content.{item}
 use Rattle.bulk_load.specs.Views.{LoadView}
 use Rattle.hot_index.specs.Loads.{CountsItems}
-use Rattle.hot_index.proofs.Loaded.{counts_one_more}
+use Rattle.hot_index.proofs.Loads.{counts_one_more}
 use Rattle.hot_index.proofs.loading.Load.push.Goals as goal
 
 pub invariant_of-self : goal.invariant_of-self

@@ -1,6 +1,6 @@
 -- The last pair is taken: its key has the last bytes.
 use Rattle.std.proofs.Common.{◌≡◌, ℕ, ◌<◌, ◌++◌, ◌∷◌, [], List, length, ap, refl, sym, ◌∙◌, arith, length-append}
-use Rattle.packed_pairs.proofs.Backwards.{IsTaken, taken}
+use Rattle.packed_pairs.proofs.Last.Backwards.{IsTaken, taken}
 use Rattle.packed_pairs.proofs.back.IterDoubleEndedIterator.next_back.Goals as goal
 use Rattle.packed_pairs.proofs.back.IterDoubleEndedIterator.next_back.Goals.{After-bytes-2-1}
 

@@ -1,7 +1,7 @@
 -- There are as many pairs as heads.
 use Rattle.std.proofs.Common.{ap, sym, ◌∙◌, length, take}
 use Rattle.packed_pairs.specs.Filled.{Filled}
-use Rattle.packed_pairs.proofs.Packing.{length-unpacked}
+use Rattle.packed_pairs.proofs.Packed.{length-unpacked}
 use Rattle.packed_pairs.proofs.filling.Filling.len.Goals as goal
 
 pub returns : goal.returns

@@ -2,7 +2,7 @@
 use Rattle.std.proofs.Common.{◌≡◌, ◌<◌, ◌≤◌, ℕ, List, length, take, arith, subst, sym}
 use Rattle.std.proofs.lemmas.List.{length-take-le}
 use Rattle.packed_pairs.specs.Filled.{Filled}
-use Rattle.packed_pairs.proofs.Packing.{packed-push, unpacked-push}
+use Rattle.packed_pairs.proofs.Packed.{packed-push, unpacked-push}
 use Rattle.packed_pairs.proofs.filling.Filling.push.Goals as goal
 
 -- the key is so long

@@ -2,7 +2,7 @@
 use Rattle.std.proofs.Common.{subst}
 use Rattle.std.specs.Prelude.{All}
 use Rattle.key_bits.specs.Key.{IsKey}
-use Rattle.packed_pairs.proofs.Packing.{all_keys}
+use Rattle.packed_pairs.proofs.Packed.{all_keys}
 use Rattle.packed_pairs.proofs.pairs.Pairs.iter.Goals as goal
 
 pub returns-clause-keys : goal.returns-clause-keys

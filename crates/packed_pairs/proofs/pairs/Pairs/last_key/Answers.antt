@@ -2,7 +2,7 @@
 use Rattle.std.proofs.Common.{◌∙◌, arith, subst, sym}
 use Rattle.key_bits.specs.Key.{IsKey}
 use Rattle.packed_pairs.specs.Last.{IsLastKey}
-use Rattle.packed_pairs.proofs.Lasts.{at_end_of, end_of}
+use Rattle.packed_pairs.proofs.Last.{at_end_of, end_of}
 use Rattle.packed_pairs.proofs.pairs.Pairs.last_key.Goals as goal
 
 pub overflow_sub-len : goal.overflow_sub-len

@@ -1,6 +1,6 @@
 -- There are as many pairs as heads.
 use Rattle.std.proofs.Common.{ap, sym, ◌∙◌, length, arith}
-use Rattle.packed_pairs.proofs.Packing.{length-unpacked}
+use Rattle.packed_pairs.proofs.Packed.{length-unpacked}
 use Rattle.packed_pairs.proofs.pairs.Pairs.len.Goals as goal
 
 pub returns-clause-count : goal.returns-clause-count

@@ -1,6 +1,6 @@
 -- The last pair is taken: its key has the last bytes.
 use Rattle.std.proofs.Common.{◌-◌, length, take, drop, ap, refl, sym, ◌∙◌, arith}
-use Rattle.packed_pairs.proofs.Backwards.{IsTaken, taken}
+use Rattle.packed_pairs.proofs.Last.Backwards.{IsTaken, taken}
 use Rattle.packed_pairs.proofs.Fits.{popped}
 use Rattle.packed_pairs.proofs.pairs.Pairs.pop_pair.Goals as goal
 use Rattle.packed_pairs.proofs.pairs.Pairs.pop_pair.Goals.{After-truncate}

@@ -1,7 +1,7 @@
 -- One more call was made, or some first calls were.
 use Rattle.std.proofs.Common.{refl}
 use Rattle.std.proofs.lemmas.Result.{err_from_is_err_and}
-use Rattle.plain_index.proofs.Made.{made_one_more, made_some}
+use Rattle.plain_index.proofs.plain.Made.{made_one_more, made_some}
 use Rattle.plain_index.proofs.plain.PlainIndex.run.Goals as goal
 
 pub loop-call-preserved : goal.loop-call-preserved

@@ -1,6 +1,6 @@
 -- The calls so far were made.
 use Rattle.std.specs.Vec.Iter.{into_iter_items}
-use Rattle.plain_index.proofs.Made.{HasMade}
+use Rattle.plain_index.proofs.plain.Made.{HasMade}
 use Rattle.plain_index.proofs.plain.PlainIndex.run.Given as goal
 
 abbrev pub invariant-loop-call : goal.invariant-loop-call

@@ -6,7 +6,7 @@ use Rattle.key_bits.specs.Bits.{IsFirstDifference, bit_of}
 use Rattle.compound_node.specs.Nodes.{NodeView, height_of}
 use Rattle.compound_node.specs.declared.entries.Entry.{Entry}
 use Rattle.finite_map.specs.Maps.{value_at}
-use Rattle.insert_cases.proofs.Choosing.{some_injective}
+use Rattle.insert_cases.proofs.Ways.{some_injective}
 use Rattle.tries.specs.Content.{item}
 use Rattle.tries.specs.Search.{found}
 use Rattle.plain_trie_records.specs.declared.leaf.LeafRecord.{LeafRecord}
@@ -17,8 +17,8 @@ use Rattle.plain_trie_records.proofs.Cases.{later_by_case, new_node}
 use Rattle.plain_trie_records.proofs.Heights.{heights_same, heights_then}
 use Rattle.plain_trie.specs.Cases.{MakesRoot}
 use Rattle.plain_trie.specs.Views.{PlainView, trie_map}
-use Rattle.plain_trie.proofs.Inserting.{leaf_addable, raised_becomes}
-use Rattle.plain_trie.proofs.Trees.{end_missed, end_read}
+use Rattle.plain_trie.proofs.plain.Inserting.{leaf_addable, raised_becomes}
+use Rattle.plain_trie.proofs.Views.{end_missed, end_read}
 use Rattle.plain_trie.proofs.plain.PlainTrie.add_absent.Goals as goal
 use Rattle.plain_trie.proofs.plain.PlainTrie.add_absent.Goals.{In-Some-mismatch, After-push_reserved}
 

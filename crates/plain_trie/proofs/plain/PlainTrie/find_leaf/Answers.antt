@@ -2,8 +2,8 @@
 use Rattle.std.proofs.Common.{◌∙◌, ◌<◌, ap, refl, subst, arith}
 use Rattle.compound_node.specs.Nodes.{height_of}
 use Rattle.plain_trie.specs.Views.{EndsAt, PlainView}
-use Rattle.plain_trie_records.proofs.Searching.{IsOnWay, on_way_down, on_way_within, on_way_end, on_way_number}
-use Rattle.plain_trie.proofs.Trees.{plain_tree, view}
+use Rattle.plain_trie_records.proofs.Store.Searching.{IsOnWay, on_way_down, on_way_within, on_way_end, on_way_number}
+use Rattle.plain_trie.proofs.Views.{plain_tree, view}
 use Rattle.plain_trie.proofs.plain.PlainTrie.find_leaf.Goals as goal
 use Rattle.plain_trie.proofs.plain.PlainTrie.find_leaf.Goals.{After-find_entry-entry}
 

@@ -1,9 +1,9 @@
 -- The search stands at an entry of the tree, in which it ends at the same leaf; heights fall.
 use Rattle.compound_node.specs.Nodes.{height_of}
 use Rattle.tries.specs.Tree.{Tree}
-use Rattle.plain_trie_records.proofs.Searching.{IsOnWay}
+use Rattle.plain_trie_records.proofs.Store.Searching.{IsOnWay}
 use Rattle.plain_trie.specs.Views.{IsTree}
-use Rattle.plain_trie.proofs.Trees.{view}
+use Rattle.plain_trie.proofs.Views.{view}
 use Rattle.plain_trie.proofs.plain.PlainTrie.find_leaf.Given as goal
 
 abbrev pub decreases-loop-entry : goal.decreases-loop-entry

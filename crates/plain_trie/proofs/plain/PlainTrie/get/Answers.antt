@@ -3,7 +3,7 @@ use Rattle.std.proofs.Common.{ap, sym, ◌∙◌, arith, length}
 use Rattle.std.proofs.lemmas.Bool.{false≢true}
 use Rattle.std.proofs.lemmas.Option.{slice_get_within}
 use Rattle.plain_trie.specs.Views.{PlainView}
-use Rattle.plain_trie.proofs.Trees.{end_found, end_missed}
+use Rattle.plain_trie.proofs.Views.{end_found, end_missed}
 use Rattle.plain_trie.proofs.plain.PlainTrie.get.Goals as goal
 
 pub index-leaf-requires : goal.index-leaf-requires

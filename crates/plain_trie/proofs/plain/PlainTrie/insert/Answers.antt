@@ -1,7 +1,7 @@
 -- An absent key was added, and a held one keeps its value.
 use Rattle.std.proofs.Common.{ap, ◌∙◌}
 use Rattle.plain_trie.specs.Views.{trie_map}
-use Rattle.plain_trie.proofs.Inserting.{added_reply, held_reply, held_value}
+use Rattle.plain_trie.proofs.plain.Inserting.{added_reply, held_reply, held_value}
 use Rattle.plain_trie.proofs.plain.PlainTrie.insert.Goals as goal
 use Rattle.plain_trie.proofs.plain.PlainTrie.insert.Goals.{in-None, in-Some}
 

@@ -9,7 +9,7 @@ use Rattle.finite_map.specs.Scans.{IsScanOf, range_of}
 use Rattle.plain_trie_records.specs.Store.{ShowsSound}
 use Rattle.tries.specs.Tree.{Tree}
 use Rattle.plain_trie.specs.Views.{IsTree, PlainView}
-use Rattle.plain_trie.proofs.Trees.{map_is, plain_tree}
+use Rattle.plain_trie.proofs.Views.{map_is, plain_tree}
 use Rattle.plain_trie.proofs.plain.PlainTrie.scan.Goals as goal
 use Rattle.plain_trie.proofs.plain.PlainTrie.scan.Goals.{In-Some}
 

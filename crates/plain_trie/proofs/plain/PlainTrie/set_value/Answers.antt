@@ -1,7 +1,7 @@
 -- The key's leaf has another value, and nothing else changes.
 use Rattle.std.proofs.Common.{ap, ◌∙◌, set}
 use Rattle.plain_trie.specs.Views.{PlainView}
-use Rattle.plain_trie.proofs.Inserting.{Becomes, held_becomes}
+use Rattle.plain_trie.proofs.plain.Inserting.{Becomes, held_becomes}
 use Rattle.plain_trie.proofs.plain.PlainTrie.set_value.Goals as goal
 use Rattle.plain_trie.proofs.plain.PlainTrie.set_value.Goals.{After-index_mut}
 

@@ -2,7 +2,7 @@
 use Rattle.std.proofs.Common.{ap, sym, subst, ◌∙◌}
 use Rattle.finite_map.specs.Maps.{with_value}
 use Rattle.plain_trie.specs.Views.{PlainView, IsHeldInLeaf, trie_map}
-use Rattle.plain_trie.proofs.Inserting.{held_reply, held_value}
+use Rattle.plain_trie.proofs.plain.Inserting.{held_reply, held_value}
 use Rattle.plain_trie.proofs.plain.PlainTrie.upsert.Goals as goal
 
 pub returns-clause-ok : goal.returns-clause-ok

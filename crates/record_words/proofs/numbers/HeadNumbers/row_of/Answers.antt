@@ -5,13 +5,13 @@ use Rattle.std.proofs.lemmas.Nat.{and_mask}
 use Rattle.compound_node.proofs.Lawful.{same_count}
 use Rattle.compound_node.specs.Nodes.{IsLawfulNode, NodeView, head_of}
 use Rattle.record_words.proofs.Lawful.{row-lt}
-use Rattle.record_words.proofs.NearKinds.{IsNearKind, middle_kind, narrow_kind, row_bits}
-use Rattle.record_words.proofs.TellingHead.{near_row_is, wide_row}
+use Rattle.record_words.proofs.near.NearKinds.{IsNearKind, middle_kind, narrow_kind, row_bits}
+use Rattle.record_words.proofs.HeadParts.{near_row_is, wide_row}
 use Rattle.record_words.specs.HeadParts.{AreNumbersOf}
 use Rattle.record_words.specs.Kinds.{rows_a_word, rows_from}
 use Rattle.record_words.specs.Node.{head_words}
-use Rattle.record_words.specs.declared.kind.Kind.{Kind}
-use Rattle.record_words.specs.declared.kind.Kind.TheVariants.{Middle, Narrow, Wide}
+use Rattle.record_words.specs.declared.kind.HeadKind.{HeadKind}
+use Rattle.record_words.specs.declared.kind.HeadKind.TheVariants.{Middle, Narrow, Wide}
 use Rattle.record_words.specs.declared.numbers.HeadNumbers.{HeadNumbers}
 use Rattle.record_words.proofs.numbers.HeadNumbers.row_of.Goals as goal
 
@@ -28,10 +28,10 @@ module _ (node : NodeView) (lawful : IsLawfulNode node) (numbers : HeadNumbers) 
   at : get_or node.rows slot 0 ≡ get_or node.rows slot 4294967295
   at = sym (get_or_default node.rows slot 4294967295 0 inside)
 
-  word_in : (kind : Kind) → numbers.kind ≡ kind → get_or (head_words (head_of node)) (rows_from kind + slot / rows_a_word kind) 0 ≡ word
+  word_in : (kind : HeadKind) → numbers.kind ≡ kind → get_or (head_words (head_of node)) (rows_from kind + slot / rows_a_word kind) 0 ≡ word
   word_in kind is = ap (λ k. get_or (head_words (head_of node)) (rows_from k + slot / rows_a_word k) 0) (sym is) ∙ same
 
-  near_one : (kind : Kind) → IsNearKind kind → numbers.kind ≡ kind →
+  near_one : (kind : HeadKind) → IsNearKind kind → numbers.kind ≡ kind →
       bit_and (word / 2 ^ (row_bits kind * (slot % rows_a_word kind))) (2 ^ row_bits kind - 1) * 2 ^ (32 - row_bits kind) % 2 ^ 32 ≡ get_or node.rows slot 4294967295
   near_one kind near is =
       let w : ℕ = row_bits kind in

@@ -1,7 +1,7 @@
 -- The node records are all alike, and so are the leaf records up to the end of a class.
 use Rattle.std.proofs.Common.{arith, ◌-◌, ◌∙◌, subst, sym}
 use Rattle.rowex_records.specs.Starts.{IsSpan}
-use Rattle.rowex_records.proofs.Claimed.{spaced_leaves}
+use Rattle.rowex_records.proofs.Claims.{spaced_leaves}
 use Rattle.rowex_records.proofs.claiming.RecordKind.span_from.Goals as goal
 
 pub returns-in-Leaf-clause-span : goal.returns-in-Leaf-clause-span

@@ -25,7 +25,7 @@ use denote.Triple.Entry.{alive}
 use denote.Triple.Spec.{Meets, triple_of}
 use denote.Triple.Table.{entered}
 use denote.Triple.Walked.{says, Stays, stay_dropped, walk_of, ends_at, walk_Meets, Goes-dropped}
-use Rattle.rowex_replay.proofs.Walks.{none, none_made}
+use Rattle.rowex_replay.proofs.history.Walks.{none, none_made}
 use Rattle.rowex_replay.specs.contracts.history.History as History
 use Rattle.record_words.specs.contracts.layout.Layout as Layout
 use Rattle.rowex_replay.specs.Runs.{new_run}

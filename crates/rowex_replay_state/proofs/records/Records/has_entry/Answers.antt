@@ -3,7 +3,7 @@ use Rattle.std.proofs.Common.{◌+◌, arith}
 use Rattle.std.proofs.lemmas.Bool.{false≢true}
 use Rattle.record_words.specs.declared.records.Rec.TheVariants.{Node as a_node}
 use Rattle.rowex_replay_state.specs.Records.{HasWordStored}
-use Rattle.rowex_replay_state.proofs.Searches.{none_yet}
+use Rattle.rowex_replay_state.proofs.records.Searches.{none_yet}
 use Rattle.rowex_replay_state.proofs.records.Records.has_entry.Goals as goal
 
 pub loop-slot-preserved : goal.loop-slot-preserved

@@ -1,6 +1,6 @@
 -- No node before is locked with such an entry, and this one isn't.
 use Rattle.rowex_replay_state.specs.Records.{IsEntryLocked}
-use Rattle.rowex_replay_state.proofs.Searches.{none_yet}
+use Rattle.rowex_replay_state.proofs.records.Searches.{none_yet}
 use Rattle.rowex_replay_state.proofs.records.Records.has_locked_entry.Goals as goal
 
 pub loop-node-preserved : goal.loop-node-preserved

@@ -1,6 +1,6 @@
 -- A leaf record is packed where its words spell a leaf and its class has room for the key.
 use Rattle.std.proofs.Common.{sym, ◌∙◌}
-use Rattle.rowex_replay_state.proofs.Packing.{leaf_is_packed, leaf_is_missing}
+use Rattle.rowex_replay_state.proofs.records.Packing.{leaf_is_packed, leaf_is_missing}
 use Rattle.rowex_replay_state.proofs.records.Records.has_valid_words.Goals as goal
 
 pub returns-then-are_leaf_words : goal.returns-then-are_leaf_words

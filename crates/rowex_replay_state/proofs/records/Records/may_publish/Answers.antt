@@ -1,6 +1,6 @@
 -- The three tests are the three parts.
 use Rattle.std.proofs.Common.{sym}
-use Rattle.rowex_replay_state.proofs.Linking.{refused, linked_by}
+use Rattle.rowex_replay_state.proofs.records.Linking.{refused, linked_by}
 use Rattle.rowex_replay_state.proofs.records.Records.may_publish.Goals as goal
 
 pub returns-then-not-may_link : goal.returns-then-not-may_link

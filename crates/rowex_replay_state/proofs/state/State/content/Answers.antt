@@ -1,8 +1,8 @@
 -- The items are those of the newest version.
 use Rattle.std.proofs.Common.{sym, ◌∙◌, ap, map}
 use Rattle.std.proofs.lemmas.List.{take_all}
-use Rattle.replay_trees.specs.declared.linked.Item.{Item}
-use Rattle.rowex_replay_state.proofs.Opening.{content_is}
+use Rattle.rowex_replay_state.specs.declared.linked.Item.{Item}
+use Rattle.rowex_replay_state.proofs.state.Opening.{content_is}
 use Rattle.rowex_replay_state.proofs.state.State.content.Goals as goal
 
 pub returns : goal.returns

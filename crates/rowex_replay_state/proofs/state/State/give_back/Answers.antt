@@ -3,7 +3,7 @@ use Rattle.std.proofs.Common.{◌≡◌, length, arith, refl, subst, sym}
 use Rattle.rowex_replay_state.specs.Passes.{IsOutOfReach}
 use Rattle.rowex_replay_state.proofs.EpochSteps.{pass_in}
 use Rattle.rowex_replay_state.proofs.RecordSteps.{no_state}
-use Rattle.rowex_replay_state.proofs.Retiring.{gives_back, keeps_back}
+use Rattle.rowex_replay_state.proofs.state.Retiring.{gives_back, keeps_back}
 use Rattle.rowex_replay_state.proofs.state.State.give_back.Goals as goal
 
 pub returns-then-is_marked : goal.returns-then-is_marked

@@ -1,6 +1,6 @@
 -- It is no locked root, so a locked node has the entry.
 use Rattle.std.proofs.Common.{sym}
-use Rattle.rowex_replay_state.proofs.Searches.{second}
+use Rattle.rowex_replay_state.proofs.records.Searches.{second}
 use Rattle.rowex_replay_state.proofs.state.State.has_locked_namer.Goals as goal
 
 pub returns-else-has_locked_root : goal.returns-else-has_locked_root

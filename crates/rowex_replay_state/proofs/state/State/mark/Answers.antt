@@ -2,7 +2,7 @@
 use Rattle.std.proofs.Common.{sym, ◌∙◌, ap, Some}
 use Rattle.rowex_replay_state.specs.declared.fate.Fate.TheVariants.{Unlinked}
 use Rattle.rowex_replay_state.proofs.EpochSteps.{pass_in}
-use Rattle.rowex_replay_state.proofs.Retiring.{marks}
+use Rattle.rowex_replay_state.proofs.state.Retiring.{marks}
 use Rattle.rowex_replay_state.proofs.state.State.mark.Goals as goal
 
 pub returns : goal.returns

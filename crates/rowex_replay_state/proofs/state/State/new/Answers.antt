@@ -1,6 +1,6 @@
 -- All is as at the opening.
 use Rattle.std.proofs.Common.{refl, ◌∙◌, ap, replicate}
-use Rattle.rowex_replay_state.proofs.Opening.{opening_replay}
+use Rattle.rowex_replay_state.proofs.state.Opening.{opening_replay}
 use Rattle.rowex_replay_state.proofs.state.State.new.Goals as goal
 
 pub returns : goal.returns

@@ -1,5 +1,5 @@
 -- The word is that of an entry.
-use Rattle.rowex_replay_state.proofs.Stores.{entry_spelled}
+use Rattle.rowex_replay_state.proofs.Publishing.Stores.{entry_spelled}
 use Rattle.rowex_replay_state.proofs.state.State.publish.Goals as goal
 
 pub publish_entry-requires : goal.publish_entry-requires

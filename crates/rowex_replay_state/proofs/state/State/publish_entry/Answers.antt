@@ -3,7 +3,7 @@ use Rattle.std.proofs.Common.{refl, sym, true, false, ◌∙◌}
 use Rattle.record_words.specs.declared.records.Rec.TheVariants.{Node as a_node}
 use Rattle.rowex_replay_state.specs.contracts.state.State.{the_view}
 use Rattle.rowex_replay_state.specs.Records.{with_words_in}
-use Rattle.rowex_replay_state.proofs.Stores.{entry_publishes, entry_refused, entry_unpacked, of_words, restored}
+use Rattle.rowex_replay_state.proofs.Publishing.Stores.{entry_publishes, entry_refused, entry_unpacked, of_words, restored}
 use Rattle.rowex_replay_state.proofs.state.State.publish_entry.Goals as goal
 
 pub returns-then-not-are_node_words-clause-ok : goal.returns-then-not-are_node_words-clause-ok

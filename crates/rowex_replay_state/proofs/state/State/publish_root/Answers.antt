@@ -1,6 +1,6 @@
 -- The root's word is that of the entry.
 use Rattle.std.proofs.lemmas.Result.{IfOk-weaker}
-use Rattle.rowex_replay_state.proofs.Stores.{root_answers}
+use Rattle.rowex_replay_state.proofs.Publishing.Stores.{root_answers}
 use Rattle.rowex_replay_state.proofs.state.State.publish_root.Goals as goal
 
 pub returns-clause-ok : goal.returns-clause-ok

@@ -1,6 +1,6 @@
 -- The tree is read and tested before anything is changed.
 use Rattle.std.proofs.Common.{◌≡◌, refl, sym, length, arith, Some, None}
-use Rattle.rowex_replay_state.proofs.Published.{none_read, not_linked, not_changed, publishes, read_is, found_is, next_of}
+use Rattle.rowex_replay_state.proofs.Publishing.{none_read, not_linked, not_changed, publishes, read_is, found_is, next_of}
 use Rattle.rowex_replay_state.proofs.state.State.publish_tree.Goals as goal
 
 pub returns-in_default-clause-ok : goal.returns-in_default-clause-ok

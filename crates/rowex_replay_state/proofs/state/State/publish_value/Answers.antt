@@ -3,7 +3,7 @@ use Rattle.std.proofs.Common.{◌≡◌, refl, sym, set}
 use Rattle.record_words.specs.declared.records.Rec.TheVariants.{Leaf as a_leaf}
 use Rattle.rowex_replay_state.specs.contracts.state.State.{the_view}
 use Rattle.rowex_replay_state.specs.Records.{with_words_in}
-use Rattle.rowex_replay_state.proofs.Valued.{not_named, not_there, value_steps}
+use Rattle.rowex_replay_state.proofs.States.Valued.{not_named, not_there, value_steps}
 use Rattle.rowex_replay_state.proofs.state.State.publish_value.Goals as goal
 
 pub returns-then-not-has_locked_namer-clause-ok : goal.returns-then-not-has_locked_namer-clause-ok

@@ -1,11 +1,11 @@
 -- The first leaves are counted, up to the limit or to the first one past the range.
 use Rattle.std.proofs.Common.{◌+◌, ◌-◌, arith, subst}
 use Rattle.rowex_reading.specs.Seen.{since}
-use Rattle.rowex_reading.proofs.Led.{reads_later, same_since}
+use Rattle.rowex_reading.proofs.Seen.Led.{reads_later, same_since}
 use Rattle.rowex_scanning.specs.Ahead.{HavePassed}
 use Rattle.rowex_scanning.specs.Scanning.{request_of}
 use Rattle.rowex_scanning.specs.Tallies.{tally_of_number}
-use Rattle.rowex_scanning.proofs.Runs.{next_behind, run_counted, run_cut, run_done}
+use Rattle.rowex_scanning.proofs.taking.Runs.{next_behind, run_counted, run_cut, run_done}
 use Rattle.rowex_scanning.proofs.Walking.{walk_short}
 use Rattle.rowex_scanning.proofs.counting.NumberSink.take_leaves.Goals as goal
 

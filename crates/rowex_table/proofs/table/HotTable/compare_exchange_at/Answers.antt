@@ -2,7 +2,7 @@
 use Rattle.std.proofs.Common.{rules, refl, sym, ap, ◌∙◌}
 use Rattle.rowex_table.specs.Rule.{found_by}
 use Rattle.rowex_table.specs.Seats.{TableView, SeatView}
-use Rattle.rowex_table.proofs.Keeping.{allows_me, found_atomic, in_words, steps_with}
+use Rattle.rowex_table.proofs.Rule.{allows_me, found_atomic, in_words, steps_with}
 use Rattle.rowex_table.proofs.table.HotTable.compare_exchange_at.Goals as goal
 
 pub compare_exchange-found-requires : goal.compare_exchange-found-requires

@@ -2,7 +2,7 @@
 use Rattle.std.proofs.Common.{rules, ◌≡◌, Some, Option, sym, ap, ◌∙◌}
 use Rattle.record_words.specs.declared.layout.Layout.{Layout}
 use Rattle.rowex_table.specs.Seats.{TableView}
-use Rattle.rowex_table.proofs.Stamps.{follows, following_me, joins_stamp}
+use Rattle.rowex_table.proofs.stamping.Stamps.{follows, following_me, joins_stamp}
 use Rattle.rowex_table.proofs.table.HotTable.follow_stamp_as.Goals as goal
 
 pub join_seat-requires : goal.join_seat-requires

@@ -7,7 +7,7 @@ use lib.ListN.{get_elem?}
 use Rattle.rowex_table.specs.Rule.{Ruled, dealt, first_view, next_dealer, known_of, trace_of}
 use Rattle.rowex_table.specs.Seats.{TableView, SeatView, IsDealtSeat}
 use Rattle.rowex_table.specs.declared.traces.TracedView.{TracedView}
-use Rattle.rowex_table.proofs.Dealing.{deals_next, dealer_next, dealt_next, each_longer}
+use Rattle.rowex_table.proofs.Seats.{deals_next, dealer_next, dealt_next, each_longer}
 use Rattle.rowex_table.proofs.table.HotTable.found.Goals as goal
 
 pub of_words-requires : goal.of_words-requires

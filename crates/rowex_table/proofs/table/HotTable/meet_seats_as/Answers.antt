@@ -2,7 +2,7 @@
 use Rattle.std.proofs.Common.{rules, ◌≡◌, Some, Option, sym, ap, ◌∙◌}
 use Rattle.record_words.specs.declared.layout.Layout.{Layout}
 use Rattle.rowex_table.specs.Seats.{TableView}
-use Rattle.rowex_table.proofs.Dealing.{joins, meets, meeting, parts, paired_me, apart_met}
+use Rattle.rowex_table.proofs.Seats.{joins, meets, meeting, parts, paired_me, apart_met}
 use Rattle.rowex_table.proofs.table.HotTable.meet_seats_as.Goals as goal
 
 pub join_seat-requires : goal.join_seat-requires

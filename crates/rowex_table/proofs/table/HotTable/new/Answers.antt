@@ -2,7 +2,7 @@
 use Rattle.std.proofs.Common.{rules, ◌≡◌, ap, ◌∙◌, sym, length}
 use Rattle.std.proofs.lemmas.Result.{IfOk-weaker}
 use Rattle.record_words.specs.declared.layout.Layout.{Layout}
-use Rattle.rowex_table.proofs.Dealing.{opens, all_new, both_ok, dealt_new}
+use Rattle.rowex_table.proofs.Seats.{opens, all_new, both_ok, dealt_new}
 use Rattle.rowex_table.proofs.table.HotTable.new.Goals as goal
 
 pub found-requires-clause-ruled : goal.found-requires-clause-ruled

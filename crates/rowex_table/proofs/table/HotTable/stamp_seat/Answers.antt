@@ -1,6 +1,6 @@
 -- The view is split, and the pass keeps its own.
 use Rattle.std.proofs.Common.{rules, ap}
-use Rattle.rowex_table.proofs.Stamps.{stamps}
+use Rattle.rowex_table.proofs.stamping.Stamps.{stamps}
 use Rattle.rowex_table.proofs.table.HotTable.stamp_seat.Goals as goal
 
 pub split_seat-seat-requires : goal.split_seat-seat-requires

@@ -1,6 +1,6 @@
 -- The word is one of the table's, and the touch of it keeps the rule.
 use Rattle.std.proofs.Common.{rules, ap}
-use Rattle.rowex_table.proofs.Touched.{record_in_words, touches}
+use Rattle.rowex_table.proofs.Rule.Touched.{record_in_words, touches}
 use Rattle.rowex_table.specs.Seats.{TableView}
 use Rattle.rowex_table.proofs.table.HotTable.touch.Goals as goal
 

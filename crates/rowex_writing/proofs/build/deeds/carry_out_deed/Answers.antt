@@ -10,8 +10,8 @@ use Rattle.rowex_writing.specs.plan.Plans.{TakesLeaf}
 use Rattle.rowex_writing.specs.build.Spare.{by_kept}
 use Rattle.rowex_writing.specs.build.Walks.{nodes_among}
 use Rattle.rowex_writing.proofs.locks.Going.{goes_none}
-use Rattle.rowex_writing.proofs.build.DeedRecords.{just_leaf_gone}
-use Rattle.rowex_writing.proofs.build.TakingUnderLocks.{found_leaf, may_empty, only_records, take_all, take_only}
+use Rattle.rowex_writing.proofs.build.deeds.Deeds.{just_leaf_gone}
+use Rattle.rowex_writing.proofs.build.taking.Taking.{found_leaf, may_empty, only_records, take_all, take_only}
 use Rattle.rowex_writing.proofs.build.deeds.carry_out_deed.Goals as goal
 use Rattle.tries.specs.Content.{item}
 use Rattle.rowex_reading.specs.declared.descent.Found.TheVariants.{Leaf}

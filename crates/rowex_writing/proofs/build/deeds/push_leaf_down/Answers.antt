@@ -14,14 +14,14 @@ use Rattle.rowex_writing.specs.build.Changes.{IsPutChange, MayPublishOnceReady}
 use Rattle.rowex_writing.specs.plan.Counts.{node_steps}
 use Rattle.rowex_writing.specs.build.Walks.{looks_unless, nodes_among}
 use Rattle.rowex_writing.proofs.build.Counts.{made_one, no_nodes}
-use Rattle.rowex_writing.proofs.build.DeedRecords.{just_leaf_gone, no_leaf_free, none_in_table, replace_later}
+use Rattle.rowex_writing.proofs.build.deeds.Deeds.{just_leaf_gone, no_leaf_free, none_in_table, replace_later}
 use Rattle.rowex_writing.proofs.build.Growths.{full_since, lacks_nodes}
 use Rattle.rowex_writing.proofs.build.Changes.{step_nodes}
-use Rattle.rowex_writing.proofs.build.RisingLevel.{paired}
+use Rattle.rowex_writing.proofs.build.rising.Rising.{paired}
 use Rattle.rowex_writing.proofs.locks.Going.{goes_more}
 use Rattle.rowex_writing.proofs.build.Building.{building_on, not_made, steps_rise}
 use Rattle.rowex_writing.proofs.build.Putting.{found_is_key, leaf_at, pair_here, pair_may}
-use Rattle.version_laws.proofs.Leaves.{pair_tree}
+use Rattle.version_laws.proofs.Statements.Leaves.{pair_tree}
 use Rattle.rowex_writing.proofs.build.Walks.{walk_begins}
 use Rattle.rowex_writing.specs.declared.plan.Full.TheVariants.{Nodes}
 use Rattle.rowex_writing.proofs.build.deeds.push_leaf_down.Goals as goal

@@ -5,7 +5,7 @@ use Rattle.rowex_writing.proofs.build.Spare.{goes_spare, no_list}
 use Rattle.std.proofs.Common.{◌+◌, ◌*◌, None, sym, subst, arith, refl}
 use Rattle.version_laws.specs.Writer.{added_change}
 use Rattle.rowex_writing.specs.build.Changes.{MayPublishOnceReady}
-use Rattle.rowex_writing.proofs.build.DeedRecords.{just_leaf_gone, no_leaf_free, none_in_table}
+use Rattle.rowex_writing.proofs.build.deeds.Deeds.{just_leaf_gone, no_leaf_free, none_in_table}
 use Rattle.rowex_writing.proofs.build.Putting.{put_len, put_may, put_stored}
 use Rattle.rowex_writing.proofs.build.deeds.put_new_leaf.Goals as goal
 use Rattle.tries.specs.Content.{item}

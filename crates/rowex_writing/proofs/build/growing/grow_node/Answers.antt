@@ -5,8 +5,8 @@ use Rattle.std.proofs.lemmas.Option.{get_or_from_slice_get}
 use Rattle.std.proofs.lemmas.Result.{IfErr-weaker}
 use Rattle.insert_cases.specs.declared.choice.PathNode.{PathNode}
 use Rattle.rowex_writing.specs.build.Taking.{no_step}
-use Rattle.rowex_writing.proofs.build.DeedRecords.{grown_raised, no_leaf_free, none_free_since}
-use Rattle.rowex_writing.proofs.build.GrowingUnderLocks.{grow_plan}
+use Rattle.rowex_writing.proofs.build.deeds.Deeds.{grown_raised, no_leaf_free, none_free_since}
+use Rattle.rowex_writing.proofs.build.growing.Growing.{grow_plan}
 use Rattle.rowex_writing.proofs.build.Growths.{grown_stored, may_grow}
 use Rattle.rowex_writing.proofs.locks.Going.{goes_more}
 use Rattle.rowex_writing.proofs.locks.Runs.{goes_run, run_count}

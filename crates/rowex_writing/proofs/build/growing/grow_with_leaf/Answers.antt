@@ -16,7 +16,7 @@ use Rattle.rowex_writing.specs.declared.plan.job.Raised.{Raised}
 use Rattle.rowex_writing.proofs.build.Counts.{made_one, no_nodes}
 use Rattle.rowex_writing.proofs.locks.Going.{goes_more}
 use Rattle.rowex_writing.proofs.build.Building.{building_on, not_made}
-use Rattle.rowex_writing.proofs.build.DeedRecords.{none_in_table, replace_later}
+use Rattle.rowex_writing.proofs.build.deeds.Deeds.{none_in_table, replace_later}
 use Rattle.rowex_writing.proofs.build.Growths.{gone_is, grown_ends, lacks_nodes}
 use Rattle.rowex_writing.proofs.build.Walks.{walk_begins}
 use Rattle.rowex_writing.proofs.build.growing.grow_with_leaf.Goals as goal

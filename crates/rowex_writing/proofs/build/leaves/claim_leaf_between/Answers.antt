@@ -2,7 +2,7 @@
 use Rattle.std.proofs.Common.{◌+◌, arith, refl, ◌∙◌}
 use Rattle.record_words.specs.declared.records.Rec.TheVariants.{Leaf as a_leaf}
 use Rattle.rowex_records.specs.Claims.{IsAnothersTo}
-use Rattle.rowex_records.proofs.Claimed.{missed_before, more_since}
+use Rattle.rowex_records.proofs.Claims.{missed_before, more_since}
 use Rattle.rowex_writing.proofs.build.Classes.{missed_more}
 use Rattle.rowex_writing.proofs.locks.Going.{goes_more, goes_none, seat_of}
 use Rattle.rowex_writing.proofs.build.Building.{steps_rise}

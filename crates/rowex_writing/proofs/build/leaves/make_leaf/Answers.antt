@@ -2,7 +2,7 @@
 use Rattle.std.proofs.Common.{◌∷◌, [], ◌++◌, subst, sym, ap, ◌∙◌, length, arith, rules}
 use Rattle.record_words.specs.declared.records.Rec.TheVariants.{Leaf as a_leaf}
 use Rattle.rowex_records.specs.Claims.{AllMissedFrom, IsAnothersTo}
-use Rattle.rowex_records.proofs.Claimed.{more_is_claimed}
+use Rattle.rowex_records.proofs.Claims.{more_is_claimed}
 use Rattle.rowex_writing.specs.build.Building.{HasLeafMade, IsBuilding}
 use Rattle.rowex_writing.proofs.build.Classes.{lacks_leaves}
 use Rattle.rowex_writing.proofs.locks.Going.{goes_more, seat_of}

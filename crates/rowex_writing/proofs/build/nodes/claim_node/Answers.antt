@@ -2,7 +2,7 @@
 use Rattle.std.proofs.Common.{ℕ, Option, sym, subst, Contains}
 use Rattle.record_words.specs.declared.records.Rec.{Rec as Record}
 use Rattle.rowex_records.specs.Claims.{HasMissedSince, IsAnothersBut}
-use Rattle.rowex_records.proofs.Claimed.{missed_earlier}
+use Rattle.rowex_records.proofs.Claims.{missed_earlier}
 use Rattle.rowex_writing.specs.build.Building.{IsBuilding}
 use Rattle.rowex_writing.proofs.build.Changes.{made_alone}
 use Rattle.rowex_writing.proofs.locks.Going.{goes_more}

@@ -4,7 +4,7 @@ use Rattle.std.proofs.Common.{ℕ, Option, ap, refl, sym, subst, ◌∙◌, arit
 use Rattle.record_words.specs.declared.records.Rec.{Rec as Record}
 use Rattle.record_words.specs.declared.records.Rec.TheVariants.{Node as a_node}
 use Rattle.rowex_records.specs.Claims.{HasMissedSince, IsAnothersBut}
-use Rattle.rowex_records.proofs.Claimed.{missed_earlier}
+use Rattle.rowex_records.proofs.Claims.{missed_earlier}
 use Rattle.rowex_writing.specs.build.Building.{IsBuilding}
 use Rattle.rowex_writing.proofs.build.Counts.{free_count, none_count}
 use Rattle.rowex_writing.proofs.build.Changes.{made_alone}

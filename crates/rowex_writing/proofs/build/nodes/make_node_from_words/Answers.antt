@@ -4,7 +4,7 @@ use Rattle.std.proofs.lemmas.List.{length-append}
 use Rattle.compound_node.specs.declared.entries.Entry.TheVariants.{Node}
 use Rattle.record_words.specs.declared.records.Rec.TheVariants.{Node as a_node}
 use Rattle.record_words.proofs.Growing.{first_told}
-use Rattle.rowex_records.proofs.Claimed.{more_is_claimed}
+use Rattle.rowex_records.proofs.Claims.{more_is_claimed}
 use Rattle.publish_laws.specs.Rises.{made_of_node}
 use Rattle.rowex_writing.specs.build.Building.{IsBuilding}
 use Rattle.rowex_writing.specs.build.Walks.{IsClaimWalk, nodes_among}

@@ -10,7 +10,7 @@ use Rattle.rowex_writing.specs.build.Remaking.{AwaitsLeaf, subtrie_with_leaf}
 use Rattle.rowex_writing.specs.plan.Planned.{AffectsJust}
 use Rattle.rowex_writing.specs.declared.build.remaking.NewLeaf.{NewLeaf}
 use Rattle.rowex_writing.proofs.build.Building.{low_made}
-use Rattle.rowex_writing.proofs.build.RemakingForks.{fits_leaf, growing_leaf, just_affected, leads_within, leaf_subtrie}
+use Rattle.rowex_writing.proofs.build.remaking.Remaking.{fits_leaf, growing_leaf, just_affected, leads_within, leaf_subtrie}
 use Rattle.rowex_writing.proofs.build.nodes.make_node_with_leaf.Goals as goal
 
 -- the affected entries, which the words of the head tell

@@ -2,7 +2,7 @@
 use Rattle.std.proofs.Common.{subst}
 use Rattle.compound_node.specs.Nodes.{IsBuiltFrom, piece}
 use Rattle.rowex_writing.specs.build.Remaking.{subtrie_with_fork}
-use Rattle.rowex_writing.proofs.build.RemakingForks.{built_low, fits_fork, fork_low}
+use Rattle.rowex_writing.proofs.build.remaking.Remaking.{built_low, fits_fork, fork_low}
 use Rattle.rowex_writing.proofs.build.remaking.add_fork.Goals as goal
 
 pub put_fork-requires-clause-path : goal.put_fork-requires-clause-path

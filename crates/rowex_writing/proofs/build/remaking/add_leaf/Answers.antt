@@ -3,7 +3,7 @@ use Rattle.std.proofs.Common.{subst, arith}
 use Rattle.compound_node.specs.Nodes.{IsBuiltFrom, piece}
 use Rattle.compound_node.specs.declared.entries.Entry.TheVariants.{Leaf}
 use Rattle.tries.specs.Affected.{subtrie_grown}
-use Rattle.rowex_writing.proofs.build.RemakingForks.{built_low, fits_leaf, just_affected, leads_within, leaf_low, leaf_subtrie}
+use Rattle.rowex_writing.proofs.build.remaking.Remaking.{built_low, fits_leaf, just_affected, leads_within, leaf_low, leaf_subtrie}
 use Rattle.rowex_writing.proofs.build.remaking.add_leaf.Goals as goal
 
 pub affected-first-requires : goal.affected-first-requires

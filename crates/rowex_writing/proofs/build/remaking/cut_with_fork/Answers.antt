@@ -4,7 +4,7 @@ use Rattle.compound_node.specs.Nodes.{piece}
 use Rattle.insert_cases.specs.Grown.{IsCutOf}
 use Rattle.insert_cases.specs.declared.growth.Grown.TheVariants.{Two}
 use Rattle.rowex_writing.specs.build.Remaking.{subtrie_with_fork}
-use Rattle.rowex_writing.proofs.build.RemakingForks.{grown_low, fits_fork, fork_low}
+use Rattle.rowex_writing.proofs.build.remaking.Remaking.{grown_low, fits_fork, fork_low}
 use Rattle.rowex_writing.proofs.build.remaking.cut_with_fork.Goals as goal
 
 pub pull_up_full-requires-clause-path : goal.pull_up_full-requires-clause-path

@@ -5,7 +5,7 @@ use Rattle.compound_node.specs.declared.entries.Entry.TheVariants.{Leaf}
 use Rattle.node_tries.specs.Piece.{Place}
 use Rattle.tries.specs.Affected.{subtrie_forked}
 use Rattle.tries.specs.Keys.{bit}
-use Rattle.rowex_writing.proofs.build.RemakingForks.{pair_is_lawful}
+use Rattle.rowex_writing.proofs.build.remaking.Remaking.{pair_is_lawful}
 use Rattle.rowex_writing.proofs.build.remaking.pair_with_leaf.Goals as goal
 
 pub pair-requires-clause-below : goal.pair-requires-clause-below

@@ -6,12 +6,12 @@ use Rattle.versions.specs.Heap.{NodeWords}
 use Rattle.rowex_core.specs.Reading.{node_words_of}
 use Rattle.tries.specs.Keys.{Key}
 use Rattle.tries.specs.Place.{spot, subtrie_without}
-use Rattle.tries.proofs.Building.{size-piece}
-use Rattle.tries.proofs.Places.{spot_below}
+use Rattle.tries.proofs.Tree.Building.{size-piece}
+use Rattle.tries.proofs.Place.{spot_below}
 use Rattle.tries.specs.Tree.{Subtrie}
 use Rattle.rowex_writing.specs.locks.Going.{IsNodeOf}
 use Rattle.rowex_writing.proofs.locks.Going.{words_shown}
-use Rattle.rowex_writing.proofs.build.RemakingForks.{left_subtrie}
+use Rattle.rowex_writing.proofs.build.remaking.Remaking.{left_subtrie}
 use Rattle.rowex_writing.proofs.build.rising.load_without_leaf.Goals as goal
 
 -- the place in the node that the words under the lock spell

@@ -4,7 +4,7 @@ use Rattle.compound_node.specs.Nodes.{piece}
 use Rattle.insert_cases.specs.declared.growth.Grown.TheVariants.{One as Single}
 use Rattle.record_words.specs.Node.{CanTakeLeaf}
 use Rattle.rowex_writing.specs.build.Remaking.{subtrie_with_leaf}
-use Rattle.rowex_writing.proofs.build.RemakingForks.{built_low, leaf_low}
+use Rattle.rowex_writing.proofs.build.remaking.Remaking.{built_low, leaf_low}
 use Rattle.rowex_writing.proofs.build.Walks.{makes_as, makes_failed, makes_within}
 use Rattle.rowex_writing.proofs.build.rising.make_risen_with_leaf.Goals as goal
 

@@ -2,8 +2,8 @@
 use Rattle.std.proofs.Common.{◌≡◌, ◌<◌, false, true, refl, subst, length, arith}
 use Rattle.insert_cases.specs.declared.growth.Grown.TheVariants.{One as Single, Two}
 use Rattle.rowex_writing.specs.build.Building.{IsMadeFrom}
-use Rattle.rowex_writing.proofs.build.RisingLevel.{grown_for}
-use Rattle.rowex_writing.proofs.build.RemakingForks.{takes_read, takes_same}
+use Rattle.rowex_writing.proofs.build.rising.Rising.{grown_for}
+use Rattle.rowex_writing.proofs.build.remaking.Remaking.{takes_read, takes_same}
 use Rattle.rowex_writing.proofs.build.Walks.{makes_as, makes_failed, makes_within}
 use Rattle.rowex_writing.proofs.build.rising.make_risen_with_leaf_by_value.Goals as goal
 

@@ -4,7 +4,7 @@ use Rattle.compound_node.specs.declared.entries.Entry.TheVariants.{Node}
 use Rattle.publish_laws.specs.Rises.{made_of_leaf}
 use Rattle.rowex_writing.specs.build.Building.{IsBuilding}
 use Rattle.rowex_writing.proofs.locks.Going.{words_shown}
-use Rattle.rowex_writing.proofs.build.RisingLevel.{low_building, low_takes, lowest_made, leaf_level}
+use Rattle.rowex_writing.proofs.build.rising.Rising.{low_building, low_takes, lowest_made, leaf_level}
 use Rattle.rowex_writing.proofs.build.Walks.{makes_after}
 use Rattle.rowex_writing.proofs.build.rising.raise_lowest_node_with_leaf.Goals as goal
 

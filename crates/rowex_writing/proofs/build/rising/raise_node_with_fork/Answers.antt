@@ -6,7 +6,7 @@ use Rattle.insert_cases.specs.declared.growth.Grown.TheVariants.{One as Single, 
 use Rattle.insert_cases.specs.declared.raising.Risen.TheVariants.{Whole}
 use Rattle.publish_laws.specs.Rises.{made_of_node}
 use Rattle.rowex_writing.specs.build.Building.{IsBuilding}
-use Rattle.rowex_writing.proofs.build.RisingLevel.{lift_tree, lift_zero, lift_one, lift_building, lifted, fork_level}
+use Rattle.rowex_writing.proofs.build.rising.Rising.{lift_tree, lift_zero, lift_one, lift_building, lifted, fork_level}
 use Rattle.rowex_writing.proofs.build.Walks.{makes_after, makes_as, makes_failed}
 use Rattle.rowex_writing.proofs.build.rising.raise_node_with_fork.Goals as goal
 

@@ -3,7 +3,7 @@ use Rattle.std.proofs.Common.{◌≡◌, ◌≤◌, ◌-◌, ◌*◌, Some}
 use Rattle.rowex_writing.specs.build.Building.{Rises}
 use Rattle.rowex_writing.specs.plan.Counts.{level_steps}
 use Rattle.rowex_writing.specs.build.Walks.{Makes}
-use Rattle.rowex_writing.proofs.build.RisingLevel.{RisesOn}
+use Rattle.rowex_writing.proofs.build.rising.Rising.{RisesOn}
 use Rattle.rowex_writing.proofs.build.rising.raise_to_end.Given as goal
 
 abbrev pub invariant-loop-rise : goal.invariant-loop-rise

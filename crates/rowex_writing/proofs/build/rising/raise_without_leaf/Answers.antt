@@ -4,7 +4,7 @@ use Rattle.std.proofs.Common.{◌∙◌, [], arith}
 use Rattle.rowex_core.specs.Reading.{node_words_of}
 use Rattle.publish_laws.specs.Rises.{one}
 use Rattle.tries.specs.Place.{subtrie_without}
-use Rattle.rowex_writing.proofs.build.RisingLevel.{left_over}
+use Rattle.rowex_writing.proofs.build.rising.Rising.{left_over}
 use Rattle.rowex_writing.proofs.build.Building.{building_on}
 use Rattle.rowex_writing.proofs.build.Walks.{makes_after, makes_none}
 use Rattle.rowex_writing.proofs.build.rising.raise_without_leaf.Goals as goal

@@ -5,7 +5,7 @@ use Rattle.record_words.specs.declared.records.Rec.TheVariants.{Node as a_node}
 use Rattle.rowex_core.specs.declared.known.Holding.TheVariants.{Held}
 use Rattle.rowex_writing.specs.build.Building.{IsBuilding}
 use Rattle.rowex_writing.specs.build.Walks.{nodes_among}
-use Rattle.rowex_writing.proofs.build.TakingUnderLocks.{way_on}
+use Rattle.rowex_writing.proofs.build.taking.Taking.{way_on}
 use Rattle.rowex_writing.proofs.locks.Checks.{span_later}
 use Rattle.rowex_writing.proofs.build.Growths.{lacks_nodes}
 use Rattle.rowex_writing.proofs.build.Changes.{step_nodes}

@@ -16,7 +16,7 @@ use Rattle.rowex_writing.specs.declared.plan.job.Raised.{Raised}
 use Rattle.publish_laws.proofs.Loops.{later_transitive}
 use Rattle.rowex_writing.proofs.locks.Going.{locked_on}
 use Rattle.rowex_writing.proofs.build.Building.{set_all_on}
-use Rattle.rowex_writing.proofs.build.TakingUnderLocks.{word_of, claimed_filled, claimed_held, replaces_alone}
+use Rattle.rowex_writing.proofs.build.taking.Taking.{word_of, claimed_filled, claimed_held, replaces_alone}
 use Rattle.rowex_writing.proofs.build.taking.fill_left.Goals as goal
 
 pub fill_node-requires-clause-own : goal.fill_node-requires-clause-own

@@ -4,8 +4,8 @@ use Rattle.std.proofs.Common.{None, refl, arith}
 use Rattle.std.proofs.lemmas.Result.{IfErr-weaker}
 use Rattle.rowex_writing.specs.locks.Locks.{locks_of}
 use Rattle.rowex_writing.proofs.build.Counts.{deed_least}
-use Rattle.rowex_writing.proofs.build.DeedRecords.{nodes_alone, taken_raised}
-use Rattle.rowex_writing.proofs.build.TakingUnderLocks.{found_leaf, take_below, take_top}
+use Rattle.rowex_writing.proofs.build.deeds.Deeds.{nodes_alone, taken_raised}
+use Rattle.rowex_writing.proofs.build.taking.Taking.{found_leaf, take_below, take_top}
 use Rattle.rowex_writing.proofs.build.taking.make_without_leaf.Goals as goal
 use Rattle.rowex_writing.specs.declared.plan.Deed.TheVariants.{TakeTop}
 

@@ -13,7 +13,7 @@ use Rattle.rowex_writing.specs.build.Walks.{nodes_among}
 use Rattle.rowex_writing.proofs.build.Growths.{lacks_nodes}
 use Rattle.rowex_writing.proofs.build.Changes.{step_nodes}
 use Rattle.rowex_writing.proofs.build.Building.{building_none}
-use Rattle.rowex_writing.proofs.build.TakingUnderLocks.{IsRaised, left_raised, low_step, lowest_leads, lowest_locked, replaces_alone}
+use Rattle.rowex_writing.proofs.build.taking.Taking.{IsRaised, left_raised, low_step, lowest_leads, lowest_locked, replaces_alone}
 use Rattle.rowex_writing.proofs.build.Walks.{walk_begins}
 use Rattle.rowex_writing.proofs.build.taking.remake_without_leaf.Goals as goal
 

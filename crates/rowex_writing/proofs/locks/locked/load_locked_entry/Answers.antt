@@ -2,8 +2,8 @@
 use Rattle.std.proofs.Common.{Some, ap, sym, subst, ◌∙◌}
 use Rattle.record_words.specs.Entry.{HasEntryWord, entry_word}
 use Rattle.rowex_reading.proofs.Counting.{step_few}
-use Rattle.rowex_reading.proofs.Placing.{is_entry, slot_some, slot_spelled}
-use Rattle.insert_cases.proofs.Choosing.{some_injective}
+use Rattle.rowex_reading.proofs.Possible.Placing.{is_entry, slot_some, slot_spelled}
+use Rattle.insert_cases.proofs.Ways.{some_injective}
 use Rattle.rowex_writing.proofs.locks.Checks.{entry_is, some_of}
 use Rattle.rowex_writing.proofs.locks.Going.{reads_entry}
 use Rattle.rowex_writing.proofs.locks.locked.load_locked_entry.Goals as goal

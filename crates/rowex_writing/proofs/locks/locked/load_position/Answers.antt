@@ -1,9 +1,10 @@
 -- Two words of the head have the position.
 use Rattle.std.proofs.Common.{◌∙◌, ap, arith, get_or, sym, subst}
 use Rattle.record_words.specs.Kinds.{mask_index, position_index}
+use Rattle.record_words.proofs.HeadParts.HeadsByKind.{position_within, mask_within}
 use Rattle.rowex_table.specs.Rule.{record_number}
 use Rattle.rowex_writing.specs.locks.Going.{HasLocked}
-use Rattle.rowex_writing.proofs.locks.Loads.{head_word, mask_within, position_within}
+use Rattle.rowex_writing.proofs.locks.Loads.{head_word}
 use Rattle.rowex_writing.proofs.locks.Going.{locked_on, reads_more, seat_of}
 use Rattle.rowex_writing.proofs.locks.locked.load_position.Goals as goal
 
@@ -34,6 +35,6 @@ returns-clause-position g c = λ node (words, h, is).
     let then = locked_on c.args.seat.now.known c.load_numbers-numbers.new.seat.known n words c.load_numbers-numbers.ensures.reads.goes.stays.1 there in
     let last = locked_on c.load_numbers-numbers.new.seat.known c.load_locked_word-word.new.seat.known n words c.load_locked_word-word.ensures.reads.goes.stays.1 then in
     let told = c.load_numbers-numbers.ensures.numbers node (words, there, is) in
-    c.position_of.ensures node is.has.lawful told
+    c.read_position.ensures node is.has.lawful told
     (head_word node words is (position_index kind c.args.column) (position_within kind c.args.column c.requires.column) ∙ (ap (λ i. get_or words i 0) (sym c.index_of_position-index.ensures) ∙ sym (c.load_locked_word-word.ensures.word words then)))
     (head_word node words is (mask_index kind c.args.column) (mask_within kind c.args.column c.requires.column) ∙ (ap (λ i. get_or words i 0) (sym c.index_of_mask-mask.ensures) ∙ sym (c.load_locked_word-masks.ensures.word words last)))

@@ -3,9 +3,9 @@ use Rattle.rowex_writing.proofs.build.Spare.{works_spare}
 use Rattle.std.proofs.Common.{◌∷◌, ◌-◌, true, false, refl, sym, ap, subst, ◌∙◌}
 use Rattle.versions.specs.Trades.{IsOneOf}
 use Rattle.rowex_reading.specs.Ways.{IsWayOf}
-use Rattle.rowex_reading.proofs.Seeing.{later_trans}
+use Rattle.rowex_reading.proofs.Seen.{later_trans}
 use Rattle.rowex_reading.proofs.Ways.{way_later}
-use Rattle.publish_laws.proofs.Merging.{beside_may_lock}
+use Rattle.publish_laws.proofs.Cases.Merging.{beside_may_lock}
 use Rattle.publish_laws.proofs.Loops.{later_if_same}
 use Rattle.rowex_core.specs.declared.event.Target.TheVariants.{Node as NodeTarget}
 use Rattle.rowex_table.specs.Made.{nodes_of}
@@ -15,7 +15,7 @@ use Rattle.rowex_writing.specs.merging.Merging.{LocksAbove}
 use Rattle.rowex_writing.proofs.merging.Beside.{sibling_range}
 use Rattle.rowex_writing.proofs.locks.Onward.{both_possible, both_seat, run_possible}
 use Rattle.rowex_writing.proofs.locks.Runs.{run_none, works_run}
-use Rattle.rowex_writing.proofs.merging.WideningLocks.{far_none, last_same, more_none, more_one, one_last, two_tried}
+use Rattle.rowex_writing.proofs.merging.widening.Widening.{far_none, last_same, more_none, more_one, one_last, two_tried}
 use Rattle.rowex_writing.proofs.locks.Locks.{works_later, works_seat}
 use Rattle.rowex_writing.proofs.merging.widening.lock_for_merge.Goals as goal
 

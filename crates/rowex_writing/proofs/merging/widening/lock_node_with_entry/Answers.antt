@@ -1,11 +1,11 @@
 -- A node of the way is locked, and its entry is looked at.
 use Rattle.rowex_writing.proofs.build.Spare.{goes_spare, works_spare}
 use Rattle.std.proofs.Common.{sym, ◌∙◌}
-use Rattle.publish_laws.proofs.Acting.{led_may_lock}
+use Rattle.publish_laws.proofs.Acts.{led_may_lock}
 use Rattle.rowex_writing.proofs.locks.Going.{seat_of}
 use Rattle.rowex_writing.proofs.locks.Onward.{back_later, back_tries, locked_later, locked_tries, run_possible}
 use Rattle.rowex_writing.proofs.locks.Runs.{works_run}
-use Rattle.rowex_writing.proofs.merging.WideningLocks.{last_locked, last_same, one_last, place_later, place_led}
+use Rattle.rowex_writing.proofs.merging.widening.Widening.{last_locked, last_same, one_last, place_later, place_led}
 use Rattle.rowex_writing.proofs.locks.Going.{locked_on}
 use Rattle.rowex_writing.proofs.locks.Locks.{works_later, works_seat}
 use Rattle.rowex_writing.proofs.merging.widening.lock_node_with_entry.Goals as goal

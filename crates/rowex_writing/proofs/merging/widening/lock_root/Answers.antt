@@ -5,7 +5,7 @@ use Rattle.std.specs.Prelude.{IsSome}
 use Rattle.rowex_core.specs.declared.event.Act.TheVariants.{Unlock}
 use Rattle.rowex_core.specs.declared.event.Target.TheVariants.{Anchor}
 use Rattle.rowex_table.specs.Runs.{silent}
-use Rattle.rowex_table.proofs.ActsAfter.{unlock_anchor_gives}
+use Rattle.rowex_table.proofs.Made.ActsAfter.{unlock_anchor_gives}
 use Rattle.rowex_table.proofs.Rights.{unlocks_anchor}
 use Rattle.rowex_reading.proofs.Counting.{step_few}
 use Rattle.rowex_writing.proofs.locks.Going.{seat_of}

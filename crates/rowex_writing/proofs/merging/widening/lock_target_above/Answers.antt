@@ -4,7 +4,7 @@ use Rattle.std.proofs.lemmas.Option.{slice_get-get_or}
 use Rattle.rowex_writing.specs.build.Taking.{no_step}
 use Rattle.rowex_writing.proofs.locks.Checks.{since_pinned, step_place}
 use Rattle.publish_laws.proofs.Loops.{later_if_same}
-use Rattle.rowex_writing.proofs.merging.WideningLocks.{root_above, step_above}
+use Rattle.rowex_writing.proofs.merging.widening.Widening.{root_above, step_above}
 use Rattle.std.proofs.Common.{refl}
 use Rattle.rowex_reading.proofs.Ways.{way_later}
 use Rattle.rowex_writing.proofs.locks.Onward.{run_possible}

@@ -6,12 +6,12 @@ use Rattle.insert_cases.specs.declared.choice.PathNode.{PathNode}
 use Rattle.rowex_core.specs.declared.event.Act.TheVariants.{Unlock}
 use Rattle.rowex_core.specs.declared.event.Target.TheVariants.{Anchor}
 use Rattle.rowex_table.specs.Runs.{silent}
-use Rattle.rowex_table.proofs.ActsAfter.{unlock_anchor_gives}
+use Rattle.rowex_table.proofs.Made.ActsAfter.{unlock_anchor_gives}
 use Rattle.rowex_table.proofs.Rights.{unlocks_anchor}
 use Rattle.rowex_reading.proofs.Counting.{step_few}
 use Rattle.rowex_writing.specs.locks.Locks.{LocksLast}
 use Rattle.rowex_writing.specs.build.Taking.{no_step}
-use Rattle.rowex_writing.proofs.merging.WideningLocks.{is_over, no_root}
+use Rattle.rowex_writing.proofs.merging.widening.Widening.{is_over, no_root}
 use Rattle.rowex_writing.proofs.locks.Locks.{works_one}
 use Rattle.rowex_writing.proofs.merging.widening.unlock_target_above.Goals as goal
 

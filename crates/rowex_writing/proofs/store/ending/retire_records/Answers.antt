@@ -2,7 +2,7 @@
 use Rattle.std.proofs.Common.{◌∙◌, arith}
 use Rattle.rowex_core.specs.declared.event.Act.TheVariants.{LoadEpoch, Unlock}
 use Rattle.rowex_core.specs.declared.event.Target.TheVariants.{Anchor}
-use Rattle.rowex_table.proofs.ActsLeave.{act_leaves}
+use Rattle.rowex_table.proofs.Made.ActsLeave.{act_leaves}
 use Rattle.rowex_reading.proofs.Counting.{step_few}
 use Rattle.rowex_writing.proofs.locks.Locks.{works_one, works_more, works_seat}
 use Rattle.rowex_writing.proofs.locks.Spans.{locked_same}

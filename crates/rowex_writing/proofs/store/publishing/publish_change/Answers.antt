@@ -3,7 +3,7 @@ use Rattle.rowex_writing.specs.build.Spare.{WillSpare}
 use Rattle.std.proofs.Common.{length, ap, ◌∙◌, arith, subst, sym}
 use Rattle.rowex_writing.proofs.locks.Spans.{slice_few}
 use Rattle.rowex_writing.proofs.store.Stores.{change_store}
-use Rattle.rowex_writing.proofs.build.DeedRecords.{gone_few, kept_few}
+use Rattle.rowex_writing.proofs.build.deeds.Deeds.{gone_few, kept_few}
 use Rattle.rowex_writing.proofs.store.publishing.publish_change.Goals as goal
 
 pub list_gone_records-requires : goal.list_gone_records-requires

@@ -4,13 +4,13 @@ use Rattle.std.proofs.Common.{length, subst, sym, ap, ◌∙◌, arith}
 use Rattle.record_words.specs.Entry.{entry_word}
 use Rattle.rowex_core.specs.declared.event.Act.TheVariants.{Publish}
 use Rattle.rowex_table.specs.Rule.{MayStep}
-use Rattle.rowex_table.proofs.ActsLeave.{act_leaves}
+use Rattle.rowex_table.proofs.Made.ActsLeave.{act_leaves}
 use Rattle.rowex_writing.specs.locks.Locks.{numbers_of}
 use Rattle.rowex_writing.specs.store.Retiring.{HasJustPublished, is_root}
 use Rattle.rowex_writing.specs.build.Putting.{AreInTable}
 use Rattle.rowex_writing.proofs.locks.Going.{seat_of}
 use Rattle.rowex_writing.proofs.locks.Runs.{goes_run, run_one, runs_trans, works_fresh, works_run}
-use Rattle.rowex_writing.proofs.store.EndingChange.{has_changed, just_published, now_publishes, now_spells, still_anchored, word_published}
+use Rattle.rowex_writing.proofs.store.ending.Ending.{has_changed, just_published, now_publishes, now_spells, still_anchored, word_published}
 use Rattle.rowex_writing.proofs.store.publishing.publish_entry.Goals as goal
 
 pub ready_records-requires : goal.ready_records-requires

@@ -7,8 +7,8 @@ use Rattle.std.proofs.lemmas.Option.{get_or_from_slice_get}
 use Rattle.rowex_writing.proofs.locks.Going.{goes_none, seat_of}
 use Rattle.record_words.specs.declared.records.Rec.{Rec}
 use Rattle.rowex_core.specs.Cores.{FitsIn, HasRecord}
-use Rattle.rowex_writing.proofs.store.PublishingRecords.{AreReadied, none_readied, next_rights, readied_goes, readied_more, all_readied}
-use Rattle.rowex_table.proofs.Running.{does_count}
+use Rattle.rowex_writing.proofs.store.publishing.Publishing.{AreReadied, none_readied, next_rights, readied_goes, readied_more, all_readied}
+use Rattle.rowex_table.proofs.Runs.{does_count}
 use Rattle.rowex_records.specs.Records.{IsFilled, Readies, owning}
 use Rattle.rowex_writing.proofs.store.publishing.ready_records.Goals as goal
 

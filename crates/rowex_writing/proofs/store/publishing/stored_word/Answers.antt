@@ -3,7 +3,7 @@ use Rattle.std.proofs.Common.{rules, ◌≡◌, ◌<◌, ◌^◌, ap, subst, ◌
 use Rattle.compound_node.specs.declared.entries.Entry.TheVariants.{Node}
 use Rattle.record_words.specs.Entry.{HasEntryWord, entry_word}
 use Rattle.record_words.specs.Decoding.{entry_of}
-use Rattle.rowex_writing.proofs.store.EndingChange.{high}
+use Rattle.rowex_writing.proofs.store.ending.Ending.{high}
 use Rattle.rowex_writing.proofs.store.publishing.stored_word.Goals as goal
 
 pub pack_entry-requires-in-Some-Node : goal.pack_entry-requires-in-Some-Node

@@ -1,6 +1,6 @@
 -- A leaf with the key is one of the table's; and its value, as loaded, is the key's.
 use Rattle.std.proofs.Common.{◌≡◌, None, sym, ap, subst, ◌∙◌}
-use Rattle.rowex_table.proofs.Located.{leaf_at}
+use Rattle.rowex_table.proofs.Rule.Located.{leaf_at}
 use Rattle.rowex_reading.specs.Ways.{IsFoundAt}
 use Rattle.rowex_reading.specs.declared.descent.Found.TheVariants.{Leaf}
 use Rattle.rowex_writing.specs.store.Values.{revalued}

@@ -7,7 +7,7 @@ use Rattle.rowex_core.specs.declared.event.Spot.TheVariants.{Value}
 use Rattle.rowex_core.specs.Having.{IsUnlinked}
 use Rattle.rowex_core.proofs.Having.{owns_none}
 use Rattle.rowex_table.specs.Publishes.{HasPublished, Publishes}
-use Rattle.rowex_table.proofs.ActsLeave.{act_leaves}
+use Rattle.rowex_table.proofs.Made.ActsLeave.{act_leaves}
 use Rattle.rowex_reading.specs.declared.descent.Found.TheVariants.{Leaf}
 use Rattle.version_laws.specs.Writer.{replaced_change}
 use Rattle.tries.specs.Content.{item}
@@ -19,7 +19,7 @@ use Rattle.rowex_writing.proofs.locks.Spans.{slice_few}
 use Rattle.rowex_writing.proofs.build.Growths.{range_nodes}
 use Rattle.rowex_writing.proofs.build.Changes.{step_nodes}
 use Rattle.rowex_writing.proofs.build.Putting.{found_there, value_may}
-use Rattle.rowex_writing.proofs.build.DeedRecords.{span_anchor}
+use Rattle.rowex_writing.proofs.build.deeds.Deeds.{span_anchor}
 use Rattle.rowex_writing.proofs.locks.Runs.{run_one, runs_trans, works_fresh, works_run}
 use Rattle.rowex_writing.proofs.store.Values.{all_kept, anchored_on, value_changed}
 use Rattle.rowex_writing.proofs.store.valuing.store_value.Goals as goal

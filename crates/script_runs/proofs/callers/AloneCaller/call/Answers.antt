@@ -5,7 +5,7 @@ use Rattle.finite_map.specs.declared.Reply.{Reply}
 use Rattle.rowex_writing.specs.declared.attempts.TryFault.{TryFault}
 use Rattle.hot_index_calls.specs.Asked.{last_try}
 use Rattle.hot_index_calls.specs.Calls.{HasCause}
-use Rattle.hot_index.proofs.Staying.{stays}
+use Rattle.hot_index.proofs.Handles.{stays}
 use Rattle.script_runs.proofs.callers.AloneCaller.call.Goals as goal
 use Rattle.script_runs.proofs.callers.AloneCaller.call.Goals.{in-Ok, in-Err-FullNodes, in-Err-FullLeaves}
 

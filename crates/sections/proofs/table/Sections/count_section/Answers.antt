@@ -1,7 +1,7 @@
 -- The reach takes the section in.
 use Rattle.std.proofs.Common.{rules}
-use Rattle.sections.proofs.Stepping.{counts}
-use Rattle.sections.proofs.Seats.{owns_counted}
+use Rattle.sections.proofs.Rule.Stepping.{counts}
+use Rattle.sections.proofs.table.Seats.{owns_counted}
 use Rattle.sections.proofs.table.Sections.count_section.Goals as goal
 
 pub fetch_max-requires : goal.fetch_max-requires

@@ -1,6 +1,6 @@
 -- The section stays outside until the store, and then it is entered.
 use Rattle.std.proofs.Common.{◌≡◌, true, false, refl}
-use Rattle.sections.proofs.Entries.{enters_after, still_outside}
+use Rattle.sections.proofs.table.Entries.{enters_after, still_outside}
 use Rattle.sections.proofs.table.Sections.enter.Goals as goal
 
 pub store_entered-requires-clause-outside : goal.store_entered-requires-clause-outside

@@ -1,6 +1,6 @@
 -- The words, one after the other.
 use Rattle.std.proofs.Common.{rules, arith}
-use Rattle.sections.proofs.Past.{looked_more, looked_none, looks_on}
+use Rattle.sections.proofs.Runs.Past.{looked_more, looked_none, looks_on}
 use Rattle.sections.proofs.table.Sections.is_past.Goals as goal
 
 pub loop-of-init : goal.loop-of-init

@@ -1,5 +1,5 @@
 -- The words below `of` have been looked at.
-use Rattle.sections.proofs.Past.{HasLooked}
+use Rattle.sections.proofs.Runs.Past.{HasLooked}
 use Rattle.sections.proofs.table.Sections.is_past.Given as goal
 
 abbrev pub invariant-loop-of : goal.invariant-loop-of

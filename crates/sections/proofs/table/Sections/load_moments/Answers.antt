@@ -1,8 +1,8 @@
 -- The number of moments, as the run has it.
 use Rattle.std.proofs.Common.{rules}
 use Rattle.sections.specs.Rule.{found_moments, owner_of}
-use Rattle.sections.proofs.Keeping.{finds}
-use Rattle.sections.proofs.Seats.{owns_found, tells_moments}
+use Rattle.sections.proofs.Rule.{finds}
+use Rattle.sections.proofs.table.Seats.{owns_found, tells_moments}
 use Rattle.sections.proofs.table.Sections.load_moments.Goals as goal
 
 pub load-requires : goal.load-requires

@@ -2,8 +2,8 @@
 use Rattle.std.proofs.Common.{rules, arith, ap, sym, ◌∙◌}
 use Rattle.sections.specs.Rule.{found_reach, owner_of}
 use Rattle.sections.specs.Sections.{SectionView, SectionsView}
-use Rattle.sections.proofs.Keeping.{finds}
-use Rattle.sections.proofs.Seats.{found_beyond, owns_found, tells_reach}
+use Rattle.sections.proofs.Rule.{finds}
+use Rattle.sections.proofs.table.Seats.{found_beyond, owns_found, tells_reach}
 use Rattle.sections.proofs.table.Sections.load_reach.Goals as goal
 
 pub load-reach-requires : goal.load-reach-requires

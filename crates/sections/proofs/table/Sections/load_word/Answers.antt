@@ -2,8 +2,8 @@
 use Rattle.std.proofs.Common.{rules, ◌≡◌, ◌+◌, ◌*◌, ◌<◌, arith, ap}
 use Rattle.sections.specs.Rule.{found_word, owner_of}
 use Rattle.sections.specs.Sections.{SectionsView}
-use Rattle.sections.proofs.Keeping.{finds}
-use Rattle.sections.proofs.Seats.{owns_found, tells_word}
+use Rattle.sections.proofs.Rule.{finds}
+use Rattle.sections.proofs.table.Seats.{owns_found, tells_word}
 use Rattle.sections.proofs.table.Sections.load_word.Goals as goal
 
 pub load-requires : goal.load-requires

@@ -4,7 +4,7 @@ use mathlib.Core.Option.{some}
 use lib.ListN.{get_elem?}
 use Rattle.sections.specs.Rule.{section_dealt, owner_of, next_section}
 use Rattle.sections.specs.Sections.{IsNewSection, SectionsView, SectionView}
-use Rattle.sections.proofs.Dealing.{deals, each_longer, opens}
+use Rattle.sections.proofs.Rule.Dealing.{deals, each_longer, opens}
 use Rattle.sections.proofs.table.Sections.new.Goals as goal
 
 pub of_words-requires : goal.of_words-requires

@@ -3,8 +3,8 @@ use Rattle.std.proofs.Common.{rules, ◌≡◌, ◌≤◌, ◌-◌, ◌+◌, ◌
 use Rattle.sections.specs.Rule.{owner_of}
 use Rattle.sections.specs.Runs.{moments_in}
 use Rattle.sections.specs.Sections.{IsInside, SectionView}
-use Rattle.sections.proofs.Stepping.{enters}
-use Rattle.sections.proofs.Seats.{owns_closed, owns_entered}
+use Rattle.sections.proofs.Rule.Stepping.{enters}
+use Rattle.sections.proofs.table.Seats.{owns_closed, owns_entered}
 use Rattle.sections.proofs.table.Sections.store_entered.Goals as goal
 
 pub store-requires : goal.store-requires

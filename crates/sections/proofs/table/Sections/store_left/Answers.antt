@@ -1,8 +1,8 @@
 -- The section is left.
 use Rattle.std.proofs.Common.{rules, ◌+◌, ◌*◌, subst, sym, refl}
 use Rattle.sections.specs.Sections.{IsInside, SectionView}
-use Rattle.sections.proofs.Stepping.{leaves}
-use Rattle.sections.proofs.Seats.{owns_left, owns_open}
+use Rattle.sections.proofs.Rule.Stepping.{leaves}
+use Rattle.sections.proofs.table.Seats.{owns_left, owns_open}
 use Rattle.sections.proofs.table.Sections.store_left.Goals as goal
 
 pub store-requires : goal.store-requires

@@ -1,7 +1,7 @@
 -- One moment more has been taken.
 use Rattle.std.proofs.Common.{rules}
-use Rattle.sections.proofs.Stepping.{takes}
-use Rattle.sections.proofs.Seats.{owns_taken, takes_next}
+use Rattle.sections.proofs.Rule.Stepping.{takes}
+use Rattle.sections.proofs.table.Seats.{owns_taken, takes_next}
 use Rattle.sections.proofs.table.Sections.take_next.Goals as goal
 
 pub compare_exchange-requires : goal.compare_exchange-requires

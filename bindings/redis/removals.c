@@ -1,0 +1,309 @@
+/* Removals of ranges, at once or in portions. */
+#include "removals.h"
+#include "jobs.h"
+#include "keys.h"
+#include "ranges.h"
+#include <limits.h>
+#include <string.h>
+
+/* A removal of pairs from one end of a range on. */
+typedef struct removal {
+    range_request asked; /* what is left of it; `with_values` if it replies with the pairs, and not with their number */
+    RedisModuleCtx *to;  /* replies here */
+    uint64_t taken;
+    key_range took; /* the least and the greatest field of the last portion */
+    int is_done, is_refused;
+} removal;
+
+static removal removal_of_all(RedisModuleCtx *ctx) {
+    removal it = {all_pairs, ctx, 0, {0, 0, {0}, {0}}, 0, 0};
+    range_of_all(&it.asked.range);
+    return it;
+}
+
+/* ---- Portions ---- */
+
+/* Removes the pairs of a page. */
+static void take_page(opened *of, const key_page *page) {
+    field fields[PAGE];
+    const uint8_t *key = page->bytes;
+    size_t at;
+    for (at = 0; at < page->count; key += page->heads[at++].length) {
+        fields[at].at = key;
+        fields[at].length = page->heads[at].length;
+    }
+    take_fields(of, fields, page->count);
+}
+
+static void reply_with_pairs(RedisModuleCtx *ctx, const key_page *page) {
+    const uint8_t *key = page->bytes;
+    size_t at;
+    for (at = 0; at < page->count; key += page->heads[at++].length) {
+        RedisModule_ReplyWithStringBuffer(ctx, (const char *)key, page->heads[at].length);
+        reply_with_word(ctx, page->heads[at].value);
+    }
+}
+
+/* Lists the next pairs that it takes: 0 if there are none, or memory is refused. */
+static int list_next(const opened *of, removal *it, uint64_t most, key_page *page) {
+    if (of->now == NULL)
+        return 0;
+    most = most < PAGE ? most : PAGE;
+    it->is_refused = map_list(of->now, map_handle(of->now), &it->asked.range, it->asked.falls, most, page) != HOT_DONE;
+    return !it->is_refused && page->count > 0;
+}
+
+static void note_field(uint8_t *to, size_t *to_length, field key) {
+    memcpy(to, key.at, key.length);
+    *to_length = key.length;
+}
+
+/* Notes which fields a portion takes, of which this is a further page. */
+static void note_page(removal *it, const key_page *page, int is_first) {
+    field begin = {page->bytes, page->heads[0].length}, end = page_last(page);
+    if (is_first || it->asked.falls)
+        note_field(it->took.from, &it->took.from_length, it->asked.falls ? end : begin);
+    if (is_first || !it->asked.falls)
+        note_field(it->took.upto, &it->took.upto_length, it->asked.falls ? begin : end);
+}
+
+/* Takes up to so many pairs, and returns how many. A reply begins once a page is there. */
+static uint64_t take_portion(opened *of, removal *it, uint64_t most) {
+    static key_page page;
+    uint64_t taken = 0;
+    most = most < it->asked.limit ? most : it->asked.limit;
+    it->is_done = it->asked.is_empty || it->asked.limit == 0;
+    while (!it->is_done && taken < most) {
+        if (!list_next(of, it, most - taken, &page)) {
+            it->is_done = 1;
+            break;
+        }
+        if (it->asked.with_values && it->taken == 0)
+            RedisModule_ReplyWithArray(it->to, REDISMODULE_POSTPONED_LEN);
+        if (it->asked.with_values)
+            reply_with_pairs(it->to, &page);
+        note_page(it, &page, taken == 0);
+        take_page(of, &page);
+        taken += page.count;
+        it->taken += page.count;
+        it->asked.limit -= page.count;
+        it->is_done = it->asked.limit == 0 || !page.more || !range_go_on(&it->asked.range, it->asked.falls, &page);
+    }
+    return taken;
+}
+
+/* Replies once it has ended. */
+static void end_reply(removal *it) {
+    if (it->is_refused && it->taken == 0)
+        refuse(it->to, "OOM no memory for a page");
+    else if (!it->asked.with_values)
+        RedisModule_ReplyWithLongLong(it->to, (long long)it->taken);
+    else if (it->taken > 0)
+        RedisModule_ReplySetArrayLength(it->to, (long)(2 * it->taken));
+    else
+        RedisModule_ReplyWithArray(it->to, 0);
+}
+
+/* Takes a portion that replicas take by its fields: they are all that there are from the least to the greatest. */
+static void take_and_tell(opened *of, removal *it, uint64_t most, const char *event) {
+    char least[1 + HOT_MAX_KEY] = "[", greatest[1 + HOT_MAX_KEY] = "[";
+    if (take_portion(of, it, most) == 0)
+        return;
+    memcpy(least + 1, it->took.from, it->took.from_length);
+    memcpy(greatest + 1, it->took.upto, it->took.upto_length);
+    RedisModule_Replicate(of->ctx, "om.delrange", "sbb", of->name, least, 1 + it->took.from_length, greatest,
+                          1 + it->took.upto_length);
+    tell(of, event);
+}
+
+/* ---- Long removals ---- */
+
+/* A removal whose client waits. All is done by the main thread. */
+typedef struct long_removal {
+    struct long_removal *next;
+    removal it;
+    const char *event;
+    RedisModuleString *name;
+    RedisModuleBlockedClient *client;
+    int database, is_gone;
+} long_removal;
+
+/* They have their turns. */
+static long_removal *first_waiting, **last_waiting = &first_waiting;
+
+static void line_up(long_removal *it) {
+    it->next = NULL;
+    *last_waiting = it;
+    last_waiting = &it->next;
+}
+
+static void note_gone(RedisModuleCtx *ctx, RedisModuleBlockedClient *client) {
+    long_removal *it;
+    (void)ctx;
+    for (it = first_waiting; it != NULL; it = it->next)
+        if (it->client == client)
+            it->is_gone = 1;
+    atomic_fetch_add(&gone_count, 1);
+}
+
+/* Takes the next portion, if the key still leads to a map, or to none. */
+static void go_on(RedisModuleCtx *ctx, long_removal *of) {
+    opened key;
+    RedisModule_BlockedClientMeasureTimeStart(of->client);
+    RedisModule_SelectDb(ctx, of->database);
+    if (find_key(&key, ctx, of->name, REDISMODULE_READ | REDISMODULE_WRITE)) {
+        uint64_t before = of->it.taken;
+        take_and_tell(&key, &of->it, at_once(key.now), of->event);
+        note_at_once(of->it.taken - before);
+        close_key(&key);
+    } else {
+        of->it.is_done = 1;
+    }
+    RedisModule_BlockedClientMeasureTimeEnd(of->client);
+}
+
+static void end(long_removal *of) {
+    end_reply(&of->it);
+    RedisModule_FreeThreadSafeContext(of->it.to);
+    RedisModule_FreeString(NULL, of->name);
+    RedisModule_UnblockClient(of->client, NULL);
+    RedisModule_Free(of);
+}
+
+/* Between two portions other clients have their commands run. While the server is to make no changes none is taken. */
+enum { PAUSE_MILLISECONDS = 1 };
+static void take_turn(RedisModuleCtx *ctx, void *unused) {
+    long_removal *of = first_waiting;
+    (void)unused;
+    if (of->is_gone || !RedisModule_AvoidReplicaTraffic()) {
+        first_waiting = of->next;
+        if (first_waiting == NULL)
+            last_waiting = &first_waiting;
+        if (!of->is_gone)
+            go_on(ctx, of);
+        if (of->is_gone || of->it.is_done)
+            end(of);
+        else
+            line_up(of);
+    }
+    if (first_waiting != NULL)
+        RedisModule_CreateTimer(ctx, PAUSE_MILLISECONDS, take_turn, NULL);
+}
+
+/* Has the client wait for the rest of a removal: 0 if there is no memory for that. */
+static int wait_for_rest(const opened *of, const removal *it, const char *event) {
+    field name = field_of(of->name);
+    long_removal *made = RedisModule_TryAlloc(sizeof *made);
+    if (made == NULL)
+        return 0;
+    made->it = *it;
+    made->event = event;
+    made->is_gone = 0;
+    made->database = RedisModule_GetSelectedDb(of->ctx);
+    made->name = RedisModule_CreateString(NULL, (const char *)name.at, name.length);
+    made->client = RedisModule_BlockClient(of->ctx, NULL, NULL, NULL, 0);
+    made->it.to = RedisModule_GetThreadSafeContext(made->client);
+    RedisModule_SetDisconnectCallback(made->client, note_gone);
+    if (first_waiting == NULL)
+        RedisModule_CreateTimer(of->ctx, PAUSE_MILLISECONDS, take_turn, NULL);
+    line_up(made);
+    return 1;
+}
+
+/* How many pairs a command takes in one go: all, where its client can't wait. */
+static uint64_t first_portion(const opened *of) {
+    return may_wait(of->ctx) ? at_once(of->now) : UINT64_MAX;
+}
+
+/* ---- Commands ---- */
+
+static void pop_from_key(opened *of, removal *it, const char *name) {
+    uint64_t length = of->now == NULL ? 0 : map_length(of->now), most = first_portion(of);
+    if (length > most && it->asked.limit > most && wait_for_rest(of, it, name))
+        return;
+    take_portion(of, it, UINT64_MAX);
+    /* Replicas take as many as were taken here. */
+    if (it->taken > 0) {
+        RedisModule_Replicate(of->ctx, name, "sl", of->name, (long long)it->taken);
+        tell(of, name);
+    }
+    end_reply(it);
+    if (most < UINT64_MAX)
+        note_at_once(it->taken);
+}
+
+static int pop(RedisModuleCtx *ctx, RedisModuleString **argv, int argc, int falls) {
+    removal it = removal_of_all(ctx);
+    opened of;
+    long long count = 1;
+    if (argc != 2 && argc != 3)
+        return RedisModule_WrongArity(ctx);
+    if (argc == 3 && (RedisModule_StringToLongLong(argv[2], &count) != REDISMODULE_OK || count < 0))
+        return RedisModule_ReplyWithError(ctx, "ERR value is out of range, must be positive");
+    if (!open_key(&of, ctx, argv[1], REDISMODULE_READ | REDISMODULE_WRITE))
+        return REDISMODULE_OK;
+    it.asked.with_values = 1;
+    it.asked.falls = falls;
+    it.asked.limit = (uint64_t)count;
+    pop_from_key(&of, &it, falls ? "om.popmax" : "om.popmin");
+    close_key(&of);
+    return REDISMODULE_OK;
+}
+
+int om_popmin(RedisModuleCtx *ctx, RedisModuleString **argv, int argc) {
+    return pop(ctx, argv, argc, 0);
+}
+
+int om_popmax(RedisModuleCtx *ctx, RedisModuleString **argv, int argc) {
+    return pop(ctx, argv, argc, 1);
+}
+
+/* Whether a range has all pairs of a map: then the map goes as a whole, which a job frees. */
+static int is_all(const removal *it, const map *of) {
+    const key_range *range = &it->asked.range;
+    return of != NULL && !it->asked.is_empty && range->from_length == 0 && range->upto_length == HOT_MAX_KEY &&
+           it->asked.limit >= map_length(of) && memcmp(range->upto, hot_last_key, HOT_MAX_KEY) == 0;
+}
+
+/* Removes a range of a key, whose ends are the words of a command, and replies. */
+static void take_from_key(opened *of, RedisModuleString *least, RedisModuleString *most, removal *it) {
+    uint64_t portion = first_portion(of);
+    if (is_all(it, of->now)) {
+        it->taken = map_length(of->now);
+        it->is_done = 1;
+        of->now = NULL;
+    } else {
+        take_portion(of, it, portion);
+        if (portion < UINT64_MAX)
+            note_at_once(it->taken);
+    }
+    if (it->taken > 0) {
+        RedisModule_Replicate(of->ctx, "om.delrange", "ssscl", of->name, least, most, "LIMIT", (long long)it->taken);
+        tell(of, "om.delrange");
+    }
+    if (!it->is_done && wait_for_rest(of, it, "om.delrange"))
+        return;
+    if (!it->is_done)
+        take_and_tell(of, it, UINT64_MAX, "om.delrange");
+    end_reply(it);
+}
+
+int om_delrange(RedisModuleCtx *ctx, RedisModuleString **argv, int argc) {
+    removal it = removal_of_all(ctx);
+    opened of;
+    long long limit = LLONG_MAX;
+    if (argc != 4 && argc != 6)
+        return RedisModule_WrongArity(ctx);
+    if (!read_range(argv[2], argv[3], &it.asked))
+        return refuse_range(ctx);
+    if (argc == 6 && !is_word(argv[4], "LIMIT"))
+        return RedisModule_ReplyWithError(ctx, "ERR syntax error");
+    if (argc == 6 && (RedisModule_StringToLongLong(argv[5], &limit) != REDISMODULE_OK || limit < 0))
+        return RedisModule_ReplyWithError(ctx, "ERR value is not an integer or out of range");
+    if (!open_key(&of, ctx, argv[1], REDISMODULE_READ | REDISMODULE_WRITE))
+        return REDISMODULE_OK;
+    it.asked.limit = (uint64_t)limit;
+    take_from_key(&of, argv[2], argv[3], &it);
+    close_key(&of);
+    return REDISMODULE_OK;
+}

@@ -1,0 +1,273 @@
+-- A piece that is closed: a node stands for it.
+use Rattle.std.proofs.Common.{◌≡◌, ◌⊎◌, inl, inr, ℕ, suc, ◌+◌, ◌-◌, ◌*◌, ◌^◌, ◌<◌, ◌≤◌, List, [], ◌∷◌, ◌++◌, take, drop, Option, Some, None, get_or, length, refl, ap, sym, subst, ◌∙◌, arith}
+use Rattle.std.specs.Prelude.{All}
+use Rattle.std.proofs.lemmas.Bool.{cases_order}
+use Rattle.std.proofs.lemmas.List.{append-nil, ext_get_or, get_or-append_right, length-append, drop_at, take_at}
+use Rattle.std.proofs.lemmas.List.Elements.{All-append, All-from_recursion, All-from_get_or, All-head}
+use Rattle.std.proofs.Math.ListN.{get_or-append}
+use Rattle.key_bits.specs.declared.TheConstants.{MAX_BYTES}
+use Rattle.compound_node.specs.Nodes.{NodeView, IsBuiltFrom, IsEntry, head_of}
+use Rattle.compound_node.specs.declared.entries.Entry.{Entry}
+use Rattle.compound_node.specs.declared.entries.Entry.TheVariants.{Leaf, Node}
+use Rattle.node_tries.specs.Piece.{RisesFrom}
+use Rattle.record_words.specs.Node.{HasNodeWords, node_words}
+use Rattle.tries.specs.Content.{first, IsAbove, IsLocal}
+use Rattle.tries.specs.Tree.{Tree, leaf, node, fork, subtrie, IsBuilt}
+use Rattle.tries.proofs.Tree.Building.{bit_below, node_built_from}
+use Rattle.tries.proofs.Content.{trie_if_local}
+use Rattle.tries.proofs.Tree.Fitting.{children_are}
+use Rattle.tries.proofs.Keys.{has_key}
+use Rattle.tries.proofs.Tree.{has_first}
+use Rattle.record_words.specs.declared.records.Rec.{Rec}
+use Rattle.record_words.specs.declared.records.Rec.TheVariants.{Node as a_node}
+use Rattle.versions.specs.Heap.{Heap, IsShown}
+use Rattle.versions.proofs.Heap.{node_number}
+use Rattle.versions.specs.State.{Links}
+use Rattle.rowex_core.specs.Cores.{heap_of}
+use Rattle.rowex_core.specs.Reading.{IsPacked}
+use Rattle.rowex_core.proofs.Reading.{node_is}
+use Rattle.bulk_load.specs.Slots.{slot, slots_of, IsSlot, AreSlotsOf}
+use Rattle.bulk_load.specs.declared.slots.Slot.{Slot}
+use Rattle.bulk_load.specs.Stacks.{LeftPiece, whole_of, position_of, front_slots, with_right}
+use Rattle.bulk_load.specs.declared.builder.Builder.{Builder}
+use Rattle.bulk_load.specs.Loading.{IsPiece, size_right}
+use Rattle.bulk_load.specs.Tables.{IsPut, HoldsTree}
+use Rattle.rowex_core.specs.Cores.{fields_in}
+use Rattle.bulk_load.proofs.slots.Rows.{slots_split as piece_split}
+use Rattle.bulk_load.proofs.records.Fields.{node_field, node_fields_long}
+use Rattle.bulk_load.proofs.Tables.Putting.{IsAddedTo, added, still_shown}
+use Rattle.bulk_load.proofs.Stacks.{slots_joined, length_slots, built_inner, built_joined, shown_joined, links_inner, links_kept, links_added, local_inner, IsAboveHead, above_head, local_joined}
+
+-- ---- slots of a lawful tree
+IsFrom : ℕ → Tree → Type 0
+IsFrom low (leaf n k v) = Unit {0}
+IsFrom low (node n x b) = Unit {0}
+IsFrom low (fork q a b) = low ≤ q
+
+from_above : (q : ℕ) (t : Tree) → IsAbove q t → IsFrom (q + 1) t
+unfolding IsFrom
+from_above q (leaf n k v) h = tt
+from_above q (node n x b) h = tt
+from_above q (fork p a b) h = omega (arith, h)
+
+rises_from : (low : ℕ) (t : Tree) → IsLocal t → IsFrom low t → RisesFrom low (subtrie t)
+unfolding IsFrom
+rises_from low (leaf n k v) i f = tt
+rises_from low (node n x b) i f = tt
+rises_from low (fork q a b) i f = (omega (arith, f), rises_from (q + 1) a i.0 (from_above q a i.2), rises_from (q + 1) b i.1 (from_above q b i.3))
+
+pub taken_part : (a b n m : ℕ) (xs ys : List Slot) → a ≡ n → b ≡ m → xs ≡ ys → take a (drop b xs) ≡ take n (drop m ys)
+taken_part a b n m xs ys e f g = rw (e, f, g) refl
+
+rises_local : (t : Tree) → IsLocal t → RisesFrom 0 (subtrie t)
+unfolding IsFrom
+rises_local (leaf n k v) i = tt
+rises_local (node n x b) i = tt
+rises_local (fork q a b) i = rises_from 0 (fork q a b) i (omega arith)
+
+-- a fork is at a position that keys have
+fork_small : (q : ℕ) (a b : Tree) → IsLocal (fork q a b) → q < 65535
+fork_small q a b i =
+    let t = trie_if_local (fork q a b) i in let m : MAX_BYTES ≡ 240 = refl in
+    let h : q < 9 * MAX_BYTES = bit_below (first b) q (has_key b t.1 (first b) (has_first b)) (t.4 (first b) (has_first b)) in omega (arith, h, m)
+
+position_small : (ls : List LeftPiece) (t : Tree) → IsLocal (whole_of ls t) → position_of ls < 65535
+position_small [] t i = omega arith
+position_small (l ∷ ls) t i = fork_small l.position l.tree t (local_inner ls (fork l.position l.tree t) i)
+
+slots_lawful : (p : ℕ) (t : Tree) → p < 65535 → IsLocal t → IsBuilt t → All IsSlot (slots_of p (subtrie t))
+slots_lawful p (leaf n k v) h i b = All-from_recursion IsSlot (slot p (Leaf n) ∷ []) ((tt, h), tt)
+slots_lawful p (node n x c) h i b =
+    All-from_recursion IsSlot (slot p (Node n x.height) ∷ []) ((All-head IsEntry (Node n x.height) [] (children_are (node n x c) b), h), tt)
+slots_lawful p (fork q a c) h i b =
+    All-append IsSlot (slots_of p (subtrie a)) (slots_of q (subtrie c)) (slots_lawful p a h i.0 b.0) (slots_lawful q c (fork_small q a c i) i.1 b.1)
+
+-- ---- where the slots of a piece stand
+abbrev pub right_slots : Option LeftPiece → List Slot
+right_slots None = []
+right_slots (Some r) = slots_of r.position (subtrie r.tree)
+
+beside : (p : ℕ) (z : Tree) (right : Option LeftPiece) → slots_of p (subtrie (with_right z right)) ≡ slots_of p (subtrie z) ++ right_slots right
+beside p z None = sym (append-nil (slots_of p (subtrie z)))
+beside p z (Some r) = refl
+
+slots_split : (ls : List LeftPiece) (z : Tree) (right : Option LeftPiece) →
+    slots_of 0 (subtrie (whole_of ls (with_right z right))) ≡ front_slots ls ++ (slots_of (position_of ls) (subtrie z) ++ right_slots right)
+slots_split ls z right = slots_joined ls (with_right z right) ∙ ap (λ ss. front_slots ls ++ ss) (beside (position_of ls) z right)
+
+length_right : (right : Option LeftPiece) → length (right_slots right) ≡ size_right right
+length_right None = refl
+length_right (Some r) = length_slots r.position (subtrie r.tree)
+
+local_left : (z : Tree) (right : Option LeftPiece) → IsLocal (with_right z right) → IsLocal z
+local_left z None i = i
+local_left z (Some r) i = i.0
+
+built_left : (z : Tree) (right : Option LeftPiece) → IsBuilt (with_right z right) → IsBuilt z
+built_left z None b = b
+built_left z (Some r) b = b.0
+
+module _ (l : Builder) (ls : List LeftPiece) (z : Tree) (right : Option LeftPiece) (count behind : ℕ) (p : IsPiece l ls z right count behind) where
+  local_z : IsLocal z
+  local_z = local_left z right (local_inner ls (with_right z right) p.tree.ordered)
+
+  built_z : IsBuilt z
+  built_z = built_left z right (built_inner ls (with_right z right) p.tree.built)
+
+  abbrev front : List Slot
+  front = front_slots ls
+
+  abbrev own : List Slot
+  own = slots_of (position_of ls) (subtrie z)
+
+  abbrev pub start : ℕ
+  start = length (front_slots ls)
+
+  split : l.slots.items ≡ front ++ (own ++ right_slots right)
+  split = p.tree.slots_are ∙ slots_split ls z right
+
+  own_long : length own ≡ count
+  own_long = length_slots (position_of ls) (subtrie z) ∙ sym p.count_is
+
+  pub fits : start + count + behind ≡ length l.slots.items
+  fits =
+      let a = ap length split in let b = length-append front (own ++ right_slots right) in let c = length-append own (right_slots right) in
+      let d = length_right right in let e = p.behind_is in omega (arith, a, b, c, d, e, own_long)
+
+  own_is : take count (drop start l.slots.items) ≡ own
+  own_is = ap (λ ss. take count (drop start ss)) split ∙ (ap (take count) (drop_at front (own ++ right_slots right) start refl) ∙ take_at own (right_slots right) count own_long)
+
+  pub slots_given : (ss : List Slot) → ss ≡ take count (drop start l.slots.items) → AreSlotsOf ss (position_of ls) (subtrie z)
+  slots_given ss e = record { are = e ∙ own_is; rises = rises_local z local_z }
+
+  pub each_given : (ss : List Slot) → ss ≡ take count (drop start l.slots.items) → All IsSlot ss
+  each_given ss e = subst (All IsSlot) (sym (e ∙ own_is)) (slots_lawful (position_of ls) z (position_small ls (with_right z right) p.tree.ordered) local_z built_z)
+
+  -- ---- the slots with one in the place of the piece's
+  pub merged : (e : Entry) (d : Slot) (ss : List Slot) → 1 ≤ count → length ss + count ≡ length l.slots.items + 1 →
+      ((i : ℕ) → i < start → get_or ss i d ≡ get_or l.slots.items i d) → get_or ss start d ≡ slot (get_or l.slots.items start d).fork e →
+      ((i : ℕ) → get_or ss (start + 1 + i) d ≡ get_or l.slots.items (start + count + i) d) →
+      ss ≡ front ++ (slot (position_of ls) e ∷ right_slots right)
+  merged e d ss some long before here behind_it = ext_get_or d ss (front ++ (slot (position_of ls) e ∷ right_slots right))
+      (omega (arith, long, fits, p.behind_is, length_right right, length-append front (slot (position_of ls) e ∷ right_slots right)))
+      (λ i h. elim (cases_order i start) [ inl same ↦ at_start i same | inr o ↦ elim o [ inl less ↦ at_front i less | inr more ↦ at_right i more ] ])
+    where
+      rest : (i : ℕ) → start ≤ i → get_or l.slots.items i d ≡ get_or (own ++ right_slots right) (i - start) d
+      rest i h = ap (λ ss. get_or ss i d) split ∙ get_or-append_right front (own ++ right_slots right) start i d refl h
+
+      target : (i : ℕ) → start ≤ i → get_or (front ++ (slot (position_of ls) e ∷ right_slots right)) i d ≡ get_or (slot (position_of ls) e ∷ right_slots right) (i - start) d
+      target i h = get_or-append_right front (slot (position_of ls) e ∷ right_slots right) start i d refl h
+
+      at_front : (i : ℕ) → i < start → get_or ss i d ≡ get_or (front ++ (slot (position_of ls) e ∷ right_slots right)) i d
+      at_front i h = before i h ∙ (ap (λ ss. get_or ss i d) split ∙ (get_or-append front (own ++ right_slots right) d i h ∙ sym (get_or-append front (slot (position_of ls) e ∷ right_slots right) d i h)))
+
+      first_fork : (get_or l.slots.items start d).fork ≡ position_of ls
+      first_fork = ap (λ (s : Slot). s.fork) (rest start (omega arith)) ∙
+          (ap (λ n. (get_or (own ++ right_slots right) n d).fork) (let z0 : start - start ≡ 0 = omega arith in z0) ∙
+          ap (λ ss. (get_or (ss ++ right_slots right) 0 d).fork) (piece_split (position_of ls) (subtrie z)))
+
+      at_start : (i : ℕ) → i ≡ start → get_or ss i d ≡ get_or (front ++ (slot (position_of ls) e ∷ right_slots right)) i d
+      at_start i same = rw same (here ∙ (ap (λ n. slot n e) first_fork ∙ sym (target start (omega arith) ∙
+          ap (λ n. get_or (slot (position_of ls) e ∷ right_slots right) n d) (let z0 : start - start ≡ 0 = omega arith in z0))))
+
+      at_right : (i : ℕ) → start < i → get_or ss i d ≡ get_or (front ++ (slot (position_of ls) e ∷ right_slots right)) i d
+      at_right i h =
+          let k = i - start - 1 in let is : i ≡ start + 1 + k = omega (arith, h) in
+          let low : start + count + k - start ≡ count + k = omega arith in
+          let high : i - start ≡ suc k = omega (arith, h) in
+          ap (λ n. get_or ss n d) is ∙ (behind_it k ∙ (rest (start + count + k) (omega arith) ∙ (ap (λ n. get_or (own ++ right_slots right) n d) low ∙
+          (get_or-append_right own (right_slots right) count (count + k) d own_long (omega arith) ∙ (ap (λ n. get_or (right_slots right) n d) (let back : count + k - count ≡ k = omega arith in back) ∙
+          sym (target i (omega (arith, h)) ∙ ap (λ n. get_or (slot (position_of ls) e ∷ right_slots right) n d) high))))))
+
+  -- ---- the node that stands for the piece
+  module _ (v : NodeView) (new : List ℕ) (b : IsBuiltFrom v (subtrie z)) (has : HasNodeWords v) (put : IsPut l.layout l.words.items new (a_node l.nodes))
+      (fields : fields_in l.layout new (a_node l.nodes) ≡ node_words v) (small : (i : ℕ) → get_or new i 0 < 2 ^ 64) (room : l.nodes < l.layout.nodes) where
+    abbrev pub closed : Tree
+    closed = node l.nodes (head_of v) z
+
+    abbrev whole : Tree
+    whole = whole_of ls (with_right z right)
+
+    abbrev heap : Heap
+    heap = heap_of (fields_in l.layout new)
+
+    built_closed : IsBuilt closed
+    built_closed = node_built_from v l.nodes z b (trie_if_local z local_z) built_z
+
+    addition : IsAddedTo l.layout l.words.items new (Some whole) (a_node l.nodes)
+    unfolding IsPacked
+    addition = record {
+      holds = p.tree.table;
+      has = room;
+      unlinked = λ h. absurd (let low = p.tree.taken l.nodes h in omega (arith, low));
+      put = put;
+      packed = (v, has, sym fields);
+      fits = tt;
+    }
+
+    all_small : All (λ w. w < 2 ^ 64) (fields_in l.layout new (a_node l.nodes))
+    all_small = All-from_get_or (λ w. w < 2 ^ 64) (fields_in l.layout new (a_node l.nodes)) 0
+        (λ i h. subst (λ w. w < 2 ^ 64) (sym (node_field l.layout new l.nodes i (omega (arith, h, node_fields_long l.layout new l.nodes)))) (small _))
+
+    node_shown : heap.nodes l.nodes ≡ record { fixed = head_of v; subtrie = subtrie z }
+    node_shown = node_is v (fields_in l.layout new (a_node l.nodes)) all_small has (sym fields) ∙ ap (λ x. record { fixed = head_of v; subtrie = x }) b.shows_it
+
+    beside_shown : (right : Option LeftPiece) → IsShown heap (with_right z right) → IsShown heap (with_right closed right)
+    beside_shown None s = (node_shown, s)
+    beside_shown (Some r) s = ((node_shown, s.0), s.1)
+
+    beside_built : (right : Option LeftPiece) → IsBuilt (with_right z right) → IsBuilt (with_right closed right)
+    beside_built None s = built_closed
+    beside_built (Some r) s = (built_closed, s.1)
+
+    beside_local : (right : Option LeftPiece) → IsLocal (with_right z right) → IsLocal (with_right closed right)
+    beside_local None i = i
+    beside_local (Some r) i = i
+
+    beside_first : (right : Option LeftPiece) → first (with_right closed right) ≡ first (with_right z right)
+    beside_first None = refl
+    beside_first (Some r) = refl
+
+    above_closed : (ls : List LeftPiece) (right : Option LeftPiece) → IsAboveHead ls (with_right z right) → IsAboveHead ls (with_right closed right)
+    above_closed [] right h = tt
+    above_closed (m ∷ ms) None h = h
+    above_closed (m ∷ ms) (Some r) h = h
+
+    links_to : (right : Option LeftPiece) (i : Rec) → Links (with_right closed right) i → Links (with_right z right) i ⊎ (i ≡ a_node l.nodes)
+    links_to None i (inl e) = inr e
+    links_to None i (inr h) = inl h
+    links_to (Some r) i (inl (inl e)) = inr e
+    links_to (Some r) i (inl (inr h)) = inl (inl h)
+    links_to (Some r) i (inr h) = inl (inr h)
+
+    links_from : (right : Option LeftPiece) (i : Rec) → Links (with_right z right) i → Links (with_right closed right) i
+    links_from None i h = inr h
+    links_from (Some r) i (inl h) = inl (inr h)
+    links_from (Some r) i (inr h) = inr h
+
+    links_here : (right : Option LeftPiece) → Links (with_right closed right) (a_node l.nodes)
+    links_here None = inl refl
+    links_here (Some r) = inl (inl refl)
+
+    to : (i : Rec) → Links (whole_of ls (with_right closed right)) i → Links whole i ⊎ (i ≡ a_node l.nodes)
+    to i h = links_added (i ≡ a_node l.nodes) ls (with_right z right) (with_right closed right) i (links_to right i) h
+
+    pub holds_closed : HoldsTree l.layout new (Some (whole_of ls (with_right closed right)))
+    holds_closed = added addition (whole_of ls (with_right closed right)) to
+        (λ i h. links_kept ls (with_right z right) (with_right closed right) i (links_from right i) h)
+        (links_inner ls (with_right closed right) (a_node l.nodes) (links_here right))
+        (shown_joined heap ls (with_right z right) (with_right closed right) (beside_shown right) (still_shown addition whole (λ i h. h) (p.tree.table.shows whole refl)))
+
+    pub local_closed : IsLocal (whole_of ls (with_right closed right))
+    local_closed = local_joined ls (with_right z right) (with_right closed right) (beside_local right (local_inner ls (with_right z right) p.tree.ordered)) (beside_first right)
+        (above_closed ls right (above_head ls (with_right z right) p.tree.ordered)) p.tree.ordered
+
+    pub all_built : IsBuilt (whole_of ls (with_right closed right))
+    all_built = built_joined ls (with_right z right) (with_right closed right) (beside_built right) p.tree.built
+
+    pub taken_closed : (n : ℕ) → Links (whole_of ls (with_right closed right)) (a_node n) → n < l.nodes + 1
+    taken_closed n h = elim (to (a_node n) h) [ inl x ↦ (let low = p.tree.taken n x in omega (arith, low)) | inr e ↦ (let same = node_number e in omega (arith, same)) ]
+
+    -- the slots are those of the tree
+    pub slots_closed : (ss : List Slot) → ss ≡ front ++ (slot (position_of ls) (Node l.nodes v.height) ∷ right_slots right) → ss ≡ slots_of 0 (subtrie (whole_of ls (with_right closed right)))
+    slots_closed ss e = e ∙ sym (slots_split ls closed right)

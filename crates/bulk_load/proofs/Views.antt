@@ -1,0 +1,101 @@
+-- The leaves that the slots show are those of the tree.
+use Rattle.std.proofs.Common.{◌≡◌, ◌≢◌, ◌⊎◌, inl, inr, ℕ, ◌<◌, List, [], ◌∷◌, ◌++◌, Some, length, refl, ap, sym, subst, ◌∙◌, arith}
+use Rattle.std.proofs.lemmas.List.{append-nil, append_assoc}
+use Rattle.std.specs.declared.cmp.Ordering.TheVariants.{Less}
+use Rattle.compound_node.specs.declared.entries.Entry.{Entry}
+use Rattle.compound_node.specs.declared.entries.Entry.TheVariants.{Leaf, Node}
+use Rattle.finite_map.specs.Maps.{key_order}
+use Rattle.node_tries.specs.Piece.{Place}
+use Rattle.record_words.specs.declared.state.Tag.TheVariants.{Free}
+use Rattle.record_words.specs.State.{state_word}
+use Rattle.tries.specs.Content.{Item, items}
+use Rattle.tries.specs.Keys.{Key}
+use Rattle.tries.specs.Tree.{Tree, leaf, node, fork, subtrie, IsBuilt}
+use Rattle.record_words.specs.declared.records.Rec.TheVariants.{Leaf as a_leaf}
+use Rattle.versions.specs.Heap.{Heap, IsShown}
+use Rattle.versions.specs.State.{Links}
+use Rattle.versions.specs.Told.{items_of}
+use Rattle.versions.proofs.Heap.{leaf_number, leaf_node}
+use Rattle.versions.proofs.Core.{linked_cases}
+use Rattle.versions.proofs.Read.{read_exact}
+use Rattle.versions.proofs.Loads.{some_items}
+use Rattle.rowex_core.specs.Cores.{heap_of, fields_in}
+use Rattle.rowex_core.specs.Events.{tree_of}
+use Rattle.bulk_load.specs.declared.builder.Builder.{Builder}
+use Rattle.bulk_load.specs.declared.slots.Slot.{Slot}
+use Rattle.bulk_load.specs.Loading.{EndsInLeaf, IsEmpty, IsLoading, greatest_key, items_in, items_under}
+use Rattle.bulk_load.specs.Slots.{slot, slots_of}
+use Rattle.bulk_load.specs.Stacks.{whole_of}
+use Rattle.bulk_load.specs.Tables.{state_in}
+use Rattle.bulk_load.specs.Views.{IsAboveLast, IsTakenLeaf}
+
+under_append : (heap : Heap) (ss ts : List Slot) → items_under heap (ss ++ ts) ≡ items_under heap ss ++ items_under heap ts
+under_append heap [] ts = refl
+under_append heap (s ∷ ss) ts =
+    ap (λ xs. items_of (tree_of heap (Some s.entry)) ++ xs) (under_append heap ss ts) ∙
+    sym (append_assoc (items_of (tree_of heap (Some s.entry))) (items_under heap ss) (items_under heap ts))
+
+-- the one tree below an entry
+under_one : (heap : Heap) (p : ℕ) (e : Entry) (t : Tree) → IsBuilt t → IsShown heap t → subtrie t ≡ Place e → items_under heap (slot p e ∷ []) ≡ items t
+under_one heap p e t b s h = append-nil (items_of (tree_of heap (Some e))) ∙ ap items_of (read_exact heap e t b s h)
+
+pub under_slots : (heap : Heap) (p : ℕ) (t : Tree) → IsBuilt t → IsShown heap t → items_under heap (slots_of p (subtrie t)) ≡ items t
+under_slots heap p (leaf n k v) b s = under_one heap p (Leaf n) (leaf n k v) b s refl
+under_slots heap p (node n x c) b s = under_one heap p (Node n x.height) (node n x c) b s refl
+under_slots heap p (fork q a c) b s =
+    under_append heap (slots_of p (subtrie a)) (slots_of q (subtrie c)) ∙
+    (ap (λ xs. xs ++ items_under heap (slots_of q (subtrie c))) (under_slots heap p a b.0 s.0) ∙ ap (λ xs. items a ++ xs) (under_slots heap q c b.1 s.1))
+
+-- what the loader's words and slots show are the leaves that were taken
+pub items_are : (l : Builder) (xs : List Item) → IsLoading l xs → items_in l ≡ xs
+items_are l xs (c, inl e) = ap (items_under (heap_of (fields_in l.layout l.words.items))) e.no_slots ∙ sym e.none
+items_are l xs (c, inr r) =
+    let s = r.stack in let t = s.tree in let heap = heap_of (fields_in l.layout l.words.items) in
+    ap (items_under heap) t.slots_are ∙ (under_slots heap 0 (whole_of s.levels s.top) t.built (t.table.shows (whole_of s.levels s.top) refl) ∙ s.content)
+
+-- ---- leaf records that were taken
+taken_left : (n : ℕ) (xs ys : List Item) → IsTakenLeaf xs n → IsTakenLeaf (xs ++ ys) n
+taken_left n [] ys h = absurd h
+taken_left n (x ∷ xs) ys (inl e) = inl e
+taken_left n (x ∷ xs) ys (inr h) = inr (taken_left n xs ys h)
+
+taken_right : (n : ℕ) (xs ys : List Item) → IsTakenLeaf ys n → IsTakenLeaf (xs ++ ys) n
+taken_right n [] ys h = h
+taken_right n (x ∷ xs) ys h = inr (taken_right n xs ys h)
+
+taken_if_linked : (t : Tree) (n : ℕ) → Links t (a_leaf n) → IsTakenLeaf (items t) n
+taken_if_linked (leaf m k v) n e = inl (leaf_number e)
+taken_if_linked (node m x b) n (inl e) = absurd (leaf_node e)
+taken_if_linked (node m x b) n (inr h) = taken_if_linked b n h
+taken_if_linked (fork p a b) n (inl h) = taken_left n (items a) (items b) (taken_if_linked a n h)
+taken_if_linked (fork p a b) n (inr h) = taken_right n (items a) (items b) (taken_if_linked b n h)
+
+-- a record that is not free is in the tree
+pub taken_if_used : (l : Builder) (xs : List Item) (n : ℕ) → IsEmpty l xs ⊎ EndsInLeaf l xs → n < l.layout.leaves → state_in l.layout l.words.items (a_leaf n) ≢ state_word Free → IsTakenLeaf xs n
+taken_if_used l xs n (inl e) low used = absurd (used (e.table.free (a_leaf n) low (λ h. h)))
+taken_if_used l xs n (inr r) low used =
+    let t = whole_of r.stack.levels r.stack.top in
+    elim (linked_cases (Some t) (a_leaf n)) [
+      | inl h ↦ subst (λ ys. IsTakenLeaf ys n) r.stack.content (taken_if_linked t n h.0)
+      | inr h ↦ absurd (used (r.stack.tree.table.free (a_leaf n) low h.0))
+    ]
+
+-- ---- the last key
+above_append : (xs ys : List Item) (k : Key) → 0 < length ys → (IsAboveLast ys k → IsAboveLast (xs ++ ys) k) × (IsAboveLast (xs ++ ys) k → IsAboveLast ys k)
+above_append [] ys k h = (λ a. a, λ a. a)
+above_append (x ∷ []) [] k h = absurd (omega (arith, h))
+above_append (x ∷ []) (y ∷ ys) k h = (λ a. a, λ a. a)
+above_append (x ∷ (z ∷ zs)) ys k h = above_append (z ∷ zs) ys k h
+
+above_tree : (t : Tree) (k : Key) → (key_order (greatest_key t) k ≡ Less → IsAboveLast (items t) k) × (IsAboveLast (items t) k → key_order (greatest_key t) k ≡ Less)
+above_tree (leaf n m v) k = (λ a. a, λ a. a)
+above_tree (node n x b) k = above_tree b k
+above_tree (fork p a b) k =
+    let i = above_append (items a) (items b) k (some_items b) in let j = above_tree b k in
+    (λ h. i.0 (j.0 h), λ h. j.1 (i.1 h))
+
+-- a key is above the last leaf where it is above the last key
+pub above_last : (l : Builder) (xs : List Item) (k : Key) → EndsInLeaf l xs → (key_order l.last k ≡ Less → IsAboveLast xs k) × (IsAboveLast xs k → key_order l.last k ≡ Less)
+above_last l xs k r =
+    let s = r.stack in let both = above_tree (whole_of s.levels s.top) k in
+    (λ h. subst (λ ys. IsAboveLast ys k) s.content (both.0 (subst (λ m. key_order m k ≡ Less) s.last h)), λ h. subst (λ m. key_order m k ≡ Less) (sym s.last) (both.1 (subst (λ ys. IsAboveLast ys k) (sym s.content) h)))

@@ -1,0 +1,3 @@
+-- Lemmas about `src/builder.rt`.
+pub mod Opening
+pub mod Pushing

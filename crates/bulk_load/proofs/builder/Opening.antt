@@ -1,0 +1,39 @@
+-- The words of a new table hold no tree.
+use Rattle.std.proofs.Common.{◌≡◌, ℕ, ◌+◌, List, None, get_or, sym, ap, subst, ◌∙◌, arith}
+use Rattle.std.proofs.lemmas.Option.{none-some}
+use Rattle.record_words.specs.declared.layout.Layout.{Layout}
+use Rattle.record_words.specs.declared.layout.Location.TheVariants.{Epoch, Root, Anchor, Pin as PinOf, NodeWord, LeafWord}
+use Rattle.record_words.specs.declared.state.Tag.TheVariants.{Free}
+use Rattle.record_words.specs.Layout.{node_start, leaf_start}
+use Rattle.record_words.specs.State.{state_word}
+use Rattle.record_words.proofs.Locations.{size_fits}
+use Rattle.record_words.specs.declared.records.Rec.{Rec}
+use Rattle.record_words.specs.declared.records.Rec.TheVariants.{Node as a_node, Leaf as a_leaf}
+use Rattle.rowex_core.specs.Cores.{HasRecord}
+use Rattle.rowex_core.specs.Opening.{opening, opening_words}
+use Rattle.rowex_core.specs.Words.{Shows}
+use Rattle.rowex_core.proofs.Statements.Promises.{opening_is_lawful}
+use Rattle.bulk_load.specs.Tables.{HoldsTree, state_in}
+
+module _ (layout : Layout) (words : List ℕ) (is : words ≡ opening_words layout) where
+  shown : Shows (opening layout) words
+  shown = subst (Shows (opening layout)) (sym is) (opening_is_lawful layout).1
+
+  pub first_free : (r : Rec) → HasRecord layout r → state_in layout words r ≡ state_word Free
+  first_free (a_node n) has = ap (λ k. get_or words k 0) (let z : node_start layout n ≡ node_start layout n + 0 = omega arith in z) ∙ shown.each (NodeWord n 0) (has, omega arith)
+  first_free (a_leaf n) has = ap (λ k. get_or words k 0) (let z : leaf_start layout n ≡ leaf_start layout n + 0 = omega arith in z) ∙ shown.each (LeafWord n 0) (has, let fits = size_fits layout n in omega (arith, fits.0))
+
+  pub holds_none : HoldsTree layout words None
+  holds_none = record {
+    blank = record {
+      size = shown.size;
+      epoch = shown.each Epoch tt;
+      root = shown.each Root tt;
+      anchor = shown.each Anchor tt;
+      pins = λ q low. shown.each (PinOf q) low;
+    };
+    live = λ r h. absurd h;
+    free = λ r has no. first_free r has;
+    records = λ r h. absurd h;
+    shows = λ u e. absurd (none-some u e);
+  }

@@ -1,0 +1,146 @@
+-- A new leaf behind the last one.
+use Rattle.std.proofs.Common.{◌≡◌, ◌⊎◌, inl, inr, ℕ, ◌+◌, ◌*◌, ◌<◌, ◌≤◌, List, [], ◌∷◌, ◌++◌, Bool, true, false, Some, None, length, refl, ap, sym, subst, ◌∙◌, arith}
+use Rattle.std.proofs.lemmas.List.{append_assoc}
+use Rattle.std.proofs.lemmas.List.Elements.{All-push}
+use Rattle.std.specs.Prelude.{All}
+use Rattle.key_bits.specs.Bits.{bit_of, IsFirstDifference}
+use Rattle.compound_node.specs.declared.entries.Entry.TheVariants.{Leaf}
+use Rattle.record_words.specs.Layout.{leaf_size}
+use Rattle.record_words.specs.Leaf.{HasLeafWords, leaf_words, up_to_key, words_for}
+use Rattle.tries.specs.Keys.{Key, bit, IsParted}
+use Rattle.tries.specs.Content.{item, items, first, IsAbove, IsLocal}
+use Rattle.tries.specs.Tree.{Tree, leaf, node, fork, subtrie, Has, IsTrie, IsBuilt}
+use Rattle.tries.proofs.Content.{trie_if_local}
+use Rattle.tries.proofs.Tree.{has_first}
+use Rattle.record_words.specs.declared.records.Rec.{Rec}
+use Rattle.record_words.specs.declared.records.Rec.TheVariants.{Node as a_node, Leaf as a_leaf}
+use Rattle.versions.specs.Heap.{Heap}
+use Rattle.versions.specs.State.{Links}
+use Rattle.versions.proofs.Heap.{node_leaf}
+use Rattle.rowex_core.specs.Cores.{heap_of}
+use Rattle.rowex_core.specs.Reading.{IsPacked}
+use Rattle.rowex_core.proofs.Reading.Leafing.{leaf_is, leaf_size_is}
+use Rattle.bulk_load.specs.declared.builder.Builder.{Builder}
+use Rattle.bulk_load.specs.declared.builder.Part.{Part}
+use Rattle.bulk_load.specs.Loading.{greatest_key, IsLow, IsTreeOf}
+use Rattle.bulk_load.specs.Slots.{slot, slots_of}
+use Rattle.bulk_load.specs.Stacks.{LeftPiece, whole_of, position_of, front_slots}
+use Rattle.bulk_load.specs.Tables.{IsPut, HoldsTree, state_in}
+use Rattle.rowex_core.specs.Cores.{fields_in}
+use Rattle.bulk_load.proofs.Tables.Putting.{IsAddedTo, added, still_shown}
+use Rattle.bulk_load.proofs.Stacks.{fronts, items_joined, slots_joined, built_joined, shown_joined, links_inner, links_kept, links_added, local_inner, IsAboveHead, local_joined}
+
+pub has_last : (t : Tree) → Has t (greatest_key t)
+has_last (leaf n k v) = refl
+has_last (node n x b) = has_last b
+has_last (fork p a b) = inr (has_last b)
+
+-- the first and the last key of a tree agree up to a position before its forks
+ends_agree : (p : ℕ) (t : Tree) → IsTrie t → IsAbove p t → (q : ℕ) → q ≤ p → bit (first t) q ≡ bit (greatest_key t) q
+ends_agree p (leaf n k v) i a q l = refl
+ends_agree p (node n x b) i a q l = ends_agree p b i a q l
+ends_agree p (fork r a b) i h q l = i.2 (first a) (greatest_key b) (inl (has_first a)) (inr (has_last b)) q (omega (arith, h, l))
+
+-- what parts from its last key parts from its first one
+parted_first : (p : ℕ) (t : Tree) (k : Key) → IsTrie t → IsAbove p t → IsParted p (greatest_key t) k → IsParted p (first t) k
+parted_first p t k i a h =
+    (λ q l. ends_agree p t i a q (omega (arith, l)) ∙ h.0 q l, ends_agree p t i a p (omega arith) ∙ h.1, h.2)
+
+above_low : (ls : List LeftPiece) (p : ℕ) (a b : Tree) → (ls ≡ []) ⊎ (position_of ls < p) → IsAboveHead ls (fork p a b)
+above_low [] p a b h = tt
+above_low (l ∷ ls) p a b (inl e) = cc
+above_low (l ∷ ls) p a b (inr h) = h
+
+module _ (l : Builder) (ls : List LeftPiece) (top : Tree) (p n value : ℕ) (key : Key) (new : List ℕ) (t : IsTreeOf l (whole_of ls top)) (above : IsAbove p top)
+    (low : (ls ≡ []) ⊎ (position_of ls < p)) (parted : IsParted p (greatest_key top) key) (has : HasLeafWords (key, value)) (inside : n < l.layout.leaves)
+    (free : state_in l.layout l.words.items (a_leaf n) ≡ 0) (room : words_for (length key) ≤ leaf_size l.layout n)
+    (put : IsPut l.layout l.words.items new (a_leaf n)) (fields : leaf_words (key, value) ≡ up_to_key (fields_in l.layout new (a_leaf n))) where
+  abbrev grown : Tree
+  grown = fork p top (leaf n key value)
+
+  abbrev whole : Tree
+  whole = whole_of ls top
+
+  abbrev heap : Heap
+  heap = heap_of (fields_in l.layout new)
+
+  addition : IsAddedTo l.layout l.words.items new (Some whole) (a_leaf n)
+  unfolding IsPacked
+  addition = record {
+    holds = t.table;
+    has = inside;
+    unlinked = λ h. absurd (let live = t.table.live (a_leaf n) h in omega (arith, live, free));
+    put = put;
+    packed = ((key, value), has, fields);
+    fits = subst (λ m. words_for m ≤ leaf_size l.layout n) (sym (leaf_size_is (key, value) (fields_in l.layout new (a_leaf n)) fields)) room;
+  }
+
+  local_top : IsLocal top
+  local_top = local_inner ls top t.ordered
+
+  pub local_grown : IsLocal (whole_of ls grown)
+  local_grown = local_joined ls top grown (local_top, has.key, above, tt, parted_first p top key (trie_if_local top local_top) above parted) refl (above_low ls p top (leaf n key value) low) t.ordered
+
+  pub built_grown : IsBuilt (whole_of ls grown)
+  built_grown = built_joined ls top grown (λ b. (b, tt)) t.built
+
+  to : (i : Rec) → Links (whole_of ls grown) i → Links whole i ⊎ (i ≡ a_leaf n)
+  to i h = links_added (i ≡ a_leaf n) ls top grown i (λ g. elim g [ inl a ↦ inl a | inr e ↦ inr e ]) h
+
+  pub holds_grown : HoldsTree l.layout new (Some (whole_of ls grown))
+  holds_grown = added addition (whole_of ls grown) to (λ i h. links_kept ls top grown i (λ g. inl g) h) (links_inner ls grown (a_leaf n) (inr refl))
+      (shown_joined heap ls top grown (λ s. (s, leaf_is (key, value) (fields_in l.layout new (a_leaf n)) has fields)) (still_shown addition whole (λ i h. h) (t.table.shows whole refl)))
+
+  pub taken_grown : (i : ℕ) → Links (whole_of ls grown) (a_node i) → i < l.nodes
+  taken_grown i h = elim (to (a_node i) h) [ inl x ↦ t.taken i x | inr e ↦ absurd (node_leaf e) ]
+
+  pub slots_grown : l.slots.items ++ slot p (Leaf n) ∷ [] ≡ slots_of 0 (subtrie (whole_of ls grown))
+  slots_grown =
+      ap (λ ss. ss ++ slot p (Leaf n) ∷ []) (t.slots_are ∙ slots_joined ls top) ∙
+      (append_assoc (front_slots ls) (slots_of (position_of ls) (subtrie top)) (slot p (Leaf n) ∷ []) ∙ sym (slots_joined ls grown))
+
+  pub content_grown : items (whole_of ls grown) ≡ items whole ++ item n key value ∷ []
+  content_grown =
+      items_joined ls grown ∙ (sym (append_assoc (fronts ls) (items top) (items (leaf n key value))) ∙ ap (λ xs. xs ++ items (leaf n key value)) (sym (items_joined ls top)))
+
+-- ---- the first leaf
+module _ (l : Builder) (n value : ℕ) (key : Key) (new : List ℕ) (t : HoldsTree l.layout l.words.items None) (has : HasLeafWords (key, value)) (inside : n < l.layout.leaves)
+    (room : words_for (length key) ≤ leaf_size l.layout n)
+    (put : IsPut l.layout l.words.items new (a_leaf n)) (fields : leaf_words (key, value) ≡ up_to_key (fields_in l.layout new (a_leaf n))) where
+  first_addition : IsAddedTo l.layout l.words.items new None (a_leaf n)
+  unfolding IsPacked
+  first_addition = record {
+    holds = t;
+    has = inside;
+    unlinked = λ h. h;
+    put = put;
+    packed = ((key, value), has, fields);
+    fits = subst (λ m. words_for m ≤ leaf_size l.layout n) (sym (leaf_size_is (key, value) (fields_in l.layout new (a_leaf n)) fields)) room;
+  }
+
+  pub holds_first : HoldsTree l.layout new (Some (leaf n key value))
+  holds_first = added first_addition (leaf n key value) (λ i h. inr h) (λ i h. absurd h) refl (leaf_is (key, value) (fields_in l.layout new (a_leaf n)) has fields)
+
+pub no_node : (n i : ℕ) → a_node i ≡ a_leaf n → ⊥
+no_node n i e = node_leaf e
+
+-- the keys part where they first differ, if the second has 1 there
+pub parted_by : (p : ℕ) (a b : Key) → IsFirstDifference a b p → bit_of b p ≡ true → IsParted p a b
+unfolding bit
+parted_by p a b d h = (d.agree, go (bit_of a p) refl, h)
+  where
+    go : (v : Bool) → bit_of a p ≡ v → bit_of a p ≡ false
+    go true e = absurd (d.differ (e ∙ sym h))
+    go false e = e
+
+-- nodes are left for one leaf less, once that is taken
+pub nodes_grown : (n max parts slots parts_then slots_then : ℕ) → parts_then ≡ parts + 1 → slots_then ≡ slots + 1 →
+    (n + 2 * (parts + 1) ≤ max) ⊎ ((n + slots + 1 ≤ max) ⊎ ((n ≡ 0) × (slots + 1 ≤ 32) × (2 ≤ max))) →
+    (n + 2 * (parts_then + 0) ≤ max) ⊎ ((n + slots_then + 0 ≤ max) ⊎ ((n ≡ 0) × (slots_then + 0 ≤ 32) × (2 ≤ max)))
+nodes_grown n max parts slots parts_then slots_then p s (inl h) = inl (omega (arith, p, h))
+nodes_grown n max parts slots parts_then slots_then p s (inr (inl h)) = inr (inl (omega (arith, s, h)))
+nodes_grown n max parts slots parts_then slots_then p s (inr (inr h)) = inr (inr (h.0, omega (arith, s, h.1), h.2))
+
+-- a leaf more is a low piece
+pub low_grown : (ps : List Part) → All IsLow ps → All IsLow (ps ++ record { count = 1; height = 0 } ∷ [])
+low_grown ps h = All-push IsLow ps (record { count = 1; height = 0 }) h (omega arith, λ more. absurd (omega (arith, more)))

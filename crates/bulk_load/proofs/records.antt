@@ -1,0 +1,2 @@
+-- Lemmas about `src/records.rt`.
+pub mod Fields

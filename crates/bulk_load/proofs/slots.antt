@@ -1,0 +1,3 @@
+-- Lemmas about `src/slots.rt`.
+pub mod Slots
+pub mod Rows

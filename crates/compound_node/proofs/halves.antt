@@ -1,0 +1,2 @@
+-- Lemmas about `src/halves.rt`.
+pub mod Halves

@@ -1,0 +1,2 @@
+-- Lemmas about `src/heads.rt`.
+pub mod Ranges

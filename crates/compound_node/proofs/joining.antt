@@ -1,0 +1,3 @@
+-- Lemmas about `src/joining.rt`.
+pub mod Joining
+pub mod Widening

@@ -1,0 +1,3 @@
+-- Lemmas about `src/collection.rt`.
+pub mod Advancing
+pub mod Visiting

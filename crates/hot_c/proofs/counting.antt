@@ -1,0 +1,2 @@
+-- Lemmas about `src/counting.rt`.
+pub mod Counting

@@ -1,0 +1,2 @@
+-- Lemmas about `src/ends.rt`.
+pub mod Ends

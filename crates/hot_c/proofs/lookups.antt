@@ -1,0 +1,2 @@
+-- Lemmas about `src/lookups.rt`.
+pub mod Lookups

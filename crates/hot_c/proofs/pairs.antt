@@ -1,0 +1,2 @@
+-- Lemmas about `src/pairs.rt`.
+pub mod Pairs

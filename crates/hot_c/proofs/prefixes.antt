@@ -1,0 +1,2 @@
+-- Lemmas about `src/prefixes.rt`.
+pub mod Prefixes

@@ -1,0 +1,2 @@
+-- Lemmas about `src/sectioning.rt`.
+pub mod Sectioning

@@ -1,9 +1,0 @@
--- A slot may go to another thread: what it holds may.
-use denote.Param.Send.{IsSend, owning_send, sendable}
-use Rattle.slots.proofs.Sending.{content}
-use Rattle.hot_c.specs.contracts.opened.Opened.{the_row as opened_row}
-use Rattle.hot_c.proofs.opened.Opened.TheSendSync.{the_send as opened_send}
-use Rattle.hot_c.specs.contracts.slot.Slot.{the_row, the_type}
-
-pub send : IsSend the_row
-send = owning_send the_type (search sendable, tt) (λ s. content opened_row opened_send s.at s.opened) (λ k s w. tt)

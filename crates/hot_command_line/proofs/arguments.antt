@@ -1,0 +1,3 @@
+-- Lemmas about `src/arguments.rt`.
+pub mod Arguments
+pub mod Ranges

@@ -1,0 +1,2 @@
+-- Lemmas about `src/files.rt`.
+pub mod Files

@@ -1,0 +1,5 @@
+-- Lemmas about `src/held.rt`.
+pub mod Boxes
+pub mod Content
+pub mod Steps
+pub mod Words

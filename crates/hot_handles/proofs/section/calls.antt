@@ -1,0 +1,2 @@
+-- Lemmas about `src/section/calls.rt`.
+pub mod Kept

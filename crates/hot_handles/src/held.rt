@@ -1,0 +1,68 @@
+//! A value in a box of C's heap, or nothing, as one pointer.
+
+ghost use Rattle.std.specs.Prelude.{◌≡◌, Option as Maybe, None, Some, IsSome};
+ghost use Rattle.hot_handles.specs.Owning.{owns_held};
+
+use std::alloc::Global;
+use std::marker::Model;
+use std::mem::replace;
+use std::ptr::null_mut;
+
+/// What a cell holds: a value in a box of C's heap, or nothing. Dropping it doesn't drop the value.
+#[derive(Drop)]
+pub struct Held<T> {
+    pub(crate) at: *mut T,
+    pub ghost value: { Maybe T },
+}
+
+impl<T> Model for Held<T> {
+    ghost also_owns = { λ h. owns_held T.row h.at h.value };
+}
+
+impl<T> Held<T> {
+    /// Nothing.
+    fn empty() -> Held<T>
+        ensures { result.value ≡ None }
+    {
+        Held { at: null_mut() }
+    }
+
+    /// The box of the value. There is one.
+    fn into_box(self, alloc: Global) -> Box<T, Global>
+        requires { IsSome self.value }
+        ensures { self.value ≡ Some result.value }
+    {
+        let Held { at } = self;
+        unsafe { Box::from_raw(alloc, at) }
+    }
+
+    /// Takes the value out, in its box. There is one.
+    pub fn take(&mut self, alloc: Global) -> Box<T, Global>
+        requires { IsSome self.old.value }
+        ensures value { self.old.value ≡ Some result.value }
+        ensures gone { self.new.value ≡ None }
+    {
+        replace(self, Held::empty()).into_box(alloc)
+    }
+}
+
+impl<T: Drop> Held<T> {
+    /// What `boxed` held.
+    fn of(boxed: Box<T, Global>) -> Held<T>
+        ensures { result.value ≡ Some boxed.value }
+    {
+        Held {
+            at: Box::into_raw(boxed),
+        }
+    }
+
+    /// Puts the value of `boxed` in. There was none.
+    pub fn put(&mut self, boxed: Box<T, Global>)
+        requires { self.old.value ≡ None }
+        ensures { self.new.value ≡ Some boxed.value }
+    {
+        *self = Held::of(boxed);
+    }
+}
+
+unsafe impl<T: Send> Send for Held<T> {}

@@ -1,0 +1,123 @@
+//! How sections are opened, and the calls of an open one.
+
+ghost use Rattle.std.specs.Prelude.{◌≡◌, ◌<◌, [], IfErr, IfOk, MatchOption, false, true};
+ghost use Rattle.sections.specs.Runs.{IsHeld, IsPast};
+ghost use Rattle.sections.specs.Sections.{Enters, IsInside, IsSectionOf, Leaves, SeesOthers, TakesMoment};
+ghost use Rattle.hot_handles.specs.SectionHandles.{HasOpenedSection, KeepsSections, IsAsItWas};
+
+use crate::section::opened::OpenSection;
+use sections::{Section, Sections};
+use std::alloc::{AllocError, Global};
+use std::sync::Arc;
+
+/// A new table of `count` sections and one more, 1 to 65,535 in all. The box holds the first of them, and keeps the others. An error if
+/// memory is refused.
+pub fn make_keeper(alloc: Global, count: u16) -> Result<Box<OpenSection, Global>, AllocError>
+    requires { count < 65_535 }
+    ensures { IfOk result (λ made. KeepsSections count made.value) }
+{
+    let (sections, mut kept) = Sections::new(alloc, count + 1)?;
+    kept.reverse();
+    let Some(section) = kept.pop() else {
+        return Err(AllocError);
+    };
+    let sections = Arc::new(alloc, sections)?;
+    let apart = [0; 2];
+    Ok(Box::new(
+        alloc,
+        OpenSection {
+            sections,
+            section,
+            kept,
+            apart,
+        },
+    )?)
+}
+
+impl OpenSection {
+    /// Takes the last section out of `kept`, with a share of the table; `None` if none is kept. If memory is refused, an error, and all stay
+    /// kept.
+    pub fn open_next(
+        &mut self,
+        alloc: Global,
+    ) -> Result<Option<Box<OpenSection, Global>>, AllocError>
+        ensures opened { IfOk result (λ next. MatchOption next (self.old.kept.items ≡ [] × IsAsItWas self.old self.new)
+            (λ b. HasOpenedSection self.old self.new b.value)) }
+        ensures refused { IfErr result (λ _. IsAsItWas self.old self.new) }
+    {
+        let sections = Arc::try_clone(&self.sections)?;
+        let Some(section) = self.kept.pop() else {
+            return Ok(None);
+        };
+        match box_section(alloc, sections, section) {
+            Ok(opened) => Ok(Some(opened)),
+            Err(section) => {
+                self.kept.push(section)?;
+                Err(AllocError)
+            }
+        }
+    }
+
+    /// Whether the section is open.
+    pub fn is_inside(&self) -> bool
+        ensures inside { IsInside self.now.section → result ≡ true }
+        ensures outside { ¬ IsInside self.now.section → result ≡ false }
+    {
+        self.section.is_inside()
+    }
+
+    /// Enters the section, as `Sections::enter` does.
+    pub fn enter(&mut self) -> bool
+        ensures inside { IsInside self.old.section → (result ≡ false) × (self.new.section ≡ self.old.section) }
+        ensures entered { ¬ IsInside self.old.section → (result ≡ true) × Enters self.old.section self.new.section }
+        ensures keeps { (self.new.sections.value ≡ self.old.sections.value) × (self.new.kept.items ≡ self.old.kept.items) }
+    {
+        self.sections.enter(&mut self.section)
+    }
+
+    /// Leaves the section, as `Sections::leave` does.
+    pub fn leave(&mut self) -> bool
+        ensures outside { ¬ IsInside self.old.section → (result ≡ false) × (self.new.section ≡ self.old.section) }
+        ensures left { IsInside self.old.section → (result ≡ true) × Leaves self.old.section self.new.section }
+        ensures keeps { (self.new.sections.value ≡ self.old.sections.value) × (self.new.kept.items ≡ self.old.kept.items) }
+    {
+        self.sections.leave(&mut self.section)
+    }
+
+    /// Takes a moment and returns its number, as `Sections::take_moment` does.
+    pub fn take_moment(&mut self) -> u64
+        ensures taken { TakesMoment result self.old.section self.new.section }
+        ensures keeps { (self.new.sections.value ≡ self.old.sections.value) × (self.new.kept.items ≡ self.old.kept.items) }
+    {
+        self.sections.take_moment(&mut self.section)
+    }
+
+    /// Whether the moment of this number is past, as `Sections::is_past` tells.
+    pub fn is_past(&mut self, moment: u64) -> bool
+        ensures looks { SeesOthers self.old.section self.new.section }
+        ensures past { result ≡ true → IsPast moment self.new.section.known.run }
+        ensures held { result ≡ false → IsHeld moment self.new.section.known.run }
+        ensures keeps { (self.new.sections.value ≡ self.old.sections.value) × (self.new.kept.items ≡ self.old.kept.items) }
+    {
+        self.sections.is_past(&mut self.section, moment)
+    }
+}
+
+/// A box of `section` with a share of its table, which keeps no other. If memory is refused, the error is `section`.
+fn box_section(
+    alloc: Global,
+    sections: Arc<Sections, Global>,
+    section: Section,
+) -> Result<Box<OpenSection, Global>, Section>
+    requires { IsSectionOf sections.value section }
+    ensures opened { IfOk result (λ b. (b.value.sections.value ≡ sections.value) × (b.value.section ≡ section) × (b.value.kept.items ≡ [])) }
+    ensures refused { IfErr result (λ s. s ≡ section) }
+{
+    let opened = OpenSection {
+        sections,
+        section,
+        kept: Vec::new(alloc),
+        apart: [0; 2],
+    };
+    Box::new(alloc, opened).map_err(|refused| refused.value.section)
+}

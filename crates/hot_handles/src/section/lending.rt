@@ -1,0 +1,46 @@
+//! What a cell holds: lent for a call, taken out, put in.
+
+ghost use Rattle.std.specs.Prelude.{◌≡◌, None, Some, IsSome};
+ghost use Rattle.std.specs.Borrow.{sem};
+ghost use Rattle.hot_handles.specs.SectionLending.{held_section, LendsHeldSection, LendsSection};
+
+use crate::held::Held;
+use crate::section::cell::SectionCell;
+use crate::section::opened::OpenSection;
+use std::alloc::Global;
+
+impl SectionCell {
+    /// The cell as one whose type tells what it holds.
+    fn held(&mut self) -> &mut Held<OpenSection>
+        ensures* writes_back { sem 𝓛 (LendsHeldSection self.entry result) }
+        ensures value { result.now ≡ held_section self.old }
+    {
+        unsafe { &mut *(self as *mut SectionCell as *mut Held<OpenSection>) }
+    }
+
+    /// Lends what the cell holds, to be read and changed in its place. The cell isn't empty.
+    pub fn lend(&mut self) -> &mut OpenSection
+        requires { IsSome self.old.opened }
+        ensures* writes_back { sem 𝓛 (LendsSection self.entry result) }
+        ensures value { self.old.opened ≡ Some result.now }
+    {
+        self.held().lend()
+    }
+
+    /// Takes out what the cell holds. The cell isn't empty.
+    pub(crate) fn take(&mut self, alloc: Global) -> Box<OpenSection, Global>
+        requires { IsSome self.old.opened }
+        ensures value { self.old.opened ≡ Some result.value }
+        ensures gone { self.new.opened ≡ None }
+    {
+        self.held().take(alloc)
+    }
+
+    /// Puts in what `boxed` held. The cell is empty.
+    pub(crate) fn put(&mut self, boxed: Box<OpenSection, Global>)
+        requires { self.old.opened ≡ None }
+        ensures { self.new.opened ≡ Some boxed.value }
+    {
+        self.held().put(boxed);
+    }
+}

@@ -1,0 +1,2 @@
+-- Lemmas about `specs/KeyCounts`.
+pub mod Counted

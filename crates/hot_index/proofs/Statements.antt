@@ -1,0 +1,3 @@
+-- Lemmas about `specs/Statements`.
+pub mod Alone
+pub mod Held

@@ -1,0 +1,3 @@
+-- Lemmas about `src/key_counts.rt`.
+pub mod KeyCounts
+pub mod Nets

@@ -1,0 +1,3 @@
+-- Lemmas about `src/laws.rt`.
+pub mod Longs
+pub mod Spared

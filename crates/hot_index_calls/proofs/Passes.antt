@@ -1,0 +1,3 @@
+-- Lemmas about `specs/Passes`.
+pub mod Collected
+pub mod Settled

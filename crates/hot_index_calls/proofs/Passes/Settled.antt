@@ -1,0 +1,201 @@
+-- In a table with one pass a refused call has seen no change, so it has made none, and no record is retired after it. A count finds that.
+use Rattle.std.proofs.Common.{◌≡◌, ℕ, suc, ◌+◌, ◌<◌, ◌≤◌, List, [], ◌∷◌, ◌++◌, Bool, true, false, if◌then◌else◌, Option, Some, None, Result, Ok, Err, length, refl, sym, ap, subst, ◌∙◌, arith, length-append}
+use Rattle.std.specs.Prelude.{All, IfErr, count_by}
+use Rattle.std.proofs.lemmas.Bool.{false≢true}
+use Rattle.std.proofs.lemmas.List.Elements.{All-cons, All-nil}
+use Rattle.finite_map.specs.declared.Call.{Call}
+use Rattle.finite_map.specs.declared.Change.{Change}
+use Rattle.finite_map.specs.declared.Note.{Note}
+use Rattle.finite_map.specs.declared.Reply.{Reply}
+use Rattle.finite_map.specs.Calls.{LegalCalls, changes_of, own_changes}
+use Rattle.finite_map.proofs.Calls.Alone.{own_changes-all}
+use Rattle.record_words.specs.State.{state_word}
+use Rattle.record_words.specs.declared.layout.Layout.{Layout}
+use Rattle.record_words.specs.declared.records.Rec.{Rec}
+use Rattle.record_words.specs.declared.records.Rec.TheVariants.{Node as a_node, Leaf as a_leaf}
+use Rattle.record_words.specs.declared.state.Tag.{Tag}
+use Rattle.record_words.specs.declared.state.Tag.TheVariants.{Free as FreeTag, Held as HeldTag, Live, Locked, Obsolete}
+use Rattle.versions.specs.Core.{Fate, Free, Held, Ready, InTree, Unlinked, Marked}
+use Rattle.versions.specs.Trades.{IsOneOf}
+use Rattle.rowex_core.specs.declared.event.Act.{Act}
+use Rattle.rowex_core.specs.declared.event.Act.TheVariants.{ClearPin, Load, LoadState, Publish}
+use Rattle.rowex_core.specs.declared.event.Event.{Event}
+use Rattle.rowex_core.specs.declared.event.Spot.{Spot}
+use Rattle.rowex_core.specs.declared.known.Holding.{Holding}
+use Rattle.rowex_core.specs.declared.known.Holding.TheVariants.{Held as HeldBy, Ready as ReadyBy}
+use Rattle.rowex_core.specs.declared.known.Known.{Known}
+use Rattle.rowex_core.proofs.Sharing.Owning.{knows_all}
+use Rattle.rowex_core.specs.Cores.{Core, HasRecord, IsLawful, holder_of}
+use Rattle.rowex_core.specs.Events.{next_change}
+use Rattle.rowex_core.specs.Knowing.{IsEvent, Knows}
+use Rattle.rowex_core.specs.Sharing.{fate_of}
+use Rattle.rowex_core.specs.Words.{lock_of, tag_of}
+use Rattle.rowex_table.specs.Runs.{Runs, Steps, StepsWith, silent}
+use Rattle.rowex_table.specs.Seats.{SeatView, TableView}
+use Rattle.rowex_table.proofs.Made.ActsLeave.{act_leaves}
+use Rattle.rowex_writing.proofs.Cited.{act_front, runs_split}
+use Rattle.publish_laws.proofs.Lone.{one_of}
+use Rattle.rowex_writing.specs.declared.attempts.TryFault.{TryFault}
+use Rattle.rowex_writing.specs.declared.attempts.TryFault.TheVariants.{Busy, FullNodes, FullLeaves}
+use Rattle.publish_laws.specs.Lone.{IsUnpublished}
+use Rattle.hot_index_calls.specs.Answers.{IsRefusedFor, IsUnnoted}
+use Rattle.hot_index_calls.specs.Census.{FoundTags, counts_in, counts_of, is_held, is_obsolete, loads_in, loads_of}
+use Rattle.hot_index_calls.proofs.Counted.{count_first}
+use Rattle.hot_index_calls.specs.Passes.{AreByPasses, IsSettled, PassView, pass_of}
+use Rattle.hot_index_calls.specs.Refusals.{AreAllAtRest, AreAtRest}
+use Rattle.hot_index_calls.specs.Rooms.{HasNoneRetired, IsUnretired}
+use Rattle.hot_index_calls.specs.Traces.{HasEnded, is_full}
+use Rattle.hot_index_calls.proofs.Noting.{All-part, longer}
+use Rattle.hot_index_calls.proofs.Rooms.{runs_still, step_here, step_still}
+
+-- ---- what a refused call has seen
+-- with one pass each change is its own
+all_own : (layout : Layout) (q : ℕ) (front : List Change) → layout.passes ≡ 1 → q < layout.passes → AreByPasses layout front → own_changes q front ≡ front
+all_own layout q front one mine by = own_changes-all q front (λ i d low. (let its = by i d low in omega (arith, its, one, mine)))
+
+-- so a call that adds no note has seen no change
+pub none_seen : (layout : Layout) (k j : PassView) → layout.passes ≡ 1 → j.number < layout.passes → LegalCalls k.front k.number k.notes → IsUnnoted layout k j → j.front ≡ k.front
+none_seen layout k j one mine legal unnoted =
+    let own : own_changes j.number j.front ≡ own_changes k.number k.front =
+    unnoted.legal.own ∙ ap (changes_of j.number) unnoted.notes ∙ ap (λ q. changes_of q k.notes) unnoted.number ∙ sym legal.own in
+    let (more, grown) = unnoted.front in
+    let by : AreByPasses layout k.front = All-part (λ (x : Change). x.pass < layout.passes) k.front more (subst (AreByPasses layout) grown unnoted.makers) in
+    sym (all_own layout j.number j.front one mine unnoted.makers) ∙ own ∙ all_own layout k.number k.front one (subst (λ q. q < layout.passes) unnoted.number mine) by
+
+-- a call that was refused as full adds no note
+pub full_unnoted : (layout : Layout) (call : Call) (k j : PassView) (r : Result Reply TryFault) → is_full r ≡ true → IfErr r (IsRefusedFor layout call k j) → IsUnnoted layout k j
+full_unnoted layout call k j (Ok reply) full h = absurd (false≢true full)
+full_unnoted layout call k j (Err Busy) full h = absurd (false≢true full)
+full_unnoted layout call k j (Err FullNodes) full h = h.refused.unnoted
+full_unnoted layout call k j (Err FullLeaves) full h = h.refused.unnoted
+
+-- ---- steps that leave the front as it was
+-- a publish adds a change
+published_longer : (layout : Layout) (k j : Known) (spot : Spot) (w : ℕ) (said : Known → List Note) → IsEvent layout (Publish spot w) said k j → length k.front < length j.front
+published_longer layout k j spot w said e =
+    let f = e.knows.seen.front in
+    let x = next_change e.core k.pass spot w in
+    let now : length j.front ≡ length (e.core.changes ++ x ∷ []) = ap (λ (z : Known). length z.front) e.learned_is in
+    let was : length e.core.changes ≡ length (k.front ++ f.0) = ap (λ (z : List Change). length z) f.1 in
+    omega (arith, now, was, length-append e.core.changes (x ∷ []), length-append k.front f.0)
+
+module _ {G : Type 0} (table : TableView) (becomes : G → Event → G → Type 0) where
+  step_grows : (act : Act) (a b : SeatView × G) → StepsWith table becomes act silent a b → length a.0.known.front ≤ length b.0.known.front
+  step_grows act a b step = longer b.0.known.front a.0.known.front (act_front table.layout a.0.known b.0.known act step.event)
+
+  runs_grow : (acts : List Act) (a b : SeatView × G) → Runs table becomes acts a b → length a.0.known.front ≤ length b.0.known.front
+  runs_grow [] a b run = let same = ap (λ (z : SeatView × G). length z.0.known.front) run in omega (arith, same)
+  runs_grow (act ∷ acts) a b (m, step, rest) = let first = step_grows act a m step in let later = runs_grow acts m b rest in omega (arith, first, later)
+
+  is_plain : (act : Act) (a b : SeatView × G) → StepsWith table becomes act silent a b → length b.0.known.front ≤ length a.0.known.front → IsUnpublished act
+  is_plain (Publish spot w) a b step few = absurd (let more = published_longer table.layout a.0.known b.0.known spot w silent step.event in omega (arith, few, more))
+  is_plain (Load words) a b step few = absurd step.atomic
+  is_plain _ a b step few = tt
+
+  are_plain : (acts : List Act) (a b : SeatView × G) → Runs table becomes acts a b → length b.0.known.front ≤ length a.0.known.front → All IsUnpublished acts
+  are_plain [] a b run few = All-nil IsUnpublished
+  are_plain (act ∷ acts) a b (m, step, rest) few =
+      let first = step_grows act a m step in
+      let later = runs_grow acts m b rest in
+      All-cons IsUnpublished act acts (is_plain act a m step (omega (arith, few, later))) (are_plain acts m b rest (omega (arith, few, first)))
+
+  -- an attempt that has seen no change retires nothing
+  ended_still : {Are : List Act → Type 0} {said : Known → List Note} (a b : SeatView × G) → HasEnded table becomes Are said a b → b.0.known.front ≡ a.0.known.front → HasNoneRetired table.layout a.0 → HasNoneRetired table.layout b.0
+  ended_still {said = said} a b (acts, are, (m, run, last)) seen none x has =
+      let cleared : b.0.known.front ≡ m.0.known.front = ap (λ (z : Known). z.front) last.event.learned_is in
+      let few = ap (λ (z : List Change). length z) (sym cleared ∙ seen) in
+      step_still table becomes x ClearPin said m b tt last (runs_still table becomes x acts a m (are_plain acts a m run (omega (arith, few))) run (none x has))
+
+  -- so none is retired after a refused one, if none was before it
+  pub refused_still : {Are : List Act → Type 0} {said : Known → List Note} (a b : SeatView × G) → table.layout.passes ≡ 1 → IsSettled a.0.known → HasEnded table becomes Are said a b → IsUnnoted table.layout (pass_of a.0) (pass_of b.0) →
+      HasNoneRetired table.layout a.0 → HasNoneRetired table.layout b.0
+  refused_still a b one settled ended unnoted none =
+      let (acts, are, ends) = ended in
+      let (m, run, last) = ends in
+      let mine : b.0.known.pass < table.layout.passes =
+      (let low = last.event.knows.pass in let lay = ap (λ (l : Layout). l.passes) last.event.layout_is in let same = ap (λ (z : Known). z.pass) last.event.learned_is in omega (arith, low, lay, same)) in
+      ended_still a b ended (none_seen table.layout (pass_of a.0) (pass_of b.0) one mine settled.legal unnoted) none
+
+-- ---- a count
+none_first : (is : Tag → Bool) (tag : Tag) (tags : List Tag) → is tag ≡ false → count_by is tags ≡ 0 → count_by is (tag ∷ tags) ≡ 0
+none_first is tag tags not none = count_first is tag tags ∙ (ap (λ (t : Bool). (if t then 1 else 0) + count_by is tags) not ∙ omega (arith, none))
+
+-- the tag that stands for a fate, of a record that is neither claimed nor retired
+tag_at_rest : (tag : Tag) (lock : Option ℕ) (f : Fate) → IsUnretired f → holder_of f ≡ None → state_word tag ≡ state_word (tag_of lock f) → (is_held tag ≡ false) × (is_obsolete tag ≡ false)
+tag_at_rest FreeTag lock f still none same = (refl, refl)
+tag_at_rest Live lock f still none same = (refl, refl)
+tag_at_rest Locked lock f still none same = (refl, refl)
+tag_at_rest HeldTag lock Free still none same = absurd (omega (arith, same))
+tag_at_rest HeldTag None (InTree since) still none same = absurd (omega (arith, same))
+tag_at_rest HeldTag (Some q) (InTree since) still none same = absurd (omega (arith, same))
+tag_at_rest HeldTag lock (Held q) still none same = absurd cc
+tag_at_rest HeldTag lock (Ready q) still none same = absurd cc
+tag_at_rest HeldTag lock (Unlinked since last q) still none same = absurd still
+tag_at_rest HeldTag lock (Marked since last epoch) still none same = absurd still
+tag_at_rest (Obsolete e) lock Free still none same = absurd (omega (arith, same))
+tag_at_rest (Obsolete e) None (InTree since) still none same = absurd (omega (arith, same))
+tag_at_rest (Obsolete e) (Some q) (InTree since) still none same = absurd (omega (arith, same))
+tag_at_rest (Obsolete e) lock (Held q) still none same = absurd cc
+tag_at_rest (Obsolete e) lock (Ready q) still none same = absurd cc
+tag_at_rest (Obsolete e) lock (Unlinked since last q) still none same = absurd still
+tag_at_rest (Obsolete e) lock (Marked since last epoch) still none same = absurd still
+
+-- a record of a pass that is alone and has none is no pass's
+nobodys : (c : Core) (k : Known) (r : Rec) → IsLawful c → Knows c k → c.layout.passes ≡ 1 → k.own ≡ [] → IsUnretired (c.fate r) → holder_of (c.fate r) ≡ None
+nobodys c k r lawful knows one own still = of (c.fate r) refl still
+  where
+    alone : (p : ℕ) → holder_of (c.fate r) ≡ Some p → p ≡ k.pass
+    alone p is = let low = lawful.records.holders r p is in let mine = knows.pass in omega (arith, low, mine, one)
+
+    none : (h : Holding) → c.fate r ≡ fate_of k.pass h → ⊥
+    none h is = subst (IsOneOf (record { rec = r; holding = h; words = c.words r })) own (one_of k.own _ ((knows_all c k knows).all_own r h is))
+
+    of : (f : Fate) → c.fate r ≡ f → IsUnretired f → holder_of (c.fate r) ≡ None
+    of Free is h = ap holder_of is
+    of (Held p) is h = absurd (none HeldBy (is ∙ ap Held (alone p (ap holder_of is))))
+    of (Ready p) is h = absurd (none ReadyBy (is ∙ ap Ready (alone p (ap holder_of is))))
+    of (InTree since) is h = ap holder_of is
+    of (Unlinked since last p) is h = absurd h
+    of (Marked since last epoch) is h = absurd h
+
+module _ {G : Type 0} (table : TableView) (becomes : G → Event → G → Type 0) (one : table.layout.passes ≡ 1) where
+  -- the pass has no record, and none is retired: so after loads too
+  record IsAtRest (s : SeatView) : Type 0 where
+    pub own : s.known.own ≡ []
+    pub none : HasNoneRetired table.layout s
+
+  load_rests : (r : Rec) (word : ℕ) (a b : SeatView × G) → Steps table becomes (LoadState r word) a b → IsAtRest a.0 → IsAtRest b.0
+  load_rests r word a b step rest = record {
+    own = (act_leaves table.layout a.0.known b.0.known (LoadState r word) step.event).own tt ∙ rest.own;
+    none = λ x has. step_still table becomes x (LoadState r word) silent a b tt step (rest.none x has);
+  }
+
+  -- loads of some records find none claimed, and none retired
+  loads_rest : (kind : ℕ → Rec) (first : ℕ) (tags : List Tag) (a b : SeatView × G) → Runs table becomes (loads_of kind first tags) a b → IsAtRest a.0 → AreAtRest (counts_of tags) × IsAtRest b.0
+  loads_rest kind first [] a b run rest = (record { held = refl; obsolete = refl }, subst (λ (z : SeatView × G). IsAtRest z.0) (sym run) rest)
+  loads_rest kind first (tag ∷ tags) a b (m, step, more) rest =
+      let c = step.event.core in
+      let r = kind first in
+      let lone = step_here table becomes one (LoadState r (state_word tag)) a m step in
+      let still = rest.none r (subst (λ (l : Layout). HasRecord l r) step.event.layout_is step.event.legal.1.0) c lone in
+      let nobody = nobodys c a.0.known r step.event.lawful step.event.knows (ap (λ (l : Layout). l.passes) step.event.layout_is ∙ one) rest.own still in
+      let (held, obsolete) = tag_at_rest tag (lock_of c r) (c.fate r) still nobody step.event.legal.1.1 in
+      let (others, after) = loads_rest kind (suc first) tags m b more (load_rests r (state_word tag) a m step rest) in
+      (record { held = none_first is_held tag tags held others.held; obsolete = none_first is_obsolete tag tags obsolete others.obsolete }, after)
+
+  -- so a count of all finds none
+  pub counts_rest : (tags : FoundTags) (a b : SeatView × G) → Runs table becomes (loads_in table.layout tags) a b → a.0.known.own ≡ [] → HasNoneRetired table.layout a.0 → AreAllAtRest (counts_in table.layout tags)
+  counts_rest tags a b run own none =
+      let l = table.layout in
+      let (s5, run5, of_long) = runs_split table becomes (loads_of a_node 0 tags.nodes ++ loads_of a_leaf 0 tags.short ++ loads_of a_leaf l.medium_from tags.medium ++ loads_of a_leaf l.large_from tags.large ++ loads_of a_leaf l.wide_from tags.wide) (loads_of a_leaf l.long_from tags.long) a b run in
+      let (s4, run4, of_wide) = runs_split table becomes (loads_of a_node 0 tags.nodes ++ loads_of a_leaf 0 tags.short ++ loads_of a_leaf l.medium_from tags.medium ++ loads_of a_leaf l.large_from tags.large) (loads_of a_leaf l.wide_from tags.wide) a s5 run5 in
+      let (s3, run3, of_large) = runs_split table becomes (loads_of a_node 0 tags.nodes ++ loads_of a_leaf 0 tags.short ++ loads_of a_leaf l.medium_from tags.medium) (loads_of a_leaf l.large_from tags.large) a s4 run4 in
+      let (s2, run2, of_medium) = runs_split table becomes (loads_of a_node 0 tags.nodes ++ loads_of a_leaf 0 tags.short) (loads_of a_leaf l.medium_from tags.medium) a s3 run3 in
+      let (s1, of_nodes, of_short) = runs_split table becomes (loads_of a_node 0 tags.nodes) (loads_of a_leaf 0 tags.short) a s2 run2 in
+      let (nodes, r1) = loads_rest a_node 0 tags.nodes a s1 of_nodes (record { own = own; none = none }) in
+      let (short, r2) = loads_rest a_leaf 0 tags.short s1 s2 of_short r1 in
+      let (medium, r3) = loads_rest a_leaf l.medium_from tags.medium s2 s3 of_medium r2 in
+      let (large, r4) = loads_rest a_leaf l.large_from tags.large s3 s4 of_large r3 in
+      let (wide, r5) = loads_rest a_leaf l.wide_from tags.wide s4 s5 of_wide r4 in
+      let (long, r6) = loads_rest a_leaf l.long_from tags.long s5 b of_long r5 in
+      record { nodes = nodes; short = short; medium = medium; large = large; wide = wide; long = long }

@@ -1,0 +1,3 @@
+-- Lemmas about `src/changing.rt`.
+pub mod Conflicts
+pub mod Resting

@@ -1,0 +1,43 @@
+-- Calls that are alone: while they run no other pass makes a step.
+use Rattle.std.specs.Prelude.{◌≡◌, ◌≢◌, ℕ, List, [], ◌∷◌, ◌++◌, length, All, Some, None}
+use Rattle.record_words.specs.declared.layout.Layout.{Layout}
+use Rattle.record_words.specs.declared.records.Rec.{Rec}
+use Rattle.rowex_core.specs.declared.event.Event.{Event}
+use Rattle.rowex_core.specs.Cores.{Core, holder_of}
+use Rattle.rowex_core.specs.Opening.{opening}
+use Rattle.rowex_core.specs.Runs.{EventsLead}
+use Rattle.rowex_table.specs.Seats.{SeatView}
+use Rattle.rowex_table.specs.Traces.{OthersStepOn, RunBeginsWith}
+use Rattle.rowex_writing.specs.locks.Others.{HoldsLock, HasMetOther}
+
+-- In this core pass p has no lock, no record of its own, claimed or unlinked, and no pin.
+pub record HoldsNone (c : Core) (p : ℕ) : Type 0 where
+  pub locks : ¬ (HoldsLock c p)
+  pub own : (r : Rec) → holder_of (c.fate r) ≢ Some p
+  pub pin : c.pins p ≡ None
+
+-- A call of pass q, which led from the one view of its seat to the other, was alone. The steps `before` had been made when it began: no other
+-- pass held anything then. Those behind them are the pass's own.
+pub record RunsAlone (layout : Layout) (q : ℕ) (s t : SeatView) : Type 0 where
+  pub before : List Event
+  pub others : OthersStepOn q s.trace before
+  pub core : Core
+  pub led : EventsLead (opening layout) before core
+  pub none : (p : ℕ) → p ≢ q → HoldsNone core p
+  pub own : List Event
+  pub until : t.trace ≡ before ++ own
+  pub each : All (λ x. x.pass ≡ q) own
+
+-- In a call of pass q, which led from the one view of its seat to the other, another pass was in the way. The call had made its first step, and
+-- set its pin in the core `pinned`. From then on, at a moment, the other pass had a lock, or had made a change that is not among those of `pinned`.
+pub record HasBeenHindered (layout : Layout) (q : ℕ) (s t : SeatView) : Type 0 where
+  pub before : List Event
+  pub first : Event
+  pub own : first.pass ≡ q
+  pub behind : RunBeginsWith before s.trace
+  pub at : SeatView
+  pub pass : at.known.pass ≡ q
+  pub within : RunBeginsWith at.trace (before ++ first ∷ [])
+  pub pinned : Core
+  pub led : EventsLead (opening layout) at.trace pinned
+  pub met : HasMetOther layout (length pinned.changes) at t

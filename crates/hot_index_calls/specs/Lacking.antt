@@ -1,0 +1,34 @@
+-- What a call that was refused as full leaves in an index of one pass: each record that it lacked is in the tree, or retired.
+use Rattle.std.specs.Prelude.{◌≡◌, ℕ, ◌<◌, ◌≤◌, List, length, Contains, Result, Err}
+use Rattle.finite_map.specs.declared.Reply.{Reply}
+use Rattle.record_words.specs.Layout.{leaf_size}
+use Rattle.record_words.specs.Leaf.{words_for}
+use Rattle.record_words.specs.declared.layout.Layout.{Layout}
+use Rattle.record_words.specs.declared.records.Rec.{Rec}
+use Rattle.record_words.specs.declared.records.Rec.TheVariants.{Node as a_node, Leaf as a_leaf}
+use Rattle.tries.specs.Keys.{Key}
+use Rattle.versions.specs.Core.{Fate, InTree, Unlinked, Marked}
+use Rattle.rowex_core.specs.Cores.{Core}
+use Rattle.publish_laws.specs.Lone.{IsLone}
+use Rattle.rowex_table.specs.Seats.{SeatView}
+use Rattle.rowex_writing.specs.declared.attempts.TryFault.{TryFault}
+use Rattle.rowex_writing.specs.declared.attempts.TryFault.TheVariants.{FullLeaves, FullNodes}
+
+-- a record of this fate is in the tree, or retired
+abbrev pub IsUsed : Fate → Type 0
+IsUsed (InTree since) = Unit {0}
+IsUsed (Unlinked since last q) = Unit {0}
+IsUsed (Marked since last epoch) = Unit {0}
+IsUsed f = ⊥
+
+-- If the table has one pass, this record is so after the steps of which the pass knows.
+abbrev pub IsUsedAt : Layout → SeatView → Rec → Type 0
+IsUsedAt layout s r = (c : Core) → IsLone layout s c → IsUsed (c.fate r)
+
+-- In an index of one pass the records that a call lacked are so after it: the nodes but these, which were its own; or the leaf records with room for
+-- its key.
+pub record LeavesUsed (layout : Layout) (key : Key) (own : List Rec) (result : Result Reply TryFault) (t : SeatView) : Type 0 where
+  pub nodes : layout.passes ≡ 1 → result ≡ Err FullNodes → (n : ℕ) → n < layout.nodes → ¬ (Contains own (a_node n)) →
+      IsUsedAt layout t (a_node n)
+  pub leaves : layout.passes ≡ 1 → result ≡ Err FullLeaves → (n : ℕ) → n < layout.leaves → words_for (length key) ≤ leaf_size layout n →
+      IsUsedAt layout t (a_leaf n)

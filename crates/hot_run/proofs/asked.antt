@@ -1,0 +1,2 @@
+-- Lemmas about `src/asked.rt`.
+pub mod Asked

@@ -1,0 +1,2 @@
+-- Lemmas about `src/in_files.rt`.
+pub mod InFiles

@@ -1,0 +1,2 @@
+-- Lemmas about `src/line.rt`.
+pub mod Cuts

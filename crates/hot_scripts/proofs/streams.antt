@@ -1,0 +1,2 @@
+-- Lemmas about `src/streams.rt`.
+pub mod Streams

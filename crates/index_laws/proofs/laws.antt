@@ -1,0 +1,3 @@
+-- Lemmas about `src/laws.rt`.
+pub mod Finding
+pub mod Shown

@@ -1,0 +1,2 @@
+-- Lemmas about `specs/Statements`.
+pub mod Replies

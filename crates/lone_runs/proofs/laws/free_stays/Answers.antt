@@ -1,7 +1,0 @@
-use Rattle.std.proofs.Common.{subst}
-use Rattle.versions.specs.Trades.{IsOneOf}
-use Rattle.lone_runs.proofs.Lone.{runs_free}
-use Rattle.lone_runs.proofs.laws.free_stays.Goals as goal
-
-pub returns : goal.returns
-returns g c = λ table acts a b plain run none n free. runs_free table g.G.Gate.becomes acts a b n plain run (λ o has is. absurd (subst (IsOneOf o) none has)) free

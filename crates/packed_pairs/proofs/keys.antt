@@ -1,0 +1,2 @@
+-- Lemmas about `src/keys.rt`.
+pub mod Copying

@@ -1,0 +1,2 @@
+-- Lemmas about `src/gathering.rt`.
+pub mod Sliding

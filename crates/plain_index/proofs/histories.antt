@@ -1,0 +1,2 @@
+-- Lemmas about `src/histories.rt`.
+pub mod Histories

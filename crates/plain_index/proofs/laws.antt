@@ -1,0 +1,3 @@
+-- Lemmas about `src/laws.rt`.
+pub mod AtOnce
+pub mod Gets

@@ -1,0 +1,2 @@
+-- Lemmas about `src/plain.rt`.
+pub mod Inserting

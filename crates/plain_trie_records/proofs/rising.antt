@@ -1,0 +1,5 @@
+-- Lemmas about `src/rising.rt`.
+pub mod Rising
+pub mod Lifting
+pub mod Replacing
+pub mod Steady

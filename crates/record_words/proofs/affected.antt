@@ -1,0 +1,2 @@
+-- Lemmas about `src/affected.rt`.
+pub mod Affected

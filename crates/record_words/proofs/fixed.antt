@@ -1,0 +1,3 @@
+-- Lemmas about `src/fixed.rt`.
+pub mod Fixing
+pub mod Highs

@@ -1,0 +1,2 @@
+-- Lemmas about `src/leaf.rt`.
+pub mod Offsets

@@ -1,0 +1,2 @@
+-- Lemmas about `src/numbers.rt`.
+pub mod NearPositions

@@ -1,8 +1,0 @@
--- The columns so far.
-use Rattle.std.proofs.Common.{◌≡◌, length, take}
-use Rattle.record_words.specs.HeadParts.{AreNumbersOf}
-use Rattle.record_words.specs.Node.{InNodesOf}
-use Rattle.replay_trees.proofs.fixed.read_columns.Given as goal
-
-abbrev pub invariant-loop-column : goal.invariant-loop-column
-invariant-loop-column l = (length l.columns.items ≡ l.column) × InNodesOf l.words (λ node. AreNumbersOf l.numbers node → l.columns.items ≡ take l.column node.columns)

@@ -1,9 +1,0 @@
-//! The laws of trees that were read. The functions do nothing: their contracts are the laws.
-
-ghost use Rattle.replay_trees.specs.Statements.{LeavesAreOne};
-
-/// In a lawful core, let the words show a tree once any word is stored at the root or a slot. If a leaf of it and one of the newest version have the
-/// same number, they have the same key and value. `change_between` asks that of its lists.
-pub fn leaves_of_one_number_are_one()
-    ensures { LeavesAreOne }
-{}

@@ -1,0 +1,4 @@
+-- Lemmas about `specs/Possible`.
+pub mod Placing
+pub mod Rooting
+pub mod Shapes

@@ -1,0 +1,2 @@
+-- Lemmas about `src/descent.rt`.
+pub mod Descent

@@ -1,0 +1,2 @@
+-- Lemmas about `src/lookup.rt`.
+pub mod Lookup

@@ -1,0 +1,2 @@
+-- Lemmas about `src/together.rt`.
+pub mod Together

@@ -1,0 +1,2 @@
+-- Lemmas about `src/claiming.rt`.
+pub mod GivenUp

@@ -1,0 +1,3 @@
+-- Lemmas about `src/filling.rt`.
+pub mod Named
+pub mod SetAll

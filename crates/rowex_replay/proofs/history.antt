@@ -1,0 +1,2 @@
+-- Lemmas about `src/history.rt`.
+pub mod Walks

@@ -1,0 +1,2 @@
+-- Lemmas about `src/laws.rt`.
+pub mod Leaves

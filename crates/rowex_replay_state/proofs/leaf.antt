@@ -1,0 +1,3 @@
+-- Lemmas about `src/leaf.rt`.
+pub mod LeafBytes
+pub mod Readings

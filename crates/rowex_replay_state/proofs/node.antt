@@ -1,0 +1,5 @@
+-- Lemmas about `src/node.rt`.
+pub mod Entries
+pub mod Heads
+pub mod Nodes
+pub mod Small

@@ -1,0 +1,3 @@
+-- Lemmas about `src/state.rt`.
+pub mod Opening
+pub mod Retiring

@@ -1,0 +1,60 @@
+-- Which trees of a table's words are lawful versions, and what is told of one.
+use Rattle.std.specs.Prelude.{◌≡◌, ◌↔◌, ℕ, ◌<◌, List, [], length, map, slice_index_or, Option, Some, None, true, false}
+use Rattle.compound_node.specs.declared.entries.Entry.{Entry}
+use Rattle.tries.specs.Tree.{Tree, IsTrie, IsBuilt}
+use Rattle.tries.specs.Content.{Item}
+use Rattle.record_words.specs.declared.records.Rec.{Rec}
+use Rattle.record_words.specs.declared.records.Rec.TheVariants.{Node as a_node, Leaf as a_leaf}
+use Rattle.versions.specs.State.{IsTop, IsLinked}
+use Rattle.versions.specs.Told.{items_of}
+use Rattle.rowex_core.specs.Reading.{IsPacked}
+use Rattle.rowex_core.specs.Cores.{heap_of}
+use Rattle.rowex_core.specs.Events.{tree_of}
+use Rattle.rowex_replay_state.specs.declared.linked.Item.{Item as ReadItem}
+use Rattle.rowex_replay_state.specs.declared.linked.Linked.{Linked}
+
+-- of each node record and of each leaf record its words from offset 1 on
+pub record Table : Type 0 where
+  pub nodes : List (List ℕ)
+  pub leaves : List (List ℕ)
+
+-- the words of the records of the table are these
+pub record AreWordsOf (table : Table) (words : Rec → List ℕ) : Type 0 where
+  pub nodes_are : (n : ℕ) → n < length table.nodes → words (a_node n) ≡ slice_index_or table.nodes n []
+  pub leaves_are : (n : ℕ) → n < length table.leaves → words (a_leaf n) ≡ slice_index_or table.leaves n []
+
+-- the table has this record
+abbrev pub HasRecordIn : Table → Rec → Type 0
+HasRecordIn table (a_node n) = n < length table.nodes
+HasRecordIn table (a_leaf n) = n < length table.leaves
+
+-- the record is in the table, and its words spell a value
+abbrev pub IsSpelled : Table → (Rec → List ℕ) → Rec → Type 0
+IsSpelled table words r = HasRecordIn table r × IsPacked r (words r)
+
+-- The words show a lawful tree from this root, or none where the root is empty, and each record that it links is spelled.
+pub record IsVersion (table : Table) (words : Rec → List ℕ) (root : Option Entry) : Type 0 where
+  pub top : IsTop (heap_of words) root (tree_of (heap_of words) root)
+  pub tree : (t : Tree) → tree_of (heap_of words) root ≡ Some t → IsTrie t × IsBuilt t
+  pub spelled : (r : Rec) → IsLinked (tree_of (heap_of words) root) r → IsSpelled table words r
+
+-- a leaf that was read
+abbrev pub read_item : ReadItem → Item
+read_item x = record { number = x.number; key = x.key; value = x.value }
+
+-- What is told of a tree: its leaves in order, and of each record of the table whether the tree links it.
+pub record Tells (table : Table) (t : Option Tree) (linked : Linked) : Type 0 where
+  pub items_are : map read_item linked.items.items ≡ items_of t
+  pub all_nodes : length linked.nodes.items ≡ length table.nodes
+  pub all_leaves : length linked.leaves.items ≡ length table.leaves
+  pub nodes_are : (n : ℕ) → (slice_index_or linked.nodes.items n false ≡ true) ↔ IsLinked t (a_node n)
+  pub leaves_are : (n : ℕ) → (slice_index_or linked.leaves.items n false ≡ true) ↔ IsLinked t (a_leaf n)
+
+-- Something is told exactly of a lawful version.
+abbrev pub IsReadVersion : Table → (Rec → List ℕ) → Option Entry → Option Linked → Type 0
+IsReadVersion table words root None = ¬ (IsVersion table words root)
+IsReadVersion table words root (Some linked) = IsVersion table words root × Tells table (tree_of (heap_of words) root) linked
+
+-- So it is for all words that the records of the table may be part of.
+abbrev pub IsToldVersion : Table → Option Entry → Option Linked → Type 0
+IsToldVersion table root linked = (words : Rec → List ℕ) → AreWordsOf table words → IsReadVersion table words root linked

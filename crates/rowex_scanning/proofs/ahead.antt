@@ -1,0 +1,2 @@
+-- Lemmas about `src/ahead.rt`.
+pub mod Begins

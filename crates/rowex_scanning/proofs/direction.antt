@@ -1,0 +1,2 @@
+-- Lemmas about `src/direction.rt`.
+pub mod Directed

@@ -1,0 +1,2 @@
+-- Lemmas about `src/scan.rt`.
+pub mod Ordering

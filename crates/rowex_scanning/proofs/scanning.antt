@@ -1,0 +1,2 @@
+-- Lemmas about `src/scanning.rt`.
+pub mod Parts

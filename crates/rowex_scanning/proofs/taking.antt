@@ -1,0 +1,3 @@
+-- Lemmas about `src/taking.rt`.
+pub mod Passing
+pub mod Runs

@@ -1,0 +1,4 @@
+-- Lemmas about `specs/Made`.
+pub mod ActsAfter
+pub mod ActsBefore
+pub mod ActsLeave

@@ -1,0 +1,2 @@
+-- Lemmas about `src/stamping.rt`.
+pub mod Stamps

@@ -1,0 +1,2 @@
+-- Lemmas about `src/build/deeds.rt`.
+pub mod Deeds

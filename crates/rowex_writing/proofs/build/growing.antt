@@ -1,0 +1,2 @@
+-- Lemmas about `src/build/growing.rt`.
+pub mod Growing

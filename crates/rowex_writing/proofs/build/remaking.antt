@@ -1,0 +1,2 @@
+-- Lemmas about `src/build/remaking.rt`.
+pub mod Remaking

@@ -1,0 +1,3 @@
+-- Lemmas about `src/build/rising.rt`.
+pub mod Rising
+pub mod Raising

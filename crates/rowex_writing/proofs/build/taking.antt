@@ -1,0 +1,2 @@
+-- Lemmas about `src/build/taking.rt`.
+pub mod Taking

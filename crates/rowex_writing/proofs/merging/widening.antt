@@ -1,0 +1,2 @@
+-- Lemmas about `src/merging/widening.rt`.
+pub mod Widening

@@ -1,0 +1,2 @@
+-- Lemmas about `src/store/ending.rt`.
+pub mod Ending

@@ -1,0 +1,2 @@
+-- Lemmas about `src/store/publishing.rt`.
+pub mod Publishing

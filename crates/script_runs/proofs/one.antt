@@ -1,0 +1,2 @@
+-- Lemmas about `src/one.rt`.
+pub mod Alone

@@ -1,2 +1,0 @@
--- The lemmas of the crate.
-pub mod Kept

@@ -1,3 +1,0 @@
--- The definitions of the crate.
-pub mod Lending
-pub mod Handles

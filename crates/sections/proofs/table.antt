@@ -1,0 +1,3 @@
+-- Lemmas about `src/table.rt`.
+pub mod Entries
+pub mod Seats

@@ -1,3 +1,0 @@
--- The definitions of the crate.
-pub mod Owning
-pub mod Lending
