@@ -7,12 +7,13 @@ import argparse
 import csv
 import statistics
 import sys
+from datetime import datetime
 from pathlib import Path
 
 from table import LINES, Column, origin
 
-# What is told of where and when, before the columns of each CSV.
-ORIGIN = ["date", "processor", "compiler", "commit"]
+# What is told of where and when, before the columns of each CSV; a run is told from others of its day by the time at its end.
+ORIGIN = ["date", "processor", "compiler", "commit", "run"]
 
 # The columns of both.
 CALLS = ["keys", "count", "call", "map", "ns"]
@@ -64,7 +65,7 @@ class Measured:
 
 def write(file: Path, columns: list, rows: list) -> None:
     """Writes a CSV."""
-    begins = origin()
+    begins = [*origin(), f"{datetime.now():%H:%M}"]
     with open(file, "w", newline="") as opened:
         written = csv.writer(opened, lineterminator="\n")
         written.writerow([*ORIGIN, *columns])
