@@ -1,5 +1,5 @@
-/* What the tests in C and C++ share: CHECK, which says where something is not so and goes on, keys written as text, and a limit of
- * addresses. */
+/* What the tests in C and C++ share: CHECK, which says where something is not so, the first few times, and goes on, keys written as text, and a
+ * limit of addresses. */
 #ifndef CHECK_H
 #define CHECK_H
 
@@ -10,13 +10,19 @@
 /* 1 once something was not so; a test's exit status. */
 static int failures;
 
+/* Says that something is not so: a few times, since what comes first tells most. */
+static inline void not_so(const char *file, int line, const char *what) {
+    static int times;
+    __atomic_store_n(&failures, 1, __ATOMIC_SEQ_CST);
+    if (__atomic_fetch_add(&times, 1, __ATOMIC_SEQ_CST) < 8)
+        fprintf(stderr, "%s:%d: not so: %s\n", file, line, what);
+}
+
 /* Its argument may have commas, as C++ has between braces. */
-#define CHECK(...)                                                                 \
-    do {                                                                           \
-        if (!(__VA_ARGS__)) {                                                      \
-            fprintf(stderr, "%s:%d: not so: %s\n", __FILE__, __LINE__, #__VA_ARGS__); \
-            __atomic_store_n(&failures, 1, __ATOMIC_SEQ_CST);                      \
-        }                                                                          \
+#define CHECK(...)                                    \
+    do {                                              \
+        if (!(__VA_ARGS__))                           \
+            not_so(__FILE__, __LINE__, #__VA_ARGS__); \
     } while (0)
 
 static inline const uint8_t *bytes(const char *text) {

@@ -219,10 +219,13 @@ static void fork_readers(worker *me) {
     for (times = 0; times < 20; times++) {
         pid_t child = fork();
         if (child == 0) {
+            failures = 0;
             read_and_try(me);
             _exit(failures);
         }
-        CHECK(child > 0 && waitpid(child, &status, 0) == child && status == 0);
+        CHECK(child > 0 && waitpid(child, &status, 0) == child);
+        CHECK(!WIFSIGNALED(status));
+        CHECK(WIFSIGNALED(status) || status == 0);
     }
 }
 
