@@ -37,7 +37,8 @@
  *
  * Forks. The child of a fork has an index of its own, as it was then. If other threads were in calls, the child only looks up, scans and
  * counts, through a handle of which no call was under way. All else may find a change in its way whose thread the child hasn't: hot_try_insert
- * and the like then return HOT_BUSY or HOT_HELD_BACK, and calls that wait never return.
+ * and the like then return HOT_BUSY or HOT_HELD_BACK, and calls that wait never return. Scans and hot_get_many may ask malloc for memory. So
+ * malloc has to work in such a child, as glibc's does; AddressSanitizer's may hang there.
  *
  * A call fails only by its status. None waits for another, except hot_insert, hot_upsert, hot_exchange, hot_remove, hot_remove_if and
  * hot_add; hot_copy, hot_clear, hot_clear_range, hot_pop_first and hot_pop_last, which make such calls; hot_open and hot_stamp, for each
