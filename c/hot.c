@@ -534,30 +534,24 @@ void hot_stats(const hot_index *index, hot_refusals *stats) {
     }
 }
 
-/* For so many keys at most a handle keeps room, of so many bytes for each. */
-enum { FOR_A_KEY = 272, MOST_KEPT_KEYS = 256 };
-
-/* The bytes of an index without its table and long lists, if so many handles have been opened, and keep so many for keys that are looked up by
- * one call. */
-static size_t bytes_beside_table(const hot_index *index, size_t opened, size_t kept) {
+/* The bytes of an index without its table and long lists, if so many handles have been opened. */
+static size_t bytes_beside_table(const hot_index *index, size_t opened) {
     enum { SECTION = 128 };
-    return sizeof *index + index->count * (sizeof *index->places + SECTION) + opened * (index->holds.lists + index->holds.scanned) + kept;
+    return sizeof *index + index->count * (sizeof *index->places + SECTION) + opened * (index->holds.lists + index->holds.scanned);
 }
 
 void hot_bytes(const hot_index *index, hot_memory *bytes) {
     const heap_pieces *pieces = &index->holds.pieces;
     const heap_lists *lists = &index->holds.long_lists;
     uint32_t *filling = (uint32_t *)&index->filling;
-    size_t place, opened = 1, kept = 0;
-    for (place = 0; place < index->count; place++) {
+    size_t place, opened = 1;
+    for (place = 0; place < index->count; place++)
         opened += __atomic_load_n(&index->places[place].state, __ATOMIC_SEQ_CST) != UNOPENED;
-        kept += __atomic_load_n(&index->places[place].room_size, __ATOMIC_RELAXED);
-    }
     opened = opened < index->count ? opened : index->count;
     if (index->grower != NULL)
         lock_word(filling);
-    bytes->most = index->holds.table + lists->size + bytes_beside_table(index, index->count, index->count * MOST_KEPT_KEYS * FOR_A_KEY);
-    bytes->now = (pieces->table == NULL ? index->holds.table : heap_held(pieces, index->holds.table)) + bytes_beside_table(index, opened, kept) +
+    bytes->most = index->holds.table + lists->size + bytes_beside_table(index, index->count);
+    bytes->now = (pieces->table == NULL ? index->holds.table : heap_held(pieces, index->holds.table)) + bytes_beside_table(index, opened) +
                  heap_held_lists(lists);
     if (index->grower != NULL)
         unlock_word(filling);
@@ -585,39 +579,36 @@ void hot_stock_for_lengths(const uint32_t *keys, hot_stock *stock) {
     stock->long_leaves = each[4].long_leaves;
 }
 
-/* Has a handle's room take so many keys, and what is found, unless they are many: those of such a call have memory of their own. Returns
- * whether memory was refused. */
-static int lacks_room(hot_place *place, size_t count) {
-    size_t size = count * FOR_A_KEY;
-    void *room;
-    if (count > MOST_KEPT_KEYS || size <= place->room_size)
-        return 0;
-    room = malloc(size);
-    if (room == NULL)
-        return 1;
-    free(place->room);
-    place->room = room;
-    __atomic_store_n(&place->room_size, size, __ATOMIC_RELAXED);
-    return 0;
-}
+/* One call of the proved library looks up so many keys at most, which, with what is found, take so many bytes each. */
+enum { KEYS_AT_ONCE = 64, FOR_A_KEY = 272 };
 
-hot_status hot_get_many(hot_handle *handle, hot_lookup *lookups, size_t count) {
-    uint16_t number;
-    hot_status status = hot_number(handle, &number);
-    if (status != HOT_DONE)
-        return status;
-    if (lacks_room(handle->place, count))
-        return HOT_NO_MEMORY;
-    heap_lend(handle->place->room, handle->place->room_size);
+/* Looks up a few keys, with room on the stack: it asks for no memory. */
+static hot_status get_few(hot_handle *handle, hot_lookup *lookups, size_t count) {
+    __attribute__((aligned(16))) char room[KEYS_AT_ONCE * FOR_A_KEY];
+    hot_status status;
+    heap_lend(room, sizeof room);
     status = looked(handle, proved_get_many(look(handle), lookups, count));
     heap_take_back();
     return status;
 }
 
+hot_status hot_get_many(hot_handle *handle, hot_lookup *lookups, size_t count) {
+    uint16_t number;
+    size_t first, size;
+    hot_status status = hot_number(handle, &number);
+    for (first = 0; status == HOT_DONE && first < count; first++)
+        if (lookups[first].length > HOT_MAX_KEY)
+            status = HOT_KEY_TOO_LONG;
+    for (first = 0; status == HOT_DONE && first < count; first += size) {
+        size = count - first < KEYS_AT_ONCE ? count - first : KEYS_AT_ONCE;
+        status = get_few(handle, lookups + first, size);
+    }
+    return status;
+}
+
 hot_status hot_get_packed(hot_handle *handle, const uint8_t *bytes, const size_t *lengths, size_t count, uint64_t *values,
                           hot_status *statuses) {
-    enum { PART = 64 };
-    hot_lookup lookups[PART];
+    hot_lookup lookups[KEYS_AT_ONCE];
     uint16_t number;
     size_t first, place, size;
     hot_status status = hot_number(handle, &number);
@@ -625,7 +616,7 @@ hot_status hot_get_packed(hot_handle *handle, const uint8_t *bytes, const size_t
         if (lengths[place] > HOT_MAX_KEY)
             status = HOT_KEY_TOO_LONG;
     for (first = 0; status == HOT_DONE && first < count; first += size) {
-        size = count - first < PART ? count - first : PART;
+        size = count - first < KEYS_AT_ONCE ? count - first : KEYS_AT_ONCE;
         for (place = 0; place < size; place++) {
             lookups[place].key = bytes;
             lookups[place].length = lengths[first + place];
@@ -650,10 +641,8 @@ void free_index(hot_index *index) {
     size_t place;
     if (index->grower != NULL)
         free_grower(index->grower);
-    for (place = 0; place < index->count; place++) {
+    for (place = 0; place < index->count; place++)
         proved_close_section(&index->places[place].section);
-        free(index->places[place].room);
-    }
     proved_close_section(&index->next);
     proved_close_section(&index->sections);
     if (index->grower == NULL)

@@ -37,8 +37,8 @@
  *
  * Forks. The child of a fork has an index of its own, as it was then. If other threads were in calls, the child only looks up, scans and
  * counts, through a handle of which no call was under way. All else may find a change in its way whose thread the child hasn't: hot_try_insert
- * and the like then return HOT_BUSY or HOT_HELD_BACK, and calls that wait never return. Scans and hot_get_many may ask malloc for memory. So
- * malloc has to work in such a child, as glibc's does; AddressSanitizer's may hang there.
+ * and the like then return HOT_BUSY or HOT_HELD_BACK, and calls that wait never return. Scans may ask malloc for memory. So it has to work
+ * in such a child, as glibc's does; AddressSanitizer's may hang there.
  *
  * A call fails only by its status. None waits for another, except hot_insert, hot_upsert, hot_exchange, hot_remove, hot_remove_if and
  * hot_add; hot_copy, hot_clear, hot_clear_range, hot_pop_first and hot_pop_last, which make such calls; hot_open and hot_stamp, for each
@@ -61,8 +61,7 @@
  * comes from malloc, and an index takes all of it at once.
  *
  * Each handle has memory for the pairs of its scans, too, which the next scan uses again. After a scan it goes if the keys have more than
- * 32 KiB of it, or the rest has. So a handle keeps 64 KiB of it at most between its calls. After a hot_get_many of up to 256 keys it keeps
- * 272 bytes for each, too, and the next one for no more keys asks for no memory.
+ * 32 KiB of it, or the rest has. So a handle keeps 64 KiB of it at most between its calls.
  *
  * The library starts no threads and keeps no data outside its indexes. It needs Linux, and an x86-64 processor of the level for which it
  * was compiled: x86-64-v3, which has AVX2, unless the machine that compiled it had not, or x86-64-v2 was asked for. On an older one
@@ -359,15 +358,15 @@ typedef struct hot_lookup {
 } hot_lookup;
 
 /* Looks up each of `count` keys once, and writes to its place what was found: a status, and the value if there is one. Each was so at
- * a moment of its own within the call, in no stated order among the keys. It makes at most 4 steps, 32 for each key, and 26 for
- * each node on the way to a key; there are at most 2160 such nodes for each. Records that other calls retire meanwhile can't
- * be used again until the call ends: so pass some hundred keys at a time, and not millions.
- * HOT_DONE; or HOT_KEY_TOO_LONG if any key is, HOT_CLOSED, HOT_NO_MEMORY, and then nothing was written. */
+ * a moment of its own within the call, in no stated order among the keys. It makes at most 4 steps for each 64 keys, 32 for each key,
+ * and 26 for each node on the way to a key; there are at most 2160 such nodes for each. It asks for no memory. Records that
+ * other calls retire meanwhile can't be used again until 64 keys have been looked up.
+ * HOT_DONE; or HOT_KEY_TOO_LONG if any key is, HOT_CLOSED, and then nothing was written. */
 hot_status hot_get_many(hot_handle *handle, hot_lookup *lookups, size_t count);
 
 /* hot_get_many of keys that lie one after another in `bytes`, each of so many bytes as `lengths` says: writes a value, if there is one,
- * and a status for each. It makes a hot_get_many for each 64 keys.
- * HOT_DONE; or HOT_KEY_TOO_LONG if any key is, and then nothing was written; or HOT_CLOSED, HOT_NO_MEMORY, and then the rest was not. */
+ * and a status for each.
+ * HOT_DONE; or HOT_KEY_TOO_LONG if any key is, HOT_CLOSED, and then nothing was written. */
 hot_status hot_get_packed(hot_handle *handle, const uint8_t *bytes, const size_t *lengths, size_t count, uint64_t *values,
                           hot_status *statuses);
 

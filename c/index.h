@@ -110,8 +110,6 @@ typedef struct hot_place {
     section_handle section;   /* from when the handle is first opened */
     uint64_t keys;            /* how many keys its calls have put in, less those that they have taken out */
     hot_refusals refusals;    /* of its calls */
-    void *room;               /* for keys that are looked up by one call; NULL before the first such call */
-    size_t room_size;         /* in bytes */
     uint32_t looks_at;        /* the keys, modulo 2 to the power of 32, at which it looks next whether a piece of the table has filled */
     uint32_t state;
 } hot_place;

@@ -254,27 +254,26 @@ static void test_kept(void) {
     CHECK(most > 48 << 10);
 }
 
-/* Once a handle has looked up 256 keys by one call, no call for so many asks for memory. One for twice as many gives all of it back. */
+/* Calls that look up many keys ask for no memory. */
 static void test_looked_up(void) {
-    enum { MANY = 256 };
-    static hot_lookup lookups[2 * MANY];
+    enum { MANY = 300 };
+    static hot_lookup lookups[MANY];
     hot_handle handle = HOT_HANDLE;
-    size_t place, count, before, kept;
+    size_t count;
     long first;
     CHECK(hot_create_with(&stock, &handle, 1) == HOT_DONE && hot_upsert(&handle, (const uint8_t *)"key", 3, 7, NULL) == HOT_NEW);
-    for (place = 0; place < 2 * MANY; place++) {
-        lookups[place].key = (const uint8_t *)"key";
-        lookups[place].length = 3;
+    for (count = 0; count < MANY; count++) {
+        lookups[count].key = (const uint8_t *)"key";
+        lookups[count].length = 3;
     }
-    before = in_use;
-    CHECK(hot_get_many(&handle, lookups, MANY) == HOT_DONE && in_use - before <= MANY * 280);
-    kept = in_use;
     first = asked;
-    for (count = 0; count <= MANY; count++)
-        CHECK(hot_get_many(&handle, lookups, count) == HOT_DONE && (count == 0 || lookups[count - 1].value == 7));
-    CHECK(asked == first && in_use == kept);
-    CHECK(hot_get_many(&handle, lookups, 2 * MANY) == HOT_DONE && lookups[2 * MANY - 1].value == 7);
-    CHECK(asked > first && in_use == kept);
+    for (count = 0; count < MANY; count++) {
+        lookups[count].value = 0;
+        CHECK(hot_get_many(&handle, lookups, count) == HOT_DONE && (count == 0 || lookups[count - 1].value == 7) && lookups[count].value == 0);
+    }
+    lookups[MANY - 1].length = HOT_MAX_KEY + 1;
+    lookups[0].value = 0;
+    CHECK(hot_get_many(&handle, lookups, MANY) == HOT_KEY_TOO_LONG && lookups[0].value == 0 && asked == first);
     CHECK(hot_close(&handle) == HOT_DONE && in_use == 0);
 }
 
@@ -529,9 +528,7 @@ static int test_refused(const hot_stock *asks, long number) {
     for (; (status = hot_scan(&handles[0], (const uint8_t *)"", 0, HOT_TO_END, pairs, 3, &count, &more)) == HOT_NO_MEMORY; tries++)
         ;
     CHECK(status == HOT_DONE && count == 3 && pairs[2].value == 2 && !more);
-    for (; (status = hot_get_many(&handles[1], &lookup, 1)) == HOT_NO_MEMORY; tries++)
-        CHECK(lookup.status == HOT_ABSENT);
-    CHECK(status == HOT_DONE && lookup.status == HOT_FOUND && lookup.value == 2);
+    CHECK(hot_get_many(&handles[1], &lookup, 1) == HOT_DONE && lookup.status == HOT_FOUND && lookup.value == 2);
     CHECK(hot_len(&handles[1], &count) == HOT_DONE && count == 3);
     for (place = 0; place < 3; place++)
         CHECK(hot_close(&handles[place]) == HOT_DONE);
