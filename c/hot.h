@@ -179,10 +179,11 @@ typedef struct hot_stock {
 hot_status hot_create_with(const hot_stock *stock, hot_handle *handles, size_t count);
 
 /* Writes a stock for `keys` keys of at most `longest` bytes each. It has 4 leaves for 3 keys, of the smallest size with room for such a
- * key, one node for 3 keys, and of both 10 and one for 16 keys to spare, 512 at most. Take the most keys that there will ever be: what isn't used
- * takes no memory, only time when the table is made. That was enough for random keys, URLs, numbers, also with few bits set, and text with a
- * rising number, also where keys came and went for long. If several threads change the index, take 256 keys for each at least, for eight at
- * most. Keys that somebody chose to do harm may take up to one node each: hot_stock_for_any_keys has room for them. */
+ * key, one node for 3 keys, and to spare of both one up to 32 keys, and for more 10 and one for 16 keys, 512 at most. Take the most keys that
+ * there will ever be: what isn't used takes no memory, only time when the table is made. That was enough for random keys, URLs, numbers, also
+ * with few bits set, and text with a rising number, also where keys came and went for long; and up to 32 keys, which stand in one node, for
+ * all that were tried. If several threads change the index, take 256 keys for each at least, for eight at most. Keys that somebody chose to do
+ * harm may take up to one node each: hot_stock_for_any_keys has room for them. */
 void hot_stock_for_keys(uint32_t keys, size_t longest, hot_stock *stock);
 
 /* Writes a stock that is always enough for `keys` keys of at most `longest` bytes each, whatever they are, in an index of so many handles: a

@@ -164,20 +164,20 @@ static void test_stock_sizes(void) {
     hot_stock stock;
     size_t size = 7;
     hot_stock_for_keys(7, 8, &stock);
-    CHECK(stock.nodes == 12 && stock.short_leaves == 19 && !stock.medium_leaves && !stock.large_leaves);
-    CHECK(hot_stock_bytes(&stock, 1, &size) == HOT_DONE && size == 7152);
-    CHECK(hot_stock_bytes(&stock, MANY + 1, &size) == HOT_OUT_OF_RANGE && size == 7152);
+    CHECK(stock.nodes == 3 && stock.short_leaves == 10 && !stock.medium_leaves && !stock.large_leaves);
+    CHECK(hot_stock_bytes(&stock, 1, &size) == HOT_DONE && size == 2688);
+    CHECK(hot_stock_bytes(&stock, MANY + 1, &size) == HOT_OUT_OF_RANGE && size == 2688);
     CHECK(hot_create_with(&stock, handles, 0) == HOT_OUT_OF_RANGE);
     CHECK(hot_create_with(&stock, handles, MANY) == HOT_DONE);
     for (int i = 0; i < MANY; i++)
         CHECK(hot_destroy(&handles[i]) == HOT_DONE);
     hot_stock_for_keys(8, 89, &stock);
-    CHECK(stock.nodes == 12 && stock.long_leaves == 20 && !stock.short_leaves && !stock.wide_leaves);
+    CHECK(stock.nodes == 3 && stock.long_leaves == 11 && !stock.short_leaves && !stock.wide_leaves);
     {
         static const uint32_t keys[5] = {8, 0, 80, 0, 1}, most[5] = {4294967295u, 4294967295u, 0, 0, 0};
         hot_stock_for_lengths(keys, &stock);
-        CHECK(stock.nodes == 44 && stock.short_leaves == 20 && !stock.medium_leaves && stock.large_leaves == 121);
-        CHECK(!stock.wide_leaves && stock.long_leaves == 11);
+        CHECK(stock.nodes == 44 && stock.short_leaves == 11 && !stock.medium_leaves && stock.large_leaves == 121);
+        CHECK(!stock.wide_leaves && stock.long_leaves == 2);
         hot_stock_for_lengths(most, &stock);
         CHECK(hot_create_with(&stock, handles, 1) == HOT_OUT_OF_RANGE);
         hot_stock_for_keys(8, 89, &stock);
@@ -308,6 +308,81 @@ static void test_few_keys(void) {
     }
 }
 
+/* Keys of 8 bytes, 64 of a kind: by chance, numbers in a row, of one bit each, of all bits from one on, and those that differ in their last byte
+ * alone. */
+enum { KINDS = 5, OF_A_KIND = 64 };
+static const uint8_t *few_key(int kind, uint32_t number, uint8_t *key) {
+    uint64_t bits = (number + 1) * UINT64_C(0x9e3779b97f4a7c15);
+    int at;
+    switch (kind) {
+    case 1: bits = number; break;
+    case 2: bits = UINT64_C(1) << number; break;
+    case 3: bits = UINT64_MAX << number; break;
+    case 4: bits = UINT64_C(0x6b65796b65796b00) | (number * 37 & 255); break;
+    default: break;
+    }
+    for (at = 0; at < 8; at++)
+        key[at] = (uint8_t)(bits >> (56 - 8 * at));
+    return key;
+}
+
+/* Which key of a kind comes at a turn: they rise, or fall, or are mixed. */
+enum { ORDERS = 3 };
+static uint32_t number_at(int order, uint32_t turn) {
+    uint32_t number = turn % OF_A_KIND;
+    return order == 0 ? number : order == 1 ? OF_A_KIND - 1 - number : (number * 37) % OF_A_KIND ^ 21;
+}
+
+/* So many keys of a kind come, in this order. Then for each that comes the oldest goes, and each gets a new value. At last all of them go, from the
+ * newest on, and come again. */
+static void come_and_go(hot_handle *handle, uint32_t keys, int kind, int order) {
+    enum { TURNS = 3 * OF_A_KIND };
+    uint8_t key[8];
+    uint32_t turn;
+    size_t count;
+    for (turn = 0; turn < TURNS; turn++) {
+        CHECK(turn < keys || hot_remove(handle, few_key(kind, number_at(order, turn - keys), key), 8, NULL) == HOT_REMOVED);
+        CHECK(hot_insert(handle, few_key(kind, number_at(order, turn), key), 8, turn, NULL) == HOT_INSERTED);
+        CHECK(hot_upsert(handle, key, 8, turn + 1, NULL) == HOT_WAS);
+    }
+    for (turn = TURNS; turn-- > TURNS - keys;)
+        CHECK(hot_remove(handle, few_key(kind, number_at(order, turn), key), 8, NULL) == HOT_REMOVED);
+    CHECK(hot_count(handle, key, 0, HOT_TO_END, &count) == HOT_DONE && count == 0);
+    for (turn = TURNS; turn-- > TURNS - keys;)
+        CHECK(hot_insert(handle, few_key(kind, number_at(order, turn), key), 8, turn, NULL) == HOT_INSERTED);
+}
+
+/* Loads what a handle has into an index with this stock. */
+static hot_status load_again(hot_handle *handle, const hot_stock *stock) {
+    uint8_t keys[8 * OF_A_KIND] = {0};
+    hot_head heads[OF_A_KIND];
+    hot_index *index = NULL;
+    size_t count;
+    uint32_t more;
+    hot_status status;
+    CHECK(hot_scan_packed(handle, keys, 0, HOT_TO_END, keys, sizeof keys, heads, OF_A_KIND, &count, &more) == HOT_DONE && !more);
+    status = hot_load_packed(stock, 1, keys, heads, count, &index, &count);
+    CHECK(hot_close_index(index) == HOT_DONE);
+    return status;
+}
+
+/* It is enough for keys of all these kinds and orders; if they are 32 or fewer, also where they are loaded. */
+static void test_few_of_all_kinds(void) {
+    uint32_t keys;
+    int kind, order;
+    for (keys = 1; keys <= OF_A_KIND; keys++)
+        for (kind = 0; kind < KINDS; kind++)
+            for (order = 0; order < ORDERS; order++) {
+                hot_handle handle = HOT_HANDLE;
+                hot_stock stock;
+                hot_stock_for_keys(keys, 8, &stock);
+                CHECK(hot_create_with(&stock, &handle, 1) == HOT_DONE);
+                come_and_go(&handle, keys, kind, order);
+                CHECK(keys > 32 || load_again(&handle, &stock) == HOT_DONE);
+                CHECK(hot_destroy(&handle) == HOT_DONE);
+            }
+}
+
 /* How many leaves of each size are in use. */
 static void count_leaves(hot_handle *handle, uint32_t live[5]) {
     hot_counts counts;
@@ -428,6 +503,7 @@ int main(void) {
     test_any_keys();
     test_few_bits();
     test_few_keys();
+    test_few_of_all_kinds();
     test_sizes();
     test_bytes();
     puts(failures ? "c/tests/records.c failed" : "passed: c/tests/records.c");

@@ -169,7 +169,7 @@ static void test_filled() {
 // Leaves of two sizes: a key takes the smallest with room that is free. And the stock for so many keys, and what it takes.
 static void test_stock() {
     hot_stock stock = hot::stock_for_keys(7, 8);
-    CHECK(stock.nodes == 12 && stock.short_leaves == 19 && !stock.medium_leaves && hot::stock_bytes(stock) == 7152);
+    CHECK(stock.nodes == 3 && stock.short_leaves == 10 && !stock.medium_leaves && hot::stock_bytes(stock) == 2688);
     CHECK(hot::create(stock, 1024).size() == 1024);
     stock = hot::stock_for_any_keys(7, 8, 2);
     CHECK(stock.nodes == 7 + 2 * 145 && stock.short_leaves == 9 && !stock.medium_leaves);

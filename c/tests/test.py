@@ -21,9 +21,9 @@ def main() -> None:
     words.add_argument("library", metavar="LIBRARY", help="where libhot.so lies")
     hot = load(words.parse_args().library)
     stock = stock_for_keys(hot, 7, 8)
-    assert (stock.nodes, stock.short, stock.medium, stock.long) == (12, 19, 0, 0)
+    assert (stock.nodes, stock.short, stock.medium, stock.long) == (3, 10, 0, 0)
     assert refusal(Index, hot, stock, 1025) == refusal(Index, hot, Stock(1)) == hot.hot_status_text(OUT_OF_RANGE).decode()
-    assert Index(hot, stock).size == 7152
+    assert Index(hot, stock).size == 2688
     index = Index(hot, stock_for_keys(hot, 500, 8))
     for number in range(PAGE * 3):
         assert index.upsert(number.to_bytes(8, "big"), number) is None

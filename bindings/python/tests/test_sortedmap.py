@@ -313,7 +313,7 @@ class Whole(unittest.TestCase):
         self.assert_refuses(1, LoadError, [("a", 1), ("a", 2)])
         self.assert_refuses(2, LoadError, [("a", 1), ("b", 1), ("c" * 241, 1)])
         self.assert_refuses(1, LoadError, [("a", 1), ("b" * 9, 1)], 8)
-        self.assert_refuses(19, FullError, pairs, 8)
+        self.assert_refuses(10, FullError, pairs, 8)
         for wrong, error in [
             ([("a" * 241, 1)], ValueError),
             ([("a",)], ValueError),

@@ -7,7 +7,7 @@ use Rattle.record_words.specs.declared.layout.LeafClass.TheVariants.{Short, Medi
 use Rattle.record_words.specs.declared.layout.Stock.{Stock}
 use Rattle.record_words.specs.declared.layout.Location.{Location}
 use Rattle.record_words.specs.declared.layout.Location.TheVariants.{Epoch, Root, Anchor, Pin, NodeWord, LeafWord}
-use Rattle.record_words.specs.declared.TheConstants.{EPOCH_WORD, ROOT_WORD, ANCHOR_WORD, FIRST_PIN, LINE_WORDS, NODE_WORDS, LEAF_WORDS, SHORT_WORDS, MEDIUM_WORDS, LARGE_WORDS, WIDE_WORDS, KEYS_A_NODE, KEYS_A_SPARE, KEYS_A_SPARE_LEAF, LEAST_SPARE, MOST_SPARE}
+use Rattle.record_words.specs.declared.TheConstants.{EPOCH_WORD, ROOT_WORD, ANCHOR_WORD, FIRST_PIN, LINE_WORDS, NODE_WORDS, LEAF_WORDS, SHORT_WORDS, MEDIUM_WORDS, LARGE_WORDS, WIDE_WORDS, FEW_KEYS, FEW_SPARE, KEYS_A_NODE, KEYS_A_SPARE, KEYS_A_SPARE_LEAF, LEAST_SPARE, MOST_SPARE}
 use Rattle.record_words.specs.Leaf.{words_for}
 
 -- the first word of a node record; these records follow the pins, one after another
@@ -49,10 +49,10 @@ stock_of nodes Large leaves = record { nodes = nodes; short = 0; medium = 0; lar
 stock_of nodes Wide leaves = record { nodes = nodes; short = 0; medium = 0; large = 0; wide = leaves; long = 0 }
 stock_of nodes Long leaves = record { nodes = nodes; short = 0; medium = 0; large = 0; wide = 0; long = leaves }
 
--- how many node records, and how many leaf records, the stock for so many keys has to spare: LEAST_SPARE, and one for KEYS_A_SPARE keys, but
--- no more than MOST_SPARE
+-- How many node records, and how many leaf records, the stock for so many keys has to spare. For few keys these are FEW_SPARE. For more they
+-- are LEAST_SPARE, and one for KEYS_A_SPARE keys, but no more than MOST_SPARE.
 abbrev pub spare_for : ℕ → ℕ
-spare_for count = min (LEAST_SPARE + count / KEYS_A_SPARE) MOST_SPARE
+spare_for count = if nat_le count FEW_KEYS then FEW_SPARE else min (LEAST_SPARE + count / KEYS_A_SPARE) MOST_SPARE
 
 -- The stock for so many keys of at most so many bytes: a node record for KEYS_A_NODE keys, a leaf record for each key and one more
 -- for KEYS_A_SPARE_LEAF keys, and what is to spare of both; but no more leaf records than a table may have.

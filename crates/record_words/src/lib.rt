@@ -276,10 +276,16 @@ pub const KEYS_A_NODE: u32 = 3;
 /// For how many keys `Stock::for_keys` has one leaf record to spare.
 pub const KEYS_A_SPARE_LEAF: u32 = 3;
 
-/// How many node records and leaf records `Stock::for_keys` has to spare at least, however few the keys are.
+/// How many keys count as few: one node has room for all of them.
+pub const FEW_KEYS: u32 = 32;
+
+/// How many node records and leaf records `Stock::for_keys` has to spare for few keys.
+pub const FEW_SPARE: u32 = 1;
+
+/// How many of both it has to spare at least for more.
 pub const LEAST_SPARE: u32 = 10;
 
-/// For how many keys `Stock::for_keys` has one record more of both to spare.
+/// For how many keys it has one record more of both to spare, if they are not few.
 pub const KEYS_A_SPARE: u32 = 16;
 
 /// How many of both `Stock::for_keys` has to spare at most, however many the keys are.

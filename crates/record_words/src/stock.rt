@@ -9,8 +9,8 @@ ghost use Rattle.record_words.specs.Limits.{IsRecordCount};
 
 use crate::layout::{LeafClass, Stock};
 use crate::{
-    KEY_OFFSET, KEYS_A_NODE, KEYS_A_SPARE, KEYS_A_SPARE_LEAF, LARGE_WORDS, LEAST_SPARE,
-    MEDIUM_WORDS, MOST_SPARE, SHORT_WORDS, WIDE_WORDS, count_key_words,
+    FEW_KEYS, FEW_SPARE, KEY_OFFSET, KEYS_A_NODE, KEYS_A_SPARE, KEYS_A_SPARE_LEAF, LARGE_WORDS,
+    LEAST_SPARE, MEDIUM_WORDS, MOST_SPARE, SHORT_WORDS, WIDE_WORDS, count_key_words,
 };
 use key_bits::MAX_BYTES;
 
@@ -38,12 +38,14 @@ impl Stock {
     /// A stock for up to `count` keys at once, of at most `longest` bytes each; more than 240 count as 240. All its leaf records are of the
     /// smallest class with room for such keys.
     ///
-    /// It has one node record for 3 keys, and one leaf record for each key and one more for 3 keys. Of both it has 10 and one for 16 keys to
-    /// spare, but no more than 512. Sums stop at 4,294,967,295. So each index of 1 to 1,024 passes can be made with it where there is memory.
+    /// It has one node record for 3 keys, and one leaf record for each key and one more for 3 keys. Of both it has one to spare for up to 32
+    /// keys; for more 10 and one for 16 keys, but no more than 512. Sums stop at 4,294,967,295. So each index of 1 to 1,024 passes can be made
+    /// with it where there is memory.
     ///
-    /// The nodes are a measured number (`docs/SIZING.md`) and no bound. Keys may be such that each node has two entries, so that `count` of
-    /// them take `count - 1` nodes. What is to spare is for the records that passes have replaced and can't use again yet. That is enough for
-    /// one pass that changes the index. If several do, let `count` be 256 for each at least, for eight at most: else they may have to wait.
+    /// For more than 32 keys the nodes are a measured number (`docs/SIZING.md`) and no bound. Keys may be such that each node has two entries,
+    /// so that `count` of them take `count - 1` nodes. Up to 32 keys stand in one node. What is to spare is for the records that passes have
+    /// replaced and can't use again yet. That is enough for one pass that changes the index. If several do, let `count` be 256 for each at
+    /// least, for eight at most: else they may have to wait.
     pub fn for_keys(count: u32, longest: usize) -> Stock
         ensures stock { result ≡ stock_for count longest }
         ensures nodes { IsRecordCount result.nodes }
@@ -51,7 +53,7 @@ impl Stock {
         ensures room { (layout : Layout) (leaf bytes : ℕ) → HasStock layout result → leaf < layout.leaves →
             bytes ≤ longest → bytes ≤ MAX_BYTES → words_for bytes ≤ leaf_size layout leaf }
     {
-        let spare = (LEAST_SPARE + count / KEYS_A_SPARE).min(MOST_SPARE);
+        let spare = count_spare(count);
         Stock::of_class(
             count / KEYS_A_NODE + spare,
             LeafClass::for_key(longest),
@@ -99,5 +101,16 @@ impl Stock {
             LeafClass::Long => stock.long = leaves,
         }
         stock
+    }
+}
+
+/// How many node records, and how many leaf records, a stock for `count` keys has to spare.
+fn count_spare(count: u32) -> u32
+    ensures { result ≡ spare_for count }
+{
+    if count <= FEW_KEYS {
+        FEW_SPARE
+    } else {
+        (LEAST_SPARE + count / KEYS_A_SPARE).min(MOST_SPARE)
     }
 }

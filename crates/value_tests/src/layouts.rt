@@ -125,11 +125,13 @@ fn stocks_are_in_range(rt: HostRuntime) {
 #[test]
 fn stocks_are_told_by_keys(rt: HostRuntime) {
     for (count, longest, class, nodes, leaves) in [
-        (0, 0, LeafClass::Short, 10, 10),
-        (2, 8, LeafClass::Short, 10, 12),
-        (3, 8, LeafClass::Short, 11, 14),
-        (4, 9, LeafClass::Medium, 11, 15),
-        (10, 8, LeafClass::Short, 13, 23),
+        (0, 0, LeafClass::Short, 1, 1),
+        (2, 8, LeafClass::Short, 1, 3),
+        (3, 8, LeafClass::Short, 2, 5),
+        (4, 9, LeafClass::Medium, 2, 6),
+        (10, 8, LeafClass::Short, 4, 14),
+        (32, 8, LeafClass::Short, 11, 43),
+        (33, 8, LeafClass::Short, 23, 56),
         (1_000, 24, LeafClass::Medium, 405, 1_405),
         (1_000, 25, LeafClass::Large, 405, 1_405),
         (1_000, 56, LeafClass::Large, 405, 1_405),
