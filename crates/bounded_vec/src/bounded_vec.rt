@@ -9,7 +9,7 @@ use std::mem::swap;
 
 /// So many elements stand in memory of their own: a list that has never had more takes no more than that, where the system gives memory only
 /// once something is written there.
-const FEW: usize = 16;
+const FEW: usize = 8;
 
 /// A vector of at most `MOST` elements. Their memory is on the heap, from when the vector is made: no later call asks for any.
 ///

@@ -77,7 +77,7 @@ impl Limbo {
             count: 0,
             retired: 0,
             swept: 0,
-            given: Vec::with_capacity(alloc, room.min(MOST_VISITED))?,
+            given: Vec::with_capacity(alloc, (records as usize).min(MOST_VISITED))?,
         })
     }
 
