@@ -74,7 +74,7 @@ impl Sections {
     {
         let words = Vec::from_elem(alloc, 0u64, FIRST_SECTION + 8 * count as usize)?;
         let (table, mut dealer) = Table::of_words(alloc, words.as_slice(), &count)?;
-        let mut sections = Vec::new(alloc);
+        let mut sections = Vec::with_capacity(alloc, count as usize)?;
         for number in 0..count {
             let seat = table.shared.split_seat::<Deal>(&mut dealer);
             sections.push(Section {
