@@ -139,7 +139,7 @@ fn make_closed_handles(
     requires { All (Owns index.now.value) passes.items }
     ensures { IfOk result (λ handles. handles.items ≡ map (handle_at index.now.value) passes.items) }
 {
-    let mut handles = Vec::new(alloc);
+    let mut handles = Vec::with_capacity(alloc, passes.len())?;
     for pass in passes {
         handles.push(ClosedHandle::new(Arc::try_clone(index)?, pass))?;
     }
