@@ -6,6 +6,6 @@ use Rattle.std.specs.Coded.{Coded, code_by, coded_list}
 pub record BoundedVec (T : Type 0) : Type 0 where
   pub items : List T
 
--- it is stored as the list of its elements
+-- a bounded vector is stored as the list of its elements
 abbrev pub bounded_vec_code : {T : Type 0} → Coded T → Coded (BoundedVec T)
 bounded_vec_code {T} code = code_by (List T) (coded_list code) (λ v. v.items) (λ xs. record { items = xs }) (λ _. refl)

@@ -1,7 +1,7 @@
 -- Rows without one, lane by lane.
 use Rattle.std.specs.Prelude.{ℕ, ◌+◌, ◌-◌, List, bit_and, cond, nat_lt, slice_index}
 
--- The i-th row once row `at` of the first `count` is out, if those before row `end` lose the bit: the rows behind move down by one
+-- Row i once row `at` of the first `count` is out, and the rows before row `end` have lost the bit. The rows behind move down by one.
 abbrev pub lowered_row : (count at end bit : ℕ) → List ℕ → ℕ → ℕ
 lowered_row count at end bit rows i =
     let next = slice_index rows (i + 1) in

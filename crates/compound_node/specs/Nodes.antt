@@ -12,12 +12,12 @@ use Rattle.partial_keys.specs.Shows.{ShowsPiece}
 use Rattle.node_tries.specs.Piece.{Piece}
 
 -- ---- entries
--- a leaf counts 0
+-- the height of an entry: 0 for a leaf, and that of a node
 abbrev pub height_of : Entry → ℕ
 height_of (Leaf number) = 0
 height_of (Node number height) = height
 
--- a child node has a height, below the greatest one
+-- an entry that some node may have: a leaf, or a child with a height from 1 to 65,534
 abbrev pub IsEntry : Entry → Type 0
 IsEntry (Leaf number) = Unit {0}
 IsEntry (Node number height) = (0 < height) × (height < 65535)
@@ -26,24 +26,24 @@ IsEntry (Node number height) = (0 < height) × (height < 65535)
 abbrev pub StandsBelow : ℕ → Entry → Type 0
 StandsBelow height entry = IsEntry entry × (height_of entry < height)
 
--- the greatest height among entries, or 0
+-- the greatest height among the entries, or 0
 abbrev pub greatest_height : List Entry → ℕ
 greatest_height [] = 0
 greatest_height (entry ∷ entries) = max (height_of entry) (greatest_height entries)
 
 -- ---- nodes
--- the stored height, the columns, and for each entry its sparse partial key and what it leads to
+-- what contracts see of a node: its stored height, its columns, and each entry with its sparse partial key
 pub record NodeView : Type 0 where
   pub height : ℕ
   pub columns : List ℕ
   pub rows : List ℕ
   pub entries : List Entry
 
--- the piece of a bit trie that a node shows, with the entries at its places
+-- the piece of a bit trie that a node shows, with its entries
 abbrev pub piece : NodeView → Piece Entry
 piece node = piece_of (Leaf 0) node.columns node.rows node.entries
 
--- columns, rows and entries of a node, whatever its height
+-- the columns, rows and entries are those of a node, whatever its height
 pub record FitTogether (columns rows : List ℕ) (entries : List Entry) : Type 0 where
   pub several : 2 ≤ length entries
   pub room : length entries ≤ 32
@@ -52,7 +52,7 @@ pub record FitTogether (columns rows : List ℕ) (entries : List Entry) : Type 0
   pub shows : ShowsPiece columns rows entries (piece_of (Leaf 0) columns rows entries)
   pub children : All IsEntry entries
 
--- what holds of each node
+-- a lawful node: 2 to 32 entries below its height, and rows that show a piece over its columns
 pub record IsLawfulNode (node : NodeView) : Type 0 where
   pub several : 2 ≤ length node.entries
   pub room : length node.entries ≤ 32
@@ -68,48 +68,48 @@ pub record IsBuiltFrom (node : NodeView) (shown : Piece Entry) : Type 0 where
   pub shows_it : piece node ≡ shown
   pub height_is : node.height ≡ 1 + greatest_height node.entries
 
--- two entries have the same bit in each column whose position is below this one
+-- the entries in slots i and k have the same bit in each column whose position is below this one
 abbrev pub AgreeBefore : NodeView → ℕ → ℕ → ℕ → Type 0
 AgreeBefore node position i k =
     (j : ℕ) → j < length node.columns → slice_index node.columns j < position → bit_at (slice_index node.rows i) (31 - j) ≡ bit_at (slice_index node.rows k) (31 - j)
 
--- the node of these fields, where the places behind the entries' sparse partial keys are unused
+-- the node of these fields, without the rows behind those of its entries
 abbrev pub node_from : ℕ → List ℕ → List ℕ → List Entry → NodeView
 node_from height columns sparse entries = record { height = height; columns = columns; rows = take (length entries) sparse; entries = entries }
 
--- fields that fit together, with 4,294,967,295 at the unused places
+-- the fields are those of a lawful node, with 4,294,967,295 as each unused row
 pub record IsNode (height : ℕ) (columns sparse : List ℕ) (entries : List Entry) : Type 0 where
   pub padded : sparse ≡ with_unused (take (length entries) sparse)
   pub lawful : IsLawfulNode (node_from height columns sparse entries)
 
 -- ---- heads
--- a node without its entries
+-- what contracts see of a head: a node's stored height, columns and rows
 pub record HeadView : Type 0 where
   pub height : ℕ
   pub columns : List ℕ
   pub rows : List ℕ
 
--- a node without its entries
+-- the head of a node: all but its entries
 abbrev pub head_of : NodeView → HeadView
 head_of node = record { height = node.height; columns = node.columns; rows = node.rows }
 
--- each node that has this head is so
+-- each lawful node with this head has the property
 abbrev pub InEachNode : HeadView → (NodeView → Type 0) → Type 0
 InEachNode head IsSo = (node : NodeView) → IsLawfulNode node → head_of node ≡ head → IsSo node
 
--- the node of a head and of entries
+-- the node of this head and these entries
 abbrev pub node_of : HeadView → List Entry → NodeView
 node_of head entries = record { height = head.height; columns = head.columns; rows = head.rows; entries = entries }
 
--- some node of so many entries has these fields
+-- some node of so many entries has this head
 abbrev pub IsHead : ℕ → ℕ → List ℕ → List ℕ → Type 0
 IsHead count height columns sparse = (entries : List Entry) × (length entries ≡ count) × IsNode height columns sparse entries
 
--- as many leaves
+-- so many leaves, as entries whose numbers don't matter
 abbrev pub leaves : ℕ → List Entry
 leaves count = replicate count (Leaf 0)
 
--- the fields of a head fit together: a node of leaves has them
+-- the fields of a head fit together: a node of so many leaves has them
 pub record FitsHead (count : ℕ) (sparse : List ℕ) (head : HeadView) : Type 0 where
   pub padded : sparse ≡ with_unused head.rows
   pub counted : length head.rows ≡ count

@@ -1,18 +1,18 @@
 -- What a place that is taken out does to the rows.
 use Rattle.std.specs.Prelude.{ℕ, ◌+◌, ◌-◌, bit_and, cond, nat_eq, nat_lt, ◌&&◌, ◌||◌, List, [], ◌∷◌, ◌++◌, length, take, drop, slice_index}
 
--- the lowest 1 of a row: of the fork between its entry and the one before
+-- the lowest 1 of a row, which is of the fork between its entry and the one before
 abbrev pub lowest : ℕ → ℕ
 lowest row = row - bit_and row (row - 1)
 
--- The last fork on the path to place i is the later one of the two forks beside it; the first and the last place have one.
--- Its bit, where the place is the fork's 0 side, and 0 where it is the 1 side
+-- The bit that rows behind slot i lose when it is taken out. It is that of the last fork on its path if the slot is the 0 side, and 0 if it
+-- is the 1 side. That fork is the later of the two beside the slot.
 abbrev pub bit_after : ℕ → List ℕ → ℕ
 bit_after i rows =
     let next = slice_index rows (i + 1) in
     cond (nat_lt (i + 1) (length rows) && (nat_eq i 0 || nat_lt (lowest next) (lowest (slice_index rows i)))) (lowest next) 0
 
--- the rows at the front that have the bit lose it
+-- the rows, of which those at the front that have the bit lose it
 abbrev pub cleared_front : ℕ → List ℕ → List ℕ
 cleared_front bit [] = []
 cleared_front bit (row ∷ rows) = cond (nat_eq (bit_and row bit) 0) (row ∷ rows) ((row - bit_and row bit) ∷ cleared_front bit rows)

@@ -34,14 +34,14 @@ change_of q n = option_map (λ effect. record { pass = q; key = key_of n.call; v
 abbrev pub place_after : Note → ℕ
 place_after n = if is_change n then n.place + 1 else n.place
 
--- The note stands in the front: its place is one of the front, its reply is the map's after the first `place` changes,
--- and where its call changed the map, that is the change of number `place`.
+-- The note stands in the front. Its place is one of the front, and its reply is the map's after the first `place` changes. Where its call
+-- changed the map, that is the change of number `place`.
 pub record StandsIn (front : List Change) (q : ℕ) (n : Note) : Type 0 where
   pub place : n.place ≤ length front
   pub reply : n.reply ≡ reply_of (map_of (take n.place front)) n.call
   pub change : (c : Change) → change_of q n ≡ Some c → slice_get front n.place ≡ Some c
 
--- from the place `low` on, places never fall, and rise after a call that changed the map
+-- the notes' places begin at `low` at least, never fall, and rise after a call that changed the map
 abbrev pub RisesFrom : ℕ → List Note → Type 0
 RisesFrom low [] = Unit {0}
 RisesFrom low (n ∷ ns) = (low ≤ n.place) × RisesFrom (place_after n) ns
@@ -65,7 +65,7 @@ pub record LegalCalls (front : List Change) (q : ℕ) (notes : List Note) : Type
   -- the pass's changes are those of its calls, in order, each once
   pub own : own_changes q front ≡ changes_of q notes
 
--- The calls of the notes, one after the other from the map m, have the notes' replies and lead to the map n.
+-- One after the other from the map m, the calls of the notes have the notes' replies. They lead to the map n.
 pub record IsRun (m : Map) (notes : List Note) (n : Map) : Type 0 where
   pub replies : map (λ x. x.reply) notes ≡ replies_of m (map (λ x. x.call) notes)
   pub map : n ≡ map_after_all m (map (λ x. x.call) notes)

@@ -19,7 +19,8 @@ changed m c = changed_by c.kind m c.key c.value
 abbrev pub map_of : List Change → Map
 map_of front = fold changed [] front
 
--- a change of this kind is legal where this value, or none, is held: only an absent key is added, a held one is replaced, and the held value is removed
+-- A change of this kind is legal where this value, or none, is held. Only an absent key is added, a held one is replaced, and the held
+-- value is removed.
 abbrev pub FitsKind : Kind → Option ℕ → ℕ → Type 0
 FitsKind Added held value = held ≡ None
 FitsKind Replaced held value = IsSome held

@@ -49,7 +49,7 @@ key_of (RemoveIf key expected) = key
 abbrev pub wrapped_sum : ℕ → ℕ → ℕ
 wrapped_sum held delta = (held + delta) % 2 ^ 64
 
--- what a call that expects a value makes of a map and replies, where its key has that value; else the map stays
+-- What a call that expects a value makes of a map and replies, if its key has that value. If it has another, the map stays.
 abbrev pub step_if : Bool → Map → ℕ → Map × Reply → Map × Reply
 step_if true m held expected = expected
 step_if false m held expected = (m, Differs held)

@@ -18,7 +18,7 @@ falling_order a b = key_order b a
 abbrev pub HasFallingKeys : Map → Type 0
 HasFallingKeys m = IsStrictlySortedBy falling_order (keys_of m)
 
--- the scan gives the last `limit` pairs of the map in the range, the last one first, and `more` exactly where there is a further one
+-- The scan gives the last `limit` pairs of the map in the range, the last one first. It says `more` exactly where there is a further one.
 pub record IsReverseScanOf (m : Map) (from upto : List ℕ) (limit : ℕ) (scan : Scan) : Type 0 where
   pub pairs : scan.pairs.items ≡ take limit (reverse (range_of m from upto))
   pub more : IsTrue scan.more ↔ (limit < length (range_of m from upto))
@@ -31,10 +31,10 @@ IsDownToLast pairs key = Any (λ e. key_order key e.0 ≢ Less) pairs
 abbrev pub IsBelowLast : Map → List ℕ → Type 0
 IsBelowLast pairs key = All (λ e. key_order key e.0 ≡ Less) pairs
 
--- the order from `upto` down to `from`
+-- the order of a scan's pairs from `upto` down to `from`
 abbrev pub falling_scan : ScanOrder
 falling_scan = record { ordered = HasFallingKeys; reached = IsDownToLast; beyond = IsBelowLast }
 
--- a scan from `upto` down to `from`
+-- a lawful scan from `upto` down to `from`, while the front grew
 abbrev pub IsLawfulReverseScan : List Change → List Change → List ℕ → List ℕ → ℕ → Scan → Type 0
 IsLawfulReverseScan = IsLawfulScanWith falling_scan

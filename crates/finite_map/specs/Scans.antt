@@ -18,12 +18,12 @@ is_within from upto key = range_contains key_order (Included from) (Included upt
 abbrev pub range_of : Map → List ℕ → List ℕ → Map
 range_of m from upto = filter (λ e. is_within from upto e.0) m
 
--- the scan gives the first `limit` pairs of the map in the range, and `more` exactly where there is a further one
+-- The scan gives the first `limit` pairs of the map in the range. It says `more` exactly where there is a further one.
 pub record IsScanOf (m : Map) (from upto : List ℕ) (limit : ℕ) (scan : Scan) : Type 0 where
   pub pairs : scan.pairs.items ≡ take limit (range_of m from upto)
   pub more : IsTrue scan.more ↔ (limit < length (range_of m from upto))
 
--- the key has the value in the map of the first n changes of `after`, for some n from the length of `before` to that of `after`
+-- the key has the value after the first n changes of `after`, for some n from the length of `before` to that of `after`
 abbrev pub IsHeldBetween : List Change → List Change → List ℕ → ℕ → Type 0
 IsHeldBetween before after key value = (n : ℕ) × (length before ≤ n) × (n ≤ length after) × (value_at (map_of (take n after)) key ≡ Some value)
 
@@ -39,13 +39,13 @@ IsUpToLast pairs key = Any (λ e. key_order key e.0 ≢ Greater) pairs
 abbrev pub IsPastLast : Map → List ℕ → Type 0
 IsPastLast pairs key = All (λ e. key_order e.0 key ≡ Less) pairs
 
--- How a direction orders the pairs of a scan: which pairs are in order, which keys are not beyond the last pair's, and which ones are.
+-- How a direction orders the pairs of a scan: which pairs are in order, which keys are not beyond the last pair's, and which are.
 pub record ScanOrder : Type 1 where
   pub ordered : Map → Type 0
   pub reached : Map → List ℕ → Type 0
   pub beyond : Map → List ℕ → Type 0
 
--- a scan in this order of the keys between `from` and `upto`, while the front `before` grew to `after`
+-- a lawful scan in this order of the keys between `from` and `upto`, while the front `before` grew to `after`
 pub record IsLawfulScanWith (order : ScanOrder) (before after : List Change) (from upto : List ℕ) (limit : ℕ) (scan : Scan) : Type 0 where
   pub begins : BeginsWith after before
   pub ordered : order.ordered scan.pairs.items
@@ -62,10 +62,10 @@ pub record IsLawfulScanWith (order : ScanOrder) (before after : List Change) (fr
   pub further : scan.more ≡ true → (key : List ℕ) × (value : ℕ) × IsTrue (is_within from upto key) × IsHeldBetween before after key value ×
       order.beyond scan.pairs.items key
 
--- the order from `from` up to `upto`
+-- the order of a scan's pairs from `from` up to `upto`
 abbrev pub rising_scan : ScanOrder
 rising_scan = record { ordered = IsRising; reached = IsUpToLast; beyond = IsPastLast }
 
--- a scan from `from` up to `upto`
+-- a lawful scan from `from` up to `upto`, while the front grew
 abbrev pub IsLawfulScan : List Change → List Change → List ℕ → List ℕ → ℕ → Scan → Type 0
 IsLawfulScan = IsLawfulScanWith rising_scan

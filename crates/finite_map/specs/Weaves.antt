@@ -13,11 +13,11 @@ pub data Event : Type 0 where
   answered : Call → Reply → Event
   only : Change → Event
 
--- the notes of this place whose calls changed nothing, and those whose calls changed the map
+-- the notes of this place whose calls changed nothing
 abbrev pub quiet_at : ℕ → List Note → List Note
 quiet_at place notes = filter (λ n. nat_eq n.place place && not (is_change n)) notes
 
--- and those whose calls changed it
+-- the notes of this place whose calls changed the map
 abbrev pub changing_at : ℕ → List Note → List Note
 changing_at place notes = filter (λ n. nat_eq n.place place && is_change n) notes
 
@@ -25,22 +25,22 @@ changing_at place notes = filter (λ n. nat_eq n.place place && is_change n) not
 abbrev pub calls_of : List Note → List Event
 calls_of notes = map (λ n. answered n.call n.reply) notes
 
--- a change as the call that made it, where a note tells of that
+-- the call that made a change, if one of the notes tells of it, or else the change alone
 abbrev pub made_by : Change → List Note → List Event
 made_by c [] = only c ∷ []
 made_by c (n ∷ ns) = calls_of (n ∷ ns)
 
--- before each change, of which the first has the number `place`, the calls of its place that changed nothing
+-- The changes as a history, the first of number `place`. Before each stand the calls of its place that changed nothing.
 abbrev pub weave_from : ℕ → List Change → List Note → List Event
 weave_from place [] notes = calls_of (quiet_at place notes)
 weave_from place (c ∷ cs) notes = calls_of (quiet_at place notes) ++ (made_by c (changing_at place notes) ++ weave_from (place + 1) cs notes)
 
--- The front with the calls of these notes in it: one that changed nothing stands between changes place-1 and place,
--- calls of one place in the order of the notes, and one that changed the map stands for its change.
+-- The front with the calls of these notes in it. One that changed nothing stands between changes place-1 and place, and calls of one place
+-- stand in the order of the notes. One that changed the map stands for its change.
 abbrev pub weave : List Change → List Note → List Event
 weave front notes = weave_from 0 front notes
 
--- in turn from the map m, each call has the map's reply
+-- each call, one after the other from the map m, has the map's reply
 abbrev pub LegalHistoryFrom : Map → List Event → Type 0
 LegalHistoryFrom m [] = Unit {0}
 LegalHistoryFrom m (answered call reply ∷ es) = (reply ≡ reply_of m call) × LegalHistoryFrom (map_after m call) es
@@ -50,7 +50,7 @@ LegalHistoryFrom m (only c ∷ es) = LegalHistoryFrom (changed m c) es
 abbrev pub LegalHistory : List Event → Type 0
 LegalHistory events = LegalHistoryFrom [] events
 
--- the notes of passes, each with its number, one pass after the other
+-- the notes of several passes, one pass after the other
 abbrev pub notes_of : List (ℕ × List Note) → List Note
 notes_of [] = []
 notes_of (pass ∷ passes) = pass.1 ++ notes_of passes

@@ -5,17 +5,17 @@ use Rattle.key_bits.specs.Key.{IsKey}
 use Rattle.key_bits.specs.declared.TheConstants.{MAX_BYTES}
 use Rattle.finite_map.specs.Maps.{key_order}
 
--- of the keys above the first one, the other is the least
+-- `next` is the least of the keys above `key`
 pub record IsNextKey (key next : List ℕ) : Type 0 where
   pub is_key : IsKey next
   pub above : key_order key next ≡ Less
   pub least : (other : List ℕ) → IsKey other → key_order key other ≡ Less → key_order next other ≢ Greater
 
--- no key is above it
+-- no key is above this one
 abbrev pub NoKeyAbove : List ℕ → Type 0
 NoKeyAbove key = (other : List ℕ) → IsKey other → key_order key other ≢ Less
 
--- of the keys below the first one, the other is the greatest
+-- `previous` is the greatest of the keys below `key`
 pub record IsPreviousKey (key previous : List ℕ) : Type 0 where
   pub is_key : IsKey previous
   pub below : key_order previous key ≡ Less

@@ -2,7 +2,7 @@
 use Rattle.std.specs.Prelude.{Bool, Option, None, Some, cond, false, nat_lt, true, ℕ, ◌+◌, ◌-◌}
 use Rattle.node_tries.specs.Piece.{Piece, Place, Fork, size}
 
--- the same place so many places further on
+-- a slot with the position of a fork, moved by n slots
 abbrev pub moved_by : ℕ → Option (ℕ × ℕ) → Option (ℕ × ℕ)
 moved_by n None = None
 moved_by n (Some place) = Some (n + place.0, place.1)

@@ -42,6 +42,6 @@ module _ {A : Type 0} where
 abbrev pub edited : {X : Type 0} → ℕ → ℕ → (List X → List X) → List X → List X
 edited f n h xs = take f xs ++ (h (take n (drop f xs)) ++ drop (f + n) xs)
 
--- what becomes of the affected places
+-- the entries of an affected part with a new one before or behind them
 abbrev pub forked_places : {A : Type 0} → Bool → A → List A → List A
 forked_places bit x xs = cond bit (xs ++ x ∷ []) (x ∷ xs)

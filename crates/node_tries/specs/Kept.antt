@@ -1,7 +1,7 @@
 -- What flags keep of a list.
 use Rattle.std.specs.Prelude.{Bool, List, [], cond, ◌∷◌}
 
--- the elements at whose places there is a true
+-- the elements whose flags are true
 abbrev pub kept : {X : Type 0} → List Bool → List X → List X
 kept [] xs = []
 kept (b ∷ bs) [] = []

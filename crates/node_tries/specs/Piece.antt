@@ -3,7 +3,7 @@ use Rattle.std.specs.Prelude.{Bool, List, [], cond, eqb, false, map, true, ℕ, 
 use Rattle.node_tries.specs.Kept.{kept}
 use Rattle.node_tries.specs.Positions.{has}
 
--- A bit trie down to places: forks at positions, with what stands at the places.
+-- A bit trie without its keys. It has forks at positions. Where no fork is, it has a place, at which something stands.
 pub data Piece (A : Type 0) : Type 0 where
   Place : A → Piece A
   Fork : ℕ → Piece A → Piece A → Piece A

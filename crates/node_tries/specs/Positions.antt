@@ -6,12 +6,12 @@ abbrev pub has : List ℕ → ℕ → Bool
 has [] q = false
 has (p ∷ ps) q = eqb p q || has ps q
 
--- each element passes the test
+-- each element of the list passes the test
 abbrev pub all : {X : Type 0} → (X → Bool) → List X → Bool
 all t [] = true
 all t (x ∷ xs) = t x && all t xs
 
--- one of them does
+-- an element of the list passes the test
 abbrev pub any : {X : Type 0} → (X → Bool) → List X → Bool
 any t [] = false
 any t (x ∷ xs) = t x || any t xs
@@ -26,12 +26,12 @@ abbrev pub AllBelow : ℕ → List ℕ → Type 0
 AllBelow bound [] = Unit {0}
 AllBelow bound (p ∷ ps) = (p < bound) × AllBelow bound ps
 
--- how many numbers stand at the front before the first that reaches m
+-- how many numbers stand before the first that reaches m
 abbrev pub front_below : ℕ → List ℕ → ℕ
 front_below m [] = 0
 front_below m (n ∷ ns) = cond (nat_lt n m) (suc (front_below m ns)) 0
 
--- a position put into a rising list of positions, in order
+-- a rising list of positions with one more, in order
 abbrev pub with_position : ℕ → List ℕ → List ℕ
 with_position p [] = p ∷ []
 with_position p (q ∷ qs) = cond (nat_lt q p) (q ∷ with_position p qs) (p ∷ q ∷ qs)

@@ -1,7 +1,7 @@
 -- A list that is filled.
 use Rattle.std.specs.Prelude.{ℕ, List}
 
--- its pairs, and for how many more it has room
+-- the pairs of a list, and how many more it has room for
 pub record Filled : Type 0 where
   pub pairs : List (List ℕ × ℕ)
   pub room : ℕ

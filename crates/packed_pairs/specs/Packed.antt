@@ -4,16 +4,16 @@ use denote.Ref.{Bor}
 use Rattle.key_bits.specs.Key.{IsKey}
 use Rattle.packed_pairs.specs.declared.head.PairHead.{PairHead}
 
--- the pairs of these heads: the first key has the first of the bytes
+-- the pairs of these heads, whose keys stand in the bytes one after another
 abbrev pub unpacked : List PairHead → List ℕ → List (List ℕ × ℕ)
 unpacked [] bytes = []
 unpacked (head ∷ heads) bytes = (take head.count bytes, head.value) ∷ unpacked heads (drop head.count bytes)
 
--- each of them has a key, and these have all of the bytes
+-- the bytes are just those of the heads' keys, one after another
 abbrev pub ArePacked : List PairHead → List ℕ → Type 0
 ArePacked [] bytes = bytes ≡ []
 ArePacked (head ∷ heads) bytes = (head.count ≤ length bytes) × IsKey (take head.count bytes) × ArePacked heads (drop head.count bytes)
 
--- what an item of an iterator shows
+-- the pair that an item of an iterator shows
 abbrev pub pair_of : Bor (List ℕ) × ℕ → List ℕ × ℕ
 pair_of (key, value) = (key.now, value)

@@ -2,16 +2,16 @@
 use Rattle.std.specs.Prelude.{ℕ, ◌-◌, List, [], ◌∷◌, ◌++◌, length, nat_le, if◌then◌else◌}
 use Rattle.packed_pairs.specs.declared.head.PairHead.{PairHead}
 
--- how long the key is, and the value
+-- the head of a pair: the length of its key, and its value
 abbrev pub packed_head : List ℕ × ℕ → PairHead
 packed_head (key, value) = record { count = length key; value = value }
 
--- the keys, one after another
+-- the bytes of the pairs' keys, one after another
 abbrev pub keys_in : List (List ℕ × ℕ) → List ℕ
 keys_in [] = []
 keys_in (pair ∷ pairs) = pair.0 ++ keys_in pairs
 
--- the first pairs, as many as have keys that fit together into so many bytes
+-- the longest front of the pairs whose keys have at most `room` bytes together
 abbrev pub fitting : ℕ → List (List ℕ × ℕ) → List (List ℕ × ℕ)
 fitting room [] = []
 fitting room (pair ∷ pairs) = if nat_le (length pair.0) room then pair ∷ fitting (room - length pair.0) pairs else []

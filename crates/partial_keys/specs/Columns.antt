@@ -9,11 +9,11 @@ pub record IsColumns (positions : List ℕ) : Type 0 where
   pub rise : Ascends 0 positions
   pub below : AllBelow 65535 positions
 
--- the positions, with the unused places of 31 filled by 65,535
+-- the positions, filled up to 31 by 65,535
 abbrev pub with_free : List ℕ → List ℕ
 with_free positions = positions ++ replicate (31 - length positions) 65535
 
--- the first `count` of the 31 places are columns, and the others are unused
+-- the first `count` of 31 positions are columns, and the others are unused
 pub record HoldsColumns (places : List ℕ) (count : ℕ) : Type 0 where
   pub columns : IsColumns (take count places)
   pub counted : length (take count places) ≡ count

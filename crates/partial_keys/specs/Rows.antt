@@ -9,11 +9,11 @@ use Rattle.node_tries.specs.Positions.{has, front_below}
 abbrev pub dense_of : List ℕ → (ℕ → Bool) → ℕ
 dense_of columns bit = gathered bit columns
 
--- a 1 exactly in the columns at which the path takes the 1 side
+-- the row of a path: a 1 exactly in the columns at which the path takes the 1 side
 abbrev pub row_of : List ℕ → List ℕ → ℕ
 row_of columns path = gathered (has path) columns
 
--- the rows of a piece, a path each, in order
+-- the rows of a piece, one for each path, in order
 abbrev pub rows_of : {A : Type 0} → List ℕ → Piece A → List ℕ
 rows_of columns piece = map (row_of columns) (paths piece)
 
@@ -21,13 +21,13 @@ rows_of columns piece = map (row_of columns) (paths piece)
 abbrev pub complies : ℕ → ℕ → Bool
 complies dense row = eqb (bit_and dense row) row
 
--- entry i is the highest that complies
+-- row i is the highest that complies with the dense key
 pub record IsHighest (rows : List ℕ) (dense i : ℕ) : Type 0 where
   pub in_range : i < length rows
   pub complying : bit_and dense (slice_index rows i) ≡ slice_index rows i
   pub none_above : (k : ℕ) → i < k → k < length rows → complies dense (slice_index rows k) ≡ false
 
--- the rows, with the unused places of 32 filled by ones
+-- the rows, filled up to 32 by words of all ones
 abbrev pub with_unused : List ℕ → List ℕ
 with_unused rows = rows ++ replicate (32 - length rows) 4294967295
 

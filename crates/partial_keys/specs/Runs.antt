@@ -1,17 +1,17 @@
 -- The entries round one that agree with it in the columns below a position.
 use Rattle.std.specs.Prelude.{Bool, List, false, length, nat_eq, slice_index, true, ℕ, ◌+◌, ◌-◌, ◌/◌, ◌<◌, ◌^◌, ◌≡◌, ◌≤◌}
 
--- the rows agree in the first n columns
+-- two rows agree in the first n columns
 abbrev pub agree_in : ℕ → ℕ → ℕ → Bool
 agree_in n a b = nat_eq (a / 2 ^ (32 - n)) (b / 2 ^ (32 - n))
 
--- the first of the rows around a found one that agree with it in their first columns
+-- `first` is the first row of the run around a found one that agrees with it in the first n columns
 pub record IsRunStart (rows : List ℕ) (n found first : ℕ) : Type 0 where
   pub in_range : first ≤ found
   pub same : (k : ℕ) → first ≤ k → k < found → agree_in n (slice_index rows k) (slice_index rows found) ≡ true
   pub before : 0 < first → agree_in n (slice_index rows (first - 1)) (slice_index rows found) ≡ false
 
--- and the last of them
+-- `last` is the last row of the run around a found one that agrees with it in the first n columns
 pub record IsRunEnd (rows : List ℕ) (n found last : ℕ) : Type 0 where
   pub at_least : found ≤ last
   pub in_range : last < length rows

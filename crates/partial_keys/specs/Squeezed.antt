@@ -17,15 +17,15 @@ used_bits used = bits_of 32 used
 abbrev pub squeezed : ℕ → ℕ → ℕ
 squeezed used row = code 32 (kept (bits_of 32 used) (bits_of 32 row))
 
--- all rows joined by |
+-- the bits that one of the rows has, at least
 abbrev pub or_all : List ℕ → ℕ
 or_all [] = 0
 or_all (row ∷ rows) = bit_or row (or_all rows)
 
--- a row from which column j was taken out: the later columns moved up by one
+-- a row without column j: the later columns have moved up by one
 abbrev pub closed_row : ℕ → ℕ → ℕ
 closed_row j row = row / 2 ^ (32 - j) * 2 ^ (32 - j) + row % 2 ^ (31 - j) * 2
 
--- a row over n columns: it has no 1 behind them
+-- a row over n columns, so its bits behind them are 0
 abbrev pub IsRowOver : ℕ → ℕ → Type 0
 IsRowOver n row = (bits : List Bool) × (length bits ≡ n) × (row ≡ code 32 bits)

@@ -15,30 +15,29 @@ use Rattle.plain_index.specs.Times.{FitsPlaces, IsInTime, noted}
 abbrev pub Longer : Type 0
 Longer = (front later : List Change) (q : ℕ) (notes : List Note) → LegalCalls front q notes → OthersGoOn q front later → LegalFront later → LegalCalls later q notes
 
--- Where the calls of passes of different numbers are each legal in a front, they are answered as by a finite map in one sequential
--- history: the weave of all their notes into the front.
+-- Where the calls of each pass are legal in one front, all are answered as by a finite map in one sequential history. It is the weave of
+-- all their notes into the front.
 abbrev pub Woven : Type 0
 Woven = (front : List Change) (passes : List (ℕ × List Note)) → AllLegal front passes → LegalHistory (weave front (notes_of passes))
 
--- The same for two passes.
+-- Where the calls of two passes are legal in one front, the weave of the notes of both into it is a legal history.
 abbrev pub WovenTwo : Type 0
 WovenTwo =
     (front : List Change) (p q : ℕ) (notes_p notes_q : List Note) → p ≢ q → LegalCalls front p notes_p → LegalCalls front q notes_q →
     LegalHistory (weave front (notes_p ++ notes_q))
 
--- In the weave of the calls of several passes, those of each pass stand each once, in the order in which it made them.
+-- The weave of the calls of several passes has each call once. Those of each pass stand in the order in which it made them.
 abbrev pub WovenInOrder : Type 0
 WovenInOrder = (front : List Change) (passes : List (ℕ × List Note)) → AllLegal front passes → CallsAreWoven passes (calls_in (weave front (notes_of passes)))
 
--- The same for two passes.
+-- The weave of the calls of two passes has each call once. Those of each pass stand in the order in which it made them.
 abbrev pub WovenInOrderTwo : Type 0
 WovenInOrderTwo =
     (front : List Change) (p q : ℕ) (notes_p notes_q : List Note) → LegalCalls front p notes_p → LegalCalls front q notes_q →
     AreWoven (calls_of notes_p) (calls_of notes_q) (calls_in (weave front (notes_p ++ notes_q)))
 
--- Calls of passes, each legal in one front, are listed in an order that no call known to have returned before another began breaks, as
--- that of the moments at which they returned; and their places fit what is known. Then the weave of the list is a legal history in
--- which each stands once, and none before one that is known to have returned when it began.
+-- Calls of passes, each legal in one front, are listed in an order that breaks no known order in time, and their places fit it. Then the
+-- weave of the list is a legal history in which each call stands once. None stands before one that is known to have returned when it began.
 abbrev pub WovenInTime : Type 0
 WovenInTime =
     (front : List Change) (passes : List (ℕ × List Note)) (before : ℕ → ℕ → Bool) (listed : List (ℕ × Note)) → AllLegal front passes →
@@ -55,18 +54,18 @@ ScansAtOnce =
 abbrev pub InOrder : Type 0
 InOrder = (front : List Change) (q : ℕ) (notes : List Note) → LegalCalls front q notes → calls_in (weave front notes) ≡ calls_of notes
 
--- The scan of a front that stays as it is gives the first pairs of its map's range, and says whether there is a further one.
+-- A scan of a front that stays as it is gives the first pairs of its map's range. It says whether there is a further one.
 abbrev pub StillScans : Type 0
 StillScans =
     (front : List Change) (from upto : List ℕ) (limit : ℕ) (scan : Scan) → IsLawfulScan front front from upto limit scan → IsScanOf (map_of front) from upto limit scan
 
--- The legal calls of a pass that made all changes of the front are a run of the finite map, from the empty one on.
+-- If a pass made all changes of the front, its legal calls are a run of the finite map, from the empty one on.
 abbrev pub Alone : Type 0
 Alone = (front : List Change) (q : ℕ) (notes : List Note) → LegalCalls front q notes → All (λ c. c.pass ≡ q) front → IsRun [] notes (map_of front)
 
--- A lawful scan is a get of each key of its range, each at a moment of its own: between the scan's fronts there is one at which the
--- map has the value of the key's pair, or, where the key has none, lacks the key. Where the scan ended at its limit, that is said
--- of the keys up to the last pair's.
+-- A lawful scan is a get of each key of its range, each at a moment of its own. At some moment between the scan's fronts the map has the
+-- value of the key's pair, or lacks the key if it has no pair. Where the scan ended at its limit, that is said of the keys up to the last
+-- pair's.
 abbrev pub ScanIsGets : Type 0
 ScanIsGets =
     (before after : List Change) (from upto : List ℕ) (limit : ℕ) (scan : Scan) → IsLawfulScan before after from upto limit scan →

@@ -3,12 +3,12 @@ use Rattle.std.specs.Prelude.{◌≡◌, ℕ, ◌≤◌, AllPairs, Bool, Contain
 use Rattle.finite_map.specs.declared.Note.{Note}
 use Rattle.finite_map.specs.Calls.{place_after}
 
--- the notes of calls with labels, by which calls that look alike are told apart
+-- the notes of calls that have labels, by which calls that look alike are told apart
 abbrev pub noted : List (ℕ × Note) → List Note
 noted calls = map (λ x. x.1) calls
 
--- Where `before` says of two labels that the first one's call is known to have returned when the second's begins, that one's place is no
--- earlier, and later than the first one's change.
+-- Let `before` say of two labels that the first one's call had returned when the second's began. Then the second's place is no earlier, and
+-- later than the first one's change.
 abbrev pub FitsPlaces : (ℕ → ℕ → Bool) → List (ℕ × Note) → Type 0
 FitsPlaces before calls = (x y : ℕ × Note) → Contains calls x → Contains calls y → before x.0 y.0 ≡ true → place_after x.1 ≤ y.1.place
 
