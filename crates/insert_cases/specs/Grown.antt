@@ -12,22 +12,22 @@ use Rattle.node_tries.specs.Changes.{AtRootFork}
 use Rattle.insert_cases.specs.declared.growth.Grown.{Grown}
 use Rattle.insert_cases.specs.declared.growth.Grown.TheVariants.{One as Whole, Two}
 
--- the two sides of a root fork: halves made anew, or the old node as it stands and an entry
+-- the two sides of a cut show these pieces: halves made anew, or the old node as it stands and an entry
 abbrev pub SidesShow : NodeView → Half → Half → Piece Entry → Piece Entry → Type 0
 SidesShow old Same (One entry) zero one = (zero ≡ piece old) × (one ≡ Place entry) × IsEntry entry
 SidesShow old (One entry) Same zero one = (zero ≡ Place entry) × (one ≡ piece old) × IsEntry entry
 SidesShow old first second zero one = HalfShows first zero × HalfShows second one
 
--- the piece's root fork and its two sides
+-- the cut's position is that of the piece's root fork, and its halves show the two sides
 abbrev pub IsCutOf : NodeView → Cut → Piece Entry → Type 0
 IsCutOf old cut shown = AtRootFork (λ p zero one. (cut.position ≡ p) × SidesShow old cut.zero cut.one zero one) shown
 
--- one node that was built for the piece, or these two sides
+-- what a node has grown to shows this piece: one node built for it, or the two halves of a cut
 abbrev pub GrownShows : NodeView → Grown → Piece Entry → Type 0
 GrownShows old (Whole node) shown = IsBuiltFrom node shown
 GrownShows old (Two cut) shown = IsCutOf old cut shown
 
--- it is one node
+-- what a node has grown to is one node
 abbrev pub is_whole : Grown → Bool
 is_whole (Whole node) = true
 is_whole (Two cut) = false
@@ -38,7 +38,7 @@ is_same (One entry) = false
 is_same (Many node) = false
 is_same Same = true
 
--- the old node is one half as it stands
+-- one half of the cut is the old node as it stands
 abbrev pub keeps_side : Cut → Bool
 keeps_side cut = is_same cut.zero || is_same cut.one
 

@@ -4,13 +4,13 @@ use Rattle.insert_cases.specs.declared.choice.Choice.{Choice}
 use Rattle.insert_cases.specs.declared.choice.PathNode.{PathNode}
 use Rattle.insert_cases.specs.Ways.{case_of}
 
--- the last step whose first position is below p, or the first step
+-- the level is that of the last step whose first position is below p, or of the first step
 pub record IsLevel (way : List PathNode) (p level : ℕ) : Type 0 where
   pub within : level < length way
   pub low : 0 < level → (s : PathNode) → slice_get way level ≡ Some s → s.first_position < p
   pub rest : (k : ℕ) (s : PathNode) → level < k → slice_get way k ≡ Some s → p ≤ s.first_position
 
--- the node at the level, or the next one with all its entries
+-- the choice is the node at the level with several affected entries, or the next one with all of its entries
 pub record IsChosen (way : List PathNode) (level first last : ℕ) (c : Choice) : Type 0 where
   pub several : first < last → (s : PathNode) → slice_get way level ≡ Some s →
       c ≡ record { level = level; first = first; last = last; case = case_of s.height s.count false }
@@ -19,11 +19,11 @@ pub record IsChosen (way : List PathNode) (level first last : ℕ) (c : Choice) 
   pub leaf : last ≤ first → length way ≤ level + 1 → (s : PathNode) → slice_get way level ≡ Some s →
       c ≡ record { level = level; first = first; last = last; case = case_of s.height s.count true }
 
--- what rises from a node of this height goes into its parent of that height: the parent is one higher
+-- What rises from a node of height `child` is pulled up into its parent of height `parent`. The parent is just one higher.
 abbrev pub IsPullUp : ℕ → ℕ → Type 0
 IsPullUp child parent = parent ≡ child + 1
 
--- The end of the chain of pull ups from the node at this level on; both are indices on the way, the topmost node first. Each node of the
+-- The chain of pull ups from the node at `level` ends at `end`; both are indices on the path, the topmost node first. Each node of the
 -- chain below the end is full, and its parent is one higher. The end is topmost, or has room, or its parent is higher still.
 pub record IsChainEnd (way : List PathNode) (level end : ℕ) : Type 0 where
   pub upto : end ≤ level

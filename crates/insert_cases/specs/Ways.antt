@@ -13,18 +13,18 @@ use Rattle.insert_cases.specs.declared.choice.Case.TheVariants.{LeafPushdown, No
 use Rattle.insert_cases.specs.declared.choice.Choice.{Choice}
 use Rattle.insert_cases.specs.declared.choice.PathNode.{PathNode}
 
--- where a search goes on below a node
+-- the tree to which a key's search goes on below the node at the top
 abbrev pub below : Key → Tree → Tree
 below k (leaf n l v) = leaf n l v
 below k (node n x b) = child k b
 below k (fork p a b) = fork p a b
 
--- where it stands after so many nodes
+-- the tree to which a key's search has come after so many nodes
 abbrev pub stage : Key → Tree → ℕ → Tree
 stage k t zero = t
 stage k t (suc l) = stage k (below k t) l
 
--- what a step tells of its node
+-- the step tells this node's number, height, first position and count, and the slot that the key's search takes
 pub record IsStep (k : Key) (s : PathNode) (n : ℕ) (x : Fixed) (b : Tree) : Type 0 where
   pub number : s.number ≡ n
   pub height : s.height ≡ x.height
@@ -32,7 +32,7 @@ pub record IsStep (k : Key) (s : PathNode) (n : ℕ) (x : Fixed) (b : Tree) : Ty
   pub count : s.count ≡ size (subtrie b)
   pub at : s.slot ≡ spot k (subtrie b)
 
--- the step at the top of a tree, which is a node
+-- the tree begins with a node, and the step tells of it
 abbrev pub IsStepAtTopNode : Key → PathNode → Tree → Type 0
 IsStepAtTopNode k s (leaf n l v) = ⊥
 IsStepAtTopNode k s (node n x b) = IsStep k s n x b
@@ -49,30 +49,30 @@ abbrev pub IsWay : Key → Tree → List PathNode → Type 0
 IsWay k t [] = IsLeaf t
 IsWay k t (s ∷ ss) = IsStepAtTopNode k s t × IsWay k (below k t) ss
 
--- each fork on the key's way through a body has a lower position than this; nodes that stand there as entries are not entered
+-- Each fork on the key's path through a body has a lower position than p. Nodes that are entries of the body are not entered.
 abbrev pub WayBelow : ℕ → Key → Tree → Type 0
 WayBelow p k (leaf n l v) = Unit {0}
 WayBelow p k (node n x b) = Unit {0}
 WayBelow p k (fork q a b) = (q < p) × MatchBool (bit k q) (WayBelow p k b) (WayBelow p k a)
 
--- what stands below the top node; of another tree the tree itself
+-- the body of the node at the top; a tree without one is its own body
 abbrev pub body : Tree → Tree
 body (leaf n l v) = leaf n l v
 body (node n x b) = b
 body (fork p a b) = fork p a b
 
--- the same, told as a value
+-- whether the tree is a leaf
 abbrev pub is_leaf : Tree → Bool
 is_leaf (leaf n l v) = true
 is_leaf (node n x b) = false
 is_leaf (fork p a b) = false
 
--- what is done at a node of this height and count, where one leaf alone is affected or not
+-- the case of an insertion into a node of this height and count, whose affected part is one leaf or not
 abbrev pub case_of : ℕ → ℕ → Bool → Case
 case_of height count one_leaf = if one_leaf && nat_lt 1 height then LeafPushdown else (if nat_lt count 32 then NormalInsert else Overflow)
 
--- The node that the insertion of a key affects, where the key differs from the leaf that its search finds first at p:
--- all forks above it on the key's way are below p, and its affected part is a leaf, or it has two entries or more.
+-- The node that an insertion affects, where the key first differs at p from that of the leaf that its search finds. All forks above the
+-- node on the key's path are below p. Its affected part is a leaf, or has two entries or more.
 pub record IsAffectedNode (k : Key) (p : ℕ) (t : Tree) (c : Choice) : Type 0 where
   pub number : ℕ
   pub fixed : Fixed

@@ -7,12 +7,12 @@ use Rattle.tries.specs.Tree.{Tree}
 use Rattle.plain_trie_records.specs.Cases.{AddsByCase, IsNewNode}
 use Rattle.plain_trie.specs.Views.{PlainView, shown_tree}
 
--- a fork that rises from the root has a new node
+-- where a fork rises from the root, the new root is a new node
 abbrev pub MakesRoot : PlainView → PlainView → Bool → Type 0
 MakesRoot old new up = up ≡ true → MatchOption new.top ⊥ (IsNewNode (length old.nodes))
 
--- An absent key was added: it differs first at a position from the key of the leaf where its search ends, and has the next
--- leaf record; and what was done to the nodes is the case of the node that it affects, up to the root.
+-- An absent key was added, whose search ended at a leaf. It has the next leaf record. The nodes were changed as the case of the node that
+-- it affects says, up to the root.
 abbrev pub TakesCase : PlainView → PlainView → Key → Type 0
 TakesCase old new k =
     (t : Tree) → shown_tree old ≡ Some t →

@@ -12,7 +12,7 @@ abbrev pub most_new_nodes : Option Entry → ℕ
 most_new_nodes None = 0
 most_new_nodes (Some root) = height_of root + 1
 
--- no number of 32 bits is left for one leaf more, or too few are left for the most nodes that can come
+-- The trie is at its limit. No number of 32 bits is left for one leaf more, or too few are left for the most nodes that can come.
 abbrev pub IsAtLimit : PlainView → Type 0
 IsAtLimit v = (2 ^ 32 ≤ length v.leaves) ⊎ (2 ^ 32 < length v.nodes + most_new_nodes v.top)
 
@@ -20,7 +20,7 @@ IsAtLimit v = (2 ^ 32 ≤ length v.leaves) ⊎ (2 ^ 32 < length v.nodes + most_n
 abbrev pub MustGrow : PlainView → Type 0
 MustGrow v = (v.leaf_capacity ≤ length v.leaves) ⊎ (v.node_capacity < length v.nodes + most_new_nodes v.top)
 
--- a new key finds no room: there are as many leaves as may be, or the nodes must grow
+-- a new key finds no room: the trie is at its limit, or its vectors must grow
 abbrev pub LacksRoom : PlainView → Type 0
 LacksRoom v = IsAtLimit v ⊎ MustGrow v
 

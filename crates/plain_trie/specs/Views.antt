@@ -11,7 +11,7 @@ use Rattle.tries.specs.Tree.{Tree, subtrie}
 use Rattle.plain_trie_records.specs.declared.leaf.LeafRecord.{LeafRecord}
 use Rattle.plain_trie_records.specs.Store.{ShowsTree, IsSound, entry_tree, item_record}
 
--- what contracts see of a trie: its records, the root's entry, and for how many records the two vectors have memory
+-- What contracts see of a trie: its records, the root's entry, and for how many records its two vectors have memory.
 pub record PlainView : Type 0 where
   pub nodes : List NodeView
   pub leaves : List LeafRecord
@@ -19,7 +19,7 @@ pub record PlainView : Type 0 where
   pub node_capacity : ℕ
   pub leaf_capacity : ℕ
 
--- the tree from the root's entry on
+-- the tree that the trie's records show from the root's entry on
 abbrev pub shown_tree : PlainView → Option Tree
 shown_tree v = option_and_then (λ e. entry_tree v.nodes v.leaves (height_of e) e) v.top
 
@@ -32,11 +32,11 @@ map_read (Some t) = pairs (items t)
 abbrev pub trie_map : PlainView → Map
 trie_map v = map_read (shown_tree v)
 
--- from the root's entry down the records show such a trie
+-- the trie's records show a sound tree from the root's entry on, if there is one
 abbrev pub ShowsSoundTree : PlainView → Type 0
 ShowsSoundTree v = MatchOption v.top (Unit {0}) (λ e. IsSomeAnd (shown_tree v) IsSound)
 
--- the nodes from the root's entry down show the bit trie of the keys
+-- the trie's records show a bit trie of its keys from the root's entry on
 abbrev pub ShowsTrie : PlainView → Type 0
 ShowsTrie v = MatchOption v.top (trie_map v ≡ []) (λ e.
     (t : Tree) × (subtrie t ≡ Place e) × IsSound t × ShowsTree v.nodes v.leaves t × (trie_map v ≡ pairs (items t)))
@@ -56,6 +56,6 @@ pub record EndsAt (v : PlainView) (e : Entry) (k : Key) (n : ℕ) : Type 0 where
   pub number : (found k tree).number ≡ n
   pub at : slice_get v.leaves n ≡ Some (item_record (found k tree))
 
--- that leaf has the key
+-- the key's search ends at leaf record n, which has the key
 abbrev pub IsHeldInLeaf : PlainView → Key → ℕ → Type 0
 IsHeldInLeaf v k n = (e : Entry) × (end : EndsAt v e k n) × ((found k end.tree).key ≡ k)

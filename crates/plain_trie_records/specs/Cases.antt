@@ -24,31 +24,31 @@ use Rattle.plain_trie_records.specs.Heights.{Remains}
 abbrev pub IsOneSide : NodeView → Subtrie → Type 0
 IsOneSide view shown = AtRootFork (λ p zero one. (piece view ≡ zero) ⊎ (piece view ≡ one)) shown
 
--- What became of the affected node in its record, where it would show this subtrie with the leaf as one entry more: a new node
--- over leaves stands in the place of its one affected leaf; or it has the leaf; or it was cut, and one side is left.
+-- What became of the affected node in its record, where with the leaf it would show this subtrie. In a leaf pushdown a new node over leaves
+-- stands in place of its one affected leaf. In the other cases it has the leaf itself, or it was cut, and one side is left.
 abbrev pub IsCaseDone : Case → NodeView → NodeView → ℕ → Subtrie → Type 0
 IsCaseDone LeafPushdown old new first shown = (number : ℕ) × (new ≡ record old { entries = slice_set old.entries first (Node number 1) })
 IsCaseDone NormalInsert old new first shown = IsBuiltFrom new shown
 IsCaseDone Overflow old new first shown = IsOneSide new shown
 
--- so in the record of this number
+-- the record of this number has what became of the affected node in this case
 abbrev pub DoesCase : List NodeView → ℕ → Case → NodeView → ℕ → Subtrie → Type 0
 DoesCase nodes n case old first shown = (new : NodeView) × (slice_get nodes n ≡ Some new) × IsCaseDone case old new first shown
 
 -- ---- above the affected node
--- a fork of two, and not one entry
+-- what rises is a fork of two, and not one entry
 abbrev pub is_split : Risen → Bool
 is_split (Whole entry) = false
 is_split (Split position first second) = true
 
--- the node's root fork goes up
+-- in this case the node's root fork goes up
 abbrev pub is_overflow : Case → Bool
 is_overflow LeafPushdown = false
 is_overflow NormalInsert = false
 is_overflow Overflow = true
 
--- A node takes in a fork in place of its entry at a place: it has one entry more; or it was full and has one side of the
--- root fork that it would have then, which goes up.
+-- A node takes in a fork in place of the entry in a slot. It has one entry more; or it was full, has one side of its new root fork, and
+-- that fork goes up.
 pub record TakesFork (old new : NodeView) (at : ℕ) (up : Bool) : Type 0 where
   pub position : ℕ
   pub zero_entry : Entry
@@ -56,18 +56,17 @@ pub record TakesFork (old new : NodeView) (at : ℕ) (up : Bool) : Type 0 where
   pub room : length old.entries < 32 → IsBuiltFrom new (grafted at (Fork position (Place zero_entry) (Place one_entry)) (piece old)) × (up ≡ false)
   pub full : length old.entries ≡ 32 → IsOneSide new (grafted at (Fork position (Place zero_entry) (Place one_entry)) (piece old)) × (up ≡ true)
 
--- the node has a node at a place, and else it is as it was
+-- the node has a node in slot `at`, and is otherwise as it was
 abbrev pub HasNodeAt : NodeView → NodeView → ℕ → Type 0
 HasNodeAt old new at = (number : ℕ) × (height : ℕ) × (new ≡ record old { entries = slice_set old.entries at (Node number height) })
 
--- What a node does above a child of this height. Where a fork rose from the child, the node takes it in if it goes into a
--- parent of the node's height, and else has it in a node at the child's place, and nothing goes up. Where none rose, the
--- node is as it was, or has another entry at one place.
+-- What becomes of a node above a child of this height. A fork that rose goes into it if that is a pull up. Otherwise a new node in the
+-- child's slot has the fork, and nothing goes up. If none rose, at most one slot has another entry.
 abbrev pub IsLevelDone : ℕ → Bool → NodeView → NodeView → ℕ → Bool → Type 0
 IsLevelDone low false old new at up = Remains old new × (up ≡ false)
 IsLevelDone low true old new at up = (IsPullUp low old.height → TakesFork old new at up) × ((IsPullUp low old.height → ⊥) → HasNodeAt old new at × (up ≡ false))
 
--- so in the record of this number
+-- the record of this number has what becomes of a node at one level above the affected one
 pub record DoesLevel (old new : List NodeView) (n low at : ℕ) (rose up : Bool) : Type 0 where
   pub before : NodeView
   pub after : NodeView
@@ -75,8 +74,8 @@ pub record DoesLevel (old new : List NodeView) (n low at : ℕ) (rose up : Bool)
   pub new_at : slice_get new n ≡ Some after
   pub does : IsLevelDone low rose before after at up
 
--- so at each node on the key's way from the node so many levels below t up to t: whether a fork rose down there, and whether
--- one rises from t
+-- Each node on the key's path has become what its level asks, from so many levels below t up to t. `low` says whether a fork rose to the
+-- lowest, `up` whether one rises from t.
 abbrev pub DoesLevels : List NodeView → List NodeView → Key → ℕ → Tree → Bool → Bool → Type 0
 DoesLevels old new k zero t low up = up ≡ low
 DoesLevels old new k (suc l) (leaf n j v) low up = ⊥
@@ -85,8 +84,8 @@ DoesLevels old new k (suc l) (node n y b) low up =
 DoesLevels old new k (suc l) (fork q a b) low up = ⊥
 
 -- ---- an insertion
--- The records before and after a new leaf was added below t, and whether a fork rises from there: what was done is the case
--- of the node that the leaf's key affects, and each node above did what it does with what rose to it.
+-- The records before and after a new leaf was added below t; `up` says whether a fork rises from t. The affected node was changed by its
+-- case, and each node above did its part with what rose to it.
 pub record IsByCase (old new : List NodeView) (k : Key) (p number : ℕ) (t : Tree) (up : Bool) : Type 0 where
   pub choice : Choice
   pub affected : IsAffectedNode k p t choice
@@ -95,18 +94,19 @@ pub record IsByCase (old new : List NodeView) (k : Key) (p number : ℕ) (t : Tr
   pub does : DoesCase new affected.number choice.case view choice.first (grown p (bit k p) (Leaf number) choice.first (piece view))
   pub rises : DoesLevels old new k choice.level t (is_overflow choice.case) up
 
--- so where there is a node; a leaf alone gives way to a fork of itself and the new one
+-- The records before and after a new leaf was added below t, by the case of the node that it affects. A leaf alone gives way to a fork of
+-- itself and the new one.
 abbrev pub AddsByCase : List NodeView → List NodeView → Key → ℕ → ℕ → Tree → Bool → Type 0
 AddsByCase old new k p number (leaf n l v) up = up ≡ true
 AddsByCase old new k p number (node n x b) up = IsByCase old new k p number (node n x b) up
 AddsByCase old new k p number (fork q a b) up = Unit {0}
 
--- a node that was not among so many
+-- the entry is a node whose number is `count` or more
 abbrev pub IsNewNode : ℕ → Entry → Type 0
 IsNewNode count (Leaf n) = ⊥
 IsNewNode count (Node n h) = count ≤ n
 
--- In a node a new one was put between it and its child at a place: it has this subtrie, the fork that rose there.
+-- A new node was put between a node and its child in slot `at`. It shows the fork that rose there.
 pub record IsPutBetween (old new : List NodeView) (n at : ℕ) (node_view : NodeView) (shown : Subtrie) : Type 0 where
   pub view : NodeView
   pub built : IsBuiltFrom view shown

@@ -7,7 +7,7 @@ use Rattle.compound_node.specs.declared.halves.Half.TheVariants.{One, Many, Same
 use Rattle.insert_cases.specs.declared.growth.Grown.{Grown}
 use Rattle.insert_cases.specs.declared.growth.Grown.TheVariants.{One as Whole, Two}
 
--- the node that it was, or that node with another entry at one place; its stored height is as it was
+-- the node is as it was, or has another entry in one slot; its stored height is the same
 abbrev pub Remains : NodeView → NodeView → Type 0
 Remains old new = (new ≡ old) ⊎ ((place : ℕ) × (entry : Entry) × (new ≡ record old { entries = slice_set old.entries place entry }))
 
@@ -15,25 +15,24 @@ Remains old new = (new ≡ old) ⊎ ((place : ℕ) × (entry : Entry) × (new �
 abbrev pub HasHeightAnew : NodeView → Type 0
 HasHeightAnew node = node.height ≡ 1 + greatest_height node.entries
 
--- with the same forks the stored height is the same: it changes only where forks are added or cut off
+-- a node with the same forks has the same stored height
 abbrev pub KeepsHeight : NodeView → NodeView → Type 0
 KeepsHeight old new = new.columns ≡ old.columns → new.rows ≡ old.rows → new.height ≡ old.height
 
--- No record goes away. Each has a node that remains, or one that was built; and where the forks are as before, so is the
--- stored height.
+-- No record goes away. Each has a node that remains, or one that was built. Where its forks are as before, so is its stored height.
 pub record KeepsHeights (old new : List NodeView) : Type 0 where
   pub longer : length old ≤ length new
   pub each : (n : ℕ) (node : NodeView) → slice_get new n ≡ Some node →
       ((was : NodeView) × (slice_get old n ≡ Some was) × Remains was node) ⊎ HasHeightAnew node
   pub steady : (n : ℕ) (was node : NodeView) → slice_get old n ≡ Some was → slice_get new n ≡ Some node → KeepsHeight was node
 
--- what grew out of a node is steady beside it
+-- the half has the old node's height if it has its forks
 abbrev pub IsHalfSteady : NodeView → Half → Type 0
 IsHalfSteady old (One entry) = Unit {0}
 IsHalfSteady old (Many node) = KeepsHeight old node
 IsHalfSteady old Same = Unit {0}
 
--- what a node has grown to is no lower than it was
+-- what a node has grown to has its old height wherever it has its old forks
 abbrev pub IsGrownSteady : NodeView → Grown → Type 0
 IsGrownSteady old (Whole node) = KeepsHeight old node
 IsGrownSteady old (Two cut) = IsHalfSteady old cut.zero × IsHalfSteady old cut.one

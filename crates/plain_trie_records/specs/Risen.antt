@@ -11,7 +11,7 @@ use Rattle.tries.specs.Tree.{Subtrie, first_position}
 use Rattle.insert_cases.specs.declared.raising.Risen.{Risen}
 use Rattle.insert_cases.specs.declared.raising.Risen.TheVariants.{Whole, Split}
 
--- the entry names a node that shows the subtrie: its height is built anew, or it has the old one's height and first position
+-- The entry names a node that shows the subtrie. Its height was built anew, or it has the old node's height and first position.
 pub record IsNamed (nodes : List NodeView) (old : NodeView) (entry : Entry) (shown : Subtrie) : Type 0 where
   pub number : ℕ
   pub view : NodeView
@@ -21,7 +21,7 @@ pub record IsNamed (nodes : List NodeView) (old : NodeView) (entry : Entry) (sho
   pub shows : piece view ≡ shown
   pub height : (view.height ≡ 1 + greatest_height (places shown)) ⊎ ((view.height ≡ old.height) × (first_position (piece view) ≡ first_position (piece old)))
 
--- the entry stands for the subtrie: it alone is its place, or it names a node
+-- the entry stands for the subtrie: it is the subtrie itself, or names a node that shows it
 abbrev pub IsFor : List NodeView → NodeView → Entry → Subtrie → Type 0
 IsFor nodes old entry shown = (shown ≡ Place entry) ⊎ IsNamed nodes old entry shown
 
@@ -38,25 +38,25 @@ OthersStay old new n = (m : ℕ) (v : NodeView) → n ≢ m → slice_get old m 
 abbrev pub AllStay : List NodeView → List NodeView → Type 0
 AllStay old new = (m : ℕ) (v : NodeView) → slice_get old m ≡ Some v → slice_get new m ≡ Some v
 
--- the nodes with a half behind them, and the half's entry
+-- the nodes with a half behind them; none is added for an entry alone
 abbrev pub pushed_nodes : List NodeView → Half → List NodeView
 pushed_nodes nodes (One entry) = nodes
 pushed_nodes nodes (Many node) = nodes ++ node ∷ []
 pushed_nodes nodes Same = nodes
 
--- its entry, where that node has this number
+-- the entry of a half that was added as the node of this number
 abbrev pub pushed_entry : ℕ → Entry → Half → Entry
 pushed_entry number old (One entry) = entry
 pushed_entry number old (Many node) = Node number node.height
 pushed_entry number old Same = old
 
--- the nodes with a half in place of one, and the half's entry
+-- the nodes with a half in place of node `number`
 abbrev pub kept_nodes : List NodeView → ℕ → Half → List NodeView
 kept_nodes nodes number (One entry) = nodes
 kept_nodes nodes number (Many node) = slice_set nodes number node
 kept_nodes nodes number Same = nodes
 
--- its entry, where the node has the number of the old one
+-- the entry of a half that took the place of the node of this number
 abbrev pub kept_entry : ℕ → Entry → Half → Entry
 kept_entry number old (One entry) = entry
 kept_entry number old (Many node) = Node number node.height

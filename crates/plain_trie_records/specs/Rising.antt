@@ -21,12 +21,12 @@ NoNode n (leaf m k v) = Unit {0}
 NoNode n (node m x b) = (n ≢ m) × NoNode n b
 NoNode n (fork p a b) = NoNode n a × NoNode n b
 
--- nodes that are not of the tree stay
+-- the nodes whose numbers don't stand in the tree stay
 abbrev pub StaysStored : List NodeView → List NodeView → Tree → Type 0
 StaysStored old new s = (n : ℕ) (v : NodeView) → NoNode n s → slice_get old n ≡ Some v → slice_get new n ≡ Some v
 
--- In the place of s, which the old nodes show, the new ones show a tree with one leaf more. It begins with this subtrie, its
--- entries are lower than h, and all nodes but those of s are as they were.
+-- In place of s the new nodes show a tree with one leaf more. It begins with this subtrie, and its entries are lower than h. All nodes but
+-- those of s are as they were.
 pub record IsRaised (old new : List NodeView) (leaves : List LeafRecord) (x : Item) (p : ℕ) (s : Tree) (h : ℕ) (head : Subtrie) : Type 0 where
   pub tree : Tree
   pub begins : subtrie tree ≡ head
@@ -36,8 +36,7 @@ pub record IsRaised (old new : List NodeView) (leaves : List LeafRecord) (x : It
   pub shown : ShowsTree new leaves tree
   pub kept : StaysStored old new s
 
--- The records show a tree at an entry, and a new leaf besides, whose key differs first at p from that of the leaf where
--- its search in the tree ends.
+-- The records show a tree at an entry, and a new leaf besides. Its key differs first at p from that of the leaf where its search ends.
 pub record IsAddable (nodes : List NodeView) (leaves : List LeafRecord) (x : Item) (p : ℕ) (e : Entry) (t : Tree) : Type 0 where
   pub head : subtrie t ≡ Place e
   pub trie : IsTrie t
@@ -47,28 +46,27 @@ pub record IsAddable (nodes : List NodeView) (leaves : List LeafRecord) (x : Ite
   pub differ : IsFirstDifference x.key (found x.key t).key p
   pub new : slice_get leaves x.number ≡ Some (item_record x)
 
--- the records of nodes and those of leaves
+-- the nodes and the leaves of a trie
 pub record Records : Type 0 where
   pub nodes : List NodeView
   pub leaves : List LeafRecord
 
--- the records of these nodes and leaves
+-- these nodes and these leaves as the records of a trie
 abbrev pub records : List NodeView → List LeafRecord → Records
 records nodes leaves = record { nodes = nodes; leaves = leaves }
 
--- a node of this number and height, and the place in it of a child of height `low`
+-- one node of a path: its number and height, the slot that the search takes, and the height of the child there
 pub record Level : Type 0 where
   pub number : ℕ
   pub height : ℕ
   pub at : ℕ
   pub low : ℕ
 
--- a level of a way, of these numbers
+-- the level of these numbers
 abbrev pub level : ℕ → ℕ → ℕ → ℕ → Level
 level number height at low = record { number = number; height = height; at = at; low = low }
 
--- A node of the old records, below which a new leaf has risen up to its child at the key's place: this subtrie stands in the
--- child's place.
+-- A new leaf was added below a node of the old records, as far up as the child on the key's path. This subtrie takes the child's place.
 pub record IsLifting (old : Records) (new : List NodeView) (x : Item) (p : ℕ) (l : Level) (y : Fixed) (b : Tree) (head : Subtrie) : Type 0 where
   pub trie : IsTrie b
   pub built : IsBuilt (node l.number y b)
@@ -79,7 +77,7 @@ pub record IsLifting (old : Records) (new : List NodeView) (x : Item) (p : ℕ) 
   pub lower : l.low < l.height
   pub up : IsRaised old.nodes new old.leaves x p (child x.key b) (suc l.low) head
 
--- one node more, behind the others, that was built for this subtrie
+-- one node more stands behind the others, built for this subtrie, and the entry names it
 pub record IsNew (old new : List NodeView) (entry : Entry) (shown : Subtrie) : Type 0 where
   pub view : NodeView
   pub added : new ≡ old ++ view ∷ []

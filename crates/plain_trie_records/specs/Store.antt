@@ -8,7 +8,7 @@ use Rattle.tries.specs.Read.{join_node, read_subtrie}
 use Rattle.tries.specs.Tree.{Subtrie, Fixed, Tree, leaf, node, fork, subtrie, IsTrie, IsBuilt}
 use Rattle.plain_trie_records.specs.declared.leaf.LeafRecord.{LeafRecord}
 
--- record n is a node that shows this subtrie
+-- record n has a node with this head, which shows this subtrie
 pub record IsNodeStored (nodes : List NodeView) (n : ℕ) (x : Fixed) (p : Subtrie) : Type 0 where
   pub view : NodeView
   pub at : slice_get nodes n ≡ Some view
@@ -21,18 +21,18 @@ ShowsTree nodes leaves (leaf n k v) = slice_get leaves n ≡ Some (record { key 
 ShowsTree nodes leaves (node n x b) = IsNodeStored nodes n x (subtrie b) × ShowsTree nodes leaves b
 ShowsTree nodes leaves (fork p a b) = ShowsTree nodes leaves a × ShowsTree nodes leaves b
 
--- what a node of a number shows, where it has this height
+-- the tree of a node, read by what its entries show, if it has this height
 abbrev pub read_node : (Entry → Option Tree) → ℕ → ℕ → Option NodeView → Option Tree
 read_node f n h (Some v) = if nat_eq v.height h then join_node n (head_of v) (read_subtrie f (piece v)) else None
 read_node f n h None = None
 
--- the tree that an entry shows, read with a bound on the depth
+-- the tree that an entry shows in these records, read down to a bounded depth
 abbrev pub entry_tree : List NodeView → List LeafRecord → ℕ → Entry → Option Tree
 entry_tree nodes leaves f (Leaf n) = option_map (λ (l : LeafRecord). leaf n l.key l.value) (slice_get leaves n)
 entry_tree nodes leaves zero (Node n h) = None
 entry_tree nodes leaves (suc f) (Node n h) = read_node (entry_tree nodes leaves f) n h (slice_get nodes n)
 
--- a bit trie, each node of which has two entries or more and a height above theirs
+-- the tree is a bit trie, in which each node has two entries or more and a height above theirs
 pub record IsSound (t : Tree) : Type 0 where
   pub trie : IsTrie t
   pub built : IsBuilt t

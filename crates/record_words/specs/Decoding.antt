@@ -23,27 +23,27 @@ entry_of w = if nat_eq w (entry_word None) then None else (if nat_eq (w % 4) 1 t
 abbrev pub count_in : ℕ → ℕ
 count_in word = word % 256
 
--- the number of columns
+-- the number of columns that the first word of a head tells
 abbrev pub column_count_in : ℕ → ℕ
 column_count_in word = word / 256 % 256
 
--- the height
+-- the height that the first word of a head tells
 abbrev pub height_in : ℕ → ℕ
 height_in word = word / 65536 % 65536
 
--- the byte from which a near head counts
+-- the index of the byte from which a near head counts, told by its first word
 abbrev pub first_byte_in : ℕ → ℕ
 first_byte_in word = word / 2 ^ 32 % 2 ^ 8
 
--- the word with these numbers
+-- the word of a head that tells its numbers
 abbrev pub numbers_in : List ℕ → ℕ
 numbers_in head = get_or head NUMBERS_INDEX 0
 
--- the byte for column j in a word of near columns
+-- the byte for column j in a word of a near head
 abbrev pub column_byte : ℕ → ℕ → ℕ
 column_byte j word = word / 2 ^ (8 * (7 - j % 8)) % 2 ^ 8
 
--- a near column: how many bytes behind the first one its byte is, and the mask of its bit
+-- the position of column j in a near head, from the index of its byte and the mask of its bit
 abbrev pub near_column_in : HeadKind → List ℕ → ℕ → ℕ
 near_column_in kind head j =
     9 * (first_byte_in (numbers_in head) + column_byte j (get_or head (position_index kind j) 0)) +
@@ -55,38 +55,38 @@ column_in Wide head j = get_or head (FIRST_POSITIONS + j / 4) 0 / 2 ^ (16 * (j %
 column_in Narrow head j = near_column_in Narrow head j
 column_in Middle head j = near_column_in Middle head j
 
--- the sparse partial key of place i in the words of a head of this kind: its highest 8 or 16 bits, or all 32
+-- Row i in the words of a head of this kind. A narrow or middle head has its highest 8 or 16 bits, a wide one all 32.
 abbrev pub row_in : HeadKind → List ℕ → ℕ → ℕ
 row_in Wide head i = get_or head (FIRST_ROWS + i / 2) 0 / 2 ^ (32 * (i % 2)) % 2 ^ 32
 row_in Narrow head i = get_or head (FIRST_NARROW_ROWS + i / 8) 0 / 2 ^ (8 * (i % 8)) % 2 ^ 8 * 2 ^ 24
 row_in Middle head i = get_or head (FIRST_MIDDLE_ROWS + i / 4) 0 / 2 ^ (16 * (i % 4)) % 2 ^ 16 * 2 ^ 16
 
--- the positions of all columns
+-- the positions of all columns in the words of a head
 abbrev pub columns_in : List ℕ → List ℕ
 columns_in head = map (column_in (kind_in (numbers_in head)) head) (range_with_len 0 (column_count_in (numbers_in head)))
 
--- the sparse partial keys of all places
+-- the sparse partial keys of all entries in the words of a head
 abbrev pub rows_in : List ℕ → List ℕ
 rows_in head = map (row_in (kind_in (numbers_in head)) head) (range_with_len 0 (count_in (numbers_in head)))
 
 -- ---- the words of entries
--- the first so many
+-- the first `count` entries in the words of a node's entries
 abbrev pub entries_of : ℕ → List ℕ → List Entry
 entries_of count tail = take count (map (λ w. unwrap_or (entry_of w) (Leaf 0)) tail)
 
 -- ---- the words of a leaf
--- the bytes of a key's words: eight a word, the first in its highest bits
+-- the bytes in the words of a key: eight in each, the first in its highest bits
 abbrev pub bytes_in : List ℕ → List ℕ
 bytes_in words = map (λ i. get_or (to_be_bytes w64 (get_or words (i / 8) 0)) (i % 8) 0) (range_with_len 0 MAX_BYTES)
 
--- the value
+-- the value in the words of a leaf
 abbrev pub leaf_value_in : List ℕ → ℕ
 leaf_value_in words = get_or words VALUE_INDEX 0
 
--- the length of the key, in bytes
+-- the length of the key in the words of a leaf, in bytes
 abbrev pub key_length_in : List ℕ → ℕ
 key_length_in words = get_or words LENGTH_INDEX 0
 
--- the key
+-- the key in the words of a leaf
 abbrev pub leaf_key_in : List ℕ → List ℕ
 leaf_key_in words = take (key_length_in words) (bytes_in (drop FIRST_KEY_WORD words))

@@ -4,7 +4,7 @@ use Rattle.compound_node.specs.declared.entries.Entry.{Entry}
 use Rattle.compound_node.specs.declared.entries.Entry.TheVariants.{Leaf, Node}
 use Rattle.record_words.specs.declared.TheConstants.{HEIGHT_BIT}
 
--- a record number has 32 bits, and a node's height is from 1 to 65,535
+-- the entry has a word: its record number has 32 bits, and a node's height is from 1 to 65,535
 abbrev pub HasEntryWord : Option Entry → Type 0
 HasEntryWord None = Unit {0}
 HasEntryWord (Some (Leaf number)) = number < 2 ^ 32

@@ -12,7 +12,7 @@ use Rattle.record_words.specs.declared.TheConstants.{FIRST_ROWS, MIDDLE_HEAD_WOR
 abbrev pub HasHeadOf : HeadKind → HeadView → Type 0
 HasHeadOf kind head = HasHeadWords head × (kind_of head.columns ≡ kind)
 
--- each node whose head is of this kind, and has these words in this part, is so
+-- each node whose head is of this kind, and has these words in this part, has the property
 abbrev pub InNodesOfKind : HeadKind → (HeadView → List ℕ) → List ℕ → (NodeView → Type 0) → Type 0
 InNodesOfKind kind part words IsSo = (node : NodeView) → IsLawfulNode node → kind_of node.columns ≡ kind → part (head_of node) ≡ words → IsSo node
 
@@ -24,15 +24,15 @@ front_words head = take FIRST_ROWS (head_words head)
 abbrev pub back_words : HeadView → List ℕ
 back_words head = drop FIRST_ROWS (head_words head)
 
--- the words of a narrow, and of a middle head that say something
+-- the words of a narrow or middle head without the unused ones
 abbrev pub narrow_words : HeadView → List ℕ
 narrow_words head = take NARROW_HEAD_WORDS (head_words head)
 
--- the words of a head that a search of a middle one loads
+-- the words that a search loads of a middle head
 abbrev pub middle_words : HeadView → List ℕ
 middle_words head = take MIDDLE_HEAD_WORDS (head_words head)
 
--- the numbers in the first word of a node's head; a wide head doesn't tell its first byte
+-- the numbers are those in the first word of a node's head, where a wide head doesn't tell its first byte
 pub record AreNumbersOf (numbers : HeadNumbers) (node : NodeView) : Type 0 where
   pub count_is : numbers.count ≡ length node.entries
   pub columns_are : numbers.columns ≡ length node.columns
@@ -40,6 +40,6 @@ pub record AreNumbersOf (numbers : HeadNumbers) (node : NodeView) : Type 0 where
   pub kind_is : numbers.kind ≡ kind_of node.columns
   pub first_is : numbers.kind ≢ Wide → numbers.first_byte ≡ first_byte node.columns
 
--- each node whose head has these numbers, and this word at this index, is so
+-- each node whose head has these numbers, and this word at this index, has the property
 abbrev pub InNodesWith : HeadNumbers → ℕ → ℕ → (NodeView → Type 0) → Type 0
 InNodesWith numbers index word IsSo = (node : NodeView) → IsLawfulNode node → AreNumbersOf numbers node → slice_index (head_words (head_of node)) index ≡ word → IsSo node

@@ -13,11 +13,11 @@ use Rattle.record_words.specs.declared.TheConstants.{FIRST_MIDDLE_ROWS, FIRST_NA
 abbrev pub first_byte : List ℕ → ℕ
 first_byte columns = slice_index columns 0 / 9
 
--- a bit of one of the sixteen bytes from this one on, and not the bit that says that there is a byte
+-- the position is of a bit of one of the sixteen bytes from `first` on, and not the 1 before a byte
 abbrev pub is_near : ℕ → ℕ → Bool
 is_near first p = not (eqb (p % 9) 0) && nat_lt (p / 9) (first + WINDOW_BYTES)
 
--- sixteen bytes, which the places of each key have, have all bits at the columns
+-- the bits at all columns are in sixteen bytes that lie within MAX_BYTES
 abbrev pub are_near : List ℕ → Bool
 are_near columns = nat_le (first_byte columns + WINDOW_BYTES) MAX_BYTES && all (is_near (first_byte columns)) columns
 
@@ -25,13 +25,13 @@ are_near columns = nat_le (first_byte columns + WINDOW_BYTES) MAX_BYTES && all (
 abbrev pub kind_of : List ℕ → HeadKind
 kind_of columns = cond (are_near columns && nat_le (length columns) MIDDLE_COLUMNS) (cond (nat_le (length columns) NARROW_COLUMNS) Narrow Middle) Wide
 
--- how many words of a head say something
+-- how many words of a head of this kind are used
 abbrev pub head_size : HeadKind → ℕ
 head_size Wide = HEAD_WORDS
 head_size Narrow = NARROW_HEAD_WORDS
 head_size Middle = MIDDLE_HEAD_WORDS
 
--- the index of the first word with rows, and how many rows a word has
+-- the index of the first word with rows, in a head of this kind
 abbrev pub rows_from : HeadKind → ℕ
 rows_from Wide = FIRST_ROWS
 rows_from Narrow = FIRST_NARROW_ROWS
@@ -43,7 +43,7 @@ rows_a_word Wide = 2
 rows_a_word Narrow = 8
 rows_a_word Middle = 4
 
--- what the first word of a head says of its kind, and of the byte from which a near one counts; a wide head has 0
+-- What the first word of a head tells of its kind, and of the byte from which a near head counts. A wide head has 0.
 abbrev pub kind_part : HeadKind → List ℕ → ℕ
 kind_part Wide columns = 0
 kind_part Narrow columns = 2 ^ 40 + 2 ^ 32 * first_byte columns
@@ -59,50 +59,50 @@ position_index Wide column = FIRST_POSITIONS + column / 4
 position_index Narrow column = FIRST_POSITIONS
 position_index Middle column = cond (nat_lt column 8) (FIRST_POSITIONS + 1) FIRST_POSITIONS
 
--- the index of the word with the mask of a column; a wide head has none, and its position stands for it
+-- the index of the word with the mask of a column; for a wide head, that of its position
 abbrev pub mask_index : HeadKind → ℕ → ℕ
 mask_index Wide column = position_index Wide column
 mask_index Narrow column = position_index Narrow column + 1
 mask_index Middle column = position_index Middle column + 2
 
--- so many words of these lanes of w bits, the first lane in the lowest bits of the first word
+-- `count` words of these lanes of w bits each, the first lane in the lowest bits of the first word
 unfoldable pub lane_words : ℕ → ℕ → List ℕ → List ℕ
 lane_words w count lanes = digits_l (2 ^ 64) count (number_l (2 ^ w) lanes)
 
--- the bit of a position in its byte; 0 for the bit that says that there is a byte
+-- the mask of a position in its byte; 0 for the 1 before a byte
 abbrev pub bit_mask : ℕ → ℕ
 bit_mask p = cond (eqb (p % 9) 0) 0 (2 ^ (8 - p % 9))
 
--- Column 15 - i has lane i, so that a comparison of the lanes gives the highest bits of a dense key. A lane past the last column has the
--- first of the nine bits of the first byte.
+-- The position that lane i of a near head has: that of column 15 - i. So comparing the lanes gives the highest bits of a dense key. A lane
+-- past the last column has the first of the nine bits of the first byte.
 abbrev pub near_position : List ℕ → ℕ → ℕ
 near_position columns i = slice_index_or columns (15 - i) (9 * first_byte columns)
 
--- how many bytes behind the first one the byte of each lane is
+-- for each lane of a near head, how many bytes behind the first one its byte is
 abbrev pub index_lanes : List ℕ → List ℕ
 index_lanes columns = map (λ i. near_position columns i / 9 - first_byte columns) (range_with_len 0 16)
 
--- the bit of each lane in its byte; 0 past the last column
+-- for each lane of a near head, the mask of its bit in its byte; 0 past the last column
 abbrev pub mask_lanes : List ℕ → List ℕ
 mask_lanes columns = map (λ i. bit_mask (near_position columns i)) (range_with_len 0 16)
 
--- how far a position is behind the first of the nine bits of a byte, in 16 bits; 0 for 65,535, which stands for no column
+-- How far a position is behind the first of a byte's nine bits, in 16 bits. It is 0 for 65,535, which stands for no column.
 abbrev pub distance_from : ℕ → ℕ → ℕ
 distance_from first p = cond (eqb p 65535) 0 ((p + (2 ^ 16 - 9 * first % 2 ^ 16)) % 2 ^ 16)
 
--- columns that a near head can spell
+-- the columns can be spelled by the lanes of a near head
 pub record HasNearLanes (columns : List ℕ) : Type 0 where
   pub positions : IsColumns columns
   pub few : length columns ≤ MIDDLE_COLUMNS
   pub near : are_near columns ≡ true
 
--- lanes that spell such columns, counted from this byte on
+-- the lanes spell the columns, counted from this byte on
 pub record AreNearLanes (columns indexes masks : List ℕ) (first : ℕ) : Type 0 where
   pub has : HasNearLanes columns
   pub indexes_are : indexes ≡ index_lanes columns
   pub masks_are : masks ≡ mask_lanes columns
   pub first_is : first ≡ first_byte columns
 
--- sixteen positions, those of the columns and 65,535 behind them
+-- the positions of the columns, filled up to sixteen by 65,535
 abbrev pub with_free_to_16 : List ℕ → List ℕ
 with_free_to_16 columns = columns ++ replicate (16 - length columns) 65535

@@ -7,7 +7,7 @@ use Rattle.record_words.specs.declared.TheConstants.{FIELDS_OFFSET, FIRST_KEY_WO
 use Rattle.key_bits.specs.Key.{IsKey}
 use Rattle.key_bits.specs.declared.TheConstants.{MAX_BYTES}
 
--- a key's eight bytes from byte 8j on, the first of them highest; past its end they are 0
+-- word j of a key: its eight bytes from byte 8j on, the first in the highest bits, with 0 past its end
 unfoldable pub key_word : List ℕ → ℕ → ℕ
 key_word key j = from_be_bytes w64 (drop (8 * j) key)
 
@@ -15,29 +15,28 @@ key_word key j = from_be_bytes w64 (drop (8 * j) key)
 abbrev pub words_of_key : ℕ → ℕ
 words_of_key n = (n + 7) / 8
 
--- how many words a leaf record needs for a key of this length: those of the state, the value and the length, and the key's own
+-- How many words a leaf record needs for a key of this length: the state, the value, the length, and the words of the key.
 abbrev pub words_for : ℕ → ℕ
 words_for n = KEY_OFFSET + words_of_key n
 
--- the word at an offset of a leaf record, after that of the state
+-- the word at an offset of a leaf record, behind its state
 abbrev pub leaf_word : List ℕ × ℕ → ℕ → ℕ
 leaf_word (key, value) offset = cond (nat_eq offset VALUE_OFFSET) value (cond (nat_eq offset LENGTH_OFFSET) (length key) (key_word key (offset - KEY_OFFSET)))
 
--- the words at offsets 1 to LEAF_FIELDS
+-- the words of a leaf record behind its state, at offsets 1 to LEAF_FIELDS
 unfoldable pub leaf_words : List ℕ × ℕ → List ℕ
 leaf_words leaf = map (leaf_word leaf) (range_with_len FIELDS_OFFSET LEAF_FIELDS)
 
--- The words of a leaf record as far as they say something: the value, the length of the key, and the words with bytes of it. What stands
--- behind these is of no leaf, and counts as 0.
+-- The words of a leaf record without its state, as far as they belong to the leaf. Those behind its key count as 0.
 unfoldable pub up_to_key : List ℕ → List ℕ
 up_to_key words = map (λ i. if nat_lt i (FIRST_KEY_WORD + words_of_key (key_length_in words)) then get_or words i 0 else 0) (range_with_len 0 LEAF_FIELDS)
 
--- a key, and a value of 64 bits
+-- the leaf has words: its key is one, and its value has 64 bits
 pub record HasLeafWords (leaf : List ℕ × ℕ) : Type 0 where
   pub key : IsKey leaf.0
   pub value : leaf.1 < 2 ^ 64
 
--- bytes whose words these are
+-- the bytes are those of the words of a key
 pub record IsBytesOf (bytes words : List ℕ) : Type 0 where
   pub count : length bytes ≡ MAX_BYTES
   pub words_are : (j : ℕ) → j < KEY_WORDS → key_word bytes j ≡ slice_index words j

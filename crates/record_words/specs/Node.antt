@@ -11,53 +11,53 @@ use Rattle.record_words.specs.Packed.{fixed_words}
 use Rattle.partial_keys.specs.declared.TheConstants.{MAX_ENTRIES}
 use Rattle.record_words.specs.declared.TheConstants.{HEAD_WORDS}
 
--- the words at offsets 1 to HEAD_WORDS
+-- the words of a head, at offsets 1 to HEAD_WORDS of a node record
 abbrev pub head_words : HeadView → List ℕ
 head_words head = fixed_words (length head.rows) head.height head.columns head.rows
 
--- some node has the head
+-- the head is that of some node, so it has words
 abbrev pub HasHeadWords : HeadView → Type 0
 HasHeadWords head = (node : NodeView) × IsLawfulNode node × (head_of node ≡ head)
 
--- each node whose head has these words is so
+-- each node whose head has these words has the property
 abbrev pub InNodesOf : List ℕ → (NodeView → Type 0) → Type 0
 InNodesOf words IsSo = (node : NodeView) → IsLawfulNode node → head_words (head_of node) ≡ words → IsSo node
 
--- the words from offset FIRST_ENTRY on, one for each of MAX_ENTRIES places, with 0 past the last entry
+-- the words of a node's entries, from offset FIRST_ENTRY on: one for each slot, with 0 past the last entry
 unfoldable pub entry_words : List Entry → List ℕ
 entry_words entries = map (λ i. entry_word (slice_get entries i)) (range_with_len 0 MAX_ENTRIES)
 
--- up to MAX_ENTRIES entries that have words
+-- the entries have words, and are at most MAX_ENTRIES
 pub record HaveEntryWords (entries : List Entry) : Type 0 where
   pub room : length entries ≤ MAX_ENTRIES
   pub each : (i : ℕ) → HasEntryWord (slice_get entries i)
 
--- the words at offsets 1 to NODE_FIELDS
+-- the words of a node record behind its state, at offsets 1 to NODE_FIELDS
 abbrev pub node_words : NodeView → List ℕ
 node_words node = head_words (head_of node) ++ entry_words node.entries
 
--- a node whose entries have words
+-- the node has words: it is a lawful one, and its entries have words
 pub record HasNodeWords (node : NodeView) : Type 0 where
   pub lawful : IsLawfulNode node
   pub entries : HaveEntryWords node.entries
 
 -- ---- words that get a new leaf
--- a node of leaves alone with room for one more
+-- the node has leaves alone, and room for one more
 abbrev pub CanTakeLeaf : NodeView → Type 0
 CanTakeLeaf node = (node.height ≡ 1) × (length node.entries < MAX_ENTRIES)
 
--- The words are those of this node. It can take a leaf, and a fork at the position parts that from the entries from first to last
+-- The words are those of this node, which can take a leaf. A fork at the position parts the leaf from the entries from `first` to `last`.
 pub record CanGrowAt (words : List ℕ) (node : NodeView) (position first last : ℕ) : Type 0 where
   pub has : HasNodeWords node
   pub spells : node_words node ≡ words
   pub takes : CanTakeLeaf node
   pub range : IsAffected (piece node) position first last
 
--- the front of the words is that of this head, and the words behind it are as before
+-- the new words begin with those of this head, and are behind it as before
 abbrev pub HasHead : (old new : List ℕ) → HeadView → Type 0
 HasHead old new head = new ≡ head_words head ++ drop HEAD_WORDS old
 
--- the words are those of a node that was built anew to show this piece
+-- the words spell a node that was built anew to show this piece
 pub record SpellBuilt (words : List ℕ) (shown : Piece Entry) : Type 0 where
   pub node : NodeView
   pub has : HasNodeWords node
@@ -65,13 +65,13 @@ pub record SpellBuilt (words : List ℕ) (shown : Piece Entry) : Type 0 where
   pub built : IsBuiltFrom node shown
 
 -- ---- words that lose an entry
--- the words are those of these entries, all of which can stand in a node of this height
+-- the words spell these entries, all of which can stand in a node of this height
 pub record SpellEntries (height : ℕ) (words : List ℕ) (entries : List Entry) : Type 0 where
   pub spells : map (λ entry. entry_word (Some entry)) entries ≡ words
   pub each : All (λ entry. HasEntryWord (Some entry)) entries
   pub stand : All (StandsBelow height) entries
 
--- The words are those of this node, in which the sibling is the place beside `at`, and the entry can stand
+-- The words are those of this node. The sibling is the slot beside `at`, and the entry can stand there.
 pub record CanCloseAt (words : List ℕ) (node : NodeView) (at sibling : ℕ) (entry : Entry) : Type 0 where
   pub has : HasNodeWords node
   pub spells : node_words node ≡ words
@@ -80,7 +80,7 @@ pub record CanCloseAt (words : List ℕ) (node : NodeView) (at sibling : ℕ) (e
   pub is_beside : beside at (piece node) ≡ Some (sibling, position)
   pub stands : StandsBelow node.height entry
 
--- what is left of a node: the one entry, or a node that was built anew and that the words spell
+-- What is left of a node shows this piece: one entry, or a node built anew, which the words spell.
 abbrev pub SpellLeft : List ℕ → Option Entry → Piece Entry → Type 0
 SpellLeft words (Some entry) shown = (shown ≡ Place entry) × IsEntry entry
 SpellLeft words None shown = SpellBuilt words shown

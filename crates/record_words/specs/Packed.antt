@@ -7,48 +7,48 @@ use Rattle.record_words.specs.declared.kind.HeadKind.TheVariants.{Wide, Narrow, 
 use Rattle.partial_keys.specs.declared.TheConstants.{MAX_ENTRIES}
 use Rattle.record_words.specs.declared.TheConstants.{HEAD_WORDS}
 
--- the number of entries, the number of columns and the stored height
+-- the number of entries, the number of columns and the stored height, as parts of one word
 abbrev pub meta_word : ℕ → ℕ → ℕ → ℕ
 meta_word count columns height = count + 256 * columns + 65536 * height
 
--- the position of a column, and past the last one the greatest number of 16 bits
+-- the position of column i, and 65,535 past the last one
 abbrev pub position_at : List ℕ → ℕ → ℕ
 position_at columns i = slice_index_or columns i 65535
 
--- four positions, from the lowest bits up
+-- word j of the positions: four of them, from the lowest bits up
 unfoldable pub position_word : List ℕ → ℕ → ℕ
 position_word columns j =
     position_at columns (4 * j) + 2 ^ 16 * position_at columns (4 * j + 1) + 2 ^ 32 * position_at columns (4 * j + 2) + 2 ^ 48 * position_at columns (4 * j + 3)
 
--- the sparse partial key of an entry, and past the last one the greatest number of 32 bits
+-- row i, and 4,294,967,295 past the last one
 abbrev pub row_at : List ℕ → ℕ → ℕ
 row_at rows i = slice_index_or rows i 4294967295
 
--- two sparse partial keys, the first in the low half
+-- word j of the rows in a wide head: two of them, the first in the low half
 unfoldable pub row_word : List ℕ → ℕ → ℕ
 row_word rows j = row_at rows (2 * j) + 2 ^ 32 * row_at rows (2 * j + 1)
 
--- the words of the columns of a head. The first eight lanes of a narrow one are 0, and have no word
+-- The words of a head's columns, by its kind. The first eight lanes of a narrow one are 0, and have no word.
 abbrev pub column_words : HeadKind → List ℕ → List ℕ
 column_words Wide columns = map (position_word columns) (range_with_len 0 8)
 column_words Narrow columns = lane_words 8 1 (drop 8 (index_lanes columns)) ++ lane_words 8 1 (drop 8 (mask_lanes columns))
 column_words Middle columns = lane_words 8 2 (index_lanes columns) ++ lane_words 8 2 (mask_lanes columns)
 
--- the bits of the sparse partial keys of all places above this one
+-- the bits of each row above the lowest `low`, as lanes
 abbrev pub row_lanes : ℕ → List ℕ → List ℕ
 row_lanes low rows = map (λ i. row_at rows i / 2 ^ low) (range_with_len 0 MAX_ENTRIES)
 
--- the words of the sparse partial keys of a head
+-- the words of a head's rows, by its kind
 abbrev pub row_words : HeadKind → List ℕ → List ℕ
 row_words Wide rows = map (row_word rows) (range_with_len 0 16)
 row_words Narrow rows = lane_words 8 4 (row_lanes 24 rows)
 row_words Middle rows = lane_words 16 8 (row_lanes 16 rows)
 
--- the word of the numbers of a head
+-- the first word of a head: its numbers, and its kind
 abbrev pub numbers_word : HeadKind → ℕ → ℕ → List ℕ → ℕ
 numbers_word kind count height columns = meta_word count (length columns) height + kind_part kind columns
 
--- all ones, in the words of a head in which this kind has nothing
+-- words of all ones, as many as a head of this kind leaves unused
 abbrev pub unused_words : HeadKind → List ℕ
 unused_words kind = replicate (HEAD_WORDS - head_size kind) (2 ^ 64 - 1)
 
@@ -56,6 +56,6 @@ unused_words kind = replicate (HEAD_WORDS - head_size kind) (2 ^ 64 - 1)
 abbrev pub kind_words : HeadKind → ℕ → ℕ → List ℕ → List ℕ → List ℕ
 kind_words kind count height columns rows = numbers_word kind count height columns ∷ (column_words kind columns ++ (row_words kind rows ++ unused_words kind))
 
--- the words at offsets 1 to HEAD_WORDS of a node record, in the kind that the columns take
+-- the words of the head with these fields, in the kind that its columns ask for
 unfoldable pub fixed_words : ℕ → ℕ → List ℕ → List ℕ → List ℕ
 fixed_words count height columns rows = kind_words (kind_of columns) count height columns rows

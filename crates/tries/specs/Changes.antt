@@ -4,7 +4,7 @@ use Rattle.tries.specs.Keys.{Key, AgreeBelow}
 use Rattle.tries.specs.Tree.{Tree, Has, IsTrie}
 use Rattle.tries.specs.Content.{Item, items, IsMore}
 
--- The second tree is the first with one leaf more, whose key agrees with a key of it before `p`.
+-- The second tree is the first with one leaf more. The leaf's key agrees with a key of the first before `p`.
 pub record IsAdded (x : Item) (p : ℕ) (s r : Tree) : Type 0 where
   pub trie : IsTrie r
   pub more : IsMore x (items s) (items r)

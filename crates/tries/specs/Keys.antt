@@ -14,14 +14,14 @@ bit k p = bit_of k p
 abbrev pub AgreeBelow : ℕ → Key → Key → Type 0
 AgreeBelow p k l = (q : ℕ) → q < p → bit k q ≡ bit l q
 
--- The two keys part at this position, the first on the side of 0.
+-- The two keys part at this position: the first has 0 there, the second 1.
 abbrev pub IsParted : ℕ → Key → Key → Type 0
 IsParted p k l = AgreeBelow p k l × (bit k p ≡ false) × (bit l p ≡ true)
 
--- The one key is before the other: they part somewhere, the first on the side of 0.
+-- The first key comes before the second: where they part, it has 0.
 abbrev pub IsBefore : Key → Key → Type 0
 IsBefore k l = (p : ℕ) × IsParted p k l
 
--- the key is this one or before it
+-- the first key is the second or comes before it
 abbrev pub IsAtMost : Key → Key → Type 0
 IsAtMost k l = (k ≡ l) ⊎ IsBefore k l

@@ -15,7 +15,7 @@ abbrev pub join_node : ℕ → Fixed → Option Tree → Option Tree
 join_node n x (Some b) = Some (node n x b)
 join_node n x None = None
 
--- What a subtrie shows, where each entry shows what `f` says.
+-- The tree that a subtrie shows, where `f` says what each entry shows.
 abbrev pub read_subtrie : (Entry → Option Tree) → Subtrie → Option Tree
 read_subtrie f (Place e) = f e
 read_subtrie f (Fork p x y) = join_fork p (read_subtrie f x) (read_subtrie f y)

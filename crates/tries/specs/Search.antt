@@ -6,13 +6,13 @@ use Rattle.node_tries.specs.Piece.{Place, Fork, size}
 use Rattle.compound_node.specs.declared.entries.Entry.{Entry}
 use Rattle.tries.specs.Content.{Item}
 
--- The key agrees with the tree's stem: with all the keys of it before its first fork, or with a leaf's whole key.
+-- The key agrees with the tree's stem: with all of its keys before its first fork, or with the whole key of a leaf.
 abbrev pub Follows : Key → Tree → Type 0
 Follows k (leaf n l v) = k ≡ l
 Follows k (node n h b) = Follows k b
 Follows k (fork p a b) = (l : Key) → Has a l ⊎ Has b l → AgreeBelow p k l
 
--- Where a key's search leaves a record.
+-- The tree to which a key's search goes on from a body.
 abbrev pub child : Key → Tree → Tree
 child k (leaf n l v) = leaf n l v
 child k (node n h b) = node n h b
@@ -24,7 +24,7 @@ found k (leaf n l v) = record { number = n; key = l; value = v }
 found k (node n x b) = found k b
 found k (fork p a b) = if bit k p then found k b else found k a
 
--- The same search in what a node shows.
+-- The entry to which a key's search leads in a subtrie.
 abbrev pub seek : Key → Subtrie → Entry
 seek k (Place e) = e
 seek k (Fork p a b) = if bit k p then seek k b else seek k a
@@ -35,7 +35,7 @@ pub data Kin : Tree → Tree → Type 0 where
   forks : {p : ℕ} {a b c d : Tree} → ((k l : Key) → Has a k ⊎ Has b k → Has c l ⊎ Has d l → AgreeBelow p k l) →
       Kin a c → Kin b d → Kin (fork p a b) (fork p c d)
 
--- The position of the fork between two places of a subtrie, the first below the second.
+-- The position of the fork between slots i and j of a subtrie, i below j.
 abbrev pub between : Subtrie → ℕ → ℕ → ℕ
 between (Place e) i j = 0
 between (Fork p x y) i j =

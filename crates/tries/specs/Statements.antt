@@ -8,27 +8,27 @@ use Rattle.std.specs.BTreeMap.{insert_entry, is_at}
 use Rattle.tries.specs.Tree.{Tree, IsTrie}
 use Rattle.tries.specs.Content.{Item, items, pairs, IsMore, IsExchange, IsLocal}
 
--- The keys rise strictly in byte order.
+-- The keys of a trie's leaves rise strictly in byte order.
 abbrev pub ContentRises : Type 0
 ContentRises = (t : Tree) → IsTrie t → IsStrictlySortedBy (slice_cmp nat_cmp) (keys_of (pairs (items t)))
 
--- Local rules make a trie, and a trie has them.
+-- A tree is a trie exactly if the local rules hold in it.
 abbrev pub LocalIsTrie : Type 0
 LocalIsTrie = (t : Tree) → IsLocal t ↔ IsTrie t
 
--- One leaf more: the key was absent, and has the value now.
+-- With one leaf more, the key was absent before, and has the value after.
 abbrev pub AddingInserts : Type 0
 AddingInserts =
     (s t : Tree) (x : Item) → IsTrie t → IsMore x (items s) (items t) →
     (lookup (is_at (slice_cmp nat_cmp x.key)) (pairs (items s)) ≡ None) × (insert_entry (slice_cmp nat_cmp) (pairs (items s)) x.key x.value ≡ pairs (items t))
 
--- One leaf for another of the same key.
+-- With one leaf for another of the same key, the key has the new value.
 abbrev pub ExchangeReplaces : Type 0
 ExchangeReplaces =
     (s t : Tree) (y x : Item) → IsTrie s → IsExchange y x (items s) (items t) → y.key ≡ x.key →
     (lookup (is_at (slice_cmp nat_cmp x.key)) (pairs (items s)) ≡ Some y.value) × (insert_entry (slice_cmp nat_cmp) (pairs (items s)) x.key x.value ≡ pairs (items t))
 
--- One leaf less: the key had the value, and is absent now.
+-- With one leaf less, the key had the value before, and is absent after.
 abbrev pub TakingRemoves : Type 0
 TakingRemoves =
     (s t : Tree) (x : Item) → IsTrie s → IsMore x (items t) (items s) →

@@ -10,7 +10,7 @@ use Rattle.compound_node.specs.Nodes.{HeadView}
 use Rattle.compound_node.specs.declared.entries.Entry.{Entry}
 use Rattle.compound_node.specs.declared.entries.Entry.TheVariants.{Leaf, Node}
 
--- What a node shows: forks, and the entry that stands at each place.
+-- What a node shows: forks, with an entry at each end.
 abbrev pub Subtrie : Type 0
 Subtrie = Piece Entry
 
@@ -18,13 +18,13 @@ Subtrie = Piece Entry
 abbrev pub Fixed : Type 0
 Fixed = HeadView
 
--- Each fork belongs to the nearest record above it.
+-- A tree of records and forks. Each fork belongs to the nearest node above it.
 pub data Tree : Type 0 where
   leaf : (number : ℕ) (key : Key) (value : ℕ) → Tree
   node : (number : ℕ) (fixed : Fixed) (body : Tree) → Tree
   fork : (position : ℕ) (zero one : Tree) → Tree
 
--- What the record that a tree begins with, or a body, has at its places.
+-- What a node whose body this is shows. A tree that begins with a record is one entry.
 abbrev pub subtrie : Tree → Subtrie
 subtrie (leaf n k v) = Place (Leaf n)
 subtrie (node n x b) = Place (Node n x.height)
@@ -42,7 +42,7 @@ Holds (leaf n k v) l w = (l ≡ k) × (w ≡ v)
 Holds (node n h b) l w = Holds b l w
 Holds (fork p a b) l w = Holds a l w ⊎ Holds b l w
 
--- Each leaf has a key. All keys below a fork agree before its position, and have 0 there on its first side and 1 on the other.
+-- Each leaf has a key. All keys below a fork agree before its position. They have 0 there on its first side, and 1 on its second.
 abbrev pub IsTrie : Tree → Type 0
 IsTrie (leaf n k v) = IsKey k
 IsTrie (node n h b) = IsTrie b
@@ -62,13 +62,13 @@ IsLower h (leaf n k v) = 0 < h
 IsLower h (node n x b) = x.height < h
 IsLower h (fork p a b) = IsLower h a × IsLower h b
 
--- The first position of a subtrie, or 0 for a subtrie of one place.
+-- The position of a subtrie's first fork, or 0 for one entry.
 abbrev pub first_position : Subtrie → ℕ
 first_position (Place e) = 0
 first_position (Fork p a b) = p
 
--- A node's fixed part fits its subtrie: the rows show it, there is room for its places, and height and first position add
--- up to at most the number of positions that a key has.
+-- A node's fixed part fits its subtrie: the rows show it, and there is room for its entries. Its height and first position add up to at
+-- most the number of positions that a key has.
 pub record IsFit (x : Fixed) (p : Subtrie) : Type 0 where
   pub positions : IsColumns x.columns
   pub shows : ShowsPiece x.columns x.rows (places p) p
@@ -81,14 +81,14 @@ IsBuilt (leaf n k v) = Unit {0}
 IsBuilt (node n x b) = IsFork b × IsLower x.height b × IsBuilt b × IsFit x (subtrie b)
 IsBuilt (fork p a b) = IsBuilt a × IsBuilt b
 
--- The tree stands in the other one.
+-- The tree stands somewhere in the other one, or is that tree.
 pub data Within (s : Tree) : Tree → Type 0 where
   here : Within s s
   inside : {n : ℕ} {x : Fixed} {b : Tree} → Within s b → Within s (node n x b)
   zero_side : {p : ℕ} {a b : Tree} → Within s a → Within s (fork p a b)
   one_side : {p : ℕ} {a b : Tree} → Within s b → Within s (fork p a b)
 
--- A record stands at the tree's head.
+-- The tree begins with a record.
 abbrev pub IsTip : Tree → Type 0
 IsTip (fork p a b) = ⊥
 IsTip t = Unit {0}

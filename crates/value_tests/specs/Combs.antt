@@ -4,7 +4,7 @@ use Rattle.compound_node.specs.declared.entries.Entry.{Entry}
 use Rattle.compound_node.specs.declared.entries.Entry.TheVariants.{Leaf}
 use Rattle.node_tries.specs.Piece.{Piece, Fork, Place}
 
--- the forks are at these positions, and the leaves count up from `leaf`
+-- a piece whose forks are at these positions, each with a leaf on its first side; the leaves count up from `leaf`
 abbrev pub comb : ℕ → List ℕ → Piece Entry
 comb leaf [] = Place (Leaf leaf)
 comb leaf (p ∷ ps) = Fork p (Place (Leaf leaf)) (comb (leaf + 1) ps)
