@@ -24,8 +24,8 @@ abbrev pub is_this : Change → Option Change → Bool
 is_this x None = false
 is_this x (Some c) = same_kind c.kind x.kind && (nat_eq c.value x.value && is_at (key_order c.key) x.key)
 
--- The call of pass q that made the change behind the front, as the map answers it: the first of these calls that makes this change there;
--- or if none does, the upsert or removal that does.
+-- The call of pass q that made the change behind the front, with the map's reply. It is the first of these calls that makes this change
+-- there. If none does, it is the upsert or removal that does.
 abbrev pub maker : ℕ → List Call → List Change → Change → Note
 maker q [] front x = replied front (call_of_change x)
 maker q (call ∷ calls) front x = if is_this x (change_of q (replied front call)) then replied front call else maker q calls front x
@@ -35,7 +35,7 @@ abbrev pub makers : ℕ → List Call → List Change → List Change → List N
 makers q calls front [] = []
 makers q calls front (x ∷ xs) = if nat_eq x.pass q then maker q calls front x ∷ makers q calls (front ++ x ∷ []) xs else makers q calls (front ++ x ∷ []) xs
 
--- what completes a pending call of pass q, where these changes have been made: if it has changed the map, it responds as the map does
+-- What completes a pending call of pass q after these changes: if it has changed the map, it responds as the map does.
 abbrev pub completion_of : (ℕ → Moment) → List Change → ℕ → Option Pending → List Note
 completion_of at changes q None = []
 completion_of at changes q (Some call) = let seen = (at call.since).core.changes in makers q call.calls seen (drop (length seen) changes)

@@ -23,7 +23,7 @@ abbrev pub answers : Happening → List Note
 answers (responds q notes) = notes
 answers _ = []
 
--- the answered calls of a history up to moment t, in the order in which they have responded, each with the moment of its response
+-- The answered calls of a history up to moment t, in the order of their responses. Each has the moment of its response.
 abbrev pub complete_calls : (ℕ → Happening) → ℕ → List (ℕ × Note)
 complete_calls happens zero = []
 complete_calls happens (suc t) = complete_calls happens t ++ map (λ n. (t, n)) (answers (happens t))
@@ -33,22 +33,22 @@ abbrev pub since_of : Option Pending → ℕ
 since_of None = 0
 since_of (Some call) = call.since
 
--- the moment at which the call was invoked that responds at moment t
+-- the moment at which the call that responds at moment t was invoked
 abbrev pub invoked : (ℕ → Moment) → (ℕ → Happening) → ℕ → ℕ
 invoked at happens t = since_of ((at t).pending (responder (happens t)))
 
--- whether the call that responds at the one moment had responded when that one was invoked which responds at the other
+-- whether the call that responds at moment x had done so when the call that responds at moment y was invoked
 abbrev pub had_responded : (ℕ → Moment) → (ℕ → Happening) → ℕ → ℕ → Bool
 had_responded at happens x y = nat_le x (invoked at happens y)
 
 -- Calls that are pending
 
--- the note of a call that is answered at the end of the front, as the map of the front answers it
+-- the note of a call that is answered behind the front, as its map answers it
 abbrev pub replied : List Change → Call → Note
 replied front call = record { place = length front; call = call; reply = reply_of (map_of front) call }
 
--- The call of pass q has changed the map once, while the one list of changes grew to the other: before and after this change others alone
--- made any, and it is the change that the call makes of the map there.
+-- The call of pass q has changed the map once, while the changes grew from `before` to `after`. All others among them are by other passes.
+-- It is the change that the call makes of the map there.
 pub record HasChangedOnce (q : ℕ) (asked : Call) (before after : List Change) : Type 0 where
   pub meanwhile : List Change
   pub change : Change
@@ -56,8 +56,8 @@ pub record HasChangedOnce (q : ℕ) (asked : Call) (before after : List Change) 
   pub made : change_of q (replied meanwhile asked) ≡ Some change
   pub since : OthersGoOn q (meanwhile ++ change ∷ []) after
 
--- A pending call of pass q, which asks these calls of the map, has changed nothing, or has changed the map as it asks: it asks one call,
--- and has made its change once. A call that asks several looks up, and changes nothing.
+-- A pending call of pass q, which asks these calls of the map, has changed nothing, or has changed the map as it asks. In that case it asks
+-- one call, and has made its change once. A call that asks several looks up, and changes nothing.
 abbrev pub ChangesAsAsked : ℕ → List Call → List Change → List Change → Type 0
 ChangesAsAsked q calls before after = OthersGoOn q before after ⊎ ((asked : Call) × (calls ≡ asked ∷ []) × HasChangedOnce q asked before after)
 
@@ -69,23 +69,24 @@ AsksOneOrLooksUp calls = ((asked : Call) × (calls ≡ asked ∷ [])) ⊎ ((keys
 abbrev pub EndsWithin : (ℕ → Moment) → ℕ → ℕ → ℕ → Pending → Type 0
 EndsWithin at last later q call = (t : ℕ) × (last ≤ t) × (t ≤ later) × (((notes : List Note) × IsResponse at t q call notes) ⊎ IsRefusal at t q call)
 
--- Each call that is pending at the last moment ends by a later one, and asks one call of the map, or looks up alone, or nothing; or else it has
--- changed nothing since it was invoked, or has changed the map as it asks. No contract tells of a call that never returns, so this is a
--- premise of such calls alone.
+-- What is asked of calls pending at the last moment. Each ends by a later one, and asks one call of the map, or looks up alone, or nothing.
+-- Or else it has changed nothing since it was invoked, or has changed the map as it asks. No contract tells of a call that never returns,
+-- so this is a premise of such calls alone.
 abbrev pub PendingEndOrChangeAsAsked : Layout → ℕ → ℕ → (ℕ → Moment) → Type 0
 PendingEndOrChangeAsAsked layout last later at =
     (q : ℕ) → q < layout.passes → (call : Pending) → (at last).pending q ≡ Some call →
     (AsksOneOrLooksUp call.calls × EndsWithin at last later q call) ⊎ ChangesAsAsked q call.calls (at call.since).core.changes (at last).core.changes
 
--- Responses may be appended to a history: one at most to each pending call, with a note for each call of the map that it asks.
+-- These responses may be appended to a history. There is at most one to each pending call, with a note for each call of the map that it
+-- asks.
 abbrev pub IsAppended : Option Pending → List Note → Type 0
 IsAppended None notes = notes ≡ []
 IsAppended (Some call) notes = (notes ≡ []) ⊎ (map (λ n. n.call) notes ≡ call.calls)
 
--- the history goes on behind the run's last moment: in turn, each pass responds with these notes
+-- The history, behind whose last moment each pass responds in turn with these notes.
 abbrev pub completed : ℕ → (ℕ → Happening) → (ℕ → List Note) → ℕ → Happening
 completed last happens added t = if nat_lt t last then happens t else responds (t - last) (added (t - last))
 
--- and the index stays as it was
+-- the moments of a run, behind whose last one the index stays as it was
 abbrev pub stays : ℕ → (ℕ → Moment) → ℕ → Moment
 stays last at t = if nat_lt t last then at t else at last

@@ -12,8 +12,8 @@ use Rattle.rowex_core.specs.Cores.{Core, IsLawful}
 use Rattle.rowex_core.specs.Events.{Legal, after}
 use Rattle.rowex_core.specs.Knowing.{Knows, learned}
 
--- A pending call: it was invoked at this moment, and has not responded. It asks these calls of the map: one, or several look-ups at once,
--- or none, as a scan does.
+-- A pending call, invoked at this moment, which has not responded. It asks these calls of the map: one, or several look-ups at once, or
+-- none, as a scan does.
 pub record Pending : Type 0 where
   pub since : ℕ
   pub calls : List Call
@@ -24,9 +24,8 @@ pub record Moment : Type 0 where
   pub known : ℕ → Known
   pub pending : ℕ → Option Pending
 
--- What happens between two moments: a pass makes an atomic step, with which such notes come; a pass is shown changes that have been made,
--- as where it meets another or follows a stamp; a pass invokes a call; its call responds, with a note for each call of the map that it
--- asks; or its call is refused.
+-- What happens between two moments. A pass makes an atomic step, with which such notes come. It is shown changes, as where it meets another
+-- or follows a stamp. It invokes a call. Its call responds, with a note for each call of the map that it asks, or is refused.
 pub data Happening : Type 0 where
   steps : ℕ → Act → List Note → Happening
   shows : ℕ → List Change → Happening
@@ -53,7 +52,7 @@ pub record IsShowing (a b : Moment) (q : ℕ) (front : List Change) : Type 0 whe
   pub others : (o : ℕ) → o ≢ q → b.known o ≡ a.known o
   pub pending : b.pending ≡ a.pending
 
--- Of the two moments the core and what passes know are the same, and pass q's pending call is this one at the second, if any.
+-- The two moments have the same core, and passes know the same. At the second, pass q's pending call is this one, if any.
 pub record IsCallTurn (layout : Layout) (a b : Moment) (q : ℕ) (call : Option Pending) : Type 0 where
   pub pass : q < layout.passes
   pub core : b.core ≡ a.core
@@ -61,8 +60,8 @@ pub record IsCallTurn (layout : Layout) (a b : Moment) (q : ℕ) (call : Option 
   pub own : b.pending q ≡ call
   pub others : (o : ℕ) → o ≢ q → b.pending o ≡ a.pending o
 
--- The note came of the call that pass q has made from the one moment to the other. By a moment in between the pass has loaded the root
--- since the call began, and the note's place is no lower than what that load showed.
+-- The note may be of the call that pass q has made from moment `since` to `until`. By a moment in between the pass had loaded the root in
+-- the call. The note's place is no lower than what that load showed.
 pub record IsPlacedSince (at : ℕ → Moment) (q since until : ℕ) (n : Note) : Type 0 where
   pub shown : ℕ
   pub from : since ≤ shown
@@ -70,7 +69,7 @@ pub record IsPlacedSince (at : ℕ → Moment) (q since until : ℕ) (n : Note) 
   pub loaded : ((at since).known q).steps ≤ ((at shown).known q).fresh.step
   pub low : length ((at shown).known q).fresh.front ≤ n.place
 
--- Pass q's call, pending since then, responds at moment t with these notes: one for each call of the map that it asks, in an order of theirs.
+-- Pass q's pending call responds at moment t with these notes. There is one for each call of the map that it asks, in some order.
 pub record IsResponse (at : ℕ → Moment) (t q : ℕ) (call : Pending) (notes : List Note) : Type 0 where
   pub called : (at t).pending q ≡ Some call
   pub calls : IsPermutation call.calls (map (λ n. n.call) notes)
@@ -99,7 +98,7 @@ pub record IsSoundMoment (layout : Layout) (a : Moment) : Type 0 where
   pub named : (q : ℕ) → q < layout.passes → (a.known q).pass ≡ q
   pub knows : (q : ℕ) → q < layout.passes → Knows a.core (a.known q)
 
--- And no change has been made, and no call.
+-- The index at this moment is a sound one in which no change has been made, and no call.
 pub record IsNewIndex (layout : Layout) (a : Moment) : Type 0 where
   pub sound : IsSoundMoment layout a
   pub changes : a.core.changes ≡ []

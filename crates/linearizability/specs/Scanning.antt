@@ -11,16 +11,16 @@ use Rattle.linearizability.specs.Moments.{Moment}
 abbrev pub map_at : (ℕ → Moment) → ℕ → Map
 map_at at t = map_of (at t).core.changes
 
--- at some moment from the one to the other the key has the value
+-- at some moment from `since` to `until` the key has the value
 abbrev pub WasHeld : (ℕ → Moment) → ℕ → ℕ → List ℕ → ℕ → Type 0
 WasHeld at since until key value = (t : ℕ) × (since ≤ t) × (t ≤ until) × (value_at (map_at at t) key ≡ Some value)
 
--- at all of these moments the key is in the map
+-- at all moments from `since` to `until` the key is in the map
 abbrev pub WasThere : (ℕ → Moment) → ℕ → ℕ → List ℕ → Type 0
 WasThere at since until key = (t : ℕ) → since ≤ t → t ≤ until → IsSome (value_at (map_at at t) key)
 
--- A scan from the one moment to the other: each pair was in the map at one of them. And no key of the range is missing that was there at
--- all of them, as far as the scan has come, if it ended at its limit.
+-- A scan from moment `since` to `until`. Each pair was in the map at one of these moments. No key of the range is missing that was there at
+-- all of them, as far as the scan has come.
 pub record IsScanInTime (IsReached : Map → List ℕ → Type 0) (at : ℕ → Moment) (since until : ℕ) (from upto : List ℕ) (scan : Scan) : Type 0 where
   pub held : All (λ e. WasHeld at since until e.0 e.1) scan.pairs.items
   pub whole : (key : List ℕ) → IsTrue (is_within from upto key) → (scan.more ≡ true → IsReached scan.pairs.items key) → WasThere at since until key →

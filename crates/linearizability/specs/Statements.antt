@@ -29,27 +29,26 @@ RunsAreEvents =
     (layout : Layout) (last : ℕ) (at : ℕ → Moment) (happens : ℕ → Happening) → IsWholeRun layout last at happens → (t : ℕ) → t ≤ last →
     (events : List Event) × EventsLead (at 0).core events (at t).core
 
--- With these responses appended the calls of a run stand in one order, each once: in it each reply is that of a finite map, which is empty
--- at first, and no call stands before one that had responded when it was invoked.
+-- With these responses appended, the calls of a run stand in one order, each once. Each reply in it is that of a finite map, which is empty
+-- at first. No call stands before one that had responded when it was invoked.
 abbrev pub HaveOneOrder : Layout → ℕ → (ℕ → Moment) → (ℕ → Happening) → (ℕ → List Note) → Type 0
 HaveOneOrder layout last at happens added =
     (order : List (ℕ × Note)) × IsPermutation (complete_calls (completed last happens added) (last + layout.passes)) order ×
     LegalHistory (calls_of (noted order)) × IsInTime (had_responded (stays last at) (completed last happens added)) order
 
--- The run is linearizable (Herlihy and Wing, 1990): responses may be appended for calls that are pending, one at most for each, so that all
+-- The run is linearizable (Herlihy and Wing, 1990). Responses may be appended for calls that are pending, one at most for each, so that all
 -- answered calls have one order.
 abbrev pub IsLinearizable : Layout → ℕ → (ℕ → Moment) → (ℕ → Happening) → Type 0
 IsLinearizable layout last at happens =
     (added : ℕ → List Note) × ((q : ℕ) → IsAppended ((at last).pending q) (added q)) × HaveOneOrder layout last at happens added
 
--- Each run is linearizable up to any moment, if its calls that are pending then end later or change the map as they ask.
+-- Each run is linearizable up to any moment. The calls that are pending then must end later, or change the map as they ask.
 abbrev pub Linearizable : Type 0
 Linearizable =
     (layout : Layout) (last later : ℕ) (at : ℕ → Moment) (happens : ℕ → Happening) → last ≤ later → IsWholeRun layout later at happens →
     PendingEndOrChangeAsAsked layout last later at → IsLinearizable layout last at happens
 
--- A call that responds, and asks one call of the map or changes nothing, has changed nothing, or the map as it asks, at each moment from its
--- invocation to its response.
+-- Let a call respond that asks one call of the map or changes nothing. At each moment of it, it has changed nothing, or the map as it asks.
 abbrev pub RespondersChangeAsAsked : Type 0
 RespondersChangeAsAsked =
     (layout : Layout) (last : ℕ) (at : ℕ → Moment) (happens : ℕ → Happening) → IsWholeRun layout last at happens →
@@ -64,14 +63,14 @@ RefusedChangeNothing =
     (q t : ℕ) (call : Pending) → q < layout.passes → t ≤ last → IsRefusal at t q call →
     (m : ℕ) → call.since ≤ m → m ≤ t → OthersGoOn q (at call.since).core.changes (at m).core.changes
 
--- Whatever pending calls do, the answered calls have one order, with one call in it for each change that a pending one has made.
+-- Whatever pending calls do, the answered calls have one order. It has one more call for each change that a pending one has made.
 abbrev pub OrderedByEffect : Type 0
 OrderedByEffect =
     (layout : Layout) (last : ℕ) (at : ℕ → Moment) (happens : ℕ → Happening) → IsWholeRun layout last at happens →
     HaveOneOrder layout last at happens (completions last at)
 
--- A scan that is lawful from what its pass saw at its last load of the root, a step of the scan, to what it has seen by its end shows maps
--- of moments from its invocation to its response, upwards as downwards.
+-- A scan shows maps of moments from its invocation to its response, upwards as downwards. It must be lawful from what its pass saw at a
+-- load of the root in it to what it has seen by its end.
 abbrev pub ScansInTime : Type 0
 ScansInTime =
     (layout : Layout) (last : ℕ) (at : ℕ → Moment) (happens : ℕ → Happening) → IsWholeRun layout last at happens →

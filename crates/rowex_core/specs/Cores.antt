@@ -16,7 +16,7 @@ use Rattle.record_words.specs.Leaf.{words_for}
 use Rattle.versions.specs.Core.{BareCore as Versions, Shared, Fate, Free, Held, Ready, InTree, Unlinked, Marked}
 use Rattle.rowex_core.specs.Reading.{node_words_of, leaf_of, IsPacked}
 
--- The words of each record but its state, and all else that passes share.
+-- All that passes share: the words of each record but its state, and the rest.
 pub record Core : Type 0 where
   pub layout : Layout
   pub words : Rec → List ℕ
@@ -27,7 +27,7 @@ pub record Core : Type 0 where
 abbrev pub heap_of : (Rec → List ℕ) → Heap
 heap_of words = record { nodes = λ n. node_words_of (words (a_node n)); leaves = λ n. leaf_of (words (a_leaf n)) }
 
--- the core with what its words say in the place of the words
+-- the core with what its words say in place of the words
 abbrev pub bare : Core → Versions
 bare c = record { heap = heap_of c.words; shared = c.shared }
 
@@ -41,37 +41,37 @@ abbrev pub size_of : Layout → Rec → ℕ
 size_of layout (a_node n) = NODE_WORDS
 size_of layout (a_leaf n) = leaf_size layout n
 
--- the table has a word for this offset of the record
+-- the record in the table has a word at this offset
 abbrev pub HasWord : Layout → Rec → ℕ → Type 0
 HasWord layout r offset = offset < size_of layout r
 
--- the table has a word for each that has bytes of the key
+-- the record in the table has room for all words of the key that the leaf's words tell
 abbrev pub FitsIn : Layout → Rec → List ℕ → Type 0
 FitsIn layout (a_node n) words = Unit {0}
 FitsIn layout (a_leaf n) words = words_for (key_length_in words) ≤ leaf_size layout n
 
--- a record has this many words, each of 64 bits, and a leaf has as many whatever its class
+-- How many words a record has in the core, behind its state. A leaf has the same number, whatever its class.
 abbrev pub word_count_of : Rec → ℕ
 word_count_of (a_node n) = NODE_FIELDS
 word_count_of (a_leaf n) = LEAF_FIELDS
 
--- the words of a record behind its state, in the words of a table; a leaf has 0 for those past the record's
+-- The words of a record behind its state, taken from the words of a table. A leaf has 0 for those past its record.
 unfoldable pub fields_in : Layout → List ℕ → Rec → List ℕ
 fields_in layout table (a_node n) = map (λ i. get_or table (node_start layout n + (FIELDS_OFFSET + i)) 0) (range_with_len 0 NODE_FIELDS)
 fields_in layout table (a_leaf n) =
     map (λ i. if nat_lt (FIELDS_OFFSET + i) (leaf_size layout n) then get_or table (leaf_start layout n + (FIELDS_OFFSET + i)) 0 else 0) (range_with_len 0 LEAF_FIELDS)
 
--- a record has as many words as its kind, of 64 bits each
+-- the record has its number of words, of 64 bits each
 abbrev pub IsSized : Rec → List ℕ → Type 0
 IsSized r words = (length words ≡ word_count_of r) × All (λ w. w < 2 ^ 64) words
 
--- neither free nor held
+-- a record of this fate is neither free nor held, so its words spell a value
 abbrev pub IsWhole : Fate → Type 0
 IsWhole Free = ⊥
 IsWhole (Held q) = ⊥
 IsWhole _ = Unit {0}
 
--- the pass that has the record of this fate; in the tree or retired it is nobody's
+-- The pass to which a record of this fate belongs. In the tree or retired, it belongs to none.
 abbrev pub holder_of : Fate → Option ℕ
 holder_of Free = None
 holder_of (Held q) = Some q
@@ -80,7 +80,7 @@ holder_of (InTree since) = None
 holder_of (Unlinked since last q) = Some q
 holder_of (Marked since last epoch) = None
 
--- What holds of the records, where these are their words, fates and locks.
+-- What holds of the records with these words, fates and locks.
 pub record AreRecords (layout : Layout) (words : Rec → List ℕ) (fate : Rec → Fate) (lock : ℕ → Option ℕ) : Type 0 where
   -- each has its number of words, and those of one that is neither free nor held spell a value
   pub sized : (r : Rec) → IsSized r (words r)
@@ -94,7 +94,7 @@ pub record AreRecords (layout : Layout) (words : Rec → List ℕ) (fate : Rec �
   -- and only passes of the index have records of their own
   pub holders : (r : Rec) (q : ℕ) → holder_of (fate r) ≡ Some q → q < layout.passes
 
--- What holds of the epochs: they are from 1 on and below EPOCHS, and so are pins and marks; only passes of the index are pinned.
+-- What holds of the epochs. They are from 1 on and below EPOCHS, and so are pins and marks. Only passes of the index are pinned.
 pub record AreEpochs (layout : Layout) (epoch : ℕ) (pins : ℕ → Option Pin) (rounds : ℕ → Round) (fate : Rec → Fate) : Type 0 where
   pub now : (1 ≤ epoch) × (epoch < EPOCHS)
   pub loads : (q : ℕ) → ((rounds q).version ≡ 0) ⊎ (1 ≤ (rounds q).epoch)

@@ -40,19 +40,19 @@ use Rattle.rowex_core.specs.Words.{lock_tag, state_at, pin_word, record_word}
 
 -- What a step changes
 
--- the records' words with one of them changed
+-- the records' words, with one word of record r changed
 abbrev pub with_word : (Rec → List ℕ) → Rec → ℕ → ℕ → Rec → List ℕ
 with_word words r offset w i = if same_rec i r then set (words r) (offset - FIELDS_OFFSET) w else words i
 
 -- Publishing: what a word stored at a spot makes
 
--- the words after a store to a spot: a slot and a value are words of a record, the root is none
+-- The records' words after a store to a spot. An entry and a value are words of a record, the root is none.
 abbrev pub stored_words : Core → Spot → ℕ → Rec → List ℕ
 stored_words c Root w = c.words
 stored_words c (Slot n j) w = with_word c.words (a_node n) (FIRST_ENTRY + j) w
 stored_words c (Value l) w = with_word c.words (a_leaf l) VALUE_OFFSET w
 
--- the root after it
+-- the root after a store to a spot
 abbrev pub stored_root : Core → Spot → ℕ → Option Entry
 stored_root c Root w = entry_of w
 stored_root c (Slot n j) w = c.root
@@ -63,7 +63,7 @@ abbrev pub tree_of : Heap → Option Entry → Option Tree
 tree_of heap None = None
 tree_of heap (Some e) = read heap (height_of e) e
 
--- the change at the first place where two lists of leaves differ, by the order of the keys there
+-- the change that the first two leaves that differ tell, by the order of their keys
 abbrev pub change_at : ℕ → Ordering → Item → Item → Change
 change_at q Less x y = removed_change q x
 change_at q Equal x y = replaced_change q y
@@ -76,20 +76,20 @@ change_between q [] (y ∷ ys) = added_change q y
 change_between q (x ∷ xs) [] = removed_change q x
 change_between q (x ∷ xs) (y ∷ ys) = if nat_eq x.number y.number then change_between q xs ys else change_at q (key_order x.key y.key) x y
 
--- the spot of an entry
+-- the spot is that of an entry, not of a value
 abbrev pub IsOfEntry : Spot → Type 0
 IsOfEntry (Value l) = ⊥
 IsOfEntry spot = Unit {0}
 
--- leaves of one number are one leaf
+-- leaves of both lists that have one number are the same
 abbrev pub AreSame : List Item → List Item → Type 0
 AreSame xs ys = (x y : Item) → IsIn x xs → IsIn y ys → x.number ≡ y.number → x ≡ y
 
--- what a publish makes
+-- the tree after a store to a spot
 abbrev pub next_tree : Core → Spot → ℕ → Option Tree
 next_tree c spot w = tree_of (heap_of (stored_words c spot w)) (stored_root c spot w)
 
--- the change of a leaf's value by pass q
+-- the change by which pass q gives the key of leaf l another value
 abbrev pub value_change : Core → ℕ → ℕ → ℕ → Change
 value_change c q l w = record { pass = q; key = (leaf_of (c.words (a_leaf l))).key; value = w; kind = Replaced }
 
@@ -104,11 +104,11 @@ next_change c q spot w = change_between q (items_of (c.past.version c.past.now))
 abbrev pub loaded_root : List ℕ → Option Entry
 loaded_root words = entry_of (get_or words ROOT_WORD 0)
 
--- the tree that is loaded; none where there is no pair
+-- the tree that a table's words show; none where it has no pair
 abbrev pub loaded_tree : Layout → List ℕ → Option Tree
 loaded_tree layout words = tree_of (heap_of (fields_in layout words)) (loaded_root words)
 
--- The words show a lawful tree from the root. Its records are of the table, and their words spell values for which it has room.
+-- The words show a lawful tree from the root on. Its records stand in the table, and their words spell values for which it has room.
 pub record IsLoad (layout : Layout) (words : List ℕ) : Type 0 where
   pub small : All (λ w. w < 2 ^ 64) words
   pub root : HasEntryWord (loaded_root words) × (entry_word (loaded_root words) ≡ get_or words ROOT_WORD 0)
@@ -119,12 +119,12 @@ pub record IsLoad (layout : Layout) (words : List ℕ) : Type 0 where
 
 -- Legality
 
--- the offsets of a record's words but the state
+-- the offset is one of the record's words behind its state
 abbrev pub IsOffset : Rec → ℕ → Type 0
 IsOffset (a_node n) offset = (FIELDS_OFFSET ≤ offset) × (offset < NODE_WORDS)
 IsOffset (a_leaf n) offset = (FIELDS_OFFSET ≤ offset) × (offset < LEAF_WORDS)
 
--- and but the entries, and the value
+-- the offset is one of the record's words that stay while it lives: no state, entry or value
 abbrev pub IsFixedOffset : Rec → ℕ → Type 0
 IsFixedOffset (a_node n) offset = (FIELDS_OFFSET ≤ offset) × (offset < FIRST_ENTRY)
 IsFixedOffset (a_leaf n) offset = (VALUE_OFFSET < offset) × (offset < LEAF_WORDS)
@@ -133,25 +133,25 @@ IsFixedOffset (a_leaf n) offset = (VALUE_OFFSET < offset) × (offset < LEAF_WORD
 abbrev pub IsInTree : Core → ℕ → Type 0
 IsInTree c n = (since : ℕ) × (c.fate (a_node n) ≡ InTree since)
 
--- pass q has locked the word of the spot; of a value, what names its leaf
+-- Pass q has the lock under which the spot's word is stored. For a value, it is that of what names the leaf.
 abbrev pub IsLockedAt : Core → ℕ → Spot → Type 0
 IsLockedAt c q Root = c.anchor ≡ Some q
 IsLockedAt c q (Slot n j) = (n < c.layout.nodes) × (j < MAX_ENTRIES) × (c.lock n ≡ Some q)
 IsLockedAt c q (Value l) = (l < c.layout.leaves) × HasLockedNamer (bare c) q l
 
--- the word spells an entry, or is a value
+-- the word may stand at the spot: it spells an entry, or is a value
 abbrev pub IsWordFor : Spot → ℕ → Type 0
 IsWordFor (Value l) w = w < 2 ^ 64
 IsWordFor spot w = HasEntryWord (entry_of w) × (entry_word (entry_of w) ≡ w)
 
--- the node that is stored to has words that spell a value then too
+-- after the store, the words of the node that has the spot still spell a value
 abbrev pub IsPackedAt : Core → Spot → ℕ → Type 0
 IsPackedAt c Root w = Unit {0}
 IsPackedAt c (Value l) w = Unit {0}
 IsPackedAt c (Slot n j) w = IsPacked (a_node n) (stored_words c (Slot n j) w (a_node n))
 
--- The publish is legal: the pass has the lock, the word spells an entry or is a value, the node that is stored to has words that spell a
--- value then too, and the words show the next version.
+-- The publish is legal. The pass has the lock, and the word may stand at the spot. The node's words still spell a value, and the words show
+-- the next version.
 pub record IsLegalPublish (c : Core) (q : ℕ) (spot : Spot) (w : ℕ) : Type 0 where
   pub locked : IsLockedAt c q spot
   pub entry : IsWordFor spot w
@@ -159,12 +159,12 @@ pub record IsLegalPublish (c : Core) (q : ℕ) (spot : Spot) (w : ℕ) : Type 0 
   pub next : IsNextVersion c.shared q (heap_of (stored_words c spot w)) (stored_root c spot w) (next_tree c spot w) (next_change c q spot w)
   pub open next use *
 
--- Pass q may store the word: of an entry, where that is a legal publish; of a value, where it has locked what names the leaf.
+-- Pass q may store the word at the spot. For an entry that is a legal publish; for a value, the pass has locked what names the leaf.
 abbrev pub MayStoreAt : Core → ℕ → Spot → ℕ → Type 0
 MayStoreAt c q (Value l) w = IsLockedAt c q (Value l) × (w < 2 ^ 64)
 MayStoreAt c q spot w = IsLegalPublish c q spot w
 
--- When a pass may make an act, and what it finds.
+-- when a pass may make an act, and what a load or an exchange of it finds
 abbrev pub LegalAct : Core → ℕ → Act → Type 0
 LegalAct c q (Claim r found) = HasRecord c.layout r × (found ≡ state_at c r)
 LegalAct c q (Fill r offset w) = HasRecord c.layout r × (c.fate r ≡ Held q) × IsOffset r offset × (w < 2 ^ 64) × HasWord c.layout r offset
@@ -192,37 +192,37 @@ LegalAct c q (GiveBack r epoch found) =
     ((o : ℕ) → o < c.layout.passes → has_seen (c.rounds q).seen o ≡ true)
 LegalAct c q (Load words) = (c ≡ opening c.layout) × IsLoad c.layout words.now
 
--- the step of pass q is legal
+-- the step of pass q is legal: the index has the pass, and the act is legal
 abbrev pub Legal : Core → ℕ → Act → Type 0
 Legal c q act = (q < c.layout.passes) × LegalAct c q act
 
 -- Effect
 
--- claimed, if the record was free
+-- what passes share after pass q tried to claim a record of this fate: it succeeds if that is free
 abbrev pub claimed : Shared → ℕ → Rec → Fate → Shared
 claimed s q r Free = with_fate s r (Held q)
 claimed s q r f = s
 
--- marked, if the record was unlinked
+-- what passes share after a record of this fate was marked, if it was unlinked
 abbrev pub marked : Shared → Rec → ℕ → Fate → Shared
 marked s r epoch (Unlinked since last q) = after_mark s r since last epoch
 marked s r epoch f = s
 
--- given back, if the record was marked with this epoch
+-- what passes share after a record of this fate was given back, if it was marked with this epoch
 abbrev pub given_back : Shared → Rec → ℕ → Fate → Shared
 given_back s r epoch (Marked since last m) = if nat_eq m epoch then with_fate s r Free else s
 given_back s r epoch f = s
 
--- the anchor locked, if it was not
+-- what passes share after pass q tried to lock the anchor: it succeeds if no pass had
 abbrev pub anchored : Shared → ℕ → Option ℕ → Shared
 anchored s q None = with_anchor s (Some q)
 anchored s q (Some p) = s
 
--- the node locked, if its state was live
+-- what passes share after pass q tried to lock node n: it succeeds if the state was live
 abbrev pub locked_where : Shared → ℕ → ℕ → ℕ → Shared
 locked_where s n q found = if nat_eq found (state_word Live) then with_lock s n (Some q) else s
 
--- the next epoch, if this was the expected one
+-- what passes share after a try to advance the epoch from the expected one
 abbrev pub advanced : Shared → ℕ → Shared
 advanced s expected = if nat_eq s.epoch expected then with_epoch s (suc s.epoch) else s
 
@@ -233,7 +233,7 @@ words_after c (Publish spot w) = stored_words c spot w
 words_after c (Load words) = fields_in c.layout words.now
 words_after c _ = c.words
 
--- all else that passes share after a step of pass q
+-- what passes share after a step of pass q, but the words
 abbrev pub shared_after : Core → ℕ → Act → Shared
 shared_after c q (Claim r found) = claimed c.shared q r (c.fate r)
 shared_after c q (Fill r offset w) = c.shared
@@ -260,34 +260,34 @@ shared_after c q (Load words) = loaded_by c.shared q (loaded_root words.now) (lo
 abbrev pub after : Core → ℕ → Act → Core
 after c q act = record { layout = c.layout; words = words_after c act; shared = shared_after c q act }
 
--- A load is no atomic step: it changes many words.
+-- The act is an atomic step. A bulk load is none, since it changes many words.
 abbrev pub IsAtomic : Act → Type 0
 IsAtomic (Load words) = ⊥
 IsAtomic act = Unit {0}
 
 -- The word of a step: which it is, what the step leaves there, and what its caller is told
 
--- where the word of a record at an offset stands
+-- the location of a record's word at an offset
 abbrev pub word_of : Rec → ℕ → Location
 word_of (a_node n) offset = NodeWord n offset
 word_of (a_leaf n) offset = LeafWord n offset
 
--- the word of its state
+-- the location of a record's state
 abbrev pub state_of : Rec → Location
 state_of r = word_of r 0
 
--- the word of a spot
+-- the location of a spot
 abbrev pub spot_word : Spot → Location
 spot_word Root = RootWord
 spot_word (Slot n j) = NodeWord n (FIRST_ENTRY + j)
 spot_word (Value l) = LeafWord l VALUE_OFFSET
 
--- the word of what is locked
+-- the location of the state word of what is locked
 abbrev pub target_word : Target → Location
 target_word Anchor = AnchorWord
 target_word (NodeTarget n) = state_of (a_node n)
 
--- the word that an act loads, stores or exchanges
+-- the location that an act loads, stores or exchanges
 abbrev pub location_of : ℕ → Act → Location
 location_of q (Claim r found) = state_of r
 location_of q (Fill r offset w) = word_of r offset
@@ -308,11 +308,11 @@ location_of q (LoadState r w) = state_of r
 location_of q (GiveBack r epoch found) = state_of r
 location_of q (Load words) = RootWord
 
--- what a compare-exchange leaves
+-- what a compare-exchange leaves where w stood
 abbrev pub exchanged : ℕ → ℕ → ℕ → ℕ
 exchanged w old new = if nat_eq w old then new else w
 
--- what a step leaves in its word, where w stood
+-- what an act leaves at its location, where w stood
 abbrev pub writes : Act → ℕ → ℕ
 writes (Claim r found) w = exchanged w (state_word FreeTag) (state_word HeldTag)
 writes (Fill r offset word) w = word

@@ -10,7 +10,7 @@ use Rattle.rowex_core.specs.Words.{record_word}
 use Rattle.rowex_core.specs.Events.{IsLockedAt}
 use Rattle.rowex_core.specs.Sharing.{share}
 
--- The versions and the changes have grown, by changes of others alone, and what pass q has is as it was.
+-- The versions and changes have grown by changes of others alone. What pass q has is as it was.
 pub record IsFrame (q : ℕ) (c d : Core) : Type 0 where
   pub layout : d.layout ≡ c.layout
   pub past : IsGrown c.past d.past

@@ -8,34 +8,34 @@ use Rattle.rowex_core.specs.declared.known.Owned.{Owned}
 use Rattle.versions.specs.Steps.{same_rec}
 use Rattle.versions.specs.Trades.{IsOneOf}
 
--- The pass's own records are exactly these, and it has each of them in this way.
+-- The pass's own records are exactly these, each held in a way that has the property.
 pub record OwnsJust (own : List Owned) (P : Owned → Type 0) (recs : List Rec) : Type 0 where
   pub only : (o : Owned) → IsOneOf o own → IsOneOf o.rec recs × P o
   pub each : (r : Rec) → IsOneOf r recs → (o : Owned) × IsOneOf o own × (o.rec ≡ r)
 
--- in any way
+-- the record may be held in any way
 abbrev pub InAnyWay : Owned → Type 0
 InAnyWay o = Unit {0}
 
--- it has unlinked the record
+-- the pass has unlinked the record
 abbrev pub IsUnlinked : Owned → Type 0
 IsUnlinked o = (since : ℕ) × (last : ℕ) × (o.holding ≡ Unlinked since last)
 
--- and did so before version m
+-- the pass has unlinked the record, before version m
 abbrev pub IsUnlinkedBefore : ℕ → Owned → Type 0
 IsUnlinkedBefore m o = (since : ℕ) × (last : ℕ) × (o.holding ≡ Unlinked since last) × (last < m)
 
--- The nodes that it has locked are exactly these.
+-- The nodes that the pass has locked are exactly these.
 pub record LocksJust (locks : List Locked) (nodes : List ℕ) : Type 0 where
   pub only : (l : Locked) → IsOneOf l locks → IsOneOf l.node nodes
   pub each : (n : ℕ) → IsOneOf n nodes → (l : Locked) × IsOneOf l locks × (l.node ≡ n)
 
--- Of the locked nodes those that are unlinked go, and these are kept.
+-- Of the locked nodes exactly those are kept that are not unlinked.
 pub record AreKept (held : List ℕ) (gone : List Rec) (kept : List ℕ) : Type 0 where
   pub only : (n : ℕ) → IsOneOf n held → IsOneOf n kept ⊎ IsOneOf (a_node n) gone
   pub each : (n : ℕ) → IsOneOf n kept → IsOneOf n held × (IsOneOf (a_node n) gone → ⊥)
 
--- the record is one of these
+-- whether the record is one of these
 abbrev pub is_among : Rec → List Rec → Bool
 is_among r [] = false
 is_among r (x ∷ xs) = if same_rec r x then true else is_among r xs

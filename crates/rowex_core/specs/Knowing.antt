@@ -49,11 +49,12 @@ use Rattle.rowex_core.specs.Events.{loaded_tree, Legal, IsLockedAt, stored_words
 abbrev pub StoodBetween : Past → ℕ → ℕ → Rec → Type 0
 StoodBetween s since at r = (n : ℕ) × (u : Tree) × (since ≤ n) × (n ≤ at) × Stands s n r u
 
--- and there as a tree of which P holds
+-- the record stood in the tree in some version from `since` to `at`, with a tree that has the property
 abbrev pub StoodAs : Past → ℕ → ℕ → Rec → (Tree → Type 0) → Type 0
 StoodAs s since at r P = (n : ℕ) × (u : Tree) × (since ≤ n) × (n ≤ at) × Stands s n r u × P u
 
--- whichever version since `since` we begin at, if the record stood from then to `at`, it stood so as a tree of which P holds
+-- If the record stood in a version from m to `at`, it stood in one of these with a tree that has the property. So it is for each m since
+-- `since`.
 abbrev pub HoldsIfStood : Past → ℕ → ℕ → Rec → (Tree → Type 0) → Type 0
 HoldsIfStood s since at r P = (m : ℕ) → since ≤ m → StoodBetween s m at r → StoodAs s m at r P
 
@@ -64,23 +65,23 @@ IsFact s (Placed since at n j e) = (at ≤ s.now) × HoldsIfStood s since at (a_
 IsFact s (Fixed since at r offset w) = (at ≤ s.now) × HoldsIfStood s since at r (λ u. HasWordAt u offset w)
 IsFact s (Valued since at l v) = (at ≤ s.now) × HoldsIfStood s since at (a_leaf l) (λ u. head_value u ≡ Some v)
 
--- The leaf still has the value that the pass loaded, if it has locked what names the leaf.
+-- The leaf still has the value that the pass loaded, if the pass has locked what names the leaf.
 abbrev pub IsStillLoaded : ℕ → Core → Loaded → Type 0
 IsStillLoaded q c v = IsLockedAt c q (Value v.leaf) → record_word c (a_leaf v.leaf) VALUE_OFFSET ≡ v.value
 
--- What it has seen is true: others alone have changed the map since; its last load of the root saw a front of that; and
--- its facts are facts of the past.
+-- What the pass has seen is true. Others alone have changed the map since. Its last load of the root saw the beginning of that. Its facts
+-- are facts of the past.
 pub record HasSeen (q : ℕ) (past : Past) (changes : List Change) (seen last : List Change) (known : List Fact) : Type 0 where
   pub front : OthersGoOn q seen changes
   pub fresh : BeginsWith seen last
   pub facts : All (IsFact past) known
 
--- The steps whose numbers it remembers, its last load of the root and those that failed, came before step number `next`.
+-- The steps that the pass remembers came before step number `next`: its last load of the root, and those that failed.
 pub record AreCounted (next last : ℕ) (failures : List Failed) : Type 0 where
   pub loaded : last < next
   pub failed : All (λ f. f.step < next) failures
 
--- What the pass knows is true of the core, what it knows that it has is all that it has, and its steps are counted.
+-- What the pass knows is true of the core. What it knows of its own is all that it has, and its steps are counted.
 pub record Knows (c : Core) (k : Known) : Type 0 where
   pub pass : k.pass < c.layout.passes
   pub counted : AreCounted k.steps k.fresh.step k.failed
@@ -88,8 +89,8 @@ pub record Knows (c : Core) (k : Known) : Type 0 where
   pub own : share k.pass c ≡ known_share k
   pub values : All (IsStillLoaded k.pass c) k.values
 
--- Of what the pass knows, what only its own publish, pin or unpin makes untrue: the changes that it has seen, its facts of the past,
--- its pin.
+-- The part of a pass's knowledge that only its own publish, pin or unpin makes untrue. It is the changes that it has seen, its facts of the
+-- past, and its pin.
 pub record Recalls (c : Core) (k : Known) : Type 0 where
   pub front : OthersGoOn k.pass k.front c.changes
   pub facts : All (IsFact c.past) k.facts
@@ -99,16 +100,16 @@ pub record Recalls (c : Core) (k : Known) : Type 0 where
 abbrev pub IsPinnedSince : Known → ℕ → Type 0
 IsPinnedSince k m = (p : Pin) × (k.pin ≡ Some p) × (p.version ≤ m)
 
--- none of the changes is this pass's
+-- none of the changes is by pass q
 abbrev pub NoChangeBy : ℕ → List Change → Type 0
 NoChangeBy q changes = All (λ x. x.pass ≢ q) changes
 
--- what a new pass finds: it has made no change, and has nothing
+-- the pass has made no change and has nothing, as a new one
 pub record IsUntouched (c : Core) (q : ℕ) : Type 0 where
   pub changes : NoChangeBy q c.changes
   pub own : share q c ≡ nothing
 
--- what a view says of a core: of a pass what it knows, of a dealer that the passes to come have done nothing
+-- What a view says of a core. A pass's says what the pass knows, and a dealer's that the passes to come have done nothing.
 abbrev pub Knowing : Core → View → Type 0
 Knowing c Spent = Unit {0}
 Knowing c (Dealer m) = (q : ℕ) → m ≤ q → IsUntouched c q
@@ -118,7 +119,7 @@ Knowing c (Pair j k) = Knows c j × Knows c k × (j.pass ≢ k.pass)
 Knowing c (Witness front) = BeginsWith c.changes front
 Knowing c (Follower k front) = Knows c k × BeginsWith c.changes front
 
--- the view has this number
+-- the view is that of pass q, or of a dealer that still has it
 abbrev pub IsViewOf : View → ℕ → Type 0
 IsViewOf Spent q = ⊥
 IsViewOf (Dealer m) q = m ≤ q
@@ -130,7 +131,7 @@ IsViewOf (Follower k front) q = k.pass ≡ q
 
 -- What a step teaches its pass, where c is the core before it
 
--- a load teaches a pinned pass a fact
+-- the facts of a pass after a load, which teaches a fact to a pinned pass alone
 abbrev pub facts_with : Option Pin → (ℕ → Fact) → List Fact → List Fact
 facts_with None f facts = facts
 facts_with (Some p) f facts = f p.version ∷ facts
@@ -139,33 +140,33 @@ facts_with (Some p) f facts = f p.version ∷ facts
 abbrev pub failed_with : Known → FailedAct → Location → ℕ → Known
 failed_with k act location w = record k { failed = record { act = act; location = location; word = w; step = k.steps } ∷ k.failed }
 
--- a record is held in another way
+-- the own record, held in another way if it is record r
 abbrev pub with_holding : Rec → Holding → Owned → Owned
 with_holding r h o = if same_rec o.rec r then record o { holding = h } else o
 
--- a word of an own record is filled
+-- the own record, with a word filled if it is record r
 abbrev pub with_filled_word : Rec → ℕ → ℕ → Owned → Owned
 with_filled_word r offset w o = if same_rec o.rec r then record o { words = set o.words (offset - FIELDS_OFFSET) w } else o
 
--- the own records but one
+-- the own records without record r
 abbrev pub without_record : Rec → List Owned → List Owned
 without_record r own = filter (λ o. not (same_rec o.rec r)) own
 
--- the locks but that of one node
+-- the locks without that of node n
 abbrev pub without_lock : ℕ → List Locked → List Locked
 without_lock n locks = filter (λ l. not (nat_eq l.node n)) locks
 
--- what a claim teaches: the record is the pass's, or whose it is
+-- What a claim teaches: the record is now the pass's own, or belongs to another pass or none.
 abbrev pub claim_learned : Core → Rec → ℕ → Fate → Known → Known
 claim_learned c r found Free k = record k { own = record { rec = r; holding = Held; words = c.words r } ∷ k.own }
 claim_learned c r found f k = failed_with k (a_claim (holder_of f)) (state_of r) found
 
--- the pass that made the change
+-- the pass that made a change, if there is one
 abbrev pub maker_of : Option Change → Option ℕ
 maker_of None = None
 maker_of (Some x) = Some x.pass
 
--- the pass that has locked a node of this fate; or whose change unlinked it, where it is retired
+-- The pass that stands in the way of a node's lock. It has locked the node; or its change unlinked the node, if that is retired.
 abbrev pub blocking_pass_of : Core → ℕ → Fate → Option ℕ
 blocking_pass_of c n (Marked since last epoch) = maker_of (slice_get c.changes last)
 blocking_pass_of c n f = c.lock n
@@ -186,16 +187,16 @@ node_learned c n found k =
     if nat_eq found (state_word Live) then record k { locks = record { node = n; words = c.words (a_node n) } ∷ k.locks; values = [] }
     else failed_with k (a_lock (blocking_pass_of c n (c.fate (a_node n)))) (target_word (NodeTarget n)) found
 
--- a load finds the record not free
+-- what a load of a record's state teaches, if it finds the record not free
 abbrev pub state_learned : Core → Rec → ℕ → Known → Known
 state_learned c r w k = if nat_eq w (state_word FreeTag) then k else failed_with k (a_load (holder_of (c.fate r))) (state_of r) w
 
--- the version of a pin
+-- the version of a pin; 0 without one
 abbrev pub version_of : Option Pin → ℕ
 version_of None = 0
 version_of (Some p) = p.version
 
--- what a load of an entry teaches: of the root also all changes up to now
+-- What a load of a spot teaches. The root also shows all changes up to now.
 abbrev pub entry_learned : Core → Spot → Known → Known
 entry_learned c Root k = record k {
   front = c.changes;
@@ -218,17 +219,17 @@ records_of (leaf n k v) = a_leaf n ∷ []
 records_of (node n x b) = a_node n ∷ records_of b
 records_of (fork p a b) = records_of a ++ records_of b
 
--- the records of a tree, if there is one
+-- the records of a version, which may be empty
 abbrev pub records_in : Option Tree → List Rec
 records_in None = []
 records_in (Some t) = records_of t
 
--- a record that the pass unlinks is its own until it is marked
+-- A record that the pass has unlinked, which is its own until it is marked.
 abbrev pub owned_unlinked : Core → Rec → Fate → Owned
 owned_unlinked c r (InTree since) = record { rec = r; holding = Unlinked since c.past.now; words = c.words r }
 owned_unlinked c r _ = record { rec = r; holding = Unlinked 0 0; words = c.words r }
 
--- the pass's own records after a publish of the tree t: those that it links have gone, and those that it unlinks have come
+-- The pass's own records after a publish of the tree t. Those that it links have gone, and those that it unlinks have come.
 abbrev pub own_after : Core → Option Tree → List Owned → List Owned
 own_after c t own =
     map (λ r. owned_unlinked c r (c.fate r)) (filter (λ r. not (is_linked t r)) (records_in (c.past.version c.past.now))) ++
@@ -238,11 +239,11 @@ own_after c t own =
 abbrev pub locked_with_words : (Rec → List ℕ) → Locked → Locked
 locked_with_words words l = record l { words = words (a_node l.node) }
 
--- the nodes in the tree t that the pass has locked, where these are the words then
+-- the locks of a pass on nodes in the tree t, with the words that these have then
 abbrev pub locks_after : (Rec → List ℕ) → Option Tree → List Locked → List Locked
 locks_after words t locks = map (λ l. locked_with_words words l) (filter (λ l. is_linked t (a_node l.node)) locks)
 
--- the root as the holder of the anchor knows it, after a store to a spot
+-- the root as the holder of the anchor's lock knows it, after a store to a spot
 abbrev pub anchor_after : Spot → Option Entry → Option (Option Entry) → Option (Option Entry)
 anchor_after Root root anchor = Some root
 anchor_after (Slot n j) root anchor = anchor
@@ -258,7 +259,7 @@ publish_learned c spot w k = record k {
   values = [];
 }
 
--- a load leaves its pass all leaves of the tree, as if it had loaded the root just before
+-- What a bulk load teaches its pass: all leaves of the tree, as if it had loaded the root just before.
 abbrev pub load_learned : Core → Option Tree → Known → Known
 load_learned c t k = record k {
   front = c.changes ++ map (added_change k.pass) (items_of t);
@@ -289,11 +290,11 @@ learned_by c (LoadState r w) k = state_learned c r w k
 learned_by c (GiveBack r epoch found) k = k
 learned_by c (Load words) k = load_learned c (loaded_tree c.layout words.now) k
 
--- and it counts the step
+-- what a pass knows after its step: what the act teaches it, with one step more counted
 abbrev pub learned : Core → Act → Known → Known
 learned c act k = let j = learned_by c act k in record j { steps = k.steps + 1 }
 
--- One atomic step of a pass: it knew k, and knows j; `said` are the notes that its caller adds.
+-- One atomic step of a pass, which knew k, and knows j then. `said` are the notes that its caller adds.
 pub record IsEvent (layout : Layout) (act : Act) (said : Known → List Note) (k j : Known) : Type 0 where
   pub core : Core
   pub lawful : IsLawful core
@@ -302,8 +303,8 @@ pub record IsEvent (layout : Layout) (act : Act) (said : Known → List Note) (k
   pub legal : Legal core k.pass act
   pub learned_is : j ≡ record (learned core act k) { notes = k.notes ++ said (learned core act k) }
 
--- Between knowing k and knowing j the pass has loaded the root: the last time with this knowledge, in a lawful core of which that was
--- true. That load left it the very changes of that core; and they begin with those that any pass had seen by then.
+-- Between knowing k and knowing j the pass has loaded the root. The last time it did so with this knowledge, which was true of a lawful
+-- core. That load left it the changes of that core, which begin with those that any pass had seen by then.
 pub record SeesAllAtRoot (layout : Layout) (k j : Known) : Type 0 where
   pub core : Core
   pub lawful : IsLawful core

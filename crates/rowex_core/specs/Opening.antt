@@ -12,6 +12,6 @@ use Rattle.rowex_core.specs.Cores.{Core, word_count_of}
 abbrev pub opening : Layout → Core
 opening layout = record { layout = layout; words = λ r. replicate (word_count_of r) 0; shared = at_first }
 
--- the epoch is 1, the anchor is live, and all other words are 0, the root's too: it has no entry
+-- The words of a new table. The epoch is 1, the anchor is live, and all other words are 0. So the root has no entry.
 abbrev pub opening_words : Layout → List ℕ
 opening_words layout = set (set (replicate (word_count layout) 0) EPOCH_WORD 1) ANCHOR_WORD (state_word Live)

@@ -18,57 +18,57 @@ use Rattle.versions.specs.Heap.{NodeWords, LeafWords}
 
 -- ---- the records that words say
 
--- a node's head
+-- the fixed part of a node, from the words of its head
 abbrev pub fixed_of : List ℕ → Fixed
 fixed_of head = record { height = height_in (numbers_in head); columns = columns_in head; rows = rows_in head }
 
--- a node of the words of its head and of those of its entries
+-- what the words of a head and those of its entries say of a node
 abbrev pub node_words_from : List ℕ → List ℕ → NodeWords
 node_words_from head tail = record {
   fixed = fixed_of head;
   subtrie = piece_of (Leaf 0) (fixed_of head).columns (fixed_of head).rows (entries_of (count_in (numbers_in head)) tail);
 }
 
--- a node of its words, from offset 1 on
+-- what the words of a node record behind its state say
 unfoldable pub node_words_of : List ℕ → NodeWords
 node_words_of words = node_words_from (take HEAD_WORDS words) (drop HEAD_WORDS words)
 
--- a leaf of its words
+-- what the words of a leaf record behind its state say
 unfoldable pub leaf_of : List ℕ → LeafWords
 leaf_of words = record { key = leaf_key_in words; value = leaf_value_in words }
 
--- the words spell a value: a node's all of them, a leaf's those up to the end of its key
+-- The words spell a value: all of a node's, or a leaf's up to the end of its key.
 unfoldable pub IsPacked : Rec → List ℕ → Type 0
 IsPacked (a_node n) words = (view : NodeView) × HasNodeWords view × (node_words view ≡ words)
 IsPacked (a_leaf n) words = (pair : List ℕ × ℕ) × HasLeafWords pair × (leaf_words pair ≡ up_to_key words)
 
 -- ---- trees
 
--- the entry that names the record at the tree's head
+-- the entry for the record with which a tree begins
 abbrev pub head_entry : Tree → Option Entry
 head_entry (leaf n k v) = Some (Leaf n)
 head_entry (node n x b) = Some (Node n x.height)
 head_entry (fork p a b) = None
 
--- the entry of a tree, if there is one
+-- the root's entry of a version, which may be empty
 abbrev pub root_of : Option Tree → Option Entry
 root_of None = None
 root_of (Some t) = head_entry t
 
--- the entry at a place of the node at the tree's head
+-- the entry in slot j of the node with which a tree begins
 abbrev pub entry_in : Tree → ℕ → Option Entry
 entry_in (leaf n k v) j = None
 entry_in (node n x b) j = if nat_lt j (size (subtrie b)) then Some (entry_at (subtrie b) j) else None
 entry_in (fork p a b) j = None
 
--- the value of the leaf at the tree's head
+-- the value of the leaf with which a tree begins
 abbrev pub head_value : Tree → Option ℕ
 head_value (leaf n k v) = Some v
 head_value (node n x b) = None
 head_value (fork p a b) = None
 
--- The record at the tree's head has this word at an offset that is neither its state's nor an entry's. Of a leaf, words behind its key
--- may be any.
+-- The record with which the tree begins has this word at an offset of neither its state nor an entry. The words behind a leaf's key may be
+-- any.
 abbrev pub HasWordAt : Tree → ℕ → ℕ → Type 0
 HasWordAt (leaf n k v) offset w = offset < words_for (length k) → get_or (leaf_words (k, v)) (offset - FIELDS_OFFSET) 0 ≡ w
 HasWordAt (node n x b) offset w = get_or (fixed_words (length x.rows) x.height x.columns x.rows) (offset - FIELDS_OFFSET) 0 ≡ w

@@ -11,7 +11,7 @@ abbrev pub EventsLead : Core → List Event → Core → Type 0
 EventsLead c [] d = d ≡ c
 EventsLead c (x ∷ xs) d = Legal c x.pass x.act × EventsLead (after c x.pass x.act) xs d
 
--- all of them are events of other passes than the view's
+-- none of the events is a step of a pass whose view this is
 abbrev pub AreOthers : View → List Event → Type 0
 AreOthers v [] = Unit {0}
 AreOthers v (x ∷ xs) = (¬ IsViewOf v x.pass) × AreOthers v xs

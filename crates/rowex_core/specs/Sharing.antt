@@ -24,33 +24,33 @@ holding_of q Free = None
 holding_of q (InTree since) = None
 holding_of q (Marked since last epoch) = None
 
--- pass q has this lock
+-- whether pass q has this lock
 abbrev pub is_by : ℕ → Option ℕ → Bool
 is_by q None = false
 is_by q (Some p) = nat_eq p q
 
--- the record is linked
+-- whether a record of this fate is in the tree
 abbrev pub is_in_tree : Fate → Bool
 is_in_tree (InTree since) = true
 is_in_tree f = false
 
--- the record, if it is held
+-- the record as the only one of a list, if the pass holds it
 abbrev pub owned : Rec → List ℕ → Option Holding → List Owned
 owned r words None = []
 owned r words (Some h) = record { rec = r; holding = h; words = words } ∷ []
 
--- the node, if it is locked
+-- the node as the only one of a list, if the pass has locked it
 abbrev pub locked : ℕ → List ℕ → Bool → List Locked
 locked n words true = record { node = n; words = words } ∷ []
 locked n words false = []
 
--- the root's entry, if the anchor is locked
+-- the root's entry, if the pass has locked the anchor
 abbrev pub anchored_at : Option Entry → Bool → Option (Option Entry)
 anchored_at root true = Some root
 anchored_at root false = None
 
--- What a pass has: of each record one or none, of each node that is in the tree its lock or none, the anchor's lock or none,
--- its pin and its round.
+-- What a pass has: its own records, the nodes in the tree that it has locked, the anchor's lock, its pin and its round. Each record and
+-- each node gives a list of one or none.
 pub record Share : Type 0 where
   pub own : Rec → List Owned
   pub locks : ℕ → List Locked
@@ -68,15 +68,15 @@ share q c = record {
   round = c.rounds q;
 }
 
--- what of a list is of one record, or of one node
+-- the own records that are record r
 abbrev pub of_record : Rec → List Owned → List Owned
 of_record r own = filter (λ o. same_rec r o.rec) own
 
--- the locks of this node
+-- the locks that are on node n
 abbrev pub of_node : ℕ → List Locked → List Locked
 of_node n locks = filter (λ l. nat_eq n l.node) locks
 
--- what a pass knows that it has
+-- what a pass has, by what it knows
 abbrev pub known_share : Known → Share
 known_share k = record {
   own = λ r. of_record r k.own;
@@ -86,7 +86,7 @@ known_share k = record {
   round = k.round;
 }
 
--- nothing is locked, held or pinned, and no epoch was loaded
+-- the share of a pass that has nothing, and has loaded no epoch
 abbrev pub nothing : Share
 nothing = record {
   own = λ r. [];
@@ -98,21 +98,21 @@ nothing = record {
 
 -- In other words: what the pass knows of each record and node by itself
 
--- the fate of a record that a pass holds so
+-- the fate of a record that pass q holds this way
 abbrev pub fate_of : ℕ → Holding → Fate
 fate_of q Held = HeldBy q
 fate_of q IsReady = ReadyBy q
 fate_of q (Unlinked since last) = UnlinkedBy since last q
 
--- a record is the pass's as it knows it, and has the words that it knows
+-- The record is the pass's own in the way that it knows, and has the words that it knows.
 abbrev pub IsOwned : ℕ → Core → Owned → Type 0
 IsOwned q c o = (c.fate o.rec ≡ fate_of q o.holding) × (c.words o.rec ≡ o.words)
 
--- a node is locked by the pass and in the tree, and has the words that it knows
+-- The node is locked by the pass, is in the tree, and has the words that the pass knows.
 abbrev pub IsLocked : ℕ → Core → Locked → Type 0
 IsLocked q c l = (c.lock l.node ≡ Some q) × IsInTree c l.node × (c.words (a_node l.node) ≡ l.words)
 
--- what a pass knows that it has, it has, and no more
+-- the pass has what it knows that it has, and no more
 pub record HasAll (c : Core) (k : Known) : Type 0 where
   pub own : All (IsOwned k.pass c) k.own
   pub all_own : (r : Rec) (h : Holding) → c.fate r ≡ fate_of k.pass h → Contains k.own (record { rec = r; holding = h; words = c.words r })

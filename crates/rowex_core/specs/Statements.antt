@@ -48,12 +48,12 @@ use Rattle.rowex_core.specs.declared.event.Event.{Event}
 abbrev pub StaysLawful : Type 0
 StaysLawful = (c : Core) (q : ℕ) (act : Act) → IsLawful c → Legal c q act → IsLawful (after c q act)
 
--- a legal step of one pass leaves true what any other view says
+-- a legal step of one pass leaves true what the view of another says
 abbrev pub Keeps : Type 0
 Keeps = (c : Core) (p : ℕ) (act : Act) (v : View) → IsLawful c → Legal c p act → ¬ IsViewOf v p → Knowing c v → Knowing (after c p act) v
 
--- a legal step of one pass leaves to another what it has, and the versions and changes so far: locks of two passes on different nodes
--- are lawful at once, and each publish is one change whatever other locks are held
+-- A legal step of one pass leaves to another what it has, and the versions and changes so far. So locks of two passes on different nodes
+-- are lawful at once. Each publish is one change, whatever other locks are held.
 abbrev pub LeavesOthers : Type 0
 LeavesOthers = (c : Core) (p q : ℕ) (act : Act) → p ≢ q → IsLawful c → Legal c p act → IsFrame q c (after c p act)
 
@@ -61,13 +61,13 @@ LeavesOthers = (c : Core) (p q : ℕ) (act : Act) → p ≢ q → IsLawful c →
 abbrev pub Learns : Type 0
 Learns = (c : Core) (k : Known) (act : Act) → IsLawful c → Knows c k → Legal c k.pass act → Knows (after c k.pass act) (learned c act k)
 
--- a legal load of the root leaves its pass all changes that were made before it, and so all that any pass had seen by then
+-- A legal load of the root leaves its pass all changes made before it. So these include all that any pass had seen by then.
 abbrev pub SeesAll : Type 0
 SeesAll =
     (c : Core) (k : Known) (w : ℕ) → IsLawful c → Knows c k → Legal c k.pass (LoadRef Root w) →
     let j = learned c (LoadRef Root w) k in (j.front ≡ c.changes) × (j.fresh.front ≡ c.changes) × ((o : Known) → Knows c o → BeginsWith j.fresh.front o.front)
 
--- what a pass knows that it has, it has, and no more
+-- a pass whose knowledge is true has what it knows that it has, and no more
 abbrev pub KnowsAll : Type 0
 KnowsAll = (c : Core) (k : Known) → Knows c k → HasAll c k
 
@@ -81,15 +81,16 @@ WritesOne =
 abbrev pub OpeningIsLawful : Type 0
 OpeningIsLawful = (layout : Layout) → IsLawful (opening layout) × Shows (opening layout) (opening_words layout) × Knowing (opening layout) (Dealer 0)
 
--- so for lists of events: from the opening core they lead to lawful cores,
+-- legal events that begin at the opening core lead to a lawful core
 abbrev pub RunsStayLawful : Type 0
 RunsStayLawful = (layout : Layout) (events : List Event) (d : Core) → EventsLead (opening layout) events d → IsLawful d
 
--- and from any lawful core they leave true what a view says that owns none of their passes
+-- legal events leave true what a view says, if none is a step of a pass whose view it is
 abbrev pub RunsKeep : Type 0
 RunsKeep = (c : Core) (events : List Event) (d : Core) (v : View) → IsLawful c → EventsLead c events d → AreOthers v events → Knowing c v → Knowing d v
 
--- what a step does to the changes and the versions: a publish appends one of each, a load one for each leaf, any other leaves both as they are
+-- What a step does to the changes and the versions. A publish appends one of each, a bulk load one for each leaf. Any other step leaves
+-- both as they are.
 abbrev pub Appends : Act → Core → Core → Type 0
 Appends (Publish spot w) c d =
     (x : Change) × (d.changes ≡ c.changes ++ x ∷ []) × (d.past.now ≡ suc c.past.now) × ((n : ℕ) → n ≤ c.past.now → d.past.version n ≡ c.past.version n)
@@ -101,23 +102,22 @@ Appends _ c d = (d.changes ≡ c.changes) × (d.past ≡ c.past)
 abbrev pub OnlyPublishAppends : Type 0
 OnlyPublishAppends = (c : Core) (q : ℕ) (act : Act) → Appends act c (after c q act)
 
--- Whichever version m since its pin we begin at: a search of a pinned pass that was led to a node since m, a node that was
--- linked then and whose stem the key followed unless it was absent since m, is led since m to the child that the node's words
--- give it now, be the node still linked or unlinked.
+-- Let a pinned pass's search be led to a node since version m, which is no older than its pin. Then it is led since m to the child that the
+-- node's words give it now, be the node still linked or not. A search is led to a record whose stem the key followed, unless it was absent.
 abbrev pub Hindsight : Type 0
 Hindsight =
     (c : Core) → IsLawful c → (q : ℕ) (p : Pin) → c.pins q ≡ Some p → (m : ℕ) → p.version ≤ m → (k : Key) (n h : ℕ) →
     IsLed c.past m k (Node n h) → IsLed c.past m k (seek k (node_words_of (c.words (a_node n))).subtrie)
 
--- keys below two entries of a record part at the fork between these, whichever versions of its present life they come from
+-- Keys below two entries of a record part at the fork between these, whichever versions of its present life they come from.
 abbrev pub Parting : Type 0
 Parting =
     (c : Core) → IsLawful c → (r : Rec) (n o x y : ℕ) (g h : Fixed) (a b : Tree) → n ≤ c.past.now → o ≤ c.past.now →
     Spans c.past.now (life_of (c.fate r)) n → Spans c.past.now (life_of (c.fate r)) o → Stands c.past n r (node x g a) → Stands c.past o r (node y h b) →
     (i j : ℕ) → i < j → (k l : Key) → IsUnder a i k → IsUnder b j l → IsParted (between (subtrie a) i j) k l
 
--- a record that stood in a version since a pass's pin is neither free nor held, and its words, state and entries aside, are
--- those that it had then; but for those behind a leaf's key, which say nothing
+-- A record that stood in a version since a pass's pin is neither free nor held. Its words are those that it had then, but for its state,
+-- its entries, and the words behind a leaf's key.
 abbrev pub InReach : Type 0
 InReach =
     (c : Core) → IsLawful c → (q : ℕ) (p : Pin) → c.pins q ≡ Some p → (n : ℕ) (r : Rec) (u : Tree) → p.version ≤ n → n ≤ c.past.now → Stands c.past n r u →
@@ -129,15 +129,15 @@ pub record StoodLast (s : Past) (n : ℕ) (r : Rec) (u : Tree) : Type 0 where
   pub stands : Stands s n r u
   pub later : (o : ℕ) (v : Tree) → n < o → o ≤ s.now → Stands s o r v → ⊥
 
--- Of a node that stood as u in a version m since a pass's pin, each entry is one that it had when it stood last, which is now or in
--- a version since m; all other words but the state are the same as at m, and so are its stems.
+-- Let a node have stood in version m, which is no older than a pass's pin. Each of its entries is one that it had when it stood last, which
+-- is now or in a version since m. Its other words but the state are as at m, and so are its stems.
 abbrev pub EntriesInReach : Type 0
 EntriesInReach =
     (c : Core) → IsLawful c → (q : ℕ) (p : Pin) → c.pins q ≡ Some p → (m n : ℕ) (u : Tree) → p.version ≤ m → m ≤ c.past.now → Stands c.past m (a_node n) u →
     (o : ℕ) × (v : Tree) × (m ≤ o) × StoodLast c.past o (a_node n) v × IsSameRecord u v ×
     ((j : ℕ) → j < MAX_ENTRIES → entry_of (record_word c (a_node n) (FIRST_ENTRY + j)) ≡ entry_in v j)
 
--- the call that makes the change
+-- a call that makes a change of this kind
 abbrev pub call_of_kind : Kind → Key → ℕ → Call
 call_of_kind Added key value = Upsert key value
 call_of_kind Replaced key value = Upsert key value
@@ -147,8 +147,8 @@ call_of_kind Removed key value = Remove key
 abbrev pub call_of_change : Change → Call
 call_of_change x = call_of_kind x.kind x.key x.value
 
--- a publish makes one change, by its pass, which fits the map of those before; the content is then that map after one call,
--- whatever locks others hold
+-- A publish makes one change, by its pass, which fits the map of those before. The content is then that map after one call, whatever locks
+-- others hold.
 abbrev pub PublishIsAStep : Type 0
 PublishIsAStep =
     (c : Core) (q : ℕ) (spot : Spot) (w : ℕ) → IsLawful c → Legal c q (Publish spot w) →
@@ -156,7 +156,7 @@ PublishIsAStep =
     Fits (map_of c.changes) (next_change c q spot w) ×
     (content ((after c q (Publish spot w)).past.version (after c q (Publish spot w)).past.now) ≡ map_after (map_of c.changes) (call_of_change (next_change c q spot w)))
 
--- Let an entry be stored, and the words then show a bit trie of lawful nodes, or no tree. Let its leaves differ from those before by one
+-- Let an entry be stored, and the words show a bit trie of lawful nodes then, or no tree. Let its leaves differ from those before by one
 -- change of the pass. Then the publish makes that change.
 abbrev pub FindsChange : Type 0
 FindsChange =
@@ -164,7 +164,7 @@ FindsChange =
     ((t : Tree) → next_tree c spot w ≡ Some t → IsTrie t × IsBuilt t) → (x : Change) → IsChange (c.past.version c.past.now) x (next_tree c spot w) →
     items_of (c.past.version c.past.now) ≢ items_of (next_tree c spot w) → x.pass ≡ q → next_change c q spot w ≡ x
 
--- a pass may lock a node while another holds the lock of another node, and both have their locks then
+-- A pass may lock a node while another holds the lock of another node. Both have their locks then.
 abbrev pub LocksApart : Type 0
 LocksApart =
     (c : Core) (p q n m : ℕ) → IsLawful c → c.lock n ≡ Some p → n ≢ m → Legal c q (Lock (NodeTarget m) (state_word Live)) →

@@ -28,7 +28,7 @@ tag_of lock (InTree since) = lock_tag lock
 tag_of lock (Unlinked since last q) = lock_tag lock
 tag_of lock (Marked since last epoch) = Obsolete epoch
 
--- a leaf is never locked
+-- the lock of a record; a leaf is never locked
 abbrev pub lock_of : Core → Rec → Option ℕ
 lock_of c (a_node n) = c.lock n
 lock_of c (a_leaf n) = None

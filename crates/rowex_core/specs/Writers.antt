@@ -25,8 +25,8 @@ use Rattle.rowex_core.specs.Events.{IsLegalPublish, IsLockedAt, IsWordFor, IsOfE
 use Rattle.rowex_core.specs.Having.{OwnsJust, LocksJust, AreKept, InAnyWay, IsUnlinked}
 use Rattle.rowex_core.specs.Knowing.{Knows, publish_learned}
 
--- A store of an entry that versions allow as a publish of this tree, by which the leaves become others, is a legal publish of the word;
--- the tree that the words show then is this one, and the change that is found between the leaves is the one that versions tell.
+-- Let versions allow a store of an entry as a publish of this tree, by which the leaves change. Then it is a legal publish of the word. The
+-- words show this tree, and the change found between the leaves is the one that versions tell.
 abbrev pub PublishIsLegal : Type 0
 PublishIsLegal =
     (c : Core) (q : ℕ) (spot : Spot) (w : ℕ) → IsOfEntry spot → IsLawful c → IsLockedAt c q spot → IsWordFor spot w → IsPackedAt c spot w →
@@ -34,14 +34,14 @@ PublishIsLegal =
     items_of (c.past.version c.past.now) ≢ items_of t →
     IsLegalPublish c q spot w × (next_tree c spot w ≡ t) × (next_change c q spot w ≡ x)
 
--- The store of a value of 64 bits, under the lock of what names the leaf, is a legal publish. It links no record anew and unlinks none.
+-- A store of a value of 64 bits, under the lock of what names the leaf, is a legal publish. It links no record anew and unlinks none.
 abbrev pub ValueIsLegal : Type 0
 ValueIsLegal =
     (c : Core) (q l w : ℕ) → IsLawful c → IsLockedAt c q (Value l) → w < 2 ^ 64 →
     IsLegalPublish c q (Value l) w × HasTraded (c.past.version c.past.now) (next_tree c (Value l) w) [] []
 
--- Where the words of a node record spell a node, and an entry that may stand in it is stored as entry j: the words spell the node
--- with that entry then, and what is read from them is the node's fixed part with its subtrie so changed.
+-- Let the words of a node record spell a node, and an entry that may stand in it be stored in slot j. The words spell the node with that
+-- entry then. What is read from them is the node's fixed part and its subtrie with that entry.
 abbrev pub SlotIsStored : Type 0
 SlotIsStored =
     (view : NodeView) (words : List ℕ) → HasNodeWords view → node_words view ≡ words → All (λ w. w < 2 ^ 64) words →
@@ -50,14 +50,14 @@ SlotIsStored =
     HasNodeWords stored × (node_words stored ≡ after) ×
     (node_words_of after ≡ record { fixed = (node_words_of words).fixed; subtrie = with_entry (node_words_of words).subtrie j e })
 
--- A node that stood in the tree in a version since a pass's pin is in the tree, if its state word is that of a live record.
+-- A node that stood in the tree in a version since a pass's pin is in the tree, if its state is live.
 abbrev pub LedIsInTree : Type 0
 LedIsInTree =
     (c : Core) → IsLawful c → (q : ℕ) (p : Pin) → c.pins q ≡ Some p → (n m : ℕ) (u : Tree) → p.version ≤ m → m ≤ c.past.now →
     Stands c.past m (a_node n) u → state_at c (a_node n) ≡ 2 → IsInTree c n
 
--- After the publish of a pass that owned just what is linked anew, and had locked just these nodes: it owns just what is
--- unlinked, and has locked just those that are still linked.
+-- What a pass has after a publish, if it owned just what is linked anew and had locked just these nodes. It owns just what is unlinked, and
+-- has locked just those that are still linked.
 abbrev pub OwnedAfterPublish : Type 0
 OwnedAfterPublish =
     (c : Core) (k : Known) (spot : Spot) (w : ℕ) → IsLawful c → Knows c k → (new gone : List Rec) (held kept : List ℕ) →

@@ -8,7 +8,7 @@ use Rattle.rowex_core.specs.Events.{IsLockedAt}
 use Rattle.rowex_replay_state.specs.States.{StateView, IsStateOf}
 use Rattle.rowex_replay.specs.Runs.{Run, HasLegalEvents, core_of}
 
--- The one kind of act that may want memory: a publish of a pass that has locked its word.
+-- The only kind of act that may want memory: a publish by a pass that has locked its word.
 abbrev pub MayWantMemory : Core → ℕ → Act → Type 0
 MayWantMemory c q act = (spot : Spot) × (w : ℕ) × (act ≡ Publish spot w) × IsLockedAt c q spot
 

@@ -7,7 +7,7 @@ use Rattle.rowex_core.specs.Events.{after}
 use Rattle.rowex_core.specs.Opening.{opening}
 use Rattle.rowex_core.specs.Runs.{EventsLead}
 
--- the layout of an index and the events so far, the oldest first
+-- a recorded run: the layout of its index, and the events so far, the oldest first
 pub record Run : Type 0 where
   pub layout : Layout
   pub events : List Event
@@ -17,11 +17,11 @@ abbrev pub core_after : Core → List Event → Core
 core_after c [] = c
 core_after c (x ∷ xs) = core_after (after c x.pass x.act) xs
 
--- the core to which a run leads, from the opening core on
+-- the core to which a run leads from the opening core
 abbrev pub core_of : Run → Core
 core_of run = core_after (opening run.layout) run.events
 
--- its events are legal one after the other
+-- the events of a run are legal, one after the other from the opening core
 abbrev pub HasLegalEvents : Run → Type 0
 HasLegalEvents run = EventsLead (opening run.layout) run.events (core_of run)
 

@@ -5,7 +5,7 @@ use Rattle.tries.specs.Content.{Item}
 use Rattle.versions.specs.Told.{item_of, IsChanged}
 use Rattle.rowex_core.specs.Events.{change_between}
 
--- the first leaves of the lists, if both have one, have different numbers
+-- the first leaves of the two lists, if both have one, have different numbers
 abbrev pub BeginApart : List Item → List Item → Type 0
 BeginApart (x ∷ xs) (y ∷ ys) = x.number ≢ y.number
 BeginApart xs ys = Unit {0}
@@ -14,16 +14,16 @@ BeginApart xs ys = Unit {0}
 abbrev pub numbers : List Item → List ℕ
 numbers xs = map (λ x. x.number) xs
 
--- one leaf changed, as the change says
+-- one leaf has changed from the first list to the second, as the change tells
 abbrev pub Changes : Change → List Item → List Item → Type 0
 Changes x xs ys = (n : ℕ) × IsChanged x.kind (item_of n x) xs ys
 
--- A change is found exactly where one leaf changed as the change between the lists says.
+-- A change is found exactly if one leaf has changed as the change between the lists tells.
 abbrev pub IsFoundChange : ℕ → List Item → List Item → Option Change → Type 0
 IsFoundChange q xs ys None = ¬ (Changes (change_between q xs ys) xs ys)
 IsFoundChange q xs ys (Some x) = (x ≡ change_between q xs ys) × Changes x xs ys
 
--- The change, exactly where the other leaves are the same before and after.
+-- The change is found exactly if the leaves have the same numbers before and after.
 abbrev pub IsMade : List Item → List Item → Change → Option Change → Type 0
 IsMade xs ys x None = ¬ (numbers xs ≡ numbers ys)
 IsMade xs ys x (Some y) = (y ≡ x) × (numbers xs ≡ numbers ys)

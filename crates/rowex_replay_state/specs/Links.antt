@@ -9,19 +9,19 @@ use Rattle.rowex_replay_state.specs.Fates.{stored_fate}
 abbrev pub IsStoredInTree : Stored → Type 0
 IsStoredInTree f = (since : ℕ) × (f ≡ InTree since)
 
--- what is linked is in the tree, or pass q has made it ready
+-- a record that the new tree links is in the tree, or pass q has made it ready
 abbrev pub MayBeLinked : ℕ → Bool → Stored → Type 0
 MayBeLinked q linked f = linked ≡ true → IsStoredInTree f ⊎ (f ≡ Ready q)
 
--- what is in the tree is linked, or pass q has locked it
+-- a node in the tree that the new tree links no more is locked by pass q
 abbrev pub MayBeUnlinked : ℕ → Bool → Option ℕ → Stored → Type 0
 MayBeUnlinked q linked lock f = linked ≡ false → IsStoredInTree f → lock ≡ Some q
 
--- so it is with each of these
+-- pass q may link each of the records that the new tree links
 abbrev pub AllMayBeLinked : ℕ → List Bool → List Stored → Type 0
 AllMayBeLinked q linked fates = (i : ℕ) (f : Stored) → slice_get fates i ≡ Some f → MayBeLinked q (get_or linked i false) f
 
--- each node that is linked no more may be unlinked by the pass
+-- pass q may unlink each node that the new tree links no more
 abbrev pub AllMayBeUnlinked : ℕ → List Bool → List (Option ℕ) → List Stored → Type 0
 AllMayBeUnlinked q linked locks fates =
     (i : ℕ) (f : Stored) → slice_get fates i ≡ Some f → MayBeUnlinked q (get_or linked i false) (get_or locks i None) f

@@ -24,7 +24,7 @@ IsForkedFrom least (leaf n k v) = Unit {0}
 IsForkedFrom least (node n x b) = IsForkedFrom least b
 IsForkedFrom least (fork p a b) = least ≤ p
 
--- The words show a lawful tree for the subtrie, of records of the table that spell values.
+-- The words show a lawful tree for the subtrie. Its records stand in the table and spell values, and its first fork is at `least` or later.
 pub record ShowsPart (table : Table) (words : Rec → List ℕ) (least : ℕ) (p : Subtrie) (t : Tree) : Type 0 where
   pub subtrie_is : subtrie t ≡ p
   pub shown : IsShown (heap_of words) t
@@ -38,33 +38,34 @@ pub record HasMarks (table : Table) (linked : Linked) : Type 0 where
   pub all_nodes : length linked.nodes.items ≡ length table.nodes
   pub all_leaves : length linked.leaves.items ≡ length table.leaves
 
--- What is told grows by what a tree links.
+-- what is told has grown by what the tree links
 pub record GrowsBy (t : Tree) (old new : Linked) : Type 0 where
   pub items_are : map read_item new.items.items ≡ map read_item old.items.items ++ items t
   pub nodes_are : (n : ℕ) → (slice_index_or new.nodes.items n false ≡ true) ↔ ((slice_index_or old.nodes.items n false ≡ true) ⊎ Links t (a_node n))
   pub leaves_are : (n : ℕ) → (slice_index_or new.leaves.items n false ≡ true) ↔ ((slice_index_or old.leaves.items n false ≡ true) ⊎ Links t (a_leaf n))
 
--- A tree of which this holds was read exactly where there is one, and what is told has grown by it.
+-- A tree with the property was read exactly if there is one. What is told has grown by it.
 abbrev pub IsTreeRead : (Tree → Type 0) → Bool → Linked → Linked → Type 0
 IsTreeRead shows true old new = (t : Tree) × shows t × GrowsBy t old new
 IsTreeRead shows false old new = (t : Tree) → ¬ (shows t)
 
--- A part of a tree was read, for a subtrie of which `is` holds, exactly where the words show one: whatever words the table's are part of.
+-- A part of a tree, for a subtrie with the property, was read exactly if the words show one. It is so for all words that the table's may be
+-- part of.
 abbrev pub IsPartRead : Table → ℕ → (Subtrie → Type 0) → Bool → Linked → Linked → Type 0
 IsPartRead table least is good old new = (words : Rec → List ℕ) → AreWordsOf table words → (p : Subtrie) → is p → IsTreeRead (ShowsPart table words least p) good old new
 
--- There is a mark for each record still, and of a part that was read one leaf more is told, or several.
+-- There is still a mark for each record. If a part was read, one leaf more is told, or several.
 pub record HasGrown (table : Table) (good : Bool) (old new : Linked) : Type 0 where
   pub room : HasMarks table new
   pub longer : good ≡ true → length old.items.items < length new.items.items
 
--- a record of the table whose words up to the end of its key spell this leaf
+-- the table has this leaf record, whose words up to the end of its key spell this leaf
 pub record IsLeafAt (leaves : List (List ℕ)) (n : ℕ) (pair : List ℕ × ℕ) : Type 0 where
   pub in_table : n < length leaves
   pub has : HasLeafWords pair
   pub spelling : leaf_words pair ≡ up_to_key (slice_index_or leaves n [])
 
--- A leaf was added exactly where the record spells one.
+-- A leaf was added exactly if the record spells one.
 abbrev pub AddsLeaf : List (List ℕ) → ℕ → Bool → Linked → Linked → Type 0
 AddsLeaf leaves n true old new =
     (pair : List ℕ × ℕ) × IsLeafAt leaves n pair ×
@@ -72,14 +73,14 @@ AddsLeaf leaves n true old new =
     (new.nodes ≡ old.nodes) × (new.leaves.items ≡ slice_set old.leaves.items n true)
 AddsLeaf leaves n false old new = ((pair : List ℕ × ℕ) → ¬ (IsLeafAt leaves n pair)) × (new ≡ old)
 
--- a record of the table whose words spell this node, of this height
+-- the table has this node record, whose words spell a node of this height
 pub record SpellsNode (nodes : List (List ℕ)) (n height : ℕ) (view : NodeView) : Type 0 where
   pub in_table : n < length nodes
   pub has : HasNodeWords view
   pub spelling : node_words view ≡ slice_index_or nodes n []
   pub height_is : view.height ≡ height
 
--- a node, exactly where the record spells one of the height
+-- a node was read exactly if the record spells one of this height
 abbrev pub IsNodeAt : List (List ℕ) → ℕ → ℕ → Option NodeView → Type 0
 IsNodeAt nodes n height None = (view : NodeView) → ¬ (SpellsNode nodes n height view)
 IsNodeAt nodes n height (Some view) = SpellsNode nodes n height view

@@ -14,38 +14,38 @@ use Rattle.rowex_core.specs.Cores.{Core, IsLawful, IsWhole, heap_of}
 use Rattle.rowex_core.specs.Events.{change_between, tree_of}
 use Rattle.rowex_replay_state.specs.States.{StateView, IsStateOf}
 
--- The state is that of the lawful core but for the words of records, which are these: those of leaves are the core's.
+-- The state is that of the lawful core with other words of nodes. The words of leaves are the core's.
 pub record IsWordStored (s : StateView) (c : Core) (words : Rec → List ℕ) : Type 0 where
   pub lawful : ∥ IsLawful c ∥₁
   pub at : IsStateOf s (record c { words = words })
   pub leaves : (n : ℕ) → words (a_leaf n) ≡ c.words (a_leaf n)
 
--- the words of what is neither free nor held spell values
+-- the words of each record that is neither free nor held spell a value
 abbrev pub AreWordsPacked : Core → (Rec → List ℕ) → Type 0
 AreWordsPacked c words = (r : Rec) → IsWhole (c.fate r) → IsPacked r (words r)
 
--- the change by which pass q then makes the tree that the words show from this root
+-- the change that pass q makes by a publish of the tree that the words show from this root
 abbrev pub change_to : Core → ℕ → (Rec → List ℕ) → Option Entry → Change
 change_to c q words root = change_between q (items_of (c.past.version c.past.now)) (items_of (tree_of (heap_of words) root))
 
--- Pass q may make that tree the newest version, its locks on words aside,
+-- Pass q may make the tree that the words show from this root the newest version, its locks on words aside.
 abbrev pub MayMakeVersion : Core → ℕ → (Rec → List ℕ) → Option Entry → Type 0
 MayMakeVersion c q words root = IsNextVersion c.shared q (heap_of words) root (tree_of (heap_of words) root) (change_to c q words root)
 
--- and the core when it has.
+-- the core after pass q has made the tree that the words show from this root the newest version
 abbrev pub published : Core → ℕ → (Rec → List ℕ) → Option Entry → Core
 published c q words root = record { layout = c.layout; words = words; shared = published_by c.shared q root (tree_of (heap_of words) root) (change_to c q words root) }
 
--- That was done, and may be done in each core whose state it was; or it wasn't, and may be in none.
+-- The publish was made, and is legal in each core whose state it was. Or it wasn't, and is legal in none.
 abbrev pub IsPublishJudged : Bool → StateView → StateView → ℕ → Option Entry → Type 0
 IsPublishJudged true s t q root = (c : Core) (words : Rec → List ℕ) → IsWordStored s c words → MayMakeVersion c q words root × IsStateOf t (published c q words root)
 IsPublishJudged false s t q root = (t ≡ s) × ((c : Core) (words : Rec → List ℕ) → IsWordStored s c words → AreWordsPacked c words → ¬ (MayMakeVersion c q words root))
 
--- the leaf with this value, where it has this number
+-- the leaf, with this value if it has this number
 abbrev pub revalued_item : ℕ → ℕ → Item → Item
 revalued_item l w x = item x.number x.key (if nat_eq x.number l then w else x.value)
 
--- each leaf of the list is so
+-- the lists have the same leaves, but that leaf l has value w in the new one
 pub record AreRevalued (l w : ℕ) (old new : List ReadItem) : Type 0 where
   pub count : length new ≡ length old
   pub each : (i : ℕ) (x : ReadItem) → slice_get new i ≡ Some x → (y : ReadItem) × (slice_get old i ≡ Some y) × (read_item x ≡ revalued_item l w (read_item y))

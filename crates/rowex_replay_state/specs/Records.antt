@@ -16,7 +16,8 @@ use Rattle.rowex_replay_state.specs.declared.fate.Fate.TheVariants.{InTree}
 use Rattle.rowex_replay_state.specs.Fates.{stored_fate}
 use Rattle.rowex_replay_state.specs.Links.{AllMayBeLinked, AllMayBeUnlinked, AreNextFates}
 
--- the table's layout; of each node its words but the state, its fate and its lock; of each leaf its words but the state, and its fate
+-- What contracts see of the records of a replay. Of each node and leaf it is the words but the state, and the fate. Of each node it is the
+-- lock, too.
 pub record RecordsView : Type 0 where
   pub layout : Layout
   pub nodes : List (List ℕ)
@@ -27,30 +28,30 @@ pub record RecordsView : Type 0 where
 
 -- what is stored of a record, where the table has it
 
--- the words of a record, if there is one
+-- the words of a record, if the table has it
 abbrev pub words_in : RecordsView → Rec → Option (List ℕ)
 words_in s (a_node n) = slice_get s.nodes n
 words_in s (a_leaf n) = slice_get s.leaves n
 
--- its fate
+-- the fate of a record, if the table has it
 abbrev pub fate_in : RecordsView → Rec → Option Stored
 fate_in s (a_node n) = slice_get s.node_fates n
 fate_in s (a_leaf n) = slice_get s.leaf_fates n
 
--- who has locked it, or nobody
+-- who has locked a record, or nobody, if the table has it
 abbrev pub lock_in : RecordsView → Rec → Option (Option ℕ)
 lock_in s (a_node n) = slice_get s.locks n
 lock_in s (a_leaf n) = Some None
 
--- its state
+-- the state of a record, if the table has it
 abbrev pub tag_in : RecordsView → Rec → Option Tag
 tag_in s r = option_and_then (λ f. option_map (λ o. tag_of o (stored_fate f)) (lock_in s r)) (fate_in s r)
 
--- its state has this word
+-- the record's state has this word
 abbrev pub HasState : RecordsView → Rec → ℕ → Type 0
 HasState s r w = (t : Tag) × (tag_in s r ≡ Some t) × HasStateWord t × (state_word t ≡ w)
 
--- this word stands at this place among its words
+-- word i of the record behind its state is this one
 abbrev pub HasWordStored : RecordsView → Rec → ℕ → ℕ → Type 0
 HasWordStored s r i w = (words : List ℕ) × (words_in s r ≡ Some words) × (slice_get words i ≡ Some w)
 
@@ -58,54 +59,54 @@ HasWordStored s r i w = (words : List ℕ) × (words_in s r ≡ Some words) × (
 abbrev pub HasEntryStored : RecordsView → ℕ → ℕ → Type 0
 HasEntryStored s n w = (j : ℕ) × (j < MAX_ENTRIES) × HasWordStored s (a_node n) (HEAD_WORDS + j) w
 
--- and pass q has locked the node, which is in the tree
+-- pass q has locked node n, which is in the tree and has an entry with this word
 abbrev pub IsEntryLocked : RecordsView → ℕ → ℕ → ℕ → Type 0
 IsEntryLocked s q w n = (lock_in s (a_node n) ≡ Some (Some q)) × ((since : ℕ) × (fate_in s (a_node n) ≡ Some (InTree since))) × HasEntryStored s n w
 
--- so it is with a node of the table
+-- pass q has locked a node of the table that has an entry with this word
 abbrev pub HasLockedEntry : RecordsView → ℕ → ℕ → Type 0
 HasLockedEntry s q w = (n : ℕ) × (n < s.layout.nodes) × IsEntryLocked s q w n
 
--- its words spell a value
+-- the record's words spell a value
 abbrev pub IsSpelledIn : RecordsView → Rec → Type 0
 IsSpelledIn s r = (words : List ℕ) × (words_in s r ≡ Some words) × IsPacked r words
 
--- the leaf's words spell one with this key
+-- the leaf's words have this key
 abbrev pub HasKeyIn : RecordsView → ℕ → List ℕ → Type 0
 HasKeyIn s n key = (words : List ℕ) × (words_in s (a_leaf n) ≡ Some words) × ((leaf_of words).key ≡ key)
 
--- its words spell a value, which has room in it
+-- the record's words spell a value for which it has room
 abbrev pub IsPackedIn : RecordsView → Rec → Type 0
 IsPackedIn s r = (words : List ℕ) × (words_in s r ≡ Some words) × IsPacked r words × FitsIn s.layout r words
 
 -- the records with one fate, one lock or the words of one record changed
 
--- the records, one with another fate
+-- the records, with another fate of record r
 abbrev pub with_fate_in : RecordsView → Rec → Stored → RecordsView
 with_fate_in s (a_node n) f = record s { node_fates = set s.node_fates n f }
 with_fate_in s (a_leaf n) f = record s { leaf_fates = set s.leaf_fates n f }
 
--- a node with another lock
+-- the records, with another lock of node n
 abbrev pub with_lock_in : RecordsView → ℕ → Option ℕ → RecordsView
 with_lock_in s n o = record s { locks = set s.locks n o }
 
--- a record with this fate, and unlocked
+-- the records, with another fate of record r, and its lock released if it is a node
 abbrev pub with_fate_unlocked_in : RecordsView → Rec → Stored → RecordsView
 with_fate_unlocked_in s (a_node n) f = with_fate_in (with_lock_in s n None) (a_node n) f
 with_fate_unlocked_in s (a_leaf n) f = with_fate_in s (a_leaf n) f
 
--- a record with other words
+-- the records, with other words of record r
 abbrev pub with_words_in : RecordsView → Rec → List ℕ → RecordsView
 with_words_in s (a_node n) words = record s { nodes = set s.nodes n words }
 with_words_in s (a_leaf n) words = record s { leaves = set s.leaves n words }
 
--- fates and locks allow pass q to publish a tree that links these nodes and leaves and no other
+-- fates and locks allow pass q to publish a tree that links just these nodes and leaves
 pub record MayPublishTree (s : RecordsView) (q : ℕ) (nodes leaves : List Bool) : Type 0 where
   pub nodes_come : AllMayBeLinked q nodes s.node_fates
   pub leaves_come : AllMayBeLinked q leaves s.leaf_fates
   pub nodes_go : AllMayBeUnlinked q nodes s.locks s.node_fates
 
--- from the first records to the second fates alone have changed, as a publish changes them
+-- from the first records to the second only fates have changed, as a publish changes them
 pub record AreNextRecords (now q : ℕ) (nodes leaves : List Bool) (s t : RecordsView) : Type 0 where
   pub layout : t.layout ≡ s.layout
   pub words : (t.nodes ≡ s.nodes) × (t.leaves ≡ s.leaves)
@@ -115,7 +116,7 @@ pub record AreNextRecords (now q : ℕ) (nodes leaves : List Bool) (s t : Record
   pub node_fates : AreNextFates now q nodes s.node_fates t.node_fates
   pub leaf_fates : AreNextFates now q leaves s.leaf_fates t.leaf_fates
 
--- The data are those of a table of this layout, with these words, fates and locks.
+-- The records are those of a table of this layout, with these words, fates and locks.
 pub record AreRecordsOf (s : RecordsView) (layout : Layout) (words : Rec → List ℕ) (fate : Rec → Fate) (lock : ℕ → Option ℕ) : Type 0 where
   pub layout_is : s.layout ≡ layout
   pub node_count : (length s.nodes ≡ layout.nodes) × (length s.node_fates ≡ layout.nodes) × (length s.locks ≡ layout.nodes)

@@ -29,8 +29,8 @@ pub record StateView : Type 0 where
   pub changes : List Change
   pub items : List ReadItem
 
--- The state is that of this core: they have the same records, passes, locks, epoch, root and changes, and the state has
--- the leaves of the newest version.
+-- The state is that of this core. They have the same records, passes, locks, epoch, root and changes. The state has the leaves of the
+-- newest version.
 pub record IsStateOf (s : StateView) (c : Core) : Type 0 where
   pub records : AreRecordsOf s.records c.layout c.words c.fate c.lock
   pub passes : ArePassesOf s.passes c.layout c.pins c.rounds
@@ -40,7 +40,7 @@ pub record IsStateOf (s : StateView) (c : Core) : Type 0 where
   pub changes : c.changes ≡ s.changes
   pub items : items_of (c.past.version c.past.now) ≡ map read_item s.items
 
--- The act of pass q was made, and is legal in each lawful core whose state it was; or it wasn't, and is legal in none.
+-- The act of pass q was made, and is legal in each lawful core whose state it was. Or it wasn't, and is legal in none.
 abbrev pub IsStepped : Bool → StateView → StateView → ℕ → Act → Type 0
 IsStepped true s t q act = (c : Core) → ∥ IsLawful c ∥₁ → IsStateOf s c → LegalAct c q act × IsStateOf t (after c q act)
 IsStepped false s t q act = (t ≡ s) × ((c : Core) → IsLawful c → IsStateOf s c → ¬ (LegalAct c q act))
@@ -49,7 +49,7 @@ IsStepped false s t q act = (t ≡ s) × ((c : Core) → IsLawful c → IsStateO
 abbrev pub HasNamerLocked : StateView → ℕ → ℕ → Type 0
 HasNamerLocked s q l = ((s.anchor ≡ Some q) × (s.root ≡ Some (Leaf l))) ⊎ HasLockedEntry s.records q (entry_word (Some (Leaf l)))
 
--- pass q has locked the word of the spot; of a value, what names its leaf
+-- Pass q has the lock under which the spot's word is stored. For a value, it is that of what names the leaf.
 abbrev pub HasLock : StateView → ℕ → Spot → Type 0
 HasLock s q Root = s.anchor ≡ Some q
 HasLock s q (Slot n j) = (j < MAX_ENTRIES) × (lock_in s.records (a_node n) ≡ Some (Some q))

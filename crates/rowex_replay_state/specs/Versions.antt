@@ -13,12 +13,12 @@ use Rattle.rowex_core.specs.Events.{tree_of}
 use Rattle.rowex_replay_state.specs.declared.linked.Item.{Item as ReadItem}
 use Rattle.rowex_replay_state.specs.declared.linked.Linked.{Linked}
 
--- of each node record and of each leaf record its words from offset 1 on
+-- the words of each node record and of each leaf record, behind its state
 pub record Table : Type 0 where
   pub nodes : List (List ℕ)
   pub leaves : List (List ℕ)
 
--- the words of the records of the table are these
+-- the words of the table's records are these
 pub record AreWordsOf (table : Table) (words : Rec → List ℕ) : Type 0 where
   pub nodes_are : (n : ℕ) → n < length table.nodes → words (a_node n) ≡ slice_index_or table.nodes n []
   pub leaves_are : (n : ℕ) → n < length table.leaves → words (a_leaf n) ≡ slice_index_or table.leaves n []
@@ -32,7 +32,7 @@ HasRecordIn table (a_leaf n) = n < length table.leaves
 abbrev pub IsSpelled : Table → (Rec → List ℕ) → Rec → Type 0
 IsSpelled table words r = HasRecordIn table r × IsPacked r (words r)
 
--- The words show a lawful tree from this root, or none where the root is empty, and each record that it links is spelled.
+-- The words show a lawful tree from this root, or none if the root is empty. Each record that it links is in the table and spells a value.
 pub record IsVersion (table : Table) (words : Rec → List ℕ) (root : Option Entry) : Type 0 where
   pub top : IsTop (heap_of words) root (tree_of (heap_of words) root)
   pub tree : (t : Tree) → tree_of (heap_of words) root ≡ Some t → IsTrie t × IsBuilt t
@@ -42,7 +42,7 @@ pub record IsVersion (table : Table) (words : Rec → List ℕ) (root : Option E
 abbrev pub read_item : ReadItem → Item
 read_item x = record { number = x.number; key = x.key; value = x.value }
 
--- What is told of a tree: its leaves in order, and of each record of the table whether the tree links it.
+-- What is told of a tree: its leaves in order, and for each record of the table whether the tree links it.
 pub record Tells (table : Table) (t : Option Tree) (linked : Linked) : Type 0 where
   pub items_are : map read_item linked.items.items ≡ items_of t
   pub all_nodes : length linked.nodes.items ≡ length table.nodes
@@ -50,11 +50,11 @@ pub record Tells (table : Table) (t : Option Tree) (linked : Linked) : Type 0 wh
   pub nodes_are : (n : ℕ) → (slice_index_or linked.nodes.items n false ≡ true) ↔ IsLinked t (a_node n)
   pub leaves_are : (n : ℕ) → (slice_index_or linked.leaves.items n false ≡ true) ↔ IsLinked t (a_leaf n)
 
--- Something is told exactly of a lawful version.
+-- Something was told exactly if the words show a lawful version.
 abbrev pub IsReadVersion : Table → (Rec → List ℕ) → Option Entry → Option Linked → Type 0
 IsReadVersion table words root None = ¬ (IsVersion table words root)
 IsReadVersion table words root (Some linked) = IsVersion table words root × Tells table (tree_of (heap_of words) root) linked
 
--- So it is for all words that the records of the table may be part of.
+-- Something was told exactly if there is a lawful version, whichever words the table's are part of.
 abbrev pub IsToldVersion : Table → Option Entry → Option Linked → Type 0
 IsToldVersion table root linked = (words : Rec → List ℕ) → AreWordsOf table words → IsReadVersion table words root linked

@@ -15,7 +15,7 @@ use Rattle.versions.specs.Core.{Ready, BareCore}
 use Rattle.version_laws.specs.Writer.{IsFoundBelow, Newcomer}
 use Rattle.version_laws.specs.Spots.{IsLockedNode, AffectsOne}
 
--- A new node record that the pass has filled with this subtrie and made ready.
+-- A new node record that pass q has filled with this subtrie and made ready.
 pub record IsNewSubtrie (c : BareCore) (q m : ℕ) (g : Fixed) (x : Subtrie) : Type 0 where
   pub fate : c.fate (a_node m) ≡ Ready q
   pub words : c.heap.nodes m ≡ record { fixed = g; subtrie = x }
@@ -23,12 +23,12 @@ pub record IsNewSubtrie (c : BareCore) (q m : ℕ) (g : Fixed) (x : Subtrie) : T
   pub lower : IsLowerSubtrie g.height x
   pub fit : IsFit g x
 
--- The entry for a subtrie: the one entry that it is, or a new node of it.
+-- The entry for a subtrie: the subtrie itself if it is one entry, or a new node of it.
 pub data IsEntryFor (c : BareCore) (q : ℕ) (x : Subtrie) : Entry → Type 0 where
   alone : (e : Entry) → x ≡ Place e → IsEntryFor c q x e
   in_node : (m : ℕ) (g : Fixed) → IsNewSubtrie c q m g x → IsEntryFor c q x (Node m g.height)
 
--- A locked node's entry on the key's way names node `n`, and is all that an insertion at `p` affects there.
+-- A locked node's entry on the key's path names node `n`. It is all that an insertion affects there, where the key first differs at `p`.
 pub record IsUpper (c : BareCore) (q : ℕ) (k : Key) (p o n : ℕ) : Type 0 where
   pub locked : IsLockedNode c q o
   pub height : ℕ
@@ -40,8 +40,8 @@ pub data Side : Type 0 where
   body : ℕ → Side
   entry : ℕ → Side
 
--- From the lowest locked node upwards: the subtrie that the node's body becomes, and the subtrie, one entry or a fork of two,
--- that takes the place of its entry.
+-- What rises, from the lowest locked node upwards. At a body, it is the subtrie that the body becomes. At an entry, it is what takes its
+-- place: one entry, or a fork of two.
 pub data IsRise (c : BareCore) (q : ℕ) (x : Newcomer) : Side → Subtrie → Type 0 where
   -- the lowest node gets the new leaf
   grows : (n : ℕ) → IsFoundBelow c q x n → IsPartSubtrie (subtrie_affected x.mismatch x.item.key (c.heap.nodes n).subtrie) →
@@ -60,12 +60,12 @@ pub data IsRise (c : BareCore) (q : ℕ) (x : Newcomer) : Side → Subtrie → T
   -- a fork in a node of its own: an intermediate node, a new root
   wraps : (n : ℕ) (r : Subtrie) (m : ℕ) (g : Fixed) → IsRise c q x (entry n) r → IsNewSubtrie c q m g r → IsRise c q x (entry n) (Place (Node m g.height))
 
--- The new record of such an entry, if there is one.
+-- The new node record that the entry for a subtrie names, if there is one.
 abbrev pub linked_for_entry : {c : BareCore} {q : ℕ} {x : Subtrie} {e : Entry} → IsEntryFor c q x e → List Rec
 linked_for_entry (alone e h) = []
 linked_for_entry (in_node m g i) = a_node m ∷ []
 
--- The records that a rise links anew, the one made last first: of a cut the upper half is made before the lower one.
+-- The records that a rise links anew, the one made last first. Of a cut, the upper half is made before the lower one.
 abbrev pub linked_by_rise : {c : BareCore} {q : ℕ} {x : Newcomer} {d : Side} {r : Subtrie} → IsRise c q x d r → List Rec
 linked_by_rise {x = x} (grows n found i) = a_leaf x.item.number ∷ []
 linked_by_rise (pulls o n r u i) = linked_by_rise i
@@ -74,7 +74,7 @@ linked_by_rise (halves n f a b d e i u v) = linked_for_entry u ++ (linked_for_en
 linked_by_rise {x = x} (stays_whole n found i) = a_leaf x.item.number ∷ []
 linked_by_rise (wraps n r m g i z) = a_node m ∷ linked_by_rise i
 
--- And those that it unlinks: each node that was copied or cut, the topmost first.
+-- The records that a rise unlinks: each node that was copied or cut, the topmost first.
 abbrev pub unlinked_by_rise : {c : BareCore} {q : ℕ} {x : Newcomer} {d : Side} {r : Subtrie} → IsRise c q x d r → List Rec
 unlinked_by_rise (grows n found i) = []
 unlinked_by_rise (pulls o n r u i) = unlinked_by_rise i
@@ -83,13 +83,13 @@ unlinked_by_rise (halves n f a b d e i u v) = a_node n ∷ unlinked_by_rise i
 unlinked_by_rise (stays_whole n found i) = []
 unlinked_by_rise (wraps n r m g i z) = unlinked_by_rise i
 
--- A locked node's entry on the key's way names leaf `j`, which has the key.
+-- A locked node's entry on the key's path names leaf `j`, which has the key.
 pub record IsLeafOf (c : BareCore) (q : ℕ) (k : Key) (n j : ℕ) : Type 0 where
   pub lock : c.lock n ≡ Some q
   pub entry : seek k (c.heap.nodes n).subtrie ≡ Leaf j
   pub key : (c.heap.leaves j).key ≡ k
 
--- A locked node's entry on the key's way names node `n`, and the last fork on that way has on its other side just the entry of node `m`,
+-- A locked node's entry on the key's path names node `n`. On the other side of the last fork on that path is just the entry of node `m`,
 -- which is locked, too.
 pub record IsBesideNode (c : BareCore) (q : ℕ) (k : Key) (o n m : ℕ) : Type 0 where
   pub locked : c.lock o ≡ Some q
@@ -100,6 +100,6 @@ pub record IsBesideNode (c : BareCore) (q : ℕ) (k : Key) (o n m : ℕ) : Type 
   pub sibling : subtrie_sibling k (c.heap.nodes o).subtrie ≡ Some (position, Place (Node m other_height))
   pub locked_too : c.lock m ≡ Some q
 
--- What is left of node `n` without the key's leaf, and all of node `m`, with the fork between the two on top.
+-- The subtrie of a merge: what is left of node `n` without the key's leaf, and all of node `m`, below the fork between them.
 abbrev pub subtrie_merged : (c : BareCore) (q : ℕ) (k : Key) (o n m : ℕ) → IsBesideNode c q k o n m → Subtrie
 subtrie_merged c q k o n m b = fork_of (bit k b.position) b.position (subtrie_without k (c.heap.nodes n).subtrie) (c.heap.nodes m).subtrie

@@ -11,13 +11,13 @@ use Rattle.record_words.specs.declared.records.Rec.{Rec}
 use Rattle.record_words.specs.declared.records.Rec.TheVariants.{Node as a_node, Leaf as a_leaf}
 use Rattle.tries.specs.Place.{shape}
 
--- What stands at a place of a body.
+-- What stands in a slot of a body.
 abbrev pub at_place : Tree → ℕ → Tree
 at_place (leaf n k v) i = leaf n k v
 at_place (node n x b) i = node n x b
 at_place (fork p a b) i = if nat_lt i (size (subtrie a)) then at_place a i else at_place b (i - size (subtrie a))
 
--- The keys have the same bits up to the position of each fork on the way to a place, and at it.
+-- The keys have the same bits up to and at the position of each fork on the path to a slot.
 abbrev pub AgreeUpToPlace : Subtrie → ℕ → Key → Key → Type 0
 AgreeUpToPlace (Place e) i x y = Unit {0}
 AgreeUpToPlace (Fork p a b) i x y =
@@ -31,40 +31,39 @@ pub record Stood (s : Past) (m r : ℕ) (b : Tree) : Type 0 where
   pub fixed : Fixed
   pub stands : Stands s at (a_node r) (node r fixed b)
 
--- The four facts that a reader's loads leave.
--- The root's entry in a version since `m`.
+-- A fact of a load of the root: in a version since `m` it had this entry.
 abbrev pub IsRooted : Past → ℕ → Entry → Type 0
 IsRooted s m e = (n : ℕ) × (t : Tree) × (m ≤ n) × (n ≤ s.now) × (s.version n ≡ Some t) × (subtrie t ≡ Place e)
 
--- The entry stood at the record's place.
+-- A fact of a load of an entry: in a version since `m` node record `r` had this entry in slot `j`.
 abbrev pub IsPlaced : Past → ℕ → ℕ → ℕ → Entry → Type 0
 IsPlaced s m r j e = (b : Tree) × Stood s m r b × (j < size (subtrie b)) × (subtrie (at_place b j) ≡ Place e)
 
--- The node stood with these forks.
+-- A fact of the loads of a head: in a version since `m` node record `r` had these forks.
 abbrev pub IsShaped : Past → ℕ → ℕ → Subtrie → Type 0
 IsShaped s m r p = (b : Tree) × Stood s m r b × (shape (subtrie b) ≡ p)
 
--- The leaf stood with this key and value.
+-- A fact of the loads of a leaf: in a version since `m` leaf record `r` had this key and value.
 abbrev pub IsRead : Past → ℕ → ℕ → Key → ℕ → Type 0
 IsRead s m r k v = (n : ℕ) × (m ≤ n) × (n ≤ s.now) × Stands s n (a_leaf r) (leaf r k v)
 
--- A key that may stand at the record's place.
+-- A key that may stand in slot `i` of node record `r`, by some version since `m`.
 abbrev pub MayStandAt : Past → ℕ → ℕ → ℕ → Key → Type 0
 MayStandAt s m r i y = (b : Tree) × (k : Key) × Stood s m r b × IsUnder b i k × AgreeUpToPlace (subtrie b) i k y
 
--- The record had the key below it.
+-- In a version since `m` the key stood below the record.
 abbrev pub HadKeyBelow : Past → ℕ → Key → Rec → Type 0
 HadKeyBelow s m k r = (n : ℕ) × (u : Tree) × (m ≤ n) × (n ≤ s.now) × Stands s n r u × Has u k
 
--- A node on the way of the scan: its number, its forks, and a place: the next one of the topmost frame, of any other
--- frame the one in which the scan is.
+-- A node on the path of a scan: its number, its forks, and a slot. For the topmost frame it is the gap where the scan is, for others the
+-- slot below which the scan is.
 pub record Frame : Type 0 where
   pub number : ℕ
   pub height : ℕ
   pub shape : Subtrie
   pub place : ℕ
 
--- The frames, topmost first, are the way from the root.
+-- The frames, topmost first, are the path of a scan from the root.
 abbrev pub IsStack : Past → ℕ → List Frame → Type 0
 IsStack s m [] = Unit {0}
 IsStack s m (f ∷ []) = IsRooted s m (Node f.number f.height) × IsShaped s m f.number f.shape
@@ -76,17 +75,17 @@ pub record Pair : Type 0 where
   pub key : Key
   pub value : ℕ
 
--- each pair is so
+-- each pair of the list has the property
 abbrev pub Every : (Pair → Type 0) → List Pair → Type 0
 Every P [] = Unit {0}
 Every P (x ∷ xs) = P x × Every P xs
 
--- the key is among them
+-- one of the pairs has the key
 abbrev pub IsKeyListed : Key → List Pair → Type 0
 IsKeyListed k [] = ⊥
 IsKeyListed k (x ∷ xs) = (k ≡ x.key) ⊎ IsKeyListed k xs
 
--- The call's range and limit.
+-- What a scan is asked for: its first and last key, and its limit.
 pub record Range : Type 0 where
   pub from : Key
   pub upto : Key
@@ -96,11 +95,11 @@ pub record Range : Type 0 where
 abbrev pub IsInRange : Range → Key → Type 0
 IsInRange g k = IsAtMost g.from k × IsAtMost k g.upto
 
--- The entry's record stood in a version since `m`, with the entry's height.
+-- In a version since `m` the record that the entry names stood in the tree, with the entry's height.
 abbrev pub EntryStoodSince : Past → ℕ → Entry → Type 0
 EntryStoodSince s m e = (n : ℕ) × (u : Tree) × (m ≤ n) × (n ≤ s.now) × Stands s n (rec_of e) u × (subtrie u ≡ Place e)
 
--- The root was None in a version since `m`.
+-- In a version since `m` the index had no key.
 abbrev pub IsBlank : Past → ℕ → Type 0
 IsBlank s m = (n : ℕ) × (m ≤ n) × (n ≤ s.now) × (s.version n ≡ None)
 

@@ -19,33 +19,33 @@ pub record IsLockedNode (c : BareCore) (q n : ℕ) : Type 0 where
   pub linked : ℕ
   pub fate : c.fate (a_node n) ≡ InTree linked
 
--- The pass holds the lock of a spot on the key's way, at which the entry `d` stands: the anchor's, and `d` is the root; or that of a
--- node in the tree, and `d` is its entry at the key's place.
+-- The pass holds the lock of a spot on the key's path, at which the entry `d` stands. It holds the anchor's lock, and `d` is the root. Or
+-- it holds that of a node in the tree, and `d` is its entry on the path.
 pub data HoldsSpot (c : BareCore) (q : ℕ) (k : Key) (d : Entry) : Type 0 where
   by_anchor : c.anchor ≡ Some q → c.root ≡ Some d → HoldsSpot c q k d
   by_node : (o : ℕ) → IsLockedNode c q o → seek k (c.heap.nodes o).subtrie ≡ d → HoldsSpot c q k d
 
--- An entry that may stand there: in a node it is lower than the node.
+-- The entry may stand at the spot: in a node it is lower than the node.
 abbrev pub IsLowAt : {c : BareCore} {q : ℕ} {k : Key} {d : Entry} → HoldsSpot c q k d → Entry → Type 0
 IsLowAt (by_anchor lock root) e = Unit {0}
 IsLowAt {c = c} (by_node o locked names) e = IsLowerSubtrie (c.heap.nodes o).fixed.height (Place e)
 
--- An insertion at `p` affects no more of the subtrie `x` than the place on the key's way, below which there is the subtrie `r`: the
--- first fork of `r` is before `p`, or the affected part of `x` is one entry.
+-- An insertion affects no more of the subtrie `x` than the entry on the key's path, with the subtrie `r` below it. The first fork of `r` is
+-- before `p`, where the key first differs, or one entry of `x` is affected.
 abbrev pub AffectsOne : ℕ → Key → Subtrie → Subtrie → Type 0
 AffectsOne p k x r = FirstForkIsBefore p r ⊎ IsTipSubtrie (subtrie_affected p k x)
 
--- What there is below an entry: a node's subtrie, or the one leaf.
+-- What there is below an entry: the subtrie of a node, or the leaf alone.
 abbrev pub subtrie_below : Heap → Entry → Subtrie
 subtrie_below heap (Leaf j) = Place (Leaf j)
 subtrie_below heap (Node n h) = (heap.nodes n).subtrie
 
--- An insertion at `p` affects no more than the spot, if that is in a node.
+-- An insertion affects no more of a node than the entry at the spot, where the key first differs at `p`.
 abbrev pub AffectsSpotAloneInCore : {c : BareCore} {q : ℕ} {k : Key} {d : Entry} → HoldsSpot c q k d → ℕ → Type 0
 AffectsSpotAloneInCore (by_anchor lock root) p = Unit {0}
 AffectsSpotAloneInCore {c = c} {k = k} {d = d} (by_node o locked names) p = AffectsOne p k (c.heap.nodes o).subtrie (subtrie_below c.heap d)
 
--- The store of this entry there, and of nothing else, makes this heap and this root.
+-- A store of this entry at the spot, and of nothing else, makes this heap and this root.
 abbrev pub IsStoredAt : {c : BareCore} {q : ℕ} {k : Key} {d : Entry} → HoldsSpot c q k d → Heap → Option Entry → Entry → Type 0
 IsStoredAt {c = c} (by_anchor lock root) heap top e = (heap ≡ c.heap) × (top ≡ Some e)
 IsStoredAt {c = c} {k = k} (by_node o locked names) heap top e =

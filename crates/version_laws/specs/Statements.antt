@@ -29,28 +29,29 @@ use Rattle.packed_pairs.specs.declared.direction.Direction.{Direction}
 use Rattle.compound_node.specs.Nodes.{height_of}
 use Rattle.versions.specs.Frames.{IsGrown}
 
--- The store is a legal publish of this tree, which may be empty, by the change's pass, and tells this change: the leaves are others than
--- before, just the records `new` are linked anew, and just the records `gone` are linked no more.
+-- The store is a legal publish of this tree, which may be empty, and tells this change by the change's pass. The leaves are others than
+-- before. Just the records `new` are linked anew, and just the records `gone` are linked no more.
 pub record IsPublished (c : BareCore) (heap : Heap) (root : Option Entry) (x : Change) (new gone : List Rec) : Type 0 where
   pub tree : Option Tree
   pub legal : IsVersionPublish c x.pass heap root tree x
   pub differs : items_of (c.past.version c.past.now) ≢ items_of tree
   pub trade : HasTraded (c.past.version c.past.now) tree new gone
 
--- Insertion: what has risen from node `n`, one entry, is stored at the spot of `n`. So it is a copy of the node, an intermediate node
--- or a new root, where each that was pulled up below is in it.
+-- An insertion may store the one entry that has risen from node `n` at the spot of `n`. So the entry names a copy of the node, an
+-- intermediate node or a new root.
 abbrev pub InsertAtSpot : Type 0
 InsertAtSpot =
     (c : BareCore) (q : ℕ) → IsLawfulState (view c) → (x : Newcomer) → IsNewLeaf c q x.item → (n h : ℕ) (e : Entry) →
     (i : IsRise c q x (entry n) (Place e)) → (s : HoldsSpot c q x.item.key (Node n h)) → AffectsSpotAloneInCore s x.mismatch → IsLowAt s e →
     (heap : Heap) (root : Option Entry) → IsStoredAt s heap root e → IsPublished c heap root (added_change q x.item) (linked_by_rise i) (unlinked_by_rise i)
 
--- Where a locked node's place of the node below is all that an insertion at p affects, its own first fork is before p: so the node
--- above it needs no other check than that its entry names it.
+-- If a locked node's entry for the node below is all that an insertion affects, the node's own first fork is before `p`. So the node above
+-- it needs no other check than that its entry names it.
 abbrev pub UpperGoesOn : Type 0
 UpperGoesOn = (c : BareCore) (q : ℕ) → IsLawfulState (view c) → (k : Key) (p o n : ℕ) → IsUpper c q k p o n → FirstForkIsBefore p (c.heap.nodes o).subtrie
 
--- A pair: a new node of a leaf, which alone is affected, and the new one. In a node this is a leaf pushdown, at the root the second key.
+-- An insertion that affects one leaf alone may store a new node of that leaf and the new one. In a node this is a leaf pushdown, at the
+-- root it adds the second key.
 abbrev pub PairAtSpot : Type 0
 PairAtSpot =
     (c : BareCore) (q : ℕ) → IsLawfulState (view c) → (x : Item) (p : ℕ) → IsNewLeaf c q x → (j m : ℕ) (g : Fixed) →
@@ -59,20 +60,20 @@ PairAtSpot =
     (heap : Heap) (root : Option Entry) → IsStoredAt s heap root (Node m g.height) →
     IsPublished c heap root (added_change q x) (a_node m ∷ a_leaf x.number ∷ []) []
 
--- The first key: where the root is empty, the new leaf.
+-- An insertion into an empty index may store the new leaf at the root.
 abbrev pub FirstKey : Type 0
 FirstKey =
     (c : BareCore) (q : ℕ) → IsLawfulState (view c) → (x : Item) → c.anchor ≡ Some q → c.root ≡ None → IsNewLeaf c q x →
     IsPublished c c.heap (Some (Leaf x.number)) (added_change q x) (a_leaf x.number ∷ []) []
 
--- Upsert of a held key: a new leaf in the place of the old one.
+-- An upsert of a held key may store a new leaf in place of the old one.
 abbrev pub UpsertAtSpot : Type 0
 UpsertAtSpot =
     (c : BareCore) (q : ℕ) → IsLawfulState (view c) → (x : Item) → IsNewLeaf c q x → (j : ℕ) (s : HoldsSpot c q x.key (Leaf j)) → (c.heap.leaves j).key ≡ x.key →
     (heap : Heap) (root : Option Entry) → IsStoredAt s heap root (Leaf x.number) →
     IsPublished c heap root (replaced_change q x) (a_leaf x.number ∷ []) (a_leaf j ∷ [])
 
--- Removal of an entry: what is left of its node, one entry or a new node, takes the node's place.
+-- A removal may store what is left of the leaf's node, one entry or a new node, in place of the node.
 abbrev pub RemoveAtSpot : Type 0
 RemoveAtSpot =
     (c : BareCore) (q : ℕ) → IsLawfulState (view c) → (k : Key) (n j : ℕ) → IsLeafOf c q k n j → (h : ℕ) (e : Entry) →
@@ -80,8 +81,8 @@ RemoveAtSpot =
     (heap : Heap) (root : Option Entry) → IsStoredAt s heap root e →
     IsPublished c heap root (removed_change q (item j k (c.heap.leaves j).value)) (linked_for_entry i) (a_node n ∷ a_leaf j ∷ [])
 
--- Removal that merges: what is left of the leaf's node and the node beside it become one new node, whose entry closes the fork between
--- them in the node above. What is left of that, one entry or a new node, takes its place.
+-- A removal may merge what is left of the leaf's node with the node beside it. Their new node's entry closes the fork between them in the
+-- node above. What is left of that, one entry or a new node, takes its place.
 abbrev pub MergeAtSpot : Type 0
 MergeAtSpot =
     (c : BareCore) (q : ℕ) → IsLawfulState (view c) → (k : Key) (n j : ℕ) → IsLeafOf c q k n j → (o m : ℕ) (b : IsBesideNode c q k o n m) →
@@ -91,19 +92,20 @@ MergeAtSpot =
     IsPublished c heap root (removed_change q (item j k (c.heap.leaves j).value)) (linked_for_entry i ++ a_node z ∷ [])
     (a_node o ∷ a_node n ∷ a_node m ∷ a_leaf j ∷ [])
 
--- Removal of the last key.
+-- A removal of the last key may empty the root.
 abbrev pub RemoveLast : Type 0
 RemoveLast =
     (c : BareCore) (q : ℕ) → IsLawfulState (view c) → (j : ℕ) → c.anchor ≡ Some q → c.root ≡ Some (Leaf j) →
     IsPublished c c.heap None (removed_change q (item j (c.heap.leaves j).key (c.heap.leaves j).value)) [] (a_leaf j ∷ [])
 
--- A lookup that was led to a leaf: the leaf's key tells whether its key was held, with this value, or absent meanwhile.
+-- A search that was led to a leaf has its result from the leaf's key. The search's key was held with the leaf's value, or was absent, in a
+-- version since its start.
 abbrev pub GetEnds : Type 0
 GetEnds =
     (s : State) → IsLawfulState s → (m : ℕ) → IsReach s m → (k : Key) (n : ℕ) → IsLed s.past m k (Leaf n) →
     ((k ≡ (s.heap.leaves n).key) × IsHeldSince s.past m k (s.heap.leaves n).value) ⊎ ((k ≢ (s.heap.leaves n).key) × WasAbsentSince s.past m k)
 
--- The end of a scan of this direction, with or without more pairs, makes it lawful in the fronts: it came to its end, or was cut at the limit.
+-- A scan in this direction is lawful in the fronts, whether it came to its end or was cut at the limit.
 abbrev pub ScanIsLawful : Type 0
 ScanIsLawful =
     (d : Direction) (more : Bool) (s : Past) (before rest : List Change) (m : ℕ) → IsSteady s m → TellChanges s (before ++ rest) →
@@ -111,38 +113,38 @@ ScanIsLawful =
     (xs : List Pair) (scan : Answer) → scan.pairs.items ≡ in_order_taken xs → scan.more ≡ more → IsAnswer d s (length before) g xs more →
     IsLawfulBy d before (before ++ rest) g.from g.upto g.limit scan
 
--- The entry was found by a load: at the root, or at a place.
+-- A load of the root in a lawful state leaves its fact.
 abbrev pub LoadsRoot : Type 0
 LoadsRoot = (s : State) → IsLawfulState s → (m : ℕ) → m ≤ s.now → (e : Entry) → s.root ≡ Some e → IsRooted s.past m e
 
--- A load at a place of a node in reach.
+-- A load of an entry of a node in reach leaves its fact.
 abbrev pub LoadsPlace : Type 0
 LoadsPlace =
     (s : State) → IsLawfulState s → (m : ℕ) → IsReach s m → (c h : ℕ) → EntryStoodSince s.past m (Node c h) → (j : ℕ) → j < size (s.heap.nodes c).subtrie →
     IsPlaced s.past m c j (entry_at (s.heap.nodes c).subtrie j) × (height_of (entry_at (s.heap.nodes c).subtrie j) < h)
 
--- The loads of a node's fixed words.
+-- The loads of the head of a node in reach leave their fact.
 abbrev pub LoadsShape : Type 0
 LoadsShape = (s : State) → IsLawfulState s → (m : ℕ) → IsReach s m → (c h : ℕ) → EntryStoodSince s.past m (Node c h) →
     IsShaped s.past m c (shape (s.heap.nodes c).subtrie)
 
--- The loads of a leaf's words.
+-- The loads of the words of a leaf in reach leave their fact.
 abbrev pub LoadsLeaf : Type 0
 LoadsLeaf =
     (s : State) → IsLawfulState s → (m : ℕ) → IsReach s m → (n : ℕ) → EntryStoodSince s.past m (Leaf n) →
     IsRead s.past m n (s.heap.leaves n).key (s.heap.leaves n).value
 
--- The load of an empty root: no key is held.
+-- After a load of an empty root, each key was absent.
 abbrev pub LoadsNone : Type 0
 LoadsNone = (s : State) → IsLawfulState s → (m : ℕ) → m ≤ s.now → (k : Key) → s.root ≡ None → WasAbsentSince s.past m k
 
--- A search is led from a node to the entry at its place, by what was loaded of it in any versions of its life.
+-- A search is led from a node to the entry on its path, whichever versions of the node's life it was loaded in.
 abbrev pub LedPlaced : Type 0
 LedPlaced =
     (s : Past) (m : ℕ) → IsSteady s m → (k : Key) (r h j : ℕ) (p : Subtrie) (e : Entry) → IsShaped s m r p → spot k p ≡ j → IsPlaced s m r j e →
     IsLed s m k (Node r h) → IsLed s m k e
 
--- What a writer has found below a locked node stays true while the versions grow, as long as the writer keeps the lock, with the words
+-- What a writer has found below a locked node stays true while the versions grow. It asks that the writer keeps the lock, with the words
 -- that the node had, and its pin.
 abbrev pub FoundIsKept : Type 0
 FoundIsKept =

@@ -8,7 +8,7 @@ use Rattle.versions.specs.Heap.{Heap}
 use Rattle.versions.specs.State.{Life, Out, Linked, Retired, Past, State}
 use Rattle.record_words.specs.declared.records.Rec.{Rec}
 
--- What has become of a record; a pass is named where the record is its own.
+-- What has become of a record. A pass is named where the record is its own.
 pub data Fate : Type 0 where
   Free : Fate
   Held : (by : ℕ) → Fate
@@ -17,7 +17,7 @@ pub data Fate : Type 0 where
   Unlinked : (since last by : ℕ) → Fate
   Marked : (since last epoch : ℕ) → Fate
 
--- the life of a record, by its fate
+-- the life of a record that its fate tells
 abbrev pub life_of : Fate → Life
 life_of Free = Out
 life_of (Held q) = Out
@@ -26,13 +26,13 @@ life_of (InTree f) = Linked f
 life_of (Unlinked f l q) = Retired f l
 life_of (Marked f l s) = Retired f l
 
--- the pass is among those whose pins were loaded
+-- the pass is among those whose pins the round has loaded
 abbrev pub has_seen : List ℕ → ℕ → Bool
 has_seen [] i = false
 has_seen (x ∷ xs) i = if nat_eq i x then true else has_seen xs i
 
--- What passes share, whatever is said of the words of the records: the root's entry, the versions and changes so far, what has
--- become of each record, who has locked the anchor and each node, the epoch, and each pass's pin and round.
+-- What passes share, but for the words of records: the root's entry, the versions, the changes, and the fate of each record. So are the
+-- holders of the anchor's lock and of each node's, the epoch, and each pass's pin and round.
 pub record Shared : Type 0 where
   pub root : Option Entry
   pub past : Past
@@ -44,7 +44,7 @@ pub record Shared : Type 0 where
   pub pins : ℕ → Option Pin
   pub rounds : ℕ → Round
 
--- And what the words of the records say.
+-- What passes share, with what the words of records say.
 pub record BareCore : Type 0 where
   pub heap : Heap
   pub shared : Shared
@@ -55,11 +55,11 @@ abbrev pub pin_version : Option Pin → Option ℕ
 pin_version None = None
 pin_version (Some p) = Some p.version
 
--- The core without locks and epochs.
+-- The core without locks and epochs, as versions see it.
 abbrev pub view : BareCore → State
 view c = record { heap = c.heap; root = c.root; past = c.past; life = λ r. life_of (c.fate r); pin = λ q. pin_version (c.pins q) }
 
--- The epochs: a retired record's mark is not below the epoch at which a pass was pinned that may have found it linked.
+-- What holds of epochs. The mark of a retired record is not below the epoch at which a pass was pinned that may have found it linked.
 pub record IsPaced (c : Shared) : Type 0 where
   pub floors : (q : ℕ) (p : Pin) → c.pins q ≡ Some p → (p.word ≤ p.floor) × (p.floor ≤ c.epoch) × (p.version ≤ c.past.now)
   pub loads : (q : ℕ) → ((c.rounds q).epoch ≤ c.epoch) × ((c.rounds q).version ≤ c.past.now) × ((c.rounds q).bound ≤ (c.rounds q).epoch)

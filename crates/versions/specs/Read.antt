@@ -6,7 +6,7 @@ use Rattle.compound_node.specs.declared.entries.Entry.{Entry}
 use Rattle.compound_node.specs.declared.entries.Entry.TheVariants.{Leaf, Node}
 use Rattle.versions.specs.Heap.{Heap}
 
--- the tree that the words show from an entry on, if it has so many nodes at most on a path
+-- the tree that the words show from an entry on, if no path of it has more than so many nodes
 abbrev pub read : Heap → ℕ → Entry → Option Tree
 read m f (Leaf n) = Some (leaf n (m.leaves n).key (m.leaves n).value)
 read m zero (Node n h) = None

@@ -27,25 +27,26 @@ Links (leaf n k v) r = r ≡ a_leaf n
 Links (node n h b) r = (r ≡ a_node n) ⊎ Links b r
 Links (fork p a b) r = Links a r ⊎ Links b r
 
--- The present life of a record: not linked since it was last Free; linked since a version; linked from one version to another.
+-- The present life of a record. It was not linked since it was last free, is linked since a version, or was linked from one version to
+-- another.
 pub data Life : Type 0 where
   Out : Life
   Linked : (since : ℕ) → Life
   Retired : (since last : ℕ) → Life
 
--- The life has the version, where `now` is the newest.
+-- The life has version n, where `now` is the newest.
 abbrev pub Spans : ℕ → Life → ℕ → Type 0
 Spans now Out n = ⊥
 Spans now (Linked since) n = (since ≤ n) × (n ≤ now)
 Spans now (Retired since last) n = (since ≤ n) × (n ≤ last)
 
--- The last version of a life.
+-- The last version of a life, where `now` is the newest.
 abbrev pub last_of : ℕ → Life → ℕ
 last_of now Out = now
 last_of now (Linked since) = now
 last_of now (Retired since last) = last
 
--- A life has a last version, which is none to come.
+-- The last version of a life is no later than `now`.
 abbrev pub IsLived : ℕ → Life → Type 0
 IsLived now Out = Unit {0}
 IsLived now (Linked since) = since ≤ now
@@ -56,7 +57,7 @@ pub record Past : Type 0 where
   pub now : ℕ
   pub version : ℕ → Option Tree
 
--- the words, the root and the versions so far
+-- the words of the records, the root, the versions so far, and each record's life and each pass's pin
 pub record State : Type 0 where
   pub heap : Heap
   pub root : Option Entry
@@ -78,18 +79,18 @@ IsSameRecord (leaf n k v) (leaf m l w) = k ≡ l
 IsSameRecord (node n h b) (node m i c) = (h ≡ i) × Kin b c
 IsSameRecord s t = ⊥
 
--- What the root entry says.
+-- The words show this tree from the root's entry on, or no tree where the root has none.
 abbrev pub IsTop : Heap → Option Entry → Option Tree → Type 0
 IsTop m None None = Unit {0}
 IsTop m None (Some t) = ⊥
 IsTop m (Some e) None = ⊥
 IsTop m (Some e) (Some t) = (subtrie t ≡ Place e) × IsShown m t
 
--- Each record linked in a version since `m` is in the life that it had there.
+-- Each record that was linked in a version since `m` is still in the life that it had there.
 abbrev pub IsReach : State → ℕ → Type 0
 IsReach s m = (n : ℕ) → m ≤ n → n ≤ s.now → (r : Rec) (u : Tree) → Stands s.past n r u → Spans s.now (s.life r) n
 
--- What holds in each state.
+-- What holds in each state of the words, the versions and the lives.
 pub record IsLawfulState (s : State) : Type 0 where
   pub trees : (n : ℕ) (t : Tree) → n ≤ s.now → s.version n ≡ Some t → IsTrie t × IsBuilt t
   pub top : IsTop s.heap s.root (s.version s.now)
@@ -113,8 +114,8 @@ IsAbsent s n k = (t : Tree) → s.version n ≡ Some t → Has t k → ⊥
 abbrev pub WasAbsentSince : Past → ℕ → Key → Type 0
 WasAbsentSince s m k = (n : ℕ) × (m ≤ n) × (n ≤ s.now) × IsAbsent s n k
 
--- What a search for the key knows of the entry `e` that it was led to: its record was linked in a version since `m`,
--- and the key follows its stem or was absent since.
+-- What a search for the key knows of an entry that it was led to. The entry's record was linked in a version since `m`. The key follows its
+-- stem, or was absent since.
 abbrev pub IsLed : Past → ℕ → Key → Entry → Type 0
 IsLed s m k e =
     (n : ℕ) × (u : Tree) × (m ≤ n) × (n ≤ s.now) × Stands s n (rec_of e) u × (subtrie u ≡ Place e) × (Follows k u ⊎ WasAbsentSince s m k)
@@ -124,7 +125,7 @@ abbrev pub FirstForkIsFrom : ℕ → Subtrie → Type 0
 FirstForkIsFrom p (Place e) = Unit {0}
 FirstForkIsFrom p (Fork q x y) = p ≤ q
 
--- Of the entry `e` it is known that its record was linked in a version since `m`, with keys that have `P`.
+-- The entry's record was linked in a version since `m`, and all of its keys there have the property.
 abbrev pub StoodWithKeys : Past → ℕ → (Key → Type 0) → Entry → Type 0
 StoodWithKeys s m P e =
     (n : ℕ) × (u : Tree) × (m ≤ n) × (n ≤ s.now) × Stands s n (rec_of e) u × (subtrie u ≡ Place e) × ((y : Key) → Has u y → P y)
@@ -134,7 +135,7 @@ abbrev pub IsLinked : Option Tree → Rec → Type 0
 IsLinked None r = ⊥
 IsLinked (Some t) r = Links t r
 
--- The versions with one more, `t` at place `n`.
+-- The versions, with `t` as version n.
 abbrev pub with_version : (ℕ → Option Tree) → ℕ → Option Tree → ℕ → Option Tree
 with_version f n t i = if nat_eq i n then t else f i
 
@@ -146,7 +147,7 @@ IsHeldSince s m k v = (n : ℕ) × (t : Tree) × (m ≤ n) × (n ≤ s.now) × (
 abbrev pub IsKeptSince : Past → ℕ → Key → Type 0
 IsKeptSince s m k = (n : ℕ) → m ≤ n → n ≤ s.now → (t : Tree) × (s.version n ≡ Some t) × Has t k
 
--- The records keep their fixed words and stems from version `m` on: what the lawful state says of a pass's reach.
+-- The records keep their fixed words and stems from version `m` on.
 pub record IsSteady (s : Past) (m : ℕ) : Type 0 where
   pub trees : (n : ℕ) (t : Tree) → n ≤ s.now → s.version n ≡ Some t → IsTrie t × IsBuilt t
   pub same : (r : Rec) (n o : ℕ) (u v : Tree) → m ≤ n → n ≤ s.now → m ≤ o → o ≤ s.now → Stands s n r u → Stands s o r v → IsSameRecord u v

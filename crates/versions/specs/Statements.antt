@@ -14,13 +14,13 @@ use Rattle.finite_map.specs.Fronts.{map_of}
 use Rattle.versions.specs.Told.{content}
 use Rattle.versions.specs.Steps.{IsLawfulCore, IsCoreStep, bare_opening}
 
--- A search may go on in a node that has changed since.
+-- A search may go on in a node that has changed since it was led there.
 abbrev pub StateHindsight : Type 0
 StateHindsight =
     (s : State) → IsLawfulState s → (m : ℕ) → IsReach s m → (k : Key) (n h : ℕ) →
     IsLed s.past m k (Node n h) → IsLed s.past m k (seek k (s.heap.nodes n).subtrie)
 
--- Keys below two places of a node are parted by the fork between the places, whatever versions they are of.
+-- Keys below two slots of a node are parted by the fork between the slots, whichever versions they are of.
 abbrev pub StateParting : Type 0
 StateParting =
     (s : State) → IsLawfulState s → (r : Rec) (n o x y : ℕ) (g h : Fixed) (b c : Tree) → n ≤ s.now → o ≤ s.now →
@@ -35,19 +35,19 @@ BareOpeningIsLawful = (heap : Heap) → IsLawfulCore (bare_opening heap)
 abbrev pub StepKeepsLawful : Type 0
 StepKeepsLawful = (c : BareCore) (q : ℕ) (d : BareCore) → IsLawfulCore c → IsCoreStep c q d → IsLawfulCore d
 
--- The content of each version is the map of the changes before it, in strict key order.
+-- The content of each version, in strict key order, is the map of the changes before it.
 abbrev pub ContentIsMap : Type 0
 ContentIsMap =
     (c : BareCore) → IsLawfulCore c → (n : ℕ) → n ≤ c.past.now →
     (content (c.past.version n) ≡ map_of (take n c.changes)) × IsRising (content (c.past.version n))
 
--- No record of a pinned pass's reach is Free or Held.
+-- No record of a pinned pass's reach is free or held.
 abbrev pub BareReachIsKept : Type 0
 BareReachIsKept =
     (c : BareCore) → IsLawfulCore c → (q : ℕ) (p : Pin) → c.pins q ≡ Some p → (n : ℕ) → p.version ≤ n → n ≤ c.past.now →
     (r : Rec) (u : Tree) → Stands c.past n r u → (c.fate r ≢ Free) × ((o : ℕ) → c.fate r ≢ Held o)
 
--- The fixed words and the stems of a node of a pass's reach are the same in all its versions since the pin, and so is a leaf's key.
+-- In all versions since a pass's pin, a node of its reach has the same fixed words and stems. A leaf has the same key.
 abbrev pub ReachIsSteady : Type 0
 ReachIsSteady =
     (c : BareCore) → IsLawfulCore c → (q : ℕ) (p : Pin) → c.pins q ≡ Some p → (r : Rec) (n o : ℕ) (u v : Tree) →

@@ -12,7 +12,7 @@ use Rattle.tries.specs.Tree.{Tree}
 use Rattle.tries.specs.Content.{Item, items, pairs, IsMore, IsExchange}
 use Rattle.versions.specs.State.{Past}
 
--- the leaves of a tree, if there is one
+-- the leaves of a version, which may be empty
 abbrev pub items_of : Option Tree → List Item
 items_of None = []
 items_of (Some t) = items t
@@ -25,35 +25,35 @@ content t = pairs (items_of t)
 abbrev pub item_of : ℕ → Change → Item
 item_of n x = record { number = n; key = x.key; value = x.value }
 
--- The changes by which pass `q` adds this leaf, puts it in the place of another one, or takes it away.
+-- The change by which pass `q` adds this leaf.
 abbrev pub added_change : ℕ → Item → Change
 added_change q x = record { pass = q; key = x.key; value = x.value; kind = Added }
 
--- a change that replaces the value of a leaf
+-- the change by which pass `q` gives a key the value of this leaf
 abbrev pub replaced_change : ℕ → Item → Change
 replaced_change q x = record { pass = q; key = x.key; value = x.value; kind = Replaced }
 
--- and one that removes it
+-- the change by which pass `q` removes this leaf
 abbrev pub removed_change : ℕ → Item → Change
 removed_change q x = record { pass = q; key = x.key; value = x.value; kind = Removed }
 
--- the answered insertions of these leaves, one after the other, from a place on
+-- the notes of answered insertions of these leaves, one after the other, at places from n on
 abbrev pub added_notes : ℕ → List Item → List Note
 added_notes n [] = []
 added_notes n (x ∷ xs) = record { place = n; call = Insert x.key x.value; reply = Inserted } ∷ added_notes (suc n) xs
 
--- What a change of this kind makes of the leaves: one more, or one for another of the same key, or one less.
+-- What a change of this kind makes of a list of leaves: one more, one for another of the same key, or one less.
 abbrev pub IsChanged : Kind → Item → List Item → List Item → Type 0
 IsChanged Added x xs ys = IsMore x xs ys
 IsChanged Replaced x xs ys = (y : Item) × (y.key ≡ x.key) × IsExchange y x xs ys
 IsChanged Removed x xs ys = IsMore x ys xs
 
--- From one version to the next one leaf record changes, as the change says.
+-- From one version to the next one leaf changes, as the change tells.
 abbrev pub IsChange : Option Tree → Change → Option Tree → Type 0
 IsChange s x t = (n : ℕ) × IsChanged x.kind (item_of n x) (items_of s) (items_of t)
 
--- There is a version after each number of changes, its content is the map of these, and each change is legal on the
--- map of those before it.
+-- Each number of changes has its version, whose content is the map of so many first changes. Each change is legal on the map of those
+-- before it.
 pub record TellChanges (s : Past) (changes : List Change) : Type 0 where
   pub count : length changes ≡ s.now
   pub content_is : (n : ℕ) → n ≤ s.now → content (s.version n) ≡ map_of (take n changes)

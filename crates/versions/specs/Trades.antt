@@ -4,18 +4,18 @@ use Rattle.tries.specs.Tree.{Tree}
 use Rattle.versions.specs.State.{IsLinked}
 use Rattle.record_words.specs.declared.records.Rec.{Rec}
 
--- one of the list
+-- the element stands in the list
 abbrev pub IsOneOf : {X : Type 0} → X → List X → Type 0
 IsOneOf x [] = ⊥
 IsOneOf x (y ∷ ys) = (x ≡ y) ⊎ IsOneOf x ys
 
--- none stands in it twice
+-- no element stands in the list twice
 abbrev pub AreApart : {X : Type 0} → List X → Type 0
 AreApart [] = Unit {0}
 AreApart (x ∷ xs) = (¬ (IsOneOf x xs)) × AreApart xs
 
--- From the version `s`, which may be empty, to the next one, `t`: just the records `new` are linked anew, and just the
--- records `gone`, each listed once, are linked no more.
+-- From version `s` to the next, `t`, just the records `new` are linked anew. Just the records `gone`, each listed once, are linked no more.
+-- Either version may be empty.
 pub record HasTraded (s t : Option Tree) (new gone : List Rec) : Type 0 where
   pub comes : (i : Rec) → IsLinked t i → IsLinked s i ⊎ IsOneOf i new
   pub came : (i : Rec) → IsOneOf i new → IsLinked t i × (IsLinked s i → ⊥)
