@@ -10,7 +10,7 @@ use Rattle.rowex_core.specs.Opening.{opening}
 use Rattle.rowex_core.specs.Words.{Shows}
 use Rattle.bulk_load.specs.Views.{load_act}
 
--- they show a load of these leaves, which leaves a node record spare
+-- the words of a table show a load of these leaves, which leaves a node record spare
 pub record IsFinished (layout : Layout) (words : List ℕ) (xs : List Item) : Type 0 where
   pub load : IsLoad layout words
   pub shows : Shows (after (opening layout) 0 (load_act words)) words

@@ -23,12 +23,12 @@ use Rattle.bulk_load.specs.Slots.{slots_of}
 use Rattle.bulk_load.specs.Stacks.{LeftPiece, whole_of, counts, position_of, with_right}
 use Rattle.bulk_load.specs.Tables.{AreCursors, HoldsTree, leaf_class, state_in}
 
--- the leaves of the trees that the words show from these entries
+-- the leaves of the trees below the slots' entries, as the words show them
 abbrev pub items_under : Heap → List Slot → List Item
 items_under heap [] = []
 items_under heap (s ∷ ss) = items_of (tree_of heap (Some s.entry)) ++ items_under heap ss
 
--- the leaves that were taken
+-- the leaves that a builder has taken
 abbrev pub items_in : Builder → List Item
 items_in l = items_under (heap_of (fields_in l.layout l.words.items)) l.slots.items
 
@@ -38,7 +38,7 @@ greatest_key (leaf n k v) = k
 greatest_key (node n x b) = greatest_key b
 greatest_key (fork p a b) = greatest_key b
 
--- The words and slots show the tree, which is a lawful one. Its nodes are those that were taken.
+-- The builder's words and slots show the tree, which is a lawful one. Its nodes are those that were taken.
 pub record IsTreeOf (l : Builder) (t : Tree) : Type 0 where
   pub table : HoldsTree l.layout l.words.items (Some t)
   pub ordered : IsLocal t
@@ -46,25 +46,26 @@ pub record IsTreeOf (l : Builder) (t : Tree) : Type 0 where
   pub slots_are : l.slots.items ≡ slots_of 0 (subtrie t)
   pub taken : (n : ℕ) → Links t (a_node n) → n < l.nodes
 
--- the parts are these pieces
+-- the builder's parts are these pieces, each with the number of its entries
 pub record HasParts (l : Builder) (ls : List LeftPiece) (top : Tree) : Type 0 where
   pub counts_are : map (λ (p : Part). p.count) l.parts.items ≡ counts ls top
   pub few : All (λ n. n ≤ 32) (counts ls top)
 
--- No node was taken, and one takes all slots, so many more too: then closing takes one record, and one more is left.
+-- No node was taken yet, and one node takes all slots and so many leaves more. Closing takes one record then, and one more is left.
 abbrev pub FitsOneNode : Builder → ℕ → Type 0
 FitsOneNode l more = (l.nodes ≡ 0) × (length l.slots.items + more ≤ 32) × (2 ≤ l.layout.nodes)
 
--- Node records are left for closing all pieces, once there are so many leaves more: two for each piece, or one for each slot, or one for all.
+-- Node records are left for closing all pieces, once there are so many leaves more. There are two for each piece, or one for each slot, or
+-- one for all.
 abbrev pub HasNodesFor : Builder → ℕ → Type 0
 HasNodesFor l more =
     (l.nodes + 2 * (length l.parts.items + more) ≤ l.layout.nodes) ⊎ ((l.nodes + length l.slots.items + more ≤ l.layout.nodes) ⊎ FitsOneNode l more)
 
--- a leaf, or leaves that one node takes
+-- the part is a leaf, or leaves that one node takes
 abbrev pub IsLow : Part → Type 0
 IsLow p = (p.height ≤ 1) × (1 < p.count → 1 ≤ p.height)
 
--- the pieces are those of a tree with these leaves, and the last key is the tree's
+-- the builder's pieces are those of a tree with these leaves, and its last key is the tree's last
 pub record IsStackOf (l : Builder) (xs : List Item) : Type 0 where
   pub levels : List LeftPiece
   pub top : Tree
@@ -79,13 +80,13 @@ pub record IsStackOf (l : Builder) (xs : List Item) : Type 0 where
   pub low : l.nodes ≡ 0 → All IsLow l.parts.items
   pub bare : length xs ≤ 32 → l.nodes ≡ 0
 
--- so, and a new leaf that parts from the last one at this position belongs beside the piece at the top
+-- the builder has these leaves, and one that parts from the last of them at this position belongs beside the top piece
 pub record IsStackBehind (l : Builder) (xs : List Item) (p : ℕ) : Type 0 where
   pub stack : IsStackOf l xs
   pub above : IsAbove p stack.top
   pub low : (stack.levels ≡ []) ⊎ (position_of stack.levels < p)
 
--- no leaf was taken
+-- the builder has taken no leaf
 pub record IsEmpty (l : Builder) (xs : List Item) : Type 0 where
   pub none : xs ≡ []
   pub table : HoldsTree l.layout l.words.items None
@@ -100,16 +101,16 @@ pub record IsAlone (l : Builder) (t : Tree) (xs : List Item) : Type 0 where
   pub few : size (subtrie t) ≤ 32
   pub room : (l.nodes + 2 ≤ l.layout.nodes) ⊎ (l.nodes + length l.slots.items ≤ l.layout.nodes)
 
--- the piece at the top is the last leaf
+-- the builder's top piece is the last leaf
 pub record EndsInLeaf (l : Builder) (xs : List Item) : Type 0 where
   pub stack : IsStackOf l xs
   pub alone : (p : ℕ) → IsAbove p stack.top
 
--- each class of leaf records has its cursor
+-- each class of leaf records has its cursor in the builder
 abbrev pub HasCursors : Builder → Type 0
 HasCursors l = (length l.leaves ≡ LEAF_CLASSES) × AreCursors l.layout l.words.items l.leaves
 
--- these leaves were taken
+-- the builder has taken these leaves, and each class has its cursor
 abbrev pub IsLoading : Builder → List Item → Type 0
 IsLoading l xs = HasCursors l × (IsEmpty l xs ⊎ EndsInLeaf l xs)
 
@@ -117,7 +118,7 @@ IsLoading l xs = HasCursors l × (IsEmpty l xs ⊎ EndsInLeaf l xs)
 abbrev pub HasSpace : Builder → Type 0
 HasSpace l = (vec_len l.slots < vec_capacity l.slots) × (vec_len l.parts < vec_capacity l.parts)
 
--- a leaf of the key belongs behind a fork at this position, in this record, which is the next of its class
+-- Leaf record n is the next of its class and has room for the key. The leaf belongs behind a fork at this position.
 pub record IsNextLeaf (l : Builder) (k : Key) (p n : ℕ) : Type 0 where
   pub inside : n < l.layout.leaves
   pub room : words_for (length k) ≤ leaf_size l.layout n
@@ -127,7 +128,7 @@ pub record IsNextLeaf (l : Builder) (k : Key) (p n : ℕ) : Type 0 where
   pub parted : 0 < vec_len l.parts → IsParted p l.last k
   pub nodes : HasNodesFor l 1
 
--- the two have the same in their fields, but vectors with room for more or less
+-- the two builders differ in nothing but how much memory their vectors have
 pub record HasSameFields (l m : Builder) : Type 0 where
   pub layout : m.layout ≡ l.layout
   pub words : m.words.items ≡ l.words.items
@@ -137,7 +138,7 @@ pub record HasSameFields (l m : Builder) : Type 0 where
   pub nodes : m.nodes ≡ l.nodes
   pub leaves : m.leaves ≡ l.leaves
 
--- the leaves, the last key and the memory for more stay
+-- the builder's leaves, its last key and its memory for more stay
 pub record KeepsLeaves (l m : Builder) : Type 0 where
   pub layout : m.layout ≡ l.layout
   pub last : m.last ≡ l.last
@@ -145,19 +146,19 @@ pub record KeepsLeaves (l m : Builder) : Type 0 where
   pub states : (n : ℕ) → n < l.layout.leaves → state_in l.layout m.words.items (a_leaf n) ≡ state_in l.layout l.words.items (a_leaf n)
   pub space : HasSpace l → HasSpace m
 
--- so, and no more leaves lack nodes than before
+-- the builder's leaves stay, and node records are left for as many more leaves as before
 pub record KeepsNodes (l m : Builder) : Type 0 where
   pub leaves : KeepsLeaves l m
   pub nodes : (more : ℕ) → HasNodesFor l more → HasNodesFor m more
   pub few : (n : ℕ) → l.nodes + length l.slots.items ≤ n → m.nodes + length m.slots.items ≤ n
 
 -- ---- closing a piece
--- the number of entries of what stands to the right
+-- the number of entries of the piece to the right, 0 where there is none
 abbrev pub size_right : Option LeftPiece → ℕ
 size_right None = 0
 size_right (Some right) = size (subtrie right.tree)
 
--- the one tree stands for the other in a piece, with so many entries
+-- the new tree may replace the old one in a piece, and has so many entries at its top
 pub record StandsFor (new old : Tree) (count : ℕ) : Type 0 where
   pub count_is : size (subtrie new) ≡ count
   pub same_items : items new ≡ items old
@@ -165,35 +166,36 @@ pub record StandsFor (new old : Tree) (count : ℕ) : Type 0 where
   pub same_last : greatest_key new ≡ greatest_key old
   pub above : (p : ℕ) → IsAbove p old → IsAbove p new
 
--- the tree has this piece: of so many slots, before the last so many
+-- the builder's tree has this piece, of `count` slots, before the last `behind` slots
 pub record IsPiece (l : Builder) (ls : List LeftPiece) (z : Tree) (right : Option LeftPiece) (count behind : ℕ) : Type 0 where
   pub tree : IsTreeOf l (whole_of ls (with_right z right))
   pub count_is : count ≡ size (subtrie z)
   pub behind_is : behind ≡ size_right right
 
 -- ---- a new leaf
--- A key that parts from the last one at this position may be taken next: after no leaf, or beside the piece at the top.
+-- A key that parts from the last one at this position may be taken next. No leaf was taken yet, or the new one belongs beside the top
+-- piece.
 abbrev pub MayTakeNext : Builder → List Item → ℕ → Key → Type 0
 MayTakeNext l xs p k = (IsEmpty l xs × (p ≡ 0)) ⊎ (IsStackBehind l xs p × IsParted p l.last k)
 
 -- ---- joining pieces
--- the last two pieces have become one, at the fork between them
+-- the builder's last two pieces have become one, at the fork between them
 pub record IsJoined (l : Builder) (xs : List Item) (before : List LeftPiece) : Type 0 where
   pub joint : LeftPiece
   pub stack : IsStackOf l xs
   pub were : before ≡ joint ∷ stack.levels
   pub above : (p : ℕ) → p < joint.position → IsAbove p stack.top
 
--- the piece at the top may stand beside a leaf that parts from the last one at this position
+-- the builder's top piece may stand beside a leaf that parts from the last one at this position
 pub record IsReady (l : Builder) (xs : List Item) (p : ℕ) : Type 0 where
   pub stack : IsStackOf l xs
   pub above : IsAbove p stack.top
   pub zero : bit l.last p ≡ false
 
--- pieces may be joined at forks behind this position
+-- the builder's pieces may be joined at forks behind this position
 abbrev pub CanJoin : Builder → List Item → ℕ → Type 0
 CanJoin l xs p = IsEmpty l xs ⊎ IsReady l xs p
 
--- so, and this has been done
+-- the builder's pieces are joined as far as a leaf that parts at this position needs
 abbrev pub CanPart : Builder → List Item → ℕ → Type 0
 CanPart l xs p = IsEmpty l xs ⊎ IsStackBehind l xs p

@@ -10,7 +10,7 @@ use Rattle.bulk_load.specs.declared.slots.Slot.{Slot}
 abbrev pub slot : ℕ → Entry → Slot
 slot p e = record { fork = p; entry = e }
 
--- the entries at the places of a piece, each with the position of the fork before it: of the first one that is the fork before the piece
+-- The entries of a piece as slots, each with the position of the fork before it. The first has the position of the fork before the piece.
 abbrev pub slots_of : ℕ → Piece Entry → List Slot
 slots_of p (Place e) = slot p e ∷ []
 slots_of p (Fork q a b) = slots_of p a ++ slots_of q b
@@ -32,8 +32,8 @@ entries_in_slots slots = map (λ s. s.entry) slots
 abbrev pub forks_between : List Slot → List ℕ
 forks_between slots = drop 1 (map (λ s. s.fork) slots)
 
--- The row of the entry behind a fork, from the row of the entry before: the bits of the columns before the fork's are the same, that of
--- the fork's is 1, and those behind are 0
+-- The row of the entry behind a fork, from the row of the entry before. It has the same bits in the columns before the fork's, a 1 in the
+-- fork's, and 0 behind.
 abbrev pub next_row : List ℕ → ℕ → ℕ → ℕ
 next_row columns row p = let j = front_below p columns in (row / 2 ^ (32 - j) * 2 + 1) * 2 ^ (31 - j)
 

@@ -24,7 +24,7 @@ abbrev pub counts : List LeftPiece → Tree → List ℕ
 counts [] t = size (subtrie t) ∷ []
 counts (l ∷ ls) t = counts ls l.tree ++ size (subtrie t) ∷ []
 
--- the position of the fork before what stands right of the pieces; 0 where there is none
+-- the position of the fork before the tree right of the pieces; 0 where there is none
 abbrev pub position_of : List LeftPiece → ℕ
 position_of [] = 0
 position_of (l ∷ ls) = l.position

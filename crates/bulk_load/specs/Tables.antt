@@ -29,7 +29,7 @@ leaf_class layout n =
 abbrev pub state_in : Layout → List ℕ → Rec → ℕ
 state_in layout table r = get_or table (start_of layout r) 0
 
--- one record is written, and lives: all words of others are as before
+-- one record is written and live, and the words of all others are as before
 pub record IsPut (layout : Layout) (old new : List ℕ) (r : Rec) : Type 0 where
   pub size : length new ≡ length old
   pub state : state_in layout new r ≡ state_word Live
@@ -47,7 +47,7 @@ pub record IsRootless (layout : Layout) (table : List ℕ) : Type 0 where
 abbrev pub WordsShow : Layout → List ℕ → Option Tree → Type 0
 WordsShow layout table t = (u : Tree) → t ≡ Some u → IsShown (heap_of (fields_in layout table)) u
 
--- The table holds just the records of the tree. They are of the table, and their words spell values for which it has room.
+-- The table holds just the records of the tree. They stand in the table, and their words spell values for which it has room.
 pub record HoldsTree (layout : Layout) (table : List ℕ) (t : Option Tree) : Type 0 where
   pub blank : IsRootless layout table
   pub live : (r : Rec) → IsLinked t r → state_in layout table r ≡ state_word Live
@@ -55,11 +55,11 @@ pub record HoldsTree (layout : Layout) (table : List ℕ) (t : Option Tree) : Ty
   pub records : (r : Rec) → IsLinked t r → HasRecord layout r × IsPacked r (fields_in layout table r) × FitsIn layout r (fields_in layout table r)
   pub shows : WordsShow layout table t
 
--- The records of a class that were taken are those below its cursor, which stands in the class as long as one is left.
+-- The records of a class that were taken are those below its cursor. The cursor stands in the class as long as one is left.
 pub record IsCursorOf (layout : Layout) (table : List ℕ) (next n : ℕ) : Type 0 where
   pub taken : state_in layout table (a_leaf n) ≡ state_word Free → next ≤ n
   pub free : next ≤ n → (state_in layout table (a_leaf n) ≡ state_word Free) × (leaf_class layout next ≡ leaf_class layout n)
 
--- so it is with the cursor of each class
+-- each class of leaf records has its cursor in this list
 abbrev pub AreCursors : Layout → List ℕ → List ℕ → Type 0
 AreCursors layout table cursors = (n : ℕ) → n < layout.leaves → IsCursorOf layout table (get_or cursors (leaf_class layout n) 0) n

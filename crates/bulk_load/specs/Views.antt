@@ -10,7 +10,7 @@ use Rattle.tries.specs.Content.{Item}
 use Rattle.rowex_core.specs.declared.event.Act.{Act}
 use Rattle.rowex_core.specs.declared.event.Act.TheVariants.{Load}
 
--- the layout of the table, and the leaf records that were taken, each with its key and value, in the order of the keys
+-- what contracts see of a load: its layout, and the leaf records that it has taken, in the order of their keys
 pub record LoadView : Type 0 where
   pub layout : Layout
   pub items : List Item

@@ -16,20 +16,20 @@ use Rattle.epochs.specs.Runs.{collecting, paced}
 use Rattle.epochs.specs.declared.limbo.Visited.{Visited}
 use Rattle.epochs.specs.declared.limbo.Visited.TheVariants.{Given}
 
--- the exchange that makes an epoch the next one; at the last epoch there is none
+-- the exchange that raises an epoch by one; at the last epoch there is none
 abbrev pub advance_steps : ℕ → ℕ → List Act
 advance_steps epoch found = if nat_lt (epoch + 1) EPOCHS then Advance epoch found ∷ [] else []
 
--- this one step: the pin of that pass is loaded
+-- the act is a load of the pin of pass o, and no other
 abbrev pub LoadsPin : ℕ → List Act → Type 0
 LoadsPin o acts = (word : ℕ) × (acts ≡ LoadPin o word ∷ [])
 
--- A visit of a record: its state is loaded, and where that is obsolete in an epoch below the bound, one exchange follows.
+-- A visit of a record: its state is loaded. If that is obsolete in an epoch below the bound, one exchange follows.
 pub data Visits (bound : ℕ) (r : Rec) : List Act → Type 0 where
   passes : (word : ℕ) → ((epoch : ℕ) → 1 ≤ epoch → epoch < bound → word ≢ state_word (Obsolete epoch)) → Visits bound r (LoadState r word ∷ [])
   tries : (epoch found : ℕ) → 1 ≤ epoch → epoch < bound → Visits bound r (LoadState r (state_word (Obsolete epoch)) ∷ GiveBack r epoch found ∷ [])
 
--- visits of these records, one after the other
+-- the acts are visits of these records, one after the other
 abbrev pub VisitEach : ℕ → List Rec → List Act → Type 0
 VisitEach bound [] acts = acts ≡ []
 VisitEach bound (r ∷ recs) acts = (first : List Act) × (rest : List Act) × Visits bound r first × VisitEach bound recs rest × (acts ≡ first ++ rest)
@@ -39,9 +39,8 @@ abbrev pub has_given : Act → Bool
 has_given (GiveBack r epoch found) = nat_eq found (state_word (Obsolete epoch))
 has_given act = false
 
--- A round of collection: the pass loads the epoch, makes it the next one, loads it again
--- and loads each pin; the least of that epoch and of the pins that are set is the bound of its round. Then it visits each
--- record, nodes first. So many nodes and leaves it gives back.
+-- A round of collection. The pass loads the epoch, raises it, loads it again and loads each pin. The least of that epoch and of the pins
+-- that are set is its bound. Then it visits each record, nodes first, and gives so many nodes and leaves back.
 pub record IsRound {G : Type 0} (table : TableView) (becomes : G → Event → G → Type 0) (a b : SeatView × G) (given_nodes given_leaves : ℕ) : Type 0 where
   pub epoch : ℕ
   pub found : ℕ
@@ -56,7 +55,7 @@ pub record IsRound {G : Type 0} (table : TableView) (becomes : G → Event → G
   pub nodes_given : given_nodes ≡ count_by has_given nodes
   pub leaves_given : given_leaves ≡ count_by has_given leaves
 
--- A small round: it begins as a round does, and then the pass visits some records alone, so many at most.
+-- A small round: it begins as a round does, and then the pass visits at most so many records.
 pub record IsSmallRound {G : Type 0} (table : TableView) (becomes : G → Event → G → Type 0) (most : ℕ) (a b : SeatView × G) : Type 0 where
   pub epoch : ℕ
   pub found : ℕ
@@ -75,13 +74,13 @@ IsSparedRound table becomes a b = IsSmallRound table becomes 0 a b
 
 -- The parts of a round
 
--- the pass has loaded the first n pins since it last loaded the epoch, and this is the least of that epoch and of those pins
--- that were set
+-- The pass has loaded the first n pins since it last loaded the epoch. The bound is the least of that epoch and of those pins that were
+-- set.
 pub record HasBound (n bound : ℕ) (k : Known) : Type 0 where
   pub least : k.round.bound ≡ bound
   pub seen : (o : ℕ) → o < n → has_seen k.round.seen o ≡ true
 
--- the pass loads the epoch, and makes it the next one
+-- the pass loads the epoch, and raises it by one
 abbrev pub AdvancesEpoch : {G : Type 0} → TableView → (G → Event → G → Type 0) → SeatView × G → SeatView × G → Type 0
 AdvancesEpoch table becomes a b = (epoch : ℕ) × (found : ℕ) × Does table becomes paced (LoadEpoch epoch ∷ advance_steps epoch found) a b
 
@@ -89,37 +88,37 @@ AdvancesEpoch table becomes a b = (epoch : ℕ) × (found : ℕ) × Does table b
 abbrev pub FindsBound : {G : Type 0} → TableView → (G → Event → G → Type 0) → ℕ → SeatView × G → SeatView × G → Type 0
 FindsBound table becomes n a b = (next : ℕ) × (pins : List Act) × InTurn LoadsPin n pins × Does table becomes paced (LoadEpoch next ∷ pins) a b
 
--- and both, as each round begins
+-- the pass raises the epoch, loads it and then each pin, as each round begins
 abbrev pub BeginsRound : {G : Type 0} → TableView → (G → Event → G → Type 0) → SeatView × G → SeatView × G → Type 0
 BeginsRound {G = G} table becomes a b = (m : SeatView × G) × AdvancesEpoch table becomes a m × FindsBound table becomes table.layout.passes m b
 
--- the visit gave its record back
+-- whether the visit gave its record back
 abbrev pub is_given : Visited → Bool
 is_given Given = true
 is_given seen = false
 
--- a visit of a record, which gives it back or not
+-- the pass visits a record, and gives it back or not
 abbrev pub VisitsOne : {G : Type 0} → TableView → (G → Event → G → Type 0) → ℕ → Rec → Bool → SeatView × G → SeatView × G → Type 0
 VisitsOne table becomes bound r given a b =
     (acts : List Act) × Visits bound r acts × Does table becomes collecting acts a b × (count_by has_given acts ≡ if given then 1 else 0)
 
--- visits of the first n records of a kind, which give so many of them back
+-- the pass visits the first n records of a kind, and gives so many of them back
 abbrev pub VisitsAll : {G : Type 0} → TableView → (G → Event → G → Type 0) → ℕ → (ℕ → Rec) → ℕ → ℕ → SeatView × G → SeatView × G → Type 0
 VisitsAll table becomes bound kind n given a b =
     (acts : List Act) × InTurn (λ m. Visits bound (kind m)) n acts × Does table becomes collecting acts a b × (given ≡ count_by has_given acts)
 
--- visits of each record, nodes first, which give so many nodes and so many leaves back
+-- the pass visits each record of the table, nodes first, and gives so many nodes and so many leaves back
 abbrev pub VisitsTable : {G : Type 0} → TableView → (G → Event → G → Type 0) → (bound given_nodes given_leaves : ℕ) → SeatView × G → SeatView × G → Type 0
 VisitsTable {G = G} table becomes bound given_nodes given_leaves a b =
     (m : SeatView × G) × VisitsAll table becomes bound a_node table.layout.nodes given_nodes a m ×
     VisitsAll table becomes bound a_leaf table.layout.leaves given_leaves m b
 
--- So many records of a kind were visited, the first ones, and so many of them given back. Then visits go on, until this is so of more.
+-- If the pass had visited `before.0` records of a kind and given `before.1` back, it has visited `after.0` now and given `after.1` back.
 abbrev pub GoesOnVisiting : {G : Type 0} → TableView → (G → Event → G → Type 0) → ℕ → (ℕ → Rec) → ℕ × ℕ → ℕ × ℕ → SeatView × G → SeatView × G → Type 0
 GoesOnVisiting {G = G} table becomes bound kind before after b c =
     (a : SeatView × G) → VisitsAll table becomes bound kind before.0 before.1 a b → VisitsAll table becomes bound kind after.0 after.1 a c
 
--- visits of some records, so many at most
+-- the pass visits some records, at most so many
 abbrev pub VisitsSome : {G : Type 0} → TableView → (G → Event → G → Type 0) → ℕ → ℕ → SeatView × G → SeatView × G → Type 0
 VisitsSome table becomes bound most a b =
     (recs : List Rec) × (acts : List Act) × VisitEach bound recs acts × Does table becomes collecting acts a b × (length recs ≤ most)

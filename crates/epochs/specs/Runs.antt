@@ -6,11 +6,11 @@ use Rattle.rowex_core.specs.declared.known.Known.{Known}
 use Rattle.rowex_table.specs.Runs.{Does}
 use Rattle.rowex_table.specs.Seats.{TableView, SeatView}
 
--- of what a pass knows, its pin and its round may change
+-- what a pass knew, but for its pin and its round, which may have changed
 abbrev pub paced : Known → Known → Known
 paced k j = record k { pin = j.pin; round = j.round }
 
--- and its failed steps too: loads of states that were not free are among them
+-- what a pass knew, but for its pin, its round and its failed steps, such as loads of states that were not free
 abbrev pub collecting : Known → Known → Known
 collecting k j = record (paced k j) { failed = j.failed }
 

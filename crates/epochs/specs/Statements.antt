@@ -20,17 +20,17 @@ abbrev pub ReachIsKept : Type 0
 ReachIsKept = (layout : Layout) (act : Act) (said : Known → List Note) (k j : Known) (event : IsEvent layout act said k j) →
     IsReachKept event.core × IsReachKept (after event.core k.pass act)
 
--- and so for each step of a run
+-- before and after each step of a run, no record in a pinned pass's reach is free or held
 abbrev pub KeepsReach : {G : Type 0} (table : TableView) (becomes : G → Event → G → Type 0) (acts : List Act) (a b : SeatView × G) → Runs table becomes acts a b → Type 0
 KeepsReach table becomes [] a b run = Unit {0}
 KeepsReach table becomes (act ∷ acts) a b run =
     IsReachKept run.1.event.core × IsReachKept (after run.1.event.core a.0.known.pass act) × KeepsReach table becomes acts run.0 b run.2
 
--- so it is for each run of steps
+-- each run of steps keeps all records in reach
 abbrev pub RunsKeepReach : {G : Type 0} → (G → Event → G → Type 0) → Type 0
 RunsKeepReach {G = G} becomes = (table : TableView) (acts : List Act) (a b : SeatView × G) (run : Runs table becomes acts a b) → KeepsReach table becomes acts a b run
 
--- a record that an exchange gives back is in no pinned pass's reach then
+-- a record that an exchange gives back is then in no pinned pass's reach
 abbrev pub GivenIsOutOfReach : Type 0
 GivenIsOutOfReach =
     (layout : Layout) (r : Rec) (epoch : ℕ) (said : Known → List Note) (k j : Known) (event : IsEvent layout (GiveBack r epoch (state_word (Obsolete epoch))) said k j) →

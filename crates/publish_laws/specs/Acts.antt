@@ -22,24 +22,24 @@ use Rattle.rowex_table.specs.Runs.{silent}
 use Rattle.rowex_table.specs.Stays.{KeepsRecall}
 use Rattle.publish_laws.specs.Stages.{IsSure}
 
--- A node to which the pass was led since its pin it may lock.
+-- A pass may lock a node to which it was led since its pin.
 abbrev pub LedMayLock : Type 0
 LedMayLock =
     (layout : Layout) (k : Known) (since n h : ℕ) → IsPinnedSince k since → IsSure k (λ s. EntryStoodSince s since (Node n h)) → MayLock layout (NodeTarget n) k
 
--- And so the node that stands beside the key's way in one that it has locked: as the one entry on the other side of the last fork.
+-- A pass may lock the node beside the key's path in a node that it has locked. It is the one entry on the other side of the last fork.
 abbrev pub BesideMayLock : Type 0
 BesideMayLock =
     (layout : Layout) (k : Known) (key : Key) (o m position height : ℕ) (words : List ℕ) → IsOneOf (record { node = o; words = words }) k.locks →
     subtrie_sibling key (node_words_of words).subtrie ≡ Some (position, Place (Node m height)) → MayLock layout (NodeTarget m) k
 
--- What it loads of a node that it has locked is a word of those that it holds.
+-- A load from a node that the pass has locked finds the word that the pass knows.
 abbrev pub LoadsOfLocked : Type 0
 LoadsOfLocked =
     (layout : Layout) (k j : Known) (n : ℕ) (words : List ℕ) → IsOneOf (record { node = n; words = words }) k.locks →
     ((i w : ℕ) → IsEvent layout (LoadRef (Slot n i) w) silent k j → w ≡ get_or words (HEAD_WORDS + i) 0) ×
     ((i w : ℕ) → IsEvent layout (LoadFixed (a_node n) (i + FIELDS_OFFSET) w) silent k j → w ≡ get_or words i 0)
 
--- After each act but a publish, a pin or an unpin a pass recalls all that it did before.
+-- After each act but a publish, a pin or an unpin, a pass recalls all that it did before.
 abbrev pub ActGoesOn : Type 0
 ActGoesOn = (layout : Layout) (k j : Known) (act : Act) → KeepsRecall act → IsEvent layout act silent k j → IsLater k j

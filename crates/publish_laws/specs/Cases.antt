@@ -25,17 +25,18 @@ use Rattle.publish_laws.specs.Stages.{AreBeside, HasLoaded, HasReady, IsLeafTher
 use Rattle.publish_laws.specs.Spots.{HoldsAt, FitsAt, AffectsSpotAlone}
 use Rattle.publish_laws.specs.Rises.{made_of_node, made_of_leaf, IsBuiltAnew, IsSide}
 
--- The entry has a word, which is this one.
+-- The entry has a word, which is w.
 abbrev pub IsWord : Entry → ℕ → Type 0
 IsWord e w = HasEntryWord (Some e) × (entry_word (Some e) ≡ w)
 
--- The first key: where the root is empty, the new leaf.
+-- An insertion into an empty index may store the new leaf at the root.
 abbrev pub MayAddFirstKey : Type 0
 MayAddFirstKey =
     (layout : Layout) (k : Known) (held : List Locked) (x : Item) (fresh : List ℕ) (w : ℕ) → HasReady k held (made_of_leaf x fresh ∷ []) → SpellsLeaf x fresh →
     IsWord (Leaf x.number) w → k.anchor ≡ Some None → Publishes layout k Root w (added_change k.pass x) None []
 
--- A pair: a new node of a leaf, which alone is affected, and the new one. In a node this is a leaf pushdown, at the root the second key.
+-- An insertion that affects one leaf alone may store a new node of that leaf and the new one. In a node this is a leaf pushdown, at the
+-- root it adds the second key.
 abbrev pub MayPair : Type 0
 MayPair =
     (layout : Layout) (k : Known) (held : List Locked) (x : Item) (fresh : List ℕ) (p j m w : ℕ) (l : Key) (view : NodeView) (at : Spot) →
@@ -45,15 +46,15 @@ MayPair =
     IsBuiltAnew view → piece view ≡ subtrie_forked (bit x.key p) p (Leaf x.number) (Place (Leaf j)) → IsWord (Node m view.height) w →
     Publishes layout k at w (added_change k.pass x) None []
 
--- A new value of a held key: it is stored to the key's leaf, under the lock of what names that. The old value is the one that was loaded
--- under this lock. No record comes or goes.
+-- A new value of a held key may be stored to the key's leaf, under the lock of what names that. The old value is the one loaded under this
+-- lock. No record comes or goes.
 abbrev pub MayStoreValue : Type 0
 MayStoreValue =
     (layout : Layout) (k : Known) (held : List Locked) (key : Key) (j w value : ℕ) (at : Spot) → HasReady k held [] → HoldsAt k held key (Leaf j) at →
     IsLeafThere layout k held [] j key → HasLoaded k j value → w < 2 ^ 64 → Publishes layout k (Value j) w (replaced_change k.pass (item j key w)) (Some value) []
 
--- Removal: what is left of the node that names the leaf, one entry or a new node, takes its place. The value is the one that was loaded
--- under the lock of that node, and so below.
+-- A removal may store what is left of the leaf's node, one entry or a new node, in place of the node. The old value is the one loaded under
+-- the lock of that node.
 abbrev pub MayRemove : Type 0
 MayRemove =
     (layout : Layout) (k : Known) (held : List Locked) (news : List Made) (key : Key) (n j height w value : ℕ) (e : Entry) (words : List ℕ) (at : Spot) →
@@ -62,8 +63,8 @@ MayRemove =
     IsLeafThere layout k held news j key → HasLoaded k j value → IsWord e w →
     Publishes layout k at w (removed_change k.pass (item j key value)) (Some value) (a_node n ∷ a_leaf j ∷ [])
 
--- And one that merges: what is left of the node and the node beside it become one new node z, whose entry closes the fork between them in
--- the node o above. What is left of that, one entry or a new node, takes its place.
+-- A removal may merge what is left of the leaf's node and the node beside it into one new node z. Its entry closes the fork between them in
+-- the node o above. What is left of o, one entry or a new node, takes its place.
 abbrev pub MayMerge : Type 0
 MayMerge =
     (layout : Layout) (k : Known) (held : List Locked) (us : List Made) (key : Key) (o n m j z height w value : ℕ) (view : NodeView) (e : Entry) (at : Spot) →
@@ -72,7 +73,7 @@ MayMerge =
     (s : HoldsAt k held key (Node o height) at) → FitsAt s e → IsLeafThere layout k held (us ++ made_of_node z view ∷ []) j key → HasLoaded k j value → IsWord e w →
     Publishes layout k at w (removed_change k.pass (item j key value)) (Some value) (a_node o ∷ a_node n ∷ a_node m ∷ a_leaf j ∷ [])
 
--- And of the last key.
+-- A removal of the last key may empty the root.
 abbrev pub MayRemoveLast : Type 0
 MayRemoveLast =
     (layout : Layout) (k : Known) (held : List Locked) (j value : ℕ) (key : Key) → HasReady k held [] → k.anchor ≡ Some (Some (Leaf j)) →

@@ -25,7 +25,7 @@ use Rattle.publish_laws.specs.Spots.{IsSpotOf}
 use Rattle.publish_laws.specs.Rises.{made_of_node, made_of_leaf, IsBuiltAnew, IsSide, HasFoundBelow}
 use Rattle.publish_laws.specs.Cases.{IsWord}
 
--- What has risen from the locked node n, one entry, at its spot.
+-- An insertion may store the one entry that has risen from the locked node n at its spot.
 abbrev pub Insertion : Type 0
 Insertion =
     (layout : Layout) (k : Known) (held : List Locked) (news : List Made) (gone : List Rec) → HasReady k held news → (x : Newcomer) →
@@ -33,7 +33,7 @@ Insertion =
     IsSpotOf k held x.item.key x.mismatch n e at → IsWord e w →
     Publishes layout k at w (added_change k.pass x.item) None gone
 
--- Normal insert: a copy of the node with the new leaf. The node goes.
+-- A normal insert may store a copy of the node with the new leaf. The node is unlinked.
 abbrev pub NormalInsert : Type 0
 NormalInsert =
     (layout : Layout) (k : Known) (held : List Locked) (x : Newcomer) (fresh : List ℕ) →
@@ -44,8 +44,8 @@ NormalInsert =
     IsSpotOf k held x.item.key x.mismatch n (Node m view.height) at → IsWord (Node m view.height) w →
     Publishes layout k at w (added_change k.pass x.item) None (a_node n ∷ [])
 
--- Overflow: the node with the new leaf is cut at its first fork, and a node of the two halves, of which each may be one entry, takes
--- its place. That is an intermediate node, or, at the root, a new root. The old node goes.
+-- An overflow may cut the node with the new leaf at its first fork, and store a node of the two halves. It is an intermediate node or, at
+-- the root, a new root. The old node is unlinked.
 abbrev pub Overflow : Type 0
 Overflow =
     (layout : Layout) (k : Known) (held : List Locked) (x : Newcomer) (fresh : List ℕ) →
@@ -58,7 +58,7 @@ Overflow =
     IsSpotOf k held x.item.key x.mismatch n (Node m view.height) at → IsWord (Node m view.height) w →
     Publishes layout k at w (added_change k.pass x.item) None (a_node n ∷ [])
 
--- The full node that stays whole beside the new leaf: a node of the two takes its place. None goes.
+-- An insertion above a full node that stays whole may store a node of it and the new leaf. No node is unlinked.
 abbrev pub StaysWhole : Type 0
 StaysWhole =
     (layout : Layout) (k : Known) (held : List Locked) (x : Newcomer) (fresh : List ℕ) →
@@ -69,8 +69,7 @@ StaysWhole =
     IsSpotOf k held x.item.key x.mismatch n (Node m view.height) at → IsWord (Node m view.height) w →
     Publishes layout k at w (added_change k.pass x.item) None []
 
--- Pull up: what has risen from below, over any number of levels, is pulled up into the node o above, of which there is a copy then.
--- That goes too.
+-- What has risen from below, over any number of levels, may be pulled up into a copy of the node o above. That node is unlinked, too.
 abbrev pub PullUp : Type 0
 PullUp =
     (layout : Layout) (k : Known) (held : List Locked) (news : List Made) (gone : List Rec) (x : Newcomer) (o n m w : ℕ) →
@@ -79,7 +78,7 @@ PullUp =
     IsSpotOf k held x.item.key x.mismatch o (Node m view.height) at → IsWord (Node m view.height) w →
     Publishes layout k at w (added_change k.pass x.item) None (a_node o ∷ gone)
 
--- And a pull up at whose end the node above is full: that is cut, and a node of the two halves takes its place.
+-- A pull up may end in a node that is full. It is cut, and a node of the two halves takes its place.
 abbrev pub PullUpOverflow : Type 0
 PullUpOverflow =
     (layout : Layout) (k : Known) (held : List Locked) (news : List Made) (gone : List Rec) (x : Newcomer) (o n m w f : ℕ) →

@@ -12,7 +12,7 @@ use Rattle.rowex_core.specs.Runs.{EventsLead}
 use Rattle.rowex_table.specs.Runs.{Runs}
 use Rattle.rowex_table.specs.Seats.{TableView, SeatView}
 
--- The table has one pass, and the steps of which the seat's pass knows lead from a new table to this core.
+-- The table has one pass, and the steps that the seat's pass knows lead from a new table to this core.
 pub record IsLone (layout : Layout) (s : SeatView) (c : Core) : Type 0 where
   pub passes : layout.passes ≡ 1
   pub led : EventsLead (opening layout) s.trace c
@@ -22,26 +22,26 @@ abbrev pub IsOut : Fate → Type 0
 IsOut (InTree since) = ⊥
 IsOut f = Unit {0}
 
--- it is free, or some pass has claimed it and not linked it
+-- A record of this fate is free, or some pass has claimed and not linked it.
 abbrev pub IsUnused : Fate → Type 0
 IsUnused Free = Unit {0}
 IsUnused (Held q) = Unit {0}
 IsUnused (Ready q) = Unit {0}
 IsUnused f = ⊥
 
--- If the table has one pass, this node record stands in no tree after the steps of which the pass knows;
+-- Node record n stands in no tree after the steps that the table's only pass knows.
 abbrev pub IsOutAt : Layout → SeatView → ℕ → Type 0
 IsOutAt layout s n = (c : Core) → IsLone layout s c → IsOut (c.fate (a_node n))
 
--- it is free then;
+-- Node record n is free after the steps that the table's only pass knows.
 abbrev pub IsFreeAt : Layout → SeatView → ℕ → Type 0
 IsFreeAt layout s n = (c : Core) → IsLone layout s c → c.fate (a_node n) ≡ Free
 
--- some node record stands in no tree: one is spare;
+-- Some node record stands in no tree after the steps that the table's only pass knows, so it is spare.
 abbrev pub HasSpare : Layout → SeatView → Type 0
 HasSpare layout s = (c : Core) → IsLone layout s c → (n : ℕ) × (n < layout.nodes) × IsOut (c.fate (a_node n))
 
--- some node record is free.
+-- Some node record is free after the steps that the table's only pass knows.
 abbrev pub HasFree : Layout → SeatView → Type 0
 HasFree layout s = (n : ℕ) × (n < layout.nodes) × IsFreeAt layout s n
 
@@ -49,7 +49,7 @@ HasFree layout s = (n : ℕ) × (n < layout.nodes) × IsFreeAt layout s n
 abbrev pub HasRoom : Layout → SeatView → Type 0
 HasRoom layout s = (layout.passes ≡ 1) × HasFree layout s
 
--- If one was spare, one still is.
+-- If a node record was spare before, one still is.
 abbrev pub KeepsSpare : Layout → SeatView → SeatView → Type 0
 KeepsSpare layout s t = HasSpare layout s → HasSpare layout t
 
@@ -59,12 +59,12 @@ IsUnpublished (Publish spot w) = ⊥
 IsUnpublished (Load words) = ⊥
 IsUnpublished act = Unit {0}
 
--- steps that are no publishes leave one spare
+-- steps that are no publishes leave a node record spare
 abbrev pub SpareStays : {G : Type 0} → (G → Event → G → Type 0) → Type 0
 SpareStays {G = G} becomes =
     (table : TableView) (acts : List Act) (a b : SeatView × G) → All IsUnpublished acts → Runs table becomes acts a b → KeepsSpare table.layout a.0 b.0
 
--- and free what was free, if the pass has no record after them
+-- steps that are no publishes leave a free node record free, if the pass then has no record
 abbrev pub FreeStays : {G : Type 0} → (G → Event → G → Type 0) → Type 0
 FreeStays {G = G} becomes =
     (table : TableView) (acts : List Act) (a b : SeatView × G) → All IsUnpublished acts → Runs table becomes acts a b → b.0.known.own ≡ [] →

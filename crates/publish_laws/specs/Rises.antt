@@ -32,18 +32,19 @@ made_of_node m view = record { rec = a_node m; words = node_words view }
 abbrev pub made_of_leaf : Item → List ℕ → Made
 made_of_leaf x words = record { rec = a_leaf x.number; words = words }
 
--- A node that was built anew: it has words, and its height is one above the greatest of its entries.
+-- The node was built anew: it has words, and its height is one above the greatest of its entries.
 abbrev pub IsBuiltAnew : NodeView → Type 0
 IsBuiltAnew view = HasNodeWords view × (view.height ≡ 1 + greatest_height view.entries)
 
--- The entry for a subtrie, and the records made for it: the one entry that the subtrie is, or a new node.
+-- The entry for a subtrie, and the records made for it. It is the subtrie itself if that is one entry, or else a new node.
 pub data IsSide (x : Subtrie) : Entry → List Made → Type 0 where
   one : (e : Entry) → x ≡ Place e → IsSide x e []
   anew : (m : ℕ) (view : NodeView) → IsBuiltAnew view → piece view ≡ x → IsSide x (Node m view.height) (made_of_node m view ∷ [])
 
 -- The lowest node
 
--- Below the locked node with these words the newcomer's search ended as that says; the pass has been pinned since its version or longer.
+-- From the locked node with these words on, the newcomer's search ended as `Newcomer` says. The pass's pin goes back to the newcomer's
+-- version.
 pub record HasFoundBelow (k : Known) (held : List Locked) (x : Newcomer) (n : ℕ) (words : List ℕ) : Type 0 where
   pub leaf : HasLeafWords (x.item.key, x.item.value)
   pub pinned : IsPinnedSince k x.since
@@ -54,8 +55,8 @@ pub record HasFoundBelow (k : Known) (held : List Locked) (x : Newcomer) (n : �
 
 -- Further up
 
--- Where an insertion at p affects no more of a locked node than the place of the one below, its own first fork is before p; so the node
--- above that needs no other check than that its entry names it.
+-- If an insertion affects no more of a locked node than its entry for the node below, its own first fork is before p. So the node above
+-- needs no other check than that its entry names it.
 abbrev pub AboveGoesOn : Type 0
 AboveGoesOn =
     (layout : Layout) (k : Known) (held : List Locked) (news : List Made) (c : Core) → IsStage layout k held news c →

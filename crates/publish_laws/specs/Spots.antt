@@ -16,30 +16,30 @@ use Rattle.rowex_core.specs.declared.known.Known.{Known}
 use Rattle.rowex_core.specs.declared.known.Locked.{Locked}
 use Rattle.rowex_core.specs.Reading.{node_words_of}
 
--- The pass holds the lock of this spot on the key's way, at which the entry d stands: the anchor's, and d is the root; or that of a
--- node with these words, and d is its entry at the key's place.
+-- The pass holds the lock of this spot on the key's path, at which the entry d stands. It holds the anchor's lock, and d is the root. Or it
+-- holds that of a node with these words, and d is its entry on the path.
 pub data HoldsAt (k : Known) (held : List Locked) (key : Key) (d : Entry) : Spot → Type 0 where
   at_root : k.anchor ≡ Some (Some d) → HoldsAt k held key d Root
   in_node : (o slot : ℕ) (words : List ℕ) → IsOneOf (record { node = o; words = words }) held → seek key (node_words_of words).subtrie ≡ d →
       spot key (node_words_of words).subtrie ≡ slot → HoldsAt k held key d (Slot o slot)
 
--- An entry that may stand there: in a node it is lower than the node.
+-- The entry may stand at the spot: in a node it is lower than the node.
 abbrev pub FitsAt : {k : Known} {held : List Locked} {key : Key} {d : Entry} {at : Spot} → HoldsAt k held key d at → Entry → Type 0
 FitsAt (at_root root) e = Unit {0}
 FitsAt (in_node o slot words has names place) e = IsLowerSubtrie (node_words_of words).fixed.height (Place e)
 
--- What there is below an entry: the subtrie of a node, which is locked, or the one leaf.
+-- What there is below an entry: the subtrie of a locked node, or the leaf alone.
 abbrev pub IsSubtrieBelow : List Locked → Entry → Subtrie → Type 0
 IsSubtrieBelow held (Leaf j) r = r ≡ Place (Leaf j)
 IsSubtrieBelow held (Node n h) r = (words : List ℕ) × IsOneOf (record { node = n; words = words }) held × (r ≡ (node_words_of words).subtrie)
 
--- An insertion at p affects no more than the spot, if that is in a node.
+-- An insertion affects no more of a node than the entry at the spot, where the key first differs at p.
 abbrev pub AffectsSpotAlone : {k : Known} {held : List Locked} {key : Key} {d : Entry} {at : Spot} → HoldsAt k held key d at → ℕ → Type 0
 AffectsSpotAlone (at_root root) p = Unit {0}
 AffectsSpotAlone {held = held} {key = key} {d = d} (in_node o slot words has names place) p =
     (r : Subtrie) × IsSubtrieBelow held d r × AffectsOne p key (node_words_of words).subtrie r
 
--- The spot of the locked node n, at which the entry e may take its place in an insertion at p.
+-- The spot of the locked node n. In an insertion at p the entry e may take the node's place there.
 pub record IsSpotOf (k : Known) (held : List Locked) (key : Key) (p n : ℕ) (e : Entry) (at : Spot) : Type 0 where
   pub height : ℕ
   pub holds : HoldsAt k held key (Node n height) at

@@ -25,12 +25,12 @@ use Rattle.rowex_core.specs.Sharing.{IsOwned, IsLocked}
 use Rattle.rowex_core.specs.Knowing.{Recalls}
 use Rattle.rowex_table.specs.Made.{Made, held_as, recs_of}
 
--- It holds of the past of each lawful core in which what the pass recalls is true.
+-- The property holds of the past of each lawful core in which what the pass recalls is true.
 abbrev pub IsSure : Known → (Past → Type 0) → Type 0
 IsSure k P = (c : Core) → IsLawful c → Recalls c k → P c.past
 
--- A core in which what the pass recalls is true, these nodes are locked by it with these words, and these records are its own
--- and ready, with theirs.
+-- A core at which the pass may publish. What it recalls is true, these nodes are locked by it, and these records are its own and ready, all
+-- with these words.
 pub record IsStage (layout : Layout) (k : Known) (held : List Locked) (news : List Made) (c : Core) : Type 0 where
   pub lawful : IsLawful c
   pub layout_is : c.layout ≡ layout
@@ -38,27 +38,27 @@ pub record IsStage (layout : Layout) (k : Known) (held : List Locked) (news : Li
   pub locks : (l : Locked) → IsOneOf l held → IsLocked k.pass c l
   pub made : (m : Made) → IsOneOf m news → IsOwned k.pass c (held_as Ready m)
 
--- What the pass has is just these locks and these records, which it has made ready.
+-- The pass has just these locks, and just these records, which it has made ready.
 pub record HasReady (k : Known) (held : List Locked) (news : List Made) : Type 0 where
   pub locks : k.locks ≡ held
   pub own : k.own ≡ map (held_as Ready) news
 
--- the words of a leaf record spell this key and value
+-- the words of a leaf record spell this leaf's key and value
 abbrev pub SpellsLeaf : Item → List ℕ → Type 0
 SpellsLeaf x words = HasLeafWords (x.key, x.value) × (leaf_words (x.key, x.value) ≡ up_to_key words)
 
--- Among the new records is the leaf with this key and value.
+-- One of the new records is this leaf.
 abbrev pub HasLeaf : List Made → Item → Type 0
 HasLeaf news x = (words : List ℕ) × IsOneOf (record { rec = a_leaf x.number; words = words }) news × SpellsLeaf x words
 
--- In each stage the subtrie is what comes in the place of the node's body or entry when the key is added; it links anew just the
--- records made, the one made last first, and unlinks just those.
+-- In each stage the subtrie is what takes the place of the node's body or entry when the key is added. It links just the records made, the
+-- one made last first. It unlinks just the records `gone`.
 abbrev pub HasRisen : Layout → Known → List Locked → List Made → Newcomer → Side → Subtrie → List Rec → Type 0
 HasRisen layout k held news x d r gone = (c : Core) → IsStage layout k held news c →
     (i : IsRise (bare c) k.pass x d r) × (linked_by_rise i ≡ recs_of news) × (unlinked_by_rise i ≡ gone)
 
--- By their words, the locked node o's entry on the key's way names the locked node n, and an insertion at p affects no more than
--- that place.
+-- By their words, the locked node o's entry on the key's path names the locked node n. An insertion at p affects no more of o than that
+-- entry.
 pub record IsLockedAbove (held : List Locked) (key : Key) (p o n : ℕ) : Type 0 where
   pub upper : List ℕ
   pub lower : List ℕ
@@ -68,8 +68,8 @@ pub record IsLockedAbove (held : List Locked) (key : Key) (p o n : ℕ) : Type 0
   pub entry : seek key (node_words_of upper).subtrie ≡ Node n height
   pub path : AffectsOne p key (node_words_of upper).subtrie (node_words_of lower).subtrie
 
--- By their words, the locked node n's entry on the key's way names leaf j, the locked node o's names node n, and the last fork on the
--- key's way in o has on its other side just the entry of the locked node m.
+-- The words of three locked nodes tell a merge. On the key's path, node o's entry names node n, and node n's entry names leaf j. The last
+-- fork on that path in o has on its other side just the entry of node m.
 pub record AreBeside (held : List Locked) (key : Key) (o n m j : ℕ) : Type 0 where
   pub upper : List ℕ
   pub lower : List ℕ
@@ -84,7 +84,7 @@ pub record AreBeside (held : List Locked) (key : Key) (o n m j : ℕ) : Type 0 w
   pub other_height : ℕ
   pub sibling : subtrie_sibling key (node_words_of upper).subtrie ≡ Some (position, Place (Node m other_height))
 
--- what is left of node n without the leaf, and all of node m, with the fork between the two on top
+-- The subtrie of a merge: what is left of node n without the leaf, and all of node m, below the fork between them.
 abbrev pub merged : {held : List Locked} {key : Key} {o n m j : ℕ} → AreBeside held key o n m j → Subtrie
 merged {key = key} b = fork_of (bit key b.position) b.position (subtrie_without key (node_words_of b.lower).subtrie) (node_words_of b.other).subtrie
 
@@ -92,6 +92,6 @@ merged {key = key} b = fork_of (bit key b.position) b.position (subtrie_without 
 abbrev pub IsLeafThere : Layout → Known → List Locked → List Made → ℕ → Key → Type 0
 IsLeafThere layout k held news j key = (c : Core) → IsStage layout k held news c → (leaf_of (c.words (a_leaf j))).key ≡ key
 
--- The pass has loaded this value of leaf j, and has neither locked nor unlocked, published or marked since.
+-- The pass has loaded this value of leaf j. It has neither locked nor unlocked, published or marked since.
 abbrev pub HasLoaded : Known → ℕ → ℕ → Type 0
 HasLoaded k j value = IsOneOf (record { leaf = j; value = value }) k.values

@@ -13,8 +13,8 @@ use Rattle.publish_laws.specs.Stages.{IsSure}
 use Rattle.rowex_core.specs.Knowing.{IsPinnedSince}
 use Rattle.publish_laws.specs.Rises.{HasFoundBelow}
 
--- Where a descent from the locked node's entry on the key's way ended at a leaf with the key l, from which the key differs first at p,
--- what an insertion asks of the lowest locked node is known.
+-- Let a descent from the locked node's entry on the key's path end at a leaf. Its key and the new one first differ at p. Then what an
+-- insertion asks of the lowest locked node is known.
 abbrev pub DescentFinds : Type 0
 DescentFinds =
     (k : Known) (held : List Locked) (x : Newcomer) (n : ℕ) (words : List ℕ) → HasLeafWords (x.item.key, x.item.value) → IsPinnedSince k x.since →

@@ -9,13 +9,12 @@ use Rattle.rowex_table.specs.Seats.{TableView, SeatView}
 use Rattle.rowex_reading.specs.Reads.{Looks}
 use Rattle.rowex_reading.specs.Seen.{Sure, since}
 
--- a search touches four words of each node on its way, those of its entries, while it searches the node's head
+-- how many words a search touches in each node on its path: those of its entries, while it searches the head
 abbrev pub search_touches : ℕ
 search_touches = 4
 
--- The pass has searched for a key. On its way were so many nodes, no more than a tree can be high. It has loaded the root, and
--- then at most 26 words of each node, one of them an entry, and 32 of a leaf, and has made no other step. It has touched four words of each node
--- at most.
+-- The pass has searched for a key. Its path had so many nodes, no more than a tree can be high. It has loaded the root, at most 26 words of
+-- each node, one of them an entry, and 32 of a leaf. It has made no other step, and has touched four words of each node at most.
 pub record HasSearched {G : Type 0} (table : TableView) (becomes : G → Event → G → Type 0) (a b : SeatView × G) : Type 0 where
   pub nodes : ℕ
   pub loaded : ℕ
@@ -24,13 +23,13 @@ pub record HasSearched {G : Type 0} (table : TableView) (becomes : G → Event �
   pub looks : Looks table becomes nodes loaded a b
   pub touched : b.0.touches ≤ a.0.touches + search_touches * nodes
 
--- what a search for the key found: that it had the value, or was absent, in a version since the last load of the root
+-- What a search for the key found: since the last load of the root the key had the value, or was absent, in some version.
 abbrev pub HasFound : Known → Key → Option ℕ → Type 0
 HasFound k key None = Sure k (λ s. WasAbsentSince s (since k) key)
 HasFound k key (Some value) = Sure k (λ s. IsHeldSince s (since k) key value)
 
--- The pass has searched for so many keys. It has loaded the root once. On the keys' ways were so many nodes, no more on each than a tree can
--- be high; it has loaded at most 26 words of each, one of them an entry, and 32 of each leaf, and has made no other step.
+-- The pass has searched for so many keys, and loaded the root once. The keys' paths had so many nodes, on each no more than a tree can be
+-- high. It has loaded at most 26 words of each, one of them an entry, and 32 of each leaf. It has made no other step.
 pub record HaveSearched {G : Type 0} (table : TableView) (becomes : G → Event → G → Type 0) (count : ℕ) (a b : SeatView × G) : Type 0 where
   pub nodes : ℕ
   pub loaded : ℕ

@@ -5,7 +5,7 @@ use Rattle.rowex_core.specs.declared.known.Known.{Known}
 use Rattle.rowex_core.specs.Cores.{Core, IsLawful}
 use Rattle.rowex_core.specs.Knowing.{Knows}
 
--- There is a lawful core of this layout of which what the pass knows is true: the one at its last load.
+-- There is a lawful core of this layout of which what the pass knows is true: that of its last load.
 pub record IsPossible (layout : Layout) (k : Known) : Type 0 where
   pub core : Core
   pub lawful : IsLawful core

@@ -10,11 +10,11 @@ use Rattle.rowex_table.specs.Runs.{Runs, Steps}
 use Rattle.rowex_table.specs.Seats.{TableView, SeatView, IsSeatOf, touched_to}
 use Rattle.rowex_reading.specs.Possible.{IsPossible}
 
--- the seat is of a pass of this table, which may read below the root: what it knows is true of some lawful core
+-- The seat is of a pass of this table that may read below the root. What it knows is true of some lawful core.
 abbrev pub IsReader : TableView → SeatView → Type 0
 IsReader table a = IsSeatOf table a × IsPossible table.layout a.known
 
--- a load of an entry of a node, of the value of a leaf, or of a word of a record that is neither of these nor its state
+-- the step loads a node's entry, a leaf's value, or a word of a record that is neither of these nor its state
 abbrev pub IsBelowRoot : Act → Type 0
 IsBelowRoot (LoadRef (Slot n i) word) = Unit {0}
 IsBelowRoot (LoadRef (Value l) word) = Unit {0}
@@ -26,12 +26,11 @@ abbrev pub loads_entry : Act → Bool
 loads_entry (LoadRef (Slot n i) word) = true
 loads_entry act = false
 
--- how many of these steps load entries of nodes: a search loads one in each node on its way
+-- how many of these steps load entries of nodes; a search loads one in each node on its path
 abbrev pub entries_in : List Act → ℕ
 entries_in acts = count_by loads_entry acts
 
--- The pass makes n loads below the root, one after the other, and no other step; so many of them are loads of entries; and the gate is
--- told each of them.
+-- The pass makes n loads below the root, so many of them of entries, and no other step. The gate is told each.
 pub record Reads {G : Type 0} (table : TableView) (becomes : G → Event → G → Type 0) (entries n : ℕ) (a b : SeatView × G) : Type 0 where
   pub acts : List Act
   pub below : All IsBelowRoot acts
@@ -39,26 +38,25 @@ pub record Reads {G : Type 0} (table : TableView) (becomes : G → Event → G �
   pub entries_are : entries_in acts ≡ entries
   pub steps : Runs table becomes acts a b
 
--- The pass makes such loads, and touches so many words at most on the way: but for these the one seat becomes the other by the loads.
+-- The pass makes n loads below the root, so many of them of entries, and no other step. On the way it touches at most so many words.
 pub record ReadsAndTouches {G : Type 0} (table : TableView) (becomes : G → Event → G → Type 0) (entries n most : ℕ) (a b : SeatView × G) : Type 0 where
   pub reads : Reads table becomes entries n a (touched_to a.0.touches b.0, b.1)
   pub rises : a.0.touches ≤ b.0.touches
   pub few : b.0.touches ≤ a.0.touches + most
 
--- the loads of a leaf with this key: its value, the key's length, and the words that have bytes of the key
+-- how many loads a leaf with this key takes: its value, the key's length, and the words with bytes of the key
 abbrev pub leaf_loads : Key → ℕ
 leaf_loads key = 2 + words_of_key (length key)
 
--- the pass makes some number of such loads
+-- the pass makes some number of loads below the root, and no other step
 abbrev pub ReadsSome : {G : Type 0} → TableView → (G → Event → G → Type 0) → SeatView × G → SeatView × G → Type 0
 ReadsSome table becomes a b = (entries n : ℕ) × Reads table becomes entries n a b
 
--- the pass loads the root, and makes no other step; and the gate is told
+-- the pass loads the root, and makes no other step; the gate is told it
 abbrev pub ReadsRoot : {G : Type 0} → TableView → (G → Event → G → Type 0) → SeatView × G → SeatView × G → Type 0
 ReadsRoot table becomes a b = (word : ℕ) × Steps table becomes (LoadRef Root word) a b
 
--- The pass loads the root, and then n words below it, of which so many are entries, and makes no other step; and the gate is told each
--- load.
+-- The pass loads the root, then n words below it, so many of them entries, and makes no other step. The gate is told each load.
 pub record Looks {G : Type 0} (table : TableView) (becomes : G → Event → G → Type 0) (entries n : ℕ) (a b : SeatView × G) : Type 0 where
   pub at : SeatView × G
   pub root : ReadsRoot table becomes a at

@@ -14,12 +14,12 @@ use Rattle.rowex_table.specs.Seats.{SeatView, TableView}
 use Rattle.rowex_reading.specs.Reads.{Reads}
 use Rattle.rowex_reading.specs.Seen.{Sure, since}
 
--- The search for the key has led the pass to the entry, by loads since its last one of the root.
+-- The key's search has led the pass to the entry, by loads since its last one of the root.
 pub record HasComeTo (k : Known) (key : Key) (e : Entry) : Type 0 where
   pub pinned : IsPinnedSince k (since k)
   pub led : Sure k (λ s. IsLed s (since k) key e)
 
--- each search has led to its entry
+-- the search for each key has led to its entry
 abbrev pub HaveComeTo : Known → List Key → List Entry → Type 0
 HaveComeTo k keys tips = (i : ℕ) (key : Key) (e : Entry) → slice_get keys i ≡ Some key → slice_get tips i ≡ Some e → HasComeTo k key e
 
@@ -27,12 +27,12 @@ HaveComeTo k keys tips = (i : ℕ) (key : Key) (e : Entry) → slice_get keys i 
 abbrev pub AreLeaves : ℕ → List Entry → Type 0
 AreLeaves count tips = (i : ℕ) (e : Entry) → i < count → slice_get tips i ≡ Some e → (n : ℕ) × (e ≡ Leaf n)
 
--- the heights of these entries, added up: each node that is entered lowers it
+-- the sum of these entries' heights, which each step to a child lowers
 abbrev pub heights_in : List Entry → ℕ
 heights_in tips = sum_by height_of tips
 
--- The pass makes the loads of so many searches, from the root's entry on: at most 26 for each node on the way of a key, one of them an
--- entry, and 32 for its leaf.
+-- The pass makes the loads of `count` searches from the root's entry on. They are at most 26 for each node on a path, one of them an entry,
+-- and 32 for each leaf.
 abbrev pub ReadsForAll : {G : Type 0} → TableView → (G → Event → G → Type 0) → ℕ → SeatView × G → SeatView × G → Type 0
 ReadsForAll table becomes count a b =
     (entries n : ℕ) × (entries ≤ count * (9 * MAX_BYTES)) × (n ≤ 32 * count + 26 * entries) × Reads table becomes entries n a b

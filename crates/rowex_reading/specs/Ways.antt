@@ -19,33 +19,33 @@ use Rattle.rowex_reading.specs.declared.descent.Found.{Found}
 use Rattle.rowex_reading.specs.declared.descent.Found.TheVariants.{Nothing, Leaf}
 use Rattle.std.specs.Prelude.{◌≢◌}
 
--- the entry at which the search ended
+-- the entry at which a search ended
 abbrev pub end_of : Found → Option Entry
 end_of Nothing = None
 end_of (Leaf number value mismatch) = Some (LeafEntry number)
 
--- the value that was found for the key
+-- the value that a search found for its key
 abbrev pub value_of : Found → Option ℕ
 value_of (Leaf number value None) = Some value
 value_of found = None
 
--- What names the i-th node of the way, the root or the entry that the search took in the node above it; after the last node, what
--- the search ended at.
+-- What names node i of a path: the root's entry, or the entry taken in the node above. Behind the last node, it is what the search ended
+-- at.
 abbrev pub named : List PathNode → Found → ℕ → Option Entry
 named [] found i = end_of found
 named (s ∷ way) found zero = Some (Node s.number s.height)
 named (s ∷ way) found (suc i) = named way found i
 
--- the step at a node with this head, where the search takes the entry at a place
+-- the step of a path at a node with this head, in which the search takes slot `at`
 abbrev pub step_at : HeadView → ℕ → ℕ → PathNode
 step_at head number at = record { number = number; height = head.height; first_position = first_position (shape_of head); count = size (shape_of head); slot = at }
 
--- the root's entry in a version since m
+-- the root's entry, or none, in a version since m
 abbrev pub RootWas : Known → ℕ → Option Entry → Type 0
 RootWas k m None = Sure k (λ past. IsBlank past m)
 RootWas k m (Some e) = Sure k (λ past. IsRooted past m e)
 
--- Since version m the pass was led to the node of the step, and has read its forks and, at the place on the key's way, this entry.
+-- Since version m the pass was led to the node of the step. It has read the node's forks, and this entry in the slot on the key's path.
 pub record IsWayNode (layout : Layout) (k : Known) (m : ℕ) (key : Key) (s : PathNode) (e : Entry) : Type 0 where
   pub forks : Subtrie
   pub range : s.number < layout.nodes
@@ -63,12 +63,12 @@ abbrev pub IsMismatch : Key → Key → Option ℕ → Type 0
 IsMismatch key l None = key ≡ l
 IsMismatch key l (Some p) = AgreeBelow p key l × (bit key p ≢ bit l p)
 
--- since version m the pass has read the leaf that was found
+-- the pass has read the leaf that its search found, since version m
 abbrev pub IsFoundAt : Known → ℕ → Key → Found → Type 0
 IsFoundAt k m key Nothing = Unit {0}
 IsFoundAt k m key (Leaf number value mismatch) = (l : Key) × Sure k (λ past. IsRead past m number l value) × IsMismatch key l mismatch
 
--- What a search for the key has found, which loaded the root at version m.
+-- What a search for the key has found, which loaded the root at version m: its path and its end.
 pub record IsWayOf (layout : Layout) (k : Known) (m : ℕ) (key : Key) (way : List PathNode) (found : Found) : Type 0 where
   pub is_key : IsKey key
   pub since : IsPinnedSince k m

@@ -22,50 +22,50 @@ use Rattle.rowex_table.specs.Seats.{TableView, SeatView}
 use Rattle.rowex_records.specs.declared.claiming.RecordKind.{RecordKind}
 use Rattle.rowex_records.specs.declared.claiming.RecordKind.TheVariants.{Node, Leaf}
 
--- the record of a kind that has this number, and how many of them there are
+-- record i of a kind
 abbrev pub record_of : RecordKind → ℕ → Rec
 record_of Node = a_node
 record_of (Leaf first end) = λ i. a_leaf (first + i)
 
--- how many records a claim of this kind may search
+-- how many records of the kind there are
 abbrev pub count_of : RecordKind → Layout → ℕ
 count_of Node layout = layout.nodes
 count_of (Leaf first end) layout = end - first
 
--- the table has these records
+-- the table has the records of this kind
 abbrev pub IsKindOf : RecordKind → Layout → Type 0
 IsKindOf Node layout = Unit {0}
 IsKindOf (Leaf first end) layout = end ≤ layout.leaves
 
--- a leaf record of the kind has this number
+-- the kind has record i, if it is one of leaves
 abbrev pub HasIndex : RecordKind → ℕ → Type 0
 HasIndex Node i = Unit {0}
 HasIndex (Leaf first end) i = first + i < end
 
--- of what a pass knows, its own records and its failed steps may change
+-- what a pass knew, but for its own records and its failed steps, which may have changed
 abbrev pub claiming : Known → Known → Known
 claiming k j = record k { own = j.own; failed = j.failed }
 
--- the number to begin at, of n: one that is out of range counts as 0
+-- where to begin among n numbers: at 0 if the given one is out of range
 abbrev pub begin_of : ℕ → ℕ → ℕ
 begin_of n from = if nat_lt from n then from else 0
 
--- of n numbers the one that is m after this one, where 0 comes after the last
+-- of n numbers, the one that is m after this one, where 0 comes after the last
 abbrev pub wrapped : ℕ → ℕ → ℕ → ℕ
 wrapped n from m = if nat_lt (from + m) n then from + m else from + m - n
 
--- A try of a record loads its state, and claims it where that is free. These are the steps of one that finds it not free, by the
--- load or by the claim.
+-- The acts of a try that finds the record not free. A try loads the state, and claims the record if that is free.
 abbrev pub Misses : Rec → List Act → Type 0
 Misses r acts = (word : ℕ) × (1 ≤ word) × ((acts ≡ LoadState r word ∷ []) ⊎ (acts ≡ LoadState r 0 ∷ Claim r word ∷ []))
 
--- Whose record r may be when pass q finds it not free: a pass's of the index, or nobody's, and then it is in the tree or retired. It is q's
--- only if it is one of `own`. If it is the record of a node of `locked`, it is nobody's.
+-- Whose record r may be when pass q finds it not free: another pass's of the index, or nobody's, in the tree or retired. It may be q's own
+-- if it is one of `own`. If it is a node of `locked`, it is nobody's.
 abbrev pub IsAnothers : Layout → ℕ → (own : List Rec) → (locked : List ℕ) → Rec → Option ℕ → Type 0
 IsAnothers layout q own locked r None = Unit {0}
 IsAnothers layout q own locked r (Some by) = (by < layout.passes) × (by ≡ q → Contains own r) × ¬ (IsOneOf r (map a_node locked))
 
--- so for the pass that knows k, by the nodes that it has locked
+-- Whose record r may be when the pass that knows k finds it not free. Its own is one of `own`, and the nodes that it has locked are
+-- nobody's.
 abbrev pub IsAnothersBut : Layout → Known → List Rec → Rec → Option ℕ → Type 0
 IsAnothersBut layout k own = IsAnothers layout k.pass own (nodes_of k.locks)
 
@@ -73,27 +73,26 @@ IsAnothersBut layout k own = IsAnothers layout k.pass own (nodes_of k.locks)
 abbrev pub records_had : Known → List Rec
 records_had k = map (λ (o : Owned). o.rec) k.own
 
--- it is not the pass's own, unless the pass knows that it has it
+-- Whose record r may be when the pass that knows k finds it not free. Its own is one that it knows.
 abbrev pub IsAnothersTo : Layout → Known → Rec → Option ℕ → Type 0
 IsAnothersTo layout k = IsAnothersBut layout k (records_had k)
 
--- a failed step finds that a record is not free, and whose it is
+-- the failed step tells that a record was not free, and whose it was
 abbrev pub TellsState : (Option ℕ → Type 0) → FailedAct → Type 0
 TellsState Whose (a_claim by) = Whose by
 TellsState Whose (a_load by) = Whose by
 TellsState Whose (a_lock by) = ⊥
 
--- among these is a claim of the record, or a load of its state, at this step, which found it not free, and whose it was
+-- One of the failed steps, of this number, found the record not free. It was a claim, or a load of the state, and tells whose it was.
 abbrev pub HasMissed : (Rec → Option ℕ → Type 0) → List Failed → Rec → ℕ → Type 0
 HasMissed Whose failed r step =
     (act : FailedAct) × (word : ℕ) × TellsState (Whose r) act × (1 ≤ word) × Contains failed (record { act = act; location = word_of r 0; word = word; step = step })
 
--- and so at this step or a later one
+-- one of the failed steps, of this number or a later one, found the record not free, and tells whose it was
 abbrev pub HasMissedSince : (Rec → Option ℕ → Type 0) → List Failed → Rec → ℕ → Type 0
 HasMissedSince Whose failed r since = (step : ℕ) × (since ≤ step) × HasMissed Whose failed r step
 
--- The pass tries the record and finds it not free. It has one failed step more, which tells so and whose it was, and its own records as
--- they were.
+-- The pass tries the record and finds it not free. It has one failed step more, which tells so, and its own records as before.
 pub record MissesOne {G : Type 0} (table : TableView) (becomes : G → Event → G → Type 0) (r : Rec) (a b : SeatView × G) : Type 0 where
   pub acts : List Act
   pub misses : Misses r acts
@@ -103,7 +102,7 @@ pub record MissesOne {G : Type 0} (table : TableView) (becomes : G → Event →
   pub failed_is : b.0.known.failed ≡ failed ∷ a.0.known.failed
   pub tells : HasMissedSince (IsAnothersTo table.layout a.0.known) (failed ∷ []) r a.0.known.steps
 
--- From k to j the pass has come to hold this record, beside those that it had, of which none is this one.
+-- From k to j the pass has come to hold this record, beside those that it had.
 pub record HoldsOneMore (r : Rec) (k j : Known) : Type 0 where
   pub words : List ℕ
   pub sized : length words ≡ word_count_of r
@@ -116,12 +115,12 @@ pub record ClaimsOne {G : Type 0} (table : TableView) (becomes : G → Event →
   pub failed : b.0.known.failed ≡ a.0.known.failed
   pub holds : HoldsOneMore r a.0.known b.0.known
 
--- The number is none of the n records', and nothing is done; or the pass tries its record and finds it not free.
+-- The number is none of the n records', and nothing is done. Or the pass tries its record and finds it not free.
 abbrev pub MissesNumber : {G : Type 0} → TableView → (G → Event → G → Type 0) → (ℕ → Rec) → (n number : ℕ) → SeatView × G → SeatView × G → Type 0
 MissesNumber table becomes kind n number a b = ((n ≤ number) × (b ≡ a)) ⊎ ((number < n) × MissesOne table becomes (kind number) a b)
 
--- Of the n records of the kind the pass tries m, from this one on, each once, and finds none of them free. It has m failed steps
--- more, one for each, and its own records as they were.
+-- Of the n records of the kind the pass tries m, from number `from` on, each once, and finds none free. It has m failed steps more, one for
+-- each, and its own records as before.
 pub record FindsNone {G : Type 0} (table : TableView) (becomes : G → Event → G → Type 0) (kind : ℕ → Rec) (n from m : ℕ) (a b : SeatView × G) : Type 0 where
   pub tries : List Act
   pub in_turn : InTurn (λ i. Misses (kind (wrapped n from i))) m tries
@@ -133,7 +132,7 @@ pub record FindsNone {G : Type 0} (table : TableView) (becomes : G → Event →
   pub size : length missed ≡ m
   pub each : (i : ℕ) → i < m → HasMissedSince (IsAnothersTo table.layout a.0.known) missed (kind (wrapped n from i)) a.0.known.steps
 
--- The pass finds some of the n records of the kind not free, from this one on, and then claims the one of this number.
+-- Of the n records of the kind the pass finds some not free, from number `from` on, and then claims the one of number `number`.
 pub record Claims {G : Type 0} (table : TableView) (becomes : G → Event → G → Type 0) (kind : ℕ → Rec) (n from number : ℕ) (a b : SeatView × G) : Type 0 where
   pub tried : ℕ
   pub low : tried < n
@@ -142,8 +141,8 @@ pub record Claims {G : Type 0} (table : TableView) (becomes : G → Event → G 
   pub none : FindsNone table becomes kind n from tried a before
   pub one : ClaimsOne table becomes (kind number) before b
 
--- Of the n records of the kind the pass tries fewer than m, from this one on, and finds none of them free. Then it loads the state of the
--- one of this number, and finds it free.
+-- Of the n records of the kind the pass tries fewer than m, from number `from` on, and finds none free. Then it loads the state of the one
+-- of number `number`, and finds it free.
 pub record FindsFree {G : Type 0} (table : TableView) (becomes : G → Event → G → Type 0) (kind : ℕ → Rec) (n from m number : ℕ) (a b : SeatView × G) : Type 0 where
   pub tried : ℕ
   pub low : tried < m
@@ -152,8 +151,8 @@ pub record FindsFree {G : Type 0} (table : TableView) (becomes : G → Event →
   pub none : FindsNone table becomes kind n from tried a before
   pub free : Steps table becomes (LoadState (kind number) 0) before b
 
--- The pass goes on, after tries that found none free, with so many records of the kind from this number on, which follow those. The result is
--- none, or how many it tried of these before the one that it has claimed.
+-- After tries that found none free, the pass goes on with the next `count` records of the kind, from `number` on. The result is none, or
+-- how many of these it tried before the one that it has claimed.
 abbrev pub GoesOnTrying : {G : Type 0} → TableView → (G → Event → G → Type 0) → RecordKind → (number count : ℕ) → Option ℕ → SeatView × G → SeatView × G → Type 0
 GoesOnTrying {G = G} table becomes kind number count result b c =
     let n = count_of kind table.layout in
@@ -161,22 +160,23 @@ GoesOnTrying {G = G} table becomes kind number count result b c =
     MatchOption result (FindsNone table becomes (record_of kind) n from (m + count) a c)
     (λ index. (index < count) × (claims : Claims table becomes (record_of kind) n from (number + index) a c) × (claims.tried ≡ m + index))
 
--- Of the records of the kind the pass tries so many at most, from this one on. The result is none, or the number of the one that it has
--- claimed, and how many it tried with that.
+-- Of the records of the kind the pass tries at most `most`, from `begin` on. The result is none, or the number of the one that it has
+-- claimed; and how many it tried.
 abbrev pub TriesSome : {G : Type 0} → TableView → (G → Event → G → Type 0) → RecordKind → (begin most : ℕ) → Option ℕ × ℕ → SeatView × G → SeatView × G → Type 0
 TriesSome table becomes kind begin most (result, tried) a b =
     MatchOption result ((tried ≡ most) × FindsNone table becomes (record_of kind) (count_of kind table.layout) begin most a b)
     (λ number. (claims : Claims table becomes (record_of kind) (count_of kind table.layout) begin number a b) × (claims.tried + 1 ≡ tried))
 
--- the pass does so by going on behind the first of them, which it has found not free
+-- The pass has found the record at `begin` not free, and goes on behind it. In all it has then tried at most `most`, with this result.
 abbrev pub GoesOnBehind : {G : Type 0} → TableView → (G → Event → G → Type 0) → RecordKind → (begin most : ℕ) → Option ℕ × ℕ → SeatView × G → SeatView × G → Type 0
 GoesOnBehind {G = G} table becomes kind begin most result b c =
     (a : SeatView × G) → FindsNone table becomes (record_of kind) (count_of kind table.layout) begin 1 a b → TriesSome table becomes kind begin most result a c
 
--- each of the n records of the kind was found not free by one of these, at this step or a later one, and whose it was
+-- Each of the n records of the kind was found not free by a failed step, of number `since` or a later one. It tells whose the record was.
 abbrev pub AllMissed : (Rec → Option ℕ → Type 0) → (ℕ → Rec) → ℕ → List Failed → ℕ → Type 0
 AllMissed Whose kind n failed since = (q : ℕ) → q < n → HasMissedSince Whose failed (kind q) since
 
--- and so was each leaf record that has so many words at least
+-- Each leaf record of at least so many words was found not free by a failed step, of number `since` or a later one. It tells whose the
+-- record was.
 abbrev pub AllMissedFrom : (Rec → Option ℕ → Type 0) → Layout → ℕ → List Failed → ℕ → Type 0
 AllMissedFrom Whose layout words failed since = (q : ℕ) → q < layout.leaves → words ≤ leaf_size layout q → HasMissedSince Whose failed (a_leaf q) since

@@ -20,15 +20,15 @@ use Rattle.rowex_table.specs.Runs.{Does, InTurn}
 use Rattle.rowex_table.specs.Seats.{TableView, SeatView, IsSeatOf}
 use Rattle.versions.specs.Trades.{AreApart}
 
--- of what a pass knows, its own records may change
+-- what a pass knew, but for its own records, which may have changed
 abbrev pub owning : Known → Known → Known
 owning k j = record k { own = j.own }
 
--- the pass has claimed the record and not made it ready, and its words, which are these, spell a value
+-- The pass has claimed the record and not made it ready. Its words are these, and spell a value.
 abbrev pub IsFilled : Known → Rec → List ℕ → Type 0
 IsFilled k r words = OwnsAs k r Held words × IsPacked r words
 
--- these words in the place of the one record's
+-- an own record, with these words if it is record r
 abbrev pub fill_with : Rec → List ℕ → Owned → Owned
 fill_with r words o = if same_rec o.rec r then record o { words = words } else o
 
@@ -41,11 +41,12 @@ stored words (suc i) old = set (stored words i old) i (get_or words i 0)
 abbrev pub stored_in : Rec → List ℕ → ℕ → Owned → Owned
 stored_in r words i o = if same_rec o.rec r then record o { words = stored words i o.words } else o
 
--- the word is stored at the offset
+-- the acts are one store of this word, at this offset of the record
 abbrev pub StoresWord : Rec → ℕ → ℕ → List Act → Type 0
 StoresWord r offset word acts = acts ≡ Fill r offset word ∷ []
 
--- The first i of the words are stored, from offset 1 on, one after the other. The record stays claimed, and the pass's others are as they were.
+-- The pass stores the first i of the words into its record r, from offset 1 on, one after the other. The record stays claimed, and its
+-- others are as they were.
 pub record SetsSome {G : Type 0} (table : TableView) (becomes : G → Event → G → Type 0) (r : Rec) (words : List ℕ) (i : ℕ) (a b : SeatView × G) : Type 0 where
   pub acts : List Act
   pub in_turn : InTurn (λ i. StoresWord r (i + FIELDS_OFFSET) (get_or words i 0)) i acts
@@ -54,12 +55,12 @@ pub record SetsSome {G : Type 0} (table : TableView) (becomes : G → Event → 
   pub held : IsClaimed b.0.known r
   pub own : b.0.known.own ≡ map (stored_in r words i) a.0.known.own
 
--- Where the first i words are stored, the pass goes on with so many more. Its seat is one of this table still, and the record stays claimed.
+-- If the first i words were stored, the next `count` are stored, too. The seat is still one of this table, and the record stays claimed.
 abbrev pub SetsMore : {G : Type 0} → TableView → (G → Event → G → Type 0) → Rec → List ℕ → (i count : ℕ) → SeatView × G → SeatView × G → Type 0
 SetsMore {G = G} table becomes r words i count b c =
     IsSeatOf table c.0 × IsClaimed c.0.known r × ((a : SeatView × G) → SetsSome table becomes r words i a b → SetsSome table becomes r words (i + count) a c)
 
--- The words are stored from offset 1 on, one after the other. Of the pass's own records this one has them then, and the others are as they
+-- The pass stores the words into its record r, from offset 1 on, one after the other. This one has them then, and its others are as they
 -- were.
 pub record SetsAll {G : Type 0} (table : TableView) (becomes : G → Event → G → Type 0) (r : Rec) (words : List ℕ) (a b : SeatView × G) : Type 0 where
   pub sized : length words ≡ word_count_of r
@@ -69,27 +70,27 @@ pub record SetsAll {G : Type 0} (table : TableView) (becomes : G → Event → G
   pub later : IsLater a.0.known b.0.known
   pub own : b.0.known.own ≡ map (fill_with r words) a.0.known.own
 
--- The record has the words of this leaf up to the end of its key, and is not made ready.
+-- The record has the words of this leaf up to the end of its key, and is not yet ready.
 abbrev pub IsFilledLeaf : Known → ℕ → List ℕ × ℕ → Type 0
 IsFilledLeaf k n leaf = (words : List ℕ) × IsFilled k (a_leaf n) words × (leaf_words leaf ≡ up_to_key words)
 
--- The record is made ready. Of the pass's own records this one is ready then, and the others are as they were.
+-- The pass makes its record r ready. Its other records are as they were.
 pub record Readies {G : Type 0} (table : TableView) (becomes : G → Event → G → Type 0) (r : Rec) (a b : SeatView × G) : Type 0 where
   pub does : Does table becomes owning (Ready r ∷ []) a b
   pub own : b.0.known.own ≡ map (with_holding r IsReady) a.0.known.own
 
--- The record is released, and is no more among the pass's own; all others are.
+-- The pass releases its record r, which is no more its own. All others are.
 pub record GivesUp {G : Type 0} (table : TableView) (becomes : G → Event → G → Type 0) (r : Rec) (a b : SeatView × G) : Type 0 where
   pub does : Does table becomes owning (Release r ∷ []) a b
   pub own : b.0.known.own ≡ without_record r a.0.known.own
 
--- The pass has just these records, each once, and all of them claimed and not made ready.
+-- The pass has just these records, each once, all claimed and not made ready.
 pub record HoldsJust (k : Known) (recs : List Rec) : Type 0 where
   pub only : All (λ o. (o.holding ≡ Held) × Contains recs o.rec) k.own
   pub each : All (IsClaimed k) recs
   pub apart : AreApart recs
 
--- The records are released, one after the other, and the pass has no record of its own then.
+-- The pass releases its records, one after the other, and has none then.
 pub record GivesUpAll {G : Type 0} (table : TableView) (becomes : G → Event → G → Type 0) (recs : List Rec) (a b : SeatView × G) : Type 0 where
   pub does : Does table becomes owning (map (λ r. Release r) recs) a b
   pub own : b.0.known.own ≡ []

@@ -5,11 +5,11 @@ use Rattle.record_words.specs.Layout.{leaf_start, node_start}
 use Rattle.rowex_records.specs.declared.claiming.RecordKind.{RecordKind}
 use Rattle.rowex_records.specs.declared.claiming.RecordKind.TheVariants.{Node, Leaf}
 
--- the word at which the record of a kind that has this number begins
+-- the word at which record i of a kind begins
 abbrev pub first_word : RecordKind → Layout → ℕ → ℕ
 first_word Node layout i = node_start layout i
 first_word (Leaf first end) layout i = leaf_start layout (first + i)
 
--- of so many records of a kind, from this number on, each begins so many words before the next one
+-- `count` records of a kind, from `number` on, lie `size` words apart
 abbrev pub IsSpan : RecordKind → Layout → (number count size : ℕ) → Type 0
 IsSpan kind layout number count size = (i : ℕ) → i < count → first_word kind layout (number + (i + 1)) ≡ first_word kind layout (number + i) + size

@@ -7,27 +7,27 @@ use Rattle.rowex_table.specs.Seats.{SeatView, TableView}
 use Rattle.rowex_reading.specs.Reads.{Looks, Reads}
 use Rattle.rowex_scanning.specs.declared.ahead.TheConstants.{MOST_AHEAD}
 
--- The entries that the walk of a scan loads: one for each node that it enters, and at most one for each leaf that it reads. A node has
--- two entries or more, so it enters as many nodes as it reads leaves, and at most two more for each node on its way.
+-- How many entries the walk of a scan loads at most: one for each node that it enters, and for each leaf that it reads. A node has two
+-- entries or more. So it enters as many nodes as it reads leaves, and at most two more for each node on its path.
 abbrev pub walk_entries : ℕ → ℕ
 walk_entries limit = 2 * (9 * MAX_BYTES) + 2 * limit + 1
 
--- Loads of a walk, of which so many are of entries: at most 26 for each of these, with the head of the node to which it leads; 8 more for
--- each leaf, which it may touch before it reads it, and of which it loads the entries of one more than the limit; and so many beside.
+-- How many loads a walk makes, of which so many are of entries. They are at most 26 for each entry, with the head of the node to which it
+-- leads. They are 8 more for each leaf, of which one more than the limit may be loaded, and `beside` others.
 pub record AreWalkLoads (beside limit entries loads : ℕ) : Type 0 where
   pub most : entries ≤ walk_entries limit
   pub few : loads ≤ beside + 26 * entries + 8 * (limit + 1)
 
--- the pass makes such loads
+-- the pass makes the loads of a walk with this limit, and `beside` others
 abbrev pub Walks : {G : Type 0} → TableView → (G → Event → G → Type 0) → ℕ → ℕ → SeatView × G → SeatView × G → Type 0
 Walks table becomes beside limit a b = (loads entries : ℕ) × AreWalkLoads beside limit entries loads × Reads table becomes entries loads a b
 
--- the entries that a scan loads: one in each node on the way of its search, and those of its walk
+-- how many entries a scan loads at most: one in each node on the path of its search, and those of its walk
 abbrev pub scan_entries : ℕ → ℕ
 scan_entries limit = 9 * MAX_BYTES + walk_entries limit
 
--- The loads of a scan below the root, by its entries: as for a walk; its search has read a leaf, and it may read one head and that leaf
--- once more.
+-- How many loads a scan makes below the root at most, by the entries that it loads. Beside those of its walk, its search has read a leaf,
+-- and it may read one head and that leaf once more.
 abbrev pub loads_by : ℕ → ℕ → ℕ
 loads_by limit entries = LEAF_FIELDS + (HEAD_WORDS + LEAF_FIELDS) + 26 * entries + 8 * (limit + 1)
 
@@ -36,14 +36,14 @@ pub record AreScanLoads (limit entries loads : ℕ) : Type 0 where
   pub most : entries ≤ scan_entries limit
   pub few : loads ≤ loads_by limit entries
 
--- the pass loads the root, and makes such loads
+-- the pass loads the root, and makes no more loads below it than a scan with this limit may
 abbrev pub Scans : {G : Type 0} → TableView → (G → Event → G → Type 0) → ℕ → SeatView × G → SeatView × G → Type 0
 Scans table becomes limit a b = (loads entries : ℕ) × AreScanLoads limit entries loads × Looks table becomes entries loads a b
 
--- the loads of a scan below the root, whatever it finds
+-- how many loads a scan with this limit makes below the root at most, whatever it finds
 abbrev pub scan_loads : ℕ → ℕ
 scan_loads limit = loads_by limit (scan_entries limit)
 
--- A walk that took so many pairs has looked at 16 leaves more at most: it makes no more loads than with this limit, if that is the lesser.
+-- The limit that bounds the loads of a walk that took so many pairs. It has looked at 16 leaves more at most.
 abbrev pub limit_by : ℕ → ℕ → ℕ
 limit_by limit taken = min limit (taken + MOST_AHEAD)

@@ -17,12 +17,12 @@ use Rattle.rowex_reading.specs.declared.descent.Found.TheVariants.{Leaf as Found
 use Rattle.rowex_scanning.specs.declared.start.SearchEnd.{SearchEnd}
 use Rattle.rowex_scanning.specs.declared.start.Start.{Start}
 
--- The search for the key has gone along this way since version m, through one node at least, and has ended so.
+-- The search for the key has gone along this path since version m, through one node at least, and ended at this leaf.
 abbrev pub IsSearchEnd : Layout → Known → ℕ → Key → List PathNode → SearchEnd → Type 0
 IsSearchEnd layout k m key way found = (0 < length way) × (value : ℕ) × IsWayOf layout k m key way (FoundLeaf found.number value found.mismatch)
 
--- The leaf at which the search has ended stands at the place, with a key that does not come before this one; all that is behind it comes
--- later.
+-- The leaf at which the search has ended stands in the topmost frame's slot. Its key does not come before this one, and all that is behind
+-- it comes later.
 pub record IsFirst (d : Direction) (k : Known) (m : ℕ) (key : Key) (number : ℕ) (top : PathNode) (frames : List PathNode) : Type 0 where
   pub found : Key
   pub value : ℕ
@@ -32,7 +32,7 @@ pub record IsFirst (d : Direction) (k : Known) (m : ℕ) (key : Key) (number : �
   pub reached : IsNoLater d key found
   pub bound : IsBound d k m key (record top { slot = gap_behind d top.slot }) frames
 
--- the walk of any scan that starts at the key, with no pairs so far
+-- the walk of any scan that starts at the key stands here, with no pairs so far
 abbrev pub IsWalkFrom : Direction → Known → ℕ → Key → PathNode → List PathNode → Type 0
 IsWalkFrom d k m key top frames = (g : Range) → first_key d g ≡ key → IsWalk k m (d, g) top frames (tally_of_number 0)
 
@@ -42,12 +42,12 @@ IsBegun d k m key number frames start = MatchBool start.leaf
     (IsFirst d k m key number start.top frames × IsWalkFrom d k m key (record start.top { slot = gap_before d start.top.slot }) frames)
     (IsBound d k m key start.top frames × IsWalkFrom d k m key start.top frames)
 
--- Where a scan from the key starts on the way of the key's search, which has ended at this leaf.
+-- Where a scan from the key starts on the path of the key's search, which has ended at this leaf.
 pub record IsStart (d : Direction) (k : Known) (m : ℕ) (key : Key) (way : List PathNode) (number : ℕ) (start : Start) : Type 0 where
   pub within : start.level < length way
   pub begun : IsBegun d k m key number (take start.level way) start
 
--- The scan starts behind the leaf, at which the search has ended: its key is below this one, and so is all that stands left of it.
+-- The scan starts behind the leaf at which the search has ended. That leaf's key is below this one, and so is all that stands left of it.
 pub record IsBehindLeaf (k : Known) (m : ℕ) (key : Key) (way : List PathNode) (number : ℕ) (start : Start) : Type 0 where
   pub apart : start.leaf ≡ false
   pub last : start.level + 1 ≡ length way
@@ -60,7 +60,8 @@ pub record IsBehindLeaf (k : Known) (m : ℕ) (key : Key) (way : List PathNode) 
   pub low : IsBefore found key
   pub beneath : Sure k (λ s. IsPastKey Downwards s m key step.number step.slot)
 
--- Where a scan upwards starts, and what stands left of there: all of it is below the key, or the leaf is between.
+-- Where a scan upwards starts, and what stands left of there. All of it is below the key, or the scan starts behind the search's leaf
+-- (`IsBehindLeaf`).
 pub record IsParting (k : Known) (m : ℕ) (key : Key) (way : List PathNode) (number : ℕ) (start : Start) : Type 0 where
   pub upwards : IsStart Upwards k m key way number start
   pub of_way : (s : PathNode) → slice_get way start.level ≡ Some s → start.top ≡ record s { slot = start.top.slot }

@@ -6,32 +6,32 @@ use Rattle.version_laws.specs.Scan.{Pair, Range, Frame as Stage, in_order_taken}
 use Rattle.version_laws.specs.Directions.{IsScanBy}
 use Rattle.packed_pairs.specs.declared.direction.Direction.{Direction}
 
--- How many pairs were taken, and what is said of them; the newest one stands first.
+-- How many pairs a scan has taken, and what is said of them, where the newest one stands first.
 pub record Tally : Type 1 where
   pub size : ℕ
   pub says : List Pair → Type 0
 
--- these are such pairs
+-- the tally tells these pairs
 abbrev pub AreTallied : Tally → List Pair → Type 0
 AreTallied t taken = (t.size ≡ length taken) × t.says taken
 
--- no pair was taken,
+-- the tally tells that no pair was taken
 abbrev pub IsNone : Tally → Type 0
 IsNone t = (t.size ≡ 0) × t.says []
 
--- none more,
+-- the second tally tells the same pairs as the first
 abbrev pub IsKept : Tally → Tally → Type 0
 IsKept t u = (u.size ≡ t.size) × ((taken : List Pair) → t.says taken → u.says taken)
 
--- or one more
+-- the second tally tells one pair more, with this key and value
 abbrev pub IsOneMore : Tally → Key → ℕ → Tally → Type 0
 IsOneMore t key value u = (u.size ≡ t.size + 1) × ((taken : List Pair) → t.says taken → u.says (record { key = key; value = value } ∷ taken))
 
--- nothing is said of these pairs but their number
+-- the tally that tells nothing of its pairs but their number
 abbrev pub tally_of_number : ℕ → Tally
 tally_of_number n = record { size = n; says = λ taken. Unit {0} }
 
--- these are the pairs, in the order in which they were taken
+-- the tally that tells these pairs, in the order in which they were taken
 abbrev pub tally_of_pairs : List (Key × ℕ) → Tally
 tally_of_pairs pairs = record { size = length pairs; says = λ taken. pairs ≡ in_order_taken taken }
 
@@ -40,10 +40,10 @@ abbrev pub values_taken : List Pair → List ℕ
 values_taken [] = []
 values_taken (x ∷ xs) = values_taken xs ++ x.value ∷ []
 
--- these are the values
+-- the tally that tells the values of its pairs
 abbrev pub tally_of_values : List ℕ → Tally
 tally_of_values values = record { size = length values; says = λ taken. values ≡ values_taken taken }
 
--- a scan has taken such pairs on this way
+-- a scan has taken pairs that the tally tells, and stands at these frames
 abbrev pub IsTalliedScan : Direction → Past → ℕ → Range → List Stage → Tally → Type 0
 IsTalliedScan d s m g fs t = (taken : List Pair) × AreTallied t taken × IsScanBy d s m g fs taken

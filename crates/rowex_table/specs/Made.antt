@@ -32,11 +32,11 @@ nodes_of locks = map (λ (l : Locked). l.node) locks
 abbrev pub HoldsMade : Known → List Made → Type 0
 HoldsMade k news = (k.own ≡ map (held_as Held) news) × AreApart (recs_of news)
 
--- the first of them, up to here, are ready
+-- the pass's own records are exactly these, of which those of `done` are ready
 abbrev pub HasReadied : Known → List Made → List Made → Type 0
 HasReadied k done todo = (k.own ≡ map (held_as Ready) done ++ map (held_as Held) todo) × AreApart (recs_of (done ++ todo))
 
--- The pass is the one that knew k, has the same pin, has seen more changes by others alone, and has forgotten no past fact.
+-- The pass that knew k knows j now. It has the same pin, has seen more changes by others alone, and has forgotten no fact.
 pub record IsLater (k j : Known) : Type 0 where
   pub pass : j.pass ≡ k.pass
   pub pin : j.pin ≡ k.pin

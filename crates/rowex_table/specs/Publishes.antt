@@ -15,9 +15,8 @@ use Rattle.rowex_table.specs.Rule.{MayStep}
 use Rattle.rowex_table.specs.Made.{nodes_of}
 use Rattle.rowex_table.specs.Runs.{silent}
 
--- The pass knew k and has published the change x. It has seen all changes now: `before` are those before its own one, which fits
--- them; `was` is what the key's value was then. Just the records `gone` are its own, unlinked by it; just the nodes `kept`, and the
--- anchor if it was so before, are locked by it.
+-- The pass that knew k has published the change x, and has seen all changes now. Those before x fit it, and `was` is the key's value then.
+-- Just the records `gone` are its own, which it has unlinked. Just the nodes `kept` are locked by it, and the anchor if it was before.
 pub record HasPublished (k j : Known) (x : Change) (was : Option ℕ) (gone : List Rec) (kept : List ℕ) : Type 0 where
   pub pass : j.pass ≡ k.pass
   pub pin : j.pin ≡ k.pin
@@ -31,8 +30,8 @@ pub record HasPublished (k j : Known) (x : Change) (was : Option ℕ) (gone : Li
   pub locks : LocksJust j.locks kept
   pub anchor : (k.anchor ≡ None → j.anchor ≡ None) × (IsSome k.anchor → IsSome j.anchor)
 
--- A pass that knows k may publish the change x by a store of the word at the spot; and when it has, it knows what HasPublished
--- says, where `kept` are those of its locked nodes that are not among the records `gone`.
+-- A pass that knows k may publish the change x by a store of the word at the spot. It then knows what `HasPublished` says. `kept` are those
+-- of its locked nodes that are not among the records `gone`.
 pub record Publishes (layout : Layout) (k : Known) (spot : Spot) (w : ℕ) (x : Change) (was : Option ℕ) (gone : List Rec) : Type 0 where
   pub may : MayStep layout (λ found. Publish spot w) k
   pub gives : (j : Known) (kept : List ℕ) → AreKept (nodes_of k.locks) gone kept → IsEvent layout (Publish spot w) silent k j → HasPublished k j x was gone kept

@@ -15,7 +15,7 @@ use Rattle.rowex_core.specs.Words.{state_at}
 use Rattle.rowex_core.specs.Events.{IsInTree}
 use Rattle.rowex_core.specs.Knowing.{Knows}
 
--- the record is the pass's own, held this way, and these are its words but the state
+-- the record is the pass's own, held this way, and has these words behind its state
 abbrev pub OwnsAs : Known → Rec → Holding → List ℕ → Type 0
 OwnsAs k r h words = Contains k.own (record { rec = r; holding = h; words = words })
 
@@ -23,7 +23,7 @@ OwnsAs k r h words = Contains k.own (record { rec = r; holding = h; words = word
 abbrev pub IsClaimed : Known → Rec → Type 0
 IsClaimed k r = (words : List ℕ) × (length words ≡ word_count_of r) × OwnsAs k r Held words
 
--- The pass may lock: the anchor always, and a node of which it knows that it stands in the tree, if it is live.
+-- The pass may lock the target: the anchor always, and a node that it knows to stand in the tree, if it is live.
 abbrev pub MayLock : Layout → Target → Known → Type 0
 MayLock layout Anchor k = Unit {0}
 MayLock layout (NodeTarget n) k = (c : Core) → IsLawful c → c.layout ≡ layout → Knows c k → state_at c (a_node n) ≡ state_word Live → IsInTree c n

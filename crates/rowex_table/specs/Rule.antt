@@ -31,16 +31,16 @@ use Rattle.rowex_table.specs.declared.traces.TracedView.{TracedView}
 use Rattle.rowex_table.specs.declared.traces.TracedView.TheVariants.{Spent, Dealer, Founder, Pass, Pair, Witness, Follower}
 use Rattle.rowex_table.specs.Traces.{HasTraces, IsNextStep, IsShownRun, RunBeginsWith, untraced, view_of}
 
--- some seat has this number
+-- some view is of the pass of this number
 abbrev pub IsSomeSeats : List TracedView → ℕ → Type 0
 IsSomeSeats views q = (i : ℕ) × (v : TracedView) × (get_elem? views i ≡ some v) × IsViewOf (view_of v) q
 
--- what a seat knows is true of the core, and its traces of the run
+-- what a view tells is true of the core, and its traces are of the run
 abbrev pub IsTrueOf : Core → List Event → TracedView → Type 0
 IsTrueOf core run v = Knowing core (view_of v) × HasTraces run v
 
--- There is a lawful core with this layout, which the words show. A list of steps, the run, leads to it from a new table. What each seat knows
--- is true of both. No two seats have one number, and each number of a pass is some seat's.
+-- The rule of a table. A run of steps leads from a new table to a lawful core of this layout, which the words show. What each view tells is
+-- true of both. No two views have one number, and each number of a pass is in some view.
 pub record Ruled {S : Type 0} (layout : Layout) (s : State S TracedView) : Type 0 where
   pub core : Core
   pub lawful : IsLawful core
@@ -74,25 +74,25 @@ opening_of q = record {
 abbrev pub load_of : List ℕ → Act
 load_of words = Load (record { ref_ptr = (0, 0); now = words })
 
--- What pass 0 knows of a table that was made of these words: it has loaded the leaves of the tree that they show, by an insertion of each.
+-- What pass 0 knows of a table that was made of these words. It has loaded the leaves of the tree that they show, by an insertion of each.
 abbrev pub loader_of : Layout → List ℕ → Known
 loader_of layout words = record (learned (opening layout) (load_of words) (opening_of 0)) { notes = added_notes 0 (items_of (loaded_tree layout words)) }
 
--- the trace of a table that was made with words: its load alone
+-- the trace of a pass that has loaded these words, with no other step
 abbrev pub load_trace : List ℕ → Trace
 load_trace words = record { events = record { pass = 0; act = load_of words } ∷ []; asides = 0; touches = 0 }
 
--- the first view of a table of these words, where they show loaded pairs or a new table
+-- the first view of a table of these words, which are loaded pairs or those of a new table
 abbrev pub first_view : Layout → Bool → List ℕ → TracedView
 first_view layout true words = Founder (loader_of layout words) (load_trace words) 1
 first_view layout false words = Dealer 0
 
--- what a pass's seat knows, and its trace
+-- what the pass of a view knows
 abbrev pub known_of : TracedView → Known
 known_of (Pass k t) = k
 known_of _ = opening_of 0
 
--- the steps of a pass; of another view none
+-- the trace of the pass of a view; of another view, an empty one
 abbrev pub trace_of : TracedView → Trace
 trace_of (Pass k t) = t
 trace_of _ = untraced
@@ -101,23 +101,23 @@ trace_of _ = untraced
 abbrev pub IsOfPass : {S : Type 0} → Me S TracedView → ℕ → Type 0
 IsOfPass me q = (me ≡ (Pass (known_of me.0) (trace_of me.0), [])) × ((known_of me.0).pass ≡ q)
 
--- the root, one of the slots that a node may have, or a value
+-- the spot is the root, a value, or one of the slots that a node has
 abbrev pub HasEntrySlot : Spot → Type 0
 HasEntrySlot Root = Unit {0}
 HasEntrySlot (Value l) = Unit {0}
 HasEntrySlot (Slot n j) = j < MAX_ENTRIES
 
--- the root, such a slot of a node of the table, or the value of a leaf of the table
+-- the spot is one of a table of this layout
 abbrev pub HasSpot : Layout → Spot → Type 0
 HasSpot layout Root = Unit {0}
 HasSpot layout (Value l) = l < layout.leaves
 HasSpot layout (Slot n j) = (n < layout.nodes) × (j < MAX_ENTRIES)
 
--- the location is one of the table's, and stands at this word
+-- the location is in the table, at this word
 abbrev pub IsAddressOf : Layout → Location → ℕ → Type 0
 IsAddressOf layout location word = (word ≡ address layout location) × IsInTable layout location
 
--- the record is one of the table's, and begins at this word
+-- the record is in the table, and begins at this word
 abbrev pub IsStartOf : Layout → Rec → ℕ → Type 0
 IsStartOf layout r word = HasRecord layout r × (word ≡ address layout (word_of r 0))
 
@@ -126,17 +126,17 @@ abbrev pub record_number : Rec → ℕ
 record_number (a_node n) = n
 record_number (a_leaf l) = l
 
--- It is a node's record, of the table, and begins at this word; or a leaf's.
+-- the record is that of a node in the table, and begins at this word
 abbrev pub IsNodeRecordAt : Layout → RecordAt → Type 0
 IsNodeRecordAt layout at = (at.rec ≡ a_node (record_number at.rec)) × IsStartOf layout (a_node (record_number at.rec)) at.start
 
--- the record is a leaf's, and begins at this word
+-- the record is that of a leaf in the table, and begins at this word
 abbrev pub IsLeafRecordAt : Layout → RecordAt → Type 0
 IsLeafRecordAt layout at = (at.rec ≡ a_leaf (record_number at.rec)) × IsStartOf layout (a_leaf (record_number at.rec)) at.start
 
 -- Events
 
--- the act with the word that it finds; a store finds none
+-- The act, as one that finds this word. A store finds none.
 abbrev pub found_by : Act → ℕ → Act
 found_by (Claim r found) w = Claim r w
 found_by (LoadRef spot word) w = LoadRef spot w
@@ -149,19 +149,19 @@ found_by (LoadState r word) w = LoadState r w
 found_by (GiveBack r epoch found) w = GiveBack r epoch w
 found_by act w = act
 
--- The pass may make the step at a table of this layout: it is legal in every lawful core of which what the pass knows is
--- true, where `act` takes the word that stands there.
+-- The pass may make the step at a table of this layout. It is legal in each lawful core of which what the pass knows is true. `act` takes
+-- the word that stands there.
 abbrev pub MayStep : Layout → (ℕ → Act) → Known → Type 0
 MayStep layout act k = (c : Core) → IsLawful c → c.layout ≡ layout → Knows c k → Legal c k.pass (act (word_at c (location_of k.pass (act 0))))
 
--- an act of a pass happens: it is legal, and the pass learns of it
+-- The act of a pass happens: it is legal, the pass learns of it, and it is the next step of the table's run.
 abbrev pub Happens : Option Layout → Act → (Known → List Note) → TracedView → TracedView → Type 0
 Happens (Some layout) act said (Pass k t) w =
     (j : Known) × (u : Trace) × (event : IsEvent layout act said k j) × (w ≡ Pass j u) × IsNextStep layout k.pass act event.core t.events u.events × (u.asides ≡ t.asides) ×
     (u.touches ≡ t.touches)
 Happens _ act said v w = Unit {0}
 
--- a pass's step is an event, which finds the word that the step tells, and the next one of the table's run
+-- a pass's step, as an event that finds the word which the step tells
 abbrev pub did : {S : Type 0} → Option Layout → Act → (Known → List Note) → Step S → Me S TracedView → ℕ → Me S TracedView → Type 0
 did layout act said st m told m' = (m'.1 ≡ m.1) × Happens layout (found_by act told) said m.0 m'.0
 
@@ -178,13 +178,13 @@ touching st m told m' = (m'.1 ≡ m.1) × (m'.0 ≡ touched_once m.0)
 
 -- Seats dealt, and two that meet
 
--- a dealer who has dealt one seat more
+-- the view of a dealer that has dealt one seat more
 abbrev pub next_dealer : TracedView → TracedView
 next_dealer (Dealer m) = Dealer (m + 1)
 next_dealer (Founder k t m) = Dealer m
 next_dealer v = v
 
--- the seat that is dealt next
+-- the view of the seat that a dealer deals next
 abbrev pub dealt : TracedView → TracedView
 dealt (Dealer m) = Pass (opening_of m) untraced
 dealt (Founder k t m) = Pass k t
@@ -194,48 +194,48 @@ dealt _ = Spent
 abbrev pub IsFounded : Layout → Bool → List ℕ → Type 0
 IsFounded layout loads words = Ruled {S = Unit {0}} layout (first_state words [] (first_view layout loads words))
 
--- The view once the passes below this number have been dealt, and that of the pass of this number, where the table had this view first.
+-- the dealer's view once the passes below this number have been dealt, from the table's first view on
 abbrev pub dealer_at : TracedView → ℕ → TracedView
 dealer_at first zero = first
 dealer_at first (suc q) = Dealer (suc q)
 
--- the seat of the pass of this number, where the table had this view first
+-- the view of the pass of this number when it is dealt, by the table's first view
 abbrev pub dealt_at : TracedView → ℕ → TracedView
 dealt_at first zero = dealt first
 dealt_at first (suc q) = Pass (opening_of (suc q)) untraced
 
--- the seats of two passes as one
+-- the views of two passes as one
 abbrev pub paired : TracedView → TracedView → TracedView
 paired (Pass j t) (Pass k u) = Pair j t k u
 paired v w = Spent
 
--- the first of them
+-- the view of the first of two passes
 abbrev pub first_of_two : TracedView → TracedView
 first_of_two (Pair j t k u) = Pass j t
 first_of_two v = v
 
--- and the second
+-- the view of the second of two passes
 abbrev pub second_of_two : TracedView → TracedView
 second_of_two (Pair j t k u) = Pass k u
 second_of_two v = Spent
 
--- a pass that has seen these changes
+-- what a pass knows, with these changes as its front
 abbrev pub with_front : List Change → Known → Known
 with_front front k = record k { front = front }
 
--- Two passes of different numbers that knew j and k now know j' and k': both have seen one list of changes, each of which
--- was legal and made by a pass of the table; it begins with what each had seen, and goes on by changes of others.
+-- Two passes of different numbers, which knew j and k, now know j' and k'. Both have seen one list of legal changes, each by a pass of the
+-- table. It begins with what each had seen, and goes on by changes of others.
 abbrev pub SeatsHaveMet : Layout → Known → Known → Known → Known → Type 0
 SeatsHaveMet layout j k j' k' =
     (front : List Change) × (j' ≡ with_front front j) × (k' ≡ with_front front k) × LegalFront front × OthersGoOn j.pass j.front front × OthersGoOn k.pass k.front front ×
     (j.pass ≢ k.pass) × All (λ x. x.pass < layout.passes) front
 
--- The pass that knew k, and of the steps of t, knows j and of the steps of u now. It has been shown a run (`IsShownRun`), which is counted as one
--- aside.
+-- The pass that knew k, and of the steps of t, knows j now, and of the steps of u. It has been shown a run (`IsShownRun`), which is counted
+-- as one aside.
 abbrev pub HasBeenShown : Layout → Known → Trace → Known → Trace → Type 0
 HasBeenShown layout k t j u = IsShownRun layout k.pass t.events u.events j.front × (u.asides ≡ suc t.asides) × (u.touches ≡ t.touches)
 
--- Two passes meet: both know of the same changes and of the same steps then.
+-- Two passes meet: afterwards both know of the same changes and of the same steps.
 abbrev pub Meeting : Option Layout → TracedView → TracedView → Type 0
 Meeting (Some layout) (Pair j t k u) w =
     (j' : Known) × (t' : Trace) × (k' : Known) × (u' : Trace) × (w ≡ Pair j' t' k' u') × SeatsHaveMet layout j k j' k' ×
@@ -248,43 +248,43 @@ met layout st m told m' = (m'.1 ≡ m.1) × Meeting layout m.0 m'.0
 
 -- Stamps, and passes that follow them
 
--- the changes that a stamp's seat knows to have been made, and the steps
+-- the changes that a stamp tells to have been made
 abbrev pub witnessed : TracedView → List Change
 witnessed (Witness front events) = front
 witnessed v = []
 
--- the steps of which a stamp tells
+-- the steps that a stamp tells to have been made
 abbrev pub witnessed_steps : TracedView → List Event
 witnessed_steps (Witness front events) = events
 witnessed_steps v = []
 
--- the seat is a stamp's, and holds nothing
+-- the seat is that of a stamp, and holds nothing else
 abbrev pub IsOfStamp : {S : Type 0} → Me S TracedView → Type 0
 IsOfStamp me = me ≡ (Witness (witnessed me.0) (witnessed_steps me.0), [])
 
--- the stamp of a pass
+-- the view of the stamp that a pass makes
 abbrev pub stamped : TracedView → TracedView
 stamped (Pass k t) = Witness k.front t.events
 stamped v = Spent
 
--- the pass that has made the stamp
+-- the view of a pass that has made a stamp
 abbrev pub stamping : TracedView → TracedView
 stamping (Pass k t) = Pass k (record { events = t.events; asides = suc t.asides; touches = t.touches })
 stamping v = v
 
--- a pass with the stamp that it follows
+-- the view of a pass with that of the stamp that it follows
 abbrev pub following : TracedView → TracedView → TracedView
 following (Pass k t) (Witness front events) = Follower k t front events
 following v w = Spent
 
--- The pass that knew k knows j now: it has seen a list of changes, each of which was legal and made by a pass of the table. It begins
--- with the stamp's, and with what the pass had seen, and goes on from there by changes of others.
+-- The pass that knew k knows j now. It has seen a list of legal changes, each by a pass of the table. The list begins with the stamp's, and
+-- with what the pass had seen, and goes on by changes of others.
 abbrev pub HasFollowed : Layout → List Change → Known → Known → Type 0
 HasFollowed layout stamp k j =
     (front : List Change) × (j ≡ with_front front k) × LegalFront front × OthersGoOn k.pass k.front front × BeginsWith front stamp ×
     All (λ x. x.pass < layout.passes) front
 
--- A pass follows a stamp: it knows of the stamp's changes and steps then, and is shown a run that begins with them.
+-- A pass follows a stamp. It knows of the stamp's changes and steps then, and is shown a run that begins with them.
 abbrev pub Following : Option Layout → TracedView → TracedView → Type 0
 Following (Some layout) (Follower k t stamp events) w =
     (j : Known) × (u : Trace) × (w ≡ Pass j u) × HasFollowed layout stamp k j × HasBeenShown layout k t j u × RunBeginsWith u.events events

@@ -28,23 +28,22 @@ IsTold {G = G} becomes (event ∷ events) g h = (f : G) × becomes g event f × 
 abbrev pub events_of : ℕ → List Act → List Event
 events_of q acts = map (λ act. record { pass = q; act = act }) acts
 
--- the most words that a pass touches beside a load of an entry: four of the node before it, and behind it seven of the record to which the
--- entry leads
+-- The most words that a pass touches beside a load of an entry. They are four of the entry's node, and seven of the record to which the
+-- entry leads.
 abbrev pub entry_touches : ℕ
 entry_touches = 11
 
--- and the most beside each step: none, where no entry is loaded
+-- the most words that a pass touches beside a step: none, if it loads no entry
 abbrev pub most_touches : Act → ℕ
 most_touches (LoadRef (Slot n i) word) = entry_touches
 most_touches act = 0
 
--- Beside this step the count of touches rose from the one to the other.
+-- beside this step the count of touches may rise from `before` to `after`
 abbrev pub MayTouch : Act → ℕ → ℕ → Type 0
 MayTouch act before after = (before ≤ after) × (after ≤ before + most_touches act)
 
--- The seat stays one seat; its pass makes this one atomic step, and `said` are the notes that come with it; and the gate is told it. The step is
--- the next one of a run. The steps before it lead from a new table to its core, and begin with those of which the pass knew. Beside it the pass
--- may touch some words.
+-- The seat's pass makes this one atomic step, with which the notes `said` come, and the gate is told it. It is the next step of a run. The
+-- steps before it lead from a new table to its core, and begin with those that the pass knew. It may touch some words beside it.
 pub record StepsWith {G : Type 0} (table : TableView) (becomes : G → Event → G → Type 0) (act : Act) (said : Known → List Note) (a b : SeatView × G) : Type 0 where
   pub seat : IsSame a.0 b.0
   pub atomic : IsAtomic act
@@ -57,9 +56,9 @@ pub record StepsWith {G : Type 0} (table : TableView) (becomes : G → Event →
 abbrev pub root_load : ℕ → ℕ → Event
 root_load q word = record { pass = q; act = LoadRef Root word }
 
--- Between these views of a seat its pass has loaded the root, as `SeesAllAtRoot` says. The steps `run` lead from a new table to the core of that
--- load, and begin with those of which the pass knew at first. In the steps of which it knows at last, the load stands right behind `run`. No
--- load of the root by this pass stands behind it there.
+-- Between these views of a seat its pass has loaded the root, as `SeesAllAtRoot` says. The steps `run` lead from a new table to the core of
+-- that load, and begin with those that the pass knew at first. In the steps that it knows at last, the load stands right behind `run`. No
+-- later load of the root by this pass stands there.
 pub record SeesAllOfRun (layout : Layout) (s t : SeatView) : Type 0 where
   pub sees : SeesAllAtRoot layout s.known t.known
   pub run : List Event
@@ -71,7 +70,7 @@ pub record SeesAllOfRun (layout : Layout) (s t : SeatView) : Type 0 where
   pub until : t.trace ≡ run ++ root_load s.known.pass root ∷ rest
   pub last : All LeavesFresh (own_acts s.known.pass rest)
 
--- the same with no note
+-- The seat's pass makes this one atomic step, with no note, and the gate is told it.
 abbrev pub Steps : {G : Type 0} → TableView → (G → Event → G → Type 0) → Act → SeatView × G → SeatView × G → Type 0
 Steps table becomes act a b = StepsWith table becomes act silent a b
 
@@ -80,19 +79,19 @@ abbrev pub Runs : {G : Type 0} → TableView → (G → Event → G → Type 0) 
 Runs table becomes [] a b = b ≡ a
 Runs {G = G} table becomes (act ∷ acts) a b = (m : SeatView × G) × Steps table becomes act a m × Runs table becomes acts m b
 
--- It makes these steps, and then one more with which these notes come.
+-- The seat's pass makes these steps, one after the other, and then one more with which the notes `said` come. The gate is told each.
 abbrev pub Ends : {G : Type 0} → TableView → (G → Event → G → Type 0) → List Act → Act → (Known → List Note) → SeatView × G → SeatView × G → Type 0
 Ends {G = G} table becomes acts act said a b = (m : SeatView × G) × Runs table becomes acts a m × StepsWith table becomes act said m b
 
--- The seat stays one seat; its pass makes these steps, and no others, and the gate is told each. Of what the pass knew before,
--- `changed` takes what they may change from what it knows after; the rest stays, but that they are counted.
+-- The seat's pass makes these steps and no others, and the gate is told each. Of what it knew, `changed` takes what they may change from
+-- what it knows after. The rest stays, but that they are counted.
 pub record Does {G : Type 0} (table : TableView) (becomes : G → Event → G → Type 0) (changed : Known → Known → Known)
     (acts : List Act) (a b : SeatView × G) : Type 0 where
   pub seat : IsSame a.0 b.0
   pub steps : Runs table becomes acts a b
   pub rest : b.0.known ≡ record (changed a.0.known b.0.known) { steps = a.0.known.steps + length acts }
 
--- the steps of the first n, in rising number and one after the other
+-- the acts are those of parts 0 to n - 1, one part after the other
 abbrev pub InTurn : (ℕ → List Act → Type 0) → ℕ → List Act → Type 0
 InTurn Parts zero acts = acts ≡ []
 InTurn Parts (suc n) acts = (before : List Act) × (last : List Act) × InTurn Parts n before × Parts n last × (acts ≡ before ++ last)

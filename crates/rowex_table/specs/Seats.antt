@@ -9,14 +9,14 @@ use Rattle.rowex_table.specs.declared.traces.TracedView.{TracedView}
 use Rattle.rowex_table.specs.Rule.{opening_of, loader_of, load_trace, dealt_at, known_of, trace_of}
 use Rattle.rowex_table.specs.Traces.{IsShownRun}
 
--- a table: which one it is, and how many passes and records it has
+-- a table: which one it is, and its layout
 pub record TableView : Type 0 where
   pub id : TableId
   pub layout : Layout
 
--- A seat: its table, which one it is there, and what its pass knows. The trace is a list of steps of all passes, up to the last of which this
--- pass knows: by the rule of the table its run begins with it. `asides` says how often the pass has made a stamp, has followed one, or has met
--- another pass, and `touches` how often it has touched a word, which is no step.
+-- A seat: its table, which one it is there, and what its pass knows. The trace is a list of steps of all passes, up to the last that this
+-- pass knows. `asides` says how often the pass has made or followed a stamp, or met another pass. `touches` says how often it has touched a
+-- word, which is no step.
 pub record SeatView : Type 0 where
   pub table : TableId
   pub id : ℕ
@@ -39,31 +39,31 @@ IsStampOf table s = s.table ≡ table.id
 abbrev pub IsSeatOf : TableView → SeatView → Type 0
 IsSeatOf table s = s.table ≡ table.id
 
--- and its pass is one of the table's passes
+-- the seat is one of this table, and its pass is one of the table's
 abbrev pub IsPassOf : TableView → SeatView → Type 0
 IsPassOf table s = IsSeatOf table s × (s.known.pass < table.layout.passes)
 
--- one seat of one pass, before and after
+-- the two views are of one seat of one pass
 abbrev pub IsOneSeat : SeatView → SeatView → Type 0
 IsOneSeat s t = (t.table ≡ s.table) × (t.id ≡ s.id) × (t.known.pass ≡ s.known.pass)
 
--- and meanwhile the pass has made no stamp, has followed none and has met no other pass
+-- The two views are of one seat. Meanwhile its pass has made or followed no stamp, and met no other pass.
 abbrev pub IsSame : SeatView → SeatView → Type 0
 IsSame s t = (t.table ≡ s.table) × (t.id ≡ s.id) × (t.known.pass ≡ s.known.pass) × (t.asides ≡ s.asides)
 
--- the same seat, once its pass has touched so many words more
+-- the seat, once its pass has touched n words more
 abbrev pub touched : ℕ → SeatView → SeatView
 touched n s = record s { touches = s.touches + n }
 
--- The pass has touched some words, so many at most, and nothing else of its seat has changed.
+-- The pass has touched some words, at most so many. Nothing else of its seat has changed.
 abbrev pub HasTouched : ℕ → SeatView → SeatView → Type 0
 HasTouched most s t = (n : ℕ) × (n ≤ most) × (t ≡ touched n s)
 
--- the same seat, if so many words had been touched
+-- the seat, as if its pass had touched n words so far
 abbrev pub touched_to : ℕ → SeatView → SeatView
 touched_to n s = record s { touches = n }
 
--- The pass is shown a run, and the changes that it has made (`IsShownRun`), as where it follows a stamp or meets another pass.
+-- The pass is shown a run, and the changes that were made in it (`IsShownRun`), as where it follows a stamp or meets another pass.
 pub record IsShownAll (layout : Layout) (s t : SeatView) : Type 0 where
   pub pass : t.known.pass ≡ s.known.pass
   pub run : IsShownRun layout s.known.pass s.trace t.trace t.known.front
@@ -74,16 +74,16 @@ pub record IsShownAll (layout : Layout) (s t : SeatView) : Type 0 where
 abbrev pub IsNewSeat : TableView → SeatView → Type 0
 IsNewSeat table s = IsPassOf table s × (s.known ≡ opening_of s.known.pass) × (s.trace ≡ []) × (s.asides ≡ 0)
 
--- and its pass has this number
+-- the seat of a new pass of this table, which has this number
 abbrev pub IsNewSeatOf : TableView → ℕ → SeatView → Type 0
 IsNewSeatOf table q s = IsSeatOf table s × (s.known ≡ opening_of q) × (s.trace ≡ []) × (s.asides ≡ 0)
 
--- The seat of pass 0 of a table that was made of these words: it has loaded the leaves of the tree that they show.
+-- The seat of pass 0 of a table that was made of these words. It has loaded the leaves of the tree that they show.
 abbrev pub IsLoaderSeat : TableView → List ℕ → SeatView → Type 0
 IsLoaderSeat table words s =
     IsSeatOf table s × (s.known ≡ loader_of table.layout words) × (s.trace ≡ (load_trace words).events) × (s.asides ≡ 0)
 
--- the seat of the pass of this number, of a table that had this view first
+-- the seat of the pass of this number when it is dealt, by the table's first view
 abbrev pub IsDealtSeat : TableView → TracedView → ℕ → SeatView → Type 0
 IsDealtSeat table first q s =
     IsSeatOf table s × (s.known ≡ known_of (dealt_at first q)) × (s.trace ≡ (trace_of (dealt_at first q)).events) × (s.asides ≡ (trace_of (dealt_at first q)).asides)

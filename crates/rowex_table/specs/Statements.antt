@@ -24,13 +24,13 @@ abbrev pub GateIsToldEachStep : {G : Type 0} → (G → Event → G → Type 0) 
 GateIsToldEachStep {G = G} becomes = (table : TableView) (acts : List Act) (a b : SeatView × G) → Runs table becomes acts a b →
     IsTold becomes (events_of a.0.known.pass acts) a.1 b.1
 
--- with notes by what the pass knows
+-- what a pass knows, with its notes and those of `said`
 abbrev pub with_notes : (Known → List Note) → Known → Known
 with_notes said k = record k { notes = k.notes ++ said k }
 
--- From the one view of a seat to the other its pass has made these acts, all in one run of the table. `steps` are the steps of all passes
--- behind those of which it knew: its own among them are exactly these acts, in order. They lead on from the core to which the run had led by
--- then; and what the pass knows in the end is what they have taught it, and with it these notes.
+-- From the one view of a seat to the other, its pass has made these acts, in one run of the table. `steps` are those of all passes behind
+-- those that it knew: its own among them are exactly these acts. They lead on from the core of the steps before. In the end the pass knows
+-- what they have taught it, and these notes.
 pub record IsInOneRun (layout : Layout) (acts : List Act) (said : Known → List Note) (s t : SeatView) : Type 0 where
   pub steps : List Event
   pub trace : t.trace ≡ s.trace ++ steps
@@ -38,19 +38,18 @@ pub record IsInOneRun (layout : Layout) (acts : List Act) (said : Known → List
   pub led : (c : Core) → EventsLead (opening layout) s.trace c → (d : Core) × EventsLead c steps d × (t.known ≡ with_notes said (taught s.known.pass c steps s.known))
   pub run : IsTableRun layout s.trace ⊎ (acts ≢ []) → IsTableRun layout t.trace
 
--- So it is with steps of one pass, one after the other,
+-- Steps of one pass, one after the other, stand in one run of the table.
 abbrev pub StepsAreInOneRun : {G : Type 0} → (G → Event → G → Type 0) → Type 0
 StepsAreInOneRun {G = G} becomes = (table : TableView) (acts : List Act) (a b : SeatView × G) → Runs table becomes acts a b →
     IsInOneRun table.layout acts silent a.0 b.0
 
--- and with the steps of a call, whose notes come with the last.
+-- The steps of a call, whose notes come with the last, stand in one run of the table.
 abbrev pub CallStepsAreInOneRun : {G : Type 0} → (G → Event → G → Type 0) → Type 0
 CallStepsAreInOneRun {G = G} becomes = (table : TableView) (acts : List Act) (act : Act) (said : Known → List Note) (a b : SeatView × G) →
     Ends table becomes acts act said a b → IsInOneRun table.layout (acts ++ act ∷ []) said a.0 b.0
 
--- By the rule of the table all traces are of one run. Of the steps of which one pass knows, or knew earlier, and those of another, the ones
--- begin with the others. No contract shows the state of a table: by contracts two passes have one run where they meet, or one follows the
--- other's stamp.
+-- By the rule of the table all traces are of one run. Of what two passes know of its steps, now or earlier, one begins with the other. No
+-- contract shows the state of a table. By contracts two passes have one run if they meet, or one follows the other's stamp.
 abbrev pub TracesAreOfOneRun : Type 0
 TracesAreOfOneRun =
     (layout : Layout) (s : State (Unit {0}) TracedView) → Ruled layout s → (i j : ℕ) (k l : Known) (t u : Trace) →

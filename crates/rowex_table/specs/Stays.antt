@@ -6,7 +6,7 @@ use Rattle.rowex_core.specs.declared.event.Spot.TheVariants.{Root, Value}
 use Rattle.rowex_core.specs.declared.event.Target.TheVariants.{Anchor, Node as NodeTarget}
 use Rattle.rowex_core.specs.declared.known.Known.{Known}
 
--- a step that shows no change: neither a load of a record or of the root, nor a publish, nor a bulk load
+-- a step that shows its pass no change: no load of a record or the root, no publish, no bulk load
 abbrev pub LeavesFront : Act → Type 0
 LeavesFront (LoadRef spot w) = ⊥
 LeavesFront (LoadFixed r offset w) = ⊥
@@ -14,7 +14,7 @@ LeavesFront (Publish spot w) = ⊥
 LeavesFront (Load words) = ⊥
 LeavesFront act = Unit {0}
 
--- a step that is no load of the root, nor a bulk load
+-- a step that is neither a load of the root nor a bulk load
 abbrev pub LeavesFresh : Act → Type 0
 LeavesFresh (LoadRef Root w) = ⊥
 LeavesFresh (Load words) = ⊥
@@ -27,7 +27,7 @@ LeavesFailed (Lock target found) = ⊥
 LeavesFailed (LoadState r w) = ⊥
 LeavesFailed act = Unit {0}
 
--- a step that leaves the records that its pass owns
+-- a step after which its pass owns the same records
 abbrev pub LeavesOwn : Act → Type 0
 LeavesOwn (Claim r found) = ⊥
 LeavesOwn (Fill r offset w) = ⊥
@@ -37,21 +37,21 @@ LeavesOwn (Publish spot w) = ⊥
 LeavesOwn (Mark r epoch) = ⊥
 LeavesOwn act = Unit {0}
 
--- the nodes that it has locked,
+-- a step after which its pass has locked the same nodes
 abbrev pub LeavesLocks : Act → Type 0
 LeavesLocks (Lock (NodeTarget n) found) = ⊥
 LeavesLocks (Unlock (NodeTarget n)) = ⊥
 LeavesLocks (Publish spot w) = ⊥
 LeavesLocks act = Unit {0}
 
--- the anchor,
+-- a step after which its pass knows the same of the anchor's lock
 abbrev pub LeavesAnchor : Act → Type 0
 LeavesAnchor (Lock Anchor found) = ⊥
 LeavesAnchor (Unlock Anchor) = ⊥
 LeavesAnchor (Publish Root w) = ⊥
 LeavesAnchor act = Unit {0}
 
--- what it has loaded of values,
+-- a step after which its pass has loaded the same values
 abbrev pub LeavesValues : Act → Type 0
 LeavesValues (LoadRef (Value l) w) = ⊥
 LeavesValues (Lock target found) = ⊥
@@ -61,19 +61,19 @@ LeavesValues (Mark r epoch) = ⊥
 LeavesValues (Load words) = ⊥
 LeavesValues act = Unit {0}
 
--- its pin,
+-- a step after which its pass has the same pin
 abbrev pub LeavesPin : Act → Type 0
 LeavesPin (SetPin w) = ⊥
 LeavesPin ClearPin = ⊥
 LeavesPin act = Unit {0}
 
--- its round
+-- a step after which its pass is in the same round
 abbrev pub LeavesRound : Act → Type 0
 LeavesRound (LoadEpoch w) = ⊥
 LeavesRound (LoadPin o w) = ⊥
 LeavesRound act = Unit {0}
 
--- a step after which the pass recalls all that it did before: neither a publish, nor a bulk load, nor a pin, nor an unpin
+-- A step after which the pass recalls all that it did before: no publish, bulk load, pin or unpin.
 abbrev pub KeepsRecall : Act → Type 0
 KeepsRecall (Publish spot w) = ⊥
 KeepsRecall (Load words) = ⊥
@@ -81,8 +81,8 @@ KeepsRecall (SetPin w) = ⊥
 KeepsRecall ClearPin = ⊥
 KeepsRecall act = Unit {0}
 
--- From k to j is one step: it is counted, and no note is added; each part of what the pass knew is as before, but for the acts that
--- are about it.
+-- From k to j is one step, which is counted, with no note. Each part of what the pass knew is as before, but for the acts that are about
+-- it.
 pub record IsNext (act : Act) (k j : Known) : Type 0 where
   pub pass : j.pass ≡ k.pass
   pub steps : j.steps ≡ k.steps + 1

@@ -18,35 +18,35 @@ use Rattle.rowex_table.specs.declared.traces.TracedView.TheVariants.{Spent, Deal
 
 -- Lists of steps
 
--- the one list of steps begins with the other
+-- the later list of steps begins with the earlier one
 abbrev pub RunBeginsWith : List Event → List Event → Type 0
 RunBeginsWith later earlier = (more : List Event) × (later ≡ earlier ++ more)
 
--- and goes on by steps of other passes than q alone
+-- the later list of steps goes on from the earlier one by steps of other passes than q
 abbrev pub OthersStepOn : ℕ → List Event → List Event → Type 0
 OthersStepOn q earlier later = (more : List Event) × (later ≡ earlier ++ more) × All (λ x. x.pass ≢ q) more
 
--- from a new table on the steps are legal, one after the other
+-- the steps are legal, one after the other, from a new table on
 abbrev pub IsTableRun : Layout → List Event → Type 0
 IsTableRun layout run = (c : Core) × EventsLead (opening layout) run c
 
--- of these steps, those of pass q
+-- the acts of pass q among these steps
 abbrev pub own_acts : ℕ → List Event → List Act
 own_acts q [] = []
 own_acts q (x ∷ xs) = if nat_eq x.pass q then x.act ∷ own_acts q xs else own_acts q xs
 
--- what pass q knows that knew k in the core c, once these steps have been made: its own ones teach it
+-- What pass q, which knew k in the core c, knows after these steps. Its own steps teach it.
 abbrev pub taught : ℕ → Core → List Event → Known → Known
 taught q c [] k = k
 taught q c (x ∷ xs) k = taught q (after c x.pass x.act) xs (if nat_eq x.pass q then learned c x.act k else k)
 
 -- Traces
 
--- a pass that has made no step
+-- the trace of a pass that has made no step
 abbrev pub untraced : Trace
 untraced = record { events = []; asides = 0; touches = 0 }
 
--- what a seat knows, without its traces
+-- what a view tells, without its traces
 abbrev pub view_of : TracedView → View
 view_of Spent = a_spent
 view_of (Dealer m) = a_dealer m
@@ -56,8 +56,8 @@ view_of (Pair j t k u) = a_pair j k
 view_of (Witness front events) = a_witness front
 view_of (Follower k t front events) = a_follower k front
 
--- The run goes on from each trace of the view: behind the trace of a pass by steps of others alone. A pass that is still to be dealt has
--- made none.
+-- The run goes on from each trace of the view, behind that of a pass by steps of others alone. A pass that is still to be dealt has made
+-- none.
 abbrev pub HasTraces : List Event → TracedView → Type 0
 HasTraces run Spent = Unit {0}
 HasTraces run (Dealer m) = All (λ x. x.pass < m) run
@@ -67,17 +67,17 @@ HasTraces run (Pair j t k u) = OthersStepOn j.pass t.events run × OthersStepOn 
 HasTraces run (Witness front events) = RunBeginsWith run events
 HasTraces run (Follower k t front events) = OthersStepOn k.pass t.events run × RunBeginsWith run events
 
--- Pass q, which knew of the steps `trace`, makes this step in this core, and knows of the steps `next`. The steps `before` lead from a new table
--- to the core: they are the table's run, by its rule. They begin with the trace and go on by steps of others. The pass knows of them now, and
--- of its own behind them.
+-- Pass q, which knew the steps `trace`, makes this step in this core, and knows the steps `next`. The steps `before` are the table's run,
+-- which leads from a new table to the core. They begin with the trace and go on by steps of others. The pass knows them now, and its own
+-- step behind them.
 pub record IsNextStep (layout : Layout) (q : ℕ) (act : Act) (core : Core) (trace next : List Event) : Type 0 where
   pub before : List Event
   pub led : EventsLead (opening layout) before core
   pub others : OthersStepOn q trace before
   pub next_is : next ≡ before ++ record { pass = q; act = act } ∷ []
 
--- Pass q, which knew of the steps `trace`, is shown the steps `run` and the changes `front`. The steps lead from a new table to a core in which
--- just these changes have been made: they are the table's run, by its rule. They begin with the trace and go on by steps of others.
+-- Pass q, which knew the steps `trace`, is shown the steps `run` and the changes `front`. The steps are the table's run, which leads from a
+-- new table to a core with just these changes. They begin with the trace and go on by steps of others.
 pub record IsShownRun (layout : Layout) (q : ℕ) (trace run : List Event) (front : List Change) : Type 0 where
   pub core : Core
   pub led : EventsLead (opening layout) run core

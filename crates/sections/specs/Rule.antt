@@ -17,11 +17,12 @@ use Rattle.sections.specs.Runs.{HasNoneOf, IsLawfulRun, OthersRunOn, moments_in,
 abbrev pub sections_words : ℕ → ℕ
 sections_words count = FIRST_SECTION + 8 * count
 
--- where the word of section q stands
+-- the index of the word of section q
 abbrev pub section_place : ℕ → ℕ
 section_place q = FIRST_SECTION + 8 * q
 
--- The words show the run: the number of its moments, and the word of each section. No section from the reach on was ever entered.
+-- The words show the run: the number of its moments, and the word of each section. No section whose number is the reach or higher was ever
+-- entered.
 pub record ShowsRun (count : ℕ) (run : List SectionEvent) (words : List ℕ) : Type 0 where
   pub size : length words ≡ sections_words count
   pub moments : slice_index words MOMENTS ≡ moments_in run
@@ -36,7 +37,7 @@ abbrev pub HasSection : Seated → ℕ → Type 0
 HasSection (Dealer next count) q = next ≤ q
 HasSection (Owner k) q = k.number ≡ q
 
--- what a seat knows is true of a run with this reach, at a table of so many sections
+-- what a seat knows is true of a run with this reach, in a table of so many sections
 abbrev pub IsTrueOfRun : ℕ → ℕ → List SectionEvent → Seated → Type 0
 IsTrueOfRun count reach run (Dealer next n) = (n ≡ count) × ((q : ℕ) → next ≤ q → HasNoneOf q run)
 IsTrueOfRun count reach run (Owner k) = (k.count ≡ count) × OthersRunOn k.number k.run run × (k.counted ≡ true → k.number < reach)
@@ -58,64 +59,64 @@ abbrev pub owner_of : Seated → SectionKnowledge
 owner_of (Owner k) = k
 owner_of (Dealer next count) = new_section 0 0
 
--- The seat is the owner's of the section of this number. Whether looks take it in, and its word, are as its owner knows.
+-- The seat is that of the owner of section q. The owner knows whether looks count it, and its word.
 abbrev pub IsOwners : {S : Type 0} → Me S Seated → ℕ → Bool → ℕ → Type 0
 IsOwners me q counted word = let k : SectionKnowledge = owner_of me.0 in
     (me ≡ (Owner k, [])) × (k.number ≡ q) × (k.counted ≡ counted) × (word_in q k.run ≡ word) × (q < k.count)
 
--- a dealer who has dealt one section more
+-- the seat of a dealer that has dealt one section more
 abbrev pub next_section : Seated → Seated
 next_section (Dealer next count) = Dealer (next + 1) count
 next_section v = v
 
--- the section that is dealt next
+-- the seat of the section that a dealer deals next
 abbrev pub section_dealt : Seated → Seated
 section_dealt (Dealer next count) = Owner (new_section next count)
 section_dealt v = v
 
 -- Steps
 
--- A load: its owner knows of the run so far, which is lawful, and in which nothing of its own is new. `Found` is what the word that it found
+-- A load teaches the owner the run so far, which is lawful, and adds nothing of its own section. `Found` says what the word that it found
 -- tells of that run.
 abbrev pub Finds : (SectionKnowledge → List SectionEvent → Type 0) → Seated → Seated → Type 0
 Finds Found (Owner k) w = (run : List SectionEvent) × (w ≡ Owner (record k { run = run })) × OthersRunOn k.number k.run run × IsLawfulRun run × Found k run
 Finds Found v w = Unit {0}
 
--- a step that finds something and changes nothing
+-- a step that loads a word and changes nothing
 abbrev pub finding : {S : Type 0} → (ℕ → ℕ → SectionKnowledge → List SectionEvent → Type 0) → Step S → Me S Seated → ℕ → Me S Seated → Type 0
 finding Found st m told m' = (m'.1 ≡ m.1) × Finds (Found st.word told) m.0 m'.0
 
--- the number of moments that were taken
+-- the word that was found is the number of moments taken so far
 abbrev pub found_moments : ℕ → ℕ → SectionKnowledge → List SectionEvent → Type 0
 found_moments word told k run = (told ≡ moments_in run) × (told ≤ MOST_MOMENTS)
 
--- a number of sections, such that none from there on was ever entered
+-- the word that was found is a reach: no section of that number or a higher one was ever entered
 abbrev pub found_reach : ℕ → ℕ → SectionKnowledge → List SectionEvent → Type 0
 found_reach word told k run = (told ≤ k.count) × ((q : ℕ) → told ≤ q → HasNoneOf q run)
 
--- a section's word
+-- the word that was found at a section's index is that section's
 abbrev pub found_word : ℕ → ℕ → SectionKnowledge → List SectionEvent → Type 0
 found_word word told k run = (q : ℕ) → word ≡ section_place q → q < k.count → told ≡ word_in q run
 
--- The owner's section is within the reach from now on.
+-- From now on looks count the owner's section.
 abbrev pub Counted : Seated → Seated → Type 0
 Counted (Owner k) w = (run : List SectionEvent) × (w ≡ Owner (record k { counted = true; run = run })) × OthersRunOn k.number k.run run
 Counted v w = Unit {0}
 
--- a step that counts a section in
+-- a step after which looks count the section
 abbrev pub counting : {S : Type 0} → Step S → Me S Seated → ℕ → Me S Seated → Type 0
 counting st m told m' = (m'.1 ≡ m.1) × Counted m.0 m'.0
 
--- The event happens next, and the owner knows of it.
+-- The event is the next one of the run, and the owner knows it.
 abbrev pub EventHappens : (SectionKnowledge → List SectionEvent → List SectionEvent) → Seated → Seated → Type 0
 EventHappens next (Owner k) w = (before : List SectionEvent) × (w ≡ Owner (record k { run = next k before })) × OthersRunOn k.number k.run before
 EventHappens next v w = Unit {0}
 
--- the owner's section is entered, with one moment less than its word says
+-- a step that enters the owner's section, with one moment less than the word that it stores
 abbrev pub entering : {S : Type 0} → Step S → Me S Seated → ℕ → Me S Seated → Type 0
 entering st m told m' = (m'.1 ≡ m.1) × EventHappens (λ k run. Entered k.number (told - 1) ∷ run) m.0 m'.0
 
--- a step that leaves a section
+-- a step that leaves the owner's section
 abbrev pub leaving : {S : Type 0} → Step S → Me S Seated → ℕ → Me S Seated → Type 0
 leaving st m told m' = (m'.1 ≡ m.1) × EventHappens (λ k run. Left k.number ∷ run) m.0 m'.0
 

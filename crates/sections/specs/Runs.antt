@@ -11,7 +11,7 @@ moments_in (Entered q n ∷ run) = moments_in run
 moments_in (Left q ∷ run) = moments_in run
 moments_in (Taken ∷ run) = suc (moments_in run)
 
--- the word of section q: 0 where it isn't open, and else one more than the number of moments with which it was entered
+-- The word of section q: 0 if it isn't open, and else one more than the number of moments with which it was entered.
 abbrev pub word_in : ℕ → List SectionEvent → ℕ
 word_in q [] = 0
 word_in q (Entered p n ∷ run) = if nat_eq p q then n + 1 else word_in q run
@@ -22,7 +22,8 @@ word_in q (Taken ∷ run) = word_in q run
 abbrev pub IsOpen : ℕ → List SectionEvent → Type 0
 IsOpen q run = 0 < word_in q run
 
--- The event may happen after this run. A section is entered where it isn't open, with a number of moments that had been taken before.
+-- The event may happen after this run. A section that isn't open may be entered, with a number of moments that had been taken. An open one
+-- may be left.
 abbrev pub MayFollow : List SectionEvent → SectionEvent → Type 0
 MayFollow run (Entered q n) = (word_in q run ≡ 0) × (n ≤ moments_in run)
 MayFollow run (Left q) = IsOpen q run
@@ -33,23 +34,23 @@ abbrev pub IsLawfulRun : List SectionEvent → Type 0
 IsLawfulRun [] = Unit {0}
 IsLawfulRun (e ∷ run) = MayFollow run e × IsLawfulRun run
 
--- none of the events is one of section q
+-- none of the events is of section q
 abbrev pub HasNoneOf : ℕ → List SectionEvent → Type 0
 HasNoneOf q [] = Unit {0}
 HasNoneOf q (Entered p n ∷ run) = (p ≢ q) × HasNoneOf q run
 HasNoneOf q (Left p ∷ run) = (p ≢ q) × HasNoneOf q run
 HasNoneOf q (Taken ∷ run) = HasNoneOf q run
 
--- the run goes on from an earlier one,
+-- the later run goes on from the earlier one
 abbrev pub RunGoesOn : List SectionEvent → List SectionEvent → Type 0
 RunGoesOn earlier later = (more : List SectionEvent) × (later ≡ more ++ earlier)
 
--- and by no event of section q
+-- the later run goes on from the earlier one by events of other sections than q
 abbrev pub OthersRunOn : ℕ → List SectionEvent → List SectionEvent → Type 0
 OthersRunOn q earlier later = (more : List SectionEvent) × (later ≡ more ++ earlier) × HasNoneOf q more
 
--- The moment of this number is past: each section that was open at any time before it was taken has been left since then. The
--- moments are numbered from 1 on, in the order in which they are taken.
+-- The moment of this number is past: each section that was open at any time before it was taken has been left since. Moments are numbered
+-- from 1 on, in the order in which they are taken.
 abbrev pub IsPast : ℕ → List SectionEvent → Type 0
 IsPast moment run = (q : ℕ) (before since : List SectionEvent) → run ≡ since ++ before → moments_in before < moment → IsOpen q before → Contains since (Left q)
 
@@ -57,6 +58,6 @@ IsPast moment run = (q : ℕ) (before since : List SectionEvent) → run ≡ sin
 abbrev pub IsNewer : ℕ → ℕ → Type 0
 IsNewer moment word = (word ≡ 0) ⊎ (moment < word)
 
--- The moment may not be past: it has not been taken, or a section is open that was entered with fewer moments.
+-- The moment may not be past. It has not been taken, or a section is open that was entered with fewer moments.
 abbrev pub IsHeld : ℕ → List SectionEvent → Type 0
 IsHeld moment run = (moments_in run < moment) ⊎ ((q : ℕ) × IsOpen q run × (word_in q run ≤ moment))

@@ -30,11 +30,11 @@ IsNewSection table q s = (s.table ≡ table.id) × (s.known ≡ new_section q ta
 abbrev pub IsInside : SectionView → Type 0
 IsInside s = IsOpen s.known.number s.known.run
 
--- one section, before and after
+-- the two views are of one section
 abbrev pub IsOneSection : SectionView → SectionView → Type 0
 IsOneSection s t = (t.table ≡ s.table) × (t.known.number ≡ s.known.number) × (t.known.count ≡ s.known.count)
 
--- Its owner has made no event, and knows of those of others up to now, which make a lawful run. Nothing else has changed.
+-- The section's owner has made no event, and knows those of others up to now, which make a lawful run. Nothing else has changed.
 pub record SeesOthers (s t : SectionView) : Type 0 where
   pub table : t.table ≡ s.table
   pub known : t.known ≡ record s.known { run = t.known.run }
@@ -57,8 +57,8 @@ pub record Leaves (s t : SectionView) : Type 0 where
   pub others : OthersRunOn s.known.number s.known.run before
   pub run : t.known.run ≡ Left s.known.number ∷ before
 
--- The number is that of a moment: there was a run during the call in which fewer had been taken. It has been taken when the call ends; or all
--- that a table tells apart have been taken, and it is the next number.
+-- The number is that of a moment: at some time of the call fewer had been taken. It has been taken when the call ends. Or all that a table
+-- tells apart have been taken, and it is the next number.
 pub record TakesMoment (moment : ℕ) (s t : SectionView) : Type 0 where
   pub one : IsOneSection s t
   pub before : List SectionEvent
@@ -67,7 +67,7 @@ pub record TakesMoment (moment : ℕ) (s t : SectionView) : Type 0 where
   pub until : OthersRunOn s.known.number before t.known.run
   pub taken : (moment ≤ moments_in t.known.run) ⊎ ((moment ≡ MOST_MOMENTS + 1) × (moments_in t.known.run ≡ MOST_MOMENTS))
 
--- Looks take the section in from now on. Its owner has made no event.
+-- From now on looks count the section. Its owner has made no event.
 pub record StartsCounting (s t : SectionView) : Type 0 where
   pub table : t.table ≡ s.table
   pub known : t.known ≡ record s.known { counted = true; run = t.known.run }
