@@ -35,13 +35,13 @@ use Rattle.rowex_reading.specs.Seen.{Sure}
 use Rattle.versions.specs.State.{IsHeldSince, WasAbsentSince}
 use Rattle.rowex_writing.specs.store.Values.{HasMoved}
 
--- a load of a search: of the root, or of a word below it
+-- the step is a load of a search: of the root, or below it
 abbrev pub IsOfSearch : Act → Type 0
 IsOfSearch (LoadRef Root word) = Unit {0}
 IsOfSearch act = IsBelowRoot act
 
--- The steps of an attempt, but for its pin: those of its search, which loads one entry in each node on its way, and the rest. None of them
--- gives a record back, and each lock is tried once at most. They are so many at most for so many nodes and locks.
+-- The steps of an attempt, but for its pin: those of its search, which loads one entry in each node on its path, and others. None gives a
+-- record back, and each lock is tried once at most. Their number is bounded by those of nodes and locks.
 pub record AreAttemptSteps (layout : Layout) (acts : List Act) : Type 0 where
   pub search : List Act
   pub rest : List Act
@@ -53,43 +53,43 @@ pub record AreAttemptSteps (layout : Layout) (acts : List Act) : Type 0 where
   pub locks : length (targets_of acts) ≤ most_locks
   pub few : length acts ≤ attempt_steps layout (entries_in search) (length (targets_of acts))
 
--- the pass makes such steps, and the gate is told each of them
+-- the pass makes the steps of an attempt, but for its pin, and the gate is told each
 abbrev pub HasAttempted : {G : Type 0} → TableView → (G → Event → G → Type 0) → SeatView × G → SeatView × G → Type 0
 HasAttempted table becomes a b = (acts : List Act) × AreAttemptSteps table.layout acts × Runs table becomes acts a b
 
--- what a call found that changed nothing: its reply is that of a key with this value, or none, in a version since its last load of the
--- root
+-- What a call found that changed nothing. Its reply is that of a key with this value, or none, in a version since the last load of the
+-- root.
 abbrev pub HasLooked : Known → Call → Reply → Type 0
 HasLooked j call reply = (held : Option ℕ) × HasFound j (key_of call) held × (reply ≡ reply_to call held) × (effect_of call reply ≡ None)
 
--- the change that a call made with this reply, where its key had this value before, or none
+-- the change of a call with this reply, whose key had this value before, or none
 abbrev pub IsChangeOf : ℕ → Call → Reply → Change → Option ℕ → Type 0
 IsChangeOf q call reply x was = (reply ≡ reply_to call was) × (change_of q (record { place = 0; call = call; reply = reply }) ≡ Some x)
 
--- why a planned change was not made: another pass has made one since the search, or no record was free beside those that it had made
+-- Why a planned change was not made: another pass has made one since the search, or no record was free.
 abbrev pub HasFailed : Layout → Job → Known → Known → List Rec → TryFault → Type 0
 HasFailed layout job k j made Busy = IsAtRest j × IsLater k j × HasMoved layout job k j
 HasFailed layout job k j made FullNodes = HasNoRoom layout job.key.now k j made Nodes
 HasFailed layout job k j made FullLeaves = HasNoRoom layout job.key.now k j made Leaves
 
--- the refusal of a call for whose change no record of the kind was free
+-- the fault of a change for which no record of the kind was free
 abbrev pub refusal_of : Full → TryFault
 refusal_of Nodes = FullNodes
 refusal_of Leaves = FullLeaves
 
--- The attempt was answered: it has changed nothing, and no change of its own was added; or it has made just the change of the reply.
+-- The attempt was answered. It has looked alone, and others have made all changes since. Or it has made just the change of its reply.
 abbrev pub HasAnswered : Known → Known → Call → Reply → Type 0
 HasAnswered k j call reply = (HasLooked j call reply × OthersGoOn k.pass k.front j.front) ⊎
     ((x : Change) × (was : Option ℕ) × IsChangeOf k.pass call reply x was × HasChanged k j x was)
 
--- a removal is never refused for want of a leaf record
+-- the result is no refusal for want of a leaf record, if the call removes
 abbrev pub IsLeafless : {F : Type 0} → F → Call → Result Reply F → Type 0
 IsLeafless leaves (Remove key) result = result ≢ Err leaves
 IsLeafless leaves (RemoveIf key expected) result = result ≢ Err leaves
 IsLeafless leaves call result = Unit {0}
 
--- why it was refused: a lock of it found taken by another pass what it wanted to lock, or the pass has seen a change that was made
--- since its pin; or no node record was free beside those that it had made, or no leaf record with room for its key
+-- Why an attempt was refused. As busy, a lock found its target taken by another pass, or the pass has seen a change since its pin. As full,
+-- no node record was free, or no leaf record with room for the key.
 abbrev pub IsAttemptCause : Layout → Key → Known → Known → List Rec → TryFault → Type 0
 IsAttemptCause layout key k j made Busy = HasMetLock layout k j ⊎ ((m : ℕ) × IsPinnedSince k m × (m < length j.front))
 IsAttemptCause layout key k j made FullNodes = IsFull layout key k j made Nodes
@@ -100,16 +100,16 @@ abbrev pub IsFullFault : TryFault → Type 0
 IsFullFault Busy = ⊥
 IsFullFault fault = Unit {0}
 
--- the key was absent in a version since some version, to which the pass's pin goes back
+-- the key was absent in a version since the pass's pin
 abbrev pub HasMissedKey : Known → Key → Type 0
 HasMissedKey j key = (m : ℕ) × IsPinnedSince j m × Sure j (λ s. WasAbsentSince s m key)
 
--- the key had this value in a version since some version, to which the pass's pin goes back
+-- the key had this value in a version since the pass's pin
 abbrev pub HasMetKey : Known → Key → ℕ → Type 0
 HasMetKey j key value = (m : ℕ) × IsPinnedSince j m × Sure j (λ s. IsHeldSince s m key value)
 
--- A call may lack a record: an insertion or an upsert whose search has not found the key, and a removal whose search has found it, with the
--- value that it expects. No other call takes one.
+-- A call may lack a record. An insertion or an upsert may whose search has not found the key. A removal may whose search has found it, with
+-- the value that it expects.
 abbrev pub WantsRecord : Known → Call → Type 0
 WantsRecord j (Insert key value) = HasMissedKey j key
 WantsRecord j (Upsert key value) = HasMissedKey j key
@@ -117,11 +117,11 @@ WantsRecord j (Remove key) = (value : ℕ) × HasMetKey j key value
 WantsRecord j (RemoveIf key expected) = HasMetKey j key expected
 WantsRecord j call = ⊥
 
--- so it is refused for want of one only where it may
+-- the fault is that no record was free only if the call may lack one
 abbrev pub IsFullOfNew : Known → Call → TryFault → Type 0
 IsFullOfNew j call fault = IsFullFault fault → WantsRecord j call
 
--- It was refused: no change of its own was made.
+-- The attempt was refused, and made no change. Others have made all changes since.
 pub record HasRefused (layout : Layout) (key : Key) (k j : Known) (made : List Rec) (fault : TryFault) : Type 0 where
   pub others : OthersGoOn k.pass k.front j.front
   pub cause : IsAttemptCause layout key k j made fault

@@ -43,20 +43,20 @@ use Rattle.rowex_writing.specs.declared.build.rising.Rise.{Rise}
 use Rattle.rowex_writing.specs.declared.build.remaking.Fork.{Fork}
 use Rattle.rowex_writing.specs.declared.build.remaking.NewLeaf.{NewLeaf}
 
--- each of the records spells a value, which has room in it
+-- each of the new records spells a value for which it has room
 abbrev pub AreMadePacked : Layout → List Made → Type 0
 AreMadePacked layout [] = Unit {0}
 AreMadePacked layout (m ∷ news) = (IsPacked m.rec m.words × FitsIn layout m.rec m.words) × AreMadePacked layout news
 
--- The entry for a half, and the records made for it: an entry alone is its own, a node has a new record, and the node that stays
--- whole is named as before.
+-- The entry for a half, and the records made for it. An entry alone is its own, a node has a new record, and the node that stays whole is
+-- named as before.
 abbrev pub IsHalfMade : Entry → Half → Entry → List Made → Type 0
 IsHalfMade old (One alone) e news = (e ≡ alone) × (news ≡ [])
 IsHalfMade old (Many view) e news = (m : ℕ) × (e ≡ Node m view.height) × (news ≡ made_of_node m view ∷ []) × HasNodeWords view
 IsHalfMade old Same e news = (e ≡ old) × (news ≡ [])
 
--- What comes in the place of the node of the old entry, and the records made for it, in front of those before. The last one made is first.
--- Of a cut the upper side is made first.
+-- What rises in place of the old entry's node, and the records made for it, in front of those before. The last one made is first. Of a cut
+-- the upper side is made first.
 abbrev pub IsMadeFrom : Entry → Grown → Risen → List Made → List Made → Type 0
 IsMadeFrom old (Single view) (Whole e) before after = (m : ℕ) × (e ≡ Node m view.height) × (after ≡ made_of_node m view ∷ before) × HasNodeWords view
 IsMadeFrom old (Two cut) (Split position zero one) before after =
@@ -64,8 +64,8 @@ IsMadeFrom old (Two cut) (Split position zero one) before after =
     (after ≡ lower ++ (upper ++ before))
 IsMadeFrom old grown risen before after = ⊥
 
--- What comes in the place of a node that gets the new leaf, and the records made for it: one entry where the node has room. The node stays
--- whole, as told, only where the leaf's position is before its first fork.
+-- What rises in place of a node that gets the new leaf, and the records made for it. It is one entry if the node has room. The node stays
+-- whole only if the leaf's position is before its first fork.
 pub record IsGrownFrom (old : Entry) (was : NodeView) (new : NewLeaf) (risen : Risen) (stays : Bool) (before after : List Made) : Type 0 where
   pub grown : Grown
   pub shows : GrownShows was grown (subtrie_with_leaf new (piece was))
@@ -75,8 +75,8 @@ pub record IsGrownFrom (old : Entry) (was : NodeView) (new : NewLeaf) (risen : R
   pub low : IsNoHigher was.height grown
   pub made : IsMadeFrom old grown risen before after
 
--- Of a change that a pass is making: these are the records that it has made, the last one first, and it has no others of its own;
--- they are listed by number, the first one first.
+-- A pass is making a change. These are the records that it has made, the last one first, and it has no others of its own. `made` lists them
+-- by number, the first one first.
 pub record IsBuilding (table : TableView) (a : SeatView) (made : List Rec) (news : List Made) : Type 0 where
   pub seat : IsSeatOf table a
   pub possible : IsPossible table.layout a.known
@@ -84,32 +84,33 @@ pub record IsBuilding (table : TableView) (a : SeatView) (made : List Rec) (news
   pub packed : AreMadePacked table.layout news
   pub listed : made ≡ reverse (recs_of news)
 
--- A node record was wanted and none was free. The pass has those that it has made so far.
+-- A node record was wanted, and none was free. The pass has those that it has made so far.
 pub record HasNotMade (table : TableView) (b : SeatView) (made : List Rec) : Type 0 where
   pub news : List Made
   pub building : IsBuilding table b made news
 
--- What comes in the place of the loaded node with a new leaf, and whether the node stays whole, with the records made; or none was free.
+-- What rises in place of the loaded node with a new leaf, whether the node stays whole, and the records made. Or no record was free.
 abbrev pub MakesGrown : TableView → SeatView × List Rec → SeatView × List Rec → LoadedNode → NewLeaf → Option (Risen × Bool) → Type 0
 MakesGrown table (a, made) (b, built) loaded new result =
     (news : List Made) (node : NodeView) → AwaitsLeaf loaded.words node new → IsBuilding table a made news → MatchOption result (HasNotMade table b built)
     (λ r. (after : List Made) × IsGrownFrom (Node loaded.number node.height) node new r.0 r.1 news after × IsBuilding table b built after)
 
--- The leaf of x is made and nothing else.
+-- The record of this leaf is made, and no other.
 pub record HasLeafMade (table : TableView) (a : SeatView) (made : List Rec) (x : Item) : Type 0 where
   pub fresh : List ℕ
   pub spelled : SpellsLeaf x fresh
   pub building : IsBuilding table a made (made_of_leaf x fresh ∷ [])
 
 -- ---- on the way up
--- The change adds the newcomer, of which the record is made: this is what comes in the place of the node's body or entry, and those go.
+-- A pass is adding the newcomer, whose record is made. The subtrie takes the place of the node's body or entry, and the records `gone` are
+-- to be unlinked.
 pub record IsRaising (table : TableView) (a : SeatView) (made : List Rec) (gone : List Rec) (x : Newcomer) (d : Side) (r : Subtrie) : Type 0 where
   pub news : List Made
   pub building : IsBuilding table a made news
   pub leaf : HasLeaf news x.item
   pub risen : HasRisen table.layout a.known a.known.locks news x d r gone
 
--- What has risen comes in the place of the locked node's entry.
+-- What has risen takes the place of the entry of this locked node.
 pub record IsRisenAt (table : TableView) (a : SeatView) (made : List Rec) (number : ℕ) (risen : Risen) : Type 0 where
   pub gone : List Rec
   pub newcomer : Newcomer
@@ -117,8 +118,8 @@ pub record IsRisenAt (table : TableView) (a : SeatView) (made : List Rec) (numbe
   pub locked : HasLocked a.known number words
   pub raising : IsRaising table a made gone newcomer (entry number) (subtrie_of risen)
 
--- What has risen so far is a fork of two entries. It is to take the place of the entry that names the node below, in the locked node
--- above, which is higher than both.
+-- What has risen so far is a fork of two entries. It is to take the place of the lower node's entry in the locked node above, which is
+-- higher than both.
 pub record GetsFork (table : TableView) (a : SeatView) (made : List Rec) (above : ℕ) (fork : Fork) : Type 0 where
   pub lower : ℕ
   pub here : IsRisenAt table a made lower (Split fork.position fork.zero fork.one)
@@ -127,42 +128,42 @@ pub record GetsFork (table : TableView) (a : SeatView) (made : List Rec) (above 
   pub zero_low : height_of fork.zero < (node_words_of over.upper).fixed.height
   pub one_low : height_of fork.one < (node_words_of over.upper).fixed.height
 
--- what has risen is no higher than this
+-- what rises is no higher than this
 abbrev pub IsLowRisen : ℕ → Risen → Type 0
 IsLowRisen height (Whole e) = height_of e ≤ height
 IsLowRisen height (Split position zero one) = (height_of zero ≤ height) × (height_of one ≤ height)
 
--- what has risen is two sides of a fork
+-- what rises is a fork of two entries
 abbrev pub IsSplit : Risen → Type 0
 IsSplit (Whole e) = ⊥
 IsSplit (Split position zero one) = Unit {0}
 
--- what has risen is one entry
+-- what rises is one entry
 abbrev pub IsSingle : Risen → Type 0
 IsSingle (Whole e) = Unit {0}
 IsSingle (Split position zero one) = ⊥
 
--- What has risen from the node with these words: no higher than it, a fork where it was full, one entry where it had room.
+-- What rises from the node with these words is no higher than it. It is a fork if the node was full, and one entry if it had room.
 pub record IsLevelRisen (words : List ℕ) (risen : Risen) : Type 0 where
   pub low : IsLowRisen (node_words_of words).fixed.height risen
   pub split : size (node_words_of words).subtrie ≡ 32 → IsSplit risen
   pub single : size (node_words_of words).subtrie < 32 → IsSingle risen
 
--- the entry is at most one higher than this, and no higher where what has risen is one entry
+-- The entry is at most one higher than this. It is no higher if what rises is one entry.
 abbrev pub IsAtMostOneHigher : ℕ → Risen → Entry → Type 0
 IsAtMostOneHigher height risen e = (height_of e ≤ height + 1) × (IsSingle risen → height_of e ≤ height)
 
--- the entry is at most one higher than the node with these words, and no higher where that has room
+-- The entry is at most one higher than the node with these words. It is no higher if that has room.
 abbrev pub FitsAbove : List ℕ → Entry → Type 0
 FitsAbove words e =
     (height_of e ≤ (node_words_of words).fixed.height + 1) × (size (node_words_of words).subtrie < 32 → height_of e ≤ (node_words_of words).fixed.height)
 
--- where the locked node at this place of the way has these words, the entry may take its place
+-- the entry may take the place of the locked node at this index of the path
 abbrev pub FitsOnWay : Known → List PathNode → ℕ → Option Entry → Type 0
 FitsOnWay k way end answer = (s : PathNode) (words : List ℕ) → slice_get way end ≡ Some s → HasLocked k s.number words → IfSome answer (FitsAbove words)
 
 -- ---- at the lower end
--- The new leaf is made and nothing else, and the locked node is where it goes: there its search took the entry at the leaf's place.
+-- The new leaf is made and no other record. The locked node is where it goes: its search took the entry in the leaf's slot there.
 pub record GetsLeaf (table : TableView) (a : SeatView) (made : List Rec) (number : ℕ) (new : NewLeaf) : Type 0 where
   pub since : ℕ
   pub item : Item
@@ -175,17 +176,17 @@ pub record GetsLeaf (table : TableView) (a : SeatView) (made : List Rec) (number
   pub part : IsPartSubtrie (subtrie_affected new.position item.key (node_words_of words).subtrie)
   pub leads : spot item.key (node_words_of words).subtrie ≡ new.slot
 
--- so its newcomer
+-- the newcomer that a locked node gets as its new leaf
 abbrev pub newcomer_of : {table : TableView} {a : SeatView} {made : List Rec} {number : ℕ} {new : NewLeaf} → GetsLeaf table a made number new → Newcomer
 newcomer_of {new = new} low = record { since = low.since; item = low.item; mismatch = new.position; like = low.like }
 
--- the node goes, where it doesn't stay whole
+-- the node to unlink, if it doesn't stay whole
 abbrev pub gone_unless_whole : Bool → ℕ → List Rec
 gone_unless_whole stays n = if stays then [] else a_node n ∷ []
 
 -- ---- a span
--- Of the locked nodes of the way from `end` to `level` each is named by the one above it, which is higher. An insertion at p affects no
--- more than that place there. Those between the two are full.
+-- Of the locked nodes of the path from `end` to `level`, each is named by the one above it, which is higher. An insertion at p affects no
+-- more than that entry there. Those between the two are full.
 pub record IsLockedSpan (nodes : ℕ) (held : List Locked) (way : List PathNode) (key : Key) (p end level : ℕ) : Type 0 where
   pub there : (i : ℕ) (s : PathNode) → i < level → slice_get way i ≡ Some s → s.number < nodes
   pub above : (i : ℕ) (s u : PathNode) → end ≤ i → i < level → slice_get way i ≡ Some s → slice_get way (i + 1) ≡ Some u →
@@ -193,7 +194,7 @@ pub record IsLockedSpan (nodes : ℕ) (held : List Locked) (way : List PathNode)
   pub full : (i : ℕ) (s : PathNode) → end < i → i < level → slice_get way i ≡ Some s →
       (words : List ℕ) → IsOneOf (record { node = s.number; words = words }) held → size (node_words_of words).subtrie ≡ 32
 
--- What has risen comes in the place of the entry of the node at its level, and it is to rise on to `rise.end`.
+-- What has risen takes the place of the node's entry at its level. It is to rise on to `rise.end`.
 pub record Rises (table : TableView) (a : SeatView) (made : List Rec) (way : List PathNode) (rise : Rise) : Type 0 where
   pub step : PathNode
   pub at : slice_get way rise.level ≡ Some step
@@ -205,19 +206,19 @@ pub record Rises (table : TableView) (a : SeatView) (made : List Rec) (way : Lis
   pub single : (other : List ℕ) → HasLocked a.known step.number other → size (node_words_of other).subtrie < 32 → IsSingle rise.risen
   pub chain : IsLockedSpan table.layout.nodes a.known.locks way here.newcomer.item.key here.newcomer.mismatch rise.end rise.level
 
--- how many nodes what has risen is to rise on through
+-- how many nodes are above what has risen, through which it is to rise on
 abbrev pub levels_above : Rise → ℕ
 levels_above rise = rise.level - rise.end
 
--- the nodes of the way from `end` on, before `level`, go too
+-- the records to unlink, with the nodes of the path from `end` to before `level`
 abbrev pub gone_with_way : List PathNode → (end level : ℕ) → List Rec → List Rec
 gone_with_way way end level gone = map (λ (s : PathNode). a_node s.number) (drop end (take level way)) ++ gone
 
--- one entry has risen to the place of the entry of the node at `end`
+-- one entry has risen so far that it takes the place of the entry of the node at `end`
 abbrev pub HasRisenTo : (table : TableView) (a : SeatView) (made : List Rec) (way : List PathNode) (x : Newcomer) (end : ℕ) (gone : List Rec) (e : Entry) → Type 0
 HasRisenTo table a made way x end gone e = (top : PathNode) × (slice_get way end ≡ Some top) × IsRaising table a made gone x (entry top.number) (Place e)
 
--- The lowest node of the span gets the new leaf, and what comes of it rises to the span's topmost node.
+-- The lowest node of the span gets the new leaf. What comes of it rises to the span's topmost node.
 pub record IsGrowing (table : TableView) (a : SeatView) (made : List Rec) (way : List PathNode) (span : Span) (new : NewLeaf) : Type 0 where
   pub step : PathNode
   pub at : slice_get way (span.len - 1) ≡ Some step

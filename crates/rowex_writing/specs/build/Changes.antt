@@ -35,18 +35,18 @@ use Rattle.rowex_writing.specs.declared.plan.Full.{Full}
 use Rattle.rowex_writing.specs.declared.plan.Full.TheVariants.{Nodes, Leaves}
 
 -- ---- the plan
--- so for a job and a deed, by a search since a version
+-- the job and its deed are planned by a search since some version
 abbrev pub HasPlanned : Layout → Known → Job → Deed → Type 0
 HasPlanned layout k job deed =
     (m : ℕ) × (aim : Aim) × IsJobFrom layout k m job × IsPlanned k m job.key.now job.way.now aim job.found (change job.span.len job.span.end deed)
 
 -- ---- the store
--- of each leaf among the records the pass has loaded this value
+-- the pass has loaded this value of each leaf among the records
 abbrev pub KnowsWas : Known → List Rec → Option ℕ → Type 0
 KnowsWas k gone was = (leaf : ℕ) → IsOneOf (a_leaf leaf) gone → (value : ℕ) × (was ≡ Some value) × HasLoaded k leaf value
 
--- Once the records that it has made are ready, the pass may publish the change by a store of the word at the spot, if it has loaded the
--- value of the leaf that goes.
+-- Once the records that it has made are ready, the pass may publish the change by this store. It must have loaded the value of the leaf
+-- that is unlinked.
 pub record MayPublishOnceReady (table : TableView) (a : SeatView) (made : List Rec) (spot : Spot) (w : ℕ) (x : Change) (was : Option ℕ) (gone : List Rec) : Type 0 where
   pub news : List Made
   pub building : IsBuilding table a made news
@@ -54,8 +54,8 @@ pub record MayPublishOnceReady (table : TableView) (a : SeatView) (made : List R
       Publishes table.layout j spot w x was gone
 
 -- ---- what is left
--- The pass has made the change x, where the key's value was this: it is the last that the pass has seen, and before it are only
--- others' since. Its last load of the root was before the change. The pass has nothing of its own and no lock.
+-- The pass has made the change x, where `was` was the key's value. It is the last change that the pass has seen, and those before are
+-- others'. Its last load of the root was before x. The pass has no records of its own and no locks.
 pub record HasChanged (k j : Known) (x : Change) (was : Option ℕ) : Type 0 where
   pub rest : IsAtRest j
   pub before : List Change
@@ -65,9 +65,8 @@ pub record HasChanged (k j : Known) (x : Change) (was : Option ℕ) : Type 0 whe
   pub fits : Fits (map_of before) x
   pub was_held : value_at (map_of before) x.key ≡ was
 
--- Pass q lacks a node record beside these of its own: each was found not free, at this step or a later one. Its own were at most two for
--- each node that it had locked, and one. Each locked one was nobody's. Any other was another pass's, or nobody's, and then in the tree or
--- retired.
+-- Pass q lacks a node record: each was found not free, by a failed step since `since`. Its own were at most two for each node that it had
+-- locked, and one. Each locked one was nobody's. Any other was another pass's, or nobody's, in the tree or retired.
 pub record LacksNodes (layout : Layout) (q : ℕ) (failed : List Failed) (since : ℕ) (own : List Rec) : Type 0 where
   pub locked : List ℕ
   pub few : length own ≤ 2 * length locked + 1
@@ -76,34 +75,34 @@ pub record LacksNodes (layout : Layout) (q : ℕ) (failed : List Failed) (since 
   pub low : All (λ n. n < layout.nodes) locked
   pub missed : AllMissed (IsAnothers layout q own locked) a_node layout.nodes failed since
 
--- Pass q lacks a leaf record with room for the key: each was found not free, at this step or a later one. None was its own; so another pass
+-- Pass q lacks a leaf record with room for the key: each was found not free, by a failed step since `since`. None was its own. Another pass
 -- had it, or nobody, and then it was in the tree or retired.
 abbrev pub LacksLeaves : Layout → Key → ℕ → List Failed → ℕ → Type 0
 LacksLeaves layout key q failed since = AllMissedFrom (IsAnothers layout q [] []) layout (words_for (length key)) failed since
 
--- No record was free, when the pass wanted one: of the nodes, beside those that it had made; or of the leaf records that have room for this
+-- No record was free when the pass wanted one. It wanted a node record beside those that it had made, or a leaf record with room for this
 -- key.
 abbrev pub IsFull : Layout → Key → Known → Known → List Rec → Full → Type 0
 IsFull layout key k j made Nodes = LacksNodes layout j.pass j.failed k.steps (nodes_among made)
 IsFull layout key k j made Leaves = LacksLeaves layout key j.pass j.failed k.steps
 
--- The pass has made no change, for want of a record beside those that it had made; it has nothing of its own and no lock.
+-- The pass has made no change, for want of a record beside those that it had made. It has no records of its own and no locks.
 pub record HasNoRoom (layout : Layout) (key : Key) (k j : Known) (made : List Rec) (full : Full) : Type 0 where
   pub rest : IsAtRest j
   pub later : IsLater k j
   pub full_of : IsFull layout key k j made full
 
--- the change that gives the key this value, by what was found of it
+-- the change that gives the key this value, by what its search found
 abbrev pub IsPutChange : ℕ → Key → ℕ → Found → Change → Option ℕ → Type 0
 IsPutChange q key value (Leaf number held None) x was = (x ≡ record { pass = q; key = key; value = value; kind = Replaced }) × (was ≡ Some held)
 IsPutChange q key value found x was = (x ≡ record { pass = q; key = key; value = value; kind = Added }) × (was ≡ None)
 
--- the change that takes the found key away
+-- the change that removes the key that its search found
 abbrev pub IsTakeChange : ℕ → Key → Found → Change → Option ℕ → Type 0
 IsTakeChange q key (Leaf number held None) x was = (x ≡ record { pass = q; key = key; value = held; kind = Removed }) × (was ≡ Some held)
 IsTakeChange q key found x was = ⊥
 
--- the change of a deed: the key gets the value, or is taken away
+-- the change that a deed makes: the key gets the value, or is removed
 abbrev pub IsDeedChange : ℕ → Deed → Key → ℕ → Found → Change → Option ℕ → Type 0
 IsDeedChange q Take key value found x was = IsTakeChange q key found x was
 IsDeedChange q TakeTop key value found x was = IsTakeChange q key found x was

@@ -5,6 +5,6 @@ use Rattle.record_words.specs.declared.records.Rec.TheVariants.{Leaf as a_leaf}
 use Rattle.rowex_core.specs.declared.known.Failed.{Failed}
 use Rattle.rowex_records.specs.Claims.{HasMissedSince}
 
--- each leaf record from one number on and below another was found not free by one of these, at this step or a later one, and whose it was
+-- Each leaf record from number `from` to before `upto` was found not free by a failed step since `since`. It tells whose the record was.
 abbrev pub AllMissedBetween : (Rec → Option ℕ → Type 0) → ℕ → ℕ → List Failed → ℕ → Type 0
 AllMissedBetween Whose from upto failed since = (q : ℕ) → from ≤ q → q < upto → HasMissedSince Whose failed (a_leaf q) since

@@ -23,12 +23,12 @@ use Rattle.rowex_writing.specs.declared.plan.Deed.{Deed}
 use Rattle.rowex_writing.specs.declared.plan.Full.{Full}
 use Rattle.rowex_writing.specs.declared.plan.Span.{Span}
 
--- the leaf that goes, if any
+-- the leaf record to unlink, if there is one
 abbrev pub leaf_gone : Option ℕ → List Rec
 leaf_gone None = []
 leaf_gone (Some number) = a_leaf number ∷ []
 
--- the records that go: the nodes of the span before `low`, and the leaf
+-- the records to unlink: the nodes of the span before `low`, and the leaf
 abbrev pub gone_of_span : List PathNode → Span → Raised → List Rec
 gone_of_span way span raised = map (λ (s : PathNode). a_node s.number) (slice_range way span.end raised.low) ++ leaf_gone raised.leaf
 
@@ -36,8 +36,8 @@ gone_of_span way span raised = map (λ (s : PathNode). a_node s.number) (slice_r
 abbrev pub kept_of_span : List PathNode → Span → Raised → List PathNode
 kept_of_span way span raised = slice_range way (span.end - 1) span.end ++ slice_range way raised.low span.len
 
--- All nodes of the job's span go, or all but the lowest. Once the records that the pass has made are ready, it may make this change by a
--- store of what is raised above the span.
+-- All nodes of the job's span are to be unlinked, or all but the lowest. Once the records that the pass has made are ready, it may make
+-- this change by a store of what is raised above the span.
 pub record MayReplace (table : TableView) (a : SeatView) (made : List Rec) (job : Job) (raised : Raised) (x : Change) (was : Option ℕ) : Type 0 where
   pub from : job.span.end ≤ raised.low
   pub upto : raised.low ≤ job.span.len
@@ -49,19 +49,19 @@ pub record MayReplace (table : TableView) (a : SeatView) (made : List Rec) (job 
   -- the leaf that goes is the found one, and the key had its value
   pub takes : (number : ℕ) → raised.leaf ≡ Some number → (value : ℕ) × (job.found ≡ FoundLeaf number value None) × (was ≡ Some value)
 
--- the pass has made what the deed asks for, since it knew k
+-- since it knew k, the pass has made the records that the deed asks for
 abbrev pub HasRaised : TableView → Known → SeatView → List Rec → Job → Deed → Raised → Type 0
 HasRaised table k b made job deed raised =
     (x : Change) × (was : Option ℕ) × IsDeedChange k.pass deed job.key.now job.value job.found x was × MayReplace table b made job raised x was
 
--- A record was wanted since the pass knew k, and none was free. The pass has those that it has made so far.
+-- Since the pass knew k, a record was wanted and none was free. The pass has those that it has made so far.
 pub record HasNoneFree (table : TableView) (k : Known) (b : SeatView) (made : List Rec) (job : Job) (full : Full) : Type 0 where
   pub not_made : HasNotMade table b made
   pub few : length made ≤ 2 * locks_of job.span
   pub full_of : IsFull table.layout job.key.now k b.known made full
 
--- The pass has carried out the deed, as far as others don't see it, or no record was free: with these answers, and so many steps.
--- Before and after it are the seat, the gate and what is built.
+-- The pass has carried out the deed, as far as others don't see it, or no record was free. It took so many steps. `a` and `b` are the seat,
+-- the gate and what is built, before and after.
 pub record CarriesOut {G : Type 0} (table : TableView) (becomes : G → Event → G → Type 0) (a b : (SeatView × G) × Build) (job : Job) (deed : Deed)
     (answer : Result Raised Full) : Type 0 where
   pub goes : WorksOn table becomes a.0 b.0

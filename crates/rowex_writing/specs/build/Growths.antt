@@ -22,8 +22,8 @@ abbrev pub HasNumber : Entry → Type 0
 HasNumber (Leaf n) = n < 4294967296
 HasNumber (Node n h) = n < 4294967296
 
--- The new leaf's record is made and no other, with the job's value, under the locks of the job's span. The leaf may rise from the lowest node
--- of the span, and what has risen may stand at the spot above the topmost one.
+-- The new leaf's record is made and no other, under the locks of the job's span. The leaf may rise from the lowest node of the span. What
+-- has risen may stand at the spot above the topmost one.
 pub record MayGrow (table : TableView) (a : SeatView) (made : List Rec) (job : Job) (new : NewLeaf) : Type 0 where
   pub within : (job.span.end < job.span.len) × (job.span.len ≤ length job.way.now)
   pub depth : length job.way.now ≤ 9 * MAX_BYTES

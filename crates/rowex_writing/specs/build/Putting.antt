@@ -8,17 +8,17 @@ use Rattle.record_words.specs.declared.records.Rec.{Rec}
 use Rattle.rowex_core.specs.Cores.{HasRecord}
 use Rattle.rowex_core.specs.declared.known.Known.{Known}
 
--- the spot that names what stands below the first `end` nodes of the way: the place that the search took in the last of them
+-- The spot above node `end` of the path: the root, or the slot that the search took in the node before.
 abbrev pub IsSpotAbove : List PathNode → ℕ → Spot → Type 0
 IsSpotAbove way end Root = end ≡ 0
 IsSpotAbove way end (Value l) = ⊥
 IsSpotAbove way end (Slot n i) = (s : PathNode) × (0 < end) × (slice_get way (end - 1) ≡ Some s) × (n ≡ s.number) × (i ≡ s.slot)
 
--- the records are the table's
+-- the table has these records
 abbrev pub AreInTable : Layout → List Rec → Type 0
 AreInTable layout recs = All (HasRecord layout) recs
 
--- the anchor is locked by the pass just where this says so
+-- the pass has locked the anchor exactly if the first argument is true
 abbrev pub IsAnchored : Bool → Known → Type 0
 IsAnchored true k = IsSome k.anchor
 IsAnchored false k = k.anchor ≡ None

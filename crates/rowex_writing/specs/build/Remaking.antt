@@ -19,27 +19,28 @@ use Rattle.tries.specs.Tree.{Subtrie, Tree, subtrie, IsTrie, IsBuilt}
 abbrev pub IsSubtrieOfTree : Subtrie → Type 0
 IsSubtrieOfTree shown = (t : Tree) × (subtrie t ≡ shown) × IsTrie t × IsBuilt t
 
--- the subtrie with the new leaf
+-- the subtrie with the new leaf in it
 abbrev pub subtrie_with_leaf : NewLeaf → Subtrie → Subtrie
 subtrie_with_leaf new shown = subtrie_grown new.position new.key.now (Leaf new.number) shown
 
--- The words spell this node, in which the search of the leaf's key takes the entry at its place. A tree begins with its subtrie with the leaf.
+-- The words spell this node, in which the leaf's search takes the entry in its slot. With the leaf its subtrie is one that a tree begins
+-- with.
 pub record AwaitsLeaf (words : List ℕ) (node : NodeView) (new : NewLeaf) : Type 0 where
   pub is : IsNodeOf words node
   pub leads : spot new.key.now (piece node) ≡ new.slot
   pub tree : IsSubtrieOfTree (subtrie_with_leaf new (piece node))
 
--- the subtrie with the fork in place of the entry that the search for the fork's key takes
+-- the subtrie with the fork in place of the entry to which the fork's key leads
 abbrev pub subtrie_with_fork : Fork → Subtrie → Subtrie
 subtrie_with_fork fork shown = with_subtrie fork.key.now (Branch fork.position (Place fork.zero) (Place fork.one)) shown
 
--- a half of a cut is no higher than this; the node that stays whole is left out
+-- a half of a cut is no higher than this, if it is made anew
 abbrev pub IsLowHalf : ℕ → Half → Type 0
 IsLowHalf height (One entry) = height_of entry ≤ height
 IsLowHalf height (Many node) = node.height ≤ height
 IsLowHalf height Same = Unit {0}
 
--- and so for the sides of a cut, and for what a node becomes
+-- the halves of a cut that are made anew are no higher than this
 abbrev pub AreNoHigher : ℕ → Cut → Type 0
 AreNoHigher height cut = IsLowHalf height cut.zero × IsLowHalf height cut.one
 

@@ -23,7 +23,7 @@ use Rattle.rowex_core.specs.Reading.{node_words_of}
 use Rattle.rowex_writing.specs.locks.Going.{HasLocked}
 use Rattle.compound_node.specs.declared.entries.Entry.{Entry}
 
--- the pass has read the leaf since a version to which its pin goes back: it has the key, and this value
+-- since a version to which its pin goes back, the pass has read that the leaf has this key and value
 abbrev pub HasReadLeaf : Known → (number : ℕ) (key : Key) (value : ℕ) → Type 0
 HasReadLeaf k number key value = (m : ℕ) × IsPinnedSince k m × Sure k (λ past. IsRead past m number key value)
 
@@ -36,26 +36,26 @@ pub record HasOnlyLeaf (table : TableView) (a : SeatView) (number : ℕ) (key : 
   pub anchor : a.known.anchor ≡ Some (Some (LeafEntry number))
   pub read : HasReadLeaf a.known number key value
 
--- The pass has locked the last node of the job's way, which names the leaf, and what names that node.
+-- The pass has locked the last node of the job's path, which names the leaf, and what names that node.
 pub record HasLeafBelow (table : TableView) (a : SeatView) (m : ℕ) (job : Job) (number value : ℕ) : Type 0 where
   pub taken : HasTakenSpan table a m job.key.now job.way.now (Leaf number value None) job.span
   pub is_found : job.found ≡ Leaf number value None
   pub len : job.span.len ≡ length job.way.now
   pub last : job.span.end + 1 ≡ job.span.len
 
--- what stands past the end of a way
+-- a step that stands for none, behind the end of a path
 abbrev pub no_step : PathNode
 no_step = record { number = 0; height = 0; first_position = 0; count = 0; slot = 0 }
 
--- the last node of a job's way, which loses the leaf, and the one above it
+-- the last node of a job's path, which loses the leaf
 abbrev pub lower : Job → PathNode
 lower job = get_or job.way.now job.span.end no_step
 
--- the node above that
+-- the node above the last of a job's path
 abbrev pub upper : Job → PathNode
 upper job = get_or job.way.now (job.span.end - 1) no_step
 
--- The pass has locked the last two nodes of the way, of which the lower one names the leaf that goes.
+-- The pass has locked the last two nodes of the path. The lower one names the leaf to remove.
 pub record IsTaking (table : TableView) (job : Job) : Type 0 where
   pub before : SeatView
   pub since : ℕ
@@ -65,29 +65,29 @@ pub record IsTaking (table : TableView) (job : Job) : Type 0 where
   pub below : HasLeafBelow table before since job number value
   pub some : 0 < job.span.end
 
--- and since then it has gone on, with these locks and no other
+-- The pass has gone on since it locked the last two nodes of the path. It has these locks, and the values that it had loaded.
 abbrev pub TakesOn : TableView → SeatView → Job → Type 0
 TakesOn table a job = (t : IsTaking table job) × IsSeatOf table a × IsPossible table.layout a.known × StaysLocked t.before.known a.known
 
--- and so far as its locks go, whatever it has loaded of values
+-- The pass has gone on since it locked the last two nodes of the path, with these locks. It may have lost values that it had loaded.
 abbrev pub TakesStill : TableView → SeatView → Job → Type 0
 TakesStill table a job = (t : IsTaking table job) × IsSeatOf table a × IsPossible table.layout a.known ×
     IsLater t.before.known a.known × (a.known.locks ≡ t.before.known.locks) × (a.known.anchor ≡ t.before.known.anchor)
 
--- The pass has claimed this node record, whatever words are in it, and has no other.
+-- The pass has claimed this node record, whatever its words, and has no other.
 pub record HasClaimed (table : TableView) (k : Known) (n : ℕ) : Type 0 where
   pub low : n < table.layout.nodes
   pub words : List ℕ
   pub sized : length words ≡ word_count_of (a_node n)
   pub own : k.own ≡ record { rec = a_node n; holding = Held; words = words } ∷ []
 
--- Without the leaf a node is left of the lower one, by the words under its lock, and these words spell it.
+-- Of the lower node, by the words under its lock, a node is left without the leaf. These words spell it.
 pub record IsLeftOfNode (k : Known) (job : Job) (left : List ℕ) : Type 0 where
   pub words : List ℕ
   pub has : HasLocked k (lower job).number words
   pub built : SpellBuilt left (subtrie_without job.key.now (node_words_of words).subtrie)
 
--- the height of the entry's node is one that a word tells
+-- the height of the entry's node has a word
 abbrev pub HasHeight : Entry → Type 0
 HasHeight (LeafEntry n) = Unit {0}
 HasHeight (Node n h) = (1 ≤ h) × (h < 65536)

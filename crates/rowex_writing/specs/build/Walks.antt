@@ -14,8 +14,8 @@ use Rattle.rowex_writing.specs.declared.build.kept.Build.{Build}
 abbrev pub HasNoOther : Known → List Rec → Type 0
 HasNoOther k made = (r : Rec) → Contains (records_had k) r → Contains made r
 
--- From this step on the pass has tried some of the node records, each once, from `begin` on. It may try `left` more, from `next` on. Each
--- that it has tried was found not free since that step, and was not its own; or is one of those that it has made.
+-- Since step `since` the pass has tried some node records, each once, from `begin` on. It may try `left` more, from `next` on. Each that it
+-- has tried was found not free and not its own, or is one that it has made.
 pub record IsClaimWalk (layout : Layout) (since : ℕ) (k : Known) (made : List Rec) (next left : ℕ) : Type 0 where
   pub early : since ≤ k.steps
   pub begin : ℕ
@@ -26,34 +26,34 @@ pub record IsClaimWalk (layout : Layout) (since : ℕ) (k : Known) (made : List 
   pub each : (i : ℕ) → i < tried →
       HasMissedSince (IsAnothersBut layout k made) k.failed (a_node (wrapped layout.nodes begin i)) since ⊎ Contains made (a_node (wrapped layout.nodes begin i))
 
--- so with what is built
+-- the pass has tried node records, as a build's walk of claims tells
 abbrev pub HasWalked : Layout → ℕ → Known → Build → Type 0
 HasWalked layout since k build = IsClaimWalk layout since k build.made.items build.nodes.next build.left_nodes
 
--- before the answer is nothing each record that is made is looked at
+-- how many steps a walk without a result adds: one for each record made, which it looks at
 abbrev pub looks_for : {X : Type 0} → Build → Option X → ℕ
 looks_for after None = length after.made.items
 looks_for after (Some x) = 0
 
--- and so before the answer is no
+-- how many steps a walk adds whose answer is no: one for each record made, which it looks at
 abbrev pub looks_unless : Bool → Build → ℕ
 looks_unless false after = length after.made.items
 looks_unless true after = 0
 
--- the node records of a list
+-- the node records among these
 abbrev pub nodes_among : List Rec → List Rec
 nodes_among [] = []
 nodes_among (a_node n ∷ made) = a_node n ∷ nodes_among made
 nodes_among (a_leaf n ∷ made) = nodes_among made
 
--- how many records are lacking: one, where the answer is nothing
+-- 1 if there is no result, since a record is lacking then, and else 0
 abbrev pub lacking : {X : Type 0} → Option X → ℕ
 lacking None = 1
 lacking (Some x) = 0
 
--- The pass goes on under its locks and makes records, at most so many. It makes at most so many steps, and two for each number that it tries on
--- its walk. The walk goes on; or the answer is nothing, and each node record was found not free since the walk began: none was its own, but
--- for those that it has made. Before and after are the seat, the gate and what is built.
+-- The pass goes on under its locks and makes at most so many records. It makes at most so many steps, and two for each number that it tries
+-- on its walk. If there is no answer, each node record was found not free since the walk began. None was its own but those that it has
+-- made.
 pub record Makes {G X : Type 0} (most steps : ℕ) (table : TableView) (becomes : G → Event → G → Type 0) (a b : (SeatView × G) × Build)
     (answer : Option X) : Type 0 where
   pub goes : WorksOn table becomes a.0 b.0

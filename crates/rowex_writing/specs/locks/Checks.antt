@@ -18,18 +18,18 @@ use Rattle.rowex_writing.specs.declared.plan.Aim.{Aim}
 use Rattle.rowex_writing.specs.declared.plan.job.Job.{Job}
 use Rattle.rowex_writing.specs.declared.plan.Deed.{Deed}
 
--- each node that is locked for the span has on the key's way, by the words under its lock, the entry that the search took there
+-- each node locked for the span has, by the words under its lock, the entry that the search took on the key's path
 abbrev pub EntriesStand : Known → Key → List PathNode → Found → Span → Type 0
 EntriesStand k key way found span = (i : ℕ) (s : PathNode) → span.end ≤ i + 1 → i < span.len → slice_get way i ≡ Some s →
     (words : List ℕ) → HasLocked k s.number words → named way found (i + 1) ≡ Some (seek key (node_words_of words).subtrie)
 
--- Each node that is locked for the span, and the root under the anchor's lock, names on the key's way what the search has found.
+-- Each node locked for the span, and the root under the anchor's lock, still names what the search has found on the key's path.
 pub record IsChecked (k : Known) (key : Key) (way : List PathNode) (found : Found) (span : Span) : Type 0 where
   pub root : span.end ≡ 0 → k.anchor ≡ Some (named way found 0)
   pub entries : (i : ℕ) (s : PathNode) → span.end ≤ i + 1 → i < span.len → slice_get way i ≡ Some s →
       (words : List ℕ) → HasLocked k s.number words → named way found (i + 1) ≡ Some (seek key (node_words_of words).subtrie)
 
--- The pass holds the locks of a span of its way, and has nothing else; and what it has found still stands.
+-- The pass holds the locks of a span of its path, and has nothing else. What it has found still stands.
 pub record HasTakenSpan (table : TableView) (a : SeatView) (m : ℕ) (key : Key) (way : List PathNode) (found : Found) (span : Span) : Type 0 where
   pub seat : IsSeatOf table a
   pub possible : IsPossible table.layout a.known
@@ -39,7 +39,7 @@ pub record HasTakenSpan (table : TableView) (a : SeatView) (m : ℕ) (key : Key)
   pub locked : HasLockedSpan a.known way span
   pub checked : IsChecked a.known key way found span
 
--- the pass has taken the span of what is planned, with this deed at its lower end
+-- the pass has locked and checked the span of a job, as planned for this deed
 abbrev pub HasTakenPlan : TableView → SeatView → Job → Deed → Type 0
 HasTakenPlan table a job deed =
     (m : ℕ) × (aim : Aim) × HasTakenSpan table a m job.key.now job.way.now job.found job.span ×

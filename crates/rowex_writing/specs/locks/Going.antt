@@ -15,20 +15,20 @@ use Rattle.rowex_table.specs.Seats.{TableView, SeatView}
 use Rattle.rowex_table.specs.Stays.{KeepsRecall}
 use Rattle.publish_laws.specs.Loops.{StaysLocked}
 
--- a step that tries no lock and gives no record back, and after which the pass recalls all that it did before
+-- a step that tries no lock and gives no record back, after which the pass recalls all that it did
 abbrev pub TriesNoLock : Act → Type 0
 TriesNoLock (Lock target found) = ⊥
 TriesNoLock (GiveBack r epoch found) = ⊥
 TriesNoLock act = KeepsRecall act
 
--- The pass makes steps of which the gate is told, and tries no lock; it recalls all that it did, and has locked what it had locked.
+-- The pass makes steps that try no lock, and the gate is told each. It recalls all that it did, and has the same locks.
 pub record WorksOn {G : Type 0} (table : TableView) (becomes : G → Event → G → Type 0) (a b : SeatView × G) : Type 0 where
   pub acts : List Act
   pub plain : All TriesNoLock acts
   pub steps : Runs table becomes acts a b
   pub stays : StaysLocked a.0.known b.0.known
 
--- and its own records are the same
+-- The pass makes steps that try no lock, and the gate is told each. It has the same locks, and the same records.
 pub record ReadsOn {G : Type 0} (table : TableView) (becomes : G → Event → G → Type 0) (a b : SeatView × G) : Type 0 where
   pub goes : WorksOn table becomes a b
   pub own : b.0.known.own ≡ a.0.known.own
@@ -37,11 +37,11 @@ pub record ReadsOn {G : Type 0} (table : TableView) (becomes : G → Event → G
 abbrev pub HasLocked : Known → ℕ → List ℕ → Type 0
 HasLocked k n words = IsOneOf (record { node = n; words = words }) k.locks
 
--- in such a node the key's search takes the entry at this place
+-- in the locked node of this number, the key's search takes the entry in slot `at`
 abbrev pub LeadsLocked : Known → ℕ → Key → ℕ → Type 0
 LeadsLocked k n key at = (words : List ℕ) → HasLocked k n words → spot key (node_words_of words).subtrie ≡ at
 
--- it has locked the node
+-- the pass has locked node n
 abbrev pub IsLockedBy : Known → ℕ → Type 0
 IsLockedBy k n = (words : List ℕ) × HasLocked k n words
 
@@ -51,6 +51,6 @@ pub record IsNodeOf (words : List ℕ) (view : NodeView) : Type 0 where
   pub spells : node_words view ≡ words
   pub shows : node_words_of words ≡ record { fixed = head_of view; subtrie = piece view }
 
--- the pass has locked the node of this number, which is this node
+-- the pass has locked node n, whose words spell this node
 abbrev pub HasLockedNode : Known → ℕ → NodeView → Type 0
 HasLockedNode k n view = (words : List ℕ) × HasLocked k n words × IsNodeOf words view

@@ -8,15 +8,15 @@ use Rattle.rowex_table.specs.Seats.{TableView, SeatView, IsSeatOf}
 use Rattle.rowex_writing.specs.locks.Locks.{HasLockedSpan}
 use Rattle.rowex_writing.specs.declared.plan.job.Job.{Job}
 
--- the nodes of its span are those of a part of its way
+-- the job's span is a part of its path
 abbrev pub IsWithinWay : Job → Type 0
 IsWithinWay job = (job.span.end ≤ job.span.len) × (job.span.len ≤ length job.way.now)
 
--- its way and what that ends at are what a search for its key has found, which loaded the root at version m
+-- the job's path and its end are those of a search for its key, which loaded the root at version m
 abbrev pub IsJobFrom : Layout → Known → ℕ → Job → Type 0
 IsJobFrom layout k m job = IsWayOf layout k m job.key.now job.way.now job.found
 
--- The pass has locked the span of the job, whose way it has searched.
+-- The pass has locked the span of the job, on whose path it has searched.
 pub record HoldsSpan (table : TableView) (a : SeatView) (job : Job) : Type 0 where
   pub seat : IsSeatOf table a
   pub possible : IsPossible table.layout a.known

@@ -9,12 +9,12 @@ use Rattle.rowex_table.specs.Seats.{TableView, SeatView, IsSeatOf}
 use Rattle.rowex_writing.specs.locks.Going.{HasLocked, IsNodeOf, ReadsOn}
 use Rattle.rowex_writing.specs.declared.locks.locked.NodeLoads.{NodeLoads}
 
--- the first words that were loaded are those of the lock, which spell a node
+-- the first n words that were loaded are those of the lock, which spell a node
 pub record AreThose (loaded words : List ℕ) (n : ℕ) : Type 0 where
   pub each : (o : ℕ) → o < n → get_or loaded o 0 ≡ get_or words o 0
   pub spelled : 0 < n → (view : NodeView) × IsNodeOf words view
 
--- The first n words of a locked node are here, each by at most one load, and none behind them.
+-- The first n words of a locked node are read, each by at most one load, and none behind them.
 pub record AreRead {G : Type 0} (table : TableView) (becomes : G → Event → G → Type 0) (a b : SeatView × G) (number : ℕ) (loaded : List ℕ) (n : ℕ) : Type 0 where
   pub own : IsSeatOf table b.0
   pub reads : ReadsOn table becomes a b
@@ -23,20 +23,20 @@ pub record AreRead {G : Type 0} (table : TableView) (becomes : G → Event → G
   pub those : (words : List ℕ) → HasLocked a.0.known number words → AreThose loaded words n
   pub few : b.0.known.steps ≤ a.0.known.steps + n
 
--- Where the first word is here, and so many words of such a head say something, the pass goes on with the others of the head.
+-- If the first word of a head is read, and its kind has so many words, the pass reads the others of the head.
 abbrev pub ReadsRest : {G : Type 0} → TableView → (G → Event → G → Type 0) → (number size : ℕ) → (SeatView × G) × List ℕ → (SeatView × G) × List ℕ → Type 0
 ReadsRest {G} table becomes number size (b, old) (c, new) =
     (a : SeatView × G) → AreRead table becomes a b number old 1 → head_size (kind_in (get_or old 0 0)) ≡ size → AreRead table becomes a c number new HEAD_WORDS
 
--- So many words are all those up to this index, or at least up to the end, which is before it.
+-- the first n words are all those up to index `upto`, or at least up to the node's end, if that is before it
 abbrev pub ReachesTo : NodeLoads → (n upto : ℕ) → Type 0
 ReachesTo loads n upto = (n ≤ upto) × ((n ≡ upto) ⊎ (HEAD_WORDS + loads.numbers.count ≤ n))
 
--- They are here up to this index, or up to the end.
+-- the words up to index `upto` are read, or up to the node's end
 abbrev pub IsReadTo : {G : Type 0} → TableView → (G → Event → G → Type 0) → (a b : SeatView × G) → NodeLoads → (loaded : List ℕ) → (upto : ℕ) → Type 0
 IsReadTo table becomes a b loads loaded upto = (n : ℕ) × AreRead table becomes a b (record_number loads.node.rec) loaded n × ReachesTo loads n upto
 
--- the pass goes on so, with the words loaded so far, for a group of slots more
+-- if the words up to index `first` are read, the pass reads those of one more group of slots
 abbrev pub ReadsGroup : {G : Type 0} → TableView → (G → Event → G → Type 0) → NodeLoads → (first : ℕ) → (SeatView × G) × List ℕ → (SeatView × G) × List ℕ → Type 0
 ReadsGroup {G} table becomes loads first (b, old) (c, new) =
     (a : SeatView × G) → IsReadTo table becomes a b loads old first → IsReadTo table becomes a c loads new (first + SLOT_GROUP)

@@ -30,53 +30,53 @@ use Rattle.rowex_table.specs.Seats.{TableView, SeatView, IsSeatOf}
 use Rattle.publish_laws.specs.Stages.{IsSure}
 use Rattle.rowex_writing.specs.declared.plan.Span.{Span}
 
--- a step that neither sets nor clears the pin, and gives no record back
+-- the step neither sets nor clears the pin, and gives no record back
 abbrev pub IsOfAttempt : Act → Type 0
 IsOfAttempt (SetPin w) = ⊥
 IsOfAttempt ClearPin = ⊥
 IsOfAttempt (GiveBack r epoch found) = ⊥
 IsOfAttempt act = Unit {0}
 
--- a step that is no load of the root and gives no record back, and after which the pass recalls all that it did before
+-- a step that is no load of the root and gives no record back, after which the pass recalls all that it did
 abbrev pub LoadsNoRoot : Act → Type 0
 LoadsNoRoot (LoadRef Root w) = ⊥
 LoadsNoRoot (GiveBack r epoch found) = ⊥
 LoadsNoRoot act = KeepsRecall act
 
--- what these acts try to lock, in order
+-- what these acts try to lock, in their order
 abbrev pub targets_of : List Act → List Target
 targets_of [] = []
 targets_of (Lock target found ∷ acts) = target ∷ targets_of acts
 targets_of (act ∷ acts) = targets_of acts
 
--- they try each lock once at most
+-- the acts try each lock once at most
 abbrev pub TriesLocksOnce : List Act → Type 0
 TriesLocksOnce acts = AreApart (targets_of acts)
 
--- The pass makes steps of this kind, of which the gate is told. These are the locks that it tries.
+-- The pass makes steps of this kind, and the gate is told each. They try these locks.
 pub record TriesBy {G : Type 0} (Is : Act → Type 0) (table : TableView) (becomes : G → Event → G → Type 0) (tried : List Target) (a b : SeatView × G) : Type 0 where
   pub acts : List Act
   pub each : All Is acts
   pub tried_are : targets_of acts ≡ tried
   pub steps : Runs table becomes acts a b
 
--- it tries so many, each once
+-- the pass makes steps of this kind, and tries so many locks, each once
 abbrev pub TriesOnceBy : {G : Type 0} → (Act → Type 0) → TableView → (G → Event → G → Type 0) → ℕ → SeatView × G → SeatView × G → Type 0
 TriesOnceBy Is table becomes locks a b = (tried : List Target) × (run : TriesBy Is table becomes tried a b) × TriesLocksOnce run.acts × (length tried ≡ locks)
 
--- The steps load no root, and after each the pass recalls all that it did before. It tries these locks,
+-- The pass makes steps that load no root, and recalls all that it did. They try these locks.
 abbrev pub Tries : {G : Type 0} → TableView → (G → Event → G → Type 0) → List Target → SeatView × G → SeatView × G → Type 0
 Tries table becomes tried a b = TriesBy LoadsNoRoot table becomes tried a b
 
--- none,
+-- The pass makes steps that load no root and try no lock, and recalls all that it did.
 abbrev pub Works : {G : Type 0} → TableView → (G → Event → G → Type 0) → SeatView × G → SeatView × G → Type 0
 Works table becomes a b = Tries table becomes [] a b
 
--- or so many, each once.
+-- The pass makes steps that load no root, and recalls all that it did. They try so many locks, each once.
 abbrev pub TriesOnce : {G : Type 0} → TableView → (G → Event → G → Type 0) → ℕ → SeatView × G → SeatView × G → Type 0
 TriesOnce table becomes locks a b = TriesOnceBy LoadsNoRoot table becomes locks a b
 
--- Each of these nodes' locks is tried once, and no other one is.
+-- The pass makes steps of this kind. They try the locks of just these nodes, each once.
 pub record TriesNodesBy {G : Type 0} (Is : Act → Type 0) (table : TableView) (becomes : G → Event → G → Type 0) (nodes : List ℕ) (a b : SeatView × G) : Type 0 where
   pub tried : List Target
   pub run : TriesBy Is table becomes tried a b
@@ -84,54 +84,54 @@ pub record TriesNodesBy {G : Type 0} (Is : Act → Type 0) (table : TableView) (
   pub count : length tried ≡ length nodes
   pub among : (t : Target) → IsOneOf t tried → IsOneOf t (map NodeTarget nodes)
 
--- the same, with no load of the root
+-- The pass makes steps that load no root. They try the locks of just these nodes, each once.
 abbrev pub TriesNodes : {G : Type 0} → TableView → (G → Event → G → Type 0) → List ℕ → SeatView × G → SeatView × G → Type 0
 TriesNodes table becomes nodes a b = TriesNodesBy LoadsNoRoot table becomes nodes a b
 
--- no node is locked by the pass, and the anchor is not
+-- the pass has locked no node, and not the anchor
 abbrev pub HasNoLock : Known → Type 0
 HasNoLock k = (k.locks ≡ []) × (k.anchor ≡ None)
 
--- just these nodes are locked by it, each listed once
+-- the pass has locked just these nodes, each listed once
 abbrev pub HasJustLocked : Known → List ℕ → Type 0
 HasJustLocked k nodes = LocksJust k.locks nodes × AreApart nodes
 
--- the numbers of the nodes of a way
+-- the numbers of the nodes of a path
 abbrev pub numbers_of : List PathNode → List ℕ
 numbers_of steps = map (λ (s : PathNode). s.number) steps
 
--- the nodes of the steps are the table's
+-- the table has the nodes of these steps
 abbrev pub AreNodes : Layout → List PathNode → Type 0
 AreNodes layout steps = All (λ (s : PathNode). s.number < layout.nodes) steps
 
--- the pass was led to the node of the step, which is one of the table's; and so to each of a way
+-- the pass was led to the node of this step, which the table has
 abbrev pub IsLedStep : Layout → Known → PathNode → Type 0
 IsLedStep layout k s = (s.number < layout.nodes) × ((m : ℕ) × (h : ℕ) × IsPinnedSince k m × IsSure k (λ past. EntryStoodSince past m (Node s.number h)))
 
--- the pass was led to each node of the way
+-- the pass was led to each node of the path
 abbrev pub AreLed : Layout → Known → List PathNode → Type 0
 AreLed layout k steps = All (IsLedStep layout k) steps
 
--- the nodes that are locked for a span of the way: those that are remade, and the one above them
+-- the nodes to lock for a span of the path: those to remake, and the one above them
 abbrev pub span_numbers : List PathNode → Span → List ℕ
 span_numbers way span = numbers_of (slice_range way (span.end - 1) span.len)
 
--- how many locks these are, with the anchor's where they go up to the root
+-- how many locks a span takes, with the anchor's if it goes up to the root
 abbrev pub locks_of : Span → ℕ
 locks_of span = span.len - span.end + 1
 
--- Just those are locked by the pass, and the anchor where the span goes up to the root.
+-- The pass has locked just the nodes of a span and the one above, or the anchor if the span goes up to the root.
 pub record HasLockedSpan (k : Known) (way : List PathNode) (span : Span) : Type 0 where
   pub nodes : HasJustLocked k (span_numbers way span)
   pub top : span.end ≡ 0 → IsSome k.anchor
   pub below : 0 < span.end → k.anchor ≡ None
 
--- the state word of a node or of the anchor that is locked, or was retired
+-- the state word is that of a node or an anchor that is locked, or of a retired node
 abbrev pub IsTakenWord : ℕ → Type 0
 IsTakenWord w = (w ≡ state_word LockedTag) ⊎ ((epoch : ℕ) × (w ≡ state_word (Obsolete epoch)))
 
--- Of these failed steps of pass q one, at step `since` or later, is a lock that found taken what it wanted to lock: another pass of
--- the index had locked it, or had unlinked the node that was retired.
+-- One of these failed steps of pass q, since step `since`, was a lock that found its target taken. Another pass of the index had locked it,
+-- or had unlinked the node, if it was retired.
 pub record HasMetTaken (layout : Layout) (q since : ℕ) (tried : List Failed) : Type 0 where
   pub target : Target
   pub failed : Failed
@@ -144,43 +144,43 @@ pub record HasMetTaken (layout : Layout) (q since : ℕ) (tried : List Failed) :
   pub word : IsTakenWord failed.word
   pub now : since ≤ failed.step
 
--- from k on a lock of the pass was such a one
+-- from k on, a lock of the pass found its target taken by another pass
 abbrev pub HasMetLock : Layout → Known → Known → Type 0
 HasMetLock layout k j = HasMetTaken layout k.pass k.steps j.failed
 
--- from place m on no change of the list is by pass q
+-- no change of the list, from number m on, is by pass q
 abbrev pub NoChangeFrom : ℕ → ℕ → List Change → Type 0
 NoChangeFrom q m changes = (i : ℕ) (d : Change) → m ≤ i → i < length changes → (get_or changes i d).pass ≢ q
 
--- since its pin the pass has made no change
+-- the pass has made no change since its pin
 abbrev pub HasMadeNoChange : Known → Type 0
 HasMadeNoChange k = (p : Pin) → k.pin ≡ Some p → NoChangeFrom k.pass p.version k.front
 
 -- The parts
 
--- the pass has locked one node more, in front of the others
+-- the pass has locked one node more, listed in front of the others
 abbrev pub LocksOne : ℕ → Known → Known → Type 0
 LocksOne n k j =
     ((words : List ℕ) × (j.locks ≡ record { node = n; words = words } ∷ k.locks)) × ¬ (IsOneOf n (nodes_of k.locks)) × (j.own ≡ k.own) × (j.anchor ≡ k.anchor)
 
--- it has locked the node, in front of these
+-- the pass has locked the node, listed in front of these
 abbrev pub LocksLast : ℕ → List Locked → Known → Type 0
 LocksLast n held j = ((words : List ℕ) × (j.locks ≡ record { node = n; words = words } ∷ held)) × ¬ (IsOneOf n (nodes_of held))
 
--- it has locked the anchor
+-- the pass has locked the anchor, and has the same other locks and records
 abbrev pub LocksAnchor : Known → Known → Type 0
 LocksAnchor k j = IsSome j.anchor × (j.locks ≡ k.locks) × (j.own ≡ k.own)
 
--- its locks and its records are the same
+-- the pass has the same locks and records
 abbrev pub HasTheSame : Known → Known → Type 0
 HasTheSame k j = (j.locks ≡ k.locks) × (j.anchor ≡ k.anchor) × (j.own ≡ k.own)
 
--- since it knew k, its seat is one of the table's, what it knows is possible, and its records are the same
+-- Since the pass knew k, it has the same records. Its seat is one of the table's, and what it knows is possible.
 abbrev pub KeepsRecords : TableView → Known → SeatView → Type 0
 KeepsRecords table k b = IsLater k b.known × IsSeatOf table b × IsPossible table.layout b.known × (b.known.own ≡ k.own)
 
--- The pass was led to the node since its pin and has made no change since. It has nothing of its own and has not locked the node: so
--- only another pass may be in the way of its lock.
+-- The pass was led to the node since its pin, and has made no change since. It has no record, and has not locked the node. So only another
+-- pass may be in the way of the lock.
 pub record HasNotLocked (k : Known) (n : ℕ) : Type 0 where
   pub since : ℕ
   pub height : ℕ
@@ -190,22 +190,22 @@ pub record HasNotLocked (k : Known) (n : ℕ) : Type 0 where
   pub free : ¬ (IsOneOf n (nodes_of k.locks))
   pub quiet : HasMadeNoChange k
 
--- its lock was refused
+-- a lock of the pass was refused, and it has the same locks and records
 abbrev pub IsRefusedLock : Layout → Known → Known → Type 0
 IsRefusedLock layout k j = HasMetLock layout k j × (j.locks ≡ k.locks) × (j.anchor ≡ k.anchor) × (j.own ≡ k.own)
 
--- what it knows of its records, of the anchor, of changes, of its round and of failed steps is the same
+-- the pass knows the same of its records, the anchor, the changes, its round and its failed steps
 abbrev pub KnowsSameButLocks : Known → Known → Type 0
 KnowsSameButLocks k j = (j.own ≡ k.own) × (j.anchor ≡ k.anchor) × (j.front ≡ k.front) × (j.round ≡ k.round) × (j.failed ≡ k.failed)
 
--- The pass makes steps that neither set nor clear its pin and give no record back, and tries these locks,
+-- The pass makes steps that neither set nor clear its pin and give no record back. They try these locks.
 abbrev pub HasTried : {G : Type 0} → TableView → (G → Event → G → Type 0) → List Target → SeatView × G → SeatView × G → Type 0
 HasTried table becomes tried a b = TriesBy IsOfAttempt table becomes tried a b
 
--- none,
+-- The pass makes steps that neither set nor clear its pin and give no record back. They try no lock.
 abbrev pub HasRun : {G : Type 0} → TableView → (G → Event → G → Type 0) → SeatView × G → SeatView × G → Type 0
 HasRun table becomes a b = HasTried table becomes [] a b
 
--- or so many, each once.
+-- The pass makes steps that neither set nor clear its pin and give no record back. They try so many locks, each once.
 abbrev pub HasTriedOnce : {G : Type 0} → TableView → (G → Event → G → Type 0) → ℕ → SeatView × G → SeatView × G → Type 0
 HasTriedOnce table becomes locks a b = TriesOnceBy IsOfAttempt table becomes locks a b

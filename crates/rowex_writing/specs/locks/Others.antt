@@ -11,15 +11,16 @@ use Rattle.rowex_table.specs.Seats.{SeatView}
 use Rattle.rowex_table.specs.Traces.{RunBeginsWith}
 use Rattle.rowex_writing.specs.locks.Locks.{HasMetLock}
 
--- in this core the pass has the anchor's lock, or that of a node
+-- in this core the pass holds the anchor's lock, or that of a node
 abbrev pub HoldsLock : Core → ℕ → Type 0
 HoldsLock c p = (c.anchor ≡ Some p) ⊎ ((n : ℕ) × (c.lock n ≡ Some p))
 
--- of the changes from place m on the pass has made one
+-- the pass has made one of the changes from number m on
 abbrev pub HasMadeSince : Core → ℕ → ℕ → Type 0
 HasMadeSince c m p = (place : ℕ) × (x : Change) × (m ≤ place) × (slice_get c.changes place ≡ Some x) × (x.pass ≡ p)
 
--- At a moment between these views of a seat another pass of the table had a lock, or had made a change from place m on. The steps `run` lead to that moment.
+-- At a moment between these views of a seat, another pass of the table held a lock. Or it had made a change from number m on. The steps
+-- `run` lead to that moment.
 pub record HasMetOther (layout : Layout) (m : ℕ) (s t : SeatView) : Type 0 where
   pub run : List Event
   pub core : Core
@@ -31,10 +32,10 @@ pub record HasMetOther (layout : Layout) (m : ℕ) (s t : SeatView) : Type 0 whe
   pub below : by < layout.passes
   pub is : HoldsLock core by ⊎ HasMadeSince core m by
 
--- A lock of the pass was refused; and then another pass had a lock, or had made a change since the pin.
+-- A lock of the pass was refused. At a moment another pass held a lock, or had made a change since the pin.
 abbrev pub IsBlocked : Layout → SeatView → SeatView → Type 0
 IsBlocked layout s t = HasMetLock layout s.known t.known × HasMetOther layout (version_of s.known.pin) s t
 
--- At a moment another pass had a lock, or had made a change since the pin; or the pass has seen such a change.
+-- At a moment another pass held a lock, or had made a change since the pin. Or the pass has seen such a change.
 abbrev pub IsHindered : Layout → SeatView → SeatView → Type 0
 IsHindered layout s t = HasMetOther layout (version_of s.known.pin) s t ⊎ (version_of s.known.pin < length t.known.front)

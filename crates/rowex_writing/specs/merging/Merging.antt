@@ -40,7 +40,7 @@ use Rattle.rowex_writing.specs.declared.plan.job.Merge.{Merge}
 use Rattle.rowex_writing.specs.declared.plan.Span.{Span}
 
 -- ---- before the change
--- In the upper node, by the words under its lock, the place alone is beside that of the lower one, and names the node.
+-- In the upper node, by the words under its lock, this one slot is beside that of the lower node. It names the node to merge with.
 pub record IsNeighbour (k : Known) (job : Job) (b : Merge) : Type 0 where
   pub words : List ℕ
   pub has : HasLocked k (upper job).number words
@@ -48,12 +48,12 @@ pub record IsNeighbour (k : Known) (job : Job) (b : Merge) : Type 0 where
   pub height : ℕ
   pub sibling : subtrie_sibling job.key.now (node_words_of words).subtrie ≡ Some (b.position, Place (Node b.number height))
 
--- In the locked node of the fork, by its words, the place alone is beside the one that the key's search takes; and the entry can stand in it.
+-- In the locked node of the fork, by its words, this one slot is beside the one that the key's search takes. The entry can stand in it.
 abbrev pub ClosesFork : Known → Key → ClosedFork → Type 0
 ClosesFork k key fork = (words : List ℕ) → HasLocked k fork.step.number words → (spot key (node_words_of words).subtrie ≡ fork.step.slot) ×
     ((position : ℕ) × (beside fork.step.slot (node_words_of words).subtrie ≡ Some (fork.slot, position))) × StandsBelow (node_words_of words).fixed.height fork.entry
 
--- what is left of a node and its sibling can't be one: an entry alone is left, or they have more than 32 entries together
+-- What is left of a node and its sibling can't be one node. An entry alone is left, or they have more than 32 entries together.
 abbrev pub AreNoNode : Subtrie → Subtrie → Type 0
 AreNoNode left other = ((e : Entry) × (left ≡ Place e)) ⊎ (32 < size left + size other)
 
@@ -62,12 +62,12 @@ AreNoNode left other = ((e : Entry) × (left ≡ Place e)) ⊎ (32 < size left +
 abbrev pub IsFar : List PathNode → Span → ℕ → Type 0
 IsFar way span n = (s : PathNode) (i : ℕ) → slice_get way i ≡ Some s → span.end ≤ i + 2 → i < span.len → n ≢ s.number
 
--- the lock of what names the first of the nodes from `end` on
+-- the target is what names node `end` of the path: the anchor, or the node before
 abbrev pub IsTargetAbove : List PathNode → ℕ → Target → Type 0
 IsTargetAbove way end Anchor = end ≡ 0
 IsTargetAbove way end (NodeTarget n) = (s : PathNode) × (0 < end) × (slice_get way (end - 1) ≡ Some s) × (n ≡ s.number)
 
--- Beside these locks the pass has that one, and no other; and what the lock's target names is what the search found there.
+-- Beside these locks the pass has just the one above node `end` of the path. What that target names is what the search found there.
 pub data LocksAbove (held : List Locked) (key : Key) (way : List PathNode) (found : Found) (end : ℕ) (j : Known) : Type 0 where
   by_anchor : end ≡ 0 → j.locks ≡ held → j.anchor ≡ Some (named way found 0) → LocksAbove held key way found end j
   by_node : (s : PathNode) → 0 < end → slice_get way (end - 1) ≡ Some s → LocksLast s.number held j → j.anchor ≡ None →
@@ -84,40 +84,42 @@ pub record IsWide (table : TableView) (b : SeatView) (job : Job) (number : ℕ) 
   pub low : number < table.layout.nodes
   pub above : LocksAbove (record { node = number; words = words } ∷ taking.before.known.locks) job.key.now job.way.now job.found (job.span.end - 1) b.known
 
--- After the locks of these nodes the pass tries two more, or fewer: each that it has tried until then, once. It has tried both where this is
+-- If the pass had tried just the locks of these nodes, each once, it has tried at most two more, each once. It has tried two if `both` is
 -- true.
 abbrev pub TriesMore : {G : Type 0} → TableView → (G → Event → G → Type 0) → List ℕ → Bool → SeatView × G → SeatView × G → Type 0
 TriesMore {G} table becomes nodes both b c = (a : SeatView × G) → TriesNodesBy IsOfAttempt table becomes nodes a b →
     (locks : ℕ) × HasTriedOnce table becomes locks a c × (length nodes ≤ locks) × (locks ≤ length nodes + 2) × (both ≡ true → locks ≡ length nodes + 2)
 
--- so many steps at most and these more, where each record may be tried that is left
+-- If the pass had tried just the locks of these nodes, it has tried at most two more. Its steps since are bounded by the records that it
+-- may still try, by these locks, and by `more`.
 abbrev pub TriesFew : {G : Type 0} → TableView → (G → Event → G → Type 0) → List ℕ → (left more : ℕ) → SeatView × G → SeatView × G → Type 0
 TriesFew {G} table becomes nodes left more b c = (a : SeatView × G) → TriesNodesBy IsOfAttempt table becomes nodes a b →
     (locks : ℕ) × HasTriedOnce table becomes locks a c × (length nodes ≤ locks) × (locks ≤ length nodes + 2) ×
     (c.0.known.steps ≤ b.0.known.steps + 2 * left + (locks - length nodes) * level_steps + more)
 
--- and a change under all these locks, with room for so many steps before it
+-- If the pass had tried just the locks of these nodes, it has tried at most two more. Its steps since are those of a change under all these
+-- locks, with room for so many more.
 abbrev pub ChangesOn : {G : Type 0} → TableView → (G → Event → G → Type 0) → List ℕ → ℕ → SeatView × G → SeatView × G → Type 0
 ChangesOn {G} table becomes nodes room b c = (a : SeatView × G) → TriesNodesBy IsOfAttempt table becomes nodes a b →
     (locks : ℕ) × HasTriedOnce table becomes locks a c × (length nodes ≤ locks) × (locks ≤ length nodes + 2) ×
     (c.0.known.steps + room ≤ b.0.known.steps + change_steps table.layout locks)
 
--- a change that tries no lock, or one that tries more beside those of its span
+-- a change that tries no more locks, or one that tries more beside those of its span
 abbrev pub EndsChange : {G : Type 0} → TableView → (G → Event → G → Type 0) → Job → ℕ → SeatView × G → SeatView × G → Type 0
 EndsChange {G} table becomes job room b c =
     (HasRun table becomes b c × (c.0.known.steps + room ≤ b.0.known.steps + change_steps table.layout (locks_of job.span))) ⊎
     ((0 < job.span.end) × (job.span.end + 1 ≡ job.span.len) × ChangesOn table becomes (span_numbers job.way.now job.span) room b c)
 
 -- ---- the store
--- the records that go: both nodes of the span, the one beside, and the leaf
+-- the records that a merge unlinks: both nodes of the span, the one beside, and the leaf
 abbrev pub merged_gone : Job → (number leaf : ℕ) → List Rec
 merged_gone job number leaf = a_node (upper job).number ∷ a_node (lower job).number ∷ a_node number ∷ a_leaf leaf ∷ []
 
--- just those are listed, for the leaf that was found
+-- just the records that a merge unlinks are listed, for the leaf that was found
 abbrev pub HasListed : List Rec → Job → ℕ → Type 0
 HasListed gone job number = (leaf value : ℕ) → job.found ≡ Leaf leaf value None → gone ≡ merged_gone job number leaf
 
--- Once the records that the pass has made are ready, it may make the removal by a store of the entry above the upper node.
+-- Once the records that it has made are ready, the pass may make the removal by a store of the entry above the upper node.
 pub record MayMergeInto (table : TableView) (b : SeatView) (made : List Rec) (job : Job) (number : ℕ) (e : Entry) : Type 0 where
   pub change : Change
   pub was : Option ℕ

@@ -8,7 +8,7 @@ use Rattle.rowex_writing.specs.declared.plan.asking.Request.{Request}
 use Rattle.rowex_writing.specs.declared.plan.Aim.{Aim}
 use Rattle.rowex_writing.specs.declared.plan.Aim.TheVariants as aim
 
--- the value that a call gives its key, which has this value, or none; 0 if it gives none
+-- The value that a call gives its key, which has this value or none. It is 0 if the call gives it none.
 abbrev pub value_in : Call → Option ℕ → ℕ
 value_in (Insert key value) held = value
 value_in (Upsert key value) held = value
@@ -21,8 +21,8 @@ abbrev pub aim_where : ℕ → Option ℕ → Aim → Option Aim
 aim_where expected None aim = None
 aim_where expected (Some held) aim = if nat_eq held expected then Some aim else None
 
--- what a call aims at whose key has this value, or none: an exchange and an addition at what an upsert does; and one that only looks at
--- nothing
+-- What a call aims at whose key has this value, or none. An exchange and an addition may aim at what an upsert does. A call that only looks
+-- aims at nothing.
 abbrev pub aim_of : Call → Option ℕ → Option Aim
 aim_of (Insert key value) held = Some aim.Insert
 aim_of (Upsert key value) held = Some aim.Upsert
@@ -33,7 +33,7 @@ aim_of (Get key) held = None
 aim_of (Remove key) held = Some aim.Remove
 aim_of (RemoveIf key expected) held = aim_where expected held aim.Remove
 
--- a call requests this whose key has this value, or none
+-- the request of a call whose key has this value, or none
 abbrev pub IsRequest : Call → Option ℕ → Request → Type 0
 IsRequest call held request = (aim_of call held ≡ Some request.aim) × (request.value ≡ value_in call held)
 

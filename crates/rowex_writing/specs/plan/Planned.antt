@@ -16,22 +16,22 @@ use Rattle.rowex_writing.specs.declared.plan.Aim.{Aim}
 use Rattle.rowex_writing.specs.declared.plan.Plan.{Plan}
 use Rattle.finite_map.specs.Fronts.{BeginsWith}
 
--- an insertion of the key at the position affects the entries from first to last of the subtrie
+-- an insertion of the key at the position affects the entries in slots `first` to `last` of the subtrie
 pub record AffectsJust (key : Key) (position first last : ℕ) (shown : Subtrie) : Type 0 where
   pub from : affected_first position (spot key shown) shown ≡ first
   pub upto : affected_count position (spot key shown) shown + first ≡ last + 1
 
--- where a new leaf goes into a node of the way, these are the entries that its position affects there, by the forks that were read
+-- Of the node that gets a new leaf, the entries in slots `first` to `last` are affected, by the forks that were read.
 abbrev pub AreAffected : Known → ℕ → Key → List PathNode → Found → (first last : ℕ) → Type 0
 AreAffected k m key way (Leaf number value (Some p)) first last = (level : ℕ) (s : PathNode) → IsLevel way p level → slice_get way level ≡ Some s →
     (forks : Subtrie) × Sure k (λ past. IsShaped past m s.number forks) × AffectsJust key p first last forks
 AreAffected k m key way found first last = Unit {0}
 
--- what the call does, by its way
+-- the plan of a call, by what its search has found and read
 abbrev pub IsPlanned : Known → ℕ → Key → List PathNode → Aim → Found → Plan → Type 0
 IsPlanned k m key way aim found plan = (first : ℕ) × (last : ℕ) × IsPlan way first last aim found plan × AreAffected k m key way found first last
 
--- the last load of the root was since k, and its front begins with that of k
+-- the pass has loaded the root since k, and that load's front begins with that of k
 pub record HasLoadedRoot (k j : Known) : Type 0 where
   pub from : k.steps ≤ j.fresh.step
   pub upto : j.fresh.step < j.steps

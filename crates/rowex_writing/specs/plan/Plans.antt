@@ -17,18 +17,18 @@ use Rattle.rowex_writing.specs.declared.plan.Outline.TheVariants.{Known, Beside}
 use Rattle.rowex_writing.specs.declared.plan.Plan.{Plan}
 use Rattle.rowex_writing.specs.declared.plan.Plan.TheVariants.{Answer, Change}
 
--- the nodes of the way from `end` on, before `len`, are remade
+-- a plan that remakes the nodes of the path from `end` to before `len`
 abbrev pub change : ℕ → ℕ → Deed → Plan
 change len end deed = Change (record { len = len; end = end }) deed
 
 -- ---- a removal
--- its deed, on this way
+-- the deed of a removal on this path
 abbrev pub removal_deed : List PathNode → Deed
 removal_deed [] = Empty
 removal_deed (step ∷ []) = TakeTop
 removal_deed (step ∷ next ∷ way) = Take
 
--- the found leaf goes
+-- the deed removes the found leaf
 abbrev pub TakesLeaf : Deed → Type 0
 TakesLeaf Take = Unit {0}
 TakesLeaf TakeTop = Unit {0}
@@ -36,23 +36,23 @@ TakesLeaf Empty = Unit {0}
 TakesLeaf deed = ⊥
 
 -- ---- a new leaf beside affected entries
--- what is done at the chosen node
+-- the plan for a new leaf in the chosen node, by its case
 abbrev pub IsCase : List PathNode → ℕ → Choice → Case → Plan → Type 0
 IsCase way position chosen LeafPushdown plan = plan ≡ change (chosen.level + 1) (chosen.level + 1) (PushDown position)
 IsCase way position chosen NormalInsert plan = plan ≡ change (chosen.level + 1) chosen.level (Grow position)
 IsCase way position chosen Overflow plan = (end : ℕ) × IsChainEnd way chosen.level end × (plan ≡ change (chosen.level + 1) end (Grow position))
 
--- where the position affects the entries from first to last at this level
+-- the plan for a new leaf that affects the entries in slots `first` to `last` at this level
 abbrev pub IsBeside : List PathNode → (position level first last : ℕ) → Plan → Type 0
 IsBeside way position level first last plan = (chosen : Choice) × IsChosen way level first last chosen × IsCase way position chosen chosen.case plan
 
--- on a way of no node, the found leaf is at the root
+-- the plan for a new leaf on this path; with no node on it, the found leaf is at the root
 abbrev pub IsNewLeafPlan : List PathNode → (position first last : ℕ) → Plan → Type 0
 IsNewLeafPlan [] position first last plan = plan ≡ change 0 0 (PushDown position)
 IsNewLeafPlan (step ∷ way) position first last plan = (level : ℕ) × IsLevel (step ∷ way) position level × IsBeside (step ∷ way) position level first last plan
 
 -- ---- all calls
--- Of a call on this way, where a new leaf affects the entries from first to last at its level.
+-- The plan of a call on this path, where a new leaf affects the entries in slots `first` to `last` at its level.
 abbrev pub IsPlan : List PathNode → (first last : ℕ) → Aim → Found → Plan → Type 0
 -- the first key
 IsPlan way first last Insert Nothing plan = plan ≡ change 0 0 Put
@@ -69,23 +69,23 @@ IsPlan way first last Remove (Leaf number value (Some position)) plan = plan ≡
 IsPlan way first last Remove (Leaf number value None) plan = plan ≡ change (length way) (length way - 1) (removal_deed way)
 
 -- ---- before the affected entries are known
--- a new leaf's plan needs them where the way has nodes
+-- The outline of a new leaf. Its plan asks for the affected entries if the path has nodes.
 abbrev pub IsBesideFound : List PathNode → ℕ → Outline → Type 0
 IsBesideFound way position (Known plan) = (first last : ℕ) → IsNewLeafPlan way position first last plan
 IsBesideFound way position (Beside at level) = (at ≡ position) × IsLevel way position level ×
     ((first last : ℕ) (plan : Plan) → IsBeside way position level first last plan → IsNewLeafPlan way position first last plan)
 
--- the search ended at a leaf whose key differs first at this position
+-- the search ended at a leaf, whose key first differs at this position
 abbrev pub DiffersAt : Found → ℕ → Type 0
 DiffersAt found position = (number : ℕ) × (value : ℕ) × (found ≡ Leaf number value (Some position))
 
--- the plan, whichever they are; or the level at which they tell it, for a position at which the found leaf's key differs
+-- The outline of a call on this path. It is the plan, whichever entries are affected, or the level at which they are to be read.
 abbrev pub IsOutline : List PathNode → Aim → Found → Outline → Type 0
 IsOutline way aim found (Known plan) = (first last : ℕ) → IsPlan way first last aim found plan
 IsOutline way aim found (Beside position level) = DiffersAt found position × IsLevel way position level ×
     ((first last : ℕ) (plan : Plan) → IsBeside way position level first last plan → IsPlan way first last aim found plan)
 
--- the nodes of a plan's span are those of a part of the way
+-- the span of the plan is a part of the path
 abbrev pub LiesOnWay : List PathNode → Plan → Type 0
 LiesOnWay way (Answer reply) = Unit {0}
 LiesOnWay way (Change span deed) = (span.end ≤ span.len) × (span.len ≤ length way)

@@ -20,29 +20,30 @@ use Rattle.rowex_writing.specs.declared.build.kept.Build.{Build}
 use Rattle.rowex_core.specs.Events.{IsOfEntry}
 use Rattle.rowex_writing.specs.build.Putting.{AreInTable, IsAnchored}
 
--- The pass has published a change, and made no step since: just the records `gone` are unlinked by it, and just the nodes `kept`
--- are locked by it, each listed once.
+-- The pass has published a change, and made no step since. It has unlinked just the records `gone`, and has locked just the nodes `kept`,
+-- each listed once.
 abbrev pub HasJustPublished : Known → List Rec → List ℕ → Type 0
 HasJustPublished j gone kept = (k : Known) × (x : Change) × (was : Option ℕ) × HasPublished k j x was gone kept × AreApart kept
 
--- Just these records are the pass's own, each listed once and unlinked before its last load of the epoch, which found this one.
+-- Just these records are the pass's own, each listed once. Each was unlinked before the pass last loaded the epoch, and that load found
+-- this one.
 pub record HasToMark (k : Known) (epoch : ℕ) (recs : List Rec) : Type 0 where
   pub own : OwnsJust k.own (IsUnlinkedBefore k.round.version) recs
   pub apart : AreApart recs
   pub epoch_is : epoch ≡ k.round.epoch
 
--- what it knows of locks, of the anchor and of changes is the same
+-- the pass has the same locks, and has seen the same changes
 abbrev pub KeepsLocks : Known → Known → Type 0
 KeepsLocks k j = (j.locks ≡ k.locks) × (j.anchor ≡ k.anchor) × (j.front ≡ k.front)
 
--- the spot is the root
+-- whether the spot is the root
 abbrev pub is_root : Spot → Bool
 is_root Root = true
 is_root (Slot n i) = false
 is_root (Value l) = false
 
--- Once its records are ready, the pass may publish the change x by this store. The records that are listed for it go. Of the nodes that
--- the pass has locked just these are kept, each listed once, and the anchor is locked just where the root is stored.
+-- Once its records are ready, the pass may publish the change x by this store, which unlinks the records listed for it. Of the nodes that
+-- the pass has locked just these are kept, each listed once. The anchor is locked exactly if the root is stored.
 pub record MayStore (table : TableView) (a : SeatView) (build : Build) (kept : List PathNode) (spot : Spot) (entry : Option Entry)
     (x : Change) (was : Option ℕ) : Type 0 where
   pub ready : MayPublishOnceReady table a build.made.items spot (entry_word entry) x was build.gone.items

@@ -20,19 +20,18 @@ use Rattle.finite_map.specs.declared.Change.{Change}
 use Rattle.rowex_writing.specs.build.Changes.{HasChanged, IsDeedChange}
 use Rattle.rowex_writing.specs.declared.plan.Deed.{Deed}
 
--- the same end of a search, where a leaf with the key has this value
+-- the end of a search, with this value of the leaf that has the key
 abbrev pub revalued : Found → ℕ → Found
 revalued (Leaf number value None) now = Leaf number now None
 revalued found now = found
 
--- The pass has found this again under its locks: what its search found, with the value that the leaf has then; and the call has the same
--- aim there.
+-- Under its locks the pass has found what its search found, with the value that the leaf has then. The call has the same aim there.
 pub record IsFoundAgain (call : Call) (found now : Found) : Type 0 where
   pub value : ℕ
   pub is : now ≡ revalued found value
   pub aims : (aim : Aim) → aim_of call (value_of found) ≡ Some aim → aim_of call (value_of now) ≡ Some aim
 
--- where a leaf was found for the key, the key has this value after the changes that the pass has seen
+-- if the search found the key, it has this value after the changes that the pass has seen
 abbrev pub HoldsFound : Known → Key → Found → Type 0
 HoldsFound k key found = (number value : ℕ) → found ≡ Leaf number value None → value_at (map_of k.front) key ≡ Some value
 
@@ -45,7 +44,7 @@ pub record HasFoundOther (k j : Known) (call : Call) (key : Key) (now : Found) :
   pub held : HasFound j key (Some value)
   pub aimless : aim_of call (Some value) ≡ None
 
--- it has loaded the value of the leaf that was found for the key, if one was, since it last locked
+-- the pass has loaded the value of the leaf that its search found for the key, if any, since its last lock
 abbrev pub HasLoadedFound : Known → Found → Type 0
 HasLoadedFound k found = (number value : ℕ) → found ≡ Leaf number value None → HasLoaded k number value
 
@@ -53,6 +52,6 @@ HasLoadedFound k found = (number value : ℕ) → found ≡ Leaf number value No
 abbrev pub HasMoved : Layout → Job → Known → Known → Type 0
 HasMoved layout job k j = (m : ℕ) → IsJobFrom layout k m job → m < length j.front
 
--- what is done at the lower end of a span has been done: the key has the value, or it is absent
+-- the pass has done the deed at the lower end of a span: the key has the value, or is absent
 abbrev pub HasDoneDeed : Known → Known → Deed → Key → ℕ → Found → Type 0
 HasDoneDeed k j deed key value found = (x : Change) × (was : Option ℕ) × IsDeedChange k.pass deed key value found x was × HasChanged k j x was
