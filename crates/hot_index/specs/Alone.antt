@@ -15,7 +15,7 @@ use Rattle.hot_index_calls.specs.Answers.{IsCause, MayTake}
 use Rattle.hot_index_calls.specs.Calls.{HasCause, IsOutcome, MakesTries}
 use Rattle.hot_index_calls.specs.Passes.{IsNewPass, PassView}
 
--- the call may take no record, whatever it has seen of the changes that the pass knows of at last
+-- The call may take no record, however many of the changes that the pass knows at last it had seen.
 abbrev pub TakesNone : Call → PassView → PassView → Type 0
 TakesNone call k j = (m : PassView) → BeginsWith j.front m.front → ¬ (MayTake call k m)
 

@@ -3,7 +3,7 @@ use Rattle.std.specs.Prelude.{◌≡◌}
 use Rattle.rowex_table.specs.Seats.{TableView}
 use Rattle.hot_index_calls.specs.Passes.{PassView}
 
--- a handle: its index, which is seen as its table, and its pass
+-- what contracts see of a handle: its index, as a table, and its pass
 pub record HandleView : Type 0 where
   pub index : TableView
   pub pass : PassView
@@ -12,7 +12,7 @@ pub record HandleView : Type 0 where
 abbrev pub handle_at : TableView → PassView → HandleView
 handle_at index pass = record { index = index; pass = pass }
 
--- The handle stays at its index, and this became of its pass there.
+-- The handle stays at its index. `Became` says what has become of its pass.
 pub record Stays (Became : TableView → PassView → PassView → Type 0) (old new : HandleView) : Type 0 where
   pub index : new.index ≡ old.index
   pub pass : Became old.index old.pass new.pass

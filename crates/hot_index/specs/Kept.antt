@@ -3,15 +3,15 @@ use Rattle.std.specs.Prelude.{◌≡◌, ℕ, ◌+◌, min}
 use Rattle.record_words.specs.declared.layout.Layout.{Layout}
 use Rattle.record_words.specs.declared.layout.Stock.{Stock}
 
--- one more, but no more than there are numbers
+-- one more node record, but no more than there are numbers
 abbrev pub with_one_kept : ℕ → ℕ
 with_one_kept nodes = min (nodes + 1) 4294967295
 
--- a stock with one more
+-- the stock with one more node record, which is kept for removals
 abbrev pub kept_stock : Stock → Stock
 kept_stock stock = record stock { nodes = with_one_kept stock.nodes }
 
--- the layout is as asked, but for the node record that is kept
+-- the layout is as asked, but for one more node record, which is kept for removals
 pub record HasOneKept (asked layout : Layout) : Type 0 where
   pub passes : layout.passes ≡ asked.passes
   pub nodes : layout.nodes ≡ with_one_kept asked.nodes

@@ -12,7 +12,7 @@ use Rattle.finite_map.specs.Fronts.{LegalFront}
 use Rattle.finite_map.specs.Calls.{LegalCalls, changes_of}
 use Rattle.hot_index.specs.declared.key_counts.KeyCount.{KeyCount}
 
--- how many keys a change of this kind puts in, and how many it takes out
+-- how many keys a change of this kind puts in: 1 or 0
 abbrev pub puts_of : Kind → ℕ
 puts_of Added = 1
 puts_of Replaced = 0
@@ -24,19 +24,19 @@ takes_of Added = 0
 takes_of Replaced = 0
 takes_of TakenAway = 1
 
--- the same of a change
+-- how many keys a change puts in: 1 or 0
 abbrev pub puts : Change → ℕ
 puts c = puts_of c.kind
 
--- the same of a change
+-- how many keys a change takes out: 1 or 0
 abbrev pub takes : Change → ℕ
 takes c = takes_of c.kind
 
--- the net is the first number less the second, modulo 2^64
+-- `net` is `more` less `less`, modulo 2^64
 abbrev pub IsDifference : ℕ → ℕ → ℕ → Type 0
 IsDifference more less net = (a : ℕ) × (b : ℕ) × (net + less + a * 2 ^ 64 ≡ more + b * 2 ^ 64)
 
--- the net of the keys that changes put in and take out
+-- `net` is how many keys the changes put in, less how many they take out
 abbrev pub IsNet : List Change → ℕ → Type 0
 IsNet changes net = IsDifference (sum_by puts changes) (sum_by takes changes) net
 
@@ -44,27 +44,27 @@ IsNet changes net = IsDifference (sum_by puts changes) (sum_by takes changes) ne
 abbrev pub IsCountOf : ℕ → List Note → KeyCount → Type 0
 IsCountOf q notes count = IsNet (changes_of q notes) count.keys
 
--- some map answers the call so
+-- on some map the call has this reply
 abbrev pub MayReply : Call → Reply → Type 0
 MayReply call reply = (m : Map) × (reply ≡ reply_of m call)
 
--- the count was that of a pass's calls, and is that of one call more, which had this reply
+-- the count was that of a pass's calls, and is now that of one call more, with this reply
 abbrev pub CountsReply : Reply → KeyCount → KeyCount → Type 0
 CountsReply reply old new = (q place : ℕ) (notes : List Note) (call : Call) → MayReply call reply → IsCountOf q notes old →
     IsCountOf q (notes ++ record { place = place; call = call; reply = reply } ∷ []) new
 
--- the same of an answered call; a refused call leaves the count
+-- An answered call, with this reply, is counted. A refused one leaves the count.
 abbrev pub CountsAnswer : {F : Type 0} → Result Reply F → KeyCount → KeyCount → Type 0
 CountsAnswer answer old new = MatchResult answer (λ reply. CountsReply reply old new) (λ fault. new ≡ old)
 
--- what a call with this reply puts in less what it takes out, modulo 2^64
+-- how many keys a call with this reply puts in, less how many it takes out, modulo 2^64
 abbrev pub net_of : Reply → ℕ
 net_of Inserted = 1
 net_of New = 1
 net_of (Removed held) = 2 ^ 64 - 1
 net_of _ = 0
 
--- The changes of a front were made by the passes that have these counts: each pass's count is that of its calls, which are legal in it.
+-- The passes with these counts made the changes of a front. Each pass's count is that of its calls, which are legal in the front.
 pub record AreCounts (front : List Change) (counts : List KeyCount) : Type 0 where
   pub legal : LegalFront front
   pub makers : All (λ c. c.pass < length counts) front

@@ -23,11 +23,11 @@ use Rattle.rowex_table.specs.Seats.{IsLoaderSeat, TableView}
 use Rattle.publish_laws.specs.Lone.{HasSpare}
 use Rattle.hot_index_calls.specs.Passes.{IsNewPass, PassView}
 
--- the load has taken this pair besides, behind those that it had, for a leaf record of some number
+-- the load has taken this pair, behind those that it had, for a leaf record of some number
 abbrev pub HasTakenPair : Key → ℕ → LoadView → LoadView → Type 0
 HasTakenPair key value old new = (n : ℕ) × (new ≡ with_item old (item n key value))
 
--- no leaf record of the index has room for the key, taken or not
+-- no leaf record of the index, taken or not, has room for the key
 abbrev pub HasNoLeafFor : Layout → Key → Type 0
 HasNoLeafFor layout key = (n : ℕ) → n < layout.leaves → leaf_size layout n < words_for (length key)
 
@@ -39,14 +39,14 @@ CountsItems items count = (q : ℕ) → IsCountOf q (added_notes 0 items) count
 abbrev pub inserted_pair : Key × ℕ → Change
 inserted_pair x = record { pass = 0; key = x.0; value = x.1; kind = Added }
 
--- the answered insertions of these pairs, one after the other, from a place on
+-- the notes of answered insertions of these pairs, one after the other, at places from `place` on
 abbrev pub pairs_noted : ℕ → List (Key × ℕ) → List Note
 pairs_noted place [] = []
 pairs_noted place (x ∷ xs) = record { place = place; call = Insert x.0 x.1; reply = Inserted } ∷ pairs_noted (suc place) xs
 
--- Pass 0 of an index that was made of these pairs: it has inserted each of them, in their order, and has seen nothing else. Its calls are legal,
--- and the map has just these pairs. Its seat is that of a load, its one step. Some node record is left out of the tree that was loaded: so where
--- there is one pass, one is spare, as in a new index.
+-- Pass 0 of an index that was made of these pairs. It has inserted each of them, in their order, and has seen nothing else. Its calls are
+-- legal, and the map has just these pairs. Its seat is that of a load, its one step. If it is the only pass, some node record is spare, as
+-- in a new index.
 pub record IsLoaderPass (index : TableView) (xs : List (Key × ℕ)) (p : PassView) : Type 0 where
   pub number : p.number ≡ 0
   pub front : p.front ≡ map inserted_pair xs
@@ -59,7 +59,7 @@ pub record IsLoaderPass (index : TableView) (xs : List (Key × ℕ)) (p : PassVi
   pub out : (n : ℕ) × (n < index.layout.nodes) × ¬ IsLinked (loaded_tree index.layout words) (a_node n)
   pub spare : HasSpare index.layout p.seat
 
--- the pass of this number of such an index: all but pass 0 are new
+-- the pass of this number of an index that was made of these pairs; all but pass 0 are new
 abbrev pub IsPassOfLoad : TableView → List (Key × ℕ) → ℕ → PassView → Type 0
 IsPassOfLoad index xs zero p = IsLoaderPass index xs p
 IsPassOfLoad index xs (suc q) p = IsNewPass (suc q) p

@@ -11,11 +11,11 @@ pub record IsSettledWith (k : Known) (count : KeyCount) : Type 0 where
   pub settled : IsSettled k
   pub counts : IsCountOf k.pass k.notes count
 
--- the pass is between two calls, and was answered none
+-- the pass is between two calls, and has no answered one
 abbrev pub HasNoCall : SeatView → Type 0
 HasNoCall s = IsSettled s.known × (s.known.notes ≡ [])
 
--- The passes of these seats are between two calls. The count is that of the first one's; none other was answered one.
+-- The passes of these seats are between two calls. The count is that of the first one's calls. No other has an answered call.
 abbrev pub AreSettled : KeyCount → List SeatView → Type 0
 AreSettled count [] = Unit {0}
 AreSettled count (s ∷ ss) = IsSettledWith s.known count × All HasNoCall ss

@@ -7,6 +7,6 @@ use Rattle.key_ranges.specs.Ranges.{last_with}
 use Rattle.record_words.specs.declared.layout.Layout.{Layout}
 use Rattle.tries.specs.Keys.{Key}
 
--- The first pair from the key on was asked for: a scan of one pair, of the keys from this one to the last key of all, has found it.
+-- The first pair from the key on was asked for. A scan of one pair, from this key to the last key of all, has found it, or none.
 abbrev pub IsFirstFound : Layout → PassView → PassView → Key → Option (Key × ℕ) → Type 0
 IsFirstFound layout k j from found = IsFoundBy IsLawfulScan layout k j from (last_with []) found

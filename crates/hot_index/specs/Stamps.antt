@@ -8,20 +8,20 @@ use Rattle.rowex_table.specs.Seats.{IsShownAll, StampView, TableView}
 use Rattle.hot_index_calls.specs.Answers.{IsUnnoted}
 use Rattle.hot_index_calls.specs.Passes.{PassView, pass_of}
 
--- the stamp is one of the index, which is seen as its table
+-- the stamp is one of this index
 abbrev pub IsStampFrom : TableView → StampView → Type 0
 IsStampFrom index stamp = stamp.table ≡ index.id
 
--- the pass k is the pass j now, and has made one stamp more; nothing else of it has changed
+-- the pass has made one stamp more, and nothing else of it has changed
 abbrev pub HasStamped : PassView → PassView → Type 0
 HasStamped k j = j ≡ record k { seat = record k.seat { asides = suc k.seat.asides } }
 
--- the pass has seen more changes, and all else that it knows is as it was
+-- the pass has seen more changes, and knows the same otherwise
 abbrev pub HasSeenMore : PassView → PassView → Type 0
 HasSeenMore k j = j.seat.known ≡ with_front j.front k.seat.known
 
--- The pass k is the pass j now: it has seen the stamp's changes, beside those that it had seen before, and knows of the steps that made them.
--- No call of it is noted, and nothing else of its seat has changed but that this is counted; so it has made no step.
+-- The pass has seen the stamp's changes, beside those that it had seen before, and knows the steps that made them. It has made no step, and
+-- no call of it is noted. Nothing else of its seat has changed but that this is counted.
 pub record HasCaughtUp (layout : Layout) (stamp : List Change) (k j : PassView) : Type 0 where
   pub unnoted : IsUnnoted layout k j
   pub told : BeginsWith j.front stamp

@@ -16,8 +16,8 @@ pub record HoldsNone (c : Core) (p : ℕ) : Type 0 where
   pub own : (r : Rec) → holder_of (c.fate r) ≢ Some p
   pub pin : c.pins p ≡ None
 
--- A call of pass q, which led from the one view of its seat to the other, was alone. The steps `before` had been made when it began: no other
--- pass held anything then. Those behind them are the pass's own.
+-- A call of pass q, between these views of its seat, was alone. When it began, the steps `before` had been made, and no other pass held
+-- anything. The steps behind them are the pass's own.
 pub record RunsAlone (layout : Layout) (q : ℕ) (s t : SeatView) : Type 0 where
   pub before : List Event
   pub others : OthersStepOn q s.trace before
@@ -28,8 +28,8 @@ pub record RunsAlone (layout : Layout) (q : ℕ) (s t : SeatView) : Type 0 where
   pub until : t.trace ≡ before ++ own
   pub each : All (λ x. x.pass ≡ q) own
 
--- In a call of pass q, which led from the one view of its seat to the other, another pass was in the way. The call had made its first step, and
--- set its pin in the core `pinned`. From then on, at a moment, the other pass had a lock, or had made a change that is not among those of `pinned`.
+-- In a call of pass q, between these views of its seat, another pass was in the way. The call had made its first step, and then set its pin
+-- in the core `pinned`. At a moment since, the other pass had a lock, or had made a change that is not among those of `pinned`.
 pub record HasBeenHindered (layout : Layout) (q : ℕ) (s t : SeatView) : Type 0 where
   pub before : List Event
   pub first : Event

@@ -33,7 +33,7 @@ abbrev pub got : Option ℕ → Reply
 got None = Absent
 got (Some value) = Value value
 
--- the pass's front has grown, by changes of passes of the index, and its last load of the root was in this call
+-- the pass's front has grown by changes of the index's passes, and its last load of the root was in this call
 pub record GoesOn (layout : Layout) (k j : PassView) : Type 0 where
   pub number : j.number ≡ k.number
   pub front : BeginsWith j.front k.front
@@ -42,8 +42,8 @@ pub record GoesOn (layout : Layout) (k j : PassView) : Type 0 where
   pub now : (k.steps ≤ j.fresh.step) × (j.fresh.step < j.steps)
   pub makers : AreByPasses layout j.front
 
--- A call of the pass was answered: there is one note more, of this call and this reply, which stands in the history at a
--- place from what the pass had seen at its last load of the root up to what it has seen now; and the pass's calls are legal.
+-- A call of the pass was answered, and its calls are legal. There is one note more, of this call and this reply. Its place is from what the
+-- pass had seen at its last load of the root up to what it has seen now.
 pub record IsNoted (layout : Layout) (k j : PassView) (call : Call) (reply : Reply) : Type 0 where
   pub on : GoesOn layout k j
   pub place : ℕ
@@ -63,15 +63,15 @@ pub record IsScannedBy (IsLawful : ScanLaw) (layout : Layout) (k j : PassView) (
   pub lawful : IsLawful j.fresh.front j.front range.from range.upto range.limit scan
   pub legal : LegalCalls j.front j.number j.notes
 
--- A scan into a list was answered, whether there is a further key. It adds no note; and a scan with these pairs is lawful from the
--- last load of the root to what the pass has seen now.
+-- A scan into a list was answered, with whether there is a further key. It adds no note. A scan with these pairs is lawful from the last
+-- load of the root to what the pass has seen now.
 pub record IsListedBy (IsLawful : ScanLaw) (layout : Layout) (k j : PassView) (range : Range) (pairs : List (Key × ℕ)) (more : Bool) : Type 0 where
   pub on : GoesOn layout k j
   pub notes : j.notes ≡ k.notes
   pub lawful : (scan : Scan) → scan.pairs.items ≡ pairs → scan.more ≡ more → IsLawful j.fresh.front j.front range.from range.upto range.limit scan
   pub legal : LegalCalls j.front j.number j.notes
 
--- A scan into a list was refused memory: it is answered as one that was cut at the number of its pairs, which are fewer than the limit.
+-- A scan into a list was refused memory. It is answered as one that was cut at the number of its pairs, which is below the limit.
 abbrev pub IsListedInPartBy : ScanLaw → Layout → PassView → PassView → Range → List (Key × ℕ) → Type 0
 IsListedInPartBy IsLawful layout k j range pairs = (length pairs < range.limit) × IsListedBy IsLawful layout k j (limited range (length pairs)) pairs true
 
@@ -79,15 +79,15 @@ IsListedInPartBy IsLawful layout k j range pairs = (length pairs < range.limit) 
 abbrev pub IsFoundBy : ScanLaw → Layout → PassView → PassView → Key → Key → Option (Key × ℕ) → Type 0
 IsFoundBy IsLawful layout k j from upto found = (more : Bool) × IsListedBy IsLawful layout k j (range_from from upto 1) (option_to_list found) more
 
--- the same of scans upwards
+-- A scan upwards was answered, and adds no note. It is lawful from the last load of the root to what the pass has seen now.
 abbrev pub IsScanned : Layout → PassView → PassView → Range → Scan → Type 0
 IsScanned = IsScannedBy IsLawfulScan
 
--- the same, as a list of pairs and whether there were more
+-- A scan upwards into a list was answered, with whether there is a further key, as `IsListedBy` says.
 abbrev pub IsListed : Layout → PassView → PassView → Range → List (Key × ℕ) → Bool → Type 0
 IsListed = IsListedBy IsLawfulScan
 
--- A range was counted. It adds no note; and the number is that of the pairs of some list that a lawful scan gives. It is at most the limit.
+-- A range was counted, which adds no note. The number is that of the pairs of some list that a lawful scan gives. It is at most the limit.
 pub record IsRangeCounted (layout : Layout) (k j : PassView) (range : Range) (number : ℕ) : Type 0 where
   pub few : number ≤ range.limit
   pub pairs : List (Key × ℕ)
@@ -95,15 +95,15 @@ pub record IsRangeCounted (layout : Layout) (k j : PassView) (range : Range) (nu
   pub more : Bool
   pub listed : IsListed layout k j range pairs more
 
--- The values of a range were listed, whether there is a further one. It adds no note; and they are those of the pairs of some list that a
--- lawful scan gives, at most as many as the limit.
+-- The values of a range were listed, with whether there is a further one, which adds no note. They are those of the pairs of some list that
+-- a lawful scan gives. They are at most as many as the limit.
 pub record AreValuesListed (layout : Layout) (k j : PassView) (range : Range) (values : List ℕ) (more : Bool) : Type 0 where
   pub few : length values ≤ range.limit
   pub pairs : List (Key × ℕ)
   pub values_are : values ≡ map (λ (e : Key × ℕ). e.1) pairs
   pub listed : IsListed layout k j range pairs more
 
--- They were refused memory: they are as those that were cut at their number, which is less than the limit.
+-- A list of a range's values was refused memory. It is as one that was cut at the number of its values, which is below the limit.
 abbrev pub AreValuesListedInPart : Layout → PassView → PassView → Range → List ℕ → Type 0
 AreValuesListedInPart layout k j range values = (length values < range.limit) × AreValuesListed layout k j (limited range (length values)) values true
 
@@ -111,8 +111,8 @@ AreValuesListedInPart layout k j range values = (length values < range.limit) ×
 abbrev pub IsListedInPart : Layout → PassView → PassView → Range → List (Key × ℕ) → Type 0
 IsListedInPart = IsListedInPartBy IsLawfulScan
 
--- A scan was refused memory, which it needed for a pair: the limit allows one, and a key of the range was in the index in a version
--- from the last load of the root to what the pass has seen now.
+-- A scan was refused memory that it needed for a pair, which its limit allows. Some key of the range was in the index in a version since
+-- its last load of the root.
 pub record HasFoundPair (layout : Layout) (k j : PassView) (range : Range) : Type 0 where
   pub on : GoesOn layout k j
   pub room : 0 < range.limit
@@ -121,7 +121,7 @@ pub record HasFoundPair (layout : Layout) (k j : PassView) (range : Range) : Typ
   pub within : IsTrue (is_within range.from range.upto key)
   pub held : IsHeldBetween j.fresh.front j.front key value
 
--- A call was refused or asked nothing of the map: no note is added.
+-- A call was refused or asked nothing of the map, and no note is added.
 pub record IsUnnoted (layout : Layout) (k j : PassView) : Type 0 where
   pub number : j.number ≡ k.number
   pub front : BeginsWith j.front k.front
@@ -129,8 +129,8 @@ pub record IsUnnoted (layout : Layout) (k j : PassView) : Type 0 where
   pub legal : LegalCalls j.front j.number j.notes
   pub makers : AreByPasses layout j.front
 
--- The pass has seen a change by another pass of the index, made since it set the pin that it had at its last load of the root, a step
--- of this call: the change stands behind all those that had been made by then.
+-- The pass has seen a change by another pass of the index, which was made since a pin of this call. That is the pin that it had at its last
+-- load of the root, a step of this call.
 pub record IsOvertaken (layout : Layout) (k j : PassView) : Type 0 where
   pub loaded : k.steps ≤ j.fresh.step
   pub change : Change
@@ -140,23 +140,22 @@ pub record IsOvertaken (layout : Layout) (k j : PassView) : Type 0 where
   pub another : change.pass ≢ j.number
   pub below : change.pass < layout.passes
 
--- Another pass of the index stood in the way: a lock of this call found what it wanted to lock locked or retired by it, or a change of
--- it was made since the pin under which the call loaded the root last. And in the run of the call another pass has hindered it.
+-- Another pass of the index stood in the way. A lock of this call found its target locked or retired by it. Or it made a change since the
+-- pin under which the call loaded the root last. In the run of the call, another pass has hindered it.
 pub record HasConflict (layout : Layout) (k j : PassView) : Type 0 where
   pub pass : j.number < layout.passes
   pub met : HasMetTaken layout j.number k.steps j.failed ⊎ IsOvertaken layout k j
   pub hindered : HasBeenHindered layout j.number k.seat j.seat
 
--- Why a call was refused: another pass stood in its way; or of each node record, or of each leaf record with room for its key, a claim
--- failed or a load found the state not free. Then no leaf record was the pass's own, and of the node records at most two for each node
--- that it had locked, and one.
+-- Why a call was refused. As busy, another pass stood in its way. As full, each node record, or each leaf record with room for its key, was
+-- found not free. No leaf record was the pass's own, and of the node records at most two for each node that it had locked, and one.
 abbrev pub IsCause : Layout → Key → PassView → PassView → TryFault → Type 0
 IsCause layout key k j Busy = HasConflict layout k j
 IsCause layout key k j FullNodes = (own : List Rec) × LacksNodes layout j.number j.failed k.steps own
 IsCause layout key k j FullLeaves = LacksLeaves layout key j.number j.failed k.steps
 
--- The key had this value, or none, after some of the changes that the pass has seen: those that it had seen before the call are among them,
--- and so are those that had been made when it set the pin that it had at its last load of the root.
+-- The key had this value, or none, after some of the changes that the pass has seen. These have all that it had seen before the call, and
+-- all that were made before the pin of its last load of the root.
 pub record WasFound (key : Key) (held : Option ℕ) (k j : PassView) : Type 0 where
   pub place : ℕ
   pub begun : length k.front ≤ place
@@ -164,8 +163,8 @@ pub record WasFound (key : Key) (held : Option ℕ) (k j : PassView) : Type 0 wh
   pub upto : place ≤ length j.front
   pub found : value_at (map_of (take place j.front)) key ≡ held
 
--- A call may lack a record: an insertion or an upsert whose search found its key absent, and a removal whose search found its key, with the
--- value that it expects. No other call takes one, since the new value of a held key needs none.
+-- A call may lack a record. An insertion or an upsert may whose search found its key absent. A removal may whose search found its key, with
+-- the value that it expects. No other call takes one, since the new value of a held key needs none.
 abbrev pub MayTake : Call → PassView → PassView → Type 0
 MayTake (Insert key value) k j = WasFound key None k j
 MayTake (Upsert key value) k j = WasFound key None k j
@@ -173,22 +172,22 @@ MayTake (Remove key) k j = (value : ℕ) × WasFound key (Some value) k j
 MayTake (RemoveIf key expected) k j = WasFound key (Some expected) k j
 MayTake call k j = ⊥
 
--- A call was refused: it has changed nothing and adds no note; and it was full only if it may lack a record.
+-- A call was refused. It has changed nothing and adds no note. It was full only if it may lack a record.
 pub record IsRefused (layout : Layout) (call : Call) (k j : PassView) (fault : TryFault) : Type 0 where
   pub unnoted : IsUnnoted layout k j
   pub full : IsFullFault fault → MayTake call k j
 
--- And this is the cause.
+-- A call was refused as `IsRefused` says, and has the cause of its fault.
 pub record IsRefusedFor (layout : Layout) (call : Call) (k j : PassView) (fault : TryFault) : Type 0 where
   pub refused : IsRefused layout call k j fault
   pub cause : IsCause layout (key_of call) k j fault
 
--- the refusal of a call that waits for others
+-- the fault of a try for which no record of the kind was free
 abbrev pub fault_of : Full → TryFault
 fault_of Nodes = FullNodes
 fault_of Leaves = FullLeaves
 
--- a call may be refused so: a get never, an exchange and an addition only as busy, and neither removal for want of a leaf record
+-- A call may be refused with this fault. A get never is. An exchange and an addition may only be busy. No removal lacks a leaf record.
 abbrev pub MayRefuse : Call → TryFault → Type 0
 MayRefuse (Get key) fault = ⊥
 MayRefuse (Exchange key expected value) FullNodes = ⊥
@@ -199,12 +198,12 @@ MayRefuse (Remove key) FullLeaves = ⊥
 MayRefuse (RemoveIf key expected) FullLeaves = ⊥
 MayRefuse call fault = Unit {0}
 
--- the records of this kind may all be taken when this call asks for one
+-- the call may find no record of this kind free
 abbrev pub MayLack : Call → Full → Type 0
 MayLack call full = MayRefuse call (fault_of full)
 
--- Two passes have met: both have seen one list of changes, which begins with what each had seen; the calls of both are legal
--- in it, and stand together in one sequential history.
+-- Two passes have met. Both have seen one list of changes, which begins with what each had seen. The calls of both are legal in it, and
+-- stand together in one sequential history.
 pub record HaveMet (layout : Layout) (j k j' k' : PassView) : Type 0 where
   pub first : IsUnnoted layout j j'
   pub second : IsUnnoted layout k k'

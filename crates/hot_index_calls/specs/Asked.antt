@@ -22,7 +22,7 @@ use Rattle.hot_index_calls.specs.Traces.{HasEnded, IsAttempt}
 abbrev pub IsIdle : TableView → SeatView → Type 0
 IsIdle table s = IsSeatOf table s × IsSettled s.known
 
--- The pass is between two calls again: this one was answered and noted, or refused; and it has loaded the root.
+-- The pass is between two calls again, and has loaded the root. This call was answered and noted, or refused.
 pub record HasReplied (table : TableView) (call : Call) (result : Result Reply TryFault) (s t : SeatView) : Type 0 where
   pub idle : IsIdle table t
   pub noted : IfOk result (IsNoted table.layout (pass_of s) (pass_of t) call)
@@ -30,18 +30,18 @@ pub record HasReplied (table : TableView) (call : Call) (result : Result Reply T
   pub leafless : IsLeafless FullLeaves call result
   pub loaded : s.known.steps ≤ t.known.fresh.step
 
--- if no node record was free beside those that the pass had made, it lacks one
+-- if the call was refused for want of a node record, the pass lacks one beside those that it had made
 abbrev pub HasLacked : TableView → List Rec → Result Reply TryFault → SeatView → SeatView → Type 0
 HasLacked table made result s t = result ≡ Err FullNodes → LacksNodes table.layout t.known.pass t.known.failed s.known.steps (nodes_among made)
 
--- And it has made such steps. With the last one comes its note, if it was answered.
+-- The pass has made a call with this result, by steps of this sort. With the last one comes its note, if it was answered.
 pub record HasAsked {G : Type 0} (table : TableView) (becomes : G → Event → G → Type 0) (Are : SeatView × G → SeatView × G → List Act → Type 0)
     (call : Call) (result : Result Reply TryFault) (a b : SeatView × G) : Type 0 where
   pub replied : HasReplied table call result a.0 b.0
   pub ended : HasEnded table becomes (Are a b) (change_notes call result) a b
   pub later : a.0.known.steps ≤ b.0.known.steps
 
--- An attempt that does nothing: the pass pins itself and clears the pin, and is as it was.
+-- An attempt that does nothing. The pass sets its pin and clears it, and is as it was.
 pub record HasRested {G : Type 0} (table : TableView) (becomes : G → Event → G → Type 0) (a b : SeatView × G) : Type 0 where
   pub idle : IsIdle table b.0
   pub unnoted : IsUnnoted table.layout (pass_of a.0) (pass_of b.0)
@@ -50,7 +50,7 @@ pub record HasRested {G : Type 0} (table : TableView) (becomes : G → Event →
   pub ended : HasEnded table becomes (IsAttempt table.layout) silent a b
   pub steps : b.0.known.steps ≡ a.0.known.steps + 3
 
--- a call that waits for others ends as its last try
+-- the result of the last try of a call that waits
 abbrev pub last_try : Result Reply Full → Result Reply TryFault
 last_try (Ok reply) = Ok reply
 last_try (Err full) = Err (fault_of full)

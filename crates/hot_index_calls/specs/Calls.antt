@@ -28,15 +28,15 @@ use Rattle.hot_index_calls.specs.Passes.{Owns, PassView}
 use Rattle.hot_index_calls.specs.Rooms.{LeavesRoom}
 use Rattle.hot_index_calls.specs.Traces.{HasGot, HasGotRange, HasMade, untold}
 
--- What the map says of a call with this result: it was answered, and is noted with this reply; or it was refused, and has changed nothing.
+-- What the map says of a call with this result. It was answered, and is noted with this reply. Or it was refused, and has changed nothing.
 abbrev pub IsOutcome : Call → Result Reply TryFault → TableView → PassView → PassView → Type 0
 IsOutcome asked result index k j = MatchResult result (IsNoted index.layout k j asked) (IsRefused index.layout asked k j)
 
--- why it was refused, if it was, by what its steps have found
+-- the call, if it was refused, has the cause of its fault
 abbrev pub HasCause : Call → Result Reply TryFault → TableView → PassView → PassView → Type 0
 HasCause asked result index k j = IfErr result (IsCause index.layout (key_of asked) k j)
 
--- A change was tried by a whole call that doesn't wait: all that such a call ensures, each clause a field by its name.
+-- What a change that doesn't wait ensures. Each of its clauses is a field of that name.
 pub record IsTried {G : Type 0} (asked : Call) (result : Result Reply TryFault) (index : TableView) (becomes : G → Event → G → Type 0)
     (a b : PassView × G) : Type 0 where
   pub own : Owns index b.0
@@ -46,37 +46,37 @@ pub record IsTried {G : Type 0} (asked : Call) (result : Result Reply TryFault) 
   pub made : HasMade index becomes asked result a b
   pub room : LeavesRoom index.layout asked result a.0.seat b.0.seat
 
--- the first is said of a get, and the second of each other call
+-- the first holds of a get, the second of each other call
 abbrev pub GetsOr : Call → Type 0 → Type 0 → Type 0
 GetsOr (Get key) Gets Changes = Gets
 GetsOr asked Gets Changes = Changes
 
--- The steps of a call with this outcome, so many at most, of which the gate was told: those of a get, or of a change's attempts and rounds.
+-- The steps of a call with this outcome, whose number is bounded: those of a get, or of a change's attempts and rounds. The gate was told
+-- each.
 abbrev pub GetsOrMakes : {G : Type 0} → Call → Result Reply TryFault → TableView → (G → Event → G → Type 0) → PassView × G → PassView × G → Type 0
 GetsOrMakes asked result index becomes a b = GetsOr asked (HasGot index becomes a b) (HasMade index becomes asked result a b)
 
--- A change was tried once, by a whole call that doesn't wait. If no record was free, all records were counted then, and the result says what
--- the count says.
+-- A change was tried once, by a call that doesn't wait. If no record was free, all records were counted then. The result is what the count
+-- says.
 pub record IsTriedAndCounted {G : Type 0} (asked : Call) (result : Result Reply Refusal) (index : TableView) (becomes : G → Event → G → Type 0)
     (a b : PassView × G) : Type 0 where
   pub mid : PassView × G
   pub tried : IsTried asked (as_tried result) index becomes a mid
   pub told : IsCountTold asked result index becomes a mid b
 
--- Tries of a change were refused for these reasons, one after the other, and none of them is final.
+-- Tries of a change were refused, one after the other, for these reasons. None of them is final.
 abbrev pub AreTriesRefused : {G : Type 0} → Call → List Refusal → TableView → (G → Event → G → Type 0) → PassView × G → PassView × G → Type 0
 AreTriesRefused asked [] index becomes a b = b ≡ a
 AreTriesRefused {G = G} asked (refusal ∷ refusals) index becomes a b =
     (m : PassView × G) × IsTriedAndCounted asked (Err refusal) index becomes a m × IsPassing refusal × AreTriesRefused asked refusals index becomes m b
 
--- what a change that waits returns, by its last try: the reply, or a refusal that is final
+-- A change that waits returns what its last try came to: the reply, or a refusal that is final.
 abbrev pub IsOfLast : Result Reply Full → Result Reply Refusal → Type 0
 IsOfLast (Ok reply) last = last ≡ Ok reply
 IsOfLast (Err full) last = (counts : RecordCounts) × (last ≡ Err (IsFull full counts))
 
--- A change that waits makes tries, with a count after each that found no record free, and no other step. It goes on after a try that was busy
--- or held back, and ends with any other: so in an index of one pass it makes one try. The last one leaves what the change leaves. So the
--- cause of a refusal lies in the last try alone.
+-- A change that waits makes tries, with a count after each that found no record free, and no other step. It goes on after one that was busy
+-- or held back, and ends with any other. So in an index of one pass it makes one try. The cause of a refusal lies in the last try alone.
 pub record MakesTries {G : Type 0} (asked : Call) (result : Result Reply Full) (index : TableView) (becomes : G → Event → G → Type 0)
     (a b : PassView × G) : Type 0 where
   pub refusals : List Refusal
@@ -87,16 +87,17 @@ pub record MakesTries {G : Type 0} (asked : Call) (result : Result Reply Full) (
   pub tried : IsTriedAndCounted asked outcome index becomes last b
   pub is_last : IsOfLast result outcome
 
--- The steps of a call that waits and has this outcome: those of a get, or a change's tries.
+-- The steps of a call that waits and has this outcome: those of a get, or of a change's tries.
 abbrev pub GetsOrTries : {G : Type 0} → Call → Result Reply Full → TableView → (G → Event → G → Type 0) → PassView × G → PassView × G → Type 0
 GetsOrTries asked result index becomes a b = GetsOr asked (HasGot index becomes a b) (MakesTries asked result index becomes a b)
 
--- The steps of a call that doesn't wait and counts: those of a get, or a change's, with a count of all records if it found none free.
+-- The steps of a call that doesn't wait and counts. They are those of a get or of a change, with a count of all records if it found none
+-- free.
 abbrev pub GetsOrCounts : {G : Type 0} → Call → Result Reply Refusal → TableView → (G → Event → G → Type 0) → PassView × G → PassView × G → Type 0
 GetsOrCounts asked result index becomes a b = GetsOr asked (HasGot index becomes a b) (IsTriedAndCounted asked result index becomes a b)
 
--- A range was read, with such an answer, or memory was refused for a pair that it had found, and such a part is left; by its steps, so
--- many at most, of which the gate was told.
+-- A range was read, with an answer of this kind. Or memory was refused for a pair that it had found, and such a part is left. The number of
+-- its steps is bounded, and the gate was told each.
 pub record IsRangeReadWith {A E G : Type 0} (IsAnswer : Layout → PassView → PassView → A → Type 0) (IsPart : Layout → PassView → PassView → Type 0)
     (range : Range) (result : Result A E) (index : TableView) (becomes : G → Event → G → Type 0) (a b : PassView × G) : Type 0 where
   pub own : Owns index b.0
@@ -107,58 +108,58 @@ pub record IsRangeReadWith {A E G : Type 0} (IsAnswer : Layout → PassView → 
   pub steps : b.0.steps ≤ a.0.steps + scan_steps range.limit
   pub read : HasGotRange index becomes range.limit a b
 
--- nothing is said of a part
+-- of a part that is left out of memory nothing is said
 abbrev pub no_part : Layout → PassView → PassView → Type 0
 no_part layout k j = Unit {0}
 
--- a range was read, with no gate; of a part that is left out of memory nothing is said
+-- A range was read, with no gate. Of a part that is left out of memory nothing is said.
 abbrev pub IsRangeRead : {A E : Type 0} → (Layout → PassView → PassView → A → Type 0) → Range → Result A E → TableView → PassView → PassView → Type 0
 IsRangeRead IsAnswer range result index k j = IsRangeReadWith IsAnswer no_part range result index untold (k, tt) (j, tt)
 
--- a scan was made that is lawful in this sense
+-- a scan was made that is lawful in this sense, and a gate was told its steps
 abbrev pub IsScanReadBy : {E G : Type 0} → ScanLaw → Range → Result Scan E → TableView → (G → Event → G → Type 0) → PassView × G → PassView × G → Type 0
 IsScanReadBy IsLawful range result index becomes a b =
     IsRangeReadWith (λ layout k j. IsScannedBy IsLawful layout k j range) no_part range result index becomes a b
 
--- a scan upwards was made that is lawful, and a gate was told its steps
+-- a lawful scan upwards was made, and a gate was told its steps
 abbrev pub IsScanReadWith : {E G : Type 0} → Range → Result Scan E → TableView → (G → Event → G → Type 0) → PassView × G → PassView × G → Type 0
 IsScanReadWith range result index becomes a b = IsScanReadBy IsLawfulScan range result index becomes a b
 
--- a scan upwards was made that is lawful
+-- a lawful scan upwards was made
 abbrev pub IsScanRead : {E : Type 0} → Range → Result Scan E → TableView → PassView → PassView → Type 0
 IsScanRead range result index k j = IsScanReadWith range result index untold (k, tt) (j, tt)
 
--- the same of a scan into a list
+-- a scan into a list was made that is lawful in this sense, and a gate was told its steps
 abbrev pub IsListReadBy : {E G : Type 0} → ScanLaw → Range → List (Key × ℕ) → Result Bool E → TableView → (G → Event → G → Type 0) → PassView × G → PassView × G → Type 0
 IsListReadBy IsLawful range pairs result index becomes a b =
     IsRangeReadWith (λ layout k j. IsListedBy IsLawful layout k j range pairs) (λ layout k j. IsListedInPartBy IsLawful layout k j range pairs)
     range result index becomes a b
 
--- a scan upwards into a list was made that is lawful, and a gate was told its steps
+-- a lawful scan upwards into a list was made, and a gate was told its steps
 abbrev pub IsListReadWith : {E G : Type 0} → Range → List (Key × ℕ) → Result Bool E → TableView → (G → Event → G → Type 0) → PassView × G → PassView × G → Type 0
 IsListReadWith range pairs result index becomes a b = IsListReadBy IsLawfulScan range pairs result index becomes a b
 
--- a scan upwards into a list was made that is lawful
+-- a lawful scan upwards into a list was made
 abbrev pub IsListRead : {E : Type 0} → Range → List (Key × ℕ) → Result Bool E → TableView → PassView → PassView → Type 0
 IsListRead range pairs result index k j = IsListReadWith range pairs result index untold (k, tt) (j, tt)
 
--- A range was counted, which needs no memory, by its steps, of which the gate was told: as many at most as a scan makes for 16 pairs more than
--- it counted, or for the range's limit, if that is less.
+-- A range was counted, which needs no memory, and a gate was told its steps. They are at most those of a scan for 16 pairs more than it
+-- counted, or for the range's limit, if that is less.
 abbrev pub IsCountReadWith : {G : Type 0} → Range → ℕ → TableView → (G → Event → G → Type 0) → PassView × G → PassView × G → Type 0
 IsCountReadWith range number index becomes a b =
     IsRangeReadWith (λ layout k j. IsRangeCounted layout k j range) no_part (limited range (limit_by range.limit number))
     (let counted : Result ℕ (Unit {0}) = Ok number in counted) index becomes a b
 
--- the same, where nobody is told of its steps
+-- a range was counted, as `IsCountReadWith` says, with no gate
 abbrev pub IsCountRead : Range → ℕ → TableView → PassView → PassView → Type 0
 IsCountRead range number index k j = IsCountReadWith range number index untold (k, tt) (j, tt)
 
--- The values of a range were listed, by its steps, of which the gate was told.
+-- the values of a range were listed, and a gate was told the steps
 abbrev pub IsValuesReadWith : {E G : Type 0} → Range → List ℕ → Result Bool E → TableView → (G → Event → G → Type 0) → PassView × G → PassView × G → Type 0
 IsValuesReadWith range values result index becomes a b =
     IsRangeReadWith (λ layout k j. AreValuesListed layout k j range values) (λ layout k j. AreValuesListedInPart layout k j range values)
     range result index becomes a b
 
--- the same, where nobody is told of its steps
+-- the values of a range were listed, with no gate
 abbrev pub IsValuesRead : {E : Type 0} → Range → List ℕ → Result Bool E → TableView → PassView → PassView → Type 0
 IsValuesRead range values result index k j = IsValuesReadWith range values result index untold (k, tt) (j, tt)

@@ -18,37 +18,37 @@ use Rattle.hot_index_calls.specs.Passes.{PassView, pass_of}
 use Rattle.hot_index_calls.specs.declared.census.RecordCounts.{RecordCounts}
 use Rattle.hot_index_calls.specs.declared.census.StateCounts.{StateCounts}
 
--- the record is free
+-- the state is that of a free record
 abbrev pub is_free : Tag → Bool
 is_free Free = true
 is_free tag = false
 
--- a pass holds it, out of the tree
+-- the state is that of a record that a pass has claimed
 abbrev pub is_held : Tag → Bool
 is_held Held = true
 is_held tag = false
 
--- a locked node is live
+-- the state is that of a record in the tree, locked or not
 abbrev pub is_live : Tag → Bool
 is_live Live = true
 is_live Locked = true
 is_live tag = false
 
--- it was retired
+-- the state is that of a retired record
 abbrev pub is_obsolete : Tag → Bool
 is_obsolete (Obsolete epoch) = true
 is_obsolete tag = false
 
--- how many of these tags there are of each kind
+-- how many of these states there are of each sort
 abbrev pub counts_of : List Tag → StateCounts
 counts_of tags = record { free = count_by is_free tags; held = count_by is_held tags; live = count_by is_live tags; obsolete = count_by is_obsolete tags }
 
--- the loads of the states of records of one kind, from this number on and in turn, that find these tags
+-- the loads of the states of records of one kind, in turn from number n on, that find these tags
 abbrev pub loads_of : (ℕ → Rec) → ℕ → List Tag → List Act
 loads_of kind n [] = []
 loads_of kind n (tag ∷ tags) = LoadState (kind n) (state_word tag) ∷ loads_of kind (suc n) tags
 
--- the tags that were found: of the nodes, and of the leaves of each class, in the order of their numbers
+-- the states that a count has found, in the order of the records' numbers: of the nodes, and of the leaves of each class
 pub record FoundTags : Type 0 where
   pub nodes : List Tag
   pub short : List Tag
@@ -57,7 +57,7 @@ pub record FoundTags : Type 0 where
   pub wide : List Tag
   pub long : List Tag
 
--- one tag for each record of the layout
+-- the states that were found are one for each record of the layout
 pub record OneForEach (layout : Layout) (tags : FoundTags) : Type 0 where
   pub nodes : layout.nodes ≡ length tags.nodes
   pub short : layout.medium_from ≡ length tags.short
@@ -66,13 +66,13 @@ pub record OneForEach (layout : Layout) (tags : FoundTags) : Type 0 where
   pub wide : layout.long_from ≡ layout.wide_from + length tags.wide
   pub long : layout.leaves ≡ layout.long_from + length tags.long
 
--- the loads that find these, nodes first
+-- the loads that find these states, nodes first
 abbrev pub loads_in : Layout → FoundTags → List Act
 loads_in layout tags =
     loads_of a_node 0 tags.nodes ++ loads_of a_leaf 0 tags.short ++ loads_of a_leaf layout.medium_from tags.medium ++
     loads_of a_leaf layout.large_from tags.large ++ loads_of a_leaf layout.wide_from tags.wide ++ loads_of a_leaf layout.long_from tags.long
 
--- how many of these there are, and how many bytes the table takes
+-- how many of these states there are of each kind and class, and how many bytes the table takes
 abbrev pub counts_in : Layout → FoundTags → RecordCounts
 counts_in layout tags = record {
   nodes = counts_of tags.nodes;
@@ -84,9 +84,8 @@ counts_in layout tags = record {
   bytes = WORD_BYTES * word_count layout;
 }
 
--- All records were counted: the pass loads the state of each once, in the order of their numbers and nodes first, and makes no other
--- step, from the seat that it has before to the one that it has after; the counts are of the tags that these loads find, each at its
--- own moment. The gate is told each load, in order, and nothing else; the pass sees no change by them.
+-- All records were counted. The pass loads the state of each once, in the order of their numbers and nodes first, and makes no other step.
+-- The counts are of the states that these loads find, each at its own moment. The gate is told each load, and the pass sees no change.
 pub record HasCounted {G : Type 0} (index : TableView) (becomes : G → Event → G → Type 0) (a b : PassView × G) (counts : RecordCounts) : Type 0 where
   pub tags : FoundTags
   pub begins : a.0 ≡ pass_of a.0.seat
@@ -100,7 +99,7 @@ pub record HasCounted {G : Type 0} (index : TableView) (becomes : G → Event �
 
 -- On a seat
 
--- the counts with one record more, of this tag
+-- the counts with one record more, in this state
 abbrev pub with_tag : Tag → StateCounts → StateCounts
 with_tag Free counts = record counts { free = counts.free + 1 }
 with_tag Held counts = record counts { held = counts.held + 1 }
@@ -108,12 +107,12 @@ with_tag Live counts = record counts { live = counts.live + 1 }
 with_tag Locked counts = record counts { live = counts.live + 1 }
 with_tag (Obsolete epoch) counts = record counts { obsolete = counts.obsolete + 1 }
 
--- The records of one kind from one number up to another, without that, have been counted: so many were in each state.
+-- The records of one kind from `first` to before `behind` were counted. So many were in each state.
 abbrev pub CountsFrom : {G : Type 0} → TableView → (G → Event → G → Type 0) → (ℕ → Rec) → ℕ → ℕ → StateCounts → SeatView × G → SeatView × G → Type 0
 CountsFrom table becomes kind first behind counts a b =
     (tags : List Tag) × (behind ≡ first + length tags) × (counts ≡ counts_of tags) × Does table becomes collecting (loads_of kind first tags) a b
 
--- all records have been counted
+-- all records were counted
 abbrev pub CountsAll : {G : Type 0} → TableView → (G → Event → G → Type 0) → RecordCounts → SeatView × G → SeatView × G → Type 0
 CountsAll table becomes counts a b =
     (tags : FoundTags) × OneForEach table.layout tags × (counts ≡ counts_in table.layout tags) × Does table becomes collecting (loads_in table.layout tags) a b

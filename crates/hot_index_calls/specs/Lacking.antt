@@ -21,12 +21,12 @@ IsUsed (Unlinked since last q) = Unit {0}
 IsUsed (Marked since last epoch) = Unit {0}
 IsUsed f = ⊥
 
--- If the table has one pass, this record is so after the steps of which the pass knows.
+-- The record is in the tree or retired after the steps that the table's only pass knows.
 abbrev pub IsUsedAt : Layout → SeatView → Rec → Type 0
 IsUsedAt layout s r = (c : Core) → IsLone layout s c → IsUsed (c.fate r)
 
--- In an index of one pass the records that a call lacked are so after it: the nodes but these, which were its own; or the leaf records with room for
--- its key.
+-- In an index of one pass, the records that a call lacked are in the tree or retired after it. They are the node records but its own, or
+-- the leaf records with room for its key.
 pub record LeavesUsed (layout : Layout) (key : Key) (own : List Rec) (result : Result Reply TryFault) (t : SeatView) : Type 0 where
   pub nodes : layout.passes ≡ 1 → result ≡ Err FullNodes → (n : ℕ) → n < layout.nodes → ¬ (Contains own (a_node n)) →
       IsUsedAt layout t (a_node n)

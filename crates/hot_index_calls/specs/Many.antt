@@ -22,9 +22,8 @@ gets [] found = []
 gets (key ∷ keys) [] = []
 gets (key ∷ keys) (value ∷ found) = (Get key, got value) ∷ gets keys found
 
--- Calls of the pass were answered, in some order: there is one note more for each, of the call and its reply. Each stands in the history at a
--- place from what the pass had seen at its last load of the root up to what it has seen now; and the pass's calls are legal, so in the order
--- of the notes the places never fall.
+-- Calls of the pass were answered, in some order, and its calls are legal. There is one note more for each, of the call and its reply. Its
+-- place is from what the pass had seen at its last load of the root up to what it has seen now.
 pub record AreNoted (layout : Layout) (k j : PassView) (calls : List (Call × Reply)) : Type 0 where
   pub on : GoesOn layout k j
   pub added : List Note
@@ -33,9 +32,8 @@ pub record AreNoted (layout : Layout) (k j : PassView) (calls : List (Call × Re
   pub low : All (λ n. length j.fresh.front ≤ n.place) added
   pub legal : LegalCalls j.front j.number j.notes
 
--- The pass reads once for so many keys: it loads the root once, and one entry in each node on a key's way. It makes at most 26 steps for each
--- entry that it loads, 32 for each key, and 4 beside. Beside them it touches eleven words for each such entry at most. Which loads serve which
--- key isn't said.
+-- The pass reads once for so many keys: it loads the root once, and one entry in each node on a key's path. It makes at most 26 steps for
+-- each entry, 32 for each key, and 4 others. It touches at most eleven words for each entry. Which loads serve which key isn't said.
 pub record HasGotMany {G : Type 0} (index : TableView) (becomes : G → Event → G → Type 0) (count : ℕ) (a b : PassView × G) : Type 0 where
   pub read : HasRead index becomes a b
   pub depth : entries_in read.loads ≤ count * (9 * MAX_BYTES)

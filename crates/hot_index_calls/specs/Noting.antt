@@ -24,7 +24,7 @@ same_reply Absent Absent = true
 same_reply (Removed v) (Removed w) = nat_eq v w
 same_reply _ _ = false
 
--- the first number from `low` on that passes the test, of so many more than `low`; the last of them if no other does
+-- the first number from `low` to `low + more` that passes the test, and the last if none before it does
 abbrev pub first_from : (ℕ → Bool) → ℕ → ℕ → ℕ
 first_from test low zero = low
 first_from test low (suc more) = if test low then low else first_from test (low + 1) more
@@ -33,17 +33,16 @@ first_from test low (suc more) = if test low then low else first_from test (low 
 abbrev pub answers_so : List Change → Call → Reply → ℕ → Bool
 answers_so front call reply n = same_reply (reply_of (map_of (take n front)) call) reply
 
--- the first place from `low` up to the front's end at which the call has this reply on the map
+-- the first place from `low` up to the front's end at which the map has this reply to the call
 unfoldable pub place_of : List Change → ℕ → Call → Reply → ℕ
 place_of front low call reply = first_from (answers_so front call reply) low (length front - low)
 
--- the place of a call by what it is, where the pass knows k: one that changed the map stands at its own change, the last that was
--- seen
+-- The place of a call that ends when the pass knows k. One that changed the map stands at its own change, the last that was seen.
 abbrev pub place_by : Bool → Call → Reply → Known → ℕ
 place_by true call reply k = length k.front - 1
 place_by false call reply k = place_of k.front (since k) call reply
 
--- the notes of a call that may change the map: one if it was answered
+-- the note of a call that may change the map, if it was answered
 abbrev pub change_notes : {F : Type 0} → Call → Result Reply F → Known → List Note
 change_notes call (Ok reply) k = record { place = place_by (is_some (effect_of call reply)) call reply k; call = call; reply = reply } ∷ []
 change_notes call (Err fault) k = []

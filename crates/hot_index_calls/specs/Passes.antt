@@ -12,9 +12,9 @@ use Rattle.rowex_core.specs.declared.known.Known.{Known}
 use Rattle.rowex_table.specs.Rule.{opening_of}
 use Rattle.rowex_table.specs.Seats.{TableView, SeatView}
 
--- A pass: its seat in the table, with all that it knows, and of which steps; and told of it by names of their own the table of its index, its
--- number, the changes that it has seen, those at its last load of the root, its answered calls, the number of its next atomic step, and what
--- its failed claims and locks and its loads of states found. `touches` says how many words it has touched, beside its steps.
+-- What contracts see of a pass: its seat in the table, with all that it knows. Parts of that have names of their own: its number, its
+-- front, and the front at its last load of the root. So have its answered calls, its count of steps, and its failed steps. `touches` says
+-- how many words it has touched, beside its steps.
 pub record PassView : Type 0 where
   pub seat : SeatView
   pub table : TableId
@@ -40,7 +40,7 @@ pass_of s = record {
   failed = s.known.failed;
 }
 
--- the pass belongs to the index, which is seen as its table
+-- the pass belongs to this index
 abbrev pub Owns : TableView → PassView → Type 0
 Owns index pass = pass.table ≡ index.id
 
@@ -48,9 +48,8 @@ Owns index pass = pass.table ≡ index.id
 abbrev pub AreByPasses : Layout → List Change → Type 0
 AreByPasses layout changes = All (λ x. x.pass < layout.passes) changes
 
--- Between two calls a pass has no claimed record, no lock and no pin; and since what it knows that it has is all that it has,
--- nothing in the index is its own. Its last load of the root was a step of an earlier call or is still to come, and its calls
--- are legal in its front.
+-- The pass is between two calls: it has no record of its own, no lock and no pin. Its last load of the root was in an earlier call, or is
+-- still to come. Its calls are legal in its front.
 pub record IsSettled (k : Known) : Type 0 where
   pub own : k.own ≡ []
   pub locks : k.locks ≡ []
@@ -60,7 +59,7 @@ pub record IsSettled (k : Known) : Type 0 where
   pub loaded : k.fresh.step < k.steps
   pub legal : LegalCalls k.front k.pass k.notes
 
--- a pass that has made no call, nor anything else, and knows of no step of any pass
+-- a pass that has made no call or step, and knows no step of any pass
 abbrev pub IsNewPass : ℕ → PassView → Type 0
 IsNewPass q pass =
     (pass.number ≡ q) × (pass.front ≡ []) × (pass.notes ≡ []) × (pass.seat.known ≡ opening_of q) × (pass.seat.trace ≡ []) × (pass.seat.asides ≡ 0)

@@ -23,18 +23,18 @@ use Rattle.hot_index_calls.specs.declared.census.StateCounts.{StateCounts}
 use Rattle.hot_index_calls.specs.declared.refusals.Refusal.{Refusal}
 use Rattle.hot_index_calls.specs.declared.refusals.Refusal.TheVariants.{Busy as IsBusy, HeldBack, Full as IsFull}
 
--- Of one kind and class fewer records are free than are needed, none is claimed by a call, and none is retired and not given back.
+-- Of one kind and class, fewer records are free than are needed. None is claimed, and none is retired and not given back.
 pub record AreShort (needs : ℕ) (counts : StateCounts) : Type 0 where
   pub free : counts.free < needs
   pub held : counts.held ≡ 0
   pub obsolete : counts.obsolete ≡ 0
 
--- of one kind and class none is claimed by a call, and none is retired and not given back
+-- Of one kind and class, no record is claimed, and none is retired and not given back.
 pub record AreAtRest (counts : StateCounts) : Type 0 where
   pub held : counts.held ≡ 0
   pub obsolete : counts.obsolete ≡ 0
 
--- it is so of all records
+-- no record is claimed, and none is retired and not given back
 pub record AreAllAtRest (counts : RecordCounts) : Type 0 where
   pub nodes : AreAtRest counts.nodes
   pub short : AreAtRest counts.short
@@ -43,7 +43,7 @@ pub record AreAllAtRest (counts : RecordCounts) : Type 0 where
   pub wide : AreAtRest counts.wide
   pub long : AreAtRest counts.long
 
--- it is so of each class of leaf records that has room for a key of this length
+-- the property holds of each class of leaf records with room for a key of this length
 pub record OfLeaves (IsSo : StateCounts → Type 0) (length : ℕ) (counts : RecordCounts) : Type 0 where
   pub short : length ≤ SHORT_BYTES → IsSo counts.short
   pub medium : length ≤ MEDIUM_BYTES → IsSo counts.medium
@@ -51,45 +51,46 @@ pub record OfLeaves (IsSo : StateCounts → Type 0) (length : ℕ) (counts : Rec
   pub wide : length ≤ WIDE_BYTES → IsSo counts.wide
   pub long : IsSo counts.long
 
--- the index is full for a change that lacks a record of this kind: of the nodes it needs so many, and of the leaf records one with room
+-- By the count, the index is full for a change that lacks a record of this kind. It needs so many node records, or one leaf record with
+-- room.
 abbrev pub IsShortOf : Full → (needs length : ℕ) → RecordCounts → Type 0
 IsShortOf Nodes needs length counts = AreShort needs counts.nodes
 IsShortOf Leaves needs length counts = OfLeaves (AreShort 1) length counts
 
--- the refusal is final: the index is full by the count, or no other pass may give a record back
+-- The refusal is final. The index is full by the count, or no other pass may give a record back.
 abbrev pub IsFinal : (passes : ℕ) → Full → (needs length : ℕ) → RecordCounts → Type 0
 IsFinal passes lacks needs length counts = (passes ≡ 1) ⊎ IsShortOf lacks needs length counts
 
--- what the count says of the lack: it is held back, or final
+-- the refusal for want of a record that the count gives: it is held back, or final
 abbrev pub Judges : (passes : ℕ) → Full → (needs length : ℕ) → RecordCounts → Refusal → Type 0
 Judges passes lacks needs length counts IsBusy = ⊥
 Judges passes lacks needs length counts (HeldBack full) = (full ≡ lacks) × ¬ (IsFinal passes lacks needs length counts)
 Judges passes lacks needs length counts (IsFull full shown) = (full ≡ lacks) × (shown ≡ counts) × IsFinal passes lacks needs length counts
 
--- the refusal isn't final
+-- the refusal isn't final: the call was busy or held back
 abbrev pub IsPassing : Refusal → Type 0
 IsPassing IsBusy = Unit {0}
 IsPassing (HeldBack lacks) = Unit {0}
 IsPassing (IsFull lacks counts) = ⊥
 
--- the fault of the try
+-- the fault of the try that this refusal follows
 abbrev pub fault_in : Refusal → TryFault
 fault_in IsBusy = Busy
 fault_in (HeldBack lacks) = fault_of lacks
 fault_in (IsFull lacks counts) = fault_of lacks
 
--- what the try itself returned, before the count
+-- the result of the try, before the count
 abbrev pub as_tried : Result Reply Refusal → Result Reply TryFault
 as_tried (Ok reply) = Ok reply
 as_tried (Err refusal) = Err (fault_in refusal)
 
--- what it needs where it lacks this: one node record more than its own, beside which it found none free
+-- how many records of the kind a try needs that lacks one: of the nodes one more than its own
 abbrev pub NeedsBeside : Layout → PassView → PassView → Full → ℕ → Type 0
 NeedsBeside layout k j Nodes needs = (own : List Rec) × LacksNodes layout j.number j.failed k.steps own × (needs ≡ suc (length own))
 NeedsBeside layout k j Leaves needs = Unit {0}
 
--- After the try, which led from a to m, all records were counted, and the count says this of its lack. In an index of one pass it finds no record
--- claimed and none retired, and fewer free than the try needs, while the index has made fewer steps than there are epochs.
+-- After the try, from a to m, all records were counted, and the count judges what it lacked. In an index of one pass it finds no record
+-- claimed or retired, and fewer free than the try needs. That asks for fewer steps so far than there are epochs.
 pub record IsCountedAfter {G : Type 0} (call : Call) (lacks : Full) (refusal : Refusal) (index : TableView) (becomes : G → Event → G → Type 0)
     (a m b : PassView × G) : Type 0 where
   pub needs : ℕ
@@ -100,12 +101,13 @@ pub record IsCountedAfter {G : Type 0} (call : Call) (lacks : Full) (refusal : R
   pub alone : index.layout.passes ≡ 1 → IsEarly b.0.seat → AreAllAtRest counts
   pub short : index.layout.passes ≡ 1 → IsEarly b.0.seat → IsShortOf lacks needs (length (key_of call)) counts
 
--- The call removes a key in an index of so many passes, which are several. Insertions leave a node record for it: where it finds none free,
--- another call has that one, or holds back one that was retired since.
+-- The call is a removal in an index of several passes. Insertions leave a node record for it. If it finds none free, another call has that
+-- one, or holds back one that was retired since.
 abbrev pub IsLeftOne : (passes : ℕ) → Call → Type 0
 IsLeftOne passes call = (1 < passes) × IsRemoval call
 
--- Where it was busy, nothing was counted, nor where a removal lacked the record that is left for it: that is held back, and never full.
+-- What follows a refused try. If it was busy, nothing is counted. So it is if a removal lacked the node record that is left for it: that is
+-- held back, and never full.
 abbrev pub IsToldAfter : {G : Type 0} → Call → TableView → (G → Event → G → Type 0) → (a m b : PassView × G) → Refusal → Type 0
 IsToldAfter call index becomes a m b IsBusy = b ≡ m
 IsToldAfter call index becomes a m b (HeldBack lacks) =
@@ -113,7 +115,7 @@ IsToldAfter call index becomes a m b (HeldBack lacks) =
 IsToldAfter call index becomes a m b (IsFull lacks counts) =
     ¬ (IsLeftOne index.layout.passes call) × IsCountedAfter call lacks (IsFull lacks counts) index becomes a m b
 
--- after one that was answered neither
+-- what follows a try: a count if it was refused for want of a record
 abbrev pub IsCountTold : {G : Type 0} → Call → Result Reply Refusal → TableView → (G → Event → G → Type 0) → (a m b : PassView × G) → Type 0
 IsCountTold call (Ok reply) index becomes a m b = b ≡ m
 IsCountTold call (Err refusal) index becomes a m b = IsToldAfter call index becomes a m b refusal

@@ -7,11 +7,10 @@ use Rattle.tries.specs.Keys.{Key}
 use Rattle.hot_index_calls.specs.Answers.{IsFoundBy, IsListedBy}
 use Rattle.hot_index_calls.specs.Passes.{PassView}
 
--- a scan downwards into a list was answered, whether there is a further key
+-- A scan downwards into a list was answered, with whether there is a further key, as `IsListedBy` says.
 abbrev pub IsReverseListed : Layout → PassView → PassView → Range → List (Key × ℕ) → Bool → Type 0
 IsReverseListed = IsListedBy IsLawfulReverseScan
 
--- The last pair up to the key was asked for: a scan downwards of one pair, of the keys from this one to the first key of all, has
--- found it.
+-- The last pair up to the key was asked for. A scan downwards of one pair, from this key to the first key of all, has found it, or none.
 abbrev pub IsLastFound : Layout → PassView → PassView → Key → Option (Key × ℕ) → Type 0
 IsLastFound layout k j upto found = IsFoundBy IsLawfulReverseScan layout k j [] upto found

@@ -14,15 +14,15 @@ use Rattle.rowex_writing.specs.declared.attempts.TryFault.{TryFault}
 use Rattle.rowex_writing.specs.declared.attempts.TryFault.TheVariants.{FullNodes}
 use Rattle.hot_index_calls.specs.Traces.{is_full}
 
--- The passes of the seat's table have made fewer steps than there are epochs, by two at least.
+-- the table's passes have made fewer steps than there are epochs, by two at least
 abbrev pub IsEarly : SeatView → Type 0
 IsEarly s = length s.trace + 2 < EPOCHS
 
--- In an index of one pass, where one node record stands in no tree before the call, a removal is not refused for want of a node record.
+-- In an index of one pass with a spare node record, a removal is not refused for want of a node record.
 abbrev pub FindsRoom : Layout → Call → Result Reply TryFault → SeatView → SeatView → Type 0
 FindsRoom layout call result s t = IsRemoval call → layout.passes ≡ 1 → HasSpare layout s → IsEarly t → result ≢ Err FullNodes
 
--- Where a node record stands in no tree before the call, one stands in none after it; and a removal in an index of one pass finds one.
+-- If a node record stood in no tree before the call, one stands in none after it. With one pass, a removal finds one.
 pub record LeavesRoom (layout : Layout) (call : Call) (result : Result Reply TryFault) (s t : SeatView) : Type 0 where
   pub spares : KeepsSpare layout s t
   pub finds : FindsRoom layout call result s t
@@ -33,11 +33,11 @@ IsUnretired (Unlinked since last q) = ⊥
 IsUnretired (Marked since last epoch) = ⊥
 IsUnretired f = Unit {0}
 
--- If the table has one pass, this record is not retired after the steps of which the pass knows;
+-- The record is not retired after the steps that the table's only pass knows.
 abbrev pub IsUnretiredAt : Layout → SeatView → Rec → Type 0
 IsUnretiredAt layout s r = (c : Core) → IsLone layout s c → IsUnretired (c.fate r)
 
--- none is.
+-- No record is retired after the steps that the table's only pass knows.
 abbrev pub HasNoneRetired : Layout → SeatView → Type 0
 HasNoneRetired layout s = (r : Rec) → HasRecord layout r → IsUnretiredAt layout s r
 

@@ -29,18 +29,16 @@ use Rattle.hot_index_calls.specs.Counts.{round_steps, try_steps}
 use Rattle.hot_index_calls.specs.Noting.{change_notes}
 use Rattle.hot_index_calls.specs.Passes.{PassView, pass_of}
 
--- nobody is told
+-- a gate that is told nothing
 abbrev pub untold : Unit {0} → Event → Unit {0} → Type 0
 untold g event h = Unit {0}
 
--- the acts of a call that only reads: it pins the pass, loads the root and then words below it, and clears the pin
+-- the acts of a call that only reads, but for its last one: it sets the pin, loads the root, and then words below it
 abbrev pub reading : ℕ → ℕ → List Act → List Act
 reading epoch root loads = LoadEpoch epoch ∷ SetPin epoch ∷ LoadRef Root root ∷ loads
 
--- The call pins the pass, loads the root and then words below it, and clears the pin: these steps lead from the very seat that the
--- pass has before to the one that it has after, one after the other, and no other does. With the last one come the call's notes. The
--- gate is told each of them, in order, and nothing else. The load of the root shows the pass all changes that the table's steps had made
--- by then, and so all that any pass had seen.
+-- The call sets the pass's pin, loads the root and then words below it, and clears the pin. It makes no other step. The gate is told each,
+-- and with the last come the call's notes. The load of the root shows the pass all changes made by then, and so all that any pass had seen.
 pub record HasRead {G : Type 0} (index : TableView) (becomes : G → Event → G → Type 0) (a b : PassView × G) : Type 0 where
   pub epoch : ℕ
   pub root : ℕ
@@ -53,32 +51,32 @@ pub record HasRead {G : Type 0} (index : TableView) (becomes : G → Event → G
   pub sees : SeesAllOfRun index.layout a.0.seat b.0.seat
   pub told : IsTold becomes (events_of a.0.number (reading epoch root loads ++ ClearPin ∷ [])) a.1 b.1
 
--- A get loads one entry in each node on the way of its key: it makes at most 26 steps for each entry that it loads, and 36 beside.
--- Beside them it touches four words for each such entry at most.
+-- What a get does. It loads one entry in each node on its key's path. It makes at most 26 steps for each entry, and 36 others. It touches
+-- at most four words for each.
 pub record HasGot {G : Type 0} (index : TableView) (becomes : G → Event → G → Type 0) (a b : PassView × G) : Type 0 where
   pub read : HasRead index becomes a b
   pub depth : entries_in read.loads ≤ 9 * MAX_BYTES
   pub few : b.0.steps ≤ a.0.steps + 36 + 26 * entries_in read.loads
   pub touched : b.0.touches ≤ a.0.touches + search_touches * entries_in read.loads
 
--- A scan loads one entry for each node to which it goes, and one for each leaf: it makes at most 26 steps for each entry that it loads, 8
--- more for each pair of its limit, and 101 beside. Beside them it touches eleven words for each such entry at most.
+-- What a scan does. It loads one entry for each node to which it goes, and one for each leaf. It makes at most 26 steps for each entry, 8
+-- for each pair of its limit, and 101 others. It touches at most eleven words for each entry.
 pub record HasGotRange {G : Type 0} (index : TableView) (becomes : G → Event → G → Type 0) (limit : ℕ) (a b : PassView × G) : Type 0 where
   pub read : HasRead index becomes a b
   pub most : entries_in read.loads ≤ scan_entries limit
   pub few : b.0.steps ≤ a.0.steps + 101 + 26 * entries_in read.loads + 8 * limit
   pub touched : b.0.touches ≤ a.0.touches + entry_touches * entries_in read.loads
 
--- An attempt, but for its last step, which clears the pin: it pins the pass, leaves the pin, and tries each lock once at most. Its
--- steps are bounded by the entries that its search loads, the locks that it tries, and the records of the table.
+-- The steps of an attempt, but for the last, which clears the pin. It sets the pin, and tries each lock once at most. Their number is
+-- bounded by the entries that its search loads, the locks that it tries, and the records of the table.
 pub record IsAttempt (layout : Layout) (acts : List Act) : Type 0 where
   pub epoch : ℕ
   pub rest : List Act
   pub acts_are : acts ≡ LoadEpoch epoch ∷ SetPin epoch ∷ rest
   pub steps : AreAttemptSteps layout rest
 
--- The steps of a round of collection: it loads the epoch, makes it the next one, loads it again and loads each pin; then it visits each
--- record, nodes first.
+-- The steps of a round of collection. It loads the epoch, raises it, loads it again and loads each pin. Then it visits each record, nodes
+-- first.
 pub record AreRoundSteps (layout : Layout) (acts : List Act) : Type 0 where
   pub epoch : ℕ
   pub found : ℕ
@@ -92,7 +90,7 @@ pub record AreRoundSteps (layout : Layout) (acts : List Act) : Type 0 where
   pub visits_nodes : InTurn (λ n. Visits bound (a_node n)) layout.nodes nodes
   pub visits_leaves : InTurn (λ n. Visits bound (a_leaf n)) layout.leaves leaves
 
--- The steps of a small round: it begins in the same way, and then visits some records alone, so many at most.
+-- The steps of a small round: it begins as a round does, and then visits at most so many records.
 pub record AreSmallSteps (layout : Layout) (most : ℕ) (acts : List Act) : Type 0 where
   pub epoch : ℕ
   pub found : ℕ
@@ -106,33 +104,33 @@ pub record AreSmallSteps (layout : Layout) (most : ℕ) (acts : List Act) : Type
   pub visits_each : VisitEach bound recs visits
   pub few : length recs ≤ most
 
--- The steps between two attempts: those of a round; or in an index of several passes those of one that is spared, which visits no record.
+-- The steps between two attempts. They are those of a round or, with several passes, of one that is spared and visits no record.
 abbrev pub AreStepsBetween : Layout → List Act → Type 0
 AreStepsBetween layout acts = AreRoundSteps layout acts ⊎ ((1 < layout.passes) × AreSmallSteps layout 0 acts)
 
--- of so many nodes and so many leaves, the number of this kind
+-- of two numbers, for nodes and for leaves, the one of this kind
 abbrev pub of_kind : Full → (nodes leaves : ℕ) → ℕ
 of_kind Nodes nodes leaves = nodes
 of_kind Leaves nodes leaves = leaves
 
--- They are such steps, and none of them gives back a record of this kind: a round that is spared gives none back.
+-- The steps are those between two attempts, and none gives back a record of this kind. A round that is spared gives none back.
 abbrev pub GiveNoneBetween : Layout → Full → List Act → Type 0
 GiveNoneBetween layout kind acts =
     ((round : AreRoundSteps layout acts) × (of_kind kind (count_by has_given round.nodes) (count_by has_given round.leaves) ≡ 0)) ⊎
     ((1 < layout.passes) × AreSmallSteps layout 0 acts)
 
--- On seats: what a call returned stands by what its pass has done from the first to the second alone. It was answered and is noted with its
--- reply, or refused, for a cause that was found since.
+-- What a call returned follows from what its pass has done between these views of its seat. It was answered and is noted with its reply, or
+-- refused, for a cause found since.
 abbrev pub StandsSince : Layout → Call → Result Reply TryFault → SeatView → SeatView → Type 0
 StandsSince layout call result s t = IfOk result (IsNoted layout (pass_of s) (pass_of t) call) × IfErr result (IsRefusedFor layout call (pass_of s) (pass_of t))
 
--- on a seat: one attempt
+-- the steps are those of one attempt
 abbrev pub IsOneAttempt : {G : Type 0} → TableView → SeatView × G → SeatView × G → List Act → Type 0
 IsOneAttempt table a b acts = IsAttempt table.layout acts
 
--- On a seat: two attempts, and a round of collection between them, whole or spared. When the first had ended, the call was refused as full by it
--- alone; and from there the other steps lead on. The notes of the call come with the last. The call returns what the second attempt alone came
--- to; but where the round gave back no record of the kind that the first lacked, what both came to.
+-- Two attempts, with a round of collection between them, whole or spared. The first was full. The call's notes come with the last step. The
+-- call returns what the second attempt alone came to. But if the round gave back no record of the kind that the first lacked, it returns
+-- what both came to.
 pub record AreTwoAttempts {G : Type 0} (table : TableView) (becomes : G → Event → G → Type 0) (call : Call) (result : Result Reply TryFault)
     (a b : SeatView × G) (acts : List Act) : Type 0 where
   pub first : List Act
@@ -158,11 +156,11 @@ is_full (Err Busy) = false
 is_full (Err FullNodes) = true
 is_full (Err FullLeaves) = true
 
--- On a seat: one attempt, whose answer stands unless it is full; or two, with a round between them, where the first was full.
+-- One attempt, whose answer stands unless it is full. Or two, with a round between them, if the first was full.
 abbrev pub AreTries : {G : Type 0} → TableView → (G → Event → G → Type 0) → Call → Result Reply TryFault → SeatView × G → SeatView × G → List Act → Type 0
 AreTries table becomes call result a b acts = (IsAttempt table.layout acts × (is_full result ≡ false)) ⊎ AreTwoAttempts table becomes call result a b acts
 
--- On a seat: these tries, and before them a small round or nothing.
+-- The attempts of a change, and before them a small round or nothing.
 pub record AreAttempts {G : Type 0} (table : TableView) (becomes : G → Event → G → Type 0) (call : Call) (result : Result Reply TryFault)
     (a b : SeatView × G) (acts : List Act) : Type 0 where
   pub before : List Act
@@ -173,30 +171,28 @@ pub record AreAttempts {G : Type 0} (table : TableView) (becomes : G → Event �
   pub steps : Runs table becomes before a tidied
   pub tries : AreTries table becomes call result tidied b rest
 
--- On a seat: the pass makes a small round, or no step.
+-- the pass makes a small round, or no step
 abbrev pub Tidies : {G : Type 0} → TableView → (G → Event → G → Type 0) → SeatView × G → SeatView × G → Type 0
 Tidies table becomes a b = (b ≡ a) ⊎ IsSmallRound table becomes MOST_VISITED a b
 
--- On a seat: the pass makes a round of collection; or, in an index of several passes, one that is spared.
+-- the pass makes a round of collection or, with several passes, one that is spared
 abbrev pub Collects : {G : Type 0} → TableView → (G → Event → G → Type 0) → SeatView × G → SeatView × G → Type 0
 Collects table becomes a b = ((nodes : ℕ) × (leaves : ℕ) × IsRound table becomes a b nodes leaves) ⊎ ((1 < table.layout.passes) × IsSparedRound table becomes a b)
 
--- so, and it gives back no record of this kind
+-- the pass makes a round of collection that gives back no record of this kind or, with several passes, one that is spared
 abbrev pub CollectsNone : {G : Type 0} → TableView → (G → Event → G → Type 0) → Full → SeatView × G → SeatView × G → Type 0
 CollectsNone table becomes kind a b =
     ((nodes : ℕ) × (leaves : ℕ) × IsRound table becomes a b nodes leaves × (of_kind kind nodes leaves ≡ 0)) ⊎
     ((1 < table.layout.passes) × IsSparedRound table becomes a b)
 
--- On a seat: the call makes such steps, and then clears the pin of its pass, with these notes.
+-- The call makes steps of this sort, and then clears its pass's pin, with these notes.
 abbrev pub HasEnded : {G : Type 0} → TableView → (G → Event → G → Type 0) → (List Act → Type 0) → (Known → List Note) → SeatView × G → SeatView × G → Type 0
 HasEnded table becomes Are said a b = (acts : List Act) × Are acts × Ends table becomes acts ClearPin said a b
 
--- The call makes one attempt, or two with a round of collection between them, whole or spared, and a small round or nothing before; it makes no other
--- step, from the seat that the pass has before to the one that it has after. An attempt tries each lock once at most. A second one follows
--- a first that was full, and no other. The last step clears the pin. With it comes the call's note, if it was answered. The gate is told
--- each of the steps, in order, and nothing else. So many they are at most. Beside them the pass touches eleven words at most for each entry
--- that they load. Answered or refused, its last load of the root has shown the
--- pass all changes that the table's steps had made by then, and so all that any pass had seen.
+-- What a change does: one attempt, or two with a round of collection between them, and before them a small round or nothing. A second
+-- attempt follows only a first that was full. The last step clears the pin, with the call's note, if it was answered. The gate is told each
+-- step, and their number is bounded. For each entry loaded it touches at most eleven words. Its last load of the root has shown the pass
+-- all changes made by then, and so all that any pass had seen.
 pub record HasMade {G : Type 0} (index : TableView) (becomes : G → Event → G → Type 0) (call : Call) (result : Result Reply TryFault)
     (a b : PassView × G) : Type 0 where
   pub acts : List Act
@@ -209,13 +205,12 @@ pub record HasMade {G : Type 0} (index : TableView) (becomes : G → Event → G
   pub few : b.0.steps ≤ a.0.steps + try_steps call index.layout
   pub touched : b.0.touches ≤ a.0.touches + entry_touches * entries_in acts
 
--- On a seat: the call makes steps, one after the other, and these notes come with the last.
+-- the call makes some steps, one after the other, and these notes come with the last
 abbrev pub HasStepped : {G : Type 0} → TableView → (G → Event → G → Type 0) → (Known → List Note) → SeatView × G → SeatView × G → Type 0
 HasStepped table becomes said a b = (acts : List Act) × (last : Act) × Ends table becomes acts last said a b
 
--- The pass makes these steps, one after the other, and no other, from the seat that it has before to the one that it has after; with
--- the last one come the call's notes. The gate is told each of them, in order, and nothing else. Answered or refused, its last load of the
--- root has shown the pass all changes that the table's steps had made by then, and so all that any pass had seen.
+-- A call that loads the root makes these steps and no other, and its notes come with the last. The gate is told each of them, in order, and
+-- nothing else. Its last load of the root has shown the pass all changes made by then, and so all that any pass had seen.
 pub record HasTold {G : Type 0} (index : TableView) (becomes : G → Event → G → Type 0) (a b : PassView × G) : Type 0 where
   pub acts : List Act
   pub last : Act
@@ -226,9 +221,8 @@ pub record HasTold {G : Type 0} (index : TableView) (becomes : G → Event → G
   pub sees : SeesAllOfRun index.layout a.0.seat b.0.seat
   pub told : IsTold becomes (events_of a.0.number (acts ++ last ∷ [])) a.1 b.1
 
--- The pass makes one round of collection, from the seat that it has before to the one that it has after, whose own exchanges give back
--- so many nodes and so many leaves; it sees no change by it.
--- The gate is told each of its steps, and so many they are at most.
+-- The pass makes one round of collection, whose own exchanges give back so many nodes and leaves. It sees no change by it. The gate is told
+-- each step, and their number is bounded.
 pub record HasCollected {G : Type 0} (index : TableView) (becomes : G → Event → G → Type 0) (a b : PassView × G) (nodes leaves : ℕ) : Type 0 where
   pub begins : a.0 ≡ pass_of a.0.seat
   pub ends : b.0 ≡ pass_of b.0.seat

@@ -25,7 +25,7 @@ pub record IsReturning (at : ℕ → Moment) (q t : ℕ) (call : Pending) (s e :
   pub pass : e.known.pass ≡ q
   pub later : call.since ≤ t
 
--- It asked one call of the map, which was noted.
+-- The call asked one call of the map, which was noted.
 pub record IsAnswered (layout : Layout) (call : Pending) (k j : PassView) (notes : List Note) : Type 0 where
   pub asked : Call
   pub reply : Reply
@@ -33,14 +33,15 @@ pub record IsAnswered (layout : Layout) (call : Pending) (k j : PassView) (notes
   pub noted : IsNoted layout k j asked reply
   pub notes_are : notes ≡ record { place = noted.place; call = asked; reply = reply } ∷ []
 
--- It asked look-ups, which were noted, in an order of theirs.
+-- The call asked look-ups, which were noted in some order.
 pub record HasAnsweredMany (layout : Layout) (call : Pending) (k j : PassView) (notes : List Note) : Type 0 where
   pub asked : List (Call × Reply)
   pub calls : map (λ x. x.0) asked ≡ call.calls
   pub noted : AreNoted layout k j asked
   pub notes_are : notes ≡ noted.added
 
--- It asked nothing of the map, and added no note: so `IsScannedBy` and `IsListedBy` say of scans, and `IsUnnoted` of collections and counts.
+-- The call asked nothing of the map, and added no note. `IsScannedBy` and `IsListedBy` say so of scans, `IsUnnoted` of collections and
+-- counts.
 pub record IsQuiet (call : Pending) (k j : PassView) (notes : List Note) : Type 0 where
   pub calls : call.calls ≡ []
   pub same : j.notes ≡ k.notes
@@ -51,11 +52,11 @@ pub record IsQuiet (call : Pending) (k j : PassView) (notes : List Note) : Type 
 abbrev pub insertions : Layout → List ℕ → List Call
 insertions layout words = map (λ x. Insert x.key x.value) (items_of (loaded_tree layout words))
 
--- and the notes of these, where nothing was before
+-- the notes of the insertions of the pairs that these words of a table show
 abbrev pub insertion_notes : Layout → List ℕ → List Note
 insertion_notes layout words = added_notes 0 (items_of (loaded_tree layout words))
 
--- It was the bulk load with which the table was made (`IsLoaderSeat`): pass 0 was new, and it asked for these insertions.
+-- The call was the bulk load with which the table was made (`IsLoaderSeat`). Pass 0 was new, and asked for these insertions.
 pub record HasBulkLoaded (layout : Layout) (calls : List Call) (k j : Known) (notes : List Note) : Type 0 where
   pub words : List ℕ
   pub load : IsLoad layout words
@@ -78,7 +79,8 @@ HasBeenRefused layout at q t call =
     (s : SeatView) × (e : SeatView) × (asked : Call) × (fault : TryFault) × IsReturning at q t call s e × (call.calls ≡ asked ∷ []) ×
     IsRefusedFor layout asked (pass_of s) (pass_of e) fault × MayRefuse asked fault
 
--- what happens at moment t of an execution leads to the next one: as in a run, and each call that ends has ended as its contract says
+-- What happens at moment t of an execution leads to the next moment. It does as in a run, and each call that ends has ended as its contract
+-- says.
 abbrev pub LeadsOn : Layout → (ℕ → Moment) → ℕ → Happening → Type 0
 LeadsOn layout at t (steps q act notes) = Continues layout at t (steps q act notes)
 LeadsOn layout at t (shows q front) = Continues layout at t (shows q front)

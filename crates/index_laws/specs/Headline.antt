@@ -54,14 +54,14 @@ use Rattle.index_laws.specs.Joined.{OneRunIsAnExecution}
 use Rattle.index_laws.specs.Statements.{ExecutionsAreLinearizable, Responses}
 use Rattle.index_laws.specs.Traced.{EndedBeforeLoaded, TracedAreExecutions}
 
--- The answered calls of a pass, with the changes of others that it has seen, are a legal history of a finite map, in which each stands once
--- and in the order in which it was made: a call that is noted comes last.
+-- The answered calls of a pass, with the changes of others that it has seen, are a legal history of a finite map. Each call stands there
+-- once, in the order in which they were made. A call that is noted comes last.
 abbrev pub History : Type 0
 History =
     (layout : Layout) (k j : PassView) (call : Call) (reply : Reply) → IsNoted layout k j call reply →
     LegalHistory (weave j.front j.notes) × (calls_in (weave j.front j.notes) ≡ calls_of j.notes) × (calls_of j.notes ≡ calls_of k.notes ++ answered call reply ∷ [])
 
--- Passes that have met share one such history, which has the calls of both.
+-- Passes that have met share one legal history, which has the calls of both.
 abbrev pub OneHistory : Type 0
 OneHistory =
     (layout : Layout) (j k j' k' : PassView) → HaveMet layout j k j' k' →
@@ -76,8 +76,8 @@ LoadedHistory =
     (calls_in (weave (pass_of s).front (pass_of s).notes) ≡ map (λ x. answered (Insert x.key x.value) Inserted) (items_of (loaded_tree table.layout words))) ×
     IsRising (content (loaded_tree table.layout words))
 
--- A call that a pass made from its invocation to moment t of a run was answered as the map was at a moment in between: nothing that had been
--- changed before it began is missed.
+-- The reply to a call, made from its invocation to moment t of a run, is the map's at some moment in between. So it misses nothing that had
+-- been changed before it began.
 abbrev pub Freshness : Type 0
 Freshness =
     (layout : Layout) (last : ℕ) (at : ℕ → Moment) (happens : ℕ → Happening) → IsWholeRun layout last at happens →
@@ -85,7 +85,8 @@ Freshness =
     (asked : Call) (reply : Reply) → IsNoted layout (pass_of s) (pass_of e) asked reply →
     (m : ℕ) × (call.since ≤ m) × (m ≤ t) × (reply ≡ reply_of (map_at at m) asked)
 
--- So were look-ups of many keys by one call, each at a moment of its own.
+-- The replies to look-ups of many keys by one call are the map's at moments of the call, one for each. So they miss nothing that had been
+-- changed before it began.
 abbrev pub FreshnessOfMany : Type 0
 FreshnessOfMany =
     (layout : Layout) (last : ℕ) (at : ℕ → Moment) (happens : ℕ → Happening) → IsWholeRun layout last at happens →
@@ -93,10 +94,9 @@ FreshnessOfMany =
     (notes : List Note) → HasAnsweredMany layout call (pass_of s) (pass_of e) notes →
     All (λ n. (m : ℕ) × (call.since ≤ m) × (m ≤ t) × (n.reply ≡ reply_of (map_at at m) n.call)) notes
 
--- A scan that a pass made from its invocation to moment t of a run is lawful from what the pass saw at its last load of the root to what it
--- has seen by its end. And it shows the maps of moments from the one to the other: each pair was in one of them, and no key of its range is
--- missing that was in all, up to the last pair, if there are more. `IsListedBy` says it of a scan into a list, also of one that is cut for want
--- of memory, and of one for a single pair.
+-- A scan of a run is lawful from its last load of the root to what its pass has seen by its end. Each pair was in the map at a moment of
+-- the scan. No key of its range is missing that was there all the while, up to the last pair, if there are more. `IsListedBy` says it of
+-- scans into a list, also of one cut for want of memory.
 abbrev pub ScansShow : ScanLaw → (Map → List ℕ → Type 0) → Type 0
 ScansShow IsLawful IsReached =
     (layout : Layout) (last : ℕ) (at : ℕ → Moment) (happens : ℕ → Happening) → IsWholeRun layout last at happens →
@@ -105,30 +105,31 @@ ScansShow IsLawful IsReached =
     IsListedBy IsLawful layout (pass_of s) (pass_of e) (range_from from upto limit) scan.pairs.items scan.more →
     IsLawful (pass_of e).fresh.front (pass_of e).front from upto limit scan × IsScanInTime IsReached at call.since t from upto scan
 
--- A refused call has changed nothing. One that is busy found that another pass stood in its way, and with one pass it is never busy. One that
--- is full found each record not free that would have served. None of these was its own, but for some node records: at most two for each node
--- that it had locked, and one.
+-- A refused call has changed nothing. One that is busy found that another pass stood in its way, and with one pass it is never busy. One
+-- that is full found each record not free that would have served. Its own were only some node records: at most two for each node that it
+-- had locked, and one.
 abbrev pub Refusals : Type 0
 Refusals =
     (layout : Layout) (call : Call) (k j : PassView) (fault : TryFault) → IsRefusedFor layout call k j fault → LegalCalls k.front k.number k.notes →
     (j.notes ≡ k.notes) × (own_changes j.number j.front ≡ own_changes k.number k.front) × IsCause layout (key_of call) k j fault × (layout.passes ≡ 1 → fault ≢ Busy)
 
--- A call that gives its key a value is full only if its key was absent: it is never refused as full if the key was held all the while, and in
--- an index of one pass never at all if the key is held. And a removal is never refused as full if its key was absent all the while.
+-- A call that gives its key a value is full only if its key was absent. It is never full if the key was held all the while. In an index of
+-- one pass it is never full if the key is held. A removal is never full if its key was absent all the while.
 pub record NeverFull : Type 0 where
   pub held : HeldIsNeverFull
   pub absent : AbsentIsNeverFull
   pub alone : OnePassRefusesNewAlone
 
--- A get is never refused, an exchange or an addition only as busy, and no removal for want of a leaf record.
+-- With which faults calls are never refused. A get never is. An exchange and an addition are never full. A removal never lacks a leaf
+-- record.
 abbrev pub NeverRefused : Type 0
 NeverRefused =
     (call : Call) (fault : TryFault) → MayRefuse call fault → (key : List ℕ) →
     (call ≢ Get key) × (fault ≡ FullLeaves → call ≢ Remove key) × (fault ≡ FullLeaves → (expected : ℕ) → call ≢ RemoveIf key expected) ×
     (fault ≢ Busy → (expected value : ℕ) → call ≢ Exchange key expected value) × (fault ≢ Busy → (delta : ℕ) → call ≢ Add key delta)
 
--- A get, gets of so many keys, a try of a change, which waits for no other pass, a scan of so many pairs, a round of collection and a count of
--- all records make so many steps at most.
+-- The steps of calls that wait for no other pass are bounded. These are a get, gets of many keys, a try of a change, a scan, a round of
+-- collection, and a count of all records.
 pub record BoundedSteps : Type 0 where
   pub get : (index : TableView) (k j : PassView) → HasGot index untold (k, tt) (j, tt) → j.steps ≤ k.steps + 36 + 26 * (9 * MAX_BYTES)
   pub get_many : (index : TableView) (count : ℕ) (k j : PassView) → HasGotMany index untold count (k, tt) (j, tt) →
@@ -142,9 +143,9 @@ pub record BoundedSteps : Type 0 where
   pub count : (index : TableView) (counts : RecordCounts) (k j : PassView) → HasCounted index untold (k, tt) (j, tt) counts →
       j.steps ≤ k.steps + (index.layout.nodes + index.layout.leaves)
 
--- Beside its steps a call touches words: it loads them and ignores what it finds. A get touches four for each node on the way of its key, and
--- gets of so many keys eleven for each node on theirs, where a way has at most 2,160 nodes. A scan touches eleven for each entry that it loads,
--- and a try of a change eleven at most for each of its steps.
+-- The words that a call touches beside its steps are bounded. A get touches four for each node on its key's path, and gets of many keys
+-- eleven for each on theirs. A path has at most 2,160 nodes. A scan touches eleven for each entry that it loads, and a try of a change at
+-- most eleven for each step.
 pub record BoundedTouches : Type 0 where
   pub get : (index : TableView) (k j : PassView) → HasGot index untold (k, tt) (j, tt) → j.touches ≤ k.touches + 4 * (9 * MAX_BYTES)
   pub get_many : (index : TableView) (count : ℕ) (k j : PassView) → HasGotMany index untold count (k, tt) (j, tt) →
@@ -154,14 +155,14 @@ pub record BoundedTouches : Type 0 where
   pub scan : (index : TableView) (limit : ℕ) (k j : PassView) → HasGotRange index untold limit (k, tt) (j, tt) →
       j.touches ≤ k.touches + 11 * scan_entries limit
 
--- Of a leaf that stood in a version m since a pass's pin, the value is the one that it had when it stood last, which is now or in a version
--- since m.
+-- Let a leaf have stood in a version m since a pass's pin. Its value is the one that it had when it stood last, which is now or in a
+-- version since m.
 abbrev pub ValuesInReach : Type 0
 ValuesInReach =
     (c : Core) → IsLawful c → (q : ℕ) (p : Pin) → c.pins q ≡ Some p → (m l : ℕ) (u : Tree) → p.version ≤ m → m ≤ c.past.now → Stands c.past m (a_leaf l) u →
     (o : ℕ) × (v : Tree) × (m ≤ o) × StoodLast c.past o (a_leaf l) v × (head_value v ≡ Some (record_word c (a_leaf l) VALUE_OFFSET))
 
--- The promises, one by one.
+-- Most promises of the project, each as a field.
 pub record Headline : Type 0 where
   pub history : History
   pub one_history : OneHistory

@@ -32,8 +32,8 @@ use Rattle.index_laws.specs.Traced.{Instant, IsTracedExecution, moment_of}
 
 -- What one pass has done
 
--- How pass q's call, which asks these calls of the map, ended: the seat was s when it began, and is e now. It was answered as one call, or as
--- look-ups, with the notes that were added; it asked nothing of the map; it was the load of the table; or it was refused.
+-- How pass q's call, which asks these calls of the map, ended. Its seat was s when it began, and is e now. It was answered as one call, or
+-- as look-ups, with the notes added. Or it asked nothing of the map, was the load of the table, or was refused.
 pub data HasEndedAs (layout : Layout) (q : ℕ) (calls : List Call) (s e : SeatView) : Happening → Type 0 where
   answered : (asked : Call) (reply : Reply) → calls ≡ asked ∷ [] → (noted : IsNoted layout (pass_of s) (pass_of e) asked reply) →
       HasEndedAs layout q calls s e (responds q (record { place = noted.place; call = asked; reply = reply } ∷ []))
@@ -44,7 +44,7 @@ pub data HasEndedAs (layout : Layout) (q : ℕ) (calls : List Call) (s e : SeatV
   refused : (asked : Call) (fault : TryFault) → calls ≡ asked ∷ [] → IsRefusedFor layout asked (pass_of s) (pass_of e) fault → MayRefuse asked fault →
       HasEndedAs layout q calls s e (refuses q)
 
--- these steps of pass q, with no notes
+-- these steps of pass q, with no notes, as happenings
 abbrev pub steps_of : ℕ → List Act → List Happening
 steps_of q acts = map (λ act. steps q act []) acts
 
@@ -57,7 +57,7 @@ notes_of_end table acts last said s e ends = said (learned ends.2.event.core las
 abbrev pub call_of : ℕ → List Call → List Act → Act → List Note → Happening → List Happening
 call_of q calls acts last notes ended = invokes q calls ∷ (steps_of q acts ++ steps q last notes ∷ ended ∷ [])
 
--- the bulk load of these words by pass q, with which its table is made: a call of many insertions and of one step
+-- The bulk load of these words by pass q, with which its table is made. It is a call of many insertions and of one step.
 abbrev pub load_call : Layout → ℕ → List ℕ → List Happening
 load_call layout q words =
     let notes = insertion_notes layout words in invokes q (insertions layout words) ∷ steps q (load_of words) notes ∷ responds q notes ∷ []
@@ -79,14 +79,14 @@ pub data HasGoneThrough (table : TableView) (q : ℕ) : List Happening → SeatV
 
 -- What all have done
 
--- Each pass of the table has done this, up to this seat. These steps are a run of the table; and it begins with those of which each pass knows
--- there, and goes on by steps of others. So all steps of the passes stand in it.
+-- Each pass of the table has done this, up to this seat. The steps are a run of the table. It begins with those that each pass knows there,
+-- and goes on by steps of others. So all steps of the passes stand in it.
 pub record HaveEndedInOneRun (table : TableView) (run : List Event) (done : ℕ → List Happening) (seat : ℕ → SeatView) : Type 0 where
   pub led : IsTableRun table.layout run
   pub each : (q : ℕ) → q < table.layout.passes → HasGoneThrough table q (done q) (seat q)
   pub others : (q : ℕ) → q < table.layout.passes → OthersStepOn q (seat q).trace run
 
--- whose happening it is
+-- the pass whose happening it is
 abbrev pub pass_in : Happening → ℕ
 pass_in (steps q act notes) = q
 pass_in (shows q front) = q
@@ -99,7 +99,7 @@ abbrev pub happenings_of : ℕ → (ℕ → Happening) → ℕ → List Happenin
 happenings_of q happens zero = []
 happenings_of q happens (suc t) = if nat_eq (pass_in (happens t)) q then happenings_of q happens t ++ happens t ∷ [] else happenings_of q happens t
 
--- a step of pass q
+-- the happening is a step of pass q
 abbrev pub IsStepOf : ℕ → Happening → Type 0
 IsStepOf q (steps p act notes) = p ≡ q
 IsStepOf q _ = ⊥
@@ -111,8 +111,8 @@ KeepCallsWhole x (responds q notes) = IsStepOf q x
 KeepCallsWhole x (refuses q) = IsStepOf q x
 KeepCallsWhole x y = Unit {0}
 
--- The execution is of this run. In it each pass has done just this, up to this seat, and no call is pending at last. Each call is invoked right
--- before its first step, and ends right after its last one. So the order of calls in time is that of their steps in the run.
+-- The execution is of this run. In it each pass has done just this, up to this seat, and no call is pending at last. Each call is invoked
+-- right before its first step, and ends right after its last. So the order of calls in time is that of their steps.
 pub record IsExecutionOf (table : TableView) (run : List Event) (done : ℕ → List Happening) (seat : ℕ → SeatView)
     (last : ℕ) (at : ℕ → Instant) (happens : ℕ → Happening) : Type 0 where
   pub traced : IsTracedExecution table last at happens
@@ -122,7 +122,7 @@ pub record IsExecutionOf (table : TableView) (run : List Event) (done : ℕ → 
   pub idle : (q : ℕ) → q < table.layout.passes → (at last).pending q ≡ None
   pub next_to : (t : ℕ) → suc t < last → KeepCallsWhole (happens t) (happens (suc t))
 
--- So calls of passes whose traces have ended in one run are an execution, and linearizable, with no premise about executions.
+-- Calls of passes whose traces have ended in one run are an execution, and linearizable. No premise about executions is needed.
 abbrev pub OneRunIsAnExecution : Type 0
 OneRunIsAnExecution =
     (table : TableView) (run : List Event) (done : ℕ → List Happening) (seat : ℕ → SeatView) → HaveEndedInOneRun table run done seat →
@@ -131,9 +131,9 @@ OneRunIsAnExecution =
 
 -- Where passes have ended in one run
 
--- Each pass has done this, up to this seat. A run of the table begins with the steps of which each knew there. And then each was shown steps
--- that begin with the run, as where it met another pass or followed a stamp. So they have ended in this run. Passes come to that in two rounds.
--- In the first, each follows a stamp of the one before it; the last one's steps are the run. In the second, each follows a stamp of these.
+-- Passes end in one run by two rounds of stamps. In the first, each follows a stamp of the pass before it. The last one's steps are the
+-- run, which begins with those that each knew. In the second, each follows a stamp of the last one, and knows steps that begin with the
+-- run.
 abbrev pub ShownHaveEnded : Type 0
 ShownHaveEnded =
     (table : TableView) (run : List Event) (done : ℕ → List Happening) (seat shown : ℕ → SeatView) → IsTableRun table.layout run →
@@ -143,19 +143,19 @@ ShownHaveEnded =
 
 -- Handles of one index
 
--- The handle is at this index, and its pass, of this number, is that of its seat and has done this.
+-- The handle is at this index, and its pass, of this number, is that of its seat. The pass has done this.
 abbrev pub HandleHasDone : TableView → ℕ → List Happening → HandleView → Type 0
 HandleHasDone index q done h = (h.index ≡ index) × (h.pass ≡ pass_of h.pass.seat) × HasGoneThrough index q done h.pass.seat
 
--- A handle has seen what its leader had, as `hot_see` of C and `stamp` with `follow` say: the leader has made a stamp, and the handle has
+-- A handle has seen what its leader had, as `hot_see` of C and `stamp` with `follow` say. The leader has made a stamp, and the handle has
 -- followed it.
 pub record HasSeenLeader (was now leader led : HandleView) : Type 0 where
   pub follows : Stays (λ index k j. HasCaughtUp index.layout leader.pass.front k j) was now
   pub traced : RunBeginsWith now.pass.seat.trace leader.pass.seat.trace
   pub stamped : Stays (λ index k j. HasStamped k j) leader led
 
--- So each of the two has done one thing more. The steps of which the handle knows then are a run of the table, and begin with those of which the
--- leader knew.
+-- A handle that sees its leader has done one thing more, and so has the leader. The steps that the handle then knows are a run of the
+-- table. They begin with those that the leader knew.
 abbrev pub SeeingIsDone : Type 0
 SeeingIsDone =
     (index : TableView) (p q : ℕ) (ours theirs : List Happening) (was now leader led : HandleView) → HandleHasDone index p ours was →
@@ -163,9 +163,9 @@ SeeingIsDone =
     HandleHasDone index p (ours ++ shows p now.pass.seat.known.front ∷ []) now × HandleHasDone index q (theirs ++ shows q leader.pass.seat.known.front ∷ []) led ×
     IsTableRun index.layout now.pass.seat.trace × RunBeginsWith now.pass.seat.trace leader.pass.seat.trace
 
--- Each pass of an index has a handle, which has done this. A run of the table begins with the steps of which each knew. Then each has seen what a
--- leader had whose steps begin with this run. The calls of all are one execution, in which each stands as its handle made it, and linearizable:
--- look-ups and changes have one order that a map could have run, and of two calls that don't overlap the earlier stands first.
+-- Each pass of an index has a handle, which has done this. A run of the table begins with the steps that each knew. Then each has seen what
+-- a leader had whose steps begin with this run. The calls of all are one execution, and linearizable. Look-ups and changes have one order
+-- that a map could have run. Of two calls that don't overlap the earlier stands first.
 abbrev pub HandlesAreLinearizable : Type 0
 HandlesAreLinearizable =
     (index : TableView) (run : List Event) (done : ℕ → List Happening) (was now leader led : ℕ → HandleView) → IsTableRun index.layout run →
@@ -175,32 +175,32 @@ HandlesAreLinearizable =
     (last : ℕ) × (at : ℕ → Instant) × (happens : ℕ → Happening) ×
     IsExecutionOf index run done (λ q. (was q).pass.seat) last at happens × IsLinearizable index.layout last (λ t. moment_of index.layout (at t)) happens
 
--- what is said of pass 0, and of the others
+-- what is said of pass 0, and of every other
 abbrev pub of_two : {A : Type 0} → A → A → ℕ → A
 of_two x y q = if nat_eq q 0 then x else y
 
--- Two passes of a table that has no other meet, as the clauses `shown` and `traces` of a meeting say. So they have ended in the run of which both
+-- Two passes of a table that has no other meet, as the clauses `shown` and `traces` of a meeting say. They have ended in the run that both
 -- know then.
 abbrev pub TwoThatMeetHaveEnded : Type 0
 TwoThatMeetHaveEnded =
     (table : TableView) (ours theirs : List Happening) (s t u v : SeatView) → table.layout.passes ≡ 2 → HasGoneThrough table 0 ours s → HasGoneThrough table 1 theirs t →
     IsShownAll table.layout s u → IsShownAll table.layout t v → u.trace ≡ v.trace → HaveEndedInOneRun table u.trace (of_two ours theirs) (of_two s t)
 
--- The passes of a table that was just made by a bulk load, pass 0 with the seat that has loaded and the others new, have ended in one run: the
--- load is its one step.
+-- A table was just made by a bulk load. Pass 0 has the seat that has loaded, and the others are new. They have ended in one run, of which
+-- the load is the one step.
 abbrev pub LoadedHaveEnded : Type 0
 LoadedHaveEnded =
     (table : TableView) (words : List ℕ) (seat : ℕ → SeatView) → 0 < table.layout.passes → IsLoad table.layout words → IsLoaderSeat table words (seat 0) →
     ((q : ℕ) → 1 ≤ q → q < table.layout.passes → IsNewSeatOf table q (seat q)) →
     HaveEndedInOneRun table (load_trace words).events (of_two (load_call table.layout 0 words) []) seat
 
--- Steps with no notes, as those of a round of collection and of a count, are the steps of a call: the last one is its end.
+-- Steps with no notes, as those of a round of collection and of a count, are the steps of a call. The last one is its end.
 abbrev pub SilentStepsEnd : Type 0
 SilentStepsEnd =
     (table : TableView) (act : Act) (acts : List Act) (s e : SeatView) → Runs table untold (act ∷ acts) (s, tt) (e, tt) →
     (before : List Act) × (last : Act) × (act ∷ acts ≡ before ++ last ∷ []) × Ends table untold before last silent (s, tt) (e, tt)
 
--- So two passes may end in one run: pass 0 inserts the key of no bytes, with any value, and pass 1 finds it.
+-- There are two passes that end in one run: pass 0 inserts the key of no bytes, with any value, and pass 1 finds it.
 abbrev pub AnInsertIsFound : Type 0
 AnInsertIsFound =
     (table : TableView) → table.layout.passes ≡ 2 → (value : ℕ) → value < 2 ^ 64 →
@@ -208,7 +208,7 @@ AnInsertIsFound =
     ((seat 0).known.notes ≡ record { place = 0; call = Insert [] value; reply = Inserted } ∷ []) ×
     ((seat 1).known.notes ≡ record { place = 1; call = Get []; reply = Value value } ∷ [])
 
--- Steps of which a gate is told are steps with no gate, too: so what contracts say of calls with a gate is what `HasGoneThrough` asks.
+-- Steps of which a gate is told are steps with no gate, too. So what contracts say of calls with a gate is what `HasGoneThrough` asks.
 abbrev pub StepsNeedNoGate : {G : Type 0} → (G → Event → G → Type 0) → Type 0
 StepsNeedNoGate {G = G} becomes =
     (table : TableView) (acts : List Act) (a b : SeatView × G) → (Runs table becomes acts a b → Runs table untold acts (a.0, tt) (b.0, tt)) ×

@@ -18,9 +18,9 @@ use Rattle.rowex_table.specs.Rule.{loader_of}
 use Rattle.rowex_table.specs.Seats.{SeatView}
 use Rattle.versions.specs.Told.{items_of}
 
--- A new pass has lived through no calls; pass 0 of a table that was just loaded, through the insertions of its pairs; one whose call was
--- answered, through it besides, and one whose many look-ups were, through these in the order of their notes; and one that was refused,
--- collected, met another or followed a stamp (`IsUnnoted`) or scanned (`IsScannedBy`, `IsListedBy`), through the same as before.
+-- The calls that a pass has lived through, with their replies. A new pass has none, and pass 0 of a loaded table has the insertions of its
+-- pairs. An answered call adds itself, and many look-ups add themselves in the order of their notes. A pass that was refused, collected,
+-- met another, followed a stamp (`IsUnnoted`) or scanned (`IsScannedBy`, `IsListedBy`) adds none.
 pub data HasLived : Layout → List (Call × Reply) → PassView → Type 0 where
   new : {layout : Layout} {q : ℕ} {j : PassView} → IsNewPass q j → HasLived layout [] j
   loaded : {layout : Layout} {words : List ℕ} {s : SeatView} → IsLoad layout words → s.known ≡ loader_of layout words →
@@ -43,7 +43,7 @@ AreLives layout front [] = Unit {0}
 AreLives layout front (life ∷ lives) =
     HasLived layout life.0 life.1 × (life.1.front ≡ front) × All (λ other. other.1.number ≢ life.1.number) lives × AreLives layout front lives
 
--- a list that the calls of these lives make together: it has each of them once, those of each life in their order
+-- A list that the calls of these lives make together. It has each of them once, those of each life in their order.
 abbrev pub LivesAreWoven : List PassLife → List Event → Type 0
 LivesAreWoven [] es = es ≡ []
 LivesAreWoven (life ∷ lives) es = (others : List Event) × LivesAreWoven lives others × AreWoven (map (λ x. answered x.0 x.1) life.0) others es
@@ -52,8 +52,8 @@ LivesAreWoven (life ∷ lives) es = (others : List Event) × LivesAreWoven lives
 abbrev pub notes_of_lives : List PassLife → List Note
 notes_of_lives lives = notes_of (map (λ life. (life.1.number, life.1.notes)) lives)
 
--- Passes of different numbers that have seen the same have one legal history of a finite map, in which each call that they have lived
--- through stands once, and those of each pass in their order.
+-- Passes of different numbers that have seen the same have one legal history of a finite map. Each call that they have lived through stands
+-- there once, those of each pass in their order.
 abbrev pub OneHistoryOfAll : Type 0
 OneHistoryOfAll =
     (layout : Layout) (front : List Change) (lives : List PassLife) → AreLives layout front lives →

@@ -24,23 +24,24 @@ use Rattle.index_laws.specs.Joined.{HasGoneThrough, HaveEndedInOneRun}
 
 -- Who is at work
 
--- The traces of all passes have ended in this run, and each pass is between two calls (`IsSettled`, which is the invariant of a pass).
+-- The traces of all passes have ended in this run, and each pass is between two calls (`IsSettled`, the invariant of a pass).
 pub record AreAllIdle (table : TableView) (run : List Event) (seat : ℕ → SeatView) : Type 0 where
   pub done : ℕ → List Happening
   pub ended : HaveEndedInOneRun table run done seat
   pub settled : (q : ℕ) → q < table.layout.passes → IsSettled (seat q).known
 
--- So no pass has a record that it has claimed, or has unlinked and not retired yet, and none is pinned.
+-- No pass has a record that it has claimed, or has unlinked and not retired yet, and none is pinned.
 pub record HasNoneAtWork (c : Core) : Type 0 where
   pub unowned : (r : Rec) → holder_of (c.fate r) ≡ None
   pub unpinned : (q : ℕ) → c.pins q ≡ None
 
--- Behind these steps pass q makes some, and no other pass does.
+-- Behind these steps only pass q makes some.
 abbrev pub StepsAlone : ℕ → List Event → List Event → Type 0
 StepsAlone q earlier later = (more : List Event) × (later ≡ earlier ++ more) × All (λ x. x.pass ≡ q) more
 
 -- What becomes of the records
 
+-- a record of this fate is free
 abbrev pub is_free_fate : Fate → Bool
 is_free_fate Free = true
 is_free_fate f = false
@@ -62,18 +63,18 @@ pub record NoneIsLost (c : Core) : Type 0 where
 
 -- What a count finds
 
--- how many leaf records of all classes
+-- the sum of a number over all classes of leaf records
 abbrev pub of_leaves : (StateCounts → ℕ) → RecordCounts → ℕ
 of_leaves many counts = many counts.short + many counts.medium + many counts.large + many counts.wide + many counts.long
 
--- It finds as many live leaf records as keys, and fewer live node records. None is claimed.
+-- By the count, as many leaf records are live as there are keys, and fewer node records. None is claimed.
 pub record CountsKeys (keys : ℕ) (counts : RecordCounts) : Type 0 where
   pub leaves : of_leaves (λ s. s.live) counts ≡ keys
   pub nodes : counts.nodes.live ≤ keys - 1
   pub leaves_held : of_leaves (λ s. s.held) counts ≡ 0
   pub nodes_held : counts.nodes.held ≡ 0
 
--- And none is retired: all others are free.
+-- By the count, the live records are those of the keys, and all others are free.
 pub record CountsNoneLost (layout : Layout) (keys : ℕ) (counts : RecordCounts) : Type 0 where
   pub live : CountsKeys keys counts
   pub leaves_retired : of_leaves (λ s. s.obsolete) counts ≡ 0
@@ -83,7 +84,7 @@ pub record CountsNoneLost (layout : Layout) (keys : ℕ) (counts : RecordCounts)
 
 -- The laws
 
--- The pass of this seat, of an index whose passes are idle after a run, goes on alone from there.
+-- The passes of an index are idle after a run. From there the pass of this seat goes on alone.
 pub record GoesOnAlone (index : TableView) (run : List Event) (s e : SeatView) : Type 0 where
   pub seat : ℕ → SeatView
   pub idle : AreAllIdle index run seat
@@ -91,17 +92,17 @@ pub record GoesOnAlone (index : TableView) (run : List Event) (s e : SeatView) :
   pub seat_is : seat s.known.pass ≡ s
   pub alone : StepsAlone s.known.pass run e.trace
 
--- the seats of all passes, where this is that of one of them
+-- the seats of all passes, of which this is one
 abbrev pub with_seat : (ℕ → SeatView) → SeatView → ℕ → SeatView
 with_seat seat e q = if nat_eq q e.known.pass then e else seat q
 
--- The core to which these steps lead has this. To the trace of a pass that has made a step there is such a core (`IsInOneRun`).
+-- The core to which these steps lead has the property. To the trace of a pass that has made a step there is such a core (`IsInOneRun`).
 abbrev pub LeadsTo : TableView → List Event → (Core → Type 0) → Type 0
 LeadsTo index run P = (c : Core) → EventsLead (opening index.layout) run c → P c
 
--- The passes of a new index are idle. So they are again where one has gone on alone and is between two calls. Let all passes be idle, and one of
--- them call `collect` or `census` then, while no other makes a step. A round loses no record, while fewer steps have been made than there are
--- epochs. A count finds the keys. Behind a round it finds that none is lost.
+-- Let all passes be idle, and one of them call `collect` or `census`, while no other makes a step. A round loses no record, while fewer
+-- steps have been made than there are epochs. A count finds the keys, and behind a round that none is lost. The passes of a new index are
+-- idle, and again once one has gone on alone and is between two calls.
 pub record NoRecordIsLost {G : Type 0} (becomes : G → Event → G → Type 0) : Type 0 where
   pub begins : (index : TableView) (seat : ℕ → SeatView) → ((q : ℕ) → q < index.layout.passes → IsNewSeatOf index q (seat q)) → AreAllIdle index [] seat
   pub goes_on : (index : TableView) (run : List Event) (s e : SeatView) (done : List Happening) (on : GoesOnAlone index run s e) →
@@ -115,7 +116,8 @@ pub record NoRecordIsLost {G : Type 0} (becomes : G → Event → G → Type 0) 
       StepsAlone m.0.seat.known.pass m.0.seat.trace b.0.seat.trace → HasCounted index becomes m b counts →
       LeadsTo index b.0.seat.trace (λ c. CountsNoneLost index.layout (number_of_keys c) counts)
 
--- So it is in an index of one pass whenever this is between two calls. It has made all changes itself, so its front tells the keys.
+-- In an index of one pass, a round between any two calls loses no record, and a count finds the keys. The pass has made all changes itself,
+-- so its front tells the keys.
 pub record OnePassLosesNone {G : Type 0} (becomes : G → Event → G → Type 0) : Type 0 where
   pub round : (index : TableView) (a b : PassView × G) (nodes leaves : ℕ) → index.layout.passes ≡ 1 → IsSettled a.0.seat.known →
       length a.0.seat.trace + 2 < EPOCHS → HasCollected index becomes a b nodes leaves → LeadsTo index b.0.seat.trace NoneIsLost

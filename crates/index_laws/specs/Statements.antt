@@ -15,7 +15,7 @@ use Rattle.linearizability.specs.Moments.{Happening, IsNewIndex, IsRefusal, IsRe
 use Rattle.linearizability.specs.Statements.{IsLinearizable}
 use Rattle.index_laws.specs.Executions.{HasBeenRefused, HasReturned, IsExecution}
 
--- A run may begin where a table was just made, and no pass has made a step or a call.
+-- A run may begin at a table that was just made, in which no pass has made a step or a call.
 abbrev pub OpeningIsNew : Type 0
 OpeningIsNew = (layout : Layout) → IsNewIndex layout (record { core = opening layout; known = opening_of; pending = λ _. None })
 
@@ -25,21 +25,21 @@ ReturnedResponds =
     (layout : Layout) (last : ℕ) (at : ℕ → Moment) (happens : ℕ → Happening) → IsWholeRun layout last at happens → (q t : ℕ) → q < layout.passes → t ≤ last →
     (call : Pending) (notes : List Note) → HasReturned layout at q t call notes → IsResponse at t q call notes
 
--- One that was refused as its contract says is refused in the run.
+-- A call that was refused as its contract says is refused in the run.
 abbrev pub RefusedIsRefused : Type 0
 RefusedIsRefused =
     (layout : Layout) (at : ℕ → Moment) (q t : ℕ) (call : Pending) → HasBeenRefused layout at q t call → IsRefusal at t q call
 
--- A call that waits for others, and is refused as it lacks records, is one that may be refused so.
+-- A call that waits, and is refused for want of records, is one that may be refused so.
 abbrev pub LackMayRefuse : Type 0
 LackMayRefuse = (call : Call) (full : Full) → MayLack call full → MayRefuse call (fault_of full)
 
--- So what contracts say of calls that have ended makes an execution a run.
+-- An execution is a run, by what contracts say of calls that have ended.
 abbrev pub ExecutionsAreRuns : Type 0
 ExecutionsAreRuns =
     (layout : Layout) (last : ℕ) (at : ℕ → Moment) (happens : ℕ → Happening) → IsExecution layout last at happens → IsWholeRun layout last at happens
 
--- And executions are linearizable (Herlihy and Wing, 1990) up to any moment, if the calls that are pending then end later, or change the map
+-- Executions are linearizable (Herlihy and Wing, 1990) up to any moment. The calls that are pending then must end later, or change the map
 -- as they ask.
 abbrev pub ExecutionsAreLinearizable : Type 0
 ExecutionsAreLinearizable =
@@ -54,8 +54,8 @@ pub record Responses : Type 0 where
   pub lacks : LackMayRefuse
   pub runs : ExecutionsAreRuns
 
--- There are executions in which calls return: in an index that has a pass, pass 0 invokes a get, makes the four steps of one in an empty
--- index, and the call responds that the key is absent.
+-- There are executions in which calls return. In an index that has a pass, pass 0 invokes a get, and makes the four steps of one in an
+-- empty index. The call responds that the key is absent.
 abbrev pub AGetReturns : Type 0
 AGetReturns =
     (layout : Layout) → 0 < layout.passes → (table : TableId) (key : List ℕ) → (at : ℕ → Moment) × (happens : ℕ → Happening) ×

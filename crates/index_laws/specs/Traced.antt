@@ -30,20 +30,20 @@ use Rattle.linearizability.specs.Histories.{complete_calls}
 use Rattle.linearizability.specs.Moments.{Happening, Moment, Pending, invokes, refuses, responds, shows, steps}
 use Rattle.index_laws.specs.Executions.{HasBeenRefused, HasReturned, IsExecution}
 
--- The index at a moment, as contracts see it: the steps so far, the seat of each pass, and the call of each pass that is pending, if one is.
+-- The index at a moment, as contracts see it: the steps so far, the seat of each pass, and its pending call, if any.
 pub record Instant : Type 0 where
   pub run : List Event
   pub seat : ℕ → SeatView
   pub pending : ℕ → Option Pending
 
--- The pass of the seat makes this event, as the contract of a step says (`StepsWith`), or of a table that is made by a bulk load
--- (`IsLoaderSeat`). It is the next one of a run, and `said` are the notes that come with it.
+-- The pass of the seat makes this event, as the contract of a step says (`StepsWith`), or that of a bulk load (`IsLoaderSeat`). It is the
+-- next one of a run, and `said` are the notes that come with it.
 pub record MakesEvent (table : TableView) (act : Act) (said : Known → List Note) (s t : SeatView) : Type 0 where
   pub seat : IsSame s t
   pub event : IsEvent table.layout act said s.known t.known
   pub next : IsNextStep table.layout s.known.pass act event.core s.trace t.trace
 
--- Pass q, which has a call pending, makes the step, as the contract of a step says, with these notes. It comes behind all steps so far: that
+-- Pass q, which has a call pending, makes the step with these notes, as the contract of a step says. It comes behind all steps so far. That
 -- the steps of all passes have one order is a premise here, which no contract gives.
 pub record IsSeatStep (table : TableView) (a b : Instant) (q : ℕ) (act : Act) (notes : List Note) : Type 0 where
   pub said : Known → List Note
@@ -57,15 +57,15 @@ pub record IsSeatStep (table : TableView) (a b : Instant) (q : ℕ) (act : Act) 
   pub called : a.pending q ≡ Some call
   pub pending : b.pending ≡ a.pending
 
--- A pass is shown steps, with which the run begins, and the changes that they have made, as where it follows a stamp (`HasCaughtUp`) or meets
--- another pass (`IsShownAll`, `HasSeenMore`).
+-- A pass is shown steps, with which the run begins, and the changes that they have made. It is so where it follows a stamp (`HasCaughtUp`)
+-- or meets another pass (`IsShownAll`, `HasSeenMore`).
 pub record IsShownSteps (layout : Layout) (run : List Event) (s t : SeatView) (front : List Change) : Type 0 where
   pub shown : IsShownAll layout s t
   pub known : t.known ≡ with_front front s.known
   pub more : BeginsWith front s.known.front
   pub begins : RunBeginsWith run t.trace
 
--- A pass of the index makes a stamp (`HasStamped`): it is shown what it knows.
+-- A pass of the index makes a stamp (`HasStamped`), so it is shown what it knows.
 pub record IsShownItself (layout : Layout) (q : ℕ) (s t : SeatView) (front : List Change) : Type 0 where
   pub pass : q < layout.passes
   pub known : t.known ≡ s.known
@@ -79,7 +79,7 @@ pub record IsSeatShowing (table : TableView) (a b : Instant) (q : ℕ) (front : 
   pub others : (o : ℕ) → o ≢ q → b.seat o ≡ a.seat o
   pub pending : b.pending ≡ a.pending
 
--- Of the two moments the run and all seats are the same, and pass q's pending call is this one at the second, if any.
+-- The two moments have the same run and the same seats. At the second, pass q's pending call is this one, if any.
 pub record IsSeatTurn (layout : Layout) (a b : Instant) (q : ℕ) (call : Option Pending) : Type 0 where
   pub pass : q < layout.passes
   pub run : b.run ≡ a.run
@@ -92,11 +92,11 @@ abbrev pub core_led_to : Core → List Event → Core
 core_led_to c [] = c
 core_led_to c (x ∷ xs) = core_led_to (after c x.pass x.act) xs
 
--- The moment of an execution: its core is the one to which the run has led from the new table.
+-- The moment of an execution, whose core is the one to which the run has led from the new table.
 abbrev pub moment_of : Layout → Instant → Moment
 moment_of layout a = record { core = core_led_to (opening layout) a.run; known = λ q. (a.seat q).known; pending = a.pending }
 
--- what happens at moment t leads to the next one, by the contracts of steps, of stamps and meetings, and of calls that end
+-- What happens at moment t leads to the next moment, by the contracts of steps, of stamps and meetings, and of calls that end.
 abbrev pub ContractsLeadOn : TableView → (ℕ → Instant) → ℕ → Happening → Type 0
 ContractsLeadOn table at t (steps q act notes) = IsSeatStep table (at t) (at (suc t)) q act notes
 ContractsLeadOn table at t (shows q front) = IsSeatShowing table (at t) (at (suc t)) q front
@@ -106,27 +106,28 @@ ContractsLeadOn table at t (responds q notes) =
 ContractsLeadOn table at t (refuses q) =
     (call : Pending) × HasBeenRefused table.layout (λ i. moment_of table.layout (at i)) q t call × IsSeatTurn table.layout (at t) (at (suc t)) q None
 
--- An execution by contracts alone: all seats are new at first, no step has been made, and no call is pending.
+-- An execution by contracts alone. At first all seats are new, no step has been made, and no call is pending. What happens at each moment
+-- before the last leads to the next one.
 pub record IsTracedExecution (table : TableView) (last : ℕ) (at : ℕ → Instant) (happens : ℕ → Happening) : Type 0 where
   pub run : (at 0).run ≡ []
   pub seats : (q : ℕ) → IsNewSeatOf table q ((at 0).seat q)
   pub pending : (q : ℕ) → (at 0).pending q ≡ None
   pub next : (t : ℕ) → t < last → ContractsLeadOn table at t (happens t)
 
--- It is an execution: its cores follow one another.
+-- An execution by contracts alone is an execution: its cores follow one another.
 abbrev pub TracedAreExecutions : Type 0
 TracedAreExecutions =
     (table : TableView) (last : ℕ) (at : ℕ → Instant) (happens : ℕ → Happening) → IsTracedExecution table last at happens →
     IsExecution table.layout last (λ t. moment_of table.layout (at t)) happens
 
--- There are such, in which a call returns: the execution of `AGetReturns` is one.
+-- There are executions by contracts alone in which a call returns. That of `AGetReturns` is one.
 abbrev pub AGetIsTraced : Type 0
 AGetIsTraced =
     (table : TableView) → 0 < table.layout.passes → (key : List ℕ) → (at : ℕ → Instant) × (happens : ℕ → Happening) ×
     IsTracedExecution table 6 at happens × (complete_calls happens 6 ≡ (5, record { place = 0; call = Get key; reply = Absent }) ∷ [])
 
--- In an execution by contracts alone, let a pass have loaded the root between two moments. It did so at one moment between them, when the steps
--- so far were just those before the load. And it was shown all that any pass had seen by then.
+-- In an execution by contracts alone, let a pass have loaded the root between two moments. It did so at one moment between them, when the
+-- steps so far were just those before the load. It was shown all that any pass had seen by then.
 abbrev pub LoadsAreMoments : Type 0
 LoadsAreMoments =
     (table : TableView) (last : ℕ) (at : ℕ → Instant) (happens : ℕ → Happening) → IsTracedExecution table last at happens →
@@ -134,21 +135,20 @@ LoadsAreMoments =
     (m : ℕ) × (notes : List Note) × (i ≤ m) × (m < j) × (happens m ≡ steps q (LoadRef Root loads.root) notes) × ((at m).run ≡ loads.run) ×
     ((o : ℕ) → o < table.layout.passes → BeginsWith ((at j).seat q).known.fresh.front ((at m).seat o).known.front)
 
--- one of these steps is a load of the root by pass q, and it stands right behind the steps `before`
+-- one of these steps is a load of the root by pass q, right behind the steps `before`
 abbrev pub LoadsRootBehind : ℕ → List Event → List Event → Type 0
 LoadsRootBehind q run before = (root : ℕ) × RunBeginsWith run (before ++ root_load q root ∷ [])
 
--- A pass made steps, as a call without a gate does; and a call of any pass loaded the root. Let some load of the root by
--- the later pass stand behind all steps of which the first pass knew, in the later one's trace at its end. Then the later call was shown all
--- changes that the first pass had seen.
+-- A pass made steps, as a call without a gate does, and a call of any pass loaded the root. In the later pass's trace at its end, let such
+-- a load stand behind all steps that the first pass knew. Then the later call was shown all changes that the first pass had seen.
 abbrev pub LoadsSeeAll : Type 0
 LoadsSeeAll =
     (index : TableView) (s t : SeatView) (acts : List Act) (last : Act) (said : Known → List Note) → Ends index untold acts last said (s, tt) (t, tt) →
     (u v : SeatView) → SeesAllOfRun index.layout u v → (before : List Event) → LoadsRootBehind u.known.pass v.trace before → RunBeginsWith before t.trace →
     BeginsWith v.known.fresh.front t.known.front
 
--- So if the first one's steps answered a call with one key, the place of a later such call is no earlier than the first one's, and later than
--- its change. Of the two traces this asks that the one goes on from the other, as those of one table do; a caller knows it by a stamp or a meeting.
+-- Let a call with one key have ended before a later one loaded the root, by their traces. The later call's place is no earlier than the
+-- first one's, and later than its change. One trace must go on from the other, which a caller knows by a stamp or a meeting.
 abbrev pub EndedBeforeLoaded : Type 0
 EndedBeforeLoaded =
     (index : TableView) (s t : SeatView) (call : Call) (reply : Reply) (first : IsNoted index.layout (pass_of s) (pass_of t) call reply) →
@@ -157,8 +157,8 @@ EndedBeforeLoaded =
     SeesAllOfRun index.layout u v → (before : List Event) → LoadsRootBehind u.known.pass v.trace before → RunBeginsWith before t.trace →
     place_after (record { place = first.place; call = call; reply = reply }) ≤ second.place
 
--- So where one run has both traces, as those of passes that have met since, either the two calls stand so, or the later one's load of the root
--- is one of the steps of which the first pass knew at the end of its call.
+-- Let one run have the traces of two calls, as those of passes that have met since. The later call's place is no earlier than the first
+-- one's, and later than its change. Or the first pass, at the end of its call, knew the later call's load of the root.
 abbrev pub EndedOrLoadedBefore : Type 0
 EndedOrLoadedBefore =
     (index : TableView) (s t : SeatView) (call : Call) (reply : Reply) (first : IsNoted index.layout (pass_of s) (pass_of t) call reply) →
@@ -168,8 +168,8 @@ EndedOrLoadedBefore =
     LoadsRootBehind u.known.pass v.trace before →
     (place_after (record { place = first.place; call = call; reply = reply }) ≤ second.place) ⊎ LoadsRootBehind u.known.pass t.trace before
 
--- And where one run has the first one's trace and the steps before the later one's load, be that load in it or not, either the two calls stand
--- so, or the first pass knew at the end of its call of all steps before that load.
+-- Let one run have the first call's trace, and the steps before the later one's load of the root. The later call's place is no earlier than
+-- the first one's, and later than its change. Or the first pass, at the end of its call, knew all steps before that load.
 abbrev pub EndedOrShownBefore : Type 0
 EndedOrShownBefore =
     (index : TableView) (s t : SeatView) (call : Call) (reply : Reply) (first : IsNoted index.layout (pass_of s) (pass_of t) call reply) →
@@ -178,14 +178,14 @@ EndedOrShownBefore =
     (loads : SeesAllOfRun index.layout u v) (run : List Event) → RunBeginsWith run t.trace → RunBeginsWith run loads.run →
     (place_after (record { place = first.place; call = call; reply = reply }) ≤ second.place) ⊎ RunBeginsWith t.trace loads.run
 
--- By contracts two passes are of one run where they have met, as the clauses `shown` and `traces` of a meeting say. Of the steps of which the
--- one knew at any time before, and the other, the ones begin with the others.
+-- By contracts two passes are of one run if they have met, as the clauses `shown` and `traces` of a meeting say. Of the steps that the two
+-- knew at any time before, one list begins with the other.
 abbrev pub MetAreOfOneRun : Type 0
 MetAreOfOneRun =
     (layout : Layout) (s t u v : SeatView) → IsShownAll layout s u → IsShownAll layout t v → u.trace ≡ v.trace →
     (one other : List Event) → RunBeginsWith s.trace one → RunBeginsWith t.trace other → RunBeginsWith other one ⊎ RunBeginsWith one other
 
--- A call of steps that end in one, as those of one key and scans do, makes no stamp, follows none and meets no other pass.
+-- A call whose steps end in one, as those of one key and scans do, makes or follows no stamp, and meets no other pass.
 abbrev pub CallsMakeNoAsides : Type 0
 CallsMakeNoAsides =
     (index : TableView) (acts : List Act) (last : Act) (said : Known → List Note) (s t : SeatView) → Ends index untold acts last said (s, tt) (t, tt) →
