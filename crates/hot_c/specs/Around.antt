@@ -5,17 +5,17 @@ use Rattle.hot_c.specs.Calls.{FitsInKey}
 use Rattle.hot_c.specs.declared.around.KeyRoom.{KeyRoom}
 use Rattle.hot_c.specs.declared.status.TheConstants.{ABSENT, DONE, KEY_TOO_LONG}
 
--- C's room has this key and its length, or both are as they were
+-- The status tells whether there is such a key. C's room has it and its length, or both are as they were.
 abbrev pub IsKeyTold : Option (List ℕ) → KeyRoom → ℕ → KeyRoom → ℕ → ℕ → Type 0
 IsKeyTold None before old after new status = (status ≡ ABSENT) × (after ≡ before) × (new ≡ old)
 IsKeyTold (Some key) before old after new status = (status ≡ DONE) × (take new after.bytes ≡ key) × (new ≡ length key)
 
--- the least key above this one was told, or that there is none; or that this one is too long
+-- The call told the least key above this one, or that there is none, or that this one is too long.
 pub record TellsAfter (key : List ℕ) (before : KeyRoom) (old : ℕ) (after : KeyRoom) (new status : ℕ) : Type 0 where
   pub long : ¬ FitsInKey key → (status ≡ KEY_TOO_LONG) × (after ≡ before) × (new ≡ old)
   pub told : FitsInKey key → (found : Option (List ℕ)) × IsKeyTold found before old after new status × IfSome found (IsNextKey key) × (found ≡ None → NoKeyAbove key)
 
--- the greatest key below this one was told, or that there is none; or that this one is too long
+-- The call told the greatest key below this one, or that there is none, or that this one is too long.
 pub record TellsBefore (key : List ℕ) (before : KeyRoom) (old : ℕ) (after : KeyRoom) (new status : ℕ) : Type 0 where
   pub long : ¬ FitsInKey key → (status ≡ KEY_TOO_LONG) × (after ≡ before) × (new ≡ old)
   pub told : FitsInKey key → (found : Option (List ℕ)) × IsKeyTold found before old after new status × IfSome found (IsPreviousKey key) × (found ≡ None → key ≡ [])

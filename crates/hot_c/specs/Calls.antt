@@ -25,11 +25,11 @@ use Rattle.hot_c.specs.declared.handle.IndexHandle.{IndexHandle}
 use Rattle.hot_c.specs.declared.opened.Opened.{Opened}
 use Rattle.hot_c.specs.declared.status.TheConstants.{CLOSED, DONE, KEY_TOO_LONG, NO_HANDLE, NO_MEMORY}
 
--- the key is short enough
+-- an index takes a key of this length
 abbrev pub FitsInKey : List ℕ → Type 0
 FitsInKey key = length key ≤ MAX_BYTES
 
--- An open handle stays open, at the same index, and keeps what it kept. This became of its pass.
+-- An open handle stays open, at the same index, and keeps what it kept. `Became` says what has become of its pass.
 pub record StaysOpen (Became : TableView → PassView → PassView → Type 0) (old new : Option Opened) : Type 0 where
   pub before : Opened
   pub after : Opened
@@ -38,7 +38,7 @@ pub record StaysOpen (Became : TableView → PassView → PassView → Type 0) (
   pub stays : Stays Became before.handle after.handle
   pub keeps : after.kept.items ≡ before.kept.items
 
--- A call had this outcome, by its steps: it was noted with the reply, or refused for the cause. After a change that found no record free all
+-- A call had this outcome, by its steps. It was noted with the reply, or refused for the cause. If a change found no record free, all
 -- records were counted, and the refusal says what the count says.
 abbrev pub HasOutcome : Call → Result Reply Refusal → TableView → PassView → PassView → Type 0
 HasOutcome call outcome index k j =
@@ -54,7 +54,7 @@ for_key key (Get own) = Get key
 for_key key (Remove own) = Remove key
 for_key key (RemoveIf own expected) = RemoveIf key expected
 
--- a count of the records, by their states
+-- a count of all records gave these numbers
 abbrev pub HasSeenRecords : RecordCounts → TableView → PassView → PassView → Type 0
 HasSeenRecords counts index k j = IsUnnoted index.layout k j × HasCounted index untold (k, tt) (j, tt) counts
 
@@ -63,15 +63,15 @@ abbrev pub TellsOutcome : ℕ → Call → ℕ → Result Reply Refusal → Tabl
 TellsOutcome size call status outcome index k j =
     HasOutcome call outcome index k j × MatchResult outcome (λ reply. status ≡ reply_status reply) (λ refusal. TellsRefusal size refusal status)
 
--- A call for a key through a handle, which finds `before` where C wants a value and leaves `after`. A closed handle and a key that
--- is too long are told as such, and nothing has changed; else the call is made, and its outcome told.
+-- A call for a key through a handle. C wants a value at a word that has `before`, and then has `after`. A closed handle and a key that is
+-- too long are told as such, and nothing has changed. Else the call is made, and its outcome told.
 pub record Answers (key : List ℕ) (call : Call) (old new : Option Opened) (before after status : ℕ) : Type 0 where
   pub closed : old ≡ None → (status ≡ CLOSED) × (new ≡ old) × (after ≡ before)
   pub long : IsSome old → ¬ FitsInKey key → (status ≡ KEY_TOO_LONG) × (new ≡ old) × (after ≡ before)
   pub made : IsSome old → FitsInKey key →
       (outcome : Result Reply Refusal) × StaysOpen (TellsOutcome (length key) call status outcome) old new × (after ≡ value_after before outcome)
 
--- a round of collection, which gave back so many nodes and leaves
+-- a round of collection gave back so many nodes and leaves
 abbrev pub HasGivenBack : ℕ → ℕ → TableView → PassView → PassView → Type 0
 HasGivenBack nodes leaves index k j = IsUnnoted index.layout k j × HasCollected index untold (k, tt) (j, tt) nodes leaves
 
@@ -79,7 +79,7 @@ HasGivenBack nodes leaves index k j = IsUnnoted index.layout k j × HasCollected
 abbrev pub AreClosed : List IndexHandle → Type 0
 AreClosed handles = All (λ h. h.cell.opened ≡ None) handles
 
--- C's pointers of these handles
+-- the pointers that C has of these handles
 abbrev pub places_of : List IndexHandle → List ℕ
 places_of = map (λ h. h.place)
 
@@ -91,22 +91,22 @@ IsSize passes nodes leaves = IsPassCount passes × IsNodeCount nodes × IsLeafCo
 abbrev pub IsStockSize : ℕ → Stock → Type 0
 IsStockSize passes stock = IsStockPassCount passes × IsRecordCount stock.nodes × IsRecordCount (leaves_of stock)
 
--- the new pass of this number, with a share of the index; it keeps no closed handles
+-- a share of the index with the new pass of this number, which keeps no closed handles
 abbrev pub IsNewShare : TableView → ℕ → Opened → Type 0
 IsNewShare index q o = (o.handle.index ≡ index) × IsNewPass q o.handle.pass × (o.kept.items ≡ [])
 
--- New passes of one index, which has so many passes and such records, each at the place of its number, and with a share of the index.
+-- The new passes of one index with so many passes and such records, in the order of their numbers. Each has a share of the index.
 pub record AreNew (passes : ℕ) (HasRecords : Layout → Type 0) (opened : List Opened) : Type 0 where
   pub index : TableView
   pub layout : (index.layout.passes ≡ passes) × HasRecords index.layout
   pub count : length opened ≡ passes
   pub each : (q : ℕ) (o : Opened) → slice_get opened q ≡ Some o → IsNewShare index q o
 
--- the handles are open, on one new index with such records, each with the pass of its place
+-- the handles are open on one new index with such records, and have its passes in the order of their numbers
 abbrev pub HaveOpenedOn : (Layout → Type 0) → List IndexHandle → Type 0
 HaveOpenedOn HasRecords handles = (opened : List Opened) × (map (λ h. h.cell.opened) handles ≡ map Some opened) × AreNew (length handles) HasRecords opened
 
--- so many nodes, and the one that is kept, and so many leaves, which are all long
+-- so many nodes, one more that is kept, and so many leaves, which are all long
 abbrev pub HasCounts : ℕ → ℕ → Layout → Type 0
 HasCounts nodes leaves layout = (layout.nodes ≡ with_one_kept nodes) × (layout.leaves ≡ leaves) × (layout.long_from ≡ 0)
 
@@ -118,15 +118,15 @@ HaveOpened nodes leaves = HaveOpenedOn (HasCounts nodes leaves)
 abbrev pub HaveOpenedStock : Stock → List IndexHandle → Type 0
 HaveOpenedStock stock = HaveOpenedOn (λ layout. HasStock layout (kept_stock stock))
 
--- The first handle of an index, with the last of so many passes. It keeps the others, the one with the least number as the next to be
--- opened. This holds of each pass, by its number.
+-- The first handle of an index with so many passes, of which it has the last. It keeps the others, the one with the least number as the
+-- next to be opened. The property holds of each pass, by its number.
 pub record KeepsPasses (IsPass : TableView → ℕ → PassView → Type 0) (passes : ℕ) (HasRecords : Layout → Type 0) (opened : Opened) : Type 0 where
   pub layout : (opened.handle.index.layout.passes ≡ passes) × HasRecords opened.handle.index.layout
   pub count : length opened.kept.items + 1 ≡ passes
   pub each : (q : ℕ) (h : HandleView) → slice_get (reverse opened.kept.items ++ opened.handle ∷ []) q ≡ Some h →
       (h.index ≡ opened.handle.index) × IsPass opened.handle.index q h.pass
 
--- all of them are new
+-- the first handle of a new index with so many passes, which keeps all others
 abbrev pub IsKeeper : ℕ → (Layout → Type 0) → Opened → Type 0
 IsKeeper = KeepsPasses (λ index. IsNewPass)
 
@@ -134,17 +134,17 @@ IsKeeper = KeepsPasses (λ index. IsNewPass)
 abbrev pub HasOpenedKeeper : ℕ → Stock → Option Opened → Type 0
 HasOpenedKeeper passes stock new = (opened : Opened) × (new ≡ Some opened) × IsKeeper passes (λ layout. HasStock layout (kept_stock stock)) opened
 
--- it keeps the same closed handles as before
+-- the handle keeps the same closed handles as before
 abbrev pub KeepsAll : Opened → Opened → Type 0
 KeepsAll was now = (now.handle ≡ was.handle) × (now.kept.items ≡ was.kept.items)
 
--- The next of the closed handles that one keeps was opened, which keeps none itself.
+-- The next of the closed handles that `was` keeps was opened. It keeps none itself.
 pub record HasOpenedNext (was now opened : Opened) : Type 0 where
   pub next : was.kept.items ≡ now.kept.items ++ opened.handle ∷ []
   pub same : now.handle ≡ was.handle
   pub alone : opened.kept.items ≡ []
 
--- From an open handle that keeps others, a closed one was opened with the next of them; or there was none, or no memory.
+-- From an open handle that keeps others, the next of them was opened. Or there was none, or no memory.
 abbrev pub OpensNext : Opened → Option Opened → Option Opened → ℕ → Type 0
 OpensNext was keeper handle status = (now : Opened) × (keeper ≡ Some now) ×
     (((status ≡ DONE) × (opened : Opened) × (handle ≡ Some opened) × HasOpenedNext was now opened)

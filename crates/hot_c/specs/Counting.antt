@@ -6,8 +6,8 @@ use Rattle.hot_c.specs.Calls.{FitsInKey, StaysOpen}
 use Rattle.hot_c.specs.declared.opened.Opened.{Opened}
 use Rattle.hot_c.specs.declared.status.TheConstants.{CLOSED, DONE, KEY_TOO_LONG}
 
--- A count through a handle, which finds `before` where C wants the number and leaves `after`. A closed handle and a key that is too long
--- are told as such, and nothing has changed; else the range is counted.
+-- A count through a handle. C wants the number at a word that has `before`, and then has `after`. A closed handle and a key that is too
+-- long are told as such, and nothing has changed. Else the range is counted.
 pub record CountsRange (from upto : List ℕ) (old new : Option Opened) (before after status : ℕ) : Type 0 where
   pub closed : old ≡ None → (status ≡ CLOSED) × (new ≡ old) × (after ≡ before)
   pub long : IsSome old → ¬ (FitsInKey from × FitsInKey upto) → (status ≡ KEY_TOO_LONG) × (new ≡ old) × (after ≡ before)

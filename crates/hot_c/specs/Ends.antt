@@ -16,9 +16,8 @@ use Rattle.hot_c.specs.declared.pairs.Order.{Order}
 use Rattle.hot_c.specs.declared.pairs.Pair.{Pair}
 use Rattle.hot_c.specs.declared.status.TheConstants.{CLOSED, KEY_TOO_LONG, NO_MEMORY}
 
--- A search through a handle for one pair. A closed handle and a key that is too long are told as such, and nothing has changed; else
--- it is made and what it found is told, or there is no memory for a pair and C's is as it was. Either way it makes the steps of a scan
--- for one pair, so many at most.
+-- A search through a handle for one pair. A closed handle and a key that is too long are told as such, and nothing has changed. Else it is
+-- made, and what it found is told. Or there is no memory for a pair, and C's is as it was. Either way the number of its steps is bounded.
 pub record FindsBy (Fits : Type 0) (IsFound : Layout → PassView → PassView → Option (List ℕ × ℕ) → Type 0)
     (HasPair : Layout → PassView → PassView → Type 0) (old new : Option Opened) (before after : Pair) (status : ℕ) : Type 0 where
   pub closed : old ≡ None → (status ≡ CLOSED) × (new ≡ old) × (after ≡ before)
@@ -36,7 +35,7 @@ FindsFirst from = FindsBy (FitsInKey from) (λ layout k j. IsFirstFound layout k
 abbrev pub FindsLast : List ℕ → Option Opened → Option Opened → Pair → Pair → ℕ → Type 0
 FindsLast upto = FindsBy (FitsInKey upto) (λ layout k j. IsLastFound layout k j upto) (λ layout k j. HasFoundPair layout k j (range_from [] upto 1))
 
--- the pair that a scan of a range finds first
+-- the call found the pair that a scan of the range in this order finds first, or that there is none
 abbrev pub FindsFirstIn : Order → List ℕ → List ℕ → Option Opened → Option Opened → Pair → Pair → ℕ → Type 0
 FindsFirstIn order from upto = FindsBy (FitsInKey from × FitsInKey upto)
     (λ layout k j found. (is_more : Bool) × IsFilledIn order layout k j (range_from from upto 1) (option_to_list found) is_more)

@@ -7,23 +7,24 @@ use Rattle.hot_c.specs.Calls.{StaysOpen}
 use Rattle.hot_c.specs.declared.opened.Opened.{Opened}
 use Rattle.hot_c.specs.declared.status.TheConstants.{CLOSED, DONE}
 
--- both handles, if they are open, are at one index
+-- both handles, if they are open, are at the same index
 abbrev pub AreAtOneIndex : Option Opened → Option Opened → Type 0
 AreAtOneIndex one other = (o p : Opened) → one ≡ Some o → other ≡ Some p → p.handle.index ≡ o.handle.index
 
--- All that calls tell of the pass is as it was: its number, the changes that it has seen, its answered calls, and its steps.
+-- All that calls tell of the pass is as it was: its number, its front, its answered calls, and its steps.
 abbrev pub IsAsTold : PassView → PassView → Type 0
 IsAsTold k j = (j.number ≡ k.number) × (j.front ≡ k.front) × (j.fresh ≡ k.fresh) × (j.notes ≡ k.notes) × (j.steps ≡ k.steps) × (j.failed ≡ k.failed)
 
--- A handle sees what its leader has seen: it has now seen all changes that the leader has seen, beside those that it had seen before,
--- and no call of it is noted. All that calls tell of the leader is as it was. Where either is closed, that is told and nothing has changed.
+-- A handle sees what its leader has seen. It has now seen all changes that the leader has seen, beside its own, and no call of it is noted.
+-- All that calls tell of the leader is as it was. If either is closed, that is told and nothing has changed.
 pub record SeesLeader (old new old_leader new_leader : Option Opened) (status : ℕ) : Type 0 where
   pub closed : (old ≡ None) ⊎ (old_leader ≡ None) → (status ≡ CLOSED) × (new ≡ old) × (new_leader ≡ old_leader)
   pub seen : (leader : Opened) → IsSome old → old_leader ≡ Some leader →
       (status ≡ DONE) × StaysOpen (λ index k j. HasCaughtUp index.layout leader.handle.pass.front k j) old new
       × StaysOpen (λ index k j. IsAsTold k j) old_leader new_leader
 
--- The steps of which a handle knows that sees a leader begin with those of which the leader knew, who has made one stamp, and nothing else.
+-- A handle has seen a leader. The steps that it knows now begin with those that the leader knew. The leader has made one stamp, and nothing
+-- else.
 abbrev pub SeesSteps : (old new old_leader new_leader : Option Opened) → Type 0
 SeesSteps old new old_leader new_leader =
     (was now led then : Opened) → old ≡ Some was → new ≡ Some now → old_leader ≡ Some led → new_leader ≡ Some then →

@@ -11,17 +11,17 @@ use Rattle.hot_c.specs.Calls.{FitsInKey, KeepsPasses}
 use Rattle.hot_c.specs.declared.opened.Opened.{Opened}
 use Rattle.hot_c.specs.declared.status.TheConstants.{CLOSED, DONE, FULL_LEAVES, FULL_NODES, KEY_TOO_LONG, NO_MEMORY, NOT_RISING}
 
--- the load has no pair, for an index with so many passes and this stock, and the node record that is kept
+-- The load has no pair yet. It is for an index with so many passes, this stock, and one more node record, which is kept.
 pub record IsNewLoad (passes : ℕ) (stock : Stock) (load : LoadView) : Type 0 where
   pub passes_are : load.layout.passes ≡ passes
   pub stock_is : HasStock load.layout (kept_stock stock)
   pub none : load.items ≡ []
 
--- a load was opened that has no pair
+-- a load was opened that has no pair yet
 abbrev pub HasBegunLoad : ℕ → Stock → Option OpenLoad → Type 0
 HasBegunLoad passes stock new = (opened : OpenLoad) × (new ≡ Some opened) × IsNewLoad passes stock opened.load
 
--- one of the statuses of a pair that is refused
+-- the status is one of those of a pair that a load refuses
 abbrev pub IsOfRefusedPair : ℕ → Type 0
 IsOfRefusedPair status = (status ≡ NOT_RISING) ⊎ (status ≡ KEY_TOO_LONG) ⊎ (status ≡ FULL_LEAVES) ⊎ (status ≡ FULL_NODES) ⊎ (status ≡ NO_MEMORY)
 
@@ -33,7 +33,8 @@ pub record TellsPush (key : List ℕ) (value : ℕ) (old new : LoadView) (status
   pub leaves : status ≡ FULL_LEAVES → HasNoRoomFor old key × ¬ HasNoLeafFor old.layout key
   pub nodes : status ≡ FULL_NODES → old.layout.nodes ≤ length old.items
 
--- A pair for a load. A closed load and a key that no index takes are told as such, and nothing has changed; else the load is given the pair.
+-- A pair for a load. A closed load and a key that no index takes are told as such, and nothing has changed. Else the load is given the
+-- pair.
 pub record LoadsPair (key : List ℕ) (value : ℕ) (old new : Option OpenLoad) (status : ℕ) : Type 0 where
   pub closed : old ≡ None → (status ≡ CLOSED) × (new ≡ old)
   pub long : IsSome old → ¬ FitsInKey key → (status ≡ KEY_TOO_LONG) × (new ≡ old)
@@ -43,6 +44,6 @@ pub record LoadsPair (key : List ℕ) (value : ℕ) (old new : Option OpenLoad) 
 abbrev pub KeepsLoadedPasses : LoadView → Opened → Type 0
 KeepsLoadedPasses load = KeepsPasses (λ index. IsPassOfLoad index (pairs load.items)) load.layout.passes (λ layout. layout ≡ load.layout)
 
--- a handle was opened that keeps them
+-- a handle was opened that keeps the passes of the index made of this load
 abbrev pub HasOpenedLoaded : LoadView → Option Opened → Type 0
 HasOpenedLoaded load new = (opened : Opened) × (new ≡ Some opened) × KeepsLoadedPasses load opened

@@ -11,20 +11,19 @@ use Rattle.hot_c.specs.declared.status.TheConstants.{ABSENT, CLOSED, DONE, FOUND
 abbrev pub key_in : Lookup → List ℕ
 key_in it = it.key.now
 
--- a look-up that found this
+-- a look-up with what it found
 abbrev pub answer : Lookup → Option ℕ → Lookup
 answer it None = record it { status = ABSENT }
 answer it (Some value) = record it { value = value; status = FOUND }
 
--- look-ups that found these, in turn
+-- look-ups with what they found, in turn
 abbrev pub are_answered : List Lookup → List (Option ℕ) → List Lookup
 are_answered [] found = []
 are_answered (it ∷ rest) [] = it ∷ rest
 are_answered (it ∷ rest) (value ∷ found) = answer it value ∷ are_answered rest found
 
--- Look-ups through a handle. A closed handle and a key that is too long are told as such, and nothing has changed; else each key is
--- looked up, all by one call of the index, with as many steps at most, and what was found is told; or there is no memory, and nothing
--- has changed.
+-- Look-ups through a handle. A closed handle and a key that is too long are told as such, and nothing has changed. Else all keys are looked
+-- up by one call of the index, and what was found is told. Or there is no memory, and nothing has changed. The number of steps is bounded.
 pub record LooksUpAll (old new : Option Opened) (before after : List Lookup) (status : ℕ) : Type 0 where
   pub closed : old ≡ None → (status ≡ CLOSED) × (new ≡ old) × (after ≡ before)
   pub long : IsSome old → ¬ All (λ it. FitsInKey (key_in it)) before → (status ≡ KEY_TOO_LONG) × (new ≡ old) × (after ≡ before)

@@ -10,11 +10,11 @@ use Rattle.packed_pairs.specs.declared.direction.Direction.TheVariants.{Upwards 
 use Rattle.hot_c.specs.declared.pairs.Order.{Order}
 use Rattle.hot_c.specs.declared.pairs.Order.TheVariants.{Upwards, Downwards, LastUpwards}
 
--- what a scan of a range was answered: its pairs, and whether there is a further one
+-- What is said of a scan of a range: of its pairs, and whether there is a further one.
 abbrev pub Answer : Type 1
 Answer = Layout → PassView → PassView → Range → List (List ℕ × ℕ) → Bool → Type 0
 
--- A scan of the last pairs in rising order was answered: a scan downwards lists them from the last one on.
+-- A scan of the last pairs in rising order was answered. A scan downwards lists them from the last one on.
 abbrev pub IsLastListed : Answer
 IsLastListed layout k j range pairs is_more = IsReverseListed layout k j range (reverse pairs) is_more
 
@@ -24,19 +24,19 @@ IsListedIn Upwards = IsListed
 IsListedIn Downwards = IsReverseListed
 IsListedIn LastUpwards = IsLastListed
 
--- the pairs in this order, of those in the order in which the scan found them
+-- the pairs in this order, from the order in which the scan found them
 abbrev pub in_order : Order → List (List ℕ × ℕ) → List (List ℕ × ℕ)
 in_order Upwards pairs = pairs
 in_order Downwards pairs = pairs
 in_order LastUpwards pairs = reverse pairs
 
--- the direction in which a scan finds them
+-- the direction in which a scan in this order finds its pairs
 abbrev pub direction_of : Order → Direction
 direction_of Upwards = Rising
 direction_of Downwards = Falling
 direction_of LastUpwards = Falling
 
--- a scan that found these pairs, one after the other, was answered
+-- a scan in this order was answered, with its pairs as it found them
 abbrev pub IsFilledIn : Order → Answer
 IsFilledIn Upwards = IsListed
 IsFilledIn Downwards = IsReverseListed

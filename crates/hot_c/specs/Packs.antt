@@ -13,19 +13,19 @@ use Rattle.hot_c.specs.Orders.{Answer}
 use Rattle.hot_c.specs.Scans.{ListsInto}
 use Rattle.hot_c.specs.declared.opened.Opened.{Opened}
 
--- what C sees of such a scan's answer: an array of bytes, one of heads, the count of pairs, and whether there is a further one
+-- what C sees of a packed scan: an array of bytes, one of heads, the count of pairs, and whether there is a further one
 pub record Packing : Type 0 where
   pub bytes : List ℕ
   pub heads : List PairHead
   pub count : ℕ
   pub more : ℕ
 
--- what C sees of a packed scan, with these values
+-- these values as what C sees of a packed scan
 abbrev pub packing : List ℕ → List PairHead → ℕ → ℕ → Packing
 packing bytes heads count more = record { bytes = bytes; heads = heads; count = count; more = more }
 
--- The arrays begin with the keys and the heads of the first pairs, of as many as have keys that fit into the bytes, and are otherwise
--- as they were. There is a further pair if the scan found one, or if one didn't fit.
+-- The arrays begin with the keys and the heads of the first pairs, as many as have keys that fit into the bytes. They are otherwise as they
+-- were. There is a further pair if the scan found one, or if one didn't fit.
 pub record IsPackListed (pairs : List (List ℕ × ℕ)) (is_more : Bool) (before after : Packing) : Type 0 where
   pub written : List (List ℕ × ℕ)
   pub fit : written ≡ fitting (length before.bytes) pairs
@@ -35,20 +35,20 @@ pub record IsPackListed (pairs : List (List ℕ × ℕ)) (is_more : Bool) (befor
   pub count : after.count ≡ length written
   pub more : after.more ≡ from_bool (is_more || nat_lt (length written) (length pairs))
 
--- A scan was answered; and so are the scans that are cut after any of its first pairs, and have more.
+-- A scan was answered. So are the scans that are cut after any of its first pairs, and have more.
 pub record IsListedByParts (IsMade : Answer) (layout : Layout) (k j : PassView) (range : Range) (pairs : List (List ℕ × ℕ)) (is_more : Bool) : Type 0 where
   pub whole : IsMade layout k j range pairs is_more
   pub parts : (n : ℕ) → n < length pairs → IsMade layout k j (limited range n) (take n pairs) true
 
--- a scan of as many pairs as there is room for heads
+-- a packed scan of as many pairs as there is room for heads
 abbrev pub ListsPackedBy : Answer → List ℕ → List ℕ → Option Opened → Option Opened → Packing → Packing → ℕ → Type 0
 ListsPackedBy IsMade from upto old new before after status =
     ListsInto IsPackListed (IsListedByParts IsMade) (range_from from upto (length before.heads)) old new before after status
 
--- from the first key on
+-- a packed scan upwards, from the first key of the range on
 abbrev pub ListsPacked : List ℕ → List ℕ → Option Opened → Option Opened → Packing → Packing → ℕ → Type 0
 ListsPacked = ListsPackedBy IsListed
 
--- from the last key downwards
+-- a packed scan downwards, from the last key of the range on
 abbrev pub ListsPackedReverse : List ℕ → List ℕ → Option Opened → Option Opened → Packing → Packing → ℕ → Type 0
 ListsPackedReverse = ListsPackedBy IsReverseListed

@@ -3,18 +3,18 @@ use Rattle.std.specs.Prelude.{◌≡◌, ℕ, List, length, take, drop, slice_ge
 use Rattle.hot_c.specs.declared.pairs.Pair.{Pair}
 use Rattle.hot_c.specs.declared.status.TheConstants.{ABSENT, FOUND}
 
--- C's pair becomes this key with its value: its first bytes are the key's, and those behind the key stay
+-- C's pair becomes this key with its value. Its first bytes are the key's, and those behind the key stay.
 pub record Spells (e : List ℕ × ℕ) (before after : Pair) : Type 0 where
   pub key : take (length e.0) after.key ≡ e.0
   pub behind : drop (length e.0) after.key ≡ drop (length e.0) before.key
   pub count : after.length ≡ length e.0
   pub value : after.value ≡ e.1
 
--- the pair that stood at this place has become this one, of the key
+-- the pair with this index in C's array becomes this key with its value
 abbrev pub BecomesAt : List Pair → ℕ → List ℕ × ℕ → Pair → Type 0
 BecomesAt before q e pair = (was : Pair) × (slice_get before q ≡ Some was) × Spells e was pair
 
--- the array begins with these pairs
+-- C's array begins with these pairs
 abbrev pub AreSpelled : List (List ℕ × ℕ) → List Pair → List Pair → Type 0
 AreSpelled pairs before after =
     (q : ℕ) (e : List ℕ × ℕ) → slice_get pairs q ≡ Some e → (pair : Pair) × (slice_get after q ≡ Some pair) × BecomesAt before q e pair

@@ -13,20 +13,20 @@ use Rattle.hot_c.specs.Scans.{Listing, ListsBy}
 use Rattle.hot_c.specs.declared.opened.Opened.{Opened}
 use Rattle.hot_c.specs.declared.status.TheConstants.{CLOSED, KEY_TOO_LONG}
 
--- the range has the keys of which this holds, and no others
+-- the range has just the keys with the property
 abbrev pub IsRangeOf : (List ℕ → Type 0) → List ℕ → List ℕ → Type 0
 IsRangeOf IsInside from upto = (key : List ℕ) → IsKey key → IsTrue (is_within from upto key) ↔ IsInside key
 
--- the key begins with the prefix and is above the other one
+-- the key begins with the prefix and is above the other key
 abbrev pub HasPrefixAbove : List ℕ → List ℕ → List ℕ → Type 0
 HasPrefixAbove prefix other key = HasPrefix prefix key × (key_order other key ≡ Less)
 
--- the key begins with the prefix and is below the other one
+-- the key begins with the prefix and is below the other key
 abbrev pub HasPrefixBelow : List ℕ → List ℕ → List ℕ → Type 0
 HasPrefixBelow prefix other key = HasPrefix prefix key × (key_order key other ≡ Less)
 
--- A scan through a handle of keys with a prefix, on one side of another key. A closed handle, and a prefix or a key that is too long,
--- are told as such, and nothing has changed; else it is a scan of the range of exactly those keys, whose ends fit.
+-- A scan through a handle of keys with a prefix, on one side of another key. A closed handle, and a prefix or a key that is too long, are
+-- told as such, and nothing has changed. Else it is a scan of the range of just those keys.
 pub record ListsRest (IsMade : Answer) (IsInside : List ℕ → Type 0) (prefix other : List ℕ)
     (old new : Option Opened) (before after : Listing) (status : ℕ) : Type 0 where
   pub closed : old ≡ None → (status ≡ CLOSED) × (new ≡ old) × (after ≡ before)
@@ -34,10 +34,10 @@ pub record ListsRest (IsMade : Answer) (IsInside : List ℕ → Type 0) (prefix 
   pub made : IsSome old → FitsInKey prefix → FitsInKey other →
       (from upto : List ℕ) × IsRangeOf IsInside from upto × FitsInKey from × FitsInKey upto × ListsBy IsMade from upto old new before after status
 
--- the keys above another, from the first one on
+-- a scan upwards of the keys with a prefix that are above another key
 abbrev pub ListsAfter : List ℕ → List ℕ → Option Opened → Option Opened → Listing → Listing → ℕ → Type 0
 ListsAfter prefix other = ListsRest IsListed (HasPrefixAbove prefix other) prefix other
 
--- the keys below another, from the last one downwards
+-- a scan downwards of the keys with a prefix that are below another key
 abbrev pub ListsBefore : List ℕ → List ℕ → Option Opened → Option Opened → Listing → Listing → ℕ → Type 0
 ListsBefore prefix other = ListsRest IsReverseListed (HasPrefixBelow prefix other) prefix other

@@ -11,14 +11,14 @@ use Rattle.hot_index_calls.specs.declared.refusals.Refusal.{Refusal}
 use Rattle.hot_index_calls.specs.declared.refusals.Refusal.TheVariants.{Busy, HeldBack, Full}
 use Rattle.hot_c.specs.declared.status.TheConstants.{BUSY, FULL_NODES, FULL_LEAVES, KEY_TOO_LONG, HELD_BACK}
 
--- there is no record of one kind and class
+-- the index has no record of one kind and class
 pub record AreNone (counts : StateCounts) : Type 0 where
   pub free : counts.free ≡ 0
   pub held : counts.held ≡ 0
   pub live : counts.live ≡ 0
   pub obsolete : counts.obsolete ≡ 0
 
--- The status says whether there is no leaf record with room for a key of this length, or too few are free.
+-- The status says whether the index has no leaf record with room for a key of this length, or too few are free.
 pub record TellsOfLeaves (length : ℕ) (counts : RecordCounts) (status : ℕ) : Type 0 where
   pub none : OfLeaves AreNone length counts → status ≡ KEY_TOO_LONG
   pub taken : ¬ OfLeaves AreNone length counts → status ≡ FULL_LEAVES
@@ -30,12 +30,13 @@ TellsRefusal length (HeldBack lacks) status = status ≡ HELD_BACK
 TellsRefusal length (Full Nodes counts) status = status ≡ FULL_NODES
 TellsRefusal length (Full Leaves counts) status = TellsOfLeaves length counts status
 
--- The status tells of no lack of records of a kind that the call never lacks, and where it lacks neither, of none that others hold back.
+-- The status tells no lack of a kind of records that the call never lacks. If the call lacks neither kind, it tells none that others hold
+-- back.
 pub record TellsWhatMay (call : Call) (status : ℕ) : Type 0 where
   pub nodes : ¬ MayRefuse call FullNodes → status ≢ FULL_NODES
   pub leaves : ¬ MayRefuse call FullLeaves → status ≢ FULL_LEAVES
   pub held : ¬ MayRefuse call FullNodes → ¬ MayRefuse call FullLeaves → status ≢ HELD_BACK
 
--- the status tells of no lack of records
+-- the status tells no lack of records
 abbrev pub TellsOfNoLack : ℕ → Type 0
 TellsOfNoLack status = (status ≢ FULL_NODES) × (status ≢ FULL_LEAVES) × (status ≢ HELD_BACK)

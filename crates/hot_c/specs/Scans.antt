@@ -12,7 +12,7 @@ use Rattle.hot_c.specs.declared.opened.Opened.{Opened}
 use Rattle.hot_c.specs.declared.pairs.Pair.{Pair}
 use Rattle.hot_c.specs.declared.status.TheConstants.{DONE, KEY_TOO_LONG, CLOSED, NO_MEMORY}
 
--- A scan through a handle was made, of so many pairs, whether there is a further one. They are in the handle's list.
+-- A scan through a handle was made, of so many pairs, with whether there is a further one. They are in the handle's list.
 pub record HasFilled (IsMade : Answer) (range : Range) (old new : Option Opened) (count : ℕ) (is_more : Bool) : Type 0 where
   pub before : Opened
   pub after : Opened
@@ -26,8 +26,8 @@ pub record HasFilled (IsMade : Answer) (range : Range) (old new : Option Opened)
   pub made : IsMade before.handle.index.layout before.handle.pass after.handle.pass range after.list is_more
   pub read : HasGotRange before.handle.index untold range.limit (before.handle.pass, tt) (after.handle.pass, tt)
 
--- A scan through a handle lists nothing. A closed handle and a key that is too long are told as such, and nothing has changed; else
--- there is no memory for a pair that it found, and it has made the steps of a scan, so many at most.
+-- A scan through a handle lists nothing. A closed handle and a key that is too long are told as such, and nothing has changed. Else there
+-- is no memory for a pair that it found, and the number of its steps is bounded.
 pub record ListsNothing (range : Range) (old new : Option Opened) (status : ℕ) : Type 0 where
   pub closed : old ≡ None → (status ≡ CLOSED) × (new ≡ old)
   pub long : IsSome old → ¬ (FitsInKey range.from × FitsInKey range.upto) → (status ≡ KEY_TOO_LONG) × (new ≡ old)
@@ -35,9 +35,9 @@ pub record ListsNothing (range : Range) (old new : Option Opened) (status : ℕ)
       (status ≡ NO_MEMORY) × StaysOpen (λ index k j. IsUnnoted index.layout k j × HasFoundPair index.layout k j range) old new
   pub read : IsSome old → FitsInKey range.from → FitsInKey range.upto → StaysOpen (λ index k j. HasGotRange index untold range.limit (k, tt) (j, tt)) old new
 
--- A scan through a handle, of so many pairs at most. A closed handle and a key that is too long are told as such, and nothing has
--- changed; else the scan is made and its pairs are written where C has room for them, or there is no memory for a pair that it found
--- and nothing is written. Either way it makes the steps of a scan, so many at most.
+-- A scan through a handle, of at most so many pairs. A closed handle and a key that is too long are told as such, and nothing has changed.
+-- Else its pairs are written where C has room for them. Or there is no memory for a pair that it found, and nothing is written. Either way
+-- the number of its steps is bounded.
 pub record ListsInto {Room : Type 0} (IsWritten : List (List ℕ × ℕ) → Bool → Room → Room → Type 0)
     (IsMade : Answer) (range : Range) (old new : Option Opened) (before after : Room) (status : ℕ) : Type 0 where
   pub closed : old ≡ None → (status ≡ CLOSED) × (new ≡ old) × (after ≡ before)
@@ -49,17 +49,17 @@ pub record ListsInto {Room : Type 0} (IsWritten : List (List ℕ × ℕ) → Boo
       × (after ≡ before))
   pub read : IsSome old → FitsInKey range.from → FitsInKey range.upto → StaysOpen (λ index k j. HasGotRange index untold range.limit (k, tt) (j, tt)) old new
 
--- what C sees of a scan's answer: its array, the count of pairs, and whether there is a further one
+-- what C sees of a scan: its array, the count of pairs, and whether there is a further one
 pub record Listing : Type 0 where
   pub room : List Pair
   pub count : ℕ
   pub more : ℕ
 
--- what C sees of a scan, with these values
+-- these values as what C sees of a scan
 abbrev pub listing : List Pair → ℕ → ℕ → Listing
 listing room count more = record { room = room; count = count; more = more }
 
--- the array begins with the scan's pairs, for which it has room, and is otherwise as it was: behind them, and behind the key of each
+-- The array begins with the scan's pairs, for which it has room. Behind them, and behind the key of each, it is as it was.
 pub record IsArrayListed (pairs : List (List ℕ × ℕ)) (is_more : Bool) (before after : Listing) : Type 0 where
   pub short : length pairs ≤ length before.room
   pub written : AreSpelled pairs before.room after.room
@@ -67,11 +67,11 @@ pub record IsArrayListed (pairs : List (List ℕ × ℕ)) (is_more : Bool) (befo
   pub count : after.count ≡ length pairs
   pub more : after.more ≡ from_bool is_more
 
--- a scan of as many pairs as the array has places
+-- a scan through a handle, of as many pairs as C's array has room for
 abbrev pub ListsBy : Answer → List ℕ → List ℕ → Option Opened → Option Opened → Listing → Listing → ℕ → Type 0
 ListsBy IsMade from upto old new before after status = ListsInto IsArrayListed IsMade (range_from from upto (length before.room)) old new before after status
 
--- from the first key on, from the last one downwards, and of the last ones in rising order
+-- a scan upwards, from the first key of the range on
 abbrev pub Lists : List ℕ → List ℕ → Option Opened → Option Opened → Listing → Listing → ℕ → Type 0
 Lists = ListsBy IsListed
 
@@ -79,6 +79,6 @@ Lists = ListsBy IsListed
 abbrev pub ListsReverse : List ℕ → List ℕ → Option Opened → Option Opened → Listing → Listing → ℕ → Type 0
 ListsReverse = ListsBy IsReverseListed
 
--- the last pairs of the range, in rising order
+-- a scan of the last pairs of the range, in rising order
 abbrev pub ListsLast : List ℕ → List ℕ → Option Opened → Option Opened → Listing → Listing → ℕ → Type 0
 ListsLast = ListsBy IsLastListed

@@ -6,7 +6,7 @@ use Rattle.hot_handles.specs.SectionHandles.{HasOpenedSection, KeepsSections, Is
 use Rattle.hot_handles.specs.declared.section.opened.OpenSection.{OpenSection as OpenSection}
 use Rattle.hot_c.specs.declared.status.TheConstants.{CLOSED, DONE, INSIDE, NO_HANDLE, NO_MEMORY, NOT_PAST, OUTSIDE}
 
--- An open handle stays open, at the same table, and keeps what it kept. This became of its section.
+-- An open handle stays open, at the same table, and keeps what it kept. `Became` says what has become of its section.
 pub record KeepsSection (Became : SectionView → SectionView → Type 0) (old new : Option OpenSection) : Type 0 where
   pub before : OpenSection
   pub after : OpenSection
@@ -36,36 +36,36 @@ pub record LeavesSection (old new : Option OpenSection) (status : ℕ) : Type 0 
   pub outside : HoldsOutside old → (status ≡ OUTSIDE) × KeepsSection (λ s t. t ≡ s) old new
   pub left : HoldsInside old → (status ≡ DONE) × KeepsSection Leaves old new
 
--- It is told whether a section is open, and nothing has changed.
+-- The call tells whether a section is open, and nothing has changed.
 pub record TellsInside (old new : Option OpenSection) (status : ℕ) : Type 0 where
   pub closed : old ≡ None → status ≡ CLOSED
   pub outside : HoldsOutside old → status ≡ OUTSIDE
   pub inside : HoldsInside old → status ≡ INSIDE
   pub same : new ≡ old
 
--- A moment is taken, and its number is in C's word. With a closed handle that is told, and nothing has changed.
+-- A moment is taken, and its number is in C's word. A closed handle is told as such, and nothing has changed.
 pub record TellsMoment (old new : Option OpenSection) (before after status : ℕ) : Type 0 where
   pub closed : old ≡ None → (status ≡ CLOSED) × (new ≡ old) × (after ≡ before)
   pub taken : IsSome old → (status ≡ DONE) × KeepsSection (TakesMoment after) old new
 
--- The owner of a section has looked, and found that the moment is past, or what may hold it.
+-- the owner of a section has looked, and found that the moment is past
 abbrev pub FindsPast : ℕ → SectionView → SectionView → Type 0
 FindsPast moment s t = SeesOthers s t × IsPast moment t.known.run
 
--- the owner has found what may hold it
+-- the owner of a section has looked, and found what may hold the moment
 abbrev pub FindsHeld : ℕ → SectionView → SectionView → Type 0
 FindsHeld moment s t = SeesOthers s t × IsHeld moment t.known.run
 
--- It is told whether the moment of this number is past. With a closed handle that is told, and nothing has changed.
+-- The call tells whether the moment of this number is past. A closed handle is told as such, and nothing has changed.
 pub record TellsPast (moment : ℕ) (old new : Option OpenSection) (status : ℕ) : Type 0 where
   pub closed : old ≡ None → (status ≡ CLOSED) × (new ≡ old)
   pub told : IsSome old → ((status ≡ DONE) × KeepsSection (FindsPast moment) old new) ⊎ ((status ≡ NOT_PAST) × KeepsSection (FindsHeld moment) old new)
 
--- a handle was opened that keeps the sections of a new table, as many as this
+-- a handle was opened that keeps `count` sections of a new table
 abbrev pub HasOpenedSections : ℕ → Option OpenSection → Type 0
 HasOpenedSections count new = (opened : OpenSection) × (new ≡ Some opened) × KeepsSections count opened
 
--- From an open handle that keeps sections, a closed one was opened with the next of them; or there was none, or no memory.
+-- From an open handle that keeps sections, the next of them was opened. Or there was none, or no memory.
 abbrev pub OpensSection : OpenSection → Option OpenSection → Option OpenSection → ℕ → Type 0
 OpensSection was keeper handle status = (now : OpenSection) × (keeper ≡ Some now) ×
     (((status ≡ DONE) × (opened : OpenSection) × (handle ≡ Some opened) × HasOpenedSection was now opened)

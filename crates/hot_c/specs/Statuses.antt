@@ -17,7 +17,7 @@ reply_status Exchanged = EXCHANGED
 reply_status (Differs value) = DIFFERS
 reply_status (Removed value) = REMOVED
 
--- C's value after the call: that of the outcome, if it has one, and else the one before it
+-- C's value after the call: that of the outcome if it has one, and else the one before
 abbrev pub value_after : ℕ → Result Reply Refusal → ℕ
 value_after before (Ok (Value value)) = value
 value_after before (Ok (Exists value)) = value

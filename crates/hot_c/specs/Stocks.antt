@@ -7,11 +7,11 @@ use Rattle.record_words.specs.declared.layout.Stock.{Stock}
 use Rattle.hot_index.specs.Kept.{kept_stock}
 use Rattle.hot_c.specs.declared.stock.HotStock.{HotStock}
 
--- the stock with the numbers of C's
+-- the stock that C's numbers stand for
 abbrev pub stock_in : HotStock → Stock
 stock_in it = record { nodes = it.nodes; short = it.short; medium = it.medium; large = it.large; wide = it.wide; long = it.long }
 
--- the table of so many passes and this stock takes so many bytes, with the node record that is kept
+-- a table of so many passes, this stock and one more node record takes so many bytes
 pub record TakesBytes (passes : ℕ) (stock : Stock) (bytes : ℕ) : Type 0 where
   pub layout : Layout
   pub passes_are : layout.passes ≡ passes

@@ -7,26 +7,26 @@ use Rattle.hot_c.specs.Calls.{FitsInKey, StaysOpen}
 use Rattle.hot_c.specs.declared.opened.Opened.{Opened}
 use Rattle.hot_c.specs.declared.status.TheConstants.{CLOSED, DONE, KEY_TOO_LONG, NO_MEMORY}
 
--- what C sees of its answer: its array, the count of values, and whether there is a further one
+-- what C sees of a scan of values: its array, the count of values, and whether there is a further one
 pub record Valued : Type 0 where
   pub room : List ℕ
   pub count : ℕ
   pub more : ℕ
 
--- what C sees of a scan, with these values
+-- these values as what C sees of a scan of values
 abbrev pub valued : List ℕ → ℕ → ℕ → Valued
 valued room count more = record { room = room; count = count; more = more }
 
--- the array begins with these values, for which it has room, and is otherwise as it was
+-- The array begins with these values, for which it has room, and is otherwise as it was.
 pub record AreWritten (values : List ℕ) (is_more : Bool) (before after : Valued) : Type 0 where
   pub short : length values ≤ length before.room
   pub written : after.room ≡ values ++ drop (length values) before.room
   pub count : after.count ≡ length values
   pub more : after.more ≡ from_bool is_more
 
--- A scan of values through a handle, of as many as the array has places. A closed handle and a key that is too long are told as such, and
--- nothing has changed; else the scan is made and its values are written, or there is no memory for one that it found and nothing is
--- written. Either way it makes the steps of a scan, so many at most.
+-- A scan of values through a handle, of as many as C's array has room for. A closed handle and a key that is too long are told as such, and
+-- nothing has changed. Else its values are written. Or there is no memory for one that it found, and nothing is written. Either way the
+-- number of its steps is bounded.
 pub record ListsValues (from upto : List ℕ) (old new : Option Opened) (before after : Valued) (status : ℕ) : Type 0 where
   pub closed : old ≡ None → (status ≡ CLOSED) × (new ≡ old) × (after ≡ before)
   pub long : IsSome old → ¬ (FitsInKey from × FitsInKey upto) → (status ≡ KEY_TOO_LONG) × (new ≡ old) × (after ≡ before)

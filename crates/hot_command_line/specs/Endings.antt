@@ -7,17 +7,17 @@ use Rattle.hot_scripts.specs.Faults.{run_fault_text}
 use Rattle.hot_command_line.specs.declared.ending.Ending.{Ending}
 use Rattle.hot_command_line.specs.declared.ending.Ending.TheVariants.{Usage, Fault}
 
--- the line on standard error
+-- the line that the program writes to standard error
 abbrev pub ending_text : Ending → List ℕ
 ending_text Usage = codes "usage: hot-run [--nodes N] [--leaves L] [FILE]..."
 ending_text (Fault fault) = run_fault_text fault
 
--- what a refusal by the parser of the command line comes to
+-- the ending for a fault of the command line's parser
 abbrev pub ending_of : ErrorKind → Ending
 ending_of OutOfMemory = Fault Memory
 ending_of _ = Usage
 
--- 1 where reads, writes or memory failed, and 2 where what the program was given is wrong
+-- The program's exit status: 1 if reads, writes or memory failed, and 2 if what it was given is wrong.
 abbrev pub status_of : Ending → ℕ
 status_of (Fault Read) = 1
 status_of (Fault Write) = 1

@@ -4,11 +4,11 @@ use Rattle.hot_scripts.specs.declared.fault.RunFault.{RunFault}
 use Rattle.hot_scripts.specs.declared.fault.RunFault.TheVariants.{Read, Memory}
 use Rattle.hot_scripts.specs.Grammar.{most_bytes}
 
--- of bytes that are known, the first ones: all, or one more than a script may have
+-- the start of a file, if its bytes are known: all of them, or one more than a script may have
 abbrev pub IsFileStart : Option (List ℕ) → List ℕ → Type 0
 IsFileStart known start = IfSome known (λ all. start ≡ take (most_bytes + 1) all)
 
--- these are the starts of the files of these names, one for each; `bytes` are those of a file, where they are known
+-- the starts of the files of these names; `bytes` are those of a file, if they are known
 abbrev pub AreFileStarts : (List ℕ → Option (List ℕ)) → List (List ℕ) → List (List ℕ) → Type 0
 AreFileStarts bytes [] [] = Unit {0}
 AreFileStarts bytes (name ∷ names) (start ∷ starts) = IsFileStart (bytes name) start × AreFileStarts bytes names starts

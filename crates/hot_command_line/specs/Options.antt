@@ -8,11 +8,11 @@ use Rattle.clap.specs.declared.builder.value_parser.ValueParser.TheVariants.{Sig
 use Rattle.hot_scripts.specs.declared.script.TheConstants.{MAX_FILES}
 use Rattle.record_words.specs.declared.TheConstants.{MAX_LEAVES, MAX_NODES}
 
--- an option of this name that takes a number from 1 to `most`, and the words that are no options, as the parser has them
+-- what the parser has as an option of this name: it takes a number from 1 to `most`
 abbrev pub count_rule : List ℕ → ℕ → Rule
 count_rule name most = record (new_rule name) { long = Some name; action = Some Set; parser = Some (Signed (pos 1) (pos most)) }
 
--- any number of words without a name
+-- what the parser has as any number of words that are no options
 abbrev pub names_rule : List ℕ → Rule
 names_rule name = record (new_rule name) { action = Some Append }
 
@@ -33,22 +33,22 @@ abbrev pub command_line : App
 command_line = with_rule (with_rule (with_rule (new_app (codes "hot-run")) (count_rule (codes "nodes") MAX_NODES))
     (count_rule (codes "leaves") MAX_LEAVES)) (names_rule (codes "FILE"))
 
--- The words give this option the number; or they give it none, and it is the default.
+-- The words give this option the number. Or they give it none, and it is the default.
 pub record IsOptionNumber (rows : List Row) (option : List ℕ) (default number : ℕ) : Type 0 where
   pub left_out : one_of option rows ≡ None → number ≡ default
   pub given : (text : List ℕ) → one_of option rows ≡ Some text → IsNumeral 10 (without_leading_plus text) → digits_value 10 (without_leading_plus text) < 2 ^ 32
       → number ≡ digits_value 10 (without_leading_plus text)
 
--- the names of files that these words have, the program's name first
+-- the names of files among these words, the program's name first
 abbrev pub names_in : List (List ℕ) → List (List ℕ)
 names_in words = unwrap_or (all_of (codes "FILE") (matches_of command_line words)) []
 
--- The words parse: the parser of the command line finds no fault in them, and they name no more files than there may be.
+-- The words parse: the parser of the command line finds no fault in them. They name no more files than there may be.
 pub record DoParse (words : List (List ℕ)) : Type 0 where
   pub faultless : fault_of command_line words ≡ []
   pub few : length (names_in words) ≤ MAX_FILES
 
--- These words parse, and ask for so many nodes and leaves and for the files of these names.
+-- The words parse. They ask for so many nodes and leaves, and for the files of these names.
 pub record IsAsked (words : List (List ℕ)) (nodes leaves : ℕ) (names : List (List ℕ)) : Type 0 where
   pub parse : DoParse words
   pub nodes_are : IsOptionNumber (matches_of command_line words) (codes "nodes") 4096 nodes

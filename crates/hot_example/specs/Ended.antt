@@ -8,7 +8,7 @@ use Rattle.index_laws.specs.Joined.{HasGoneThrough, HaveEndedInOneRun, of_two}
 use Rattle.linearizability.specs.Moments.{Happening, invokes}
 use Rattle.rowex_table.specs.Seats.{SeatView, TableView}
 
--- the calls of the map that are asked, in order
+-- the calls of the map that these happenings ask, in their order
 abbrev pub asked_in : List Happening → List Call
 asked_in [] = []
 asked_in (invokes q calls ∷ happenings) = calls ++ asked_in happenings
@@ -18,8 +18,8 @@ asked_in (happening ∷ happenings) = asked_in happenings
 abbrev pub HasMadeCalls : ℕ → List Call → HandleView → Type 0
 HasMadeCalls q asked handle = (done : List Happening) × HasGoneThrough handle.index q done handle.pass.seat × (asked_in done ≡ asked)
 
--- Passes 0 and 1 of the index, which has no other, have asked these calls, and each has ended. Then they have met, and are these. Their calls
--- have ended in the run of which both know now: so they are an execution, and linearizable (`OneRunIsAnExecution`).
+-- Passes 0 and 1 of the index, which has no other, have asked these calls, and each has ended. Then they have met. Their calls have ended
+-- in the run that both know now. So they are an execution, and linearizable (`OneRunIsAnExecution`).
 pub record HaveEnded (index : TableView) (asked asked_too : List Call) (first second : HandleView) : Type 0 where
   pub ours : List Happening
   pub theirs : List Happening

@@ -7,11 +7,11 @@ use Rattle.std.specs.Box.Ownership.{box_owns}
 use Rattle.std.specs.Global.{Global}
 use Rattle.std_heap.specs.contracts.GlobalAllocator.TheImpl.{ghosts}
 
--- C's heap: every handle of it is this one
+-- C's heap; each allocator of it is the same
 abbrev pub heap : Global
 heap = record { memory = record { seal = tt } }
 
--- nothing, or what a box of C's heap owns at this pointer, of a value of this type
+-- nothing, or what a box of C's heap owns at this pointer: a value of this type
 abbrev pub owns_held : (R : RattleType) → Ptr → Option R.Denot → Fml
 owns_held R at None = ftrue
 owns_held R at (Some value) = box_owns (ghosts.dealloc_token heap) R at value

@@ -3,17 +3,17 @@ use Rattle.std.specs.Prelude.{◌≡◌, ◌+◌, ◌++◌, ◌∷◌, [], ℕ, 
 use Rattle.sections.specs.Sections.{IsNewSection}
 use Rattle.hot_handles.specs.declared.section.opened.OpenSection.{OpenSection}
 
--- The first section of a new table with so many others, which are kept.
+-- The first section of a new table, which keeps the `count` others.
 pub record KeepsSections (count : ℕ) (opened : OpenSection) : Type 0 where
   pub count_is : opened.sections.value.count ≡ count + 1
   pub kept : length opened.kept.items ≡ count
   pub new : IsNewSection opened.sections.value 0 opened.section
 
--- it is as it was
+-- the open section has the same table, the same section, and keeps the same others
 abbrev pub IsAsItWas : OpenSection → OpenSection → Type 0
 IsAsItWas was now = (now.sections.value ≡ was.sections.value) × (now.section ≡ was.section) × (now.kept.items ≡ was.kept.items)
 
--- The next of the sections that one keeps was opened, which keeps none itself.
+-- The next of the sections that `was` keeps was opened. It keeps none itself.
 pub record HasOpenedSection (was now opened : OpenSection) : Type 0 where
   pub next : was.kept.items ≡ now.kept.items ++ opened.section ∷ []
   pub same : (now.sections.value ≡ was.sections.value) × (now.section ≡ was.section)

@@ -8,22 +8,22 @@ use Rattle.hot_handles.specs.declared.section.cell.SectionCell.{SectionCell}
 use Rattle.hot_handles.specs.contracts.section.opened.OpenSection.{the_row as opened_row}
 use Rattle.hot_handles.specs.contracts.section.cell.SectionCell.{the_row as cell_row}
 
--- the cell, as one whose type tells what it holds
+-- a section's cell as a holder, whose type tells what it holds
 abbrev pub held_section : SectionCell → Held OpenSection
 held_section cell = record { at = cell.at; value = cell.opened }
 
--- and back
+-- a holder of a section as its cell
 abbrev pub cell_of_section : Held OpenSection → SectionCell
 cell_of_section held = record { at = held.at; opened = held.value }
 
--- the cell ends as this one does
+-- the section's cell ends as its holder does
 abbrev pub LendsHeldSection : MutBor SectionCell → MutBor (Held OpenSection) → Fml
 LendsHeldSection cell held = Lends cell_row (held_row opened_row) cell held cell_of_section
 
--- the cell, holding this
+-- the section's cell, holding this section
 abbrev pub with_section : SectionCell → OpenSection → SectionCell
 with_section cell opened = record cell { opened = Some opened }
 
--- the cell ends with the last value behind the reference
+-- the section's cell ends with the last value behind the reference
 abbrev pub LendsSection : MutBor SectionCell → MutBor OpenSection → Fml
 LendsSection cell opened = Lends cell_row opened_row cell opened (with_section cell.now)

@@ -12,15 +12,15 @@ use Rattle.hot_command_line.specs.Options.{DoParse, IsAsked}
 use Rattle.script_runs.specs.Runs.{IsAnsweredScript, MayEndBy}
 use Rattle.script_runs.specs.Scripts.{LawfulScripts, MayEndScriptsBy}
 
--- The text answers the script alone, where no files are named; else the scripts in the files, and the script after them. `bytes` are
--- those of the file of a name, where they are known.
+-- The text answers the script alone if no files are named, or else the scripts in the files and the script after them. `bytes` are those of
+-- the file of a name, if they are known.
 abbrev pub AnswersAll : (List ℕ → Option (List ℕ)) → List (List ℕ) → ℕ → ℕ → List ℕ → List ℕ → Type 0
 AnswersAll bytes [] nodes leaves script text = IsAnsweredScript nodes leaves script text
 AnswersAll bytes (name ∷ names) nodes leaves script text =
     (files : List (List ℕ)) × AreFileStarts bytes (name ∷ names) files × LawfulScripts nodes leaves untold (map (λ f. (tt, tt)) files) files script text
 
--- What these words ask for was answered: the script is all that the reader had, and the answers were written behind what stood there.
--- `old` and `new` are what the reader has left, `before` and `after` what was written, where that is known.
+-- What these words ask for was answered. The script is all that the reader had, and the answers were written behind what stood there. `old`
+-- and `new` are what the reader has left, `before` and `after` what was written, if known.
 pub record IsAnsweredAsAsked (bytes : List ℕ → Option (List ℕ)) (words : List (List ℕ)) (old new before after : Option (List ℕ)) : Type 0 where
   pub nodes : ℕ
   pub leaves : ℕ
@@ -32,12 +32,12 @@ pub record IsAnsweredAsAsked (bytes : List ℕ → Option (List ℕ)) (words : L
   pub answered : AnswersAll bytes names nodes leaves script text
   pub written : Appends before after text
 
--- such a run may end by this fault
+-- a run of the scripts in these files, or of none, may end by this fault
 abbrev pub MayEndAllBy : (List ℕ → Option (List ℕ)) → List (List ℕ) → Option (List ℕ) → Option (List ℕ) → RunFault → Type 0
 MayEndAllBy bytes [] old new fault = MayEndBy old new fault
 MayEndAllBy bytes (name ∷ names) old new fault = (files : List (List ℕ)) × AreFileStarts bytes (name ∷ names) files × MayEndScriptsBy files old new fault
 
--- a fault of the run that these words ask for
+-- the run that these words ask for may end by this fault
 pub record HasFaultAsAsked (bytes : List ℕ → Option (List ℕ)) (words : List (List ℕ)) (old new : Option (List ℕ)) (fault : RunFault) : Type 0 where
   pub nodes : ℕ
   pub leaves : ℕ
@@ -45,8 +45,8 @@ pub record HasFaultAsAsked (bytes : List ℕ → Option (List ℕ)) (words : Lis
   pub asked : IsAsked words nodes leaves names
   pub ended : MayEndAllBy bytes names old new fault
 
--- It may end without answers where the words don't parse or memory is refused; where they parse and a read fails; else by a fault of the
--- run.
+-- The program may end without answers. It may as wrong usage if the words don't parse, and always if memory is refused. If they parse, it
+-- may by a failed read, or by a fault of the run.
 abbrev pub MayEndAsAsked : (List ℕ → Option (List ℕ)) → List (List ℕ) → Option (List ℕ) → Option (List ℕ) → Ending → Type 0
 MayEndAsAsked bytes words old new Usage = DoParse words → ⊥
 MayEndAsAsked bytes words old new (Fault Read) = DoParse words

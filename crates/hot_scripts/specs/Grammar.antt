@@ -26,7 +26,7 @@ Err e >>= f = Err e
 abbrev pub most_bytes : ℕ
 most_bytes = 1048576
 
--- the lines of a script, each up to a line end; what follows the last line end is a line too, though it may be empty
+-- The lines of a script, each up to a line end. What follows the last line end is a line too, though it may be empty.
 abbrev pub lines_of : List ℕ → List (List ℕ)
 lines_of script = slice_split (λ b. b == 10) script
 
@@ -34,7 +34,7 @@ lines_of script = slice_split (λ b. b == 10) script
 abbrev pub line_words : List ℕ → List (List ℕ)
 line_words line = slice_split (λ b. b == 32) line
 
--- what hexadecimal digits stand for, if they are such
+-- the bytes for which hexadecimal digits stand, or a bad key
 abbrev pub decoded : Result (List ℕ) FromHexError → Result (List ℕ) Reason
 decoded (Ok bytes) = Ok bytes
 decoded (Err e) = Err bad.Key
@@ -44,18 +44,18 @@ abbrev pub most_digits : Version → ℕ
 most_digits First = 128
 most_digits Second = 480
 
--- a key: a dash for the empty one, or two digits for each byte
+-- the key that a word spells: a dash for the empty one, or two digits for each byte
 abbrev pub parsed_key : Version → List ℕ → Result (List ℕ) Reason
 parsed_key version word =
     if bytes_eq word (codes "-") then Ok []
     else if nat_le 2 (length word) && nat_le (length word) (most_digits version) then decoded (decode_of word)
     else Err bad.Key
 
--- 1 to 20 decimal digits
+-- the word has 1 to 20 decimal digits
 abbrev pub is_number : List ℕ → Bool
 is_number word = nat_lt 0 (length word) && nat_le (length word) 20 && list_all is_ascii_digit word
 
--- the number that such digits stand for, where it is below 2^64
+-- the number for which a word's digits stand, if it is below 2^64
 abbrev pub number_of : List ℕ → Option ℕ
 number_of word = if is_number word && nat_lt (digits_value 10 word) (2 ^ 64) then Some (digits_value 10 word) else None
 
@@ -64,28 +64,29 @@ abbrev pub ok_or_reason : Reason → Option ℕ → Result ℕ Reason
 ok_or_reason reason (Some n) = Ok n
 ok_or_reason reason None = Err reason
 
--- a value: any such number
+-- the value that a word spells: any number below 2^64
 abbrev pub parsed_value : List ℕ → Result ℕ Reason
 parsed_value word = ok_or_reason bad.Value (number_of word)
 
--- a limit: such a number from 1 to 1,000,000
+-- the limit that a word spells: a number from 1 to 1,000,000
 abbrev pub limit_of : List ℕ → Result ℕ Reason
 limit_of word = ok_or_reason bad.Limit (number_of word) >>= λ n. if nat_le 1 n && nat_le n 1000000 then Ok n else Err bad.Limit
 
--- a call on a key
+-- the command of a call with the key that a word spells
 abbrev pub with_key : Version → (List ℕ → Call) → List ℕ → Result Command Reason
 with_key version call key = parsed_key version key >>= λ k. Ok (Asks (call k))
 
--- a call on a key and a value
+-- the command of a call with the key and the value that two words spell
 abbrev pub parsed_change : Version → (List ℕ → ℕ → Call) → List ℕ → List ℕ → Result Command Reason
 parsed_change version call key value = parsed_key version key >>= λ k. parsed_value value >>= λ v. Ok (Asks (call k v))
 
--- a scan of a range
+-- the command of a scan of the range and limit that three words spell
 abbrev pub with_range : Version → List ℕ → List ℕ → List ℕ → Result Command Reason
 with_range version from upto limit =
     parsed_key version from >>= λ f. parsed_key version upto >>= λ u. limit_of limit >>= λ n. Ok (Scan (record { from = f; upto = u; limit = n }))
 
--- The command of these words: a name, and as many words as it takes. Of several faults it is the first, that of the name and of the number of words before the others.
+-- The command of these words: a name, and as many words as it takes. Of several faults it has the first. That of the name and of the number
+-- of words comes before the others.
 abbrev pub command_of : Version → List (List ℕ) → Result Command Reason
 command_of version (name ∷ key ∷ []) =
     if bytes_eq name (codes "get") then with_key version Get key
@@ -100,7 +101,7 @@ command_of version (name ∷ from ∷ upto ∷ limit ∷ []) =
     else Err bad.Command
 command_of version _ = Err bad.Command
 
--- What a line asks for: nothing where it is empty or begins with #
+-- What a line asks for. It is nothing if the line is empty or begins with #.
 abbrev pub reading_of : Version → List ℕ → Result (Option Command) Reason
 reading_of version [] = Ok None
 reading_of version (b ∷ bs) = if b == 35 then Ok None else command_of version (line_words (b ∷ bs)) >>= λ c. Ok (Some c)
@@ -112,12 +113,12 @@ readings_of (first ∷ rest) =
     if bytes_eq first (codes "hot 2") then Ok None ∷ map (reading_of Second) rest
     else map (reading_of First) (first ∷ rest)
 
--- the commands of lines that are good
+-- the command of a line that is good and asks for one
 abbrev pub asked : Result (Option Command) Reason → Option Command
 asked (Ok c) = c
 asked (Err reason) = None
 
--- the number of the first bad line and its reason, the first of these lines having the number n
+-- the number of the first bad line and its reason; the first of these lines has the number n
 abbrev pub first_bad : ℕ → List (Result (Option Command) Reason) → Option (ℕ × Reason)
 first_bad n [] = None
 first_bad n (Ok c ∷ readings) = first_bad (n + 1) readings
@@ -128,7 +129,7 @@ abbrev pub ok_unless_fault : {A : Type 0} → Option (ℕ × Reason) → A → R
 ok_unless_fault (Some fault) x = Err fault
 ok_unless_fault None x = Ok x
 
--- the commands of lines, or the first bad one, the first of these lines having the number n
+-- the commands of lines, or the first bad one; the first of these lines has the number n
 abbrev pub commands_from : ℕ → List (Result (Option Command) Reason) → Result (List Command) (ℕ × Reason)
 commands_from n readings = ok_unless_fault (first_bad n readings) (filter_map asked readings)
 
@@ -136,11 +137,11 @@ commands_from n readings = ok_unless_fault (first_bad n readings) (filter_map as
 abbrev pub commands_of : List ℕ → Result (List Command) (ℕ × Reason)
 commands_of script = commands_from 1 (readings_of (lines_of script))
 
--- the key of a call; the empty one of a scan
+-- the key of a call; for a scan, the empty one
 abbrev pub called_key : Command → List ℕ
 called_key (Asks call) = key_of call
 called_key (Scan range) = []
 
--- the call's key has at most so many bytes
+-- the command's key has at most so many bytes
 abbrev pub HasKeyUpTo : ℕ → Command → Type 0
 HasKeyUpTo most command = length (called_key command) ≤ most

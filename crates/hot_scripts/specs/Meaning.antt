@@ -17,7 +17,7 @@ use Rattle.hot_scripts.specs.Grammar.{commands_of, most_bytes}
 abbrev pub line : List ℕ → List ℕ
 line text = text ++ 10 ∷ []
 
--- a word, and a number in decimal digits without leading zeros
+-- a text, and a number behind it in decimal digits without leading zeros
 abbrev pub with_number : List ℕ → ℕ → List ℕ
 with_number word n = word ++ decimal n
 
@@ -46,7 +46,7 @@ pair_line (key, value) = line (codes "pair " ++ key_text key ++ codes " " ++ dec
 abbrev pub scan_lines : Map → Bool → List ℕ
 scan_lines pairs more = flat_map pair_line pairs ++ line (with_number (if more then codes "more " else codes "end ") (length pairs))
 
--- a scan gives the first `limit` pairs of the map in the range
+-- the answer to a scan, which gives the first `limit` pairs of the map in the range
 abbrev pub scan_text : Map → KeyRange → List ℕ
 scan_text m r =
     let found = range_of m r.from r.upto in scan_lines (take r.limit found) (nat_lt r.limit (length found))

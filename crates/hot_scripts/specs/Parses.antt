@@ -13,21 +13,21 @@ use Rattle.hot_scripts.specs.Words.{parts_left, text_len}
 abbrev pub script_commands : Script → List Command
 script_commands script = filter_map asked (readings_of (lines_of script.text.items))
 
--- a parse gave a script of these commands, or this bad line
+-- a parse gave a script of these commands, or the first bad line
 abbrev pub Parses : Result Script RunFault → Result (List Command) (ℕ × Reason) → Type 0
 Parses (Ok script) parsed = parsed ≡ Ok (script_commands script)
 Parses (Err (Bad number reason)) parsed = parsed ≡ Err (number, reason)
 Parses (Err _) parsed = ⊥
 
--- what each line that is left asks for
+-- what each of the remaining lines asks for
 abbrev pub readings_left : Commands → List (Result (Option Command) Reason)
 readings_left commands = map (reading_of commands.version) (parts_left 10 commands.left)
 
--- the commands that are left
+-- the commands of the remaining lines
 abbrev pub commands_left : Commands → List Command
 commands_left commands = filter_map asked (readings_left commands)
 
--- of these commands the first was given, if there was one, and those are left
+-- the first of the commands was given, if there was one, and `after` are the others
 abbrev pub Gives : List Command → Option Command → List Command → Type 0
 Gives before None after = before ≡ []
 Gives before (Some command) after = before ≡ command ∷ after

@@ -5,7 +5,7 @@ use Rattle.hot_scripts.specs.declared.fault.RunFault.{RunFault}
 use Rattle.hot_scripts.specs.declared.fault.RunFault.TheVariants.{Read, Memory, Large}
 use Rattle.hot_scripts.specs.Grammar.{most_bytes}
 
--- the script is all that a reader had left, and it has nothing left now
+-- the script is all that a reader had left, and the reader has nothing left now
 abbrev pub TakesAll : Option (List ℕ) → Option (List ℕ) → List ℕ → Type 0
 TakesAll old new script = Consumes old new script × IsAtEnd new
 

@@ -12,30 +12,30 @@ use Rattle.hot_scripts.specs.Meaning.{line, reply_text, scan_lines}
 use Rattle.script_runs.specs.declared.answer.Answer.{Answer}
 use Rattle.script_runs.specs.declared.answer.Answer.TheVariants.{Reply, Full as Refused}
 
--- what a refusal reads as
+-- the text of a refusal for want of records
 abbrev pub full_text : Full → List ℕ
 full_text Nodes = codes "full nodes"
 full_text Leaves = codes "full leaves"
 
--- what an answer reads as
+-- the text of an answer
 abbrev pub answer_text : Answer → List ℕ
 answer_text (Reply reply) = reply_text reply
 answer_text (Refused full) = full_text full
 
--- A command with what it was answered: a call with its note; a call that lacked these records; or a scan, made while its pass's
--- front grew from the one length to the other.
+-- A command with its answer. It is a call with its note, or one that lacked records of a kind. Or it is a scan, made while its pass's front
+-- grew from one length to the other.
 pub data Answered : Type 0 where
   called : Note → Answered
   refused : Call → Full → Answered
   listed : KeyRange → Scan → ℕ → ℕ → Answered
 
--- the command
+-- the command that was answered
 abbrev pub answered_command : Answered → Command
 answered_command (called note) = Asks note.call
 answered_command (refused call full) = Asks call
 answered_command (listed range scan before after) = Lists range
 
--- the lines of the answer
+-- the lines that are printed for an answer
 abbrev pub lines_of_answer : Answered → List ℕ
 lines_of_answer (called note) = line (reply_text note.reply)
 lines_of_answer (refused call full) = line (full_text full)

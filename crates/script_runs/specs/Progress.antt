@@ -19,12 +19,12 @@ use Rattle.script_runs.specs.Answers.{Answered, called, refused, answered_comman
 use Rattle.script_runs.specs.Scripts.{sections}
 use Rattle.script_runs.specs.Told.{AreTold, IsCommandTold}
 
--- a call that was answered so, if it was, at this place
+-- the call with its answer, at this place if it was not refused
 abbrev pub answered_as : Call → Answer → ℕ → Answered
 answered_as call (Reply reply) place = called (record { place = place; call = call; reply = reply })
 answered_as call (Refused full) place = refused call full
 
--- The pass was told the answer to this command, and its gate the steps; the answer's lines follow the text that stood before.
+-- The pass was told the answer to this command, and its gate the steps. The answer's lines follow the text that stood before.
 pub record HasAnsweredCommand {G : Type 0} (index : TableView) (becomes : G → Event → G → Type 0) (a : PassView × G) (command : Command) (b : PassView × G)
     (before after : List ℕ) : Type 0 where
   pub answer : Answered
@@ -41,45 +41,45 @@ pub record HasRunCommands {G : Type 0} (index : TableView) (becomes : G → Even
   pub text_is : text ≡ flat_map lines_of_answer answers
   pub told : AreTold index becomes a answers b
 
--- a new pass of this number, of the index
+-- the index's pass of this number, which is new
 abbrev pub IsNewPassOf : TableView → ℕ → PassView → Type 0
 IsNewPassOf index q pass = Owns index pass × IsNewPass q pass
 
--- there are a script and a gate for each handle, or for each pass
+-- there are a script and a gate for each handle or pass
 abbrev pub AreReady : {H C G : Type 0} → List H → List C → List G → Type 0
 AreReady handles scripts gates = (length scripts ≡ length handles) × (length gates ≡ length handles)
 
--- the thread of this handle and gate made these commands, and this became of both
+-- the thread of this handle and gate ran these commands, and `ran` is what became of both
 abbrev pub IsDone : {G : Type 0} → (G → Event → G → Type 0) → HandleView × G → List Command → Done × G → Type 0
 IsDone becomes a commands ran =
     (ran.0.handle.index ≡ a.0.index) × HasRunCommands a.0.index becomes (a.0.pass, a.1) commands (ran.0.handle.pass, ran.1) ran.0.text.items
 
--- a thread was started for these commands of this handle, with this gate
+-- the thread's order has this handle, these commands and this gate
 abbrev pub IsOrderOf : {G : Type 0} → HandleView × G → List Command → Order G → Type 0
 IsOrderOf a commands order = (order.handle.value ≡ a.0) × (order.gate.value ≡ a.1) × (script_commands order.script.value ≡ commands)
 
--- the thread kept its order
+-- the thread did what its order says
 abbrev pub HasKept : {G : Type 0} → (G → Event → G → Type 0) → Order G → Done × G → Type 0
 HasKept becomes order ran = IsDone becomes (order.handle.value, order.gate.value) (script_commands order.script.value) ran
 
--- R holds of the items of three lists, place by place
+-- R holds of the items of three lists, one after another
 abbrev pub AllThree : {A B C : Type 0} → (A → B → C → Type 0) → List A → List B → List C → Type 0
 AllThree R [] [] [] = Unit {0}
 AllThree R (x ∷ xs) (y ∷ ys) (z ∷ zs) = R x y z × AllThree R xs ys zs
 AllThree R _ _ _ = ⊥
 
--- the handle is at the index, and so are those of scripts that have run
+-- the handle, and those of scripts that have run, are at the index
 abbrev pub AreAt : TableView → HandleView → List Done → Type 0
 AreAt index handle done = (handle.index ≡ index) × All (λ d. d.handle.index ≡ index) done
 
--- the pass meets those of the others, one after another
+-- the pass meets those of the scripts that have run, one after another
 abbrev pub MeetInTurn : TableView → PassView → List Done → PassView → List Done → Type 0
 MeetInTurn index k [] j [] = j ≡ k
 MeetInTurn index k (before ∷ befores) j (after ∷ afters) =
     (m : PassView) × HaveMet index.layout k before.handle.pass m after.handle.pass × (after.text ≡ before.text) × MeetInTurn index m befores j afters
 MeetInTurn index k _ j _ = ⊥
 
--- The handle's pass made the last script's commands, and then met those of the files again. The text is what all were answered.
+-- The handle's pass ran the last script's commands, and then met those of the files again. The text has all answers.
 pub record HasAnsweredLast (k : HandleView) (met : List Done) (commands : List Command) (text : List ℕ) : Type 0 where
   pub after : PassView
   pub last : PassView

@@ -13,17 +13,17 @@ use Rattle.hot_scripts.specs.Streams.{IsReadFault, TakesAll}
 use Rattle.script_runs.specs.Answers.{Answered, called, refused, listed, IsGranted, answered_command, full_text}
 use Rattle.script_runs.specs.Told.{IsSizedFor, WasToldAnew}
 
--- The answers to commands, on the map as each finds it: a refusal leaves it as it was, so that the others are answered as if the
--- refused commands weren't there.
+-- The text of answers, each on the map as the command found it. A refusal leaves the map, so the others are answered as if the refused
+-- commands weren't there.
 abbrev pub text_told : Map → List Answered → List ℕ
 text_told m [] = []
 text_told m (called note ∷ answers) = line (reply_text (reply_of m note.call)) ++ text_told (map_after m note.call) answers
 text_told m (refused call full ∷ answers) = line (full_text full) ++ text_told m answers
 text_told m (listed range scan before after ∷ answers) = scan_text m range ++ text_told m answers
 
--- The text has the answers to the commands on a new index of so many records, which has one pass, a new one: each answer is that of the map
--- that the earlier ones left, and a command was refused only where that call found no record of the kind free (`IsCommandTold`). All steps of
--- its calls stand in one run from the new table on.
+-- The text has the answers to the commands on a new index with one pass and so many records. Each answer is that of the map that the
+-- earlier ones left. A command was refused only if its call found no record of the kind free (`IsCommandTold`). All steps of its calls
+-- stand in one run from the new table on.
 pub record AreAnswered (nodes leaves : ℕ) (commands : List Command) (text : List ℕ) : Type 0 where
   pub index : TableView
   pub sized : IsSizedFor commands 1 nodes leaves index
@@ -33,7 +33,7 @@ pub record AreAnswered (nodes leaves : ℕ) (commands : List Command) (text : Li
   pub commands_are : map answered_command answers ≡ commands
   pub text_is : text ≡ text_told [] answers
 
--- The text answers the script so: it is what the script means, if no command was refused.
+-- The text has the answers to the script's commands. It is what the script means, if no command was refused.
 pub record IsAnsweredScript (nodes leaves : ℕ) (script text : List ℕ) : Type 0 where
   pub short : length script ≤ most_bytes
   pub commands : List Command
@@ -41,7 +41,8 @@ pub record IsAnsweredScript (nodes leaves : ℕ) (script text : List ℕ) : Type
   pub run : AreAnswered nodes leaves commands text
   pub meaning : All IsGranted run.answers → script_meaning script ≡ Ok text
 
--- A run may end by its script's first bad line, by a failed write where the script has a text, or by such a fault.
+-- A run may end by its script's first bad line, or by a failed write if the script has a text. It may end by a fault of its reads or of
+-- memory.
 abbrev pub MayEndBy : Option (List ℕ) → Option (List ℕ) → RunFault → Type 0
 MayEndBy old new (Script number reason) = (script : List ℕ) × TakesAll old new script × (script_meaning script ≡ Err (Script number reason))
 MayEndBy old new Write = (script : List ℕ) × TakesAll old new script × IsOk (script_meaning script)

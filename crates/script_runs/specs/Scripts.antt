@@ -25,20 +25,20 @@ pub record Ran : Type 0 where
   pub answers : List Answered
   pub front : List Change
 
--- the commands that were answered
+-- the commands of a script that was run
 abbrev pub commands_in : Ran → List Command
 commands_in ran = map answered_command ran.answers
 
--- their notes
+-- the notes of a script that was run
 abbrev pub notes_in : Ran → List Note
 notes_in ran = filter_map note_of ran.answers
 
--- and what is printed for them
+-- the text of the answers to a script that was run
 abbrev pub text_in : Ran → List ℕ
 text_in ran = flat_map lines_of_answer ran.answers
 
--- The answers stand in the front in their order, none before the place `low`. A scan is lawful between two prefixes of the front:
--- the shorter has the changes of all commands before it, and no later command stands before the end of the longer.
+-- The answers stand in the front in their order, none before the place `low`. A scan is lawful between two prefixes of the front. The
+-- shorter has the changes of all commands before it. No later command stands before the end of the longer.
 abbrev pub StandFrom : List Change → ℕ → List Answered → Type 0
 StandFrom front low [] = Unit {0}
 StandFrom front low (called note ∷ rest) = (low ≤ note.place) × StandFrom front (place_after note) rest
@@ -48,34 +48,34 @@ StandFrom front low (listed range scan before after ∷ rest) =
     × IsLawfulScan (take before front) (take after front) range.from range.upto range.limit scan
     × StandFrom front after rest
 
--- The calls of pass q that the script made are legal in its front, and all its commands stand there from the place `low` on.
+-- The calls of pass q that the script made are legal in its front. All its commands stand there from the place `low` on.
 pub record IsLegalRun (q low : ℕ) (ran : Ran) : Type 0 where
   pub legal : LegalCalls ran.front q (notes_in ran)
   pub stand : StandFrom ran.front low ran.answers
 
--- each has the property, with its number, the first that of `first`
+-- each element has the property by its number, which counts up from `first`
 abbrev pub AllFrom : {A : Type 0} → ℕ → (ℕ → A → Type 0) → List A → Type 0
 AllFrom first p [] = Unit {0}
 AllFrom first p (x ∷ xs) = p first x × AllFrom (first + 1) p xs
 
--- R holds of the items of two lists, place by place, with their number, the first that of `first`
+-- R holds of the items of two lists, one after another, by their number, which counts up from `first`
 abbrev pub AllTwoFrom : {A B : Type 0} → ℕ → (ℕ → A → B → Type 0) → List A → List B → Type 0
 AllTwoFrom first R [] [] = Unit {0}
 AllTwoFrom first R (x ∷ xs) (y ∷ ys) = R first x y × AllTwoFrom (first + 1) R xs ys
 AllTwoFrom first R _ _ = ⊥
 
--- each script's notes with the number of its pass, the first that of `first`
+-- each script's notes with the number of its pass, which counts up from `first`
 abbrev pub by_pass : ℕ → List Ran → List (ℕ × List Note)
 by_pass first [] = []
 by_pass first (ran ∷ more) = (first, notes_in ran) ∷ by_pass (first + 1) more
 
--- the answers to files, each below its heading, the first having the number `first`
+-- the answers to files, each below its heading with the file's number, which counts up from `first`
 abbrev pub sections : ℕ → List (List ℕ) → List ℕ
 sections first [] = []
 sections first (text ∷ texts) = line (with_number (codes "file ") first) ++ text ++ sections (first + 1) texts
 
--- The text has the answers to the scripts of files and then those to the last script, all run at the same time but the last one.
--- Each script has a pass of its own, numbered in this order.
+-- The text has the answers to the scripts of files, which run at the same time, and then those to the last script. Each script has a pass
+-- of its own, numbered in this order.
 pub record LawfulAnswers (scripts : List (List Command)) (last : List Command) (text : List ℕ) : Type 0 where
   pub files_ran : List Ran
   pub last_ran : Ran
@@ -94,8 +94,9 @@ pub record LawfulAnswers (scripts : List (List Command)) (last : List Command) (
   pub makers : All (λ c. c.pass ≤ length scripts) last_ran.front
   pub text_is : text ≡ sections 1 (map text_in files_ran) ++ line (codes "last") ++ text_in last_ran
 
--- And these answers were given on one index of so many records: the calls of each file's pass, a new one, went to its gate, step by step, and a
--- command was refused only where that call found no record of the kind free (`IsCommandTold`). Each gate is given as it was and as it is then.
+-- The text has lawful answers, given on one index of so many records. The calls of each file's pass, a new one, went to its gate, step by
+-- step. A command was refused only if its call found no record of the kind free (`IsCommandTold`). Each gate is given as it was before and
+-- after.
 pub record AreAllAnswered {G : Type 0} (nodes leaves : ℕ) (becomes : G → Event → G → Type 0) (gates : List (G × G))
     (scripts : List (List Command)) (last : List Command) (text : List ℕ) : Type 0 where
   pub lawful : LawfulAnswers scripts last text
@@ -104,8 +105,8 @@ pub record AreAllAnswered {G : Type 0} (nodes leaves : ℕ) (becomes : G → Eve
   pub files_told : AllTwoFrom 0 (λ q gate ran. WasToldAnew index becomes q gate ran.answers ran.front) gates lawful.files_ran
   pub last_told : WasTold index untold (length scripts) (tt, tt) lawful.met lawful.last_ran.answers lawful.last_ran.front
 
--- Several scripts, after Herlihy and Wing: these files and the last script have commands, and the text answers them lawfully, on an
--- index of so many records. Each file has a gate, which was told the steps of its calls: it is given as it was and as it is then.
+-- Several scripts, after Herlihy and Wing. These files and the last script have commands, and the text answers them lawfully, on an index
+-- of so many records. Each file's gate, given as it was before and after, was told the steps of its calls.
 pub record LawfulScripts {G : Type 0} (nodes leaves : ℕ) (becomes : G → Event → G → Type 0) (gates : List (G × G))
     (files : List (List ℕ)) (script text : List ℕ) : Type 0 where
   pub scripts : List (List Command)
@@ -115,8 +116,8 @@ pub record LawfulScripts {G : Type 0} (nodes leaves : ℕ) (becomes : G → Even
   pub last_is : commands_of script ≡ Ok last
   pub answers : AreAllAnswered nodes leaves becomes gates scripts last text
 
--- A run of several scripts may end by want of memory; by the fault of the first file that has one; or, where none has, as a run of
--- the last script alone may end.
+-- A run of several scripts may end by want of memory, or by the fault of the first file that has one. If none has, it may end as a run of
+-- the last script alone may.
 abbrev pub MayEndScriptsBy : List (List ℕ) → Option (List ℕ) → Option (List ℕ) → RunFault → Type 0
 MayEndScriptsBy files old new Memory = Unit {0}
 MayEndScriptsBy files old new fault = (commands_of_files 1 files ≡ Err fault) ⊎ (IsOk (commands_of_files 1 files) × MayEndBy old new fault)

@@ -27,26 +27,26 @@ pub record IsCalled (layout : Layout) (k j : PassView) (note : Note) : Type 0 wh
   pub legal : LegalCalls j.front j.number j.notes
   pub makers : AreByPasses layout j.front
 
--- The pass was told this answer to a command. A call that was refused has found, in its own steps, each record of the kind not free,
--- of leaf records each with room for its key.
+-- The pass was told this answer to a command. A call that was refused has found each record of the kind not free, in its own steps. Of leaf
+-- records these are those with room for its key.
 abbrev pub IsCommandTold : Layout → PassView → Answered → PassView → Type 0
 IsCommandTold layout k (called note) j = IsCalled layout k j note
 IsCommandTold layout k (refused call full) j = MayLack call full × IsRefusedFor layout call k j (fault_of full)
 IsCommandTold layout k (listed range scan before after) j =
     IsScanned layout k j (range_from range.from range.upto range.limit) scan × (before ≡ length j.fresh.front) × (after ≡ length j.front)
 
--- And these answers, one after another. The pass makes each command's steps and no other between them, and its gate is told each of
+-- The pass was told these answers, one after another. It makes each command's steps and no other between them. Its gate is told each of
 -- these, in order, and nothing else.
 abbrev pub AreTold : {G : Type 0} → TableView → (G → Event → G → Type 0) → PassView × G → List Answered → PassView × G → Type 0
 AreTold index becomes a [] b = b ≡ a
 AreTold {G = G} index becomes a (answer ∷ answers) b =
     (m : PassView × G) × IsCommandTold index.layout a.0 answer m.0 × HasTold index becomes a m × AreTold index becomes m answers b
 
--- The gate was told steps of this pass and no others, one after another: it is given as it was and as it is then.
+-- The gate, given as it was before and after, was told steps of this pass and no others, one after another.
 abbrev pub IsToldOf : {G : Type 0} → (G → Event → G → Type 0) → ℕ → G × G → Type 0
 IsToldOf becomes q gate = (events : List Event) × All (λ e. e.pass ≡ q) events × IsTold becomes events gate.0 gate.1
 
--- an index of so many passes, of so many node records and the one that is kept, and of so many leaf records, each of which has room for each key
+-- An index of so many passes, node records, with one more that is kept, and leaf records. Each leaf record has room for each key.
 pub record IsOfSize (passes nodes leaves : ℕ) (index : TableView) : Type 0 where
   pub passes_are : index.layout.passes ≡ passes
   pub nodes_are : index.layout.nodes ≡ with_one_kept nodes
@@ -57,16 +57,16 @@ pub record IsOfSize (passes nodes leaves : ℕ) (index : TableView) : Type 0 whe
 abbrev pub HasRoomFor : Layout → Command → Type 0
 HasRoomFor layout command = (leaf : ℕ) → leaf < layout.leaves → words_for (length (called_key command)) ≤ leaf_size layout leaf
 
--- an index of so many passes, of so many node records and the one that is kept, and of so many leaf records, each of which has room for the key
--- of each of these calls
+-- An index of so many passes, node records, with one more that is kept, and leaf records. Each leaf record has room for the key of each of
+-- these calls.
 pub record IsSizedFor (commands : List Command) (passes nodes leaves : ℕ) (index : TableView) : Type 0 where
   pub passes_are : index.layout.passes ≡ passes
   pub nodes_are : index.layout.nodes ≡ with_one_kept nodes
   pub leaves_are : index.layout.leaves ≡ leaves
   pub room : All (HasRoomFor index.layout) commands
 
--- The pass of this number, which had seen these changes, was told the answers by the index, and has seen these changes then. Its
--- gate was told the steps: it is given as it was before the first step, and as it is after the last.
+-- The pass of this number, which had seen the changes `before`, was told the answers by the index, and has then seen `after`. Its gate,
+-- given as it was before and after, was told the steps.
 pub record WasTold {G : Type 0} (index : TableView) (becomes : G → Event → G → Type 0) (q : ℕ) (gate : G × G)
     (before : List Change) (answers : List Answered) (after : List Change) : Type 0 where
   pub first : PassView
@@ -77,7 +77,8 @@ pub record WasTold {G : Type 0} (index : TableView) (becomes : G → Event → G
   pub ends : last.front ≡ after
   pub told : AreTold index becomes (first, gate.0) answers (last, gate.1)
 
--- The same of a new pass: it knew of no step of any pass, so the steps of its calls stand in one run from the new table on.
+-- A new pass was told the answers by the index. It knew no step of any pass, so the steps of its calls stand in one run from the new table
+-- on.
 pub record WasToldAnew {G : Type 0} (index : TableView) (becomes : G → Event → G → Type 0) (q : ℕ) (gate : G × G)
     (answers : List Answered) (after : List Change) : Type 0 where
   pub told : WasTold index becomes q gate [] answers after
