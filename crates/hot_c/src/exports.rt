@@ -26,8 +26,9 @@ use key_bits::{Key, KeyFault};
 use record_words::{Layout, MAX_STOCK_PASSES, Stock};
 use std::alloc::Global;
 
-/// Opens each of `handles`, 1 to 64, with the pass of its place of a new empty index: `DONE`. It has `nodes` node records, 1 to 65,535,
-/// and `leaves` leaf records, 1 to 262,143, all long. Else all stay as they were: `OUT_OF_RANGE`, or `OPEN` if one is open, or `NO_MEMORY`.
+/// Opens each of `handles`, 1 to 64, with a pass of a new empty index, in the order of their numbers: `DONE`. It has `nodes` node records,
+/// 1 to 65,535, and `leaves` leaf records, 1 to 262,143, all long. Else all stay as they were: `OUT_OF_RANGE`, or `OPEN` if one is open, or
+/// `NO_MEMORY`.
 #[unsafe(no_mangle)]
 pub extern "C" fn hot_create(
     alloc: Global,
@@ -57,9 +58,9 @@ pub extern "C" fn hot_create(
     }
 }
 
-/// Opens each of `handles` with the pass of its place of a new empty index with the records of `stock`: `DONE`. Else all stay as they were:
-/// `OUT_OF_RANGE` unless there are 1 to 1,024 handles, a node record, and 1 to 4,294,967,295 leaf records in all; or `OPEN` if a handle is
-/// open; or `NO_MEMORY`.
+/// Opens each of `handles` with a pass of a new empty index with the records of `stock`, in the order of their numbers: `DONE`. Else all
+/// stay as they were. `OUT_OF_RANGE` unless there are 1 to 1,024 handles, a node record, and 1 to 4,294,967,295 leaf records in all. `OPEN`
+/// if a handle is open, or `NO_MEMORY`.
 #[unsafe(no_mangle)]
 pub extern "C" fn hot_create_with(
     alloc: Global,
@@ -160,8 +161,8 @@ pub extern "C" fn hot_stock_for_keys(count: u32, longest: usize, stock: &mut Hot
     stock.set_counts(Stock::for_keys(count, longest));
 }
 
-/// Writes to `stock` that of `Stock::for_any_keys`: enough for any `count` keys at once, of at most `longest` bytes each, and of at most
-/// 240, in an index of `handles` passes, and of at most 1,024.
+/// Writes to `stock` that of `Stock::for_any_keys`. It is enough for any `count` keys at once, of at most `longest` bytes each, in an index
+/// of `handles` passes. A key has at most 240 bytes, and an index at most 1,024 passes.
 #[unsafe(no_mangle)]
 pub extern "C" fn hot_stock_for_any_keys(
     count: u32,
@@ -194,8 +195,8 @@ pub extern "C" fn hot_stock_bytes(stock: &HotStock, handles: usize, bytes: &mut 
     }
 }
 
-/// Writes the number of the handle's pass to `number`: `DONE`. After `hot_create` or `hot_create_with` it is the handle's place in
-/// `handles`. If the handle is closed, `CLOSED`, and `number` stays.
+/// Writes the number of the handle's pass to `number`: `DONE`. After `hot_create` or `hot_create_with` it is the handle's number in
+/// `handles`, from 0 on. If the handle is closed, `CLOSED`, and `number` stays.
 #[unsafe(no_mangle)]
 pub extern "C" fn hot_number(handle: &mut IndexHandle, number: &mut u16) -> u32
     ensures closed { handle.old.cell.opened ≡ None → (result ≡ CLOSED) × (number.new ≡ number.old) }

@@ -18,7 +18,7 @@ impl HandleCell {
         unsafe { &mut *(self as *mut HandleCell as *mut Held<Opened>) }
     }
 
-    /// Lends what the cell holds, to be read and changed in its place. The cell isn't empty.
+    /// Lends what the cell holds, to be read and changed where it is. The cell isn't empty.
     pub fn lend(&mut self) -> &mut Opened
         requires { IsSome self.old.opened }
         ensures* writes_back { sem 𝓛 (LendsOpened self.entry result) }

@@ -50,9 +50,9 @@ pub extern "C" fn hot_begin_load(
     }
 }
 
-/// Pushes `key` with `value`: `DONE`. Else the load stays as it was, with its pairs, and goes on: `CLOSED` if it is closed; `KEY_TOO_LONG` if
-/// `key` has more than 240 bytes; `NOT_RISING` if it isn't above the last key; `KEY_TOO_LONG` too if no leaf record of the index has room for
-/// it; `FULL_LEAVES` if all that have are taken; `FULL_NODES` if too few node records may be left; or `NO_MEMORY`.
+/// Pushes `key` with `value`: `DONE`. Else the load stays as it was, with its pairs, and goes on. `CLOSED` if it is closed, and
+/// `NOT_RISING` if `key` isn't above the last key. `KEY_TOO_LONG` if `key` has more than 240 bytes, or no leaf record of the index has room
+/// for it. `FULL_LEAVES` if all that have room are taken. `FULL_NODES` if too few node records may be left. Or `NO_MEMORY`.
 #[unsafe(no_mangle)]
 pub extern "C" fn hot_load_pair(load: &mut LoadHandle, key: &[u8], value: u64) -> u32
     ensures { LoadsPair key.now value load.old.cell.opened load.new.cell.opened result }

@@ -41,7 +41,8 @@ pub fn copy_keys(alloc: Global, lookups: &[Lookup<'_>]) -> Result<Vec<Key>, Allo
     Ok(keys)
 }
 
-/// Writes each of `found` to its place in `lookups`, which are as many: `FOUND` with the value; or `ABSENT`, and the value there stays.
+/// Writes each of `found` to the look-up of its number in `lookups`, which are as many: `FOUND` with the value; or `ABSENT`, and the value
+/// there stays.
 pub fn write_found_values(found: &[Option<u64>], lookups: &mut [Lookup<'_>])
     requires { length found.now ≡ length lookups.old }
     ensures { lookups.new ≡ are_answered lookups.old found.now }

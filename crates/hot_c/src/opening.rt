@@ -49,7 +49,7 @@ pub fn is_stock_in_range(passes: usize, stock: &Stock) -> bool
         && leaves <= u32::MAX as u64
 }
 
-/// Opens each of `handles`, which are closed, with the one at its place in `passes`, which are as many.
+/// Opens each of `handles`, which are closed, with the one of its number in `passes`, which are as many.
 pub fn open_handles(handles: &mut [IndexHandle], passes: Vec<Box<Opened, Global>>)
     requires closed { AreClosed handles.old }
     requires count { length passes.items ≡ length handles.old }

@@ -18,10 +18,10 @@ struct Room<'a> {
     heads: &'a mut [PairHead],
 }
 
-/// Lists the first pairs whose keys are from `from` to `upto`, both included, in key order, packed. The bytes of their keys go to
-/// `bytes`, one after another, and a head for each to `heads`. It lists at most as many as `heads` has places, and only the first of these,
-/// whose keys together have room in `bytes`. `count` is their number then, and `more` 1 if the range has more, else 0: `DONE`. With
-/// `CLOSED`, `KEY_TOO_LONG` or `NO_MEMORY` these four stay.
+/// Lists the first pairs whose keys are from `from` to `upto`, both included, in key order, packed. The bytes of their keys go to `bytes`,
+/// one after another, and a head for each to `heads`. It lists at most as many as `heads` has elements, and only the first of these, whose
+/// keys together have room in `bytes`. `count` is their number then, and `more` 1 if the range has more, else 0: `DONE`. With `CLOSED`,
+/// `KEY_TOO_LONG` or `NO_MEMORY` these four stay.
 #[unsafe(no_mangle)]
 pub extern "C" fn hot_scan_packed(
     handle: &mut IndexHandle,
@@ -90,7 +90,7 @@ fn list_packed_pairs(
     }
 }
 
-/// Writes the heads of `pairs` and the bytes of their keys to the first places of `heads` and `bytes`, which have room for them.
+/// Writes the heads of `pairs` and the bytes of their keys to the fronts of `heads` and `bytes`, which have room for them.
 fn write_packed_pairs(pairs: &Pairs, bytes: &mut [u8], heads: &mut [PairHead])
     requires bytes { length (keys_in pairs.now) ≤ length bytes.old }
     requires heads { length pairs.now ≤ length heads.old }

@@ -49,7 +49,7 @@ pub struct Query<'a> {
     pub upto: &'a [u8],
 }
 
-/// Writes `pairs`, as a scan found them, to the first places of `room`, which has room for all. For `LastUpwards` the last one comes first.
+/// Writes `pairs`, as a scan found them, to the front of `room`, which has room for all. For `LastUpwards` the last one comes first.
 pub fn write_pairs_in_order(order: Order, pairs: &Pairs, room: &mut [Pair])
     requires { length pairs.now ≤ length room.old }
     ensures written { AreSpelled (in_order order pairs.now) room.old room.new }
@@ -61,7 +61,7 @@ pub fn write_pairs_in_order(order: Order, pairs: &Pairs, room: &mut [Pair])
     }
 }
 
-/// Writes `pairs` to the first places of `room`, which has room for all, the first one first.
+/// Writes `pairs` to the front of `room`, which has room for all, the first one first.
 fn write_pairs(pairs: &Pairs, room: &mut [Pair])
     requires { length pairs.now ≤ length room.old }
     ensures written { AreSpelled pairs.now room.old room.new }
@@ -72,7 +72,7 @@ fn write_pairs(pairs: &Pairs, room: &mut [Pair])
     }
 }
 
-/// Writes `pairs` to the first places of `room`, which has room for all, the last one first.
+/// Writes `pairs` to the front of `room`, which has room for all, the last one first.
 fn write_pairs_backwards(pairs: &Pairs, room: &mut [Pair])
     requires { length pairs.now ≤ length room.old }
     ensures written { AreSpelled (reverse pairs.now) room.old room.new }

@@ -15,8 +15,8 @@ use key_bits::Key;
 use key_ranges::{last_with_prefix, next_key, previous_key};
 use std::cmp::Ordering;
 
-/// Lists the first pairs whose keys begin with `prefix`, in key order: what `hot_scan` lists from `prefix` to the last key that begins
-/// with it. It writes and returns what `hot_scan` does.
+/// Lists the first pairs whose keys begin with `prefix`, in key order. These are what `hot_scan` lists from `prefix` to the last key that
+/// begins with it. It writes and returns what `hot_scan` does.
 #[unsafe(no_mangle)]
 pub extern "C" fn hot_scan_whole_prefix(
     handle: &mut IndexHandle,
@@ -62,8 +62,8 @@ pub extern "C" fn hot_scan_prefix_after(
     list_pairs_of_query(handle, &query, room, count, more)
 }
 
-/// Lists the last pairs whose keys begin with `prefix`, in falling key order: what `hot_scan_reverse` lists from `prefix` to the last key
-/// that begins with it. It writes and returns what `hot_scan_reverse` does.
+/// Lists the last pairs whose keys begin with `prefix`, in falling key order. These are what `hot_scan_reverse` lists from `prefix` to the
+/// last key that begins with it. It writes and returns what `hot_scan_reverse` does.
 #[unsafe(no_mangle)]
 pub extern "C" fn hot_scan_whole_prefix_reverse(
     handle: &mut IndexHandle,

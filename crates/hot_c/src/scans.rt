@@ -10,9 +10,9 @@ use crate::pairs::{Order, Pair, Query, write_pairs_in_order};
 use crate::status::{CLOSED, DONE, KEY_TOO_LONG, NO_MEMORY};
 use key_bits::Key;
 
-/// Lists the first pairs whose keys are from `from` to `upto`, both included, in key order: at most as many as `room` has places, and
-/// other places stay. `count` is their number then, and `more` 1 if the range has more, else 0: `DONE`. With `CLOSED`, `KEY_TOO_LONG` or
-/// `NO_MEMORY` these three stay.
+/// Lists the first pairs whose keys are from `from` to `upto`, both included, in key order. They are at most as many as `room` has
+/// elements, and the other elements stay. `count` is their number then, and `more` 1 if the range has more, else 0: `DONE`. With `CLOSED`,
+/// `KEY_TOO_LONG` or `NO_MEMORY` these three stay.
 #[unsafe(no_mangle)]
 pub extern "C" fn hot_scan(
     handle: &mut IndexHandle,
@@ -31,8 +31,9 @@ pub extern "C" fn hot_scan(
     list_pairs_of_query(handle, &query, room, count, more)
 }
 
-/// Lists the last pairs whose keys are from `from` to `upto`, both included, in falling key order: at most as many as `room` has places.
-/// `count` is their number then, and `more` 1 if the range has more below, else 0: `DONE`. The other statuses are those of `hot_scan`.
+/// Lists the last pairs whose keys are from `from` to `upto`, both included, in falling key order. They are at most as many as `room` has
+/// elements. `count` is their number then, and `more` 1 if the range has more below, else 0: `DONE`. The other statuses are those of
+/// `hot_scan`.
 #[unsafe(no_mangle)]
 pub extern "C" fn hot_scan_reverse(
     handle: &mut IndexHandle,
@@ -51,8 +52,9 @@ pub extern "C" fn hot_scan_reverse(
     list_pairs_of_query(handle, &query, room, count, more)
 }
 
-/// Lists the last pairs whose keys are from `from` to `upto`, both included, in rising key order: at most as many as `room` has places.
-/// `count` is their number then, and `more` 1 if the range has more below, else 0: `DONE`. The other statuses are those of `hot_scan`.
+/// Lists the last pairs whose keys are from `from` to `upto`, both included, in rising key order. They are at most as many as `room` has
+/// elements. `count` is their number then, and `more` 1 if the range has more below, else 0: `DONE`. The other statuses are those of
+/// `hot_scan`.
 #[unsafe(no_mangle)]
 pub extern "C" fn hot_scan_last(
     handle: &mut IndexHandle,

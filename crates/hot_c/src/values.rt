@@ -8,9 +8,9 @@ use crate::status::{CLOSED, DONE, KEY_TOO_LONG, NO_MEMORY};
 use key_bits::Key;
 use std::alloc::Global;
 
-/// Writes the values of the first pairs whose keys are from `from` to `upto`, both included, in key order: at most as many as `room` has
-/// places, and other places stay. `count` is their number then, and `more` 1 if the range has more, else 0: `DONE`. With `CLOSED`,
-/// `KEY_TOO_LONG` or `NO_MEMORY` these three stay.
+/// Writes the values of the first pairs whose keys are from `from` to `upto`, both included, in key order. They are at most as many as
+/// `room` has elements, and the other elements stay. `count` is their number then, and `more` 1 if the range has more, else 0: `DONE`. With
+/// `CLOSED`, `KEY_TOO_LONG` or `NO_MEMORY` these three stay.
 #[unsafe(no_mangle)]
 pub extern "C" fn hot_scan_values(
     alloc: Global,
@@ -49,7 +49,7 @@ pub extern "C" fn hot_scan_values(
     }
 }
 
-/// Writes `values` to the first places of `room`, which has room for them.
+/// Writes `values` to the front of `room`, which has room for them.
 fn write_values(values: &[u64], room: &mut [u64])
     requires { length values.now ≤ length room.old }
     ensures { room.new ≡ values.now ++ drop (length values.now) room.old }

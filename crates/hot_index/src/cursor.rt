@@ -94,8 +94,8 @@ impl Cursor {
     }
 }
 
-/// What is left of the keys `rest` after a part with `pairs`: what comes above the last pair's key, or all of `rest` if there is no pair.
-/// `None` if `more` is false, as the range then has no more pairs, or if no key comes above the last one.
+/// What is left of the keys `rest` after a part with `pairs`. It is what comes above the last pair's key, or all of `rest` if there is no
+/// pair. `None` if `more` is false, since the range then has no more pairs. `None` too if no key comes above the last one.
 fn rest_after_part(rest: &Rest, pairs: &Pairs, more: bool) -> Option<Rest>
     ensures { IsLeft rest.now pairs.now more result }
 {

@@ -128,7 +128,8 @@ impl<I: ShowsIndex> Handle<I> {
         self.index.show().get(&mut self.pass, key)
     }
 
-    /// Looks up `keys`, and writes to `found`, at each key's place, its value or `None`, as `Index::get_many` does. Both have one length.
+    /// Looks up `keys`, and writes to `found`, in the order of the keys, the value of each or `None`, as `Index::get_many` does. Both have
+    /// one length.
     pub fn get_many(&mut self, keys: &[Key], found: &mut [Option<u64>])
         requires { length found.old ≡ length keys.now }
         ensures call { Stays (λ index k j. AreNoted index.layout k j (gets keys.now found.new)) self.old self.new }
@@ -340,8 +341,8 @@ impl<I: ShowsIndex> Handle<I> {
             .scan_into(&mut self.pass, from, upto, limit, pairs)
     }
 
-    /// Replaces what `pairs` holds with the first pairs of `range` in its direction, as many as its limit at most, and returns whether there
-    /// are more. If memory is refused, an error: `pairs` then holds the first of these pairs, fewer than the limit. As `Index::range_into`.
+    /// Replaces what `pairs` holds with the first pairs of `range` in its direction, at most as many as its limit. Returns whether there
+    /// are more. An error if memory is refused: `pairs` then holds the first of these pairs, fewer than the limit. As `Index::range_into`.
     pub fn range_into(&mut self, range: &Range, pairs: &mut Pairs) -> Result<bool, AllocError>
         ensures call { Stays (λ index k j. IsListReadBy (IsLawfulBy range.now.direction) (asked_range range.now) pairs.new result index untold (k, tt) (j, tt))
             self.old self.new }

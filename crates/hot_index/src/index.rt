@@ -100,7 +100,8 @@ impl Index {
         self.get_with(pass, key, &mut NoGate)
     }
 
-    /// Looks up each of `keys` once, and writes what `get` would return to its place in `found`, which must be as long as `keys`.
+    /// Looks up each of `keys` once, and writes what `get` would return to `found`, in the order of the keys. `found` must be as long as
+    /// `keys`.
     ///
     /// It takes no lock, allocates nothing and never blocks. It makes at most 4 atomic steps, 32 for each key, and 26 for each node on
     /// the path to a key. Beside them it touches eleven words at most for each such node. A path has at most 2,160 nodes.
@@ -180,11 +181,11 @@ impl Index {
     /// Inserts `key` with `value`: `Inserted`; or `Exists` with the value that the key has already, and keeps. `rt` allows it to wait.
     ///
     /// Where `try_insert` would return `Busy`, it lets other threads run and begins again, as often as need be. Where no record is free, it
-    /// counts all records, as `census` does. It begins again if by that count a record may come back: one is held or obsolete, or as many
-    /// are free as it needs. In an index of one pass it makes one try.
+    /// counts all records, as `census` does. It begins again if by that count a record may come back. One may if one is held or obsolete,
+    /// or as many are free as it needs. In an index of one pass it makes one try.
     ///
-    /// It returns `Full` only if its last try found no node record free, or no leaf record with room for the key, as `try_insert` says, and
-    /// the count after it said so. It has changed nothing then, and holds no lock and no record.
+    /// It returns `Full` only if its last try found no node record free, or no leaf record with room for the key, as `try_insert` says. The
+    /// count after it must say so. It has changed nothing then, and holds no lock and no record.
     pub fn insert<R: Wait>(
         &self,
         rt: &R,
@@ -205,7 +206,7 @@ impl Index {
 
     /// Gives `key` the value `value`, whether it has one or not: `New`, or `Was` with the value that it had.
     ///
-    /// It begins again as `insert` does, when another pass is in its way or records may come back, and is refused for the same reasons:
+    /// It begins again as `insert` does, when another pass is in its way or records may come back. It is refused for the same reasons, and
     /// only if its last search found the key absent.
     pub fn upsert<R: Wait>(
         &self,
@@ -278,7 +279,7 @@ impl Index {
         )
     }
 
-    /// Makes one round of collection: it advances the epoch, if no other pass does so meanwhile, loads it, and visits each record of the
+    /// Makes one round of collection. It advances the epoch, if no other pass does so meanwhile, loads it, and visits each record of the
     /// index once. It gives back each record that was retired in an epoch below the loaded one and below each pin that is set. No running
     /// call can reach such a record. Returns how many it gave back.
     ///

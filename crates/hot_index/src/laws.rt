@@ -16,8 +16,8 @@ pub fn one_pass_is_never_busy()
     ensures { OnePassIsNeverBusy }
 {}
 
-/// Let a call be alone: no other pass had a lock, a record of its own or a pin when it began, and none makes a step while it runs. It is never
-/// busy. It gets its reply if it may take no record, as a new value of a held key. If it waits, it makes one try then.
+/// Let a call be alone. No other pass had a lock, a record of its own or a pin when it began, and none makes a step while it runs. It is
+/// never busy. It gets its reply if it may take no record, as a new value of a held key. If it waits, it makes one try then.
 pub fn alone_calls_end<G: Gate>()
     ensures { AloneCallsEnd G.becomes }
 {}
@@ -28,13 +28,14 @@ pub fn one_pass_full_is_full()
     ensures { OnePassFullIsFull }
 {}
 
-/// A call that gives its key a value is never refused as full if the key was held all the while: in each version that its pass has seen
-/// since the call began.
+/// A call that gives its key a value is never refused as full if the key was held all the while. That is in each version that its pass has
+/// seen since the call began.
 pub fn held_is_never_full()
     ensures { HeldIsNeverFull }
 {}
 
-/// A removal is never refused as full if the key was absent all the while: in each version that its pass has seen since the call began.
+/// A removal is never refused as full if the key was absent all the while. That is in each version that its pass has seen since the call
+/// began.
 pub fn absent_is_never_full()
     ensures { AbsentIsNeverFull }
 {}

@@ -82,8 +82,8 @@ impl Load {
     /// may be pushed.
     ///
     /// The fault is `NotRising` exactly if the key isn't above the last one. `LeavesFull` if each leaf record with room for it is taken.
-    /// `NodesFull` if too few node records may be left, which is never so while there are fewer pairs than node records, nor for the first 32
-    /// pairs. `Memory` if memory is refused.
+    /// `NodesFull` if too few node records may be left. That is never so while there are fewer pairs than node records, nor for the first
+    /// 32 pairs. `Memory` if memory is refused.
     pub fn push(&mut self, key: &Key, value: u64) -> Result<(), LoadFault>
         ensures taken { OnOk result (HasTakenPair key.now value self.old self.new) }
         ensures refused { OnErr result (self.new ≡ self.old) }

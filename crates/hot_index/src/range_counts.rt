@@ -17,12 +17,12 @@ const MOST_COUNTED: usize = (1 << 63) - 1;
 impl Index {
     /// How many keys there are from `from` to `upto`, both included; at most 2^63 - 1.
     ///
-    /// It takes no lock and never blocks, and it needs no memory. It reads the entries of nodes, and few of the leaves: entries are in key
-    /// order, so a leaf that belongs to the range tells so of those before it in its node. It makes at most 169,567 steps, and 60 for each key
-    /// that it counts.
+    /// It takes no lock and never blocks, and it needs no memory. It reads the entries of nodes, and few of the leaves. Entries are in key
+    /// order, so a leaf that belongs to the range tells so of those before it in its node. It makes at most 169,567 steps, and 60 for each
+    /// key that it counts.
     ///
-    /// It is no snapshot. The number is that of the pairs of a list that a `scan` could give in its place. So each key that was there all
-    /// along is counted, and each that is counted was there at some moment of the call.
+    /// It is no snapshot. The number is that of the pairs of a list that a `scan` could give instead. So each key that was there all along
+    /// is counted, and each that is counted was there at some moment of the call.
     pub fn count_range(&self, pass: &mut Pass, from: &Key, upto: &Key) -> usize
         requires { Owns self.now pass.old }
         ensures { IsCountRead (range_from from.now upto.now (2 ^ 63 - 1)) result self.now pass.old pass.new }

@@ -95,8 +95,8 @@ impl Scratch {
         }
     }
 
-    /// Lets the next claims begin with the records that the last small round gave back, and those behind them in the pass's own parts, if
-    /// it has come by its first ones. `layout` is that of the table.
+    /// Lets the next claims begin with the records that the last small round gave back. Behind them come those in the pass's own parts, if
+    /// it has claimed its first ones. `layout` is that of the table.
     pub fn reuse_given_records(&mut self, layout: Layout)
         ensures made { self.new.build.made.items ≡ self.old.build.made.items }
         ensures gone { self.new.build.gone.items ≡ self.old.build.gone.items }

@@ -18,9 +18,9 @@ use std::io::{Read, Write};
 use std::sync::Wait;
 use std::thread::Threads;
 
-/// Makes the run that `words`, the command line, ask for: the script of `reader` alone, or after those in the files that they name, which
-/// `system` reads. Writes the answers to `writer`. The error is `Usage` if `words` don't parse, or the `Fault` of the run. Only with
-/// `Fault(Write)` may a part be written.
+/// Makes the run that `words`, the command line, ask for. It is of the script of `reader`, alone or after those in the files that they
+/// name, which `system` reads. Writes the answers to `writer`. The error is `Usage` if `words` don't parse, or the `Fault` of the run. Only
+/// with `Fault(Write)` may a part be written.
 pub fn run_command_line<T, S, R, W>(
     rt: &T,
     system: &S,

@@ -57,8 +57,8 @@ pub fn run_scripts<T: AllocGlobal + Threads + Wait + Sync, R: Read, W: Write>(
     Ok(())
 }
 
-/// Does what `run_scripts` does, with its faults, and reports each atomic step of a file's commands to the one of `gates` at its place.
-/// There is a gate for each file. Returns the gates, in the order of the files.
+/// Does what `run_scripts` does, with its faults, and reports each atomic step of a file's commands to the file's one of `gates`. There is
+/// a gate for each file, in their order. Returns the gates, in the order of the files.
 pub fn run_scripts_with<T, G, R, W>(
     rt: &T,
     nodes: u32,

@@ -6,7 +6,7 @@ ghost use Rattle.hex.specs.Hex.{encode_lower, lower_digits};
 /// The lower case digits.
 const DIGITS: &[u8; 16] = b"0123456789abcdef";
 
-/// Writes each of `bytes` to `room` as two lower case hexadecimal digits. `room` has exactly two places for each.
+/// Writes each of `bytes` to `room` as two lower case hexadecimal digits. `room` has exactly two bytes for each.
 ///
 /// A compiler makes the first loop step over eight bytes at once, so long keys take a third of the time. The rest is cheaper to look up.
 pub fn write_hex(bytes: &[u8], room: &mut [u8])

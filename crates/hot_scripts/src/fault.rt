@@ -13,11 +13,11 @@ use std::fmt;
 pub enum Reason {
     /// An unknown first word, or a wrong number of words.
     Command,
-    /// A word in the place of a key that is none.
+    /// A word that is no key, where one belongs.
     Key,
-    /// A word in the place of a value that is none.
+    /// A word that is no value, where one belongs.
     Value,
-    /// A word in the place of a limit that is none.
+    /// A word that is no limit, where one belongs.
     Limit,
 }
 

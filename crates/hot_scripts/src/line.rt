@@ -10,7 +10,7 @@ use crate::fault::Reason;
 use crate::word;
 use finite_map::Call;
 
-/// The place of the first `separator` in `text`; `None` if there is none.
+/// The index of the first `separator` in `text`; `None` if there is none.
 fn first_index(separator: u8, text: &[u8]) -> Option<usize>
     ensures { result ≡ position (λ b. b == separator) text.now }
 {

@@ -17,7 +17,7 @@ pub const MOST_BYTES: usize = 5 + 2 * MAX_BYTES + 1 + NUMBER_DIGITS + 1;
 /// How many bytes a page has room for.
 pub const ROOM: usize = 1024;
 
-/// Lines, which are the first `end` bytes of `room`. Each number and key is written once, at its place.
+/// Lines, which are the first `end` bytes of `room`. Each number and key is written once, where it stays.
 ///
 /// Contracts see the bytes that are there.
 #[derive(Drop)]

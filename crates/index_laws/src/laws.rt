@@ -14,12 +14,13 @@ pub fn ended_calls_respond_or_are_refused()
     ensures { Responses }
 {}
 
-/// All that is promised of the index, in one place: each field of `Headline` is one promise.
+/// Most promises of the index: each field of `Headline` is one.
 pub fn all_promises_hold()
     ensures { Headline }
 {}
 
-/// For each layout with a pass, and each key, there is an execution in which a call returns: a get, in a new index, finds its key absent.
+/// For each layout with a pass, and each key, there is an execution in which a call returns. It is a get in a new index, which finds its
+/// key absent.
 pub fn a_get_returns()
     ensures { AGetReturns }
 {}
@@ -134,9 +135,9 @@ pub fn calls_neither_stamp_nor_follow_nor_meet()
     ensures { CallsMakeNoAsides }
 {}
 
-/// Let no call of an index be running, and fewer steps have been made than there are epochs. A `collect` that runs alone then leaves each record
-/// free or in the tree: all leaf records are free but one for each key, and all node records but fewer than there are keys. A `census` behind
-/// it counts just these.
+/// Let no call of an index be running, and fewer steps have been made than there are epochs. A `collect` that runs alone then leaves each
+/// record free or in the tree. All leaf records are free but one for each key, and all node records but fewer than there are keys. A
+/// `census` behind it counts just these.
 pub fn no_record_is_lost<G: Gate>()
     ensures { NoRecordIsLost G.becomes }
 {}

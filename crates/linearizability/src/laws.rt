@@ -34,8 +34,8 @@ pub fn runs_are_events()
     ensures { RunsAreEvents }
 {}
 
-/// Let a scan, upwards or downwards, be lawful from what its pass saw at its load of the root to what it saw by the end. Each pair was in
-/// the map at a moment of the scan. No key of its range that was there all along is missing; at its limit, none up to the last pair.
+/// Let a scan, up or down, be lawful from what its pass saw at its load of the root to what it saw by the end. Each pair was in the map at
+/// a moment of the scan. No key of its range that was there all along is missing; at its limit, none up to the last pair.
 pub fn scans_are_of_their_time()
     ensures { ScansInTime }
 {}

@@ -165,7 +165,7 @@ fn judge_steps(
     judge.judge_scans(alloc, last)
 }
 
-/// Puts each of `steps`, those of a thread, into `order` at its number, if that is a place there.
+/// Puts each of `steps`, those of a thread, into `order` at its number, if that has one so high.
 fn order_steps(order: &mut [Option<Event>], steps: &[(u64, Event)]) {
     for (step, event) in steps.iter() {
         if let Some(place) = order.get_mut(*step as usize) {

@@ -48,7 +48,7 @@ impl<'a, G: Gate> Promise<Result<(Done<'a>, G), AllocError>> for Order<'a, G> {
 }
 
 /// Makes an index of `records` and runs scripts on it. Those of files, `scripts`, `MAX_FILES` at most, run at the same time, each in a
-/// thread with the gate of its place. `last` runs when they have ended. Returns all answers, and the gates in the order of `scripts`. An
+/// thread with the gate of its number. `last` runs when they have ended. Returns all answers, and the gates in the order of `scripts`. An
 /// error if memory is refused, or a thread can't be started.
 pub fn run_all_scripts<T: AllocGlobal + Threads + Wait + Sync, G: Gate + Send + Drop>(
     rt: &T,
@@ -124,7 +124,7 @@ fn run_last_script<'a, T: AllocGlobal + Wait>(
     make_sections(rt.alloc(), met, done.text)
 }
 
-/// Runs each of `scripts` in a thread with the handle and the gate of its place, all at the same time, and joins them. Returns each gate
+/// Runs each of `scripts` in a thread with the handle and the gate of its number, all at the same time, and joins them. Returns each gate
 /// beside its script, in their order. An error if memory is refused, or a thread can't be started.
 fn run_files<'a, T: AllocGlobal + Threads + Wait + Sync, G: Gate + Send + Drop>(
     rt: &T,
@@ -146,7 +146,7 @@ fn run_files<'a, T: AllocGlobal + Threads + Wait + Sync, G: Gate + Send + Drop>(
 }
 
 /// Runs each of `scripts` as `run_files` does, with its errors. The threads are those of the scope `threads`, and each has the handle and
-/// the gate of its place.
+/// the gate of its number.
 fn run_files_in_scope<'a: 's, 's, E, T, G>(
     threads: &Scope<'s, E>,
     rt: &'s T,
@@ -164,7 +164,7 @@ where
     join_files(rt, running)
 }
 
-/// Starts the thread of each of `scripts`, with the handle and the gate of its place. Returns the threads in their order. An error if
+/// Starts the thread of each of `scripts`, with the handle and the gate of its number. Returns the threads in their order. An error if
 /// memory is refused, or a thread can't be started; those that were started go on, and the scope waits for them.
 fn start_files<'a: 's, 's, E, T, G>(
     threads: &Scope<'s, E>,

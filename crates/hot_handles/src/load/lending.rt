@@ -18,7 +18,7 @@ impl LoadCell {
         unsafe { &mut *(self as *mut LoadCell as *mut Held<OpenLoad>) }
     }
 
-    /// Lends what the cell holds, to be read and changed in its place. The cell isn't empty.
+    /// Lends what the cell holds, to be read and changed where it is. The cell isn't empty.
     pub fn lend(&mut self) -> &mut OpenLoad
         requires { IsSome self.old.opened }
         ensures* writes_back { sem 𝓛 (LendsLoad self.entry result) }

@@ -18,7 +18,7 @@ impl SectionCell {
         unsafe { &mut *(self as *mut SectionCell as *mut Held<OpenSection>) }
     }
 
-    /// Lends what the cell holds, to be read and changed in its place. The cell isn't empty.
+    /// Lends what the cell holds, to be read and changed where it is. The cell isn't empty.
     pub fn lend(&mut self) -> &mut OpenSection
         requires { IsSome self.old.opened }
         ensures* writes_back { sem 𝓛 (LendsSection self.entry result) }
