@@ -233,8 +233,8 @@ impl Builder {
             && self.words[self.layout.leaf(number)] == pack_state(Tag::Free)
     }
 
-    /// Whether enough node records are left for one leaf more, which is one slot and one piece more: two for each piece, or one for each
-    /// slot, or one for all. Closing all pieces takes no more, and leaves one.
+    /// Whether enough node records are left for one leaf more, which is one slot and one piece more. They are two for each piece, or one
+    /// for each slot, or one for all. Closing all pieces takes no more, and leaves one.
     fn has_nodes(&self) -> bool
         ensures { IsTrue result ↔ HasNodesFor self.now 1 }
     {
@@ -321,7 +321,7 @@ impl Builder {
     }
 
     /// Closes the piece of `count` slots before the last `behind` ones, if `closes` is true. Then a node of them is written, and its entry
-    /// takes their place. Returns how many slots the piece has then.
+    /// replaces them. Returns how many slots the piece has then.
     fn close_piece(&mut self, behind: usize, count: usize, closes: bool) -> usize
         requires fits { behind + count ≤ vec_len self.old.slots }
         requires room { IsTrue closes → (2 ≤ count) × (count ≤ 32) × (self.old.nodes < self.old.layout.nodes) }
@@ -341,7 +341,7 @@ impl Builder {
         1
     }
 
-    /// Writes a node of the `count` slots before the last `behind` ones, and puts its entry in their place. Never inline: the memory of its
+    /// Writes a node of the `count` slots before the last `behind` ones, and replaces them by its entry. Never inline: the memory of its
     /// locals is cleared at each call.
     #[inline(never)]
     fn write_piece(&mut self, behind: usize, count: usize)

@@ -6,8 +6,8 @@ use record_words::Layout;
 use std::alloc::{AllocError, Global};
 use std::marker::Model;
 
-/// The words of a table into which pairs are loaded. Contracts see the layout of the table, and the leaf records that were taken, each with
-/// its key and value, in the order of the keys.
+/// The words of a table into which pairs are loaded. Contracts see the layout of the table, and the leaf records that were taken, with
+/// their keys and values, in key order.
 #[derive(Drop)]
 pub struct Loader {
     builder: Builder,
@@ -53,8 +53,8 @@ impl Loader {
     }
 
     /// Takes `key` with `value`, as the last pair. The key must be above the last one: `NotRising` says that it isn't. `LeavesFull` comes
-    /// only if no leaf record with room for the key is left, and `NodesFull` only if the table has no more node records than pairs were
-    /// taken; a table of two node records takes 32 pairs. After a fault the pairs are as before.
+    /// only if no leaf record with room for the key is left. `NodesFull` comes only if the table has no more node records than pairs were
+    /// taken. A table of two node records takes 32 pairs. After a fault the pairs are as before.
     pub fn push(&mut self, key: &Key, value: u64) -> Result<(), LoadFault>
         ensures taken { OnOk result ((n : ℕ) × (self.new ≡ with_item self.old (item n key.now value))) }
         ensures refused { OnErr result (self.new ≡ self.old) }

@@ -9,8 +9,8 @@ ghost use Rattle.compound_node.specs.Nodes.{IsEntry, StandsBelow, greatest_heigh
 use arrayvec::ArrayVec;
 use partial_keys::MAX_ENTRIES;
 
-/// What a node has in a slot: a leaf record by its number, as HOT has a tuple identifier, or a child node by its number and its stored
-/// height. In a node the height of a child is from 1 to 65,534.
+/// What a node has in a slot. It is a leaf record by its number, as HOT has a tuple identifier, or a child node by its number and its
+/// stored height. In a node the height of a child is from 1 to 65,534.
 #[derive(Clone, Copy, PartialEq, Eq)]
 pub enum Entry {
     Leaf(u32),

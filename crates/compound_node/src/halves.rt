@@ -17,7 +17,7 @@ use super::rows::{clear_first_column, count_zero_side, or_rows, squeeze_rows, wi
 use arrayvec::ArrayVec;
 use partial_keys::{Columns, MAX_ENTRIES};
 
-/// A side of a cut node, or what is left of one: one entry, a new node of several, or (`Same`) the node that was handed in.
+/// A side of a cut node, or what is left of one. It is one entry, a new node of several, or (`Same`) the node that was handed in.
 #[derive(Drop)]
 pub enum Half {
     One(Entry),
@@ -33,8 +33,8 @@ pub struct Cut {
     pub one: Half,
 }
 
-/// The `Half` that has all of `entries`, at least one, whose rows over `columns` are `rows`: the one entry, or a new node of several, as
-/// `build_node` makes it. The node has only the columns that the rows use. The half is never `Same`.
+/// The `Half` that has all of `entries`, at least one, whose rows over `columns` are `rows`. It is the one entry, or a new node of several,
+/// as `build_node` makes it. The node has only the columns that the rows use. The half is never `Same`.
 fn make_half(
     columns: &Columns,
     rows: ArrayVec<u32, MAX_ENTRIES>,
@@ -104,8 +104,8 @@ impl Node {
     }
 
     /// What is left without the entry in `slot`, and without the last fork on the path to it. That fork's other side stands in its stead.
-    /// `One` if one entry is left; else `Many`, a new node with only the columns that it uses, one higher than the highest of its entries.
-    /// Never `Same`.
+    /// `One` if one entry is left. Else `Many`, a new node with only the columns that it uses, one higher than its highest entry. Never
+    /// `Same`.
     pub fn without(&self, slot: u8) -> Half
         requires { slot < length self.now.entries }
         ensures { HalfShows result (without slot (piece self.now)) }

@@ -195,8 +195,8 @@ impl Node {
         node
     }
 
-    /// Adds `entry` to this node, as `insert` does to a copy: parted by a new fork at `position` from the affected slots `first` to `last`,
-    /// straight after them if `bit` is true, else straight before.
+    /// Adds `entry` to this node, as `insert` does to a copy. A new fork at `position` parts it from the affected slots `first` to `last`.
+    /// It stands straight after them if `bit` is true, else straight before.
     pub fn add_entry(&mut self, first: u8, last: u8, position: u16, bit: bool, entry: Entry)
         requires room { length self.old.entries < 32 }
         requires range { IsAffected (piece self.old) position first last }

@@ -51,7 +51,7 @@ const NO_VISITS: Tally = Tally {
     found_free: false,
 };
 
-/// Makes a full round: makes the epoch the next one, and gives back each record retired in an epoch below this one and below each set pin.
+/// Makes a full round. It raises the epoch by one, and gives back each record retired in an epoch below this one and below each set pin.
 /// Returns how many these were, and whether others were free already. The pass has no pin.
 ///
 /// At the last epoch, 2^60 - 1, the epoch stays, and what is below it is still given back.
@@ -65,8 +65,8 @@ pub fn collect_round<G: Gate>(table: &HotTable, seat: &mut TableSeat, gate: &mut
     visit_records(table, seat, gate, bound)
 }
 
-/// Makes a full round as `collect_round` does, unless it could give nothing back; then it only begins one, and returns `None`. So it is in an
-/// index of several passes if the bound is no higher than that of the last round that this function has made for the pass.
+/// Makes a full round as `collect_round` does, unless it could give nothing back. Then it only begins one, and returns `None`. In an index
+/// of several passes it can't if the bound hasn't risen since this function's last round for the pass.
 ///
 /// That round left no record below its bound retired, and none is retired below it later. A pass marks what it retires while it is pinned,
 /// with an epoch that it loads under this pin. If the round has seen the pin, it was no lower than the bound. Otherwise the pass was pinned
@@ -383,8 +383,8 @@ fn outcome_of_try(given: bool) -> Visited
     }
 }
 
-/// What a visit came to of a record with the state `word`, not to be given back: `Waits` if it is obsolete, `Free` if it is free, else
-/// `Other`.
+/// What a visit came to of a record with the state `word` that is not to be given back. `Waits` if it is obsolete, `Free` if it is free,
+/// else `Other`.
 fn outcome_of_state(word: u64) -> Visited
     ensures given { is_given result ≡ false }
     ensures waits { (epoch : ℕ) → 1 ≤ epoch → epoch < EPOCHS → word ≡ state_word (Obsolete epoch) → result ≡ Waits }

@@ -8,13 +8,13 @@ use record_words::Layout;
 use rowex_core::Rec;
 use std::alloc::{AllocError, Global};
 
-/// How many records a limbo list keeps at most; in a table with fewer records as many as it has, or up to twice as many.
+/// How many records a limbo list keeps at most. In a table with fewer records it is as many as it has, or up to twice as many.
 const MOST_WAITING: u32 = 4_096;
 
 /// How many records a pass retires between two small rounds, at least.
 const LEAST_DUE: u32 = 32;
 
-/// And at most. A round visits more, so a list that has grown becomes short again.
+/// How many records a pass retires between two small rounds, at most. A round visits more, so a list that has grown becomes short again.
 const MOST_DUE: u32 = 96;
 
 /// How many records a small round visits at most.
@@ -46,10 +46,11 @@ fn records_between_rounds(layout: Layout) -> u32
 /// The limbo list of a pass: the records that it has retired and not given back yet, the oldest first.
 ///
 /// These are plain numbers, which promise nothing. A record of the list may have been given back by a full round, of this pass or of
-/// another. One that finds no place in the list is left to such rounds.
+/// another. One for which the list has no room is left to such rounds.
 #[derive(Drop)]
 pub struct Limbo {
-    /// The ring of the records that wait, as far as it has been used. Its memory, of a power of two of places, is that of all of it.
+    /// The ring of the records that wait, as far as it has been used. Its memory is that of all of it, for a number of records that is a
+    /// power of two.
     waiting: Vec<Rec>,
     /// Where the oldest stands.
     first: usize,
@@ -100,7 +101,7 @@ impl Limbo {
         }
     }
 
-    /// The place in the ring of the record at `index`, counted from 0 at the oldest.
+    /// The ring's index of record `index`, counted from 0 at the oldest.
     fn place_of(&self, index: usize) -> usize
         ensures { 0 < vec_capacity self.now.waiting → result < vec_capacity self.now.waiting }
     {

@@ -68,9 +68,9 @@ pub fn last_level_before(way: &[PathNode], position: u16) -> usize
     level
 }
 
-/// The affected node and the case of an insertion after a search along `way`, whose leaf has another key. `level` is what `last_level_before`
-/// returns for the position where the two keys first differ. There the entries from `first` to `last` are affected. If that is one entry,
-/// and the way goes on below it, the whole next node is affected instead.
+/// The affected node and the case of an insertion after a search along `way`, whose leaf has another key. `level` is what
+/// `last_level_before` returns for the position where the two keys first differ. There the entries from `first` to `last` are affected. If
+/// that is one entry, and the path goes on below it, the whole next node is affected instead.
 pub fn choose_case(way: &[PathNode], level: usize, first: u8, last: u8) -> Choice
     requires { level < length way.now }
     ensures chosen { IsChosen way.now level first last result }
@@ -119,8 +119,8 @@ fn case_at_node(step: PathNode, one_leaf: bool) -> Case
     }
 }
 
-/// The index on `way` of the uppermost node that is remade, where the node at index `level` overflows: that node, or one above it. The
-/// halves of a full node go into its parent where that is one higher, and a full parent overflows in turn.
+/// The index on `way` of the uppermost node that is remade, if the node at index `level` overflows: that node, or one above it. The halves
+/// of a full node go into its parent if that is one higher, and a full parent overflows in turn.
 pub fn pull_up_chain_end(way: &[PathNode], level: usize) -> usize
     requires { level < length way.now }
     ensures { IsChainEnd way.now level result }

@@ -200,8 +200,7 @@ pub fn pull_up_full(node: &Node, slot: u8, position: u16, zero: Entry, one: Entr
     }
 }
 
-/// The node of `half`, a side of a cut with fewer than 32 entries, with a fork in place of the entry in `slot`, as [`pull_up`] puts it
-/// there.
+/// The node of `half`, a side of a cut with fewer than 32 entries. A fork replaces the entry in `slot`, as [`pull_up`] puts it there.
 fn fork_half(half: Half, slot: u8, position: u16, zero: Entry, one: Entry) -> Node
     requires half { HalfShows half (half_piece half) }
     requires room { size (half_piece half) < 32 }

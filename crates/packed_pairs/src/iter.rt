@@ -36,7 +36,7 @@ impl<'a> Iter<'a> {
         Iter { bytes, heads }
     }
 
-    /// The next pair, with a key that is a value of its own; `None` if no pair is left. Inline, so that the key is made in its place.
+    /// The next pair, with a key that is a value of its own; `None` if no pair is left. Inline, so that the key is made where it stays.
     #[inline(always)]
     pub(crate) fn next_pair(&mut self) -> Option<(Key, u64)>
         ensures { YieldsFirst (λ i. i) self.old result self.new }

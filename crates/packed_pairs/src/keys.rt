@@ -115,8 +115,8 @@ pub(crate) fn copy_key(bytes: &mut Vec<u8>, used: usize, places: &[u8; MAX_BYTES
     }
 }
 
-/// Copies the first N bytes of `places` to the first places of `room`, for a key of `size` bytes, no more than these. An array between needs
-/// no test whether both overlap.
+/// Copies the first N bytes of `places` to the front of `room`, for a key of `size` bytes, no more than these. An array between needs no
+/// test whether both overlap.
 #[inline(always)]
 fn copy_first<const N: usize>(room: &mut [u8], places: &[u8; MAX_BYTES], size: usize)
     requires room { MAX_BYTES ≤ length room.old }
@@ -131,7 +131,7 @@ fn copy_first<const N: usize>(room: &mut [u8], places: &[u8; MAX_BYTES], size: u
     copy_to_front(room, &part);
 }
 
-/// Copies `key` to the first places of `room`, which has room for it.
+/// Copies `key` to the front of `room`, which has room for it.
 #[inline(always)]
 fn copy_to_front(room: &mut [u8], key: &[u8])
     requires { length key.now ≤ length room.old }
@@ -140,7 +140,7 @@ fn copy_to_front(room: &mut [u8], key: &[u8])
     room[..key.len()].copy_from_slice(key);
 }
 
-/// Copies the first `size` bytes of `places` to the first places of `room`. Never inline, so that callers have less code.
+/// Copies the first `size` bytes of `places` to the front of `room`. Never inline, so that callers have less code.
 #[inline(never)]
 fn copy_any_length(room: &mut [u8], places: &[u8; MAX_BYTES], size: usize)
     requires room { MAX_BYTES ≤ length room.old }

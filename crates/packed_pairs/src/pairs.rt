@@ -85,7 +85,7 @@ impl Pairs {
         Iter::of(self.bytes.as_slice(), &self.heads)
     }
 
-    /// The same pairs, with keys that are values of their own. An error if memory is refused; it needs none if there is no pair.
+    /// These pairs, with keys that are values of their own. An error if memory is refused; it needs none if there is no pair.
     pub fn to_vec(&self, alloc: Global) -> Result<Vec<(Key, u64)>, AllocError>
         ensures list { IfOk result (λ list. list.items ≡ self.now) }
         ensures memory { OnErr result (self.now ≢ []) }

@@ -77,7 +77,7 @@ fn mark_zeros(lanes: u8x32) -> u32
     lanes.reverse().simd_eq(u8x32::splat(0)).to_bitmask() as u32
 }
 
-/// The dense key of `key` for the columns in the first `count` of `lanes`: the bit of column j is bit 31-j, and all others are 0. The lanes
+/// The dense key of `key` for the columns in the first `count` of `lanes`. The bit of column j is bit 31-j, and all others are 0. The lanes
 /// behind these are 65,535. Mostly sixteen bytes of the key have all its bits at columns, and then they are read at once.
 #[inline(always)]
 pub fn extract_dense_key_by_lanes(lanes: u16x32, count: u8, key: &Key) -> u32

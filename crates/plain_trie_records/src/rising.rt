@@ -95,8 +95,8 @@ fn fork_entries(old: Entry, position: u16, bit: bool, new: Entry) -> Risen
 }
 
 /// Puts `risen` in the place of the entry in `slot` of node `number`, which is `height` high, and returns what takes the node's place.
-/// `low` is the height of the entry that was there. A fork goes into the node if that is one higher than `low`, else into a new node at the
-/// place. A full node that takes in the fork is cut, and the fork of its sides is returned.
+/// `low` is the height of the entry that was there. A fork goes into the node if that is one higher than `low`, else into a new node in
+/// that slot. A full node that takes in the fork is cut, and the fork of its sides is returned.
 fn lift_risen(
     nodes: &mut Vec<Node>,
     number: u32,

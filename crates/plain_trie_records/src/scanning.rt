@@ -26,7 +26,7 @@ pub struct ScanRange<'a> {
 }
 
 /// Goes on with `scan`, that of the pairs before those below `entry`: adds the pairs of `range` below `entry`, in the order of their keys.
-/// Where the limit is reached it sets `more` in place of a further pair. All leaves below `entry` are read. `AllocError` if memory is
+/// If the limit is reached, it sets `more` instead of adding a further pair. All leaves below `entry` are read. `AllocError` if memory is
 /// refused for a pair; the pairs before that one are added then.
 pub fn scan_below(
     nodes: &Vec<Node>,

@@ -12,8 +12,8 @@ use rowex_core::Gate;
 
 // What a pass is sure of: it is true of the past in each lawful state in which all is true that the pass recalls
 
-/// Let a pinned pass have gone down from the entry at a new key's place in a locked node to a leaf. Let the new key first differ from that
-/// leaf's at the insertion's position. Then the pass knows what an insertion needs of the way below the node.
+/// Let a pinned pass have gone down from a locked node's entry on a new key's path to a leaf. Let the new key first differ from that leaf's
+/// at the insertion's position. Then the pass knows what an insertion needs of the path below the node.
 pub fn descent_from_lock_tells_way_below()
     ensures { DescentFinds }
 {}
@@ -25,25 +25,25 @@ pub fn led_pass_may_lock_node()
     ensures { LedMayLock }
 {}
 
-/// In a node that a pass has locked, let one node be all on the other side of the last fork on a key's way. The pass may lock that node.
+/// In a node that a pass has locked, let one node be all on the other side of the last fork on a key's path. The pass may lock that node.
 pub fn lock_holder_may_lock_sibling()
     ensures { BesideMayLock }
 {}
 
-/// A load of a word of a locked node, in its head or in a slot, finds the word that the pass with the lock holds for that place.
+/// A load of a locked node's word, in its head or in a slot, finds the word that the pass with the lock knows.
 pub fn loads_are_locked_words()
     ensures { LoadsOfLocked }
 {}
 
-/// After each act but a publish, a pin or an unpin a pass has the same pin and all its facts, and has newly seen only changes of others.
+/// After each act but a publish, a pin or an unpin, a pass has the same pin and all its facts. It has newly seen only changes of others.
 pub fn acts_keep_recall()
     ensures { ActGoesOn }
 {}
 
 // What rises
 
-/// Let the entry on a key's way in a locked node name another locked node, and let an insertion affect no more there than that entry. Then
-/// the upper node's first fork is before the position of the insertion.
+/// Let a locked node's entry on a key's path name another locked node. Let an insertion affect no more there than that entry. Then the
+/// upper node's first fork is before the position of the insertion.
 pub fn upper_fork_is_before_insertion()
     ensures { AboveGoesOn }
 {}
@@ -61,7 +61,7 @@ pub fn insertion_may_be_published()
     ensures { Insertion }
 {}
 
-/// A pass may publish a normal insert that affects not just one node: a copy with the new leaf takes the old node's place and unlinks it.
+/// A pass may publish a normal insert that affects not just one node. A copy with the new leaf replaces the old node, which is unlinked.
 pub fn normal_insert_may_be_published()
     ensures { NormalInsert }
 {}
@@ -84,12 +84,12 @@ pub fn pull_up_may_be_published()
     ensures { PullUp }
 {}
 
-/// A pass may publish a pull up after which the node above is cut, too: a node of its two sides takes its place, and it is unlinked.
+/// A pass may publish a pull up after which the node above is cut, too. A node of its two sides replaces it, and it is unlinked.
 pub fn pull_up_may_end_in_overflow()
     ensures { PullUpOverflow }
 {}
 
-/// A pass may publish a leaf pushdown, or the second key, if one leaf alone is affected: a node of it and the new leaf takes its place.
+/// A pass may publish a leaf pushdown, or the second key, if one leaf alone is affected. A node of it and the new leaf replaces it.
 pub fn pair_of_leaves_may_be_published()
     ensures { MayPair }
 {}
@@ -102,8 +102,8 @@ pub fn value_may_be_stored()
     ensures { MayStoreValue }
 {}
 
-/// A pass may publish a removal: what is left of the locked node that names the leaf, one entry or a new node, takes that node's place, at
-/// a locked spot. The publish unlinks node and leaf. The value that the key had is the one that the pass has loaded under its locks.
+/// A pass may publish a removal. What is left of the locked node that names the leaf, one entry or a new node, replaces that node at a
+/// locked spot. The publish unlinks node and leaf. The value that the key had is the one that the pass has loaded under its locks.
 pub fn removal_may_be_published()
     ensures { MayRemove }
 {}
@@ -158,7 +158,7 @@ pub fn end_takes_any_order()
     ensures { EndInAnyOrder }
 {}
 
-/// At the end of a publish, with no record and no node left and the anchor not locked, the pass has nothing of its own and no lock.
+/// At the end of a publish, with no record to mark and nothing to unlock, the pass has nothing of its own and no lock.
 pub fn end_leaves_nothing()
     ensures { EndRests }
 {}

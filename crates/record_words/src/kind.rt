@@ -78,7 +78,7 @@ pub fn kind_of(columns: &Columns) -> HeadKind
     }
 }
 
-/// Whether all bits at `columns` are in sixteen bytes that each key has places for, and none says that there is a byte.
+/// Whether all bits at `columns` are in sixteen bytes within `MAX_BYTES`, and none is the 1 before a byte.
 fn are_near(columns: &Columns) -> bool
     ensures { result ≡ are_near columns.now }
 {

@@ -31,11 +31,11 @@ pub struct Layout {
     pub leaves: u32,
     /// The leaf records below this number are short.
     pub medium_from: u32,
-    /// Those from `medium_from` on and below this number are medium ones.
+    /// Leaf records from `medium_from` on and below this number are medium ones.
     pub large_from: u32,
-    /// Those from `large_from` on and below this number are large ones.
+    /// Leaf records from `large_from` on and below this number are large ones.
     pub wide_from: u32,
-    /// Those from `wide_from` on and below this number are wide ones, and all others are long.
+    /// Leaf records from `wide_from` on and below this number are wide ones, and all others are long.
     pub long_from: u32,
     ghost passes_in_range: { IsStockPassCount passes },
     ghost nodes_in_range: { IsRecordCount nodes },

@@ -91,9 +91,8 @@ fn put_parts(
     put_rows(words, kind, rows);
 }
 
-/// Writes `columns` to their place in `words`, the words of a node, as a head of the kind `kind` has them. A wide head has their positions.
-/// A middle one has the indexes of their bytes in two words, and their masks in two; a narrow one has one word of each. All other words
-/// stay.
+/// Writes `columns` into `words`, the words of a node, as a head of the kind `kind` has them. A wide head has their positions. A middle one
+/// has the indexes of their bytes in two words, and their masks in two; a narrow one has one word of each. All other words stay.
 #[inline(always)]
 fn put_columns(words: &mut [u64; NODE_FIELDS], kind: HeadKind, columns: &Columns)
     requires kind { kind ≡ kind_of columns.now }
@@ -116,7 +115,7 @@ fn put_columns(words: &mut [u64; NODE_FIELDS], kind: HeadKind, columns: &Columns
     }
 }
 
-/// Writes `positions`, four in each of eight words, to their place in `words`, those of a node whose head is wide. All other words stay.
+/// Writes `positions`, four in each of eight words, into `words`, those of a node whose head is wide. All other words stay.
 #[inline(always)]
 fn put_positions(words: &mut [u64; NODE_FIELDS], positions: &[u16; MAX_COLUMNS])
     ensures columns { (j : ℕ) → j < 8 → slice_index words.new (FIRST_POSITIONS + j) ≡ position_word positions.now j }
@@ -137,8 +136,8 @@ fn near_words_of(columns: &Columns) -> (u64x2, u64x2)
     (words_of_bytes(indexes), words_of_bytes(masks))
 }
 
-/// Writes `rows` to their place in `words`, the words of a node, as a head of the kind `kind` has them. A wide head has two rows in each
-/// word. A middle one has the higher halves of four, and a narrow one the highest bytes of eight. All other words stay.
+/// Writes `rows` into `words`, the words of a node, as a head of the kind `kind` has them. A wide head has two rows in each word. A middle
+/// one has the higher halves of four, and a narrow one the highest bytes of eight. All other words stay.
 #[inline(always)]
 fn put_rows(words: &mut [u64; NODE_FIELDS], kind: HeadKind, rows: u32x32)
     ensures rows { take (head_size kind - rows_from kind) (drop (rows_from kind) words.new) ≡ row_words kind rows }

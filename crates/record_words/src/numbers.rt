@@ -17,7 +17,7 @@ pub struct HeadNumbers {
     pub count: u8,
     /// How many columns it has.
     pub columns: u8,
-    /// Its stored height.
+    /// The node's stored height.
     pub height: u16,
     /// How its columns and rows are spelled.
     pub kind: HeadKind,
@@ -161,7 +161,7 @@ fn near_position(first_byte: u8, index: u8, mask: u8) -> u16
     9 * (first_byte as u16 + index as u16) + 1 + mask.leading_zeros() as u16
 }
 
-/// The index of the word that tells the first position of a head of these numbers: with it in a wide head, else with its mask.
+/// The index of the word that tells the first position of a head of these numbers. A wide head has it there, others have its mask.
 #[inline(always)]
 pub fn index_of_first_position(kind: HeadKind) -> usize
     ensures { result ≡ mask_index kind 0 }

@@ -19,11 +19,11 @@ pub struct Origins {
     short: usize,
     /// Where the first medium leaf record begins, or would.
     medium: usize,
-    /// The same of the large ones,
+    /// Where the first large leaf record begins, or would.
     large: usize,
-    /// of the wide ones,
+    /// Where the first wide leaf record begins, or would.
     wide: usize,
-    /// and of the long ones.
+    /// Where the first long leaf record begins, or would.
     long: usize,
     ghost nodes_is: { nodes ≡ node_start layout 0 },
     ghost short_is: { short ≡ leaf_start layout 0 },

@@ -25,7 +25,7 @@ use key_bits::Key;
 use partial_keys::{extract_dense_key_by_lanes, search_rows};
 use std::simd::prelude::*;
 
-/// The lanes' own places.
+/// The lanes' own indexes.
 const PLACES: [u32; 32] = [
     0, 1, 2, 3, 4, 5, 6, 7, 8, 9, 10, 11, 12, 13, 14, 15, 16, 17, 18, 19, 20, 21, 22, 23, 24, 25,
     26, 27, 28, 29, 30, 31,
@@ -86,7 +86,7 @@ pub fn search_middle(words: &[u64; MIDDLE_HEAD_WORDS], key: &Key) -> u8
     )
 }
 
-/// The place of the highest bit of `mask` below bit `count`. Bit 0 is set.
+/// The index of the highest bit of `mask` below bit `count`. Bit 0 is set.
 #[inline(always)]
 fn last_of(mask: u64, count: u8) -> u8
     requires some { mask % 2 ≡ 1 }

@@ -17,11 +17,11 @@ pub enum Tag {
     Free,
     /// A pass has claimed it and fills it.
     Held,
-    /// It is whole, and unlocked.
+    /// The record is whole, and unlocked.
     Live,
     /// A writer has locked it.
     Locked,
-    /// It was retired in this epoch.
+    /// The record was retired in this epoch.
     Obsolete(u64),
 }
 

@@ -61,7 +61,7 @@ impl Stock {
         )
     }
 
-    /// A stock that is always enough for up to `count` keys at once, of at most `longest` bytes each, in an index of `passes` passes; more
+    /// A stock that is always enough for up to `count` keys at once, of at most `longest` bytes each, in an index of `passes` passes. More
     /// than 240 bytes count as 240. All its leaf records are of the smallest class with room for such keys.
     ///
     /// A tree has fewer nodes than keys (`versions::laws::nodes_in_tree_are_fewer_than_keys`). So it has a node record and a leaf record for

@@ -45,7 +45,8 @@ pub enum Act {
     Lock { target: Target, found: u64 },
     /// Makes what the pass has locked live.
     Unlock { target: Target },
-    /// Stores the root, an entry word or a leaf's value, under its lock or that of what names the leaf: the one step that changes the map.
+    /// Stores the root, an entry word or a leaf's value, under its lock or that of what names the leaf. It is the one step that changes the
+    /// map.
     Publish { spot: Spot, word: u64 },
     /// Makes a record that the pass has unlinked obsolete in this epoch.
     Mark { rec: Rec, epoch: u64 },

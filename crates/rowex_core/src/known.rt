@@ -22,7 +22,7 @@ pub enum Fact {
         slot: u8,
         entry: Option<Entry>,
     },
-    /// The same holds of the record, and of this word at this offset.
+    /// If the record stood in the tree between these versions, it did so once with this word at this offset.
     Fixed {
         since: u64,
         at: u64,
@@ -30,7 +30,7 @@ pub enum Fact {
         offset: u8,
         word: u64,
     },
-    /// The same holds of the leaf, and of this value.
+    /// If the leaf stood in the tree between these versions, it did so once with this value.
     Valued {
         since: u64,
         at: u64,
@@ -101,7 +101,7 @@ pub struct Known {
     /// The changes that it has seen.
     pub front: Listed<Change>,
     pub fresh: Fresh,
-    /// Its answered calls.
+    /// The pass's answered calls.
     pub notes: Listed<Note>,
     /// The number of its next atomic step; the first is 1.
     pub steps: u64,

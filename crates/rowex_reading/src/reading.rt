@@ -150,8 +150,8 @@ fn path_node(number: u32, numbers: HeadNumbers, word: u64, slot: u8) -> PathNode
     }
 }
 
-/// Asks for the cache lines of the entries of `node`, so that they come while its head is searched. From the last entry on one of as many
-/// words as a line has is touched; the line of those before them has words of the head, too.
+/// Asks for the cache lines of the entries of `node`, so that they come while its head is searched. From the last entry on, one word of
+/// each line is touched. The line of those before them has words of the head, too.
 #[inline(always)]
 pub(crate) fn touch_entries(table: &HotTable, seat: &mut TableSeat, node: RecordAt)
     requires own { IsSeatOf table.now seat.old }
@@ -244,7 +244,7 @@ pub fn load_entry<G: Gate>(
 /// Loads `leaf`, to which the pass was led. Returns its key's length in bytes and its value. Writes the bytes of the key to the first of
 /// `places`.
 ///
-/// Words behind the key are not loaded, and their places stay. If all places were 0 before, those behind the key are 0 still, as
+/// Words behind the key are not loaded, and their bytes in `places` stay. If all were 0 before, those behind the key are 0 still, as
 /// `Key::from_padded` wants them; else they mean nothing. Keys of eight bytes are common: their one word is loaded without a loop. Inline,
 /// so that a caller has the bytes where they were read.
 #[inline(always)]

@@ -25,8 +25,8 @@ use rowex_table::{HotTable, TableSeat};
 /// How many keys go down side by side.
 const TOGETHER: usize = 16;
 
-/// Looks up each of `keys` once, and writes to `found`, at its place, its value, or `None` if it is absent. Each was so in a version since
-/// the load of the root, in no order among the keys. `found` has as many places as there are keys.
+/// Looks up each of `keys` once, and writes to `found`, in the order of the keys, the value of each, or `None` if it is absent. Each was so
+/// in a version since the load of the root, in no order among the keys. `found` has as many elements as there are keys.
 ///
 /// It loads the root once, and at most 26 words for each node on a key's way and 32 for its leaf. `gate` is told each.
 pub fn look_up_all<G: Gate>(
@@ -111,8 +111,8 @@ fn go_down<G: Gate>(
     lower
 }
 
-/// Goes down one node on the way of `key`, which has led to node `number`: searches its head, and loads and returns the entry there, whose
-/// record it touches.
+/// Goes down one node on the way of `key`, which has led to node `number`. It searches the head, loads and returns the entry there, and
+/// touches that entry's record.
 #[inline(always)]
 fn enter_node<G: Gate>(
     table: &HotTable,
@@ -133,8 +133,8 @@ fn enter_node<G: Gate>(
     entry
 }
 
-/// Asks for the cache lines of the record that `entry` names, so that they come while other keys go down: all of a node, and of a leaf those
-/// of its first words.
+/// Asks for the cache lines of the record that `entry` names, so that they come while other keys go down. Of a node these are all, and of a
+/// leaf those of its first words.
 #[inline(always)]
 fn touch_record(table: &HotTable, seat: &mut TableSeat, entry: Entry)
     requires own { IsSeatOf table.now seat.old }
@@ -157,8 +157,8 @@ fn touch_record(table: &HotTable, seat: &mut TableSeat, entry: Entry)
     }
 }
 
-/// Compares each of `keys` with its leaf in `tips`, and writes to `found`, at its place, the leaf's value, or `None` if the leaf has another
-/// key.
+/// Compares each of `keys` with its leaf in `tips`. Writes to `found`, in the order of the keys, the leaf's value, or `None` if the leaf
+/// has another key.
 fn load_values<G: Gate>(
     table: &HotTable,
     seat: &mut TableSeat,

@@ -62,8 +62,8 @@ impl RecordKind {
         }
     }
 
-    /// The span that begins with the record of this kind with the number `number`, which it must have: this record, and those of the kind
-    /// straight behind it that are as large.
+    /// The span that begins with record `number` of this kind, which the kind must have. It has this record, and those of the kind straight
+    /// behind it that are as large.
     fn span_from(self, layout: &Layout, number: u32) -> Span
         requires kind { IsKindOf self layout.now }
         requires low { number < count_of self layout.now }
@@ -286,8 +286,8 @@ fn try_claim_record<G: Gate>(
 
 /// Returns the number of the first record of `kind` that a load finds free, counted from 0 at the first of the kind. It claims nothing.
 ///
-/// It loads the states of `most` records, once each, from number `from` on, and from 0 on after the last; `None` if none of them was
-/// free. `most` counts as no more than the kind has. A `from` that is out of range counts as 0.
+/// It loads the states of `most` records, once each, from number `from` on, and from 0 on after the last. `None` if none of them was free.
+/// `most` counts as no more than the kind has. A `from` that is out of range counts as 0.
 pub fn find_free_record<G: Gate>(
     table: &HotTable,
     seat: &mut TableSeat,

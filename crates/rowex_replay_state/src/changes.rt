@@ -9,8 +9,8 @@ use crate::linked::Item;
 use finite_map::{Change, Kind};
 use std::cmp::Ordering;
 
-/// The change by which `pass` made the leaves `before` the leaves `after`: one more, one less, or one in the place of another of its key.
-/// `None` exactly where it was no such change. Both lists are in the order of the keys, and leaves of one number are one leaf.
+/// The change by which `pass` made the leaves `before` the leaves `after`. It is one more, one less, or one for another of its key. `None`
+/// exactly if it was no such change. Both lists are in the order of the keys, and leaves of one number are one leaf.
 pub fn change_between(pass: u16, before: &[Item], after: &[Item]) -> Option<Change>
     ensures { AreSame (map read_item before.now) (map read_item after.now) → IsFoundChange pass (map read_item before.now) (map read_item after.now) result }
 {

@@ -14,11 +14,11 @@ pub(crate) enum Fate {
     Held { by: u16 },
     /// Pass `by` has made it live and not yet linked it.
     Ready { by: u16 },
-    /// It has been in the tree since version `since`.
+    /// The record has been in the tree since version `since`.
     InTree { since: u64 },
-    /// It was in the tree from version `since` to `last`. Pass `by` has unlinked it and not yet marked it.
+    /// The record was in the tree from version `since` to `last`. Pass `by` has unlinked it and not yet marked it.
     Unlinked { since: u64, last: u64, by: u16 },
-    /// It was in the tree from version `since` to `last`, and is obsolete with `epoch`.
+    /// The record was in the tree from version `since` to `last`, and is obsolete with `epoch`.
     Marked { since: u64, last: u64, epoch: u64 },
 }
 

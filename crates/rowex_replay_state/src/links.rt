@@ -86,14 +86,14 @@ pub(crate) fn update_each_fate(fates: &mut [Fate], now: u64, pass: u16, linked: 
     }
 }
 
-/// The flag at place `at`; `false` past the last one.
+/// The flag at index `at`; `false` past the last one.
 fn flag_at(flags: &[bool], at: usize) -> bool
     ensures { result ≡ get_or flags.now at false }
 {
     flags.get(at).copied().unwrap_or(false)
 }
 
-/// The pass that has locked the node at place `at`; `None` if none has, and past the last one.
+/// The pass that has locked node `at`; `None` if none has, and past the last one.
 fn lock_at(locks: &[Option<u16>], at: usize) -> Option<u16>
     ensures { result ≡ get_or locks.now at None }
 {

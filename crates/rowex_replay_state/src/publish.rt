@@ -61,7 +61,8 @@ impl State {
         Ok(true)
     }
 
-    /// Whether `pass` has locked what names leaf `leaf`: the anchor, where it is the root, or a node of the tree that has it as an entry.
+    /// Whether `pass` has locked what names leaf `leaf`. That is the anchor if the leaf is the root, or a node of the tree that has it as
+    /// an entry.
     fn has_locked_namer(&self, pass: u16, leaf: u32) -> bool
         ensures { IsTrue result ↔ HasNamerLocked self.now pass leaf }
     {

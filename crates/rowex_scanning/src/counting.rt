@@ -89,8 +89,8 @@ impl Sink for Number {
 
 /// Counts the pairs of `range`, `range.limit` at most. Returns their number, and whether there is a further one.
 ///
-/// The pass makes loads alone. Of the leaves that come together in a node it reads the last one, and where that is past the range as many
-/// as a search among them takes. `way` is room for the nodes of its way, and need not be empty.
+/// The pass makes loads alone. Of the leaves that come together in a node it reads the last one. If that is past the range, it reads as
+/// many as a search among them takes. `way` is room for the nodes of its way, and need not be empty.
 #[inline(always)]
 pub fn count_root<G: Gate>(
     table: &HotTable,

@@ -34,8 +34,8 @@ use rowex_reading::{Found, MOST_NODES, load_path_node, load_root, search_way};
 use rowex_table::{HotTable, RecordAt, TableSeat};
 use std::alloc::AllocError;
 
-/// Lists the first pairs of `range` in its direction, `range.limit` at most, in place of those in `pairs`. Returns whether there is a
-/// further one.
+/// Lists the first pairs of `range` in its direction, `range.limit` at most, into `pairs`, whose earlier pairs are dropped. Returns whether
+/// there is a further one.
 ///
 /// An error if memory is refused. Then `pairs` has the first of these pairs, fewer than the limit, and there is a further one. The pass
 /// makes loads alone. `way` is room for the nodes of its way, and need not be empty. Inline, so that a caller has a walk of its own
@@ -208,11 +208,11 @@ fn scan_node<G: Gate, S: Sink>(
     walk_slots(scan, seat, gate, way, sink)
 }
 
-/// Walks over the slots of the last node of `way`, from the gap in its `slot` on, and of the nodes above it, in the scan's direction. Gives the
-/// pairs of the range to `sink`, and returns whether there is a further one. An error if memory is refused.
+/// Walks over the slots of the last node of `way`, from the gap in its `slot` on, and of the nodes above, in the scan's direction. Gives
+/// the pairs of the range to `sink`, and returns whether there is a further one. An error if memory is refused.
 ///
-/// It looks at several slots together, so that it doesn't wait for each leaf alone. The bytes of each key go to the same places, whatever
-/// stands there.
+/// It looks at several slots together, so that it doesn't wait for each leaf alone. The bytes of each key go to the same array, whatever it
+/// has.
 #[inline(always)]
 fn walk_slots<G: Gate, S: Sink>(
     scan: &Scan,

@@ -14,9 +14,9 @@ use crate::traces::TracedView;
 use atomic_table::{Join, Play, Split, TableRule};
 use std::marker::{Brand, PhantomData};
 
-/// The rule of a table with a layout: there is a lawful core which its words show, and a list of steps that leads to it from a new
-/// table. Where the table's first words show loaded pairs, the first of these is the load. What each seat knows is true of both, no two
-/// seats are of one pass, and each pass has a seat.
+/// The rule of a table with a layout. There is a lawful core which its words show, and a list of steps that leads to it from a new table.
+/// Where the table's first words show loaded pairs, the first of these is the load. What each seat knows is true of both, no two seats are
+/// of one pass, and each pass has a seat.
 pub(crate) struct RowexRule;
 
 impl TableRule<(), TracedView, Founding> for RowexRule {

@@ -93,9 +93,9 @@ impl HotTable {
         self.store_word_at::<Brand, G>(seat, gate, act, state, live);
     }
 
-    /// Stores `word` at `spot`: an entry word at the root or in a slot of a node, whose lock the pass has; or the value of a leaf of which the
-    /// pass has locked what names it. No other step changes the map. The words then have to show one leaf more, exchanged or less. The pass
-    /// has made ready what comes, and has locked each node that goes.
+    /// Stores `word` at `spot`. It is an entry word at the root or in a slot of a node, whose lock the pass has. Or it is the value of a
+    /// leaf, and the pass has locked what names that. No other step changes the map. The words then have to show one leaf more, exchanged
+    /// or less. The pass has made ready what comes, and has locked each node that goes.
     pub fn publish<G: Gate>(&self, seat: &mut TableSeat, gate: &mut G, spot: Spot, word: u64)
         requires own { IsSeatOf self.now seat.old }
         requires range { HasSpot self.now.layout spot }

@@ -65,15 +65,15 @@ pub enum TryFault {
     FullLeaves,
 }
 
-/// Makes one attempt at `call` and returns the reply. It searches for the key, locks what is to change, each once, checks that this
+/// Makes one attempt at `call` and returns the reply. It searches for the key, and locks what is to change, each once. It checks that this
 /// stands as found, and changes it by one store. A call with nothing to change locks nothing. An expected value is compared again under the
 /// locks: if it is another then, the reply says so. If another pass is at work there, or no record is free, nothing is changed, and the
 /// fault tells which.
 ///
-/// The pass is pinned, has no record and no lock, and has made no change since its pin. `way` is filled with the nodes that the search
-/// went through. After a change `build.gone` lists what it unlinked; else it stays. If no record was free, `build.made` lists those that
-/// it had claimed, and has given up. A removal is never refused as `FullLeaves`. An insertion or an upsert is refused as full only if the
-/// search found the key absent, a removal only if it found the key, with the value that it expects; an exchange or an addition never.
+/// The pass is pinned, has no record and no lock, and has made no change since its pin. `way` is filled with the nodes that the search went
+/// through. After a change `build.gone` lists what it unlinked; else it stays. If no record was free, `build.made` lists those that it had
+/// claimed, and has given up. A removal is never refused as `FullLeaves`. An insertion or an upsert is refused as full only if the search
+/// found the key absent. A removal is only if it found the key, with the value that it expects. An exchange or an addition never is.
 ///
 /// If it tries no lock, it makes at most 58 atomic steps, and 26 for each node on the key's way. Else it makes at most 124, and 26 for
 /// each such node. To these come 297 for each lock that it tries, four for each leaf record and two for each node record. An exchange or an
@@ -185,7 +185,7 @@ fn try_plan<G: Gate>(
     }
 }
 
-/// Makes the change of `job`, whose nodes are locked and checked. If it takes a leaf out of a node that has one above it on the way,
+/// Makes the change of `job`, whose nodes are locked and checked. If it takes a leaf out of a node that has one above it on the path,
 /// [`make_removal`] makes it. If it can't be made, it is undone, and the fault tells why. All is unlocked then.
 fn change_span<G: Gate>(
     table: &HotTable,
@@ -224,8 +224,8 @@ fn change_span<G: Gate>(
     }
 }
 
-/// Makes a removal from a node that has one above it on the way. One entry that is left takes the node's place. For more than one a record is
-/// claimed, and filled by [`end_removal`]. If none was free, the change is undone, and the fault tells so.
+/// Makes a removal from a node that has one above it on the path. One entry that is left takes the node's place. For more than one a record
+/// is claimed, and filled by [`end_removal`]. If none was free, the change is undone, and the fault tells so.
 fn make_removal<G: Gate>(
     table: &HotTable,
     seat: &mut TableSeat,
@@ -294,8 +294,8 @@ fn end_removal<G: Gate>(
     publish_or_undo(table, seat, gate, build, job, raised)
 }
 
-/// Publishes the change of `job`, for which all records are made. The value that was found is loaded once more before, since other locks have
-/// come and gone: if it is another, the change is undone, and the result is `TryFault::Busy`.
+/// Publishes the change of `job`, for which all records are made. The value that was found is loaded once more before, since other locks
+/// have come and gone. If it is another, the change is undone, and the result is `TryFault::Busy`.
 fn publish_or_undo<G: Gate>(
     table: &HotTable,
     seat: &mut TableSeat,

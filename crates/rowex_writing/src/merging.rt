@@ -271,8 +271,8 @@ fn raise_closed_fork<G: Gate>(
     make_node_from_words(table, seat, gate, build, &words)
 }
 
-/// Ends a removal that merges: makes the new records ready, and stores `entry` in the place of the upper node's. Then it retires the
-/// records that [`list_merged_records`] has listed, and unlocks the node above the upper one, or the anchor.
+/// Ends a removal that merges: makes the new records ready, and stores `entry` instead of the upper node's. Then it retires the records
+/// that [`list_merged_records`] has listed, and unlocks the node above the upper one, or the anchor.
 fn publish_merge<G: Gate>(
     table: &HotTable,
     seat: &mut TableSeat,

@@ -193,7 +193,8 @@ pub(crate) fn plan_beside_entries(
     }
 }
 
-/// Returns the plan that does `deed`, and remakes the nodes of the way from index `end` on, before `len`. None is remade if `end` is `len`.
+/// Returns the plan that does `deed`, and remakes the nodes of the path from index `end` on, before `len`. None is remade if `end` is
+/// `len`.
 fn change_plan(len: usize, end: usize, deed: Deed) -> Plan
     ensures { result ≡ a_change len end deed }
 {

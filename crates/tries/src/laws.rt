@@ -19,7 +19,7 @@ pub fn one_leaf_more_adds_its_key()
     ensures { AddingInserts }
 {}
 
-/// A bit trie's leaf exchanged for one of the same key changes the map by that key's value alone: from the old leaf's to the new one's.
+/// A bit trie's leaf exchanged for one of the same key changes the map by that key's value alone. It is then the new leaf's.
 pub fn exchanged_leaf_replaces_value()
     ensures { ExchangeReplaces }
 {}

@@ -3,19 +3,19 @@
 ghost use Rattle.version_laws.specs.Ways.{FoundSame, OneBody, PlacedSame, RootedSame, StillGrows, StillPlaced, StillRooted, WayBegins, WayEnds, WayGoesOn, WayIsBelow, WayOfLeaf};
 ghost use Rattle.version_laws.specs.Statements.{FirstKey, FoundIsKept, GetEnds, InsertAtSpot, LedPlaced, LoadsLeaf, LoadsNone, LoadsPlace, LoadsRoot, LoadsShape, MergeAtSpot, PairAtSpot, RemoveAtSpot, RemoveLast, ScanIsLawful, UpperGoesOn, UpsertAtSpot};
 
-/// The store of the entry that has risen from a locked node, at the locked spot that names it, is a legal publish that adds the key.
-/// If the spot is in a node, no other entry there is affected, and the new one is lower than that node.
+/// The store of the entry that has risen from a locked node, at the spot that names it, is a legal publish that adds the key. If the spot
+/// is in a node, no other entry there is affected, and the new one is lower than that node.
 pub fn insert_at_spot_adds_key()
     ensures { InsertAtSpot }
 {}
 
-/// Let the entry on a key's way in a locked node name a node, and let an insertion affect no more there than that entry. Then the locked
-/// node's first fork is before the position of the insertion.
+/// Let a locked node's entry on a key's path name a node, and let an insertion affect no more there than that entry. Then the locked node's
+/// first fork is before the position of the insertion.
 pub fn first_fork_is_before_insertion()
     ensures { UpperGoesOn }
 {}
 
-/// Let one leaf alone be affected, at a locked spot. The publish of a node of it and the new leaf in its place is legal and adds the key.
+/// Let one leaf alone be affected, at a locked spot. The publish of a node of it and the new leaf instead is legal and adds the key.
 pub fn pair_at_spot_adds_key()
     ensures { PairAtSpot }
 {}
@@ -76,7 +76,7 @@ pub fn loads_tell_leaf()
     ensures { LoadsLeaf }
 {}
 
-/// A search that was led to a node is led on to the entry loaded at the key's place in it, whatever was published between the loads.
+/// A search that was led to a node is led on to the entry loaded there on the key's path, whatever was published between the loads.
 pub fn loaded_entry_leads_search_on()
     ensures { LedPlaced }
 {}
@@ -87,7 +87,7 @@ pub fn lookup_is_current()
     ensures { GetEnds }
 {}
 
-/// A scan in either direction that came to its end, or was cut at its limit, is lawful between the fronts at its start and at its end.
+/// Let a scan in either direction come to its end, or be cut at its limit. It is lawful between the fronts at its start and end.
 pub fn scan_is_lawful()
     ensures { ScanIsLawful }
 {}
@@ -113,7 +113,7 @@ pub fn read_leaf_is_a_descent()
     ensures { WayOfLeaf }
 {}
 
-/// A descent from the entry at the key's place in a locked node to a leaf tells what a writer needs of the way below that node.
+/// A descent from a locked node's entry on the key's path to a leaf tells what a writer needs of the path below that node.
 pub fn descent_tells_way_below()
     ensures { WayIsBelow }
 {}
@@ -124,7 +124,7 @@ pub fn unchanged_search_begins_at_root_entry()
 {}
 
 /// Let a search in the newest tree be at a node whose forks were read, if no change was made since a version. Then it goes on by the entry
-/// that was read there since, at the key's place.
+/// that was read there since, on the key's path.
 pub fn unchanged_search_goes_on_by_entry()
     ensures { StillPlaced }
 {}
@@ -134,7 +134,7 @@ pub fn unchanged_search_stays_known()
     ensures { StillGrows }
 {}
 
-/// Where a node is met twice in the tree of one version, and both parts of the tree have the same forks and stems, the parts are equal.
+/// Let a node be met twice in the tree of one version, and both parts of the tree have the same forks and stems. They are equal.
 pub fn node_met_twice_is_equal()
     ensures { OneBody }
 {}
@@ -144,7 +144,7 @@ pub fn root_loads_agree()
     ensures { RootedSame }
 {}
 
-/// Two reads of one place of a node find one entry, if no change was made in between.
+/// Two reads of one slot of a node find one entry, if no change was made in between.
 pub fn entry_loads_agree()
     ensures { PlacedSame }
 {}

@@ -50,8 +50,8 @@ pub(crate) fn grow_node<G: Gate>(
     grow_with_leaf(table, seat, gate, build, job, &new)
 }
 
-/// Makes and returns what takes the place of the nodes of `job.span` when the lowest gets `new`, a leaf whose record is made. One more node
-/// record must be free then. `Full::Nodes` if no node record was free: those made by then stay in `build.made`.
+/// Makes and returns what replaces the nodes of `job.span` when the lowest gets `new`, a leaf whose record is made. One more node record
+/// must be free then. `Full::Nodes` if no node record was free: those made by then stay in `build.made`.
 fn grow_with_leaf<G: Gate>(
     table: &HotTable,
     seat: &mut TableSeat,

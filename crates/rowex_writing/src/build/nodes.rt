@@ -136,8 +136,8 @@ fn make_half_entry<G: Gate>(
     }
 }
 
-/// Makes what takes the place of a node with the entry `old` that was cut in two: a fork. Each new node gets a record, that of the 1 side
-/// first. `None` if no node record was free: one made by then stays in `build.made`.
+/// Makes the fork that replaces a node with the entry `old`, which was cut in two. Each new node gets a record, that of the 1 side first.
+/// `None` if no node record was free: one made by then stays in `build.made`.
 pub(crate) fn make_risen<G: Gate>(
     table: &HotTable,
     seat: &mut TableSeat,

@@ -35,8 +35,8 @@ use record_words::{MAX_ENTRIES, NODE_FIELDS, can_take_leaf, drop_entry, read_nod
 use rowex_core::Gate;
 use rowex_table::{HotTable, TableSeat};
 
-/// Makes what takes the place of the locked node `number` when it gets `fork`: one entry, or a fork of two if it was full. `None` if no
-/// node record was free: one that was made by then stays in `build.made`. The locked record stays as it is.
+/// Makes what replaces the locked node `number` when it gets `fork`: one entry, or a fork of two if it was full. `None` if no node record
+/// was free: one that was made by then stays in `build.made`. The locked record stays as it is.
 fn raise_node_with_fork<G: Gate>(
     table: &HotTable,
     seat: &mut TableSeat,
@@ -111,7 +111,7 @@ fn make_risen_with_leaf_by_value<G: Gate>(
     Some((Risen::Whole(entry), false))
 }
 
-/// Makes what takes the place of the node `loaded` with the leaf `new`: one entry, or a fork of two if it was full. The flag tells whether
+/// Makes what replaces the node `loaded` when it gets the leaf `new`: one entry, or a fork of two if it was full. The flag tells whether
 /// the node stays, as one side of that fork. `None` if no node record was free: one that was made by then stays in `build.made`.
 /// `loaded.words` may be changed: a node of leaves alone with room gets the leaf there, which costs least.
 fn make_risen_with_leaf<G: Gate>(
@@ -135,9 +135,9 @@ fn make_risen_with_leaf<G: Gate>(
     make_risen_with_leaf_by_value(table, seat, gate, build, loaded, new)
 }
 
-/// Makes what takes the place of the locked node `number`, the lowest of a span, with the leaf `new`: one entry, or a fork of two if it was
-/// full. The flag tells whether the node stays, as a side of the fork. `None` if no node record was free: one that was made by then stays
-/// in `build.made`.
+/// Makes what replaces the locked node `number`, the lowest of a span, when it gets the leaf `new`. It is one entry, or a fork of two if it
+/// was full. The flag tells whether the node stays, as a side of the fork. `None` if no node record was free: one that was made by then
+/// stays in `build.made`.
 fn raise_lowest_node_with_leaf<G: Gate>(
     table: &HotTable,
     seat: &mut TableSeat,
@@ -180,8 +180,8 @@ fn is_whole_node(half: &Half) -> bool
     }
 }
 
-/// The one entry for `risen`, which takes the place of a locked node. It is the entry itself, or that of a new node of two for a fork.
-/// `None` if no node record was free. Inline, since mostly it is the entry already.
+/// The one entry for `risen`, which replaces a locked node. It is the entry itself, or that of a new node of two for a fork. `None` if no
+/// node record was free. Inline, since mostly it is the entry already.
 #[inline(always)]
 fn make_one_entry<G: Gate>(
     table: &HotTable,
@@ -242,9 +242,9 @@ fn risen_fork<'a>(rise: &Rise<'a>) -> Fork<'a>
     }
 }
 
-/// The one entry that takes the place of the node at `rise.end` of `way`, when `rise.risen` takes the place of the one at `rise.level`.
-/// Where that is below, a fork has risen, which goes into the next node above. `None` if no node record was free: those made by then stay
-/// in `build.made`. Inline, since mostly these are one node.
+/// The one entry that replaces the node at `rise.end` of `way`, when `rise.risen` replaces the one at `rise.level`. If that is below, a
+/// fork has risen, which goes into the next node above. `None` if no node record was free: those made by then stay in `build.made`. Inline,
+/// since mostly these are one node.
 #[inline(always)]
 fn raise_to_end<G: Gate>(
     table: &HotTable,

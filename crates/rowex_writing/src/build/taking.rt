@@ -69,8 +69,8 @@ pub(crate) fn empty_root(build: &mut Build, job: &Job<'_>) -> Raised
     }
 }
 
-/// Makes what is left of the span's node without the found leaf, and returns its entry, which is to take the node's place. `Full::Nodes` if
-/// no node record was free for it.
+/// Makes what is left of the span's node without the found leaf, and returns its entry, which is to replace the node. `Full::Nodes` if no
+/// node record was free for it.
 fn remake_without_leaf<G: Gate>(
     table: &HotTable,
     seat: &mut TableSeat,

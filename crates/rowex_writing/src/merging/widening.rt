@@ -60,7 +60,7 @@ pub(crate) fn lock_for_merge<G: Gate>(
     false
 }
 
-/// Whether `number` is that of a node of `job`'s span, or of one of the two above it on the way.
+/// Whether `number` is that of a node of `job`'s span, or of one of the two above it on the path.
 fn is_near_span(job: &Job<'_>, number: u32) -> bool
     requires within { (job.now.span.end ≤ job.now.span.len) × (job.now.span.len ≤ length job.now.way.now) }
     ensures near { result ≡ true → ¬ IsFar job.now.way.now job.now.span number }
