@@ -74,7 +74,7 @@ pub record IsStackOf (l : Builder) (xs : List Item) : Type 0 where
   pub content : items (whole_of levels top) ≡ xs
   pub last : l.last ≡ greatest_key (whole_of levels top)
   pub room : HasNodesFor l 0
-  -- each node has taken the place of one slot at least
+  -- each node has replaced at least one slot
   pub few : l.nodes + length l.slots.items ≤ length xs
   -- where no node is taken each piece is of leaves alone, and none is taken while one takes all leaves
   pub low : l.nodes ≡ 0 → All IsLow l.parts.items

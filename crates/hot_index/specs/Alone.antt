@@ -21,10 +21,10 @@ TakesNone call k j = (m : PassView) → BeginsWith j.front m.front → ¬ (MayTa
 
 -- A call that is alone is refused only for want of a record.
 pub record AloneCallsEnd {G : Type 0} (becomes : G → Event → G → Type 0) : Type 0 where
-  -- it is never busy
+  -- a call that is alone is never busy
   pub busy : (layout : Layout) (key : Key) (k j : PassView) → RunsAlone layout j.number k.seat j.seat → ¬ (IsCause layout key k j Busy)
-  -- It gets its reply if it may take no record: an exchange, an addition, a new value of a key that was held all the while, the removal of one
-  -- that was absent all the while.
+  -- A call that is alone gets its reply if it may take no record. Such are an exchange, an addition, a new value of a key that was held all
+  -- the while, and the removal of one that was absent all the while.
   pub reply : (index : TableView) (call : Call) (result : Result Reply TryFault) (k j : PassView) → IsOutcome call result index k j → HasCause call result index k j →
       RunsAlone index.layout j.number k.seat j.seat → ¬ (MayTake call k j) → IsOk result
   -- if it waits, it makes one try then, and no other

@@ -166,7 +166,7 @@ ValuesInReach =
 pub record Headline : Type 0 where
   pub history : History
   pub one_history : OneHistory
-  -- and so do any number of passes that have seen the same: each call that they have lived through stands in it once
+  -- any number of passes that have seen the same share one legal history, in which each call that they have lived through stands once
   pub one_history_of_all : OneHistoryOfAll
   -- a bulk load is the history of its table at first; in an execution it is one call, of many insertions
   pub loaded_history : LoadedHistory
@@ -179,15 +179,15 @@ pub record Headline : Type 0 where
   pub responses : Responses
   pub freshness : Freshness
   pub freshness_of_many : FreshnessOfMany
-  -- between passes that hear of each other by a stamp or a meeting, a call that had returned stands at no later place than one that then began
+  -- if passes hear of each other by a stamp or a meeting, a call that had returned stands no later than one that then began
   pub order_in_time : ReturnedBeforeBegun
-  -- and between any passes, a call with one key stands at no later place than one that loads the root after its last step
+  -- of any passes, a call with one key stands no later than one that loads the root after its last step
   pub order_of_steps : EndedBeforeLoaded
   pub scans : ScansShow IsLawfulScan IsUpToLast
   pub reverse_scans : ScansShow IsLawfulReverseScan IsDownToLast
   pub refusals : Refusals
-  -- with one pass, each leaf record that a full call lacked was in the tree or retired; and so was at least a third of the node records but one,
-  -- and each of them but for 4,321 at most
+  -- With one pass, each leaf record that a full call lacked was in the tree or retired. Of node records, at least a third were so, but one,
+  -- and all but at most 4,321.
   pub full_alone : OnePassFullIsFull
   pub never_refused : NeverRefused
   pub never_full : NeverFull
@@ -195,8 +195,8 @@ pub record Headline : Type 0 where
   pub number_of_keys : CountsAddUp
   pub steps : BoundedSteps
   pub touches : BoundedTouches
-  -- a record that a pinned pass may reach is not reused, and its words are as they were when it stood in the tree, but for its state, a node's
-  -- entries, a leaf's value, and what stands behind a leaf's key; and an entry, or a value, is one that the record had when it stood last
+  -- A record that a pinned pass may reach is not reused. Its words are as they were when it stood in the tree, but for its state, a node's
+  -- entries, a leaf's value, and what stands behind a leaf's key. An entry or a value is one that the record had when it stood last.
   pub out_of_reach : InReach
   pub entries_in_reach : EntriesInReach
   pub values_in_reach : ValuesInReach

@@ -4,7 +4,7 @@ use Rattle.std.specs.Prelude.{cond, nat_lt, ℕ, ◌-◌, ◌<◌}
 use Rattle.node_tries.specs.Piece.{Piece, Place, Fork, size}
 
 module _ {A : Type 0} where
-  -- another piece at place i
+  -- the piece with another piece at place i
   abbrev pub grafted : ℕ → Piece A → Piece A → Piece A
   grafted i part (Place x) = part
   grafted i part (Fork p a b) = cond (nat_lt i (size a)) (Fork p (grafted i part a) b) (Fork p a (grafted (i - size a) part b))

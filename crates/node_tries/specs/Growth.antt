@@ -4,13 +4,13 @@ use Rattle.std.specs.Prelude.{Bool, List, [], cond, drop, nat_lt, take, ℕ, ◌
 use Rattle.node_tries.specs.Piece.{Piece, Place, Fork, size}
 
 module _ {A : Type 0} where
-  -- The affected part for a position: go down towards place i through the forks before the position, and stop.
-  -- Its first place, and how many it has
+  -- The first place of the part that a position affects. The part lies on the path to place i, below the forks before the position.
   abbrev pub affected_first : ℕ → ℕ → Piece A → ℕ
   affected_first position i (Place x) = 0
   affected_first position i (Fork p a b) =
       cond (nat_lt p position) (cond (nat_lt i (size a)) (affected_first position i a) (size a + affected_first position (i - size a) b)) 0
 
+  -- how many places the part has that a position affects, on the path to place i
   abbrev pub affected_count : ℕ → ℕ → Piece A → ℕ
   affected_count position i (Place x) = 1
   affected_count position i (Fork p a b) =
@@ -21,7 +21,7 @@ module _ {A : Type 0} where
   IsFresh position i (Place x) = Unit {0}
   IsFresh position i (Fork p a b) = MatchBool (nat_lt p position) (MatchBool (nat_lt i (size a)) (IsFresh position i a) (IsFresh position (i - size a) b)) (p ≢ position)
 
-  -- first to last are the affected places for a position, and no fork there has it
+  -- the places from `first` to `last` are those that a position affects, and no fork there has it
   pub record IsAffected (piece : Piece A) (position first last : ℕ) : Type 0 where
     pub from : affected_first position first piece ≡ first
     pub upto : affected_count position first piece + first ≡ last + 1

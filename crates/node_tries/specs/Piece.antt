@@ -14,16 +14,17 @@ module _ {A : Type 0} where
   places (Place x) = x ∷ []
   places (Fork p a b) = places a ++ places b
 
+  -- how many places the piece has
   abbrev pub size : Piece A → ℕ
   size (Place x) = 1
   size (Fork p a b) = size a + size b
 
-  -- of each place the positions at which its path takes the 1 side
+  -- for each place, the positions at which its path takes the 1 side
   abbrev pub paths : Piece A → List (List ℕ)
   paths (Place x) = [] ∷ []
   paths (Fork p a b) = paths a ++ map (λ path. p ∷ path) (paths b)
 
-  -- the place to which the forks lead, where a fork at p follows the key's bit at p
+  -- the place to which the forks lead, each by the key's bit at its position
   abbrev pub leads_to : (ℕ → Bool) → Piece A → ℕ
   leads_to bit (Place x) = 0
   leads_to bit (Fork p a b) = cond (bit p) (size a + leads_to bit b) (leads_to bit a)
@@ -43,6 +44,6 @@ module _ {A : Type 0} where
   uses (Place x) q = false
   uses (Fork p a b) q = eqb p q || (uses a q || uses b q)
 
-  -- of these columns the ones that the piece uses
+  -- those of these columns that the piece uses
   abbrev pub used_columns : Piece A → List ℕ → List ℕ
   used_columns piece columns = kept (map (uses piece) columns) columns

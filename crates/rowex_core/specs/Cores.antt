@@ -85,13 +85,13 @@ pub record AreRecords (layout : Layout) (words : Rec → List ℕ) (fate : Rec �
   -- each has its number of words, and those of one that is neither free nor held spell a value
   pub sized : (r : Rec) → IsSized r (words r)
   pub packed : (r : Rec) → IsWhole (fate r) → IsPacked r (words r)
-  -- a leaf's up to the end of its key are no more than the table has words for
+  -- a leaf's words up to the end of its key are no more than the table has for it
   pub fits : (r : Rec) → IsWhole (fate r) → FitsIn layout r (words r)
   -- an unlinked node stays locked until it is marked
   pub retired : (n since last q : ℕ) → fate (a_node n) ≡ Unlinked since last q → lock n ≡ Some q
-  -- only those of the table are used
+  -- only records of the table are used
   pub used : (r : Rec) → (fate r ≡ Free) ⊎ HasRecord layout r
-  -- and only passes of the index have records of their own
+  -- only passes of the index have records of their own
   pub holders : (r : Rec) (q : ℕ) → holder_of (fate r) ≡ Some q → q < layout.passes
 
 -- What holds of the epochs. They are from 1 on and below EPOCHS, and so are pins and marks. Only passes of the index are pinned.

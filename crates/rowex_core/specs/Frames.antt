@@ -16,5 +16,5 @@ pub record IsFrame (q : ℕ) (c d : Core) : Type 0 where
   pub past : IsGrown c.past d.past
   pub changes : OthersGoOn q c.changes d.changes
   pub own : share q d ≡ share q c
-  -- and so are the values of leaves of which it has locked what names them
+  -- the values of leaves are as they were if pass q has locked what names them
   pub values : (l : ℕ) → IsLockedAt c q (Value l) → record_word d (a_leaf l) VALUE_OFFSET ≡ record_word c (a_leaf l) VALUE_OFFSET

@@ -46,7 +46,7 @@ pub data IsRise (c : BareCore) (q : ℕ) (x : Newcomer) : Side → Subtrie → T
   -- the lowest node gets the new leaf
   grows : (n : ℕ) → IsFoundBelow c q x n → IsPartSubtrie (subtrie_affected x.mismatch x.item.key (c.heap.nodes n).subtrie) →
       IsRise c q x (body n) (subtrie_grown x.mismatch x.item.key (Leaf x.item.number) (c.heap.nodes n).subtrie)
-  -- the node above gets what takes the place of the node below
+  -- the node above gets what replaces the node below
   pulls : (o n : ℕ) (r : Subtrie) → IsUpper c q x.item.key x.mismatch o n → IsRise c q x (entry n) r →
       IsRise c q x (body o) (with_subtrie x.item.key r (c.heap.nodes o).subtrie)
   -- a body in a node of its own: a copy of the old one

@@ -101,7 +101,7 @@ pub record IsLawfulState (s : State) : Type 0 where
   pub present : IsReach s s.now
   -- a record's words are those of the last version of its life
   pub frozen : (r : Rec) (u : Tree) → Spans s.now (s.life r) (last_of s.now (s.life r)) → Stands s.past (last_of s.now (s.life r)) r u → IsCopied s.heap u
-  -- and its fixed words and stems are those of each version of its life
+  -- a record's fixed words and stems are those of each version of its life
   pub same : (r : Rec) (n : ℕ) (u v : Tree) → Spans s.now (s.life r) n → Stands s.past n r u → Stands s.past (last_of s.now (s.life r)) r v → IsSameRecord u v
   -- what was linked in a version since a pass's pin is still in the life of that version
   pub reach : (q m : ℕ) → s.pin q ≡ Some m → IsReach s m
