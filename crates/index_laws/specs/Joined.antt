@@ -131,9 +131,9 @@ OneRunIsAnExecution =
 
 -- Where passes have ended in one run
 
--- Passes end in one run by two rounds of stamps. In the first, each follows a stamp of the pass before it. The last one's steps are the
--- run, which begins with those that each knew. In the second, each follows a stamp of the last one, and knows steps that begin with the
--- run.
+-- Let each pass have done this, up to this seat, and let a run of the table begin with the steps that each knew. Let each then be shown
+-- steps that begin with the run. They have ended in this run. Passes come to that by two rounds of stamps. In the first, each follows a
+-- stamp of the pass before it. In the second, each follows one of the last pass.
 abbrev pub ShownHaveEnded : Type 0
 ShownHaveEnded =
     (table : TableView) (run : List Event) (done : ℕ → List Happening) (seat shown : ℕ → SeatView) → IsTableRun table.layout run →

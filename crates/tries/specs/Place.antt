@@ -37,7 +37,7 @@ abbrev pub with_subtrie : Key → Subtrie → Subtrie → Subtrie
 with_subtrie k r (Place e) = r
 with_subtrie k r (Fork q x y) = if bit k q then Fork q x (with_subtrie k r y) else Fork q (with_subtrie k r x) y
 
--- A fork after an entry was taken out of one side: what is left there, or the other side alone if nothing is.
+-- A fork, once an entry was taken out of one side: the fork with what is left there, or the other side alone.
 abbrev pub joined : ℕ → Bool → Subtrie → Subtrie → Subtrie → Subtrie
 joined q true x (Place e) r = x
 joined q true x (Fork p a b) r = Fork q x r
@@ -61,7 +61,7 @@ abbrev pub subtrie_sibling : Key → Subtrie → Option (ℕ × Subtrie)
 subtrie_sibling k (Place e) = None
 subtrie_sibling k (Fork q x y) = side_beside q (bit k q) x y (if bit k q then subtrie_sibling k y else subtrie_sibling k x)
 
--- A fork after the last one on a key's path was closed in one side. If it is itself the last one, the entry takes its place.
+-- A fork with the last fork on a key's path closed, in one of its sides. If it is itself the last one, it becomes the entry.
 abbrev pub fork_closed : ℕ → Bool → Entry → Subtrie → Subtrie → Subtrie → Subtrie
 fork_closed q true f x (Place e) below = Place f
 fork_closed q true f x (Fork p a b) below = Fork q x below
