@@ -94,7 +94,7 @@ pub fn collect_if_risen<G: Gate>(
     Some(visit_records(table, seat, gate, bound))
 }
 
-/// Makes a small round: makes the epoch the next one, and visits the oldest records of the pass's list `limbo`. It visits at most
+/// Makes a small round: raises the epoch by one, and visits the oldest records of the pass's list `limbo`. It visits at most
 /// `MOST_VISITED`, up to the first that has to wait. One that was retired in an epoch below this one and each set pin is given back, and
 /// stands in the list's `given` then.
 ///
@@ -115,7 +115,7 @@ pub fn collect_small_round<G: Gate>(
     visit_limbo(table, seat, gate, limbo, bound);
 }
 
-/// Makes the epoch the next one, and returns the bound of the round: the least of that epoch and of the pins that are set.
+/// Raises the epoch by one, and returns the bound of the round: the least of that epoch and of the pins that are set.
 fn begin_round<G: Gate>(table: &HotTable, seat: &mut TableSeat, gate: &mut G) -> u64
     requires { IsSeatOf table.now seat.old }
     ensures pin { seat.new.known.pin ≡ seat.old.known.pin }
@@ -126,7 +126,7 @@ fn begin_round<G: Gate>(table: &HotTable, seat: &mut TableSeat, gate: &mut G) ->
     find_bound(table, seat, gate)
 }
 
-/// Loads the epoch and makes it the next one, unless another pass has done so meanwhile. At the last epoch, 2^60 - 1, nothing is tried. The
+/// Loads the epoch and raises it by one, unless another pass has done so meanwhile. At the last epoch, 2^60 - 1, nothing is tried. The
 /// pass's pin stays.
 fn advance_epoch<G: Gate>(table: &HotTable, seat: &mut TableSeat, gate: &mut G)
     requires { IsSeatOf table.now seat.old }

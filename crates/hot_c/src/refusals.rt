@@ -8,7 +8,7 @@ use crate::status::{BUSY, FULL_LEAVES, FULL_NODES, HELD_BACK, KEY_TOO_LONG};
 use hot_index::{Full, RecordCounts, Refusal, StateCounts};
 use record_words::{LARGE_BYTES, MEDIUM_BYTES, SHORT_BYTES, WIDE_BYTES};
 
-/// The status of a call for a key of `size` bytes that was refused so.
+/// The status that tells why a call for a key of `size` bytes was refused.
 pub fn tell_refusal(size: usize, refusal: Refusal) -> u32
     ensures { TellsRefusal size refusal result }
 {

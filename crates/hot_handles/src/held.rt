@@ -20,14 +20,14 @@ impl<T> Model for Held<T> {
 }
 
 impl<T> Held<T> {
-    /// Nothing.
+    /// A holder of nothing.
     fn empty() -> Held<T>
         ensures { result.value ≡ None }
     {
         Held { at: null_mut() }
     }
 
-    /// The box of the value. There is one.
+    /// The box of the value. The holder has one.
     fn into_box(self, alloc: Global) -> Box<T, Global>
         requires { IsSome self.value }
         ensures { self.value ≡ Some result.value }
@@ -36,7 +36,7 @@ impl<T> Held<T> {
         unsafe { Box::from_raw(alloc, at) }
     }
 
-    /// Takes the value out, in its box. There is one.
+    /// Takes the value out, in its box. The holder has one.
     pub fn take(&mut self, alloc: Global) -> Box<T, Global>
         requires { IsSome self.old.value }
         ensures value { self.old.value ≡ Some result.value }
@@ -47,7 +47,7 @@ impl<T> Held<T> {
 }
 
 impl<T: Drop> Held<T> {
-    /// What `boxed` held.
+    /// A holder of the value that `boxed` held.
     fn of(boxed: Box<T, Global>) -> Held<T>
         ensures { result.value ≡ Some boxed.value }
     {

@@ -34,7 +34,7 @@ struct Share {
 }
 
 impl Share {
-    /// What pass `number` claims, if `passes` passes share `records` records, and a small part has `most` at most.
+    /// The parts of `records` records in which pass `number` of `passes` claims. A small part has at most `most`.
     fn of(number: u16, passes: u32, records: u32, most: u32) -> Share {
         let number = u32::from(number);
         let share = records.checked_div(passes).unwrap_or(0);
@@ -157,7 +157,7 @@ fn first_leaf_of_class(layout: Layout, number: u32) -> u32 {
     }
 }
 
-/// What pass `number` claims of the leaf records of each class, in a table with this layout.
+/// The parts of each class of leaf records in which pass `number` claims, in a table with this layout.
 fn share_leaves(layout: Layout, number: u16) -> [Share; LEAF_CLASSES] {
     let share = |from: u32, upto: u32, words: u32| {
         let most = FIRST_WORDS.checked_div(words).unwrap_or(0);

@@ -142,7 +142,7 @@ pub fn no_record_is_lost<G: Gate>()
     ensures { NoRecordIsLost G.becomes }
 {}
 
-/// In an index of one pass that is so between any two calls.
+/// In an index of one pass, a round between any two calls loses no record, as `no_record_is_lost` says.
 pub fn one_pass_loses_no_record<G: Gate>()
     ensures { OnePassLosesNone G.becomes }
 {}

@@ -37,8 +37,8 @@ pub fn grow(node: &Node, first: u8, last: u8, position: u16, bit: bool, entry: E
     Grown::Two(grow_full(node, first, last, position, bit, entry))
 }
 
-/// As [`grow`], of a full node. The node is cut at its root fork, and the entry goes into one of the halves. If `position` is below the root
-/// fork's, the cut is there: the whole node is one side, `Half::Same`, and the entry the other.
+/// What a full node becomes with `entry` added, as [`grow`] says. The node is cut at its root fork, and the entry goes into one of the
+/// halves. If `position` is below the root fork's, the cut is there: the whole node is one side, `Half::Same`, and the entry the other.
 pub fn grow_full(node: &Node, first: u8, last: u8, position: u16, bit: bool, entry: Entry) -> Cut
     requires full { length node.now.entries ≡ 32 }
     requires range { IsAffected (piece node.now) position first last }
@@ -165,7 +165,8 @@ pub fn pull_up(node: &Node, slot: u8, position: u16, zero: Entry, one: Entry) ->
     Grown::Two(pull_up_full(node, slot, position, zero, one))
 }
 
-/// As [`pull_up`], of a full node. The node is cut at its root fork, and the new fork stands in one of the halves.
+/// What a full node becomes with the fork in it, as [`pull_up`] says. The node is cut at its root fork, and the new fork stands in one of
+/// the halves.
 pub fn pull_up_full(node: &Node, slot: u8, position: u16, zero: Entry, one: Entry) -> Cut
     requires full { length node.now.entries ≡ 32 }
     requires place { slot < length node.now.entries }

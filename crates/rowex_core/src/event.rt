@@ -102,6 +102,6 @@ impl Model for NoGate {
 impl Gate for NoGate {
     ghost becomes = { λ _ _ _. Unit {0} };
 
-    /// Does nothing.
+    /// Tells nobody of the step.
     fn at(&mut self, _event: &Event) {}
 }

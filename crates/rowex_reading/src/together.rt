@@ -83,7 +83,7 @@ fn look_up_group<G: Gate>(
     load_values(table, seat, gate, keys, tips, found);
 }
 
-/// Goes down one node on the way of each of `keys`, from its entry in `tips` to the entry that the way takes there. A leaf stays. Returns
+/// Goes down one node on the path of each of `keys`, from its entry in `tips` to the entry that the path takes there. A leaf stays. Returns
 /// whether any was a node.
 fn go_down<G: Gate>(
     table: &HotTable,
@@ -111,7 +111,7 @@ fn go_down<G: Gate>(
     lower
 }
 
-/// Goes down one node on the way of `key`, which has led to node `number`. It searches the head, loads and returns the entry there, and
+/// Goes down one node on the path of `key`, which has led to node `number`. It searches the head, loads and returns the entry there, and
 /// touches that entry's record.
 #[inline(always)]
 fn enter_node<G: Gate>(

@@ -18,7 +18,8 @@ pub fn change_between(pass: u16, before: &[Item], after: &[Item]) -> Option<Chan
     change_from_first_difference(pass, &before[front..], &after[front..])
 }
 
-/// As `change_between`, of `gone` before and `come` after. Their first leaves, if both lists have one, have different numbers.
+/// The change by which `pass` made the leaves `gone` the leaves `come`, if it is one, as `change_between` says. The first leaves of both
+/// lists, if both have one, have different numbers.
 fn change_from_first_difference(pass: u16, gone: &[Item], come: &[Item]) -> Option<Change>
     requires { BeginApart (map read_item gone.now) (map read_item come.now) }
     ensures { AreSame (map read_item gone.now) (map read_item come.now) → IsFoundChange pass (map read_item gone.now) (map read_item come.now) result }

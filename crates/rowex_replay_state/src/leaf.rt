@@ -20,7 +20,8 @@ pub fn unpack_leaf(words: &[u64; LEAF_FIELDS]) -> Result<(Key, u64), WordFault>
     unpack_leaf_with_bytes(words, &unpack_key_bytes(words))
 }
 
-/// As `unpack_leaf`, of a length of 240 at most. `bytes` are those of the key's words, and 0 behind these.
+/// The key and the value of a leaf record, as `unpack_leaf` says, whose key has at most 240 bytes. `bytes` are those of the key's words,
+/// and 0 behind these.
 fn unpack_leaf_with_bytes(words: &[u64; LEAF_FIELDS], bytes: &[u8]) -> Result<(Key, u64), WordFault>
     requires short { slice_index words.now 1 ≤ MAX_BYTES }
     requires spelled { IsBytesOf bytes.now (take KEY_WORDS (drop 2 (up_to_key words.now))) }

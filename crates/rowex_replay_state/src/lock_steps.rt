@@ -39,7 +39,7 @@ impl State {
         }
     }
 
-    /// As `lock`, of the anchor.
+    /// Locks the anchor for `pass` if it is unlocked. Returns whether that is legal, as `lock` says.
     fn lock_anchor(&mut self, pass: u16, found: u64) -> bool
         ensures { IsStepped result self.old self.new pass (Lock Anchor found) }
     {
@@ -52,7 +52,7 @@ impl State {
         true
     }
 
-    /// As `lock`, of node `node`.
+    /// Locks node `node` for `pass` if it is live and unlocked. Returns whether that is legal, as `lock` says.
     fn lock_node(&mut self, pass: u16, node: u32, found: u64) -> bool
         ensures { IsStepped result self.old self.new pass (Lock (NodeTarget node) found) }
     {
@@ -68,7 +68,7 @@ impl State {
         true
     }
 
-    /// As `unlock`, of the anchor.
+    /// Unlocks the anchor. Returns whether `pass` has locked it. If not, nothing changes.
     fn unlock_anchor(&mut self, pass: u16) -> bool
         ensures { IsStepped result self.old self.new pass (Unlock Anchor) }
     {
@@ -79,7 +79,7 @@ impl State {
         true
     }
 
-    /// As `unlock`, of node `node`.
+    /// Unlocks node `node`. Returns whether that is legal, as `unlock` says.
     fn unlock_node(&mut self, pass: u16, node: u32) -> bool
         ensures { IsStepped result self.old self.new pass (Unlock (NodeTarget node)) }
     {

@@ -51,7 +51,7 @@ pub(crate) fn read_entry(
     }
 }
 
-/// As `read_entry`, of `half`, one side of a fork. `false` for `Half::Same`.
+/// Reads the part of a tree below `half`, one side of a fork, as `read_entry` does. `false` for `Half::Same`.
 #[cycle(reading)]
 fn read_half(
     records: RecordedWords,
@@ -70,7 +70,7 @@ fn read_half(
     }
 }
 
-/// As `read_entry`, of `cut`, a node's root fork and its two sides.
+/// Reads the part of a tree below `cut`, a node's root fork and its two sides, as `read_entry` does.
 #[cycle(reading)]
 fn read_cut(
     records: RecordedWords,

@@ -38,7 +38,7 @@ impl State {
         }
     }
 
-    /// As `publish`, of the value of leaf `leaf`, which is `word` then.
+    /// Stores the value `word` to leaf `leaf`. Returns whether that is legal, with the errors of `publish`.
     fn publish_value(&mut self, pass: u16, leaf: u32, word: u64) -> Result<bool, AllocError>
         ensures ok { IfOk result (λ made. IsStepped made self.old self.new pass (Publish (Value leaf) word)) }
         ensures err { OnErr result (self.new ≡ self.old) }
@@ -77,7 +77,7 @@ impl State {
         self.has_locked_anchor(pass) && self.root == root
     }
 
-    /// As `publish`, of the root: `root` is its new entry, whose word is `word`.
+    /// Stores `word`, that of the entry `root`, at the root. Returns whether that is legal, with the errors of `publish`.
     fn publish_root(
         &mut self,
         pass: u16,
@@ -96,7 +96,7 @@ impl State {
         self.publish_tree(pass, root)
     }
 
-    /// As `publish`, of slot `entry` of node `node`. `word` is that of an entry, or 0.
+    /// Stores `word`, that of an entry or 0, in slot `entry` of node `node`. Returns whether that is legal, with the errors of `publish`.
     fn publish_entry(
         &mut self,
         pass: u16,

@@ -46,7 +46,7 @@ impl SectionHandle {
     }
 }
 
-/// Does nothing; its bound asks that the value's type may go to another thread.
+/// Does nothing. Its bound asks that the value's type may go to another thread.
 fn assert_send<T: Send>(_value: &T) {}
 
 /// Does nothing. It is proved only if a handle may go to another thread.
