@@ -2,3 +2,4 @@
 pub mod Orders
 pub mod Statuses
 pub mod Loads
+pub mod Histories

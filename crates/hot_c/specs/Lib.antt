@@ -17,3 +17,4 @@ pub mod Lookups
 pub mod Following
 pub mod Sections
 pub mod Loads
+pub mod Histories

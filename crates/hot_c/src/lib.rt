@@ -9,6 +9,8 @@
 //! `hot.h` says.
 //!
 //! Scans for C are cut behind the last pair that fits, since a scan cut at any smaller number of its pairs is lawful (`IsListedByParts`).
+//!
+//! What calls through the handles of one index have told, each by its status and value, stands in one legal history (`CallsAreLinearizable`).
 #![tactic(auto)]
 
 mod around;
@@ -18,6 +20,7 @@ mod ends;
 mod exports;
 mod following;
 mod handle;
+mod laws;
 mod lending;
 mod loading;
 mod lookups;
