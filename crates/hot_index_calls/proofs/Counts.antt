@@ -33,7 +33,7 @@ use Rattle.rowex_table.specs.Seats.{IsSame, SeatView, TableView}
 use Rattle.rowex_reading.proofs.Seen.Later.{event_recalls}
 use Rattle.rowex_table.proofs.Made.ActsLeave.{act_leaves}
 use Rattle.rowex_table.proofs.Runs.{runs_same}
-use Rattle.rowex_records.specs.Claims.{AllMissed, HasMissed, IsAnothers}
+use Rattle.rowex_records.specs.Claims.{HasMissed, IsAnothers}
 use Rattle.publish_laws.specs.Ending.{IsAtRest}
 use Rattle.epochs.specs.Runs.{Pins}
 use Rattle.publish_laws.specs.Lone.{KeepsSpare}
@@ -177,16 +177,11 @@ change_noted layout call reply s i t x was before settled gone event others fron
 
 -- Causes
 
--- what holds of some step of these, from one on, holds of some from an earlier one on
-missed_on : (Whose : Rec → Option ℕ → Type 0) (kind : ℕ → Rec) (n : ℕ) (tried more : List Failed) (since later : ℕ) → since ≤ later → more ≡ tried → AllMissed Whose kind n tried later → AllMissed Whose kind n more since
-missed_on Whose kind n tried more since later le same all q low =
-    let one = all q low in (one.0, le_trans le one.1, subst (λ (z : List Failed). HasMissed Whose z (kind q) one.0) (sym same) one.2)
-
 -- what a part of a call lacks, the call lacks
 pub lacks_from_before : (layout : Layout) (p q : ℕ) (tried more : List Failed) (since later : ℕ) (own : List Rec) → since ≤ later → q ≡ p → more ≡ tried → LacksNodes layout p tried later own → LacksNodes layout q more since own
 lacks_from_before layout p q tried more since later own le number same l =
     subst (λ z. LacksNodes layout z more since own) (sym number)
-    (lacks_so layout p tried more later since own l (missed_on (IsAnothers layout p own l.locked) a_node layout.nodes tried more since later le same l.missed))
+    (lacks_so layout p tried more later since own l (λ Whose r one. (one.0, le_trans le one.1, subst (λ (z : List Failed). HasMissed Whose z r one.0) (sym same) one.2)))
 
 pub leaves_from_before : (layout : Layout) (key : Key) (k j h i : PassView) → k.steps ≤ j.steps → i.number ≡ h.number → i.failed ≡ h.failed → LacksLeaves layout key h.number h.failed j.steps → LacksLeaves layout key i.number i.failed k.steps
 leaves_from_before layout key k j h i steps number failed all =

@@ -69,7 +69,7 @@ module _ {G : Type 0} {table : TableView} {becomes : G → Event → G → Type 
   cause_counted Nodes (own, l) = (
     own,
     subst (λ q. LacksNodes table.layout q d.0.known.failed k.steps own) (sym same)
-        (lacks_so table.layout b.0.known.pass b.0.known.failed d.0.known.failed k.steps k.steps own l (λ q low. missed_still (IsAnothers table.layout b.0.known.pass own l.locked) (a_node q) (l.missed q low))),
+        (lacks_so table.layout b.0.known.pass b.0.known.failed d.0.known.failed k.steps k.steps own l missed_still),
   )
   cause_counted Leaves all =
       subst (λ q. LacksLeaves table.layout key q d.0.known.failed k.steps) (sym same) (λ q low room. missed_still (IsAnothers table.layout b.0.known.pass [] []) (a_leaf q) (all q low room))

@@ -100,7 +100,7 @@ module _ {G : Type 0} {table : TableView} {becomes : G → Event → G → Type 
   pub lacks_still : (own : List Rec) → LacksNodes table.layout b.0.known.pass b.0.known.failed k.steps own → LacksNodes table.layout d.0.known.pass d.0.known.failed k.steps own
   lacks_still own l =
       subst (λ q. LacksNodes table.layout q d.0.known.failed k.steps own) (sym same)
-      (lacks_so table.layout b.0.known.pass b.0.known.failed d.0.known.failed k.steps k.steps own l (λ q low. missed_still (IsAnothers table.layout b.0.known.pass own l.locked) (a_node q) (l.missed q low)))
+      (lacks_so table.layout b.0.known.pass b.0.known.failed d.0.known.failed k.steps k.steps own l missed_still)
 
   pub cause_still : (fault : TryFault) → is_full (Err fault) ≡ true → IsCause table.layout key k (pass_of b.0) fault → IsCause table.layout key k (pass_of d.0) fault
   cause_still Busy full cause = absurd (false≢true full)

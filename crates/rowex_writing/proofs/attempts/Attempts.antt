@@ -26,8 +26,7 @@ use Rattle.record_words.specs.declared.records.Rec.TheVariants.{Node as a_node}
 use Rattle.rowex_core.specs.declared.event.Event.{Event}
 use Rattle.rowex_core.specs.declared.known.Known.{Known}
 use Rattle.rowex_table.specs.Seats.{TableView, SeatView, IsSeatOf}
-use Rattle.rowex_records.specs.Claims.{IsAnothers}
-use Rattle.rowex_records.proofs.Claims.{all_earlier}
+use Rattle.rowex_records.proofs.Claims.{missed_earlier}
 use Rattle.rowex_reading.specs.Possible.{IsPossible}
 use Rattle.rowex_reading.specs.Reads.{Looks, Reads}
 use Rattle.rowex_reading.proofs.Seen.Led.{looked_at, looks_same, reads_later, reads_same, reads_sees}
@@ -426,7 +425,7 @@ refused_busy layout key k i j m made (p, pinned, early) loaded first next why = 
 }
 
 full_before : (layout : Layout) (key : Key) (k i j : Known) (made : List Rec) (full : Full) → k.steps ≤ i.steps → IsFull layout key i j made full → IsFull layout key k j made full
-full_before layout key k i j made Nodes low l = lacks_so layout j.pass j.failed j.failed i.steps k.steps (nodes_among made) l (all_earlier (IsAnothers layout j.pass (nodes_among made) l.locked) a_node layout.nodes j.failed k.steps i.steps low l.missed)
+full_before layout key k i j made Nodes low l = lacks_so layout j.pass j.failed j.failed i.steps k.steps (nodes_among made) l (λ Whose r. missed_earlier Whose j.failed r k.steps i.steps low)
 full_before layout key k i j made Leaves low f = λ q within room. let (step, from, at) = f q within room in (step, (omega (arith, low, from)), at)
 
 full_cause : (layout : Layout) (key : Key) (k j : Known) (made : List Rec) (full : Full) → IsFull layout key k j made full → IsAttemptCause layout key k j made (refusal_of full)

@@ -34,9 +34,9 @@ use Rattle.rowex_table.specs.Rights.{IsClaimed}
 use Rattle.rowex_table.specs.Runs.{Runs, silent}
 use Rattle.rowex_table.specs.Seats.{TableView, SeatView}
 use Rattle.rowex_table.proofs.Made.ActsLeave.{act_leaves}
-use Rattle.rowex_records.specs.Claims.{AllMissed, AllMissedFrom, HasMissedSince, IsAnothers}
+use Rattle.rowex_records.specs.Claims.{AllMissedFrom, HasMissedSince, IsAnothers}
 use Rattle.rowex_records.proofs.Claims.{among_held}
-use Rattle.rowex_writing.specs.build.Walks.{HasNoOther}
+use Rattle.rowex_writing.specs.build.Walks.{HasNoOther, IsOwnOf}
 use Rattle.rowex_records.specs.Records.{HoldsJust}
 use Rattle.rowex_writing.specs.build.Building.{IsBuilding}
 use Rattle.rowex_writing.specs.build.Changes.{HasChanged, LacksNodes}
@@ -90,16 +90,22 @@ module _ {G : Type 0} (table : TableView) (becomes : G → Event → G → Type 
   pub missed_there : (Whose : Rec → Option ℕ → Type 0) (r : Rec) (since : ℕ) (a b : SeatView × G) → HasRun table becomes a b → HasMissedSince Whose a.0.known.failed r since → HasMissedSince Whose b.0.known.failed r since
   missed_there Whose r since a b run (step, late, (act, word, tells, one, has)) = (step, late, (act, word, tells, one, run_failed run.acts a b run.steps _ has))
 
-  pub missed_on : (Whose : Rec → Option ℕ → Type 0) (kind : ℕ → Rec) (n since : ℕ) (a b : SeatView × G) → HasRun table becomes a b → AllMissed Whose kind n a.0.known.failed since → AllMissed Whose kind n b.0.known.failed since
-  missed_on Whose kind n since a b run missed = λ q low. missed_there Whose (kind q) since a b run (missed q low)
-
   pub missed_from_on : (Whose : Rec → Option ℕ → Type 0) (words since : ℕ) (a b : SeatView × G) → HasRun table becomes a b → AllMissedFrom Whose table.layout words a.0.known.failed since → AllMissedFrom Whose table.layout words b.0.known.failed since
   missed_from_on Whose words since a b run missed = λ q low room. missed_there Whose (a_leaf q) since a b run (missed q low room)
 
 -- what these failed steps tell of the lack of a node record, others may
-pub lacks_so : (layout : Layout) (q : ℕ) (tried more : List Failed) (since earlier : ℕ) (own : List Rec) (l : LacksNodes layout q tried since own) → AllMissed (IsAnothers layout q own l.locked) a_node layout.nodes more earlier →
-    LacksNodes layout q more earlier own
-lacks_so layout q tried more since earlier own l missed = record { locked = l.locked; few = l.few; most = l.most; apart = l.apart; low = l.low; missed = missed }
+pub lacks_so : (layout : Layout) (q : ℕ) (tried more : List Failed) (since earlier : ℕ) (own : List Rec) → LacksNodes layout q tried since own →
+    ((Whose : Rec → Option ℕ → Type 0) (r : Rec) → HasMissedSince Whose tried r since → HasMissedSince Whose more r earlier) → LacksNodes layout q more earlier own
+lacks_so layout q tried more since earlier own l so = record {
+  locked = l.locked;
+  few = l.few;
+  most = l.most;
+  apart = l.apart;
+  low = l.low;
+  missed = λ n below. so (IsAnothers layout q own l.locked) (a_node n) (l.missed n below);
+  own_is = λ i d below. so (IsOwnOf q) (get_or own i d) (l.own_is i d below);
+  once = l.once;
+}
 
 -- ---- records that are given up
 reverse_more : {X : Type 0} (x : X) (xs : List X) → reverse (x ∷ xs) ≡ reverse xs ++ x ∷ []

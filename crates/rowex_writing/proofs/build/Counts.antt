@@ -1,9 +1,11 @@
 -- How long parts of a list are, how many steps claims make, and how many node records are made.
-use Rattle.std.proofs.Common.{◌≡◌, ℕ, zero, suc, ◌+◌, ◌*◌, ◌≤◌, List, [], ◌∷◌, ◌++◌, length, Err, Ok, Result, refl, ap, arith}
-use Rattle.std.specs.Prelude.{Contains}
+use Rattle.std.proofs.Common.{◌≡◌, inl, inr, ℕ, zero, suc, ◌+◌, ◌*◌, ◌≤◌, List, [], ◌∷◌, ◌++◌, length, Err, Ok, Result, refl, ap, arith}
+use Rattle.std.specs.Prelude.{All, Contains}
+use Rattle.std.proofs.lemmas.List.Elements.{All-cons, All-head, All-nil, All-tail}
 use Rattle.record_words.specs.declared.records.Rec.{Rec}
 use Rattle.record_words.specs.declared.records.Rec.TheVariants.{Node as a_node, Leaf as a_leaf}
 use Rattle.record_words.specs.declared.layout.Layout.{Layout}
+use Rattle.versions.specs.Trades.{AreApart, IsOneOf}
 use Rattle.tries.specs.Content.{Item}
 use Rattle.rowex_core.specs.declared.event.Act.TheVariants.{Claim, LoadState}
 use Rattle.rowex_core.specs.declared.event.Event.{Event}
@@ -54,6 +56,24 @@ among_nodes (a_node m ∷ made) n (zero, low, is) = (0, omega arith, is)
 among_nodes (a_node m ∷ made) n (suc i, low, is) = let (at, within, same) = among_nodes made n (i, omega arith, is) in (suc at, omega arith, same)
 among_nodes (a_leaf m ∷ made) n (zero, low, is) = absurd cc
 among_nodes (a_leaf m ∷ made) n (suc i, low, is) = among_nodes made n (i, omega arith, is)
+
+-- what holds of each record holds of each node's
+pub all_nodes : (P : Rec → Type 0) (made : List Rec) → All P made → All P (nodes_among made)
+all_nodes P [] all = All-nil P
+all_nodes P (a_node n ∷ made) all = All-cons P (a_node n) (nodes_among made) (All-head P (a_node n) made all) (all_nodes P made (All-tail P (a_node n) made all))
+all_nodes P (a_leaf n ∷ made) all = all_nodes P made (All-tail P (a_leaf n) made all)
+
+of_nodes : (r : Rec) (made : List Rec) → IsOneOf r (nodes_among made) → IsOneOf r made
+of_nodes r [] h = h
+of_nodes r (a_node n ∷ made) (inl e) = inl e
+of_nodes r (a_node n ∷ made) (inr h) = inr (of_nodes r made h)
+of_nodes r (a_leaf n ∷ made) h = inr (of_nodes r made h)
+
+-- records that stand in a list once do so among its nodes'
+pub nodes_apart : (made : List Rec) → AreApart made → AreApart (nodes_among made)
+nodes_apart [] apart = tt
+nodes_apart (a_node n ∷ made) apart = ((λ h. apart.0 (of_nodes (a_node n) made h)), nodes_apart made apart.1)
+nodes_apart (a_leaf n ∷ made) apart = nodes_apart made apart.1
 
 -- a deed takes these steps at least, with or without a record
 pub deed_least : {X E : Type 0} (layout : Layout) (locks : ℕ) (r : Result X E) → leaf_steps layout + levels_steps layout locks ≤ deed_steps layout locks r

@@ -53,7 +53,7 @@ use Rattle.publish_laws.specs.Ending.{IsAtRest}
 use Rattle.publish_laws.proofs.Loops.{later_transitive}
 use Rattle.rowex_writing.specs.declared.plan.Full.TheVariants.{Nodes, Leaves}
 use Rattle.rowex_writing.specs.build.Building.{FitsAbove, HasLeafMade, IsLockedSpan, HasRisenTo, gone_unless_whole, gone_with_way, newcomer_of}
-use Rattle.rowex_records.specs.Claims.{AllMissed, IsAnothers, IsAnothersBut}
+use Rattle.rowex_records.specs.Claims.{HasMissedSince, IsAnothers, IsAnothersBut}
 use Rattle.rowex_records.proofs.Claims.{anothers_among, missed_so}
 use Rattle.rowex_writing.specs.build.Changes.{HasNoRoom, IsFull, IsPutChange, LacksLeaves, LacksNodes, MayPublishOnceReady}
 use Rattle.rowex_writing.specs.locks.Checks.{HasTakenSpan, IsChecked}
@@ -63,7 +63,7 @@ use Rattle.rowex_writing.specs.build.Growths.{HasNumber, MayGrow}
 use Rattle.rowex_writing.specs.plan.Counts.{most_nodes}
 use Rattle.rowex_writing.specs.locks.Locks.{AreNodes, HasLockedSpan, Works, numbers_of, span_numbers, HasRun}
 use Rattle.rowex_writing.specs.build.Putting.{IsSpotAbove, AreInTable}
-use Rattle.rowex_writing.specs.build.Walks.{nodes_among}
+use Rattle.rowex_writing.specs.build.Walks.{HasMissedEach, IsOwnOf, nodes_among}
 use Rattle.rowex_writing.specs.declared.plan.job.Job.{Job}
 use Rattle.rowex_writing.specs.declared.plan.Span.{Span}
 use Rattle.rowex_writing.specs.declared.build.remaking.NewLeaf.{NewLeaf}
@@ -71,8 +71,8 @@ use Rattle.rowex_writing.proofs.build.growing.Growing.{IsGrowPlan, chain_at, fou
 use Rattle.rowex_writing.proofs.build.Above.{locked_at}
 use Rattle.rowex_writing.proofs.build.rising.Rising.{gone_more}
 use Rattle.rowex_writing.proofs.locks.Runs.{works_run}
-use Rattle.rowex_writing.proofs.build.Counts.{among_nodes}
-use Rattle.rowex_writing.proofs.build.Changes.{lacks_so, missed_from_on, missed_on}
+use Rattle.rowex_writing.proofs.build.Counts.{all_nodes, among_nodes, nodes_apart}
+use Rattle.rowex_writing.proofs.build.Changes.{lacks_so, missed_from_on, missed_there}
 use Rattle.rowex_writing.proofs.locks.Spans.{locked_same, numbers_few}
 use Rattle.rowex_writing.proofs.locks.Locks.{works_later}
 use Rattle.rowex_writing.proofs.build.Staging.{risen_subtrie}
@@ -184,15 +184,17 @@ range_records layout way b d nodes = node_records layout (slice_range way b d) (
 -- The pass has locked a span, and has made two node records for each node of it and one, or fewer.
 pub lacks_nodes : (layout : Layout) (k j : Known) (way : List PathNode) (span : Span) (made : List Rec) (since : ℕ) → AreNodes layout way → HasLockedSpan k way span → j.locks ≡ k.locks →
     span.end ≤ span.len → span.len ≤ length way → span.len ≤ span.end - 1 + most_nodes → length (nodes_among made) ≤ 2 * (span.len - span.end) + 1 →
-    AllMissed (IsAnothersBut layout j made) a_node layout.nodes j.failed since → LacksNodes layout j.pass j.failed since (nodes_among made)
-lacks_nodes layout k j way span made since nodes taken same order within depth few missed = record {
+    HasMissedEach layout since j made → LacksNodes layout j.pass j.failed since (nodes_among made)
+lacks_nodes layout k j way span made since nodes taken same order within depth few each = record {
   locked = numbers;
   few = omega (arith, size, few, order);
   most = omega (arith, size, depth);
   apart = taken.nodes.1;
   low = All-map (λ n. n < layout.nodes) (λ (s : PathNode). s.number) (slice_range way (span.end - 1) span.len) (range_nodes layout way (span.end - 1) span.len nodes);
   missed = λ q low. missed_so (IsAnothersBut layout j made) (IsAnothers layout j.pass (nodes_among made) numbers) j.failed (a_node q) since
-      (λ by. anothers_among layout j.pass made (nodes_among made) (nodes_of j.locks) numbers (a_node q) by (among_nodes made q) held) (missed q low);
+      (λ by. anothers_among layout j.pass made (nodes_among made) (nodes_of j.locks) numbers (a_node q) by (among_nodes made q) held) (each.missed q low);
+  own_is = all_nodes (λ r. HasMissedSince (IsOwnOf j.pass) j.failed r since) made each.own;
+  once = nodes_apart made each.apart;
 }
   where
     numbers : List ℕ
@@ -209,8 +211,7 @@ lacks_nodes layout k j way span made since nodes taken same order within depth f
 full_on : {G : Type 0} (table : TableView) (becomes : G → Event → G → Type 0) (key : Key) (k : Known) (b c : SeatView × G) (made : List Rec) (full : Full) → c.0.known.pass ≡ b.0.known.pass → HasRun table becomes b c → IsFull table.layout key k b.0.known made full → IsFull table.layout key k c.0.known made full
 full_on table becomes key k b c made Nodes same run l =
     subst (λ q. LacksNodes table.layout q c.0.known.failed k.steps (nodes_among made)) (sym same)
-    (lacks_so table.layout b.0.known.pass b.0.known.failed c.0.known.failed k.steps k.steps (nodes_among made) l
-    (missed_on table becomes (IsAnothers table.layout b.0.known.pass (nodes_among made) l.locked) a_node table.layout.nodes k.steps b c run l.missed))
+    (lacks_so table.layout b.0.known.pass b.0.known.failed c.0.known.failed k.steps k.steps (nodes_among made) l (λ Whose r. missed_there table becomes Whose r k.steps b c run))
 full_on table becomes key k b c made Leaves same run missed =
     subst (λ q. LacksLeaves table.layout key q c.0.known.failed k.steps) (sym same)
     (missed_from_on table becomes (IsAnothers table.layout b.0.known.pass [] []) (words_for (length key)) k.steps b c run missed)
@@ -226,7 +227,7 @@ no_room table becomes key a b c made full goes works rest missed = record {
 -- nor since an earlier version
 pub full_since : (layout : Layout) (key : Key) (a b c : Known) (made : List Rec) (full : Full) → a.steps ≤ b.steps → IsFull layout key b c made full → IsFull layout key a c made full
 full_since layout key a b c made Nodes count l =
-    lacks_so layout c.pass c.failed c.failed b.steps a.steps (nodes_among made) l (λ q low. (let (step, late, miss) = l.missed q low in (step, le_trans count late, miss)))
+    lacks_so layout c.pass c.failed c.failed b.steps a.steps (nodes_among made) l (λ Whose r missed. (let (step, late, miss) = missed in (step, le_trans count late, miss)))
 full_since layout key a b c made Leaves count missed = λ q low room. (let (step, late, miss) = missed q low room in (step, le_trans count late, miss))
 
 -- ---- the leaf's record is made

@@ -1,10 +1,11 @@
 -- The walk of a change over the records of a kind: how it begins, goes on and ends.
-use Rattle.std.proofs.Common.{◌≡◌, ◌⊎◌, inl, inr, ℕ, suc, ◌+◌, ◌-◌, ◌<◌, ◌≤◌, List, [], ◌∷◌, ◌++◌, Bool, true, false, nat_lt, Option, length, get_or, if◌then◌else◌, refl, sym, ap, subst, ◌∙◌, arith, Some, None}
-use Rattle.std.specs.Prelude.{Contains, map}
-use Rattle.std.proofs.lemmas.Bool.{ltb-true, ltb-false, lt-ltb, le-ltb}
+use Rattle.std.proofs.Common.{◌≡◌, ◌⊎◌, inl, inr, ℕ, suc, ◌+◌, ◌-◌, ◌<◌, ◌≤◌, List, [], ◌∷◌, ◌++◌, Bool, true, false, nat_eq, nat_lt, Option, length, get_or, if◌then◌else◌, refl, sym, ap, subst, ◌∙◌, arith, le_refl, Some, None}
+use Rattle.std.specs.Prelude.{All, Contains, map}
+use Rattle.std.proofs.lemmas.Bool.{eqb-false, eqb-true, ltb-true, ltb-false, lt-ltb, le-ltb}
 use Rattle.std.proofs.lemmas.List.{get_or_default}
-use Rattle.std.proofs.lemmas.List.Elements.{Contains-append_left, Contains-push}
+use Rattle.std.proofs.lemmas.List.Elements.{All-contains, Contains-append_left, Contains-push}
 use Rattle.record_words.specs.declared.layout.Layout.{Layout}
+use Rattle.record_words.specs.State.{state_word}
 use Rattle.record_words.specs.declared.records.Rec.{Rec}
 use Rattle.record_words.specs.declared.records.Rec.TheVariants.{Node as a_node}
 use Rattle.rowex_core.specs.declared.event.Act.TheVariants.{LoadState}
@@ -14,19 +15,27 @@ use Rattle.rowex_core.specs.declared.known.Known.{Known}
 use Rattle.rowex_core.specs.declared.known.Locked.{Locked}
 use Rattle.rowex_core.specs.declared.known.Owned.{Owned}
 use Rattle.rowex_core.specs.declared.known.Holding.TheVariants.{Held}
-use Rattle.rowex_core.specs.Cores.{HasRecord}
+use Rattle.versions.specs.Core.{Fate, Held as HeldBy}
+use Rattle.versions.specs.Trades.{AreApart}
+use Rattle.rowex_core.specs.Cores.{Core, HasRecord, holder_of}
+use Rattle.rowex_core.specs.Events.{word_of}
+use Rattle.rowex_core.specs.Knowing.{failed_with}
+use Rattle.rowex_core.specs.Sharing.{IsOwned}
+use Rattle.rowex_core.specs.Words.{lock_of, tag_of}
+use Rattle.rowex_core.specs.declared.known.FailedAct.TheVariants.{LoadState as a_load}
+use Rattle.rowex_core.proofs.Sharing.Owning.{knows_all}
 use Rattle.rowex_table.specs.Made.{Made, nodes_of}
-use Rattle.rowex_table.specs.Rights.{IsClaimed}
+use Rattle.rowex_table.specs.Rights.{IsClaimed, OwnsAs}
 use Rattle.rowex_table.specs.Runs.{Steps}
 use Rattle.rowex_table.specs.Seats.{TableView, SeatView}
 use Rattle.rowex_table.proofs.Runs.{does_count}
 use Rattle.rowex_records.specs.Claims.{AllMissed, Claims, FindsNone, HasMissedSince, IsAnothers, IsAnothersBut, IsAnothersTo, MissesOne, begin_of, claiming, records_had, wrapped}
 use Rattle.rowex_records.proofs.Claims.{anothers_among, anothers_before, held_misses, missed_among, missed_earlier, missed_so, turned_to}
-use Rattle.rowex_records.proofs.Claims.Making.{looks_one}
+use Rattle.rowex_records.proofs.Claims.Making.{counted, looks_one}
 use Rattle.rowex_writing.specs.declared.build.kept.Build.{Build}
 use Rattle.rowex_writing.specs.build.Building.{IsBuilding}
 use Rattle.rowex_writing.specs.locks.Going.{WorksOn}
-use Rattle.rowex_writing.specs.build.Walks.{HasNoOther, HasWalked, IsClaimWalk, Makes}
+use Rattle.rowex_writing.specs.build.Walks.{HasMissedEach, HasNoOther, HasWalked, IsClaimWalk, IsOwnOf, Makes}
 use Rattle.rowex_writing.proofs.build.Changes.{made_alone, made_held, made_records, run_failed}
 use Rattle.rowex_writing.proofs.locks.Going.{goes_more, goes_none}
 use Rattle.rowex_writing.proofs.build.Building.{miss_on, steps_rise}
@@ -121,11 +130,21 @@ walk_stays layout since k j made more next left same locks later failed kept w =
 
 -- where all have been tried, each was found not free, if those that are made were
 pub walk_ends : (layout : Layout) (since : ℕ) (k : Known) (made : List Rec) (next left : ℕ) → left ≡ 0 → ((r : Rec) → Contains made r → HasMissedSince (IsAnothersBut layout k made) k.failed r since) →
-    IsClaimWalk layout since k made next left → AllMissed (IsAnothersBut layout k made) a_node layout.nodes k.failed since
-walk_ends layout since k made next left none looked w q low =
-    let (i, within, is) = turned_to layout.nodes w.begin q w.low low in
-    let all = w.count in
-    subst (λ z. HasMissedSince (IsAnothersBut layout k made) k.failed (a_node z) since) is (elim (w.each i (omega arith)) [ inl missed ↦ missed | inr has ↦ looked _ has ])
+    All (λ r. HasMissedSince (IsOwnOf k.pass) k.failed r since) made → AreApart made → IsClaimWalk layout since k made next left → HasMissedEach layout since k made
+walk_ends layout since k made next left none looked own apart w = record { missed = each; own = own; apart = apart }
+  where
+    each : AllMissed (IsAnothersBut layout k made) a_node layout.nodes k.failed since
+    each q low =
+        let (i, within, is) = turned_to layout.nodes w.begin q w.low low in
+        let all = w.count in
+        subst (λ z. HasMissedSince (IsAnothersBut layout k made) k.failed (a_node z) since) is (elim (w.each i (omega arith)) [ inl missed ↦ missed | inr has ↦ looked _ has ])
+
+-- what was found the pass's own was found so since an earlier step
+pub own_as : (k j : Known) (failed : List Failed) (made more : List Rec) (since later : ℕ) → j.pass ≡ k.pass → made ≡ more → since ≤ later → All (λ r. HasMissedSince (IsOwnOf k.pass) failed r later) made →
+    All (λ r. HasMissedSince (IsOwnOf j.pass) failed r since) more
+own_as k j failed made more since later pass same early all =
+    subst (λ q. All (λ r. HasMissedSince (IsOwnOf q) failed r since) more) (sym pass)
+    (subst (λ (l : List Rec). All (λ r. HasMissedSince (IsOwnOf k.pass) failed r since) l) same (λ i d low. missed_earlier (IsOwnOf k.pass) failed (get_or made i d) since later early (all i d low)))
 
 module _ {G : Type 0} (table : TableView) (becomes : G → Event → G → Type 0) where
   pub walk_on : (since : ℕ) (a b : SeatView × G) (made more : List Rec) (next left : ℕ) → WorksOn table becomes a b → ((r : Rec) → Contains made r → Contains more r)
@@ -229,23 +248,52 @@ module _ {G : Type 0} (table : TableView) (becomes : G → Event → G → Type 
 pub look_record : (table : TableView) (a : SeatView) (made : List Rec) (news : List Made) → IsBuilding table a made news → (index : ℕ) (d : Rec) → index < length made → HasRecord table.layout (get_or made index d)
 look_record table a made news building index d low = made_records table a made news building index d low
 
+module _ {G : Type 0} (table : TableView) (becomes : G → Event → G → Type 0) where
+  -- a load of what the pass holds finds that it is its own
+  own_missed : (r : Rec) (words : List ℕ) (word : ℕ) (a b : SeatView × G) → OwnsAs a.0.known r Held words → Steps table becomes (LoadState r word) a b →
+      HasMissedSince (IsOwnOf a.0.known.pass) b.0.known.failed r a.0.known.steps
+  own_missed r words word a b has step = go (nat_eq word 0) refl step.event.learned_is
+    where
+      c : Core
+      c = step.event.core
+
+      q : ℕ
+      q = a.0.known.pass
+
+      held : c.fate r ≡ HeldBy q
+      held = (All-contains (IsOwned q c) a.0.known.own (record { rec = r; holding = Held; words = words }) (knows_all c a.0.known step.event.knows).own has).0
+
+      go : (free : Bool) → nat_eq word 0 ≡ free → b.0.known ≡ counted a.0.known (if free then a.0.known else failed_with a.0.known (a_load (holder_of (c.fate r))) (word_of r 0) word) →
+          HasMissedSince (IsOwnOf q) b.0.known.failed r a.0.known.steps
+      go true is learned =
+          let same : 0 ≡ state_word (tag_of (lock_of c r) (HeldBy q)) = sym (eqb-true word 0 is) ∙ (step.event.legal.1.1 ∙ ap (λ (f : Fate). state_word (tag_of (lock_of c r) f)) held) in
+          absurd (omega (arith, same))
+      go false is learned =
+          let by : Option ℕ = holder_of (c.fate r) in
+          let some = eqb-false word 0 is in
+          let x : Failed = record { act = a_load by; location = word_of r 0; word = word; step = a.0.known.steps } in
+          (a.0.known.steps, le_refl a.0.known.steps, (a_load by, word, ap holder_of held, omega (arith, some), subst (λ (l : List Failed). Contains l x) (sym (ap (λ (z : Known). z.failed) learned)) (0, omega arith, refl)))
+
 module _ {G : Type 0} (table : TableView) (becomes : G → Event → G → Type 0) (made : List Rec) where
   -- those before this index were found not free, by a load of each
   pub record HasLooked (index : ℕ) (a b : SeatView × G) : Type 0 where
     pub goes : WorksOn table becomes a b
     pub own : b.0.known.own ≡ a.0.known.own
     pub seen : (i : ℕ) (d : Rec) → i < index → HasMissedSince (IsAnothersBut table.layout a.0.known made) b.0.known.failed (get_or made i d) a.0.known.steps
+    pub mine : (i : ℕ) (d : Rec) → i < index → HasMissedSince (IsOwnOf a.0.known.pass) b.0.known.failed (get_or made i d) a.0.known.steps
     pub few : b.0.known.steps ≤ a.0.known.steps + index
 
   pub looked_none : (a : SeatView × G) → HasLooked 0 a a
-  looked_none a = record { goes = goes_none table becomes a; own = refl; seen = λ i d low. absurd (omega arith); few = omega arith }
+  looked_none a = record { goes = goes_none table becomes a; own = refl; seen = λ i d low. absurd (omega arith); mine = λ i d low. absurd (omega arith); few = omega arith }
 
   pub looked_more : (index : ℕ) (a m b : SeatView × G) → index < length made → (news : List Made) → IsBuilding table a.0 made news → HasLooked index a m → (d : Rec) (word : ℕ) →
       Steps table becomes (LoadState (get_or made index d) word) m b → HasLooked (index + 1) a b
   looked_more index a m b low news building looked d word step = record {
     goes = goes_more table becomes a m b looked.goes goes;
     own = one.own ∙ looked.own;
-    seen = seen;
+    seen = each Whose looked.seen tells;
+    mine = each (IsOwnOf a.0.known.pass) looked.mine (subst (λ q. HasMissedSince (IsOwnOf q) b.0.known.failed r m.0.known.steps) looked.goes.stays.0.pass
+        (own_missed table becomes r held.0 word m b still step));
     few = (let few = looked.few in let count = does_count table becomes claiming (LoadState r word ∷ []) m b (looks_one table becomes r word m b step) in omega arith);
   }
     where
@@ -255,8 +303,11 @@ module _ {G : Type 0} (table : TableView) (becomes : G → Event → G → Type 
       held : IsClaimed a.0.known r
       held = (made_held table a.0 made news building).each index d low
 
+      still : OwnsAs m.0.known r Held held.0
+      still = subst (λ l. Contains l (record { rec = r; holding = Held; words = held.0 })) (sym looked.own) held.2
+
       one : MissesOne table becomes r m b
-      one = held_misses table becomes r held.0 word m b (subst (λ l. Contains l (record { rec = r; holding = Held; words = held.0 })) (sym looked.own) held.2) step
+      one = held_misses table becomes r held.0 word m b still step
 
       goes : WorksOn table becomes m b
       goes = miss_on table becomes r m b one
@@ -267,28 +318,33 @@ module _ {G : Type 0} (table : TableView) (becomes : G → Event → G → Type 
       Whose : Rec → Option ℕ → Type 0
       Whose = IsAnothersBut table.layout a.0.known made
 
-      tells : HasMissedSince Whose (one.failed ∷ []) r m.0.known.steps
-      tells = missed_so (IsAnothersTo table.layout m.0.known) Whose (one.failed ∷ []) r m.0.known.steps
+      tells : HasMissedSince Whose b.0.known.failed r m.0.known.steps
+      tells = subst (λ l. HasMissedSince Whose l r m.0.known.steps) (sym one.failed_is)
+          (missed_among Whose (one.failed ∷ []) m.0.known.failed r m.0.known.steps (missed_so (IsAnothersTo table.layout m.0.known) Whose (one.failed ∷ []) r m.0.known.steps
           (λ by h. anothers_among table.layout a.0.known.pass (records_had a.0.known) made (nodes_of a.0.known.locks) (nodes_of a.0.known.locks) r by (made_alone table a.0 made news building r) (λ n there. there)
-          (anothers_before table.layout a.0.known m.0.known r by looked.goes.stays.0.pass looked.own looked.goes.stays.1 h)) one.tells
+          (anothers_before table.layout a.0.known m.0.known r by looked.goes.stays.0.pass looked.own looked.goes.stays.1 h)) one.tells))
 
-      seen : (i : ℕ) (e : Rec) → i < index + 1 → HasMissedSince Whose b.0.known.failed (get_or made i e) a.0.known.steps
-      seen i e below = go (nat_lt i index) refl
+      -- what was found of those before, and is found of this one
+      each : (Their : Rec → Option ℕ → Type 0) → ((i : ℕ) (e : Rec) → i < index → HasMissedSince Their m.0.known.failed (get_or made i e) a.0.known.steps) → HasMissedSince Their b.0.known.failed r m.0.known.steps →
+          (i : ℕ) (e : Rec) → i < index + 1 → HasMissedSince Their b.0.known.failed (get_or made i e) a.0.known.steps
+      each Their before now i e below = go (nat_lt i index) refl
         where
-          go : (t : Bool) → nat_lt i index ≡ t → HasMissedSince Whose b.0.known.failed (get_or made i e) a.0.known.steps
+          go : (t : Bool) → nat_lt i index ≡ t → HasMissedSince Their b.0.known.failed (get_or made i e) a.0.known.steps
           go true is =
-              let (since, late, (act, found, tells, some, has)) = looked.seen i e (ltb-true i index is) in
+              let (since, late, (act, found, tells, some, has)) = before i e (ltb-true i index is) in
               (since, late, (act, found, tells, some, run_failed table becomes goes.acts m b goes.steps _ has))
           go false is =
               let past = ltb-false i index is in
               let same : index ≡ i = omega arith in
-              subst (λ z. HasMissedSince Whose b.0.known.failed (get_or made z e) a.0.known.steps) same
-              (subst (λ z. HasMissedSince Whose b.0.known.failed z a.0.known.steps) (get_or_default made index d e low)
-              (subst (λ l. HasMissedSince Whose l r a.0.known.steps) (sym one.failed_is)
-              (missed_among Whose (one.failed ∷ []) m.0.known.failed r a.0.known.steps (missed_earlier Whose (one.failed ∷ []) r a.0.known.steps m.0.known.steps later tells))))
+              subst (λ z. HasMissedSince Their b.0.known.failed (get_or made z e) a.0.known.steps) same
+              (subst (λ z. HasMissedSince Their b.0.known.failed z a.0.known.steps) (get_or_default made index d e low)
+              (missed_earlier Their b.0.known.failed r a.0.known.steps m.0.known.steps later now))
 
   pub looked_all : (index : ℕ) (a b : SeatView × G) → length made ≤ index → HasLooked index a b → (r : Rec) → Contains made r → HasMissedSince (IsAnothersBut table.layout a.0.known made) b.0.known.failed r a.0.known.steps
   looked_all index a b all looked r (i, low, is) = subst (λ z. HasMissedSince (IsAnothersBut table.layout a.0.known made) b.0.known.failed z a.0.known.steps) is (looked.seen i r (omega arith))
+
+  pub looked_own : (index : ℕ) (a b : SeatView × G) → length made ≤ index → HasLooked index a b → All (λ r. HasMissedSince (IsOwnOf a.0.known.pass) b.0.known.failed r a.0.known.steps) made
+  looked_own index a b all looked = λ i d low. looked.mine i d (omega (arith, all, low))
 
 -- ---- what makes records
 module _ {G : Type 0} {table : TableView} {becomes : G → Event → G → Type 0} where

@@ -16,7 +16,7 @@ use Rattle.rowex_core.specs.declared.known.Known.{Known}
 use Rattle.rowex_table.specs.Made.{Made, IsLater}
 use Rattle.rowex_table.specs.Publishes.{Publishes}
 use Rattle.rowex_table.specs.Seats.{TableView, SeatView}
-use Rattle.rowex_records.specs.Claims.{AllMissed, AllMissedFrom, IsAnothers}
+use Rattle.rowex_records.specs.Claims.{AllMissed, AllMissedFrom, HasMissedSince, IsAnothers}
 use Rattle.publish_laws.specs.Ending.{IsAtRest}
 use Rattle.publish_laws.specs.Stages.{HasLoaded, HasReady}
 use Rattle.rowex_writing.specs.build.Building.{IsBuilding}
@@ -24,7 +24,7 @@ use Rattle.rowex_writing.specs.plan.Counts.{most_nodes}
 use Rattle.rowex_writing.specs.locks.Jobs.{IsJobFrom}
 use Rattle.rowex_writing.specs.plan.Plans.{change}
 use Rattle.rowex_writing.specs.plan.Planned.{IsPlanned}
-use Rattle.rowex_writing.specs.build.Walks.{nodes_among}
+use Rattle.rowex_writing.specs.build.Walks.{IsOwnOf, nodes_among}
 use Rattle.rowex_writing.specs.declared.plan.Aim.{Aim}
 use Rattle.rowex_writing.specs.declared.plan.job.Job.{Job}
 use Rattle.rowex_writing.specs.declared.plan.Deed.{Deed}
@@ -65,8 +65,9 @@ pub record HasChanged (k j : Known) (x : Change) (was : Option ℕ) : Type 0 whe
   pub fits : Fits (map_of before) x
   pub was_held : value_at (map_of before) x.key ≡ was
 
--- Pass q lacks a node record: each was found not free, by a failed step since `since`. Its own were at most two for each node that it had
--- locked, and one. Each locked one was nobody's. Any other was another pass's, or nobody's, in the tree or retired.
+-- Pass q lacks a node record beside these of its own: each was found not free, by a failed step since `since`. Its own, each listed once, were
+-- found to be so. They were at most two for each node that it had locked, and one. Each locked one was nobody's. Any other was another pass's, or
+-- nobody's, and then in the tree or retired.
 pub record LacksNodes (layout : Layout) (q : ℕ) (failed : List Failed) (since : ℕ) (own : List Rec) : Type 0 where
   pub locked : List ℕ
   pub few : length own ≤ 2 * length locked + 1
@@ -74,6 +75,8 @@ pub record LacksNodes (layout : Layout) (q : ℕ) (failed : List Failed) (since 
   pub apart : AreApart locked
   pub low : All (λ n. n < layout.nodes) locked
   pub missed : AllMissed (IsAnothers layout q own locked) a_node layout.nodes failed since
+  pub own_is : All (λ r. HasMissedSince (IsOwnOf q) failed r since) own
+  pub once : AreApart own
 
 -- Pass q lacks a leaf record with room for the key: each was found not free, by a failed step since `since`. None was its own. Another pass
 -- had it, or nobody, and then it was in the tree or retired.

@@ -1,8 +1,9 @@
 -- The walk of a change over the node records, with which its claims go on one after the other, and what they make.
-use Rattle.std.specs.Prelude.{◌≡◌, ◌⊎◌, ℕ, ◌+◌, ◌*◌, ◌<◌, ◌≤◌, List, [], ◌∷◌, length, Contains, Bool, true, false, MatchOption, Option, Some, None}
+use Rattle.std.specs.Prelude.{◌≡◌, ◌⊎◌, ℕ, ◌+◌, ◌*◌, ◌<◌, ◌≤◌, All, List, [], ◌∷◌, length, Contains, Bool, true, false, MatchOption, Option, Some, None}
 use Rattle.record_words.specs.declared.layout.Layout.{Layout}
 use Rattle.record_words.specs.declared.records.Rec.{Rec}
 use Rattle.record_words.specs.declared.records.Rec.TheVariants.{Node as a_node, Leaf as a_leaf}
+use Rattle.versions.specs.Trades.{AreApart}
 use Rattle.rowex_core.specs.declared.event.Event.{Event}
 use Rattle.rowex_core.specs.declared.known.Known.{Known}
 use Rattle.rowex_records.specs.Claims.{AllMissed, HasMissedSince, IsAnothersBut, begin_of, records_had, wrapped}
@@ -46,20 +47,30 @@ nodes_among [] = []
 nodes_among (a_node n ∷ made) = a_node n ∷ nodes_among made
 nodes_among (a_leaf n ∷ made) = nodes_among made
 
+-- A record is this pass's own.
+abbrev pub IsOwnOf : ℕ → Rec → Option ℕ → Type 0
+IsOwnOf q r by = by ≡ Some q
+
+-- Each node record was found not free, by a failed step since `since`. None was the pass's own but these, which it has made. Each of these is
+-- listed once, and was found to be its own.
+pub record HasMissedEach (layout : Layout) (since : ℕ) (k : Known) (made : List Rec) : Type 0 where
+  pub missed : AllMissed (IsAnothersBut layout k made) a_node layout.nodes k.failed since
+  pub own : All (λ r. HasMissedSince (IsOwnOf k.pass) k.failed r since) made
+  pub apart : AreApart made
+
 -- 1 if there is no result, since a record is lacking then, and else 0
 abbrev pub lacking : {X : Type 0} → Option X → ℕ
 lacking None = 1
 lacking (Some x) = 0
 
 -- The pass goes on under its locks and makes at most so many records. It makes at most so many steps, and two for each number that it tries
--- on its walk. If there is no answer, each node record was found not free since the walk began. None was its own but those that it has
--- made.
+-- on its walk. If there is no answer, each node record was found not free since the walk began (`HasMissedEach`). Before and after are the
+-- seat, the gate and what is built.
 pub record Makes {G X : Type 0} (most steps : ℕ) (table : TableView) (becomes : G → Event → G → Type 0) (a b : (SeatView × G) × Build)
     (answer : Option X) : Type 0 where
   pub goes : WorksOn table becomes a.0 b.0
   pub more : length b.1.made.items ≤ length a.1.made.items + most
   pub nodes : length (nodes_among b.1.made.items) + lacking answer ≤ length (nodes_among a.1.made.items) + most
   pub walk : (since : ℕ) → HasWalked table.layout since a.0.0.known a.1 →
-      MatchOption answer (AllMissed (IsAnothersBut table.layout b.0.0.known b.1.made.items) a_node table.layout.nodes b.0.0.known.failed since)
-      (λ x. HasWalked table.layout since b.0.0.known b.1)
+      MatchOption answer (HasMissedEach table.layout since b.0.0.known b.1.made.items) (λ x. HasWalked table.layout since b.0.0.known b.1)
   pub few : b.0.0.known.steps + 2 * b.1.left_nodes ≤ a.0.0.known.steps + 2 * a.1.left_nodes + steps + looks_for b.1 answer

@@ -1,6 +1,6 @@
 //! Node records that a change makes: of one node, or of both halves of a cut. Their claims share one walk.
 
-ghost use Rattle.std.specs.Prelude.{◌≡◌, ◌<◌, ◌≤◌, ◌+◌, ◌*◌, ◌++◌, ◌∷◌, [], List, ℕ, length, MatchOption, None, false, true, Contains};
+ghost use Rattle.std.specs.Prelude.{◌≡◌, ◌<◌, ◌≤◌, ◌+◌, ◌*◌, ◌++◌, ◌∷◌, [], All, List, ℕ, length, MatchOption, None, false, true, Contains};
 ghost use Rattle.record_words.specs.Node.{CanTakeLeaf, HasNodeWords, node_words};
 ghost use Rattle.record_words.specs.Reading.{IsSpelling};
 ghost use Rattle.rowex_table.specs.Made.{Made};
@@ -13,9 +13,9 @@ ghost use Rattle.compound_node.specs.Nodes.{IsBuiltFrom, NodeView, piece};
 ghost use Rattle.insert_cases.specs.declared.growth.Grown.TheVariants.{Two};
 ghost use Rattle.rowex_writing.specs.plan.Counts.{node_steps};
 ghost use Rattle.rowex_writing.specs.locks.Going.{WorksOn};
-ghost use Rattle.rowex_writing.specs.build.Walks.{Makes, HasWalked, IsClaimWalk, looks_for, looks_unless};
+ghost use Rattle.rowex_writing.specs.build.Walks.{HasMissedEach, HasWalked, IsClaimWalk, IsOwnOf, Makes, looks_for, looks_unless};
 ghost use Rattle.record_words.specs.declared.records.Rec.TheVariants.{Node as a_node};
-ghost use Rattle.rowex_records.specs.Claims.{AllMissed, HoldsOneMore, HasMissedSince, IsAnothersBut};
+ghost use Rattle.rowex_records.specs.Claims.{HoldsOneMore, HasMissedSince, IsAnothersBut};
 ghost use Rattle.publish_laws.specs.Lone.{HasFree};
 ghost use Rattle.record_words.specs.declared.records.Rec.{Rec as Record};
 
@@ -178,7 +178,7 @@ pub(crate) fn claim_node<G: Gate>(
         (λ number. (number < table.now.layout.nodes) × HoldsOneMore (a_node number) seat.old.known seat.new.known) }
     ensures made { build.new.made.items ≡ build.old.made.items }
     ensures walk { (since : ℕ) → HasWalked table.now.layout since seat.old.known build.old → MatchOption result
-        (AllMissed (IsAnothersBut table.now.layout seat.new.known build.new.made.items) a_node table.now.layout.nodes seat.new.known.failed since)
+        (HasMissedEach table.now.layout since seat.new.known build.new.made.items)
         (λ number. IsClaimWalk table.now.layout since seat.new.known (build.old.made.items ++ a_node number ∷ [])
         build.new.nodes.next build.new.left_nodes) }
     ensures few { seat.new.known.steps + 2 * build.new.left_nodes ≤ seat.old.known.steps + 2 * build.old.left_nodes + 2 + looks_for build.new result }
@@ -208,7 +208,7 @@ pub(crate) fn leaves_free_node<G: Gate>(
     ensures own { seat.new.known.own ≡ seat.old.known.own }
     ensures made { build.new.made.items ≡ build.old.made.items }
     ensures walk { result ≡ false → (since : ℕ) → HasWalked table.now.layout since seat.old.known build.old →
-        AllMissed (IsAnothersBut table.now.layout seat.new.known build.new.made.items) a_node table.now.layout.nodes seat.new.known.failed since }
+        HasMissedEach table.now.layout since seat.new.known build.new.made.items }
     ensures few { seat.new.known.steps ≤ seat.old.known.steps + 2 * build.old.left_nodes + 1 + looks_unless result build.new }
     ensures free { result ≡ true → HasFree table.now.layout seat.new }
 {
@@ -247,13 +247,14 @@ fn is_last_free<G: Gate>(
     table.load_state(seat, gate, Rec::Node(number)) == pack_state(Tag::Free)
 }
 
-/// Loads the states of the records `made`, which the pass has made, so that each was found not free.
+/// Loads the states of the records `made`, which the pass has made, so that each was found not free, and its own.
 fn load_states<G: Gate>(table: &HotTable, seat: &mut TableSeat, gate: &mut G, made: &[Rec])
     requires building { (news : List Made) × IsBuilding table.now seat.old made.now news }
     ensures goes { WorksOn table.now G.becomes (seat.old, gate.old) (seat.new, gate.new) }
     ensures own { seat.new.known.own ≡ seat.old.known.own }
     ensures seen { (r : Record) → Contains made.now r →
         HasMissedSince (IsAnothersBut table.now.layout seat.old.known made.now) seat.new.known.failed r seat.old.known.steps }
+    ensures mine { All (λ r. HasMissedSince (IsOwnOf seat.old.known.pass) seat.new.known.failed r seat.old.known.steps) made.now }
     ensures few { seat.new.known.steps ≤ seat.old.known.steps + length made.now }
 {
     for index in 0..made.len() {

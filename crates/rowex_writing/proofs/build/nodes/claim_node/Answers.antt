@@ -4,10 +4,10 @@ use Rattle.record_words.specs.declared.records.Rec.{Rec as Record}
 use Rattle.rowex_records.specs.Claims.{HasMissedSince, IsAnothersBut}
 use Rattle.rowex_records.proofs.Claims.{missed_earlier}
 use Rattle.rowex_writing.specs.build.Building.{IsBuilding}
-use Rattle.rowex_writing.proofs.build.Changes.{made_alone}
+use Rattle.rowex_writing.proofs.build.Changes.{made_alone, made_held}
 use Rattle.rowex_writing.proofs.locks.Going.{goes_more}
 use Rattle.rowex_writing.proofs.build.Building.{building_on}
-use Rattle.rowex_writing.proofs.build.Walks.{missed_as, walk_on, walk_ends}
+use Rattle.rowex_writing.proofs.build.Walks.{missed_as, own_as, walk_on, walk_ends}
 use Rattle.rowex_writing.proofs.build.nodes.claim_node.Goals as goal
 
 pub load_states-requires : goal.load_states-requires
@@ -37,6 +37,9 @@ returns-clause-walk g c = λ since w.
     (missed_earlier Whose c.load_states.new.seat.known.failed r since c.claim_node_on_walk-claimed.new.seat.known.steps early
     (subst (λ z. HasMissedSince (IsAnothersBut c.args.table.now.layout c.claim_node_on_walk-claimed.new.seat.known z) c.load_states.new.seat.known.failed r c.claim_node_on_walk-claimed.new.seat.known.steps) c.as_slice.ensures.value
     (c.load_states.ensures.seen r (subst (λ z. Contains z r) (sym c.as_slice.ensures.value) has)))))
+    (own_as c.claim_node_on_walk-claimed.new.seat.known c.load_states.new.seat.known c.load_states.new.seat.known.failed _ made since c.claim_node_on_walk-claimed.new.seat.known.steps c.load_states.ensures.goes.stays.0.pass c.as_slice.ensures.value early
+    c.load_states.ensures.mine)
+    (made_held c.args.table.now c.args.seat.now made news b).apart
     (walk_on c.args.table.now g.G.Gate.becomes since (c.claim_node_on_walk-claimed.new.seat, c.claim_node_on_walk-claimed.new.gate) (c.load_states.new.seat, c.load_states.new.gate) c.args.build.now.made.items c.args.build.now.made.items
     c.claim_node_on_walk-claimed.new.hint.next c.claim_node_on_walk-claimed.new.left c.load_states.ensures.goes (λ r has. has) walk)
 

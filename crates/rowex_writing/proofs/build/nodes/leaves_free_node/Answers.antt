@@ -7,10 +7,10 @@ use Rattle.rowex_records.specs.Claims.{HasMissedSince, IsAnothersBut}
 use Rattle.rowex_records.proofs.Claims.{missed_earlier}
 use Rattle.rowex_writing.specs.build.Building.{IsBuilding}
 use Rattle.rowex_writing.proofs.build.Counts.{free_count, none_count}
-use Rattle.rowex_writing.proofs.build.Changes.{made_alone}
+use Rattle.rowex_writing.proofs.build.Changes.{made_alone, made_held}
 use Rattle.rowex_writing.proofs.locks.Going.{goes_more, seat_of}
 use Rattle.rowex_writing.proofs.build.Building.{building_on, free_on, free_own, none_on}
-use Rattle.rowex_writing.proofs.build.Walks.{alone_still, missed_as, walk_ends, walk_on, walk_out}
+use Rattle.rowex_writing.proofs.build.Walks.{alone_still, missed_as, own_as, walk_ends, walk_on, walk_out}
 use Rattle.rowex_writing.proofs.build.nodes.leaves_free_node.Goals as goal
 
 pub is_last_free-requires : goal.is_last_free-requires
@@ -77,6 +77,9 @@ returns g c =
           (missed_earlier Whose c.load_states.new.seat.known.failed r since c.find_free_record.new.seat.known.steps early
           (subst (λ z. HasMissedSince (IsAnothersBut table.layout c.find_free_record.new.seat.known z) c.load_states.new.seat.known.failed r c.find_free_record.new.seat.known.steps) c.as_slice-2.ensures.value
           (c.load_states.ensures.seen r (subst (λ z. Contains z r) (sym c.as_slice-2.ensures.value) has)))))
+          (own_as c.find_free_record.new.seat.known c.load_states.new.seat.known c.load_states.new.seat.known.failed _ made since c.find_free_record.new.seat.known.steps c.load_states.ensures.goes.stays.0.pass c.as_slice-2.ensures.value early
+          c.load_states.ensures.mine)
+          (made_held table c.args.seat.now made news b).apart
           (walk_on table g.G.Gate.becomes since (c.find_free_record.new.seat, c.find_free_record.new.gate) (c.load_states.new.seat, c.load_states.new.gate) made made next 0 c.load_states.ensures.goes (λ r has. has) walk);
       few = omega (arith, few, c.is_last_free.ensures.few, c.load_states.ensures.few, ap length c.as_slice-2.ensures.value);
     }

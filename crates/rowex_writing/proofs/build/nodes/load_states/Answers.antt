@@ -1,6 +1,6 @@
 -- None yet, one more, and all of them.
 use Rattle.std.proofs.Common.{arith}
-use Rattle.rowex_writing.proofs.build.Walks.{looked_none, looked_more, looked_all, look_record}
+use Rattle.rowex_writing.proofs.build.Walks.{looked_none, looked_more, looked_all, looked_own, look_record}
 use Rattle.rowex_writing.proofs.locks.Going.{seat_of}
 use Rattle.rowex_writing.proofs.build.nodes.load_states.Goals as goal
 
@@ -20,3 +20,6 @@ loop-index-preserved g c =
 
 pub returns-clause-seen : goal.returns-clause-seen
 returns-clause-seen g c = looked_all c.args.table.now g.G.Gate.becomes c.args.made.now c.loop-index.index (c.args.seat.now, c.args.gate.now) (c.loop-index.seat, c.loop-index.gate) (omega (arith, c.loop-index-test.false)) c.loop-index.invariant
+
+pub returns-clause-mine : goal.returns-clause-mine
+returns-clause-mine g c = looked_own c.args.table.now g.G.Gate.becomes c.args.made.now c.loop-index.index (c.args.seat.now, c.args.gate.now) (c.loop-index.seat, c.loop-index.gate) (omega (arith, c.loop-index-test.false)) c.loop-index.invariant
