@@ -6,6 +6,7 @@ ghost use Rattle.key_bits.specs.Key.{IsKey};
 ghost use Rattle.key_bits.specs.declared.TheConstants.{MAX_BYTES};
 
 use crate::head::PairHead;
+use crate::heads::{Heads, put_head};
 use crate::keys::{KeyBytes, copy_key};
 use crate::pairs::Pairs;
 use key_bits::MAX_BYTES;
@@ -22,6 +23,7 @@ pub struct Filling {
     bytes: Vec<u8>,
     used: usize,
     heads: Vec<PairHead>,
+    count: usize,
     room: usize,
 }
 
@@ -34,10 +36,10 @@ impl Model for Filling {
 
     ghost Value = { Filled };
 
-    ghost view = { λ f. record { pairs = unpacked f.heads.items (take f.used f.bytes.items); room = f.room } };
+    ghost view = { λ f. record { pairs = unpacked (take f.count f.heads.items) (take f.used f.bytes.items); room = f.room } };
 
-    ghost invariant = { λ f. ArePacked f.heads.items (take f.used f.bytes.items) × (f.used + MAX_BYTES * f.room ≤ length f.bytes.items)
-        × (vec_len f.heads + f.room ≤ vec_capacity f.heads) };
+    ghost invariant = { λ f. ArePacked (take f.count f.heads.items) (take f.used f.bytes.items) × (f.used + MAX_BYTES * f.room ≤ length f.bytes.items)
+        × (f.count + f.room ≤ length f.heads.items) };
 }
 
 impl Filling {
@@ -50,10 +52,12 @@ impl Filling {
         let empty = Pairs::new(*pairs.bytes.allocator());
         let Pairs { bytes, heads } = mem::replace(pairs, empty);
         let (bytes, used) = bytes.into_parts();
+        let (heads, count) = heads.into_parts();
         Filling {
             bytes,
             used,
             heads,
+            count,
             room: 0,
         }
     }
@@ -67,9 +71,11 @@ impl Filling {
             bytes,
             used,
             heads,
+            count,
             room: _,
         } = self;
         let bytes = KeyBytes::of_parts(bytes, used);
+        let heads = Heads::of_parts(heads, count);
         *pairs = Pairs { bytes, heads };
     }
 
@@ -78,7 +84,7 @@ impl Filling {
     pub fn len(&self) -> usize
         ensures { result ≡ length self.now.pairs }
     {
-        self.heads.len()
+        self.count
     }
 
     /// Takes out all pairs. The memory stays.
@@ -87,7 +93,7 @@ impl Filling {
         ensures { self.new.pairs ≡ [] }
     {
         self.used = 0;
-        self.heads.clear();
+        self.count = 0;
     }
 
     /// Makes room for `count` more pairs. An error if memory is refused.
@@ -100,9 +106,10 @@ impl Filling {
     {
         self.room = 0;
         let alloc = *self.heads.allocator();
-        if self.heads.capacity() - self.heads.len() < count {
+        if self.heads.len() - self.count < count {
             let (heads, has_room) = add_heads_room(
                 mem::replace(&mut self.heads, Vec::new(alloc)),
+                self.count,
                 count,
             );
             self.heads = heads;
@@ -133,10 +140,8 @@ impl Filling {
     {
         copy_key(&mut self.bytes, self.used, places, length);
         self.used += length;
-        self.heads.push_reserved(PairHead {
-            count: length as u8,
-            value,
-        });
+        put_head(&mut self.heads, self.count, length as u8, value);
+        self.count += 1;
         self.room -= 1;
     }
 }
@@ -144,11 +149,18 @@ impl Filling {
 /// Returns `heads` with room for `count` more, and whether memory was there for it. Never inline, so that callers have less code; and by
 /// value, so that a caller's list still lies in registers.
 #[inline(never)]
-fn add_heads_room(mut heads: Vec<PairHead>, count: usize) -> (Vec<PairHead>, bool)
-    ensures same { result.0.items ≡ heads.items }
-    ensures room { IsTrue result.1 → vec_len result.0 + count ≤ vec_capacity result.0 }
+fn add_heads_room(mut heads: Vec<PairHead>, used: usize, count: usize) -> (Vec<PairHead>, bool)
+    requires { used ≤ length heads.items }
+    ensures same { take used result.0.items ≡ take used heads.items }
+    ensures long { used ≤ length result.0.items }
+    ensures room { IsTrue result.1 → used + count ≤ length result.0.items }
 {
-    let has_room = heads.reserve(count).is_ok();
+    if heads.reserve(count).is_err() {
+        return (heads, false);
+    }
+    let all = heads.capacity();
+    let none = PairHead { count: 0, value: 0 };
+    let has_room = heads.resize(all, none).is_ok();
     (heads, has_room)
 }
 

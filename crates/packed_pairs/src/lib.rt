@@ -9,6 +9,7 @@ mod back;
 mod direction;
 mod filling;
 mod head;
+mod heads;
 mod iter;
 mod keys;
 mod pairs;

@@ -4,7 +4,7 @@ ghost use Rattle.std.specs.Prelude.{◌≡◌, ◌≢◌, ◌<◌, ◌^◌, [], 
 ghost use Rattle.key_bits.specs.Key.{IsKey};
 ghost use Rattle.packed_pairs.specs.Last.{IsLastKey};
 
-use crate::head::PairHead;
+use crate::heads::Heads;
 use crate::iter::{Iter, key_from_bytes};
 use crate::keys::KeyBytes;
 use key_bits::Key;
@@ -17,7 +17,7 @@ use std::marker::Model;
 #[derive(Drop)]
 pub struct Pairs {
     pub(crate) bytes: KeyBytes,
-    pub(crate) heads: Vec<PairHead>,
+    pub(crate) heads: Heads,
 }
 
 impl Model for Pairs {
@@ -26,9 +26,9 @@ impl Model for Pairs {
 
     ghost Value = { List (List ℕ × ℕ) };
 
-    ghost view = { λ p. unpacked p.heads.items p.bytes };
+    ghost view = { λ p. unpacked p.heads p.bytes };
 
-    ghost invariant = { λ p. ArePacked p.heads.items p.bytes };
+    ghost invariant = { λ p. ArePacked p.heads p.bytes };
 }
 
 impl Pairs {
@@ -38,7 +38,7 @@ impl Pairs {
     {
         Pairs {
             bytes: KeyBytes::new(alloc),
-            heads: Vec::new(alloc),
+            heads: Heads::new(alloc),
         }
     }
 
@@ -62,14 +62,14 @@ impl Pairs {
         ensures { self.new ≡ [] }
     {
         self.bytes.truncate(0);
-        self.heads.clear();
+        self.heads.truncate(0);
     }
 
     /// The key of the last pair; `None` if there is no pair.
     pub fn last_key(&self) -> Option<Key>
         ensures { MatchOption result (self.now ≡ []) (IsLastKey self.now) }
     {
-        let (head, _) = self.heads.split_last()?;
+        let (head, _) = self.heads.as_slice().split_last()?;
         let (_, key) = self
             .bytes
             .as_slice()
@@ -82,7 +82,7 @@ impl Pairs {
         ensures pairs { result ≡ self.now }
         ensures keys { All (λ pair. IsKey pair.0) self.now }
     {
-        Iter::of(self.bytes.as_slice(), &self.heads)
+        Iter::of(self.bytes.as_slice(), self.heads.as_slice())
     }
 
     /// These pairs, with keys that are values of their own. An error if memory is refused; it needs none if there is no pair.

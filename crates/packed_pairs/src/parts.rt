@@ -12,15 +12,16 @@ impl Pairs {
         ensures heads { result.0.now ≡ map packed_head self.now }
         ensures keys { result.1.now ≡ keys_in self.now }
     {
-        (&self.heads, self.bytes.as_slice())
+        (self.heads.as_slice(), self.bytes.as_slice())
     }
 
     /// Takes out the last pair, if there is one. The list keeps its memory.
     fn pop_pair(&mut self)
         ensures { self.new ≡ take (pred (length self.old)) self.old }
     {
-        if let Some(head) = self.heads.pop() {
-            self.bytes.truncate(self.bytes.len() - head.count as usize);
+        match self.heads.pop() {
+            None => (),
+            Some(head) => self.bytes.truncate(self.bytes.len() - head.count as usize),
         }
     }
 

@@ -1,10 +1,10 @@
--- Bytes that are copied behind others.
+-- Items that are copied behind others.
 use Rattle.std.proofs.Common.{◌≡◌, ℕ, ◌+◌, ◌≤◌, List, ◌++◌, length, take, take-take, ap, sym, ◌∙◌, arith, length-append}
 use Rattle.std.proofs.Math.Seq.{take-append-add}
 use Rattle.std.proofs.lemmas.List.{length-take-le, take-append-le}
 
--- the first bytes, and behind them those that were copied to the room there
-pub copied : (used size count : ℕ) (all room rest behind places : List ℕ) → used ≤ length all → used + size ≤ count → size ≤ length room → take size room ≡ take size places →
+-- the first items, and behind them those that were copied to the room there
+pub copied : {A : Type 0} (used size count : ℕ) (all room rest behind places : List A) → used ≤ length all → used + size ≤ count → size ≤ length room → take size room ≡ take size places →
     take (used + size) (take count (take used all ++ (room ++ rest) ++ behind)) ≡ take used all ++ take size places
 copied used size count all room rest behind places low within long same =
     let front = take used all in

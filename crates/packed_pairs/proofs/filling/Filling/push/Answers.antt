@@ -12,16 +12,16 @@ long n places fits = sym (length-take-le n places fits)
 pub invariant_of-self : goal.invariant_of-self
 invariant_of-self c =
     let (packed, room, heads) = c.self.invariant in let some = c.requires.room in let fits = c.requires.fits in let told = c.told-places in
-    let same = c.copy_key.ensures.long in let len = c.push_reserved.ensures.len in let cap = c.push_reserved.ensures.capacity in
+    let same = c.copy_key.ensures.long in let more = c.put_head.ensures.long in
     let has : 0 < c.self.inside.room = subst (λ (f : Filled). 0 < f.room) (sym c.self.view_is) some in (
-      rw (c.push_reserved.ensures.items, c.copy_key.ensures.copied)
-          (packed-push (take c.args.length c.args.places.now) _ (long c.args.length c.args.places.now (omega (arith, fits, told))) c.self.inside.heads.items (take c.self.inside.used c.self.inside.bytes.items) packed c.requires.key),
+      rw (c.put_head.ensures.put, c.copy_key.ensures.copied)
+          (packed-push (take c.args.length c.args.places.now) _ (long c.args.length c.args.places.now (omega (arith, fits, told))) (take c.self.inside.count c.self.inside.heads.items) (take c.self.inside.used c.self.inside.bytes.items) packed c.requires.key),
       omega (arith, room, has, same, fits),
-      omega (arith, heads, has, len, cap),
+      omega (arith, heads, has, more),
     )
 
 pub returns-clause-pairs : goal.returns-clause-pairs
 returns-clause-pairs c =
     let fits = c.requires.fits in let told = c.told-places in
-    rw (c.push_reserved.ensures.items, c.copy_key.ensures.copied, ← c.self.view_is)
-    (unpacked-push (take c.args.length c.args.places.now) _ (long c.args.length c.args.places.now (omega (arith, fits, told))) c.self.inside.heads.items (take c.self.inside.used c.self.inside.bytes.items) c.self.invariant.0)
+    rw (c.put_head.ensures.put, c.copy_key.ensures.copied, ← c.self.view_is)
+    (unpacked-push (take c.args.length c.args.places.now) _ (long c.args.length c.args.places.now (omega (arith, fits, told))) (take c.self.inside.count c.self.inside.heads.items) (take c.self.inside.used c.self.inside.bytes.items) c.self.invariant.0)

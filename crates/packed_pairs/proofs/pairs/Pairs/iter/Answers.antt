@@ -6,4 +6,4 @@ use Rattle.packed_pairs.proofs.Packed.{all_keys}
 use Rattle.packed_pairs.proofs.pairs.Pairs.iter.Goals as goal
 
 pub returns-clause-keys : goal.returns-clause-keys
-returns-clause-keys c = subst (λ pairs. All (λ pair. IsKey pair.0) pairs) c.self.view_is (all_keys c.self.inside.heads.items c.self.inside.bytes c.self.invariant)
+returns-clause-keys c = subst (λ pairs. All (λ pair. IsKey pair.0) pairs) c.self.view_is (all_keys c.self.inside.heads c.self.inside.bytes c.self.invariant)
