@@ -1,5 +1,5 @@
 -- What a walk has seen at the places that come next.
-use Rattle.std.specs.Prelude.{◌≡◌, ℕ, ◌+◌, ◌<◌, ◌≤◌, List, length, slice_index, Bool, IfSome, option_to_list, false, true}
+use Rattle.std.specs.Prelude.{◌≡◌, ℕ, ◌+◌, ◌^◌, ◌<◌, ◌≤◌, List, length, slice_index, Bool, IfSome, option_to_list, false, true}
 use Rattle.compound_node.specs.declared.entries.Entry.TheVariants.{Leaf, Node}
 use Rattle.insert_cases.specs.declared.choice.PathNode.{PathNode}
 use Rattle.record_words.specs.declared.layout.Layout.{Layout}
@@ -15,12 +15,25 @@ use Rattle.rowex_scanning.specs.Scanning.{HasTaken, IsBound, IsBoundWalk, IsWalk
 use Rattle.rowex_scanning.specs.Tallies.{Tally}
 use Rattle.rowex_scanning.specs.declared.ahead.Ahead.{Ahead}
 use Rattle.packed_pairs.specs.declared.direction.Direction.{Direction}
+use Rattle.packed_pairs.specs.declared.direction.Direction.TheVariants.{Upwards, Downwards}
+use Rattle.rowex_scanning.specs.declared.direction.Slots.{Slots}
 use Rattle.rowex_scanning.specs.declared.scan.Verdict.{Verdict}
 use Rattle.rowex_scanning.specs.declared.scan.Verdict.TheVariants.{Further, Past as IsPast, Full}
 
 -- the node has entries in all slots that are to come
 abbrev pub HasPlaces : Direction → Known → ℕ → PathNode → Type 0
 HasPlaces d k m top = (i : ℕ) → i < to_come d top.count top.slot → HasPlace k m top.number top.height (place_ahead d top.slot i)
+
+-- What leads from a slot to the next one in a direction, modulo 256.
+abbrev pub slot_step : Direction → ℕ
+slot_step Upwards = 1
+slot_step Downwards = 255
+
+-- These are the slots of a node with so many entries from this gap on, behind the first of them.
+pub record AreSlots (d : Direction) (count gap entries : ℕ) (slots : Slots) : Type 0 where
+  pub small : (count < 2 ^ 8) × (gap ≤ count)
+  pub step : slots.step ≡ slot_step d
+  pub next : entries < to_come d count gap → slots.next ≡ place_ahead d gap entries
 
 -- how many entries a look ahead has loaded: those of leaves, and that of the node that follows
 abbrev pub entries_ahead : Ahead → ℕ

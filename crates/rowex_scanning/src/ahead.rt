@@ -7,7 +7,7 @@ ghost use Rattle.rowex_table.specs.Rule.{IsLeafRecordAt};
 ghost use Rattle.rowex_table.specs.Seats.{HasTouched, IsSeatOf};
 ghost use Rattle.version_laws.specs.Directions.{to_come as to_come_of};
 
-use crate::direction::{entries_to_come, slot_ahead};
+use crate::direction::{Slots, entries_to_come};
 use crate::scan::Scan;
 use crate::sinks::Tallies;
 use compound_node::Entry;
@@ -97,8 +97,9 @@ pub(crate) fn load_entries_ahead<G: Gate, S: Tallies>(
     // Taken out of the loop by hand: each load in it is an atomic one, behind which the compiler reads memory again.
     let (direction, top) = (scan.range.direction, *top);
     let mut leaves = [0; MOST_AHEAD as usize];
+    let mut slots = Slots::to_come(direction, top);
     for index in 0..count {
-        let slot = slot_ahead(direction, top, index);
+        let slot = slots.next_slot();
         match load_entry(scan.table, seat, gate, node, slot) {
             Entry::Node { number, .. } => {
                 return Ahead {

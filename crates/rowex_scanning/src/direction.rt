@@ -1,9 +1,11 @@
 //! In which order a scan passes slots and keys, by its direction. In a node, gap `i` is before the entry in slot `i`, and the last gap
 //! behind all entries.
 
-ghost use Rattle.std.specs.Prelude.{◌≡◌, ◌<◌, ◌≤◌, IsTrue, false};
+ghost use Rattle.std.specs.Prelude.{◌≡◌, ◌+◌, ◌<◌, ◌≤◌, ℕ, IsTrue, false};
 ghost use Rattle.key_bits.specs.Key.{IsKey};
+ghost use Rattle.rowex_scanning.specs.Ahead.{AreSlots};
 ghost use Rattle.tries.specs.Keys.{IsAtMost, IsBefore};
+ghost use Rattle.packed_pairs.specs.declared.direction.Direction.{Direction as Way};
 ghost use Rattle.version_laws.specs.Directions.{IsEarlier, IsNoLater};
 ghost use Rattle.version_laws.specs.Directions.{gap_behind as gap_behind_of, first_gap as first_gap_of, gap_after as gap_after_of, place_ahead as place_ahead_of, to_come as to_come_of};
 
@@ -45,6 +47,48 @@ pub(crate) fn slot_ahead(direction: Direction, top: PathNode, entries: u8) -> u8
     match direction {
         Direction::Upwards => top.slot + entries,
         Direction::Downwards => top.slot - entries - 1,
+    }
+}
+
+/// The slots of a node's entries, one after another as a walk comes to them. A step leads from each to the next one, modulo 256, so that none
+/// asks for the direction.
+#[derive(Drop)]
+pub(crate) struct Slots {
+    /// The slot of the next entry, if one is to come.
+    next: u8,
+    /// What is added to a slot for the one behind: 1 upwards, and 255 downwards.
+    step: u8,
+}
+
+impl Slots {
+    /// The slots of the entries that are to come in the node `top`, one at least, for a walk in the direction `direction`.
+    #[inline(always)]
+    pub(crate) fn to_come(direction: Direction, top: PathNode) -> Slots
+        requires fits { top.slot ≤ top.count }
+        requires come { 0 < to_come_of direction top.count top.slot }
+        ensures { AreSlots direction top.count top.slot 0 result }
+    {
+        match direction {
+            Direction::Upwards => Slots {
+                next: top.slot,
+                step: 1,
+            },
+            Direction::Downwards => Slots {
+                next: top.slot - 1,
+                step: 255,
+            },
+        }
+    }
+
+    /// The slot of the next entry.
+    #[inline(always)]
+    pub(crate) fn next_slot(&mut self) -> u8
+        ensures { (direction : Way) (count gap entries : ℕ) → entries < to_come_of direction count gap → AreSlots direction count gap entries self.old →
+            (result ≡ place_ahead_of direction gap entries) × AreSlots direction count gap (entries + 1) self.new }
+    {
+        let slot = self.next;
+        self.next = slot.wrapping_add(self.step);
+        slot
     }
 }
 

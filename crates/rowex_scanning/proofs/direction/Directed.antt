@@ -1,12 +1,20 @@
 -- Gaps and ranges, for both directions.
-use Rattle.std.proofs.Common.{◌≡◌, ◌⊎◌, inl, inr, ℕ, suc, ◌+◌, ◌-◌, ◌<◌, ◌≤◌, List, length, refl, arith}
+use Rattle.std.proofs.Common.{◌≡◌, ◌⊎◌, inl, inr, ℕ, suc, ◌+◌, ◌-◌, ◌%◌, ◌^◌, ◌<◌, ◌≤◌, List, length, refl, arith}
 use Rattle.versions.specs.State.{Past}
 use Rattle.version_laws.specs.Directions.{IsEarlier, IsNoLater, IsScanBy, first_gap, first_key, gap_after, gap_before, gap_behind, last_key, place_ahead, to_come}
 use Rattle.version_laws.specs.Scan.{Pair, Range, IsInRange, Frame as Stage}
 use Rattle.packed_pairs.specs.declared.direction.Direction.{Direction}
 use Rattle.packed_pairs.specs.declared.direction.Direction.TheVariants.{Upwards, Downwards}
+use Rattle.rowex_scanning.specs.Ahead.{slot_step}
 use Rattle.rowex_scanning.specs.Scanning.{limited}
 use Rattle.tries.specs.Keys.{Key, IsBefore}
+
+-- ---- slots
+-- a step leads to the slot behind
+pub slot_next : (d : Direction) (count gap i next step : ℕ) → count < 2 ^ 8 → gap ≤ count → next ≡ place_ahead d gap i → step ≡ slot_step d → i + 1 < to_come d count gap →
+    (next + step) % 2 ^ 8 ≡ place_ahead d gap (i + 1)
+slot_next Upwards count gap i next step small fits there is come = omega (arith, small, fits, there, is, come)
+slot_next Downwards count gap i next step small fits there is come = omega (arith, small, fits, there, is, come)
 
 -- ---- gaps
 pub before_fits : (d : Direction) (place count : ℕ) → place < count → gap_before d place ≤ count

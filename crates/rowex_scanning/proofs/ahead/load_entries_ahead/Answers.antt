@@ -1,5 +1,5 @@
 -- No entry, and one more: it leads to a leaf or to a node.
-use Rattle.std.proofs.Common.{ℕ, ◌+◌, ◌∙◌, arith, rules, subst, sym}
+use Rattle.std.proofs.Common.{◌≡◌, ℕ, ◌+◌, ◌∙◌, arith, rules, subst, sym}
 use Rattle.std.proofs.lemmas.List.{length-set}
 use Rattle.compound_node.specs.declared.entries.Entry.TheVariants.{Leaf, Node}
 use Rattle.rowex_table.specs.Seats.{SeatView}
@@ -9,16 +9,27 @@ use Rattle.rowex_reading.proofs.Seen.Naming.{entry_told, node_place}
 use Rattle.rowex_reading.proofs.Seen.{since_later}
 use Rattle.rowex_reading.proofs.Touching.{reads_touching, reads_untouched, touches_last}
 use Rattle.version_laws.specs.Scan.{IsPlaced}
-use Rattle.rowex_scanning.specs.Ahead.{HasPlaces}
+use Rattle.rowex_scanning.specs.Ahead.{AreSlots, HasPlaces}
 use Rattle.version_laws.specs.Directions.{place_ahead}
 use Rattle.rowex_scanning.proofs.ahead.Begins.{begins_there, leaf_begins, leaf_there, node_begins, node_there}
 use Rattle.rowex_scanning.proofs.taking.Passing.{ahead_later, ahead_more, loaded_at, places_later, starts_more}
 use Rattle.rowex_scanning.proofs.ahead.load_entries_ahead.Given as given
 use Rattle.rowex_scanning.proofs.ahead.load_entries_ahead.Goals as goal
-use Rattle.rowex_scanning.proofs.ahead.load_entries_ahead.Goals.{After-slot_ahead-slot, In-Leaf}
+use Rattle.rowex_scanning.proofs.ahead.load_entries_ahead.Goals.{After-next_slot-slot, In-Leaf}
+
+-- The slot is that of the next entry, and the slots go on behind it.
+slot_told : (g : given.Over) (c : After-next_slot-slot g) → (c.next_slot-slot.result ≡ place_ahead c.args.scan.now.range.now.direction c.args.top.now.slot c.loop-index.index) ×
+    AreSlots c.args.scan.now.range.now.direction c.args.top.now.count c.args.top.now.slot (c.loop-index.index + 1) c.next_slot-slot.new.self
+slot_told g c = c.next_slot-slot.ensures c.args.scan.now.range.now.direction c.args.top.now.count c.args.top.now.slot c.loop-index.index
+    (omega (arith, c.loop-index-test.true, c.min-count.ensures, c.entries_to_come.ensures)) c.loop-index.invariant.slots
+
+leaf_slot_told : (g : given.Over) (c : In-Leaf g) → (c.next_slot-slot.result ≡ place_ahead c.args.scan.now.range.now.direction c.args.top.now.slot c.loop-index.index) ×
+    AreSlots c.args.scan.now.range.now.direction c.args.top.now.count c.args.top.now.slot (c.loop-index.index + 1) c.next_slot-slot.new.self
+leaf_slot_told g c = c.next_slot-slot.ensures c.args.scan.now.range.now.direction c.args.top.now.count c.args.top.now.slot c.loop-index.index
+    (omega (arith, c.loop-index-test.true, c.min-count.ensures, c.entries_to_come.ensures)) c.loop-index.invariant.slots
 
 -- the node has an entry at the place
-has_place : (g : given.Over) (c : After-slot_ahead-slot g) (m : ℕ) → HasPlaces c.args.scan.now.range.now.direction c.args.seat.now.known m c.args.top.now →
+has_place : (g : given.Over) (c : After-next_slot-slot g) (m : ℕ) → HasPlaces c.args.scan.now.range.now.direction c.args.seat.now.known m c.args.top.now →
     HasPlace c.loop-index.seat.known m c.args.top.now.number c.args.top.now.height (place_ahead c.args.scan.now.range.now.direction c.args.top.now.slot c.loop-index.index)
 has_place g c m has = places_later c.args.scan.now.range.now.direction m c.args.top.now (reads_later c.loop-index.invariant.reads.2) has c.loop-index.index (omega (arith, c.loop-index-test.true, c.min-count.ensures, c.entries_to_come.ensures))
 
@@ -30,8 +41,8 @@ leaf_there_too g c m has = places_later c.args.scan.now.range.now.direction m c.
 leaf_placed : (g : given.Over) (c : In-Leaf g) (m : ℕ) → HasPlaces c.args.scan.now.range.now.direction c.args.seat.now.known m c.args.top.now →
     Sure c.load_entry.new.seat.known (λ s. IsPlaced s m c.args.top.now.number (place_ahead c.args.scan.now.range.now.direction c.args.top.now.slot c.loop-index.index) (Leaf c.in-Leaf.number))
 leaf_placed g c m has =
-    (loaded_at c.args.scan.now.range.now.direction m c.args.top.now c.loop-index.index c.slot_ahead-slot.result (Leaf c.in-Leaf.number) c.slot_ahead-slot.ensures (leaf_there_too g c m has)
-    (entry_told c.args.top.now.number c.find-node.result.rec c.find-node.ensures.rec c.loop-index.seat.known c.load_entry.new.seat.known c.slot_ahead-slot.result (Leaf c.in-Leaf.number) c.in-Leaf.ensures.entry)).1
+    (loaded_at c.args.scan.now.range.now.direction m c.args.top.now c.loop-index.index c.next_slot-slot.result (Leaf c.in-Leaf.number) (leaf_slot_told g c).0 (leaf_there_too g c m has)
+    (entry_told c.args.top.now.number c.find-node.result.rec c.find-node.ensures.rec c.loop-index.seat.known c.load_entry.new.seat.known c.next_slot-slot.result (Leaf c.in-Leaf.number) c.in-Leaf.ensures.entry)).1
 
 leaf_led : (g : given.Over) (c : In-Leaf g) (m : ℕ) → HasPlaces c.args.scan.now.range.now.direction c.args.seat.now.known m c.args.top.now → IsLedTo c.load_entry.new.seat.known m (Leaf c.in-Leaf.number)
 leaf_led g c m has =
@@ -54,6 +65,7 @@ loop-index-init g c = record {
   reads = (0, omega arith, reads_none (c.args.seat.now, c.args.gate.now));
   long = search rules;
   wide = search rules;
+  slots = c.to_come-slots.ensures;
   starts = λ i low. absurd (omega (arith, low));
   ahead = λ m has i low. absurd (omega (arith, low));
 }
@@ -62,8 +74,8 @@ pub load_entry-requires-clause-place : goal.load_entry-requires-clause-place
 load_entry-requires-clause-place g c = (
   c.requires.places.0,
   c.args.top.now.height,
-  node_place c.args.top.now.number c.find-node.result.rec c.find-node.ensures.rec c.loop-index.seat.known c.requires.places.0 c.args.top.now.height c.slot_ahead-slot.result
-      (rw c.slot_ahead-slot.ensures (has_place g (goal.at.load_entry-requires-clause-place g c).After-slot_ahead-slot c.requires.places.0 c.requires.places.1)),
+  node_place c.args.top.now.number c.find-node.result.rec c.find-node.ensures.rec c.loop-index.seat.known c.requires.places.0 c.args.top.now.height c.next_slot-slot.result
+      (rw (slot_told g (goal.at.load_entry-requires-clause-place g c).After-next_slot-slot).0 (has_place g (goal.at.load_entry-requires-clause-place g c).After-next_slot-slot c.requires.places.0 c.requires.places.1)),
 )
 
 pub find-node-requires : goal.find-node-requires
@@ -80,8 +92,8 @@ returns-in-Node-clause-reads g c = let (n, few, reads) = c.loop-index.invariant.
 pub returns-in-Node-clause-ahead : goal.returns-in-Node-clause-ahead
 returns-in-Node-clause-ahead g c = λ m has.
     let d = c.args.scan.now.range.now.direction in let top = c.args.top.now in let later = reads_later c.load_entry.ensures.reads in
-    let place = has_place g (goal.at.returns-in-Node-clause-ahead g c).After-slot_ahead-slot m has in
-    let (lower, placed) = loaded_at d m top c.loop-index.index c.slot_ahead-slot.result (Node c.in-Node.number c.in-Node.height) c.slot_ahead-slot.ensures place (entry_told c.args.top.now.number c.find-node.result.rec c.find-node.ensures.rec c.loop-index.seat.known c.load_entry.new.seat.known c.slot_ahead-slot.result (Node c.in-Node.number c.in-Node.height) c.in-Node.ensures.entry) in
+    let place = has_place g (goal.at.returns-in-Node-clause-ahead g c).After-next_slot-slot m has in
+    let (lower, placed) = loaded_at d m top c.loop-index.index c.next_slot-slot.result (Node c.in-Node.number c.in-Node.height) (slot_told g (goal.at.returns-in-Node-clause-ahead g c).After-next_slot-slot).0 place (entry_told c.args.top.now.number c.find-node.result.rec c.find-node.ensures.rec c.loop-index.seat.known c.load_entry.new.seat.known c.next_slot-slot.result (Node c.in-Node.number c.in-Node.height) c.in-Node.ensures.entry) in
     record { first = ahead_later d m top later c.loop-index.index c.loop-index.leaves (c.loop-index.invariant.ahead m has); node = (c.in-Node.height, lower, placed) }
 
 -- The touches of the leaf stand beside the load of its entry.
@@ -97,6 +109,7 @@ loop-index-preserved g c =
       reads = (n + 1, omega (arith, few), reads_trans before loaded);
       long = length-set c.loop-index.leaves c.loop-index.index c.in-Leaf.number ∙ i.long;
       wide = length-set c.loop-index.starts c.loop-index.index c.find-leaf.result.start ∙ i.wide;
+      slots = (leaf_slot_told g (goal.at.loop-index-preserved g c).In-Leaf).1;
       starts = starts_more c.args.scan.now.table.now.layout c.loop-index.index c.loop-index.leaves c.loop-index.starts c.in-Leaf.number c.find-leaf.result.start i.starts
           (omega (arith, i.long, c.loop-index-test.true, c.min-count.ensures, c.most_slots.ensures.most)) (omega (arith, i.wide, c.loop-index-test.true, c.min-count.ensures, c.most_slots.ensures.most))
           (begins_there c.args.scan.now.table.now.layout c.args.scan.now.origins.now.layout c.requires.origins c.in-Leaf.number c.find-leaf.result.start c.find-leaf.ensures.start);
