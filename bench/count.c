@@ -4,8 +4,9 @@
 
 enum { PAGE = 100, MOST_KEYS = 200000, MOST_CALLS = 20000 };
 
-/* The keys of the calls. */
+/* The keys of the calls, and the end of each range, behind which is no key. */
 static struct { uint8_t bytes[LONGEST]; size_t length; } keys_of_calls[MOST_CALLS];
+static uint8_t upto[HOT_MAX_KEY];
 
 static void call(hot_handle *handle, const char *kind, uint64_t number)
 {
@@ -14,7 +15,6 @@ static void call(hot_handle *handle, const char *kind, uint64_t number)
     static uint8_t bytes[PAGE * HOT_MAX_KEY];
     const uint8_t *key = keys_of_calls[number].bytes;
     size_t length = keys_of_calls[number].length, found;
-    uint8_t upto[HOT_MAX_KEY];
     uint64_t had;
     uint32_t more;
     switch (kind[0]) {
@@ -38,15 +38,12 @@ static void call(hot_handle *handle, const char *kind, uint64_t number)
         must(hot_get(handle, key, length, &had), HOT_FOUND);
         break;
     case 'c': /* half of the keys, on average */
-        memset(upto, 0xff, sizeof upto);
         must(hot_count(handle, key, length, upto, sizeof upto, &found), HOT_DONE);
         break;
     case 'p':
-        memset(upto, 0xff, sizeof upto);
         must(hot_scan_packed(handle, key, length, upto, sizeof upto, bytes, sizeof bytes, heads, PAGE, &found, &more), HOT_DONE);
         break;
     default:
-        memset(upto, 0xff, sizeof upto);
         must(hot_scan(handle, key, length, upto, sizeof upto, pairs, PAGE, &found, &more), HOT_DONE);
     }
 }
@@ -69,6 +66,7 @@ int main(int words, char **word)
     for (number = 0; number < MOST_CALLS; number++) {
         keys_of_calls[number].length = key_of(of, word[1][0] == 'i' ? keys + number : number, keys_of_calls[number].bytes);
     }
+    memset(upto, 0xff, sizeof upto);
     for (number = 0; number < calls; number++) {
         call(&handle, word[1], number);
     }
