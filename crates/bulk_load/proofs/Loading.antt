@@ -1,17 +1,15 @@
 -- The next leaf: that it may be taken, and what stays.
-use Rattle.std.proofs.Common.{◌≡◌, ◌≢◌, ◌⊎◌, inl, inr, ℕ, ◌+◌, ◌<◌, ◌≤◌, List, get_or, length, refl, ap, ap₂, sym, subst, ◌∙◌, arith}
+use Rattle.std.proofs.Common.{◌≡◌, ◌≢◌, inl, inr, ℕ, ◌<◌, List, get_or, length, refl, ap, ap₂, sym, subst, ◌∙◌, arith}
 use Rattle.std.specs.Vec.{vec_len}
 use Rattle.record_words.specs.declared.layout.Layout.{Layout}
-use Rattle.record_words.specs.Layout.{word_count}
 use Rattle.tries.specs.Content.{Item}
 use Rattle.tries.specs.Keys.{Key, IsParted}
 use Rattle.tries.specs.Tree.{Tree}
 use Rattle.record_words.specs.declared.records.Rec.TheVariants.{Leaf as a_leaf}
 use Rattle.bulk_load.specs.declared.builder.Builder.{Builder}
-use Rattle.bulk_load.specs.Loading.{CanJoin, CanPart, EndsInLeaf, HasCursors, HasNodesFor, HasSameFields, IsEmpty, IsLoading, IsNextLeaf, IsStackOf, IsTreeOf, KeepsLeaves, KeepsNodes, MayTakeNext, items_in}
+use Rattle.bulk_load.specs.Loading.{CanJoin, CanPart, EndsInLeaf, HasCursors, HasSameFields, IsEmpty, IsLoading, IsNextLeaf, IsStackOf, IsTreeOf, KeepsLeaves, KeepsNodes, MayTakeNext, items_in}
 use Rattle.bulk_load.specs.Stacks.{whole_of}
 use Rattle.bulk_load.specs.Tables.{AreCursors, IsCursorOf, IsRootless, leaf_class, state_in}
-use Rattle.std.proofs.lemmas.Bool.{cases_lt}
 use Rattle.bulk_load.proofs.Stacks.Joining.{parts_long}
 use Rattle.bulk_load.proofs.Views.{above_last, items_are}
 use Rattle.std.specs.declared.cmp.Ordering.TheVariants.{Less}
@@ -50,13 +48,6 @@ cursors_stay l m k (five, are) = (
 )
 
 -- ---- the words that belong to no record
-rootless : (l : Builder) (xs : List Item) → IsEmpty l xs ⊎ EndsInLeaf l xs → IsRootless l.layout l.words.items
-rootless l xs (inl e) = e.table.blank
-rootless l xs (inr r) = r.stack.tree.table.blank
-
-pub table_long : (l : Builder) (xs : List Item) → IsLoading l xs → length l.words.items ≡ word_count l.layout
-table_long l xs h = (rootless l xs h.1).size
-
 pub rootless_then : (l : Builder) (xs : List Item) (p : ℕ) → CanPart l xs p → IsRootless l.layout l.words.items
 rootless_then l xs p (inl e) = e.table.blank
 rootless_then l xs p (inr s) = s.stack.tree.table.blank
@@ -87,22 +78,6 @@ rises l xs k (c, inr r) h = (above_last l xs k r).0 (h (omega (arith, parts_long
 pub falls : (l : Builder) (xs : List Item) (k : Key) → IsLoading l xs → 0 < vec_len l.parts → key_order l.last k ≢ Less → ¬ (IsAboveLast xs k)
 falls l xs k (c, inl e) some h = absurd (let none = ap length e.no_parts in omega (arith, none, some, l.parts.ok.0))
 falls l xs k (c, inr r) some h = λ a. h ((above_last l xs k r).1 a)
-
--- ---- no node is left for one leaf more: the table has no more than leaves were taken
-pub nodes_full : (l : Builder) (xs : List Item) → IsLoading l xs → ¬ (HasNodesFor l 1) → l.layout.nodes ≤ length xs
-nodes_full l xs (c, inl e) lacks = absurd (lacks (inr (inl (let none = ap length e.no_slots in let some = l.layout.nodes_in_range.0 in omega (arith, none, some, e.no_nodes)))))
-nodes_full l xs (c, inr r) lacks = elim (cases_lt (l.nodes + length l.slots.items) l.layout.nodes) [
-  | inl low ↦ absurd (lacks (inr (inl (omega (arith, low)))))
-  | inr high ↦ (let few = r.stack.few in omega (arith, high, few))
-]
-
--- nor do they fit into one node, of two
-pub nodes_full_many : (l : Builder) (xs : List Item) → IsLoading l xs → ¬ (HasNodesFor l 1) → 2 ≤ l.layout.nodes → 32 ≤ length xs
-nodes_full_many l xs (c, inl e) lacks two = absurd (lacks (inr (inr (e.no_nodes, (let none = ap length e.no_slots in omega (arith, none)), two))))
-nodes_full_many l xs (c, inr r) lacks two = elim (cases_lt (length xs) 32) [
-  | inl less ↦ absurd (lacks (inr (inr (r.stack.bare (omega (arith, less)), (let few = r.stack.few in omega (arith, less, few)), two))))
-  | inr high ↦ high
-]
 
 -- ---- vectors with more room
 module _ (l m : Builder) (s : HasSameFields l m) where
@@ -136,17 +111,6 @@ module _ (l m : Builder) (s : HasSameFields l m) where
     }),
   )
   same_loading xs (c, inr r) = (rw (s.layout, s.words, s.leaves) c, inr (record { stack = same_stack xs r.stack; alone = r.alone }))
-
-  pub same_next_leaf : (k : Key) (p n : ℕ) → IsNextLeaf l k p n → IsNextLeaf m k p n
-  same_next_leaf k p n h = record {
-    inside = rw s.layout h.inside;
-    room = rw s.layout h.room;
-    free = rw (s.layout, s.words) h.free;
-    next = rw (s.layout, s.leaves) h.next;
-    first = λ e. h.first (omega (arith, e, ap length s.parts, l.parts.ok.0, m.parts.ok.0));
-    parted = λ e. rw s.last (h.parted (omega (arith, e, ap length s.parts, l.parts.ok.0, m.parts.ok.0)));
-    nodes = rw (s.nodes, s.parts, s.slots, s.layout) h.nodes;
-  }
 
 -- ---- what contracts see
 -- the leaves that are loaded are those that the words show

@@ -48,10 +48,6 @@ pub built_joined : (ls : List LeftPiece) (t u : Tree) → (IsBuilt t → IsBuilt
 built_joined [] t u f b = f b
 built_joined (l ∷ ls) t u f b = built_joined ls (fork l.position l.tree t) (fork l.position l.tree u) (λ g. (g.0, f g.1)) b
 
-pub shown_inner : (m : Heap) (ls : List LeftPiece) (t : Tree) → IsShown m (whole_of ls t) → IsShown m t
-shown_inner m [] t b = b
-shown_inner m (l ∷ ls) t b = (shown_inner m ls (fork l.position l.tree t) b).1
-
 pub shown_joined : (m : Heap) (ls : List LeftPiece) (t u : Tree) → (IsShown m t → IsShown m u) → IsShown m (whole_of ls t) → IsShown m (whole_of ls u)
 shown_joined m [] t u f b = f b
 shown_joined m (l ∷ ls) t u f b = shown_joined m ls (fork l.position l.tree t) (fork l.position l.tree u) (λ g. (g.0, f g.1)) b

@@ -3,7 +3,7 @@ use Rattle.std.proofs.Common.{Bool, Fits, List, [], ap, ap₂, arith, bit_and, b
 use Rattle.std.proofs.lemmas.Bool.{cases_lt, eq-eqb, eqb-true, le-ltb, lt-ltb, ne_eqb, not-false, not-true}
 use Rattle.std.proofs.lemmas.List.{ext_get_or, get_or-append_right, get_or-drop, get_or-map, get_or-replicate, get_or-take, get_or_append_left, length-drop, length-map, length-replicate, length-take-le}
 use Rattle.std.proofs.lemmas.List.FromFn.{get_or-range_with_len, length-map-range_with_len, length-range_with_len}
-use Rattle.std.proofs.lemmas.List.Sums.{prefix_len-le-length, prefix_len_passes, prefix_len_stops}
+use Rattle.std.proofs.lemmas.List.Sums.{prefix_len_passes, prefix_len_stops}
 use Rattle.std.proofs.lemmas.Nat.{and-not, and_comm}
 use Rattle.std.proofs.lemmas.Simd.{Each1-get_or, bitmask_splat, get_or-sel_l, get_or-zip2, leading_from_mask_l, length-sel_l, length-zip2, mask_l-lt, trailing_mask_l}
 use Rattle.std.proofs.lemmas.Nat.Bits.{bit_at_or, same_from_bits}
@@ -60,9 +60,6 @@ module _ (rows : List ℕ) (long : length rows ≡ 32) (first bit : ℕ) where
       let e : mask_l (map lacks found) ≡ 0 = omega (arith, none) in
       ap (count_trailing_zeros 32) e ∙ (trailing_of_zero 32 ∙ (sym length-found ∙ sym (leading_from_mask_l lacks found e))))
       (cases_lt 0 (mask_l (map lacks found)))
-
-  front_le : front ≤ 32
-  front_le = omega (arith, prefix_len-le-length (λ x. not (lacks x)) found, length-found)
 
   front_has : (i : ℕ) → i < front → get_or found i 0 ≢ 0
   front_has i low e =

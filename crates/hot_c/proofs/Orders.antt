@@ -1,7 +1,7 @@
 -- What a scan for C says, by what it left in the handle's list.
 pub mod Parted
 use denote.RawPtr.{null_ptr}
-use Rattle.std.proofs.Common.{◌≡◌, ℕ, ◌<◌, ◌≤◌, ◌^◌, List, length, Bool, Option, None, Some, Result, inl, inr, refl, sym, ap, ◌∙◌, subst, le_refl}
+use Rattle.std.proofs.Common.{◌≡◌, ℕ, ◌<◌, ◌≤◌, ◌^◌, List, length, Bool, Option, None, Some, Result, inl, refl, sym, ap, ◌∙◌, subst, le_refl}
 use Rattle.std.proofs.lemmas.List.{length-reverse, reverse-reverse}
 use Rattle.std.specs.declared.alloc.AllocError.{AllocError}
 use Rattle.finite_map.specs.declared.Scan.{Scan}
@@ -158,14 +158,6 @@ module _ {Room : Type 0} {IsWritten : List (List ℕ × ℕ) → Bool → Room �
     long = λ some no. absurd (no h.fit);
     made = λ some f t. inl (done, pairs, _, stays h u is (λ layout k j. IsTold layout k j range pairs _) new v last kept told, written);
     read = λ some f t. reads h u is new v last kept;
-  }
-
-  pub unlisted : ListsNothing range old new status → after ≡ before → ListsInto IsWritten IsTold range old new before after status
-  unlisted h kept = record {
-    closed = λ none. (let e = h.closed none in (e.0, e.1, kept));
-    long = λ some no. (let e = h.long some no in (e.0, e.1, kept));
-    made = λ some f t. (let e = h.full some f t in inr (e.0, e.1, kept));
-    read = h.read;
   }
 
 -- the first pairs of a list are those of a scan that was cut after them

@@ -77,8 +77,6 @@ module _ {G : Type 0} {table : TableView} {becomes : G → Event → G → Type 
 -- ---- the call has ended with the count
 module _ {G : Type 0} {table : TableView} {becomes : G → Event → G → Type 0} {counts : RecordCounts} {m b : SeatView × G} (all : CountsAll table becomes counts m b) (some : 1 ≤ table.layout.nodes)
     (pin : b.0.known.pin ≡ m.0.known.pin) (call : Call) (s : SeatView) (lacks : Full) (replied : HasReplied table call (Err (fault_of lacks)) s m.0) (early : s.known.steps ≤ m.0.known.steps) where
-  pub counted_later : s.known.steps ≤ b.0.known.steps
-  counted_later = let n = ap (λ (z : Known). z.steps) all.3.rest in omega (arith, early, n)
 
   pub counted_replied : HasReplied table call (Err (fault_of lacks)) s b.0
   counted_replied = record {

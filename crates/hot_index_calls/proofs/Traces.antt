@@ -9,9 +9,9 @@ use Rattle.rowex_core.specs.declared.event.Act.TheVariants.{ClearPin, LoadEpoch,
 use Rattle.rowex_core.specs.declared.event.Event.{Event}
 use Rattle.rowex_core.specs.declared.event.Spot.TheVariants.{Root}
 use Rattle.rowex_core.specs.declared.known.Known.{Known}
-use Rattle.rowex_table.specs.Runs.{Ends, IsTold, Runs, SeesAllOfRun, Steps, StepsWith, entry_touches, events_of, silent}
+use Rattle.rowex_table.specs.Runs.{Ends, IsTold, Runs, SeesAllOfRun, StepsWith, entry_touches, events_of, silent}
 use Rattle.rowex_table.specs.Seats.{TableView, SeatView}
-use Rattle.rowex_table.proofs.Runs.{ends_told, runs_append, runs_one}
+use Rattle.rowex_table.proofs.Runs.{ends_told, runs_append}
 use Rattle.rowex_table.proofs.Seats.Seeing.{ends_see, runs_after, runs_see, sees_then, step_after, step_shows}
 use Rattle.epochs.specs.Rounds.{advance_steps}
 use Rattle.epochs.specs.Runs.{Pins}
@@ -36,10 +36,6 @@ module _ {G : Type 0} (table : TableView) (becomes : G → Event → G → Type 
   -- some steps, with no note
   abbrev pub HasSteps : SeatView × G → SeatView × G → Type 0
   HasSteps a b = (acts : List Act) × Runs table becomes acts a b
-
-  -- a pass that was pinned, and then loaded the root
-  pub pinned_sees : {a b m : SeatView × G} (pins : Pins table becomes a b) (w : ℕ) → Steps table becomes (LoadRef Root w) b m → SeesAllOfRun table.layout a.0 m.0
-  pinned_sees {a = a} {b = b} {m = m} pins w step = runs_see table becomes (LoadEpoch pins.0 ∷ SetPin pins.0 ∷ []) [] w a b m m pins.1.steps step refl
 
   -- a call that pinned its pass, looked and cleared the pin
   pub has_read : {e n : ℕ} {said : Known → List Note} {a b c d : SeatView × G} → Pins table becomes a b → Looks table becomes e n b c → StepsWith table becomes ClearPin said c d →
@@ -155,15 +151,6 @@ module _ {G : Type 0} (table : TableView) (becomes : G → Event → G → Type 
   }
 
   -- Calls that wait
-
-  -- a run, and one more that ended with no note
-  pub ran_on : {Are : List Act → Type 0} (a b c : SeatView × G) → HasSteps a b → HasEnded table becomes Are silent b c → HasSteps a c
-  ran_on a b c (acts, run) (more, are, (m, rest, end)) =
-      (acts ++ (more ++ ClearPin ∷ []), runs_append table becomes acts (more ++ ClearPin ∷ []) a b c run (runs_append table becomes more (ClearPin ∷ []) b m c rest (runs_one table becomes ClearPin m c end)))
-
-  -- a run, and the last try
-  pub ran_out : {Are : List Act → Type 0} {said : Known → List Note} (a b c : SeatView × G) → HasSteps a b → HasEnded table becomes Are said b c → HasStepped table becomes said a c
-  ran_out a b c (acts, run) (more, are, (m, rest, end)) = (acts ++ more, ClearPin, (m, runs_append table becomes acts more a b m run rest, end))
 
   pub has_told : {said : Known → List Note} (a b : SeatView × G) → HasStepped table becomes said a b → a.0.known.steps ≤ b.0.known.fresh.step → HasTold table becomes (pass_of a.0, a.1) (pass_of b.0, b.1)
   has_told {said = said} a b (acts, last, steps) loaded = record {

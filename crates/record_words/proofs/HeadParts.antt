@@ -1,6 +1,6 @@
 -- What the parts of the words of a node's head tell, by the kind of its columns.
 pub mod HeadsByKind
-use Rattle.std.proofs.Common.{ℕ, ◌≡◌, ◌≢◌, ◌+◌, ◌-◌, ◌*◌, ◌/◌, ◌%◌, ◌^◌, ◌<◌, ◌≤◌, ◌++◌, inl, inr, ⊎_elim, arith, cond, List, drop, get_or, length, refl, sym, ap, ap₂, subst, ◌∙◌, below_more, get_or-drop}
+use Rattle.std.proofs.Common.{ℕ, ◌≡◌, ◌≢◌, ◌+◌, ◌-◌, ◌*◌, ◌/◌, ◌%◌, ◌^◌, ◌<◌, ◌≤◌, ◌++◌, inl, inr, ⊎_elim, arith, cond, List, drop, get_or, length, refl, sym, ap, subst, ◌∙◌, below_more, get_or-drop}
 use borrow.Author.Count.{below_none}
 use Rattle.std.proofs.lemmas.Bool.{cases_eq, cases_lt, eq-eqb, ne_eqb}
 use Rattle.std.proofs.lemmas.List.{get_or-append_right, get_or-replicate, get_or_append_left, get_or_default, get_or_past}
@@ -9,8 +9,7 @@ use Rattle.std.proofs.Math.Pow.{pow_mono}
 use Rattle.std.proofs.lemmas.Simd.{get_or-chunk}
 use lib.Count.{count_leading_zeros}
 use lib.Lanes.{chunk}
-use Rattle.compound_node.specs.Nodes.{IsLawfulNode, NodeView, head_of, piece}
-use Rattle.compound_node.proofs.Ladders.{shown-sparse_keys}
+use Rattle.compound_node.specs.Nodes.{IsLawfulNode, NodeView, head_of}
 use Rattle.compound_node.proofs.Lawful.{same_count}
 use Rattle.record_words.specs.Kinds.{bit_mask, first_byte, head_size, index_lanes, kind_of, lane_words, mask_index, mask_lanes, near_position, position_index, rows_a_word, rows_from}
 use Rattle.record_words.specs.Node.{head_words}
@@ -21,7 +20,7 @@ use Rattle.record_words.proofs.fixed.Fixing.{AreFixed, fixed_words_parts}
 use Rattle.record_words.proofs.HeadParts.HeadsByKind.{HasParts, Tells, first_tells, head_parts, length-lane_words}
 use Rattle.record_words.proofs.Lawful.{column-lt, row-lt}
 use Rattle.record_words.proofs.near.NearLanes.{first_lowest}
-use Rattle.record_words.proofs.near.NearKinds.{IsNearKind, index_words, lane_of_column, lane_of_row, last_lanes, last_lanes_used, middle_kind, narrow_kind, narrower, near_kind, place_at, place_inside, row_bits, row_count, row_words-lt, word_at, word_in}
+use Rattle.record_words.proofs.near.NearKinds.{IsNearKind, index_words, lane_of_column, lane_of_row, last_lanes, middle_kind, narrow_kind, narrower, near_kind, row_bits, row_count, word_in}
 use Rattle.record_words.proofs.OfKinds.{AreNear, are_near_unless_wide}
 use Rattle.record_words.proofs.Packed.Parts.{position_in_word, row_in_word}
 use Rattle.record_words.proofs.search.Search.{row_by_high}
@@ -170,17 +169,6 @@ module _ (node : NodeView) (lawful : IsLawfulNode node) (words : List ℕ) (same
         ap (λ w. w / 2 ^ (8 * (7 - j % 8)) % 2 ^ 8) (ap (λ i. get_or words i 0) (near.mask_at j low) ∙ mask_word (index_words kind - 1 - j / 8) (omega (arith, low)))
         ∙ lane_of_column kind near (mask_lanes node.columns) (masks_long node.columns 16 of_near of_near.few) (mask_small node.columns 16 of_near of_near.few) j _ low (column_mask node.columns 16 of_near of_near.few j used)
 
-    column_word_used : (q : ℕ) → 1 + q < rows_from kind → get_or words (1 + q) 0 ≢ 2 ^ 64 - 1
-    column_word_used q below is = ⊎_elim
-        (λ (low : q < index_words kind). last_lanes_used kind near (index_lanes node.columns) (indexes_long node.columns 16 of_near of_near.few) (index_small node.columns 16 of_near of_near.few) q low
-        (λ i h. omega (arith, index_low node.columns 16 of_near of_near.few i h)) (sym (index_word q low) ∙ is))
-        (λ (high : index_words kind ≤ q).
-        let at : index_words kind + (q - index_words kind) ≡ q = omega (arith, high) in
-        let low : q - index_words kind < index_words kind = omega (arith, high, below, near.rows_behind) in
-        last_lanes_used kind near (mask_lanes node.columns) (masks_long node.columns 16 of_near of_near.few) (mask_small node.columns 16 of_near of_near.few) (q - index_words kind) low
-        (λ i h. omega (arith, mask_low node.columns 16 of_near of_near.few i h)) (sym (mask_word (q - index_words kind) low) ∙ (ap (λ n. get_or words (1 + n) 0) at ∙ is)))
-        (cases_lt q (index_words kind))
-
     -- the words of its rows
     pub row_word_is : (q : ℕ) → q < row_count kind → get_or words (rows_from kind + q) 0 ≡ get_or (lane_words (row_bits kind) (row_count kind) (row_lanes (32 - row_bits kind) node.rows)) q 0
     row_word_is q low = word_of (rows_from kind) (row_count kind) q _ low ((of_this kind e).rows_are ∙ near.rows_spelled node.rows)
@@ -195,28 +183,6 @@ module _ (node : NodeView) (lawful : IsLawfulNode node) (words : List ℕ) (same
         ap (λ r. r * 2 ^ (32 - row_bits kind)) (near_row i (omega (arith, inside, room)) ∙ ap (λ r. r / 2 ^ (32 - row_bits kind)) (get_or_default node.rows i 4294967295 0 inside))
         ∙ row_by_high node lawful (row_bits kind) (omega (arith, near.few node.columns e, near.bits)) (narrower kind near) i inside
 
-    -- a word with two of them is not all ones, since rows that follow each other differ
-    pub near_rows_used : (q : ℕ) → rows_a_word kind * q + 1 < length node.rows → get_or words (rows_from kind + q) 0 ≢ 2 ^ 64 - 1
-    near_rows_used q inside is =
-        let here : (r : ℕ) → r < rows_a_word kind → rows_a_word kind * q + r < length node.rows → (2 ^ 64 - 1) / 2 ^ (row_bits kind * r) % 2 ^ row_bits kind * 2 ^ (32 - row_bits kind) ≡ get_or node.rows (rows_a_word kind * q + r) 0 =
-        λ r low used. ap₂ (λ w n. w / 2 ^ (row_bits kind * n) % 2 ^ row_bits kind * 2 ^ (32 - row_bits kind)) (sym (ap (λ k. get_or words (rows_from kind + k) 0) (word_at kind q r low) ∙ is)) (sym (place_at kind q r low))
-        ∙ near_row_is (rows_a_word kind * q + r) used in
-        let one : (2 ^ 64 - 1) / 2 ^ (row_bits kind * 0) % 2 ^ row_bits kind * 2 ^ (32 - row_bits kind) ≡ get_or node.rows (rows_a_word kind * q) 0 =
-        here 0 (omega (arith, near.several)) (omega (arith, inside)) ∙ ap (λ i. get_or node.rows i 0) (let none : rows_a_word kind * q + 0 ≡ rows_a_word kind * q = omega arith in none) in
-        let two = here 1 near.several inside in
-        let alike = ap (λ r. r * 2 ^ (32 - row_bits kind)) near.two_alike in
-        let differ = ((shown-sparse_keys node.columns node.rows node.entries (piece node) lawful.shows).ladder.steps (rows_a_word kind * q) inside).goes_on in
-        omega (arith, one, two, alike, differ)
-
-    -- a word of unused rows is all ones
-    pub near_rows_unused : (q : ℕ) → q < row_count kind → length node.rows ≤ rows_a_word kind * q → get_or words (rows_from kind + q) 0 ≡ 2 ^ 64 - 1
-    near_rows_unused q few past =
-        near.ones (get_or words (rows_from kind + q) 0) (subst (λ w. w < 2 ^ 64) (sym (row_word_is q few)) (row_words-lt kind near node.rows (row-lt node lawful) q few))
-        (λ r low.
-        let i : ℕ = rows_a_word kind * q + r in
-        ap₂ (λ k n. get_or words (rows_from kind + k) 0 / 2 ^ (row_bits kind * n) % 2 ^ row_bits kind) (sym (word_at kind q r low)) (sym (place_at kind q r low))
-        ∙ (near_row i (place_inside kind near q r few low) ∙ (ap (λ row. row / 2 ^ (32 - row_bits kind)) (get_or_past node.rows i 4294967295 (omega (arith, past))) ∙ near.unused_row)))
-
   -- of its own kind
   pub near_index : kind_of node.columns ≢ Wide → (j : ℕ) → j < length node.columns →
       get_or words (position_index (kind_of node.columns) j) 0 / 2 ^ (8 * (7 - j % 8)) % 2 ^ 8 ≡ get_or node.columns j 0 / 9 - first_byte node.columns
@@ -225,11 +191,6 @@ module _ (node : NodeView) (lawful : IsLawfulNode node) (words : List ℕ) (same
   pub near_mask : kind_of node.columns ≢ Wide → (j : ℕ) → j < length node.columns →
       get_or words (mask_index (kind_of node.columns) j) 0 / 2 ^ (8 * (7 - j % 8)) % 2 ^ 8 ≡ bit_mask (get_or node.columns j 0)
   near_mask other = mask_here (kind_of node.columns) (near_kind node.columns other) refl
-
-  pub near_word_used : kind_of node.columns ≢ Wide → (i : ℕ) → 1 ≤ i → i < rows_from (kind_of node.columns) → get_or words i 0 ≢ 2 ^ 64 - 1
-  near_word_used other i some below =
-      let at : 1 + (i - 1) ≡ i = omega (arith, some) in
-      subst (λ k. get_or words k 0 ≢ 2 ^ 64 - 1) at (column_word_used (kind_of node.columns) (near_kind node.columns other) refl (i - 1) (omega (arith, some, below)))
 
   pub narrow_row_is : kind_of node.columns ≡ Narrow → (i : ℕ) → i < length node.rows → get_or words (3 + i / 8) 0 / 2 ^ (8 * (i % 8)) % 2 ^ 8 * 2 ^ 24 ≡ get_or node.rows i 0
   narrow_row_is = near_row_is Narrow narrow_kind

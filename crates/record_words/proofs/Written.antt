@@ -24,9 +24,6 @@ pub record AreSoFar (new old words : List ℕ) (n : ℕ) : Type 0 where
   pub written : (k : ℕ) → k < n → get_or words k 0 ≡ get_or new k 0
   pub unwritten : (k : ℕ) → n ≤ k → get_or words k 0 ≡ get_or old k 0
 
-pub none_so_far : (new old : List ℕ) → length old ≡ 57 → AreSoFar new old old 0
-none_so_far new old whole = record { whole = whole; written = λ k none. absurd (omega arith); unwritten = λ k past. refl }
-
 pub one_more : (new old words : List ℕ) (n next value : ℕ) → AreSoFar new old words n → n < 57 → next ≡ n + 1 → value ≡ get_or new n 0 → AreSoFar new old (set words n value) next
 one_more new old words n next value so_far inside later same =
     let place : n < length words = omega (arith, so_far.whole) in

@@ -152,14 +152,6 @@ module _ {G : Type 0} {table : TableView} {becomes : G → Event → G → Type 
   pub searched : {n m : ℕ} {a b : SeatView × G} {s t : SeatView} {g : G} → Reads table becomes 0 n a (s, g) → t ≡ touched search_touches s → Reads table becomes 0 m (t, g) b → ReadsAndTouches table becomes 0 (n + m) search_touches a b
   searched first is rest = reads_on (reads_untouched {most = 0} first (reads_still first)) (touches_first (search_touches, le_refl search_touches, is) rest (reads_still rest))
 
-  -- Loads, and then touches with loads of no entry: the touches stand beside the first loads.
-  pub before_touches : {e n k most : ℕ} {a m b : SeatView × G} → Reads table becomes e n a m → m.0.touches ≡ a.0.touches → ReadsAndTouches table becomes 0 k most m b → most ≤ entry_touches * e →
-      Reads table becomes e n a (touched_to b.0.touches m.0, m.1)
-  before_touches {a = a} {m = m} {b = b} look same x fits = let low = x.rises in let high = x.few in reads_spread a.0.touches b.0.touches look (omega (arith, same, low)) (omega (arith, same, high, fits))
-
-  pub behind_touches : {k most : ℕ} {m b : SeatView × G} → ReadsAndTouches table becomes 0 k most m b → Reads table becomes 0 k (touched_to b.0.touches m.0, m.1) b
-  behind_touches {b = b} x = reads_spread b.0.touches b.0.touches x.reads (omega arith) (omega arith)
-
 -- What the pass knows stays where it touches.
 pub reader_past : (table : TableView) (n : ℕ) (s t : SeatView) → t ≡ touched n s → IsReader table s → IsReader table t
 reader_past table n s t is reader = subst (IsReader table) (sym is) reader

@@ -1,5 +1,5 @@
 -- Two nodes that stand beside each other: on the sides of the last fork on a key's way.
-use Rattle.std.proofs.Common.{◌≡◌, ◌≢◌, ◌<◌, ◌+◌, ◌-◌, [], inl, inr, ℕ, Bool, true, false, refl, ap, sym, ◌∙◌, subst, Some, Option, if◌then◌else◌, arith}
+use Rattle.std.proofs.Common.{◌≡◌, ◌<◌, ◌+◌, ◌-◌, inl, inr, ℕ, Bool, true, false, refl, ap, sym, ◌∙◌, subst, Some, Option, if◌then◌else◌, arith}
 use Rattle.tries.specs.Keys.{Key, bit, AgreeBelow}
 use Rattle.compound_node.specs.declared.entries.Entry.{Entry}
 use Rattle.compound_node.specs.declared.entries.Entry.TheVariants.{Node}
@@ -14,12 +14,11 @@ use Rattle.versions.specs.Heap.{NodeWords, Heap, IsShown}
 use Rattle.versions.specs.State.{IsLawfulState, Links}
 use Rattle.versions.specs.Core.{BareCore, view}
 use Rattle.record_words.specs.declared.records.Rec.{Rec}
-use Rattle.record_words.specs.declared.records.Rec.TheVariants.{Node as a_node}
 use Rattle.tries.proofs.Tree.Building.{greatest-append, greatest_if_lower, greatest_without}
 use Rattle.tries.proofs.Place.Spots.{without_spot}
 use Rattle.tries.proofs.Tree.{built_within, rises, within_trans}
 use Rattle.versions.proofs.Heap.{shown_within}
-use Rattle.versions.proofs.Heap.Stored.{lower_within, not_beside}
+use Rattle.versions.proofs.Heap.Stored.{lower_within}
 use Rattle.version_laws.proofs.Now.{shown_now}
 use Rattle.version_laws.proofs.Standing.{entry_node}
 use Rattle.version_laws.proofs.Scan.{node_of}
@@ -199,7 +198,3 @@ both_low {k} {d} {p} {n} {m} st h low built =
     omega (arith, less, top)
 
 -- The records are different ones.
-
-pub two_differ : (m : Heap) (u : Bool) (p a d : ℕ) (x y : Fixed) (b e : Tree) → IsTrie (fork_on u p (node a x b) (node d y e)) → IsShown m (fork_on u p (node a x b) (node d y e)) → a ≢ d
-two_differ m false p a d x y b e i s same = not_beside m p (a_node a) (node a x b) (node d y e) i s (inl refl) (inl (ap a_node same))
-two_differ m true p a d x y b e i s same = not_beside m p (a_node a) (node d y e) (node a x b) i s (inl (ap a_node same)) (inl refl)

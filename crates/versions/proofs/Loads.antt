@@ -263,11 +263,6 @@ module _ (heap : Heap) (q : ℕ) (root : Option Entry) (t : Option Tree) (top : 
 
   -- The content of each version
 
-  pairs_first : (n : ℕ) (o : Option Tree) → pairs (items_of (first_leaves_of o n)) ≡ pairs (take n (items_of o))
-  pairs_first zero None = refl
-  pairs_first (suc n) None = refl
-  pairs_first n (Some v) = ap pairs (items_first v n)
-
   first_told : (n : ℕ) (o : Option Tree) → t ≡ o → AreTold q (items_of (first_leaves_of o n))
   first_told n o e = all_told q (first_leaves_of o n) (λ u f. (first_lawful n o e u f).0)
 

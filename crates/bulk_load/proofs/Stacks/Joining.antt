@@ -115,9 +115,6 @@ one_if b = if b then 1 else 0
 abbrev pub left_of : Bool → ℕ → ℕ
 left_of b count = if b then 1 else count
 
-no_true : IsTrue false → ⊥
-no_true t = cc
-
 -- closing a piece takes no more than one node, and as many slots at least as nodes
 pub record IsClosed (n slots m left count : ℕ) : Type 0 where
   pub few : m ≤ n + 1

@@ -29,11 +29,6 @@ more_forks (s ∷ ss) zero d l m = absurd (omega arith)
 more_forks (s ∷ ss) (suc i) d l m =
     ap (λ ts. forks_between ts) (take_more (s ∷ ss) (suc i) d m) ∙ ap (drop 1) (map-append (λ (t : Slot). t.fork) (take (suc i) (s ∷ ss)) (get_or (s ∷ ss) (suc i) d ∷ []))
 
-pub first_fork : (slots : List Slot) (d : Slot) → 2 ≤ length slots → forks_between (take 2 slots) ≡ (get_or slots 1 d).fork ∷ []
-first_fork [] d l = absurd (omega arith)
-first_fork (s ∷ []) d l = absurd (omega arith)
-first_fork (s ∷ (t ∷ ss)) d l = refl
-
 no_fork : (slots : List Slot) → 1 ≤ length slots → forks_between (take 1 slots) ≡ []
 no_fork [] l = absurd (omega arith)
 no_fork (s ∷ ss) l = refl
@@ -43,9 +38,6 @@ length-forks [] l = absurd (omega arith)
 length-forks (s ∷ ss) l = omega (arith, length-map ss (λ (t : Slot). t.fork))
 
 -- ---- columns
-pub columns_start : (slots : List Slot) (d : Slot) (cs : List ℕ) → 2 ≤ length slots → cs ≡ (get_or slots 1 d).fork ∷ [] → (q : ℕ) → has cs q ≡ has (forks_between (take 2 slots)) q
-columns_start slots d cs l e q = ap (λ ps. has ps q) (e ∙ sym (first_fork slots d l))
-
 module _ (cs : List ℕ) (slots : List Slot) (i : ℕ) (d : Slot) (some : 1 ≤ i) (inside : i < length slots) (so_far : (q : ℕ) → has cs q ≡ has (forks_between (take i slots)) q) where
   with_next : (q : ℕ) → has (forks_between (take (i + 1) slots)) q ≡ (has cs q || has ((get_or slots i d).fork ∷ []) q)
   with_next q =

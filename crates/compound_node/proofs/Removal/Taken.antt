@@ -7,7 +7,7 @@ use Rattle.std.specs.List.{All}
 use Rattle.std.specs.Prelude.{remove}
 use Rattle.compound_node.proofs.Lawful.{built_lawful, same_count, with_leaves}
 use Rattle.compound_node.proofs.Removal.{covers_without}
-use Rattle.compound_node.proofs.halves.Halves.{fit_used, some_used}
+use Rattle.compound_node.proofs.halves.Halves.{fit_used}
 use Rattle.compound_node.specs.Nodes.{FitTogether, FitsHead, HeadView, IsBuiltFrom, IsEntry, IsLawfulNode, NodeView, greatest_height, head_of, height_of, leaves, node_of, piece}
 use Rattle.compound_node.specs.Removal.{removed_row}
 use Rattle.compound_node.specs.declared.entries.Entry.TheVariants.{Leaf}
@@ -58,9 +58,6 @@ module _ (node : NodeView) (lawful : IsLawfulNode node) (at : ℕ) (here : at < 
   module _ (more : 2 < length node.entries) where
     several : 2 ≤ length (remove node.entries at)
     several = omega (arith, shorter, more)
-
-    pub left_some : 0 < length (kept (used_bits (or_all left_rows)) node.columns)
-    left_some = some_used node.columns left_rows (remove node.entries at) (without at (piece node)) covers several
 
     left_shown : ShowsPiece (kept (used_bits (or_all left_rows)) node.columns) (map (squeezed (or_all left_rows)) left_rows) (remove node.entries at) (without at (piece node))
     left_shown = half_shows node.columns left_rows (remove node.entries at) (without at (piece node)) covers
@@ -138,9 +135,6 @@ module _ (head : HeadView) (count at height : ℕ) (sparse : List ℕ) (rows_are
 
     pub words_over : All (IsRowOver (length head.columns)) (take (count - 1) words)
     words_over = subst (All (IsRowOver (length head.columns))) (sym taken_rows) (left_over (node_of head (leaves count)) fits.lawful at (omega (arith, whole, here)))
-
-    pub words_some : 0 < length (kept (used_bits (or_all (take (count - 1) words))) head.columns)
-    words_some = subst (λ rows. 0 < length (kept (used_bits (or_all rows)) head.columns)) (sym taken_rows) (left_some (node_of head (leaves count)) fits.lawful at (omega (arith, whole, here)) (omega (arith, whole, more)))
 
     -- and then
     module _ (columns squeezed_words : List ℕ) (columns_are : columns ≡ kept (used_bits (or_all (take (count - 1) words))) head.columns)

@@ -1,5 +1,5 @@
 -- Look-ups, answered one after the other.
-use Rattle.std.proofs.Common.{◌≡◌, ℕ, zero, suc, ◌+◌, ◌<◌, List, [], ◌∷◌, ◌++◌, length, map, take, get_or, slice_set, All, Option, None, Some, inl, inr, IsSome, refl, sym, ap, ◌∙◌, subst, arith}
+use Rattle.std.proofs.Common.{◌≡◌, ℕ, zero, suc, ◌+◌, ◌<◌, List, [], ◌∷◌, ◌++◌, length, map, take, get_or, slice_set, All, Option, None, Some, inl, refl, sym, ap, ◌∙◌, subst, arith}
 use Rattle.std.proofs.lemmas.List.{length-map}
 use Rattle.hot_index.specs.Handles.{Stays}
 use Rattle.hot_index_calls.specs.Many.{AreNoted, HasGotMany, gets}
@@ -8,7 +8,7 @@ use Rattle.hot_c.specs.Calls.{FitsInKey}
 use Rattle.hot_c.specs.Lookups.{LooksUpAll, answer, are_answered, key_in}
 use Rattle.hot_c.specs.declared.lookups.Lookup.{Lookup}
 use Rattle.hot_c.specs.declared.opened.Opened.{Opened}
-use Rattle.hot_c.specs.declared.status.TheConstants.{DONE, NO_MEMORY}
+use Rattle.hot_c.specs.declared.status.TheConstants.{DONE}
 
 -- where nothing was found, nothing is answered
 pub none_answered : (its : List Lookup) → its ≡ are_answered its []
@@ -64,13 +64,4 @@ looked_up old new before after status s u keys found was is fit keys_are many st
     },
     told,
   );
-}
-
-pub no_room : (old new : Option Opened) (before after : List Lookup) (status : ℕ) → IsSome old → All (λ it. FitsInKey (key_in it)) before → status ≡ NO_MEMORY → new ≡ old → after ≡ before
-    → LooksUpAll old new before after status
-no_room None new before after status some fit full kept same = cc
-no_room (Some s) new before after status some fit full kept same = record {
-  closed = λ none. absurd (some_is_none s none);
-  long = λ some no. absurd (no fit);
-  made = λ some short. inr (full, kept, same);
 }

@@ -2,7 +2,7 @@
 use Rattle.std.proofs.Common.{◌≡◌, ℕ, suc, ◌+◌, List, [], ◌∷◌, ◌++◌, length, map, reverse, All, Box, Some, Result, Ok, Err, IfOk, IsErrAnd, MatchResult, refl, sym, ap, ◌∙◌, subst, arith, length-append}
 use Rattle.std.specs.Global.{Global}
 use Rattle.std.specs.List.{slice_get}
-use Rattle.std.proofs.lemmas.List.{length-map, length-reverse, reverse-reverse}
+use Rattle.std.proofs.lemmas.List.{length-map, length-reverse}
 use Rattle.std.proofs.lemmas.List.Elements.{All-nil, All-cons}
 use Rattle.record_words.specs.declared.layout.Layout.{Layout}
 use Rattle.rowex_table.specs.Seats.{TableView}
@@ -16,10 +16,6 @@ use Rattle.hot_c.proofs.opening.Places.{mapped}
 pub all_of : {A : Type 0} (P : A → Type 0) (xs : List A) → ((q : ℕ) (x : A) → slice_get xs q ≡ Some x → P x) → All P xs
 all_of P [] h = All-nil P
 all_of P (x ∷ xs) h = All-cons P x xs (h 0 x refl) (all_of P xs (λ q y e. h (suc q) y e))
-
--- all but the last, reversed twice, and the last
-pub all_again : {A : Type 0} (all kept back : List A) (last : A) → all ≡ kept ++ last ∷ [] → back ≡ reverse kept → reverse back ++ last ∷ [] ≡ all
-all_again all kept back last split turned = ap (λ xs. reverse xs ++ last ∷ []) turned ∙ ap (λ xs. xs ++ last ∷ []) (reverse-reverse kept) ∙ sym split
 
 at_end : {A : Type 0} (xs : List A) (x : A) → slice_get (xs ++ x ∷ []) (length xs) ≡ Some x
 at_end [] x = refl

@@ -1,7 +1,7 @@
 -- What another thing at a place does: the forks stay.
-use Rattle.std.proofs.Common.{List, ap, arith, cond, eqb, false, get_or, map, nat_lt, refl, suc, sym, true, zero, ℕ, ⊎_elim, ◌++◌, ◌+◌, ◌-◌, ◌<◌, ◌||◌, ◌∙◌, ◌∷◌, ◌≡◌, ◌≤◌}
+use Rattle.std.proofs.Common.{List, ap, arith, cond, eqb, false, map, nat_lt, refl, suc, sym, true, zero, ℕ, ⊎_elim, ◌++◌, ◌+◌, ◌-◌, ◌<◌, ◌||◌, ◌∙◌, ◌∷◌, ◌≡◌, ◌≤◌}
 use Rattle.std.proofs.lemmas.Bool.{cases_Bool, ltb-false, ltb-true}
-use Rattle.std.proofs.lemmas.List.{get_or-append_right, get_or_append_left, set-append_left, set-append_right}
+use Rattle.std.proofs.lemmas.List.{set-append_left, set-append_right}
 use Rattle.std.specs.Prelude.{set}
 use Rattle.node_tries.proofs.Piece.{length-places}
 use Rattle.node_tries.specs.Changes.{replaced}
@@ -39,14 +39,3 @@ module _ {A : Type 0} (x : A) where
   RisesFrom-replaced low i (Place y) r = tt
   RisesFrom-replaced low i (Fork p a b) r = elim (nat_lt i (size a)) as (λ v. RisesFrom low (cond v (Fork p (replaced i x a) b) (Fork p a (replaced (i - size a) x b))))
       [ true ↦ (r.0, RisesFrom-replaced (p + 1) i a r.1, r.2) | false ↦ (r.0, r.1, RisesFrom-replaced (p + 1) (i - size a) b r.2) ]
-
-  -- the thing that stands there
-  pub replaced-same : (i : ℕ) (d : A) (P : Piece A) → i < size P → get_or (places P) i d ≡ x → replaced i x P ≡ P
-  replaced-same zero d (Place y) l e = ap Place (sym e)
-  replaced-same (suc i) d (Place y) l e = absurd (omega arith)
-  replaced-same i d (Fork p a b) l e = ⊎_elim
-      (λ (f : nat_lt i (size a) ≡ true). let m : i < size a = ltb-true i (size a) f in
-      rw f (ap (λ z. Fork p z b) (replaced-same i d a m (sym (get_or_append_left (places a) (places b) d i (rw (length-places a) m)) ∙ e))))
-      (λ (f : nat_lt i (size a) ≡ false). let m : size a ≤ i = ltb-false i (size a) f in
-      rw f (ap (Fork p a) (replaced-same (i - size a) d b (omega arith) (sym (get_or-append_right (places a) (places b) (size a) i d (length-places a) m) ∙ e))))
-      (cases_Bool (nat_lt i (size a)))

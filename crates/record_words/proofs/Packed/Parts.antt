@@ -1,13 +1,8 @@
 -- The numbers that share a word, each by its part.
-use Rattle.std.proofs.Common.{ℕ, ◌≡◌, ◌+◌, ◌*◌, ◌/◌, ◌%◌, ◌^◌, ◌<◌, ◌-◌, List, get_or, arith, ap, below_more, bit_and, sym, ◌∙◌}
-use Rattle.std.proofs.lemmas.Nat.{and_mask}
+use Rattle.std.proofs.Common.{ℕ, ◌≡◌, ◌+◌, ◌*◌, ◌/◌, ◌%◌, ◌^◌, ◌<◌, ◌-◌, List, get_or, arith, ap, below_more, ◌∙◌}
 use borrow.Author.Count.{below_none}
 use Rattle.record_words.specs.Packed.{position_at, position_word, row_at, row_word}
 use Rattle.record_words.proofs.Packed.{position_at-lt, row_at-lt}
-
--- what a shift and a mask read of a word of a head is a part of it
-pub part_read : (w i word same_word part : ℕ) → same_word ≡ word → part ≡ same_word / 2 ^ (w * i) % 2 ^ w → bit_and (word / 2 ^ (w * i)) (2 ^ w - 1) ≡ part
-part_read w i word same_word part same is = and_mask (word / 2 ^ (w * i)) w ∙ (ap (λ n. n / 2 ^ (w * i) % 2 ^ w) (sym same) ∙ sym is)
 
 -- a position is its 16 bits of its word
 pub position_in_word : (columns : List ℕ) (i : ℕ) → ((k : ℕ) → get_or columns k 0 < 2 ^ 16) → position_at columns i ≡ position_word columns (i / 4) / 2 ^ (16 * (i % 4)) % 2 ^ 16

@@ -1,18 +1,17 @@
 -- What is alike of the two kinds of near heads: the lanes of columns, and of rows, that their words spell.
 use Rattle.std.proofs.Common.{ℕ, zero, suc, ◌≡◌, ◌≢◌, ◌+◌, ◌-◌, ◌*◌, ◌/◌, ◌%◌, ◌^◌, ◌<◌, ◌≤◌, ◌++◌, arith, cond, List, drop, get_or, length, refl, sym, ap, subst, ◌∙◌, get_or-drop, length-drop, ⊎_elim}
-use Rattle.std.proofs.Math.Nat.{div-add-mod, div-lt_iff_lt-mul, mod-lt, mul_comm, pow-suc, pow-zero}
+use Rattle.std.proofs.Math.Nat.{div-add-mod, div-lt_iff_lt-mul, mod-lt, pow-suc, pow-zero}
 use Rattle.std.proofs.lemmas.Bool.{cases_lt, le-ltb, lt-ltb}
-use Rattle.std.proofs.lemmas.Nat.{div-mul-add, mod-mul-add, mul-add-lt, pow-add, pow_pos}
+use Rattle.std.proofs.lemmas.Nat.{pow-add, pow_pos}
 use Rattle.std.proofs.lemmas.List.FromFn.{get_or-map-range_with_len, length-map-range_with_len}
-use Rattle.std.proofs.lemmas.Simd.{Each1-from_get_or, Each1-get_or}
+use Rattle.std.proofs.lemmas.Simd.{Each1-from_get_or}
 use lib.Lanes.{Each1}
 use Rattle.record_words.specs.Kinds.{head_size, index_lanes, kind_of, lane_words, mask_index, mask_lanes, position_index, rows_a_word, rows_from}
 use Rattle.record_words.specs.Packed.{column_words, row_at, row_lanes, row_words}
 use Rattle.record_words.specs.declared.kind.HeadKind.{HeadKind}
 use Rattle.record_words.specs.declared.kind.HeadKind.TheVariants.{Middle, Narrow, Wide}
 use Rattle.record_words.proofs.near.Digits.{IsBase, base_8, base_16}
-use Rattle.record_words.proofs.HeadParts.HeadsByKind.{length-lane_words}
-use Rattle.record_words.proofs.near.LaneWords.{lane_at, words_small}
+use Rattle.record_words.proofs.near.LaneWords.{lane_at}
 use Rattle.record_words.proofs.OfKinds.{OfKind, is_middle, is_narrow, is_wide, middle_few, narrow_few, of_kind}
 use Rattle.record_words.proofs.Packed.{row_at-lt}
 
@@ -146,13 +145,6 @@ row_lane_is low rows i inside = get_or-map-range_with_len (λ k. row_at rows k /
 pub rows_long : (low : ℕ) (rows : List ℕ) → length (row_lanes low rows) ≡ 32
 rows_long low rows = length-map-range_with_len (λ k. row_at rows k / 2 ^ low) 0 32
 
--- the word, and the place there, of row r of word q
-pub word_at : (kind : HeadKind) (q r : ℕ) → r < rows_a_word kind → (rows_a_word kind * q + r) / rows_a_word kind ≡ q
-word_at kind q r low = ap (λ n. (n + r) / rows_a_word kind) (mul_comm (rows_a_word kind) q) ∙ div-mul-add q (rows_a_word kind) r low
-
-pub place_at : (kind : HeadKind) (q r : ℕ) → r < rows_a_word kind → (rows_a_word kind * q + r) % rows_a_word kind ≡ r
-place_at kind q r low = ap (λ n. (n + r) % rows_a_word kind) (mul_comm (rows_a_word kind) q) ∙ mod-mul-add q (rows_a_word kind) r low
-
 module _ (kind : HeadKind) (near : IsNearKind kind) where
   pub narrower : row_bits kind ≤ 32
   narrower = omega (arith, near.bits, near.at_most_two)
@@ -160,9 +152,6 @@ module _ (kind : HeadKind) (near : IsNearKind kind) where
   -- row i stands in this word, at this place
   pub word_in : (i : ℕ) → i < 32 → i / rows_a_word kind < row_count kind
   word_in i inside = (div-lt_iff_lt-mul {k = rows_a_word kind} {x = i} {y = row_count kind} (omega (arith, near.several))).1 (subst (λ n. i < n) near.all inside)
-
-  pub place_inside : (q r : ℕ) → q < row_count kind → r < rows_a_word kind → rows_a_word kind * q + r < 32
-  place_inside q r few low = omega (arith, mul-add-lt q (rows_a_word kind) r (row_count kind) few low, mul_comm (rows_a_word kind) q, mul_comm (rows_a_word kind) (row_count kind), near.all)
 
   place_in : (i : ℕ) → i % rows_a_word kind < rows_a_word kind
   place_in i = mod-lt i (omega (arith, near.several))
@@ -180,11 +169,6 @@ module _ (kind : HeadKind) (near : IsNearKind kind) where
         ap (λ b. get_or (lane_words (row_bits kind) (row_count kind) lanes) (i / rows_a_word kind) 0 / b % 2 ^ row_bits kind) (sym (powers (row_bits kind) (i % rows_a_word kind)))
         ∙ (lane_at (row_bits kind) (rows_a_word kind) (row_count kind) 32 near.base lanes (rows_long (32 - row_bits kind) rows) lanes_small near.rows_whole
         (i / rows_a_word kind) (i % rows_a_word kind) i near.word_whole (place_in i) (div-add-mod i (rows_a_word kind)) inside ∙ row_lane_is (32 - row_bits kind) rows i inside)
-
-    pub row_words-lt : (k : ℕ) → k < row_count kind → get_or (lane_words (row_bits kind) (row_count kind) lanes) k 0 < 2 ^ 64
-    row_words-lt k few =
-        Each1-get_or (λ x. x < 2 ^ 64) (lane_words (row_bits kind) (row_count kind) lanes) k 0 (omega (arith, few, length-lane_words (row_bits kind) (row_count kind) lanes))
-        (words_small (row_bits kind) (rows_a_word kind) (row_count kind) 32 near.base lanes (rows_long (32 - row_bits kind) rows) lanes_small near.rows_whole)
 
 -- ---- the lanes of columns: the last ones stand in the words
 module _ (kind : HeadKind) (near : IsNearKind kind) (lanes : List ℕ) (long : length lanes ≡ 16) (small : (i : ℕ) → i < 16 → get_or lanes i 0 < 2 ^ 8) where
@@ -207,9 +191,3 @@ module _ (kind : HeadKind) (near : IsNearKind kind) (lanes : List ℕ) (long : l
   pub lane_of_column : (j value : ℕ) → j < 8 * index_words kind → get_or lanes (15 - j) 0 ≡ value → get_or (last_lanes kind lanes) (index_words kind - 1 - j / 8) 0 / 2 ^ (8 * (7 - j % 8)) % 2 ^ 8 ≡ value
   lane_of_column j value low is =
       lane_in (index_words kind - 1 - j / 8) (7 - j % 8) (omega (arith, low)) (omega arith) ∙ (ap (λ i. get_or lanes i 0) (let e : first + (8 * (index_words kind - 1 - j / 8) + (7 - j % 8)) ≡ 15 - j = omega (arith, low, near.at_most_two) in e) ∙ is)
-
-  -- a word of lower lanes is not all ones
-  pub last_lanes_used : (q : ℕ) → q < index_words kind → ((i : ℕ) → i < 16 → get_or lanes i 0 < 255) → get_or (last_lanes kind lanes) q 0 ≢ 2 ^ 64 - 1
-  last_lanes_used q few low is =
-      let top : (2 ^ 64 - 1) / 2 ^ (8 * 7) % 2 ^ 8 ≡ get_or lanes (first + (8 * q + 7)) 0 = ap (λ w. w / 2 ^ (8 * 7) % 2 ^ 8) (sym is) ∙ lane_in q 7 few (omega arith) in
-      omega (arith, top, low (first + (8 * q + 7)) (omega (arith, few, near.at_most_two)))

@@ -176,9 +176,6 @@ module _ {G : Type 0} {table : TableView} {becomes : G → Event → G → Type 
   pub root_pinned : {a b : SeatView × G} → IsSome a.0.known.pin → ReadsRoot table becomes a b → IsPinnedSince b.0.known (since b.0.known)
   root_pinned {a} {b} is x = let p = pinned_by a.0.known.pin is in root_since table.layout a.0.known b.0.known p.0 p.1 x.0 x.1.event
 
-  pub root_later : {a b : SeatView × G} → ReadsRoot table becomes a b → IsLater a.0.known b.0.known
-  root_later x = event_later x.1.event tt
-
   pub looks_first : {a b : SeatView × G} → ReadsRoot table becomes a b → Looks table becomes 0 0 a b
   looks_first {b = b} x = record { at = b; root = x; rest = reads_none b }
 

@@ -1,5 +1,5 @@
 -- The bytes of the words that were loaded so far, with zeros behind them.
-use Rattle.std.proofs.Common.{◌≡◌, ◌≢◌, ℕ, ◌+◌, ◌-◌, ◌*◌, ◌<◌, ◌≤◌, ◌++◌, List, length, get_or, replicate, take, ⊎_elim, sym, ◌∙◌, subst, arith, lit<, get_or-take, length-append, refl}
+use Rattle.std.proofs.Common.{◌≡◌, ◌≢◌, ℕ, ◌+◌, ◌-◌, ◌*◌, ◌<◌, ◌≤◌, ◌++◌, List, length, get_or, replicate, take, ⊎_elim, sym, ◌∙◌, subst, arith, lit<, get_or-take, length-append}
 use Rattle.std.proofs.lemmas.Bool.{cases_lt}
 use Rattle.std.proofs.lemmas.List.{get_or_append_left, get_or-append_right, length-replicate, length-take-le, take-append-le, take-take}
 use Rattle.key_bits.specs.declared.TheConstants.{MAX_BYTES}
@@ -39,10 +39,6 @@ module _ (i : ℕ) (places : List ℕ) (long : length places ≡ MAX_BYTES) (few
 
   pub key_front : (size : ℕ) → i ≡ 2 + words_of_key size → HoldsKey (front i places) size → IsKey (take size places)
   key_front size all holds = subst IsKey (take-front size (omega (arith, all))) holds.key
-
--- before the first word there is none
-pub front_none : (places : List ℕ) → front 2 places ≡ replicate MAX_BYTES 0
-front_none places = refl
 
 -- a word more was written
 module _ (i w : ℕ) (places more : List ℕ) (long : length places ≡ MAX_BYTES) (long' : length more ≡ MAX_BYTES) (past : 2 ≤ i) (few : i < LEAF_FIELDS)

@@ -1,6 +1,6 @@
 -- What the loads of a node's head tell.
 use Rattle.std.proofs.Common.{◌≡◌, ℕ, ◌-◌, ◌^◌, ◌<◌, ◌≤◌, ◌++◌, List, [], ◌∷◌, drop, get_or, get_or-take, length, map, replicate, take, refl, ap, ap₂, sym, ◌∙◌, subst, arith, le_trans}
-use Rattle.std.proofs.lemmas.List.{take-append-drop, take-take, take_all}
+use Rattle.std.proofs.lemmas.List.{take-append-drop, take-take}
 use Rattle.compound_node.specs.declared.entries.Entry.{Entry}
 use Rattle.compound_node.specs.declared.entries.Entry.TheVariants.{Leaf, Node}
 use Rattle.compound_node.specs.Nodes.{NodeView, HeadView, IsLawfulNode, head_of, leaves, node_of, piece}
@@ -18,7 +18,7 @@ use Rattle.record_words.specs.declared.TheConstants.{HEAD_WORDS}
 use Rattle.record_words.specs.Kinds.{head_size, kind_in, kind_of}
 use Rattle.record_words.specs.declared.kind.HeadKind.{HeadKind}
 use Rattle.record_words.specs.declared.kind.HeadKind.TheVariants.{Middle, Narrow, Wide}
-use Rattle.record_words.proofs.Nodes.{length-head_words, same_head}
+use Rattle.record_words.proofs.Nodes.{same_head}
 use Rattle.record_words.proofs.HeadParts.{parts, told}
 use Rattle.tries.specs.Tree.{Tree, leaf, node, fork, subtrie, Subtrie, Fixed}
 use Rattle.tries.specs.Place.{shape}
@@ -166,12 +166,6 @@ module _ (layout : Layout) (k j : Known) (n : ℕ) (part words : List ℕ) (poss
     };
     words_are = some_now.spelled;
   }
-
--- All words of a node's head have been loaded.
-pub head_read : (layout : Layout) (k j : Known) (n : ℕ) (words : List ℕ) → IsPossible layout j → AreLoaded k j (a_node n) 0 (λ o. o < length words) words → length words ≡ HEAD_WORDS → (m h : ℕ) → IsLedTo k m (Node n h) → AreHeadWords j m n h words
-head_read layout k j n words possible loaded long m h led =
-    part_read layout k j n words words possible loaded (omega (arith, long))
-    (λ v lawful same. sym (take_all (length words) (head_words (head_of v)) (omega (arith, long, length-head_words v))) ∙ same) m h led
 
 -- Those that say something in its kind have been.
 pub kind_tells : (kind : HeadKind) (part : List ℕ) → kind_in (get_or part 0 0) ≡ kind → length part ≡ head_size kind → (v : NodeView) → IsLawfulNode v → take (length part) (head_words (head_of v)) ≡ part →

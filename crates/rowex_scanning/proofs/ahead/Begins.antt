@@ -26,9 +26,6 @@ module _ (layout other : Layout) (same : other ≡ layout) where
   pub node_begins : (n : ℕ) (at : RecordAt) → at.rec ≡ a_node n → IsStartOf other (a_node n) at.start → IsNodeRecordAt layout at
   node_begins n at is start = node_at layout n at is (subst (λ l. IsStartOf l (a_node n) at.start) same start)
 
-  pub start_there : (n : ℕ) (at : RecordAt) → at.rec ≡ a_leaf n → IsStartOf other (a_leaf n) at.start → IsStartOf layout at.rec at.start
-  start_there n at is start = subst (λ r. IsStartOf layout r at.start) (sym is) (subst (λ l. IsStartOf l (a_leaf n) at.start) same start)
-
   pub word_there : (n offset : ℕ) (at : RecordAt) → at.rec ≡ a_leaf n → offset < leaf_size other n → HasWord layout at.rec offset
   word_there n offset at is low = subst (λ r. HasWord layout r offset) (sym is) (subst (λ l. offset < leaf_size l n) same low)
 

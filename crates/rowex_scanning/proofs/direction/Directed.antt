@@ -64,10 +64,6 @@ pub gap_behind_place : (d : Direction) (gap i : ℕ) → gap_behind d (place_ahe
 gap_behind_place Upwards gap i = omega arith
 gap_behind_place Downwards gap i = omega arith
 
-pub place_at_gap : (d : Direction) (gap i : ℕ) → place_ahead d (gap_after d gap i) 0 ≡ place_ahead d gap i
-place_at_gap Upwards gap i = omega arith
-place_at_gap Downwards gap i = omega arith
-
 -- ---- keys
 pub in_range : (d : Direction) (g : Range) (k : Key) → IsNoLater d (first_key d g) k → IsNoLater d k (last_key d g) → IsInRange g k
 in_range Upwards g k first last = (first, last)

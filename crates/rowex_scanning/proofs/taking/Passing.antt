@@ -1,5 +1,5 @@
 -- What a walk has seen at the places that come next, and what it comes to behind their leaves.
-use Rattle.std.proofs.Common.{◌≡◌, ℕ, ◌+◌, ◌<◌, ◌≤◌, List, length, Bool, true, false, get_or, set, take, ap, sym, ◌∙◌, subst, arith, ⊎_elim}
+use Rattle.std.proofs.Common.{◌≡◌, ℕ, ◌+◌, ◌<◌, ◌≤◌, List, length, Bool, false, get_or, set, take, ap, sym, ◌∙◌, subst, arith, ⊎_elim}
 use Rattle.std.proofs.lemmas.Bool.{cases_lt}
 use Rattle.std.proofs.lemmas.List.{get_or-set_other, get_or-take, length-take-le}
 use Rattle.std.proofs.lemmas.Grind.{get_or-set_at}
@@ -21,7 +21,7 @@ use Rattle.rowex_scanning.specs.Scanning.{IsBound, IsLeafTaken, IsReached, IsWal
 use Rattle.rowex_scanning.specs.Tallies.{IsKept, Tally}
 use Rattle.packed_pairs.specs.declared.direction.Direction.{Direction}
 use Rattle.rowex_scanning.specs.declared.scan.Verdict.{Verdict}
-use Rattle.rowex_scanning.specs.declared.scan.Verdict.TheVariants.{Further, Past as IsPast, Full}
+use Rattle.rowex_scanning.specs.declared.scan.Verdict.TheVariants.{Further, Past as IsPast}
 use Rattle.rowex_scanning.proofs.direction.Directed.{come_most, gap_before_place, gap_behind_place, gap_none}
 use Rattle.rowex_scanning.proofs.Walking.{IsAtEntry, bound_later, bound_leaf, bound_next, bound_since, entry_led, taken_more, tallied_kept, walk_at_place, walk_fits, walk_further, walk_later, walk_since, walk_tallied}
 
@@ -128,9 +128,6 @@ taken_all Passed Ended taken is = subst (λ z. AreTaken Passed Ended z) is taken
 -- The scan has ended at one.
 pub taken_past : (Passed : Type 0) (Ended : Bool → Type 0) {verdict : Verdict} → AreTaken Passed Ended verdict → verdict ≡ IsPast → Ended false
 taken_past Passed Ended taken is = subst (λ z. AreTaken Passed Ended z) is taken
-
-pub taken_full : (Passed : Type 0) (Ended : Bool → Type 0) {verdict : Verdict} → AreTaken Passed Ended verdict → verdict ≡ Full → Ended true
-taken_full Passed Ended taken is = subst (λ z. AreTaken Passed Ended z) is taken
 
 -- After more loads.
 pub passed_later : {k j : Known} {m : ℕ} {r : Request} {frames : List PathNode} {top : PathNode} {size count : ℕ} {t : Tally} → IsLater k j → HavePassed k m r frames top size count t → HavePassed j m r frames top size count t

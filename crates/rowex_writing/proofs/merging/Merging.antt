@@ -1,13 +1,10 @@
 -- Under the wider locks: what the pass knows of the two nodes, and the store that makes them one.
-use Rattle.std.proofs.Common.{◌≡◌, ◌≢◌, inl, inr, ◌⊎◌, ℕ, ◌+◌, ◌-◌, ◌<◌, ◌≤◌, List, [], ◌∷◌, ◌++◌, length, nat_eq, Option, Some, None, refl, sym, ap, subst, ◌∙◌, arith}
+use Rattle.std.proofs.Common.{◌≡◌, inl, inr, ◌⊎◌, ℕ, ◌+◌, ◌-◌, ◌<◌, ◌≤◌, List, [], ◌∷◌, ◌++◌, length, nat_eq, Option, Some, None, refl, sym, ap, subst, ◌∙◌, arith}
 use Rattle.std.specs.Prelude.{IfSome, IsSome, MatchOption, slice_range}
 use Rattle.std.proofs.lemmas.Bool.{eq-eqb, ne_eqb}
 use Rattle.std.proofs.lemmas.List.Elements.{All-cons}
 use Rattle.std.proofs.lemmas.Option.{get_or_from_slice_get}
 use Rattle.compound_node.specs.Nodes.{NodeView, IsBuiltFrom, IsEntry, StandsBelow, greatest_height, height_of, piece}
-use Rattle.compound_node.specs.Halves.{HalfShows}
-use Rattle.compound_node.specs.declared.halves.Half.{Half}
-use Rattle.compound_node.specs.declared.halves.Half.TheVariants.{One, Many, Same}
 use Rattle.compound_node.specs.declared.entries.Entry.{Entry}
 use Rattle.compound_node.specs.declared.entries.Entry.TheVariants.{Leaf as LeafEntry, Node}
 use Rattle.finite_map.specs.declared.Change.{Change}
@@ -41,9 +38,9 @@ use Rattle.rowex_core.specs.declared.event.Spot.TheVariants.{Root, Slot, Value}
 use Rattle.rowex_core.specs.declared.known.Known.{Known}
 use Rattle.rowex_core.specs.declared.known.Locked.{Locked}
 use Rattle.rowex_core.proofs.Sharing.Owning.{knows_all}
-use Rattle.rowex_table.specs.Made.{IsLater, Made, nodes_of}
+use Rattle.rowex_table.specs.Made.{Made, nodes_of}
 use Rattle.rowex_table.specs.Publishes.{Publishes}
-use Rattle.rowex_table.specs.Seats.{TableView, SeatView, IsSeatOf}
+use Rattle.rowex_table.specs.Seats.{TableView, SeatView}
 use Rattle.rowex_reading.specs.Possible.{IsPossible}
 use Rattle.rowex_reading.specs.Ways.{IsWayOf, named}
 use Rattle.rowex_reading.specs.declared.descent.Found.{Found}
@@ -62,7 +59,7 @@ use Rattle.rowex_writing.specs.build.Changes.{IsTakeChange, MayPublishOnceReady,
 use Rattle.rowex_writing.specs.locks.Checks.{HasTakenPlan}
 use Rattle.rowex_writing.specs.locks.Going.{HasLocked, IsNodeOf, WorksOn}
 use Rattle.rowex_writing.specs.locks.Jobs.{HoldsSpan}
-use Rattle.rowex_writing.specs.locks.Locks.{HasTheSame, numbers_of, span_numbers}
+use Rattle.rowex_writing.specs.locks.Locks.{numbers_of, span_numbers}
 use Rattle.rowex_writing.specs.merging.Merging.{AreNoNode, ClosesFork, IsNeighbour, IsWide, LocksAbove, MayMergeInto, by_anchor, by_node, merged_gone, HasListed}
 use Rattle.rowex_writing.specs.build.Taking.{HasHeight, IsTaking, TakesOn, lower, no_step, upper}
 use Rattle.rowex_writing.specs.build.Putting.{IsSpotAbove, AreInTable, IsAnchored}
@@ -75,8 +72,6 @@ use Rattle.rowex_writing.proofs.locks.Checks.{span_later}
 use Rattle.rowex_writing.proofs.locks.Going.{locked_on, seat_of, locked_node}
 use Rattle.rowex_writing.proofs.build.Building.{goes_possible}
 use Rattle.rowex_writing.proofs.build.remaking.Remaking.{entries_under}
-use Rattle.rowex_writing.specs.build.Deeds.{MayReplace}
-use Rattle.rowex_writing.specs.declared.plan.job.Raised.{Raised}
 use Rattle.rowex_writing.specs.declared.plan.Deed.{Deed}
 use Rattle.rowex_writing.specs.declared.plan.Deed.TheVariants.{Take}
 use Rattle.rowex_writing.proofs.build.taking.Taking.{has_read, leaf_gone_record, leaf_there, low_names, taken_below, told_value, side_low}
@@ -441,24 +436,6 @@ too_many words also own node theirs other left at x y z u built more =
     let same = ap (λ (p : Subtrie). size p) (same_piece also theirs other z u) in
     inr (omega (arith, more, shown, same, size-piece left built.lawful, size-piece theirs z.has.lawful))
 
-pub one_left : (words : List ℕ) (own node : NodeView) (other : Subtrie) (at : ℕ) (h : Half) → IsNodeOf words own → IsNodeOf words node → HalfShows h (without at (piece own)) → ((left : NodeView) → h ≢ Many left) → AreNoNode (without at (piece node)) other
-one_left words own node other at (One e) x y shows few = inl (e, sym (ap (without at) (same_piece words own node x y)) ∙ shows.0)
-one_left words own node other at (Many left) x y shows few = absurd (few left refl)
-one_left words own node other at Same x y shows few = absurd shows
-
--- the place of the leaf in the lower node
-pub lower_within : (table : TableView) (b : SeatView) (job : Job) (number : ℕ) (w : IsWide table b job number) (node : NodeView) → ((words : List ℕ) → HasLocked b.known (lower job).number words → IsNodeOf words node) → (lower job).slot < length node.entries
-lower_within table b job number w node node_is =
-    let (low, i) = lower_locked table job w.taking in
-    let h = held_wide table b job number w (lower job).number low i in
-    let way = way_wide table b job number w in
-    let (e, e_is, on) = way.nodes job.span.end (lower job) (lower_at table job w.taking) in
-    let leads = (way_node_locked table.layout b.known w.taking.since job.key.now (lower job) e low w.possible way.since on h).at in
-    let own = node_is low h in
-    let sub : (node_words_of low).subtrie ≡ piece node = ap (λ (z : NodeWords). z.subtrie) own.shows in
-    let below : (lower job).slot < size (piece node) = subst (λ i. i < size (piece node)) (sym (ap (spot job.key.now) sub) ∙ leads) (spot_below job.key.now (piece node)) in
-    omega (arith, below, size-piece node own.has.lawful)
-
 -- ---- what is left of the upper node
 module _ (k : Known) (key : Key) (fork : ClosedFork) (closes : ClosesFork k key fork) (words : List ℕ) (h : HasLocked k fork.step.number words) (view : NodeView) (is : IsNodeOf words view) where
   sub_is : (node_words_of words).subtrie ≡ piece view
@@ -550,17 +527,6 @@ takes_taken table becomes a b job goes taken some =
     let (t, same) = is_taking table a.0 job taken some in
     (t, seat_of table becomes a b goes taken.2.seat, goes_possible table becomes a b goes taken.2.possible, subst (λ z. StaysLocked z.known b.0.known) (sym same) goes.stays)
 
-pub holds_later : (table : TableView) (b c : SeatView) (job : Job) → TakesOn table b job → IsLater b.known c.known × IsSeatOf table c × IsPossible table.layout c.known → HasTheSame b.known c.known → HoldsSpan table c job
-holds_later table b c job (t, own, was, stays) (later, seat, possible) (locks, anchor, records) =
-    let since = later_transitive t.before.known b.known c.known stays.0 later in
-    record {
-      seat = seat;
-      possible = possible;
-      within = t.below.taken.within;
-      from = (t.since, subst (λ f. IsWayOf table.layout c.known t.since job.key.now job.way.now f) (sym t.found) (way_later table.layout t.before.known c.known t.since job.key.now job.way.now _ since t.below.taken.way_of));
-      locked = span_later t.before.known c.known job.way.now job.span (locks ∙ stays.1) (anchor ∙ stays.2) t.below.taken.locked;
-    }
-
 -- a change goes on under the locks of its span
 pub holds_on : {G : Type 0} (table : TableView) (becomes : G → Event → G → Type 0) (a b : SeatView × G) (job : Job) (deed : Deed) → WorksOn table becomes a b → HasTakenPlan table a.0 job deed → HoldsSpan table b.0 job
 holds_on table becomes a b job deed goes (m, aim, t, planned) = record {
@@ -570,10 +536,6 @@ holds_on table becomes a b job deed goes (m, aim, t, planned) = record {
   from = (m, way_later table.layout a.0.known b.0.known m job.key.now job.way.now job.found goes.stays.0 t.way_of);
   locked = span_later a.0.known b.0.known job.way.now job.span goes.stays.1 goes.stays.2 t.locked;
 }
-
-pub building_now : (table : TableView) (b : SeatView) (made : List Rec) (job : Job) (t : IsTaking table job) (raised : Raised) (x : Change) (was : Option ℕ) → MayReplace table b made job raised x was → (news : List Made) × IsBuilding table b made news
-building_now table b made job t raised x was may =
-    let m = may.ends (Slot (upper job).number (upper job).slot) (upper job, t.some, upper_at table job t, refl, refl) in (m.news, m.building)
 
 merge_told : (k : Known) (q : ℕ) (job : Job) (number leaf value : ℕ) (x : Change) (was : Option ℕ) → job.found ≡ FoundLeaf leaf value None → IsTakeChange q job.key.now job.found x was → HasLoadedFound k job.found →
     KnowsWas k (merged_gone job number leaf) was

@@ -1,12 +1,11 @@
 -- A moment is past where each section's word was 0 or newer after it.
 use Rattle.std.proofs.Common.{◌≡◌, ◌≢◌, ◌+◌, ◌<◌, ◌≤◌, ℕ, suc, List, [], ◌∷◌, ◌++◌, true, false, eqb, refl, sym, ap, subst, ◌∙◌, inl, ⊎_elim, arith}
 use Rattle.std.specs.Prelude.{Contains}
-use Rattle.std.proofs.lemmas.Bool.{cases_lt}
 use Rattle.std.proofs.lemmas.Bool.Decides.{eqb_tells}
 use Rattle.sections.specs.declared.events.SectionEvent.{SectionEvent}
 use Rattle.sections.specs.declared.events.SectionEvent.TheVariants.{Entered, Left, Taken}
 use Rattle.sections.specs.declared.events.SectionKnowledge.{SectionKnowledge}
-use Rattle.sections.specs.Runs.{HasNoneOf, IsLawfulRun, IsOpen, IsNewer, IsPast, OthersRunOn, moments_in, word_in}
+use Rattle.sections.specs.Runs.{HasNoneOf, IsLawfulRun, IsOpen, IsNewer, OthersRunOn, moments_in, word_in}
 use Rattle.sections.specs.Sections.{SeesOthers, SectionView}
 use Rattle.sections.proofs.Runs.{moments_grow, moments_more, others_on, word_bounded, word_never, word_other}
 
@@ -102,10 +101,3 @@ looked_more moment n reach w s t u looked look is newer =
           (eqb_tells q n);
       beyond = λ q high. later q (looked.beyond q high);
     }
-
--- with all words below the reach the moment is past
-pub looked_all : (moment n reach : ℕ) (s t : SectionView) → reach ≤ n → HasLooked moment n reach s t → IsPast moment t.known.run
-looked_all moment n reach s t all looked q = ⊎_elim
-    (λ (low : q < n). looked.below q low)
-    (λ (high : n ≤ q). looked.beyond q (omega arith))
-    (cases_lt q n)

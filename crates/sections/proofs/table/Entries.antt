@@ -1,11 +1,10 @@
 -- Entering a section, and taking a moment, by more than one step.
-use Rattle.std.proofs.Common.{◌≡◌, ◌+◌, ◌<◌, ◌≤◌, ◌⊎◌, ℕ, true, List, sym, ap, subst, ◌∙◌, inl, inr, arith}
+use Rattle.std.proofs.Common.{◌≡◌, ◌<◌, ◌≤◌, ap, subst, ◌∙◌, arith}
 use Rattle.sections.specs.declared.events.SectionEvent.{SectionEvent}
 use Rattle.sections.specs.declared.events.SectionKnowledge.{SectionKnowledge}
-use Rattle.sections.specs.declared.table.TheConstants.{MOST_MOMENTS}
 use Rattle.sections.specs.Runs.{OthersRunOn, moments_in, word_in}
-use Rattle.sections.specs.Sections.{Enters, IsInside, SeesOthers, StartsCounting, TakesMoment, TakesNext, SectionView}
-use Rattle.sections.proofs.Runs.{moments_grow, others_none, others_on, word_kept}
+use Rattle.sections.specs.Sections.{Enters, IsInside, SeesOthers, StartsCounting, SectionView}
+use Rattle.sections.proofs.Runs.{moments_grow, others_on, word_kept}
 
 -- a section that isn't open stays so while others act
 outside_on : (s t : SectionKnowledge) → t.number ≡ s.number → OthersRunOn s.number s.run t.run → ¬ (0 < word_in s.number s.run) → ¬ (0 < word_in t.number t.run)
@@ -23,9 +22,6 @@ module _ (s t u : SectionView) (counts : StartsCounting s t) (looks : SeesOthers
 
   pub still_outside : ¬ IsInside s → ¬ IsInside u
   still_outside outside = outside_on s.known u.known number_u others_u outside
-
-  pub is_counted : u.known.counted ≡ true
-  is_counted = ap (λ (z : SectionKnowledge). z.counted) looks.known ∙ ap (λ (z : SectionKnowledge). z.counted) counts.known
 
   pub enters_after : (v : SectionView) → Enters u v → Enters s v
   enters_after v e =
@@ -45,26 +41,3 @@ module _ (s t u : SectionView) (counts : StartsCounting s t) (looks : SeesOthers
       }
 
 -- A moment: the number of those that had been taken at the load, and one
-
-pub takes_after : (taken : ℕ) (s t u : SectionView) → SeesOthers s t → taken ≡ moments_in t.known.run → TakesNext taken t u → TakesMoment (taken + 1) s u
-takes_after taken s t u looks is takes =
-    let number : t.known.number ≡ s.known.number = ap (λ (z : SectionKnowledge). z.number) looks.known in
-    let more = takes.taken in
-    record {
-      one = (takes.table ∙ looks.table, ap (λ (z : SectionKnowledge). z.number) takes.known ∙ number, ap (λ (z : SectionKnowledge). z.count) takes.known ∙ ap (λ (z : SectionKnowledge). z.count) looks.known);
-      before = t.known.run;
-      others = looks.others;
-      fewer = omega arith;
-      until = subst (λ z. OthersRunOn z t.known.run u.known.run) number takes.others;
-      taken = inl (omega arith);
-    }
-
-pub takes_none : (taken : ℕ) (s t : SectionView) → SeesOthers s t → taken ≡ moments_in t.known.run → taken ≤ MOST_MOMENTS → MOST_MOMENTS ≤ taken → TakesMoment (taken + 1) s t
-takes_none taken s t looks is most least = record {
-  one = (looks.table, ap (λ (z : SectionKnowledge). z.number) looks.known, ap (λ (z : SectionKnowledge). z.count) looks.known);
-  before = t.known.run;
-  others = looks.others;
-  fewer = omega arith;
-  until = others_none s.known.number t.known.run;
-  taken = inr (omega arith);
-}

@@ -12,7 +12,7 @@ use Rattle.version_laws.specs.Directions.{IsNoLater}
 use Rattle.version_laws.specs.Scan.{IsRead}
 use Rattle.rowex_scanning.specs.Ahead.{AreNext, AreWithin, HavePassed, IsLeafNotPast, IsLeafPast}
 use Rattle.rowex_scanning.specs.Scanning.{HasTaken, asked_range, first_key_of, last_key_of, request_of}
-use Rattle.rowex_scanning.proofs.taking.Passing.{next_few, next_first, next_kept, next_later, passed_as, passed_none, starts_first, taken_all, taken_full, taken_past}
+use Rattle.rowex_scanning.proofs.taking.Passing.{next_few, next_first, next_kept, next_later, passed_as, passed_none, starts_first, taken_all, taken_past}
 use Rattle.rowex_scanning.proofs.taking.Runs.{behind_led, next_behind, not_past_later, past_later, run_cut, run_done, run_on, run_part, within_up_to}
 use Rattle.rowex_scanning.proofs.Walking.{bound_later, reads_both, walk_later}
 use Rattle.rowex_scanning.proofs.taking.take_each_leaf.Given as given

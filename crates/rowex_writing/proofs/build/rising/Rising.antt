@@ -245,11 +245,6 @@ left_over table c after_made shown view None built has made = made
 left_over table c after_made shown view (Some e) built has (m, is, building) =
     (made_of_node m view ∷ [], subst (λ z. IsSide shown z (made_of_node m view ∷ [])) (sym is) (anew m view (has, built.height_is) built.shows_it), building)
 
-pub left_low : (view : NodeView) (height : ℕ) (answer : Option Entry) (None_made : Type 0) (Q : ℕ → Type 0) → view.height ≤ height → MatchOption answer None_made (λ e. (m : ℕ) × (e ≡ Node m view.height) × Q m) →
-    IfSome answer (λ e. height_of e ≤ height)
-left_low view height None none Q low made = tt
-left_low view height (Some e) none Q low (m, is, rest) = let same = ap height_of is in omega (arith, low)
-
 -- ---- a pair
 pub paired : (table : TableView) (a c : SeatView) (after_made : List Rec) (news : List Made) (view : NodeView) (shown : Subtrie) (answer : Option Entry) → IsBuiltFrom view shown →
     MatchOption answer (HasNotMade table c after_made) (λ e. (m : ℕ) × (e ≡ Node m view.height) × HasNodeWords view × IsBuilding table c after_made (made_of_node m view ∷ news)) →
