@@ -5,10 +5,10 @@ use Rattle.hot_scripts.specs.declared.fault.RunFault.{RunFault}
 use Rattle.hot_scripts.specs.declared.fault.RunFault.TheVariants.{Read, Memory}
 use Rattle.hot_scripts.specs.Streams.{TakesAll}
 use Rattle.hot_index_calls.specs.Traces.{untold}
-use Rattle.hot_command_line.specs.declared.ending.Ending.{Ending}
-use Rattle.hot_command_line.specs.declared.ending.Ending.TheVariants.{Usage, Fault}
-use Rattle.hot_command_line.specs.Files.{AreFileStarts}
-use Rattle.hot_command_line.specs.Options.{DoParse, IsAsked}
+use Rattle.hot_scripts.specs.declared.ending.Ending.{Ending}
+use Rattle.hot_scripts.specs.declared.ending.Ending.TheVariants.{Usage, Fault}
+use Rattle.hot_scripts.specs.Files.{AreFileStarts}
+use Rattle.hot_scripts.specs.Options.{DoParse, IsAsked}
 use Rattle.script_runs.specs.Runs.{IsAnsweredScript, MayEndBy}
 use Rattle.script_runs.specs.Scripts.{LawfulScripts, MayEndScriptsBy}
 

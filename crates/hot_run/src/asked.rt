@@ -4,16 +4,16 @@ ghost use Rattle.std.specs.Prelude.{◌≡◌, ◌≢◌, ◌⊎◌, List, ℕ, 
 ghost use Rattle.std.specs.Io.KnownBytes.{Appends};
 ghost use Rattle.hot_scripts.specs.declared.fault.RunFault.TheVariants.{Write as WriteFault};
 ghost use Rattle.hot_scripts.specs.Streams.{TakesAll};
-ghost use Rattle.hot_command_line.specs.Files.{IsFileFault};
-ghost use Rattle.hot_command_line.specs.declared.ending.Ending.TheVariants.{Fault};
+ghost use Rattle.hot_scripts.specs.Files.{IsFileFault};
+ghost use Rattle.hot_scripts.specs.declared.ending.Ending.TheVariants.{Fault};
 ghost use Rattle.hot_run.specs.Asked.{AnswersAll, IsAnsweredAsAsked, MayEndAllBy, MayEndAsAsked};
 
 use crate::one::run_one;
 use crate::scripts::run_scripts;
-use hot_command_line::arguments::{Request, parse_request};
-use hot_command_line::ending::Ending;
-use hot_command_line::files::{FileSystem, read_files};
+use hot_scripts::arguments::{Request, parse_request};
+use hot_scripts::ending::Ending;
 use hot_scripts::fault::RunFault;
+use hot_scripts::files::{FileSystem, read_files};
 use std::io::{Read, Write};
 use std::sync::Wait;
 use std::thread::Threads;

@@ -9,9 +9,9 @@ pub mod stack;
 mod waiting;
 
 use asked::run_command_line;
-use hot_command_line::arguments::read_words;
-use hot_command_line::ending::Ending;
-use hot_command_line::files::Disk;
+use hot_scripts::arguments::read_words;
+use hot_scripts::ending::Ending;
+use hot_scripts::files::Disk;
 use stack::{LEAST_STACK, too_low_limit};
 use std::io;
 use std::process::ExitCode;

@@ -9,10 +9,10 @@ use Rattle.hot_index_calls.specs.Traces.{untold}
 use Rattle.hot_scripts.specs.declared.command.Command.{Command}
 use Rattle.hot_scripts.specs.declared.fault.RunFault.{RunFault}
 use Rattle.hot_scripts.specs.declared.fault.RunFault.TheVariants.{Read, Write, Memory, Script, FileScript, Large}
-use Rattle.hot_command_line.specs.Files.{AreFileStarts, IsFileFault}
-use Rattle.hot_command_line.specs.Options.{DoParse, IsAsked}
-use Rattle.hot_command_line.specs.declared.ending.Ending.{Ending}
-use Rattle.hot_command_line.specs.declared.ending.Ending.TheVariants.{Usage, Fault}
+use Rattle.hot_scripts.specs.Files.{AreFileStarts, IsFileFault}
+use Rattle.hot_scripts.specs.Options.{DoParse, IsAsked}
+use Rattle.hot_scripts.specs.declared.ending.Ending.{Ending}
+use Rattle.hot_scripts.specs.declared.ending.Ending.TheVariants.{Usage, Fault}
 use Rattle.hot_scripts.specs.InFiles.{IsParsed, commands_of_files}
 use Rattle.hot_scripts.specs.Streams.{IsReadFault}
 use Rattle.script_runs.specs.Scripts.{LawfulScripts, MayEndScriptsBy}

@@ -2,7 +2,7 @@
 use Rattle.std.proofs.Common.{◌≡◌, ℕ, List, Option, None, Some, take}
 use Rattle.std.specs.Prelude.{IfSome}
 use Rattle.std.specs.Option.{option_map}
-use Rattle.hot_command_line.proofs.files.read_file_start.Goals as goal
+use Rattle.hot_scripts.proofs.files.read_file_start.Goals as goal
 
 -- what a limit leaves of the bytes, where they are known
 limited : (known : Option (List ℕ)) (limit : ℕ) (got : List ℕ) → IfSome (option_map (take limit) known) (λ xs. got ≡ xs) → IfSome known (λ all. got ≡ take limit all)

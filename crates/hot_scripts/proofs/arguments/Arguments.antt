@@ -19,10 +19,10 @@ use Rattle.clap.specs.Words.{App, HasKind, HasMatchesOf, IsAmong, Kinds, fault_o
 use Rattle.clap.specs.declared.parser.matches.ArgMatches.{ArgMatches}
 use Rattle.clap.proofs.OnLiterals.{clap_on_literals}
 use Rattle.hot_scripts.specs.declared.fault.RunFault.TheVariants.{Memory}
-use Rattle.hot_command_line.specs.declared.ending.Ending.{Ending}
-use Rattle.hot_command_line.specs.declared.ending.Ending.TheVariants.{Usage, Fault}
-use Rattle.hot_command_line.specs.Endings.{ending_of}
-use Rattle.hot_command_line.specs.Options.{DoParse, IsOptionNumber, command_line, names_in}
+use Rattle.hot_scripts.specs.declared.ending.Ending.{Ending}
+use Rattle.hot_scripts.specs.declared.ending.Ending.TheVariants.{Usage, Fault}
+use Rattle.hot_scripts.specs.Endings.{ending_of}
+use Rattle.hot_scripts.specs.Options.{DoParse, IsOptionNumber, command_line, names_in}
 
 -- a row of an entry has its first value's text
 first_text : (how : Reading) (vals : List (Bor (List ℕ))) → option_map (read_as how) (slice_get (texts vals) 0) ≡ option_map (λ s. read_as how s.now) (slice_get vals 0)

@@ -4,8 +4,8 @@ use Rattle.clap.specs.declared.error.kind.ErrorKind.{ErrorKind}
 use Rattle.clap.specs.declared.error.kind.ErrorKind.TheVariants.{OutOfMemory}
 use Rattle.hot_scripts.specs.declared.fault.RunFault.TheVariants.{Read, Write, Memory}
 use Rattle.hot_scripts.specs.Faults.{run_fault_text}
-use Rattle.hot_command_line.specs.declared.ending.Ending.{Ending}
-use Rattle.hot_command_line.specs.declared.ending.Ending.TheVariants.{Usage, Fault}
+use Rattle.hot_scripts.specs.declared.ending.Ending.{Ending}
+use Rattle.hot_scripts.specs.declared.ending.Ending.TheVariants.{Usage, Fault}
 
 -- the line that the program writes to standard error
 abbrev pub ending_text : Ending → List ℕ

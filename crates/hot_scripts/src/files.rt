@@ -1,10 +1,10 @@
 //! Scripts in files.
 
 ghost use Rattle.std.specs.Prelude.{◌≡◌, IfErr, IfOk, length, map};
-ghost use Rattle.hot_command_line.specs.Files.{AreFileStarts, IsFileFault, IsFileStart};
+ghost use Rattle.hot_scripts.specs.Files.{AreFileStarts, IsFileFault, IsFileStart};
 
-use hot_scripts::fault::RunFault;
-use hot_scripts::script::MAX_SCRIPT;
+use crate::fault::RunFault;
+use crate::script::MAX_SCRIPT;
 use std::alloc::Global;
 use std::fs::File;
 use std::io::{ErrorKind, Read};

@@ -24,7 +24,7 @@ use Rattle.clap.specs.declared.parser.matches.Found.{Found}
 use Rattle.clap.specs.declared.parser.matches.MatchedArg.{MatchedArg}
 use Rattle.clap.proofs.CallerLemmas.{added_plain, entry_by_id}
 use Rattle.clap.proofs.CallerReads.{signed_reads}
-use Rattle.hot_command_line.specs.Options.{IsArgument}
+use Rattle.hot_scripts.specs.Options.{IsArgument}
 
 -- an argument of this id takes a number from 1 to high
 abbrev pub InRange : List ℕ → ℕ → Arg → Type 0

@@ -1,7 +1,7 @@
 -- The next file's script is pushed.
 use Rattle.std.proofs.Common.{arith}
-use Rattle.hot_command_line.proofs.files.Files.{AreFileStarts-pushed}
-use Rattle.hot_command_line.proofs.files.read_files.Goals as goal
+use Rattle.hot_scripts.proofs.files.Files.{AreFileStarts-pushed}
+use Rattle.hot_scripts.proofs.files.read_files.Goals as goal
 
 pub loop-name-preserved : goal.loop-name-preserved
 loop-name-preserved g c = record {

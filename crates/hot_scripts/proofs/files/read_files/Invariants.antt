@@ -1,7 +1,7 @@
 -- Between turns the scripts are the starts of the files whose names were taken.
 use Rattle.std.proofs.Common.{◌≡◌, length, map, take}
-use Rattle.hot_command_line.specs.Files.{AreFileStarts}
-use Rattle.hot_command_line.proofs.files.read_files.Given as goal
+use Rattle.hot_scripts.specs.Files.{AreFileStarts}
+use Rattle.hot_scripts.proofs.files.read_files.Given as goal
 
 abbrev pub invariant-loop-name : goal.invariant-loop-name
 invariant-loop-name g l = record {

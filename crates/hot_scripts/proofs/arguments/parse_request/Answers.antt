@@ -9,10 +9,10 @@ use Rattle.clap.specs.Words.{app_of, new_app, rule_of, with_rule}
 use Rattle.clap.specs.declared.builder.arg.Arg.{Arg}
 use Rattle.clap.specs.declared.builder.command.Command.{Command}
 use Rattle.record_words.specs.declared.TheConstants.{MAX_LEAVES, MAX_NODES}
-use Rattle.hot_command_line.specs.Options.{IsArgument, command_line, count_rule, names_rule}
-use Rattle.hot_command_line.proofs.arguments.Arguments.{faultless_at, few_named, many_named, names_given, number_given, refused_so, rows_are}
-use Rattle.hot_command_line.proofs.arguments.Ranges.{InRange-other, IsOpen-added, IsOpen-new, option_parsed, or_in_range}
-use Rattle.hot_command_line.proofs.arguments.parse_request.Goals as goal
+use Rattle.hot_scripts.specs.Options.{IsArgument, command_line, count_rule, names_rule}
+use Rattle.hot_scripts.proofs.arguments.Arguments.{faultless_at, few_named, many_named, names_given, number_given, refused_so, rows_are}
+use Rattle.hot_scripts.proofs.arguments.Ranges.{InRange-other, IsOpen-added, IsOpen-new, option_parsed, or_in_range}
+use Rattle.hot_scripts.proofs.arguments.parse_request.Goals as goal
 
 -- two texts whose first bytes differ
 differ : (xs ys : List ℕ) → (slice_index xs 0 ≡ slice_index ys 0 → ⊥) → xs ≡ ys → ⊥

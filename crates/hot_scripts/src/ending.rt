@@ -1,11 +1,11 @@
 //! How a run of the program ends without its answers.
 
 ghost use Rattle.std.specs.Prelude.{◌≡◌, Some};
-ghost use Rattle.hot_command_line.specs.Endings.{ending_text, status_of};
-ghost use Rattle.hot_command_line.specs.declared.ending.Ending.TheVariants.{Fault};
+ghost use Rattle.hot_scripts.specs.Endings.{ending_text, status_of};
+ghost use Rattle.hot_scripts.specs.declared.ending.Ending.TheVariants.{Fault};
 ghost use Rattle.hot_scripts.specs.declared.fault.RunFault.TheVariants.{Memory};
 
-use hot_scripts::fault::RunFault;
+use crate::fault::RunFault;
 use std::alloc::AllocError;
 use std::fmt;
 

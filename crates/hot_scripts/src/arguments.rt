@@ -4,16 +4,16 @@ ghost use Rattle.std.specs.Prelude.{◌≡◌, ◌⊎◌, ◌≤◌, IfErr, IfOk
 ghost use Rattle.clap.specs.Words.{kind_of};
 ghost use Rattle.record_words.specs.Limits.{IsLeafCount, IsNodeCount};
 ghost use Rattle.hot_scripts.specs.declared.fault.RunFault.TheVariants.{Memory};
-ghost use Rattle.hot_command_line.specs.declared.ending.Ending.TheVariants.{Usage, Fault};
-ghost use Rattle.hot_command_line.specs.Endings.{ending_of};
-ghost use Rattle.hot_command_line.specs.Options.{DoParse, IsArgument, IsAsked, IsCountOption, names_rule};
+ghost use Rattle.hot_scripts.specs.declared.ending.Ending.TheVariants.{Usage, Fault};
+ghost use Rattle.hot_scripts.specs.Endings.{ending_of};
+ghost use Rattle.hot_scripts.specs.Options.{DoParse, IsArgument, IsAsked, IsCountOption, names_rule};
 
 use crate::ending::Ending;
+use crate::fault::RunFault;
+use crate::script::MAX_FILES;
 use clap::builder::ValueParser;
 use clap::error::ErrorKind;
 use clap::{Arg, ArgAction, Command};
-use hot_scripts::fault::RunFault;
-use hot_scripts::script::MAX_FILES;
 use record_words::{MAX_LEAVES, MAX_NODES};
 use std::alloc::{AllocError, Global};
 use std::rt::Env;

@@ -3,7 +3,7 @@ use Rattle.std.proofs.Common.{◌≡◌, ℕ, ◌+◌, ◌<◌, List, [], ◌∷
 use Rattle.std.proofs.lemmas.List.{map-append, take_more}
 use Rattle.std.specs.Borrow.{Bor}
 use Rattle.std.specs.Global.{Global}
-use Rattle.hot_command_line.specs.Files.{AreFileStarts, IsFileStart}
+use Rattle.hot_scripts.specs.Files.{AreFileStarts, IsFileStart}
 
 -- one more
 AreFileStarts-push : (bytes : List ℕ → Option (List ℕ)) (names starts : List (List ℕ)) (name start : List ℕ) → AreFileStarts bytes names starts → IsFileStart (bytes name) start

@@ -1,4 +1,0 @@
--- The definitions of the crate.
-pub mod Endings
-pub mod Files
-pub mod Options
