@@ -4,6 +4,7 @@ use Rattle.std.proofs.lemmas.Bool.{cases_Bool, le-ltb, lt-ltb, ltb-false, ltb-tr
 use Rattle.std.proofs.lemmas.List.{get_or-append-add, get_or_append_left}
 use Rattle.std.proofs.lemmas.Option.{get_or_from_slice_get}
 use Rattle.std.specs.List.{slice_get}
+use Rattle.node_tries.proofs.Grafts.{size-replaced}
 use Rattle.node_tries.proofs.Piece.{length-places}
 use Rattle.node_tries.specs.Changes.{beside, collapsed, is_place, moved_by, replaced, sibling, without}
 use Rattle.node_tries.specs.Piece.{Piece, Place, Fork, places, size}
@@ -94,11 +95,6 @@ module _ {A : Type 0} where
   is_place-replaced : (j : ℕ) (x : A) (P : Piece A) → is_place (replaced j x P) ≡ is_place P
   is_place-replaced j x (Place y) = refl
   is_place-replaced j x (Fork p a b) = elim (nat_lt j (size a)) as (λ v. is_place (cond v (Fork p (replaced j x a) b) (Fork p a (replaced (j - size a) x b))) ≡ false) [ true ↦ refl | false ↦ refl ]
-
-  pub size-replaced : (j : ℕ) (x : A) (P : Piece A) → size (replaced j x P) ≡ size P
-  size-replaced j x (Place y) = refl
-  size-replaced j x (Fork p a b) = elim (nat_lt j (size a)) as (λ v. size (cond v (Fork p (replaced j x a) b) (Fork p a (replaced (j - size a) x b))) ≡ size a + size b)
-      [ true ↦ ap (λ n. n + size b) (size-replaced j x a) | false ↦ ap (λ n. size a + n) (size-replaced (j - size a) x b) ]
 
   -- x there and place i taken out: x closes the fork between them
   pub without-beside : (i j q : ℕ) (x : A) (P : Piece A) → i < size P → beside i P ≡ Some (j, q) → without i (replaced j x P) ≡ collapsed i x P

@@ -22,11 +22,9 @@ use Rattle.tries.specs.Keys.{Key}
 use Rattle.versions.specs.State.{IsHeldSince, WasAbsentSince}
 use Rattle.record_words.specs.declared.layout.Layout.{Layout}
 use Rattle.record_words.specs.declared.records.Rec.{Rec}
-use Rattle.record_words.specs.declared.records.Rec.TheVariants.{Node as a_node}
 use Rattle.rowex_core.specs.declared.event.Event.{Event}
 use Rattle.rowex_core.specs.declared.known.Known.{Known}
 use Rattle.rowex_table.specs.Seats.{TableView, SeatView, IsSeatOf}
-use Rattle.rowex_records.proofs.Claims.{missed_earlier}
 use Rattle.rowex_reading.specs.Possible.{IsPossible}
 use Rattle.rowex_reading.specs.Reads.{Looks, Reads}
 use Rattle.rowex_reading.proofs.Seen.Led.{looked_at, looks_same, reads_later, reads_same, reads_sees}
@@ -43,7 +41,6 @@ use Rattle.rowex_writing.specs.store.Values.{HasDoneDeed, revalued}
 use Rattle.rowex_writing.specs.build.Changes.{HasChanged, HasNoRoom, IsFull}
 use Rattle.rowex_writing.specs.plan.Planned.{AreAffected, IsPlanned, HasLoadedRoot}
 use Rattle.rowex_writing.specs.locks.Locks.{HasMetLock, locks_of, HasRun}
-use Rattle.rowex_writing.specs.build.Walks.{nodes_among}
 use Rattle.rowex_writing.proofs.plan.Plans.{taking_takes, deed_in, no_answer, value_found}
 use Rattle.rowex_writing.specs.plan.Plans.{change, IsCase, IsNewLeafPlan, TakesLeaf, removal_deed}
 use Rattle.rowex_reading.specs.Ways.{IsWayOf, value_of}
@@ -60,7 +57,7 @@ use Rattle.rowex_reading.specs.declared.descent.Found.TheVariants.{Nothing, Leaf
 use Rattle.rowex_writing.specs.declared.plan.Plan.{Plan}
 use Rattle.rowex_writing.specs.declared.plan.Plan.TheVariants.{Answer, Change as a_change}
 use Rattle.rowex_writing.specs.declared.plan.Span.{Span}
-use Rattle.rowex_writing.proofs.build.Changes.{lacks_so}
+use Rattle.rowex_writing.proofs.build.Growths.{full_since}
 use Rattle.rowex_writing.proofs.locks.Onward.{looks_run, reads_run}
 use Rattle.rowex_writing.proofs.locks.Runs.{run_loaded, runs_trans}
 use Rattle.rowex_writing.proofs.locks.Spans.{met_since}
@@ -424,10 +421,6 @@ refused_busy layout key k i j m made (p, pinned, early) loaded first next why = 
   cause = elim why [ inl met ↦ inl (met_since layout k i j j (loaded_steps k i loaded) first.pass refl met) | inr moved ↦ inr (m, (p, (sym first.pin ∙ pinned), early), moved) ];
 }
 
-full_before : (layout : Layout) (key : Key) (k i j : Known) (made : List Rec) (full : Full) → k.steps ≤ i.steps → IsFull layout key i j made full → IsFull layout key k j made full
-full_before layout key k i j made Nodes low l = lacks_so layout j.pass j.failed j.failed i.steps k.steps (nodes_among made) l (λ Whose r. missed_earlier Whose j.failed r k.steps i.steps low)
-full_before layout key k i j made Leaves low f = λ q within room. let (step, from, at) = f q within room in (step, (omega (arith, low, from)), at)
-
 full_cause : (layout : Layout) (key : Key) (k j : Known) (made : List Rec) (full : Full) → IsFull layout key k j made full → IsAttemptCause layout key k j made (refusal_of full)
 full_cause layout key k j made Nodes f = f
 full_cause layout key k j made Leaves f = f
@@ -435,7 +428,7 @@ full_cause layout key k j made Leaves f = f
 pub refused_full : (layout : Layout) (key : Key) (k i j : Known) (made : List Rec) (full : Full) → HasLoadedRoot k i → IsLater k i → HasNoRoom layout key i j made full → HasRefused layout key k j made (refusal_of full)
 refused_full layout key k i j made full loaded later none = record {
   others = (later_trans later none.later).front;
-  cause = full_cause layout key k j made full (full_before layout key k i j made full (loaded_steps k i loaded) none.full_of);
+  cause = full_cause layout key k j made full (full_since layout key k i j made full (loaded_steps k i loaded) none.full_of);
 }
 
 -- a change that failed

@@ -43,7 +43,7 @@ use Rattle.rowex_records.proofs.Claims.Making.{counted, looks_one}
 use Rattle.publish_laws.specs.Loops.{StaysLocked}
 use Rattle.publish_laws.specs.Rises.{made_of_node}
 use Rattle.rowex_reading.specs.Possible.{IsPossible}
-use Rattle.rowex_reading.proofs.Seen.Later.{event_possible}
+use Rattle.rowex_writing.proofs.locks.Onward.{runs_possible}
 use Rattle.rowex_writing.specs.build.Building.{IsBuilding, IsHalfMade, HasLeafMade, HasNotMade}
 use Rattle.rowex_writing.specs.locks.Going.{WorksOn, TriesNoLock}
 use Rattle.rowex_writing.proofs.locks.Going.{goes_none, goes_more}
@@ -92,12 +92,8 @@ module _ {G : Type 0} (table : TableView) (becomes : G → Event → G → Type 
   owns_on acts a b plain does = stays_on acts a b plain does.steps does.rest (same_later a.0.known _ refl refl refl refl, refl, refl, λ leaf value h. h)
 
   -- what a pass knows stays possible
-  runs_possible : (acts : List Act) (a b : SeatView × G) → Runs table becomes acts a b → IsPossible table.layout a.0.known → IsPossible table.layout b.0.known
-  runs_possible [] a b run possible = subst (λ (z : SeatView × G). IsPossible table.layout z.0.known) (sym run) possible
-  runs_possible (act ∷ acts) a b run possible = runs_possible acts run.0 b run.2 (event_possible run.1.event)
-
   pub goes_possible : (a b : SeatView × G) → WorksOn table becomes a b → IsPossible table.layout a.0.known → IsPossible table.layout b.0.known
-  goes_possible a b goes possible = runs_possible goes.acts a b goes.steps possible
+  goes_possible a b goes possible = runs_possible table becomes goes.acts a b goes.steps possible
 
   -- ---- a claim
   pub none_on : (kind : ℕ → Rec) (n from m : ℕ) (a b : SeatView × G) → FindsNone table becomes kind n from m a b → WorksOn table becomes a b

@@ -49,7 +49,7 @@ use Rattle.rowex_table.proofs.Runs.{runs_same}
 use Rattle.publish_laws.specs.Stages.{IsSure}
 use Rattle.publish_laws.proofs.Loops.{later_if_same, later_transitive}
 use Rattle.publish_laws.proofs.Lone.{one_of}
-use Rattle.rowex_writing.proofs.locks.Runs.{plain_recalls}
+use Rattle.rowex_writing.proofs.locks.Runs.{plain_recalls, runs_count}
 use Rattle.rowex_writing.proofs.locks.Tried.{tries_none, tries_one, tries_more}
 use Rattle.rowex_writing.specs.locks.Locks.{Tries, Works, HasTheSame, LoadsNoRoot, IsTakenWord, LocksOne, LocksAnchor, IsRefusedLock, NoChangeFrom, HasMadeNoChange, targets_of}
 
@@ -76,13 +76,8 @@ module _ {G : Type 0} (table : TableView) (becomes : G → Event → G → Type 
   pub works_later : {tried : List Target} (a b : SeatView × G) → Tries table becomes tried a b → IsLater a.0.known b.0.known
   works_later a b w = later_runs w.acts a b (All-weaker LoadsNoRoot KeepsRecall plain_recalls w.acts w.each) w.steps
 
-  count_runs : (acts : List Act) (a b : SeatView × G) → Runs table becomes acts a b → a.0.known.steps ≤ b.0.known.steps
-  count_runs [] a b e = let z : b.0.known.steps ≡ a.0.known.steps = ap (λ (z : SeatView × G). z.0.known.steps) e in omega arith
-  count_runs (act ∷ acts) a b (m, s, more) =
-      let one = (leave.act_leaves table.layout a.0.known m.0.known act s.event).steps in let rest = count_runs acts m b more in omega (arith, one, rest)
-
   pub works_count : {tried : List Target} (a b : SeatView × G) → Tries table becomes tried a b → a.0.known.steps ≤ b.0.known.steps
-  works_count a b w = count_runs w.acts a b w.steps
+  works_count a b w = runs_count table becomes w.acts a b w.steps
 
 -- ---- a lock that is refused
 taken_state : (now m : ℕ) (lock : Option ℕ) (f : Fate) → Spans now (life_of f) m → state_word (tag_of lock f) ≢ 2 → IsTakenWord (state_word (tag_of lock f))

@@ -40,7 +40,8 @@ below_tries_no_lock (LoadFixed r offset w) below = tt
 below_tries_no_lock _ below = absurd below
 
 module _ {G : Type 0} (table : TableView) (becomes : G → Event → G → Type 0) where
-  runs_possible : (acts : List Act) (a b : SeatView × G) → Runs table becomes acts a b → IsPossible table.layout a.0.known → IsPossible table.layout b.0.known
+  -- what a pass knows stays possible
+  pub runs_possible : (acts : List Act) (a b : SeatView × G) → Runs table becomes acts a b → IsPossible table.layout a.0.known → IsPossible table.layout b.0.known
   runs_possible [] a b e p = subst (λ (z : SeatView × G). IsPossible table.layout z.0.known) (sym e) p
   runs_possible (act ∷ acts) a b (m, s, more) p = runs_possible acts m b more (event_possible s.event)
 
